@@ -1,0 +1,12 @@
+//! Where a stream has come to.
+
+/// Where a stream has come to.
+#[derive(Debug, Drop)]
+pub enum Tail {
+    /// Between two blocks.
+    Between,
+    /// In a block, after these bytes of it.
+    Within(Vec<u8>),
+    /// In a block that is longer than allowed.
+    Overlong,
+}
