@@ -1,0 +1,124 @@
+-- Look-ups among leaves in order.
+use Rattle.std.proofs.Common.{◌≡◌, ◌≢◌, ℕ, zero, suc, ◌+◌, ◌<◌, ◌≤◌, Bool, true, false, cond, not, List, [], ◌∷◌, length, get_or, drop, Option, None, Some, Ordering, Less, Equal, Greater, refl, sym, ap, subst, ◌∙◌, arith, inl, inr}
+use Rattle.std.specs.Prelude.{◌==◌, ◌&&◌, T, unwrap_or}
+use Rattle.std.proofs.lemmas.Bool.{cases_lt, eq-eqb}
+use Rattle.std.proofs.lemmas.Bool.Decides.{nat_tests}
+use Rattle.std.proofs.lemmas.List.{drop_more, drop_all}
+use Rattle.std.proofs.lemmas.List.Sums.{position_or_len_is}
+use Rattle.std.specs.List.{position_or_len, prefix_len}
+use Rattle.std.specs.List.Sorted.{IsPartitionPoint, IsPartitionedBy}
+use Rattle.std.specs.Ordering.{nat_cmp, is_lt, is_eq, eq_by_cmp, ordering_reverse}
+use Rattle.std.specs.Cmp.Lexicographic.{slice_cmp, nat_list_cmp_total}
+use Rattle.std.specs.FinMap.{is_sorted, find}
+use Rattle.std.specs.FinMap.Entries.{below_all}
+use Rattle.gw_er7.specs.declared.place.Place.{Place}
+use Rattle.gw_er7.specs.declared.segment.Leaf.{Leaf}
+use Rattle.gw_er7.specs.Message.{numbers}
+use Rattle.gw_er7.specs.View.{entries_of, is_below}
+use Rattle.gw_er7.proofs.Sorted.{order, first, second}
+use Rattle.gw_er7.proofs.Keys.{tie, no_tie}
+
+less : (r : Ordering) → T (is_lt r) → r ≡ Less
+less Less h = refl
+less Equal h = absurd h
+less Greater h = absurd h
+
+abbrev key : Leaf → List ℕ
+key l = numbers l.place
+
+abbrev pub Sorted : List Leaf → Type 0
+Sorted xs = T (is_sorted order (entries_of xs))
+
+below_at : (k : List ℕ) (xs : List Leaf) (j : ℕ) (d : Leaf) → T (below_all order k (entries_of xs)) → j < length xs → order k (key (get_or xs j d)) ≡ Less
+below_at k [] j d h lt = absurd (omega arith)
+below_at k (x ∷ xs) zero d h lt = less _ (first _ _ h)
+below_at k (x ∷ xs) (suc j) d h lt = below_at k xs j d (second _ _ h) (omega arith)
+
+pub rising_at : (xs : List Leaf) (i j : ℕ) (d : Leaf) → Sorted xs → i < j → j < length xs → order (key (get_or xs i d)) (key (get_or xs j d)) ≡ Less
+rising_at [] i j d h lt short = absurd (omega arith)
+rising_at (x ∷ xs) i zero d h lt short = absurd (omega arith)
+rising_at (x ∷ xs) zero (suc j) d h lt short = below_at (key x) xs j d (first _ _ h) (omega arith)
+rising_at (x ∷ xs) (suc i) (suc j) d h lt short = rising_at xs i j d (second _ _ h) (omega arith) (omega arith)
+
+lt_true : (r : Ordering) → is_lt r ≡ true → r ≡ Less
+lt_true Less h = refl
+lt_true Equal h = absurd (let z : ⊥ = cc in z)
+lt_true Greater h = absurd (let z : ⊥ = cc in z)
+
+pub partitioned : (q : List ℕ) (xs : List Leaf) → Sorted xs → IsPartitionedBy (is_below q) xs
+partitioned q xs h i j d le short is =
+    elim (cases_lt i j) as (λ _. is_below q (get_or xs i d) ≡ true) [
+      | inl lt ↦ ap is_lt (nat_list_cmp_total.trans (key (get_or xs i d)) (key (get_or xs j d)) q (rising_at xs i j d h lt short) (lt_true _ is))
+      | inr ge ↦ (let same : j ≡ i = omega (arith, le, ge) in subst (λ (k : ℕ). is_below q (get_or xs k d) ≡ true) same is)
+    ]
+
+pub count_is : (q : List ℕ) (xs : List Leaf) (n : ℕ) → n ≤ length xs → IsPartitionPoint (λ y. is_below q y ≡ true) (λ y. is_below q y ≡ false) xs n → n ≡ position_or_len (λ l. not (is_below q l)) xs
+count_is q [] n le h = omega arith
+count_is q (x ∷ xs) n le h = sym (position_or_len_is (λ l. not (is_below q l)) (x ∷ xs) n x le (λ k lt. ap not (h.0 k x (omega arith) lt)) (λ lt. ap not (h.1 n x (omega arith) lt)))
+
+-- ---- what a look-up finds
+
+apart_less : (a b : List ℕ) → order a b ≡ Less → b ≢ a
+apart_less a b e same =
+    absurd (let t : eq_by_cmp (slice_cmp nat_cmp) a b ≡ true = tie a b (sym same) in let f : eq_by_cmp (slice_cmp nat_cmp) a b ≡ false = ap is_eq e in let z : true ≡ false = sym t ∙ f in let no_more : ⊥ = cc in no_more)
+
+pub look_less : (q : List ℕ) (x : Leaf) (xs : List Leaf) → order (key x) q ≡ Less → find order q (entries_of (x ∷ xs)) ≡ find order q (entries_of xs)
+look_less q x xs e = rw (no_tie q (key x) (apart_less (key x) q e)) refl
+
+look_above : (q k : List ℕ) (xs : List Leaf) → order q k ≡ Less → T (below_all order k (entries_of xs)) → find order q (entries_of xs) ≡ None
+look_above q k [] e h = refl
+look_above q k (x ∷ xs) e h =
+    let far = nat_list_cmp_total.trans q k (key x) e (less _ (first _ _ h)) in
+    rw (no_tie q (key x) (λ same. apart_less q (key x) far (sym same))) (look_above q k xs e (second _ _ h))
+
+-- the leaf at the place where the search ends, or none
+abbrev pub hit : List ℕ → List Leaf → Option (List ℕ)
+hit q [] = None
+hit q (x ∷ xs) = cond (eq_by_cmp (slice_cmp nat_cmp) q (key x)) (Some x.text.items) None
+
+skipped : (q : List ℕ) (xs : List Leaf) → Sorted xs → find order q (entries_of xs) ≡ hit q (drop (prefix_len (λ l. not (not (is_below q l))) xs) xs)
+skipped q [] h = refl
+skipped q (x ∷ xs) h =
+    let k = prefix_len (λ l. not (not (is_below q l))) xs in
+    let more : 1 + k ≡ suc k = omega arith in
+    elim (order (key x) q) as (λ r. order (key x) q ≡ r → find order q (entries_of (x ∷ xs)) ≡ hit q (drop (cond (not (not (is_lt r))) (1 + k) 0) (x ∷ xs))) [
+      | Less ↦ λ e. look_less q x xs e ∙ skipped q xs (second _ _ h) ∙ ap (λ (j : ℕ). hit q (drop j (x ∷ xs))) (sym more)
+      | Equal ↦ λ e. here e
+      | Greater ↦ λ e. ap (λ (o : Option (List ℕ)). cond (eq_by_cmp (slice_cmp nat_cmp) q (key x)) (Some x.text.items) o) (look_above q (key x) xs (nat_list_cmp_total.antisymm q (key x) ∙ ap ordering_reverse e) (first _ _ h))
+    ] refl
+  where
+    here : order (key x) q ≡ Equal → find order q (entries_of (x ∷ xs)) ≡ hit q (x ∷ xs)
+    here e = (let same : eq_by_cmp (slice_cmp nat_cmp) q (key x) ≡ true = ap is_eq (nat_list_cmp_total.antisymm q (key x) ∙ ap ordering_reverse e) in rw same refl)
+
+-- the test that the derived `==` makes
+abbrev pub same : Place → Place → Bool
+same p q = (p.field == q.field) && ((p.rep == q.rep) && ((p.comp == q.comp) && (p.sub == q.sub)))
+
+numbers-same : (p q : Place) → same p q ≡ true → numbers p ≡ numbers q
+numbers-same p q e = grind (arith, nat_tests)
+
+same-numbers : (p q : Place) → numbers p ≡ numbers q → same p q ≡ true
+same-numbers p q e =
+    let a : p.field ≡ q.field = cc in
+    let b : p.rep ≡ q.rep = cc in
+    let d : p.comp ≡ q.comp = cc in
+    let s : p.sub ≡ q.sub = cc in
+    rw (eq-eqb _ _ a, eq-eqb _ _ b, eq-eqb _ _ d, eq-eqb _ _ s) refl
+
+pub text_here : (p : Place) (xs : List Leaf) (n : ℕ) (l : Leaf) → Sorted xs → n ≡ position_or_len (λ l. not (is_below (numbers p) l)) xs → n < length xs → l ≡ get_or xs n l → same l.place p ≡ true → unwrap_or (find order (numbers p) (entries_of xs)) [] ≡ l.text.items
+text_here p xs n l h e lt is at =
+    let start : find order (numbers p) (entries_of xs) ≡ hit (numbers p) (l ∷ drop (n + 1) xs) =
+    skipped (numbers p) xs h ∙ ap (λ (j : ℕ). hit (numbers p) (drop j xs)) (sym e) ∙ ap (hit (numbers p)) (drop_more xs n l lt ∙ ap (λ (x : Leaf). x ∷ drop (n + 1) xs) (sym is)) in
+    let tied : eq_by_cmp (slice_cmp nat_cmp) (numbers p) (key l) ≡ true = tie (numbers p) (key l) (sym (numbers-same l.place p at)) in
+    ap (λ (o : Option (List ℕ)). unwrap_or o []) (start ∙ ap (λ (b : Bool). cond b (Some l.text.items) None) tied)
+
+pub text_none : (p : Place) (xs : List Leaf) (n : ℕ) (l : Leaf) → Sorted xs → n ≡ position_or_len (λ l. not (is_below (numbers p) l)) xs → n < length xs → l ≡ get_or xs n l → same l.place p ≡ false → unwrap_or (find order (numbers p) (entries_of xs)) [] ≡ []
+text_none p xs n l h e lt is at =
+    let start : find order (numbers p) (entries_of xs) ≡ hit (numbers p) (l ∷ drop (n + 1) xs) =
+    skipped (numbers p) xs h ∙ ap (λ (j : ℕ). hit (numbers p) (drop j xs)) (sym e) ∙ ap (hit (numbers p)) (drop_more xs n l lt ∙ ap (λ (x : Leaf). x ∷ drop (n + 1) xs) (sym is)) in
+    let apart : eq_by_cmp (slice_cmp nat_cmp) (numbers p) (key l) ≡ false = no_tie (numbers p) (key l) (λ s. absurd (let t : same l.place p ≡ true = same-numbers l.place p (sym s) in let z : true ≡ false = sym t ∙ at in let no_more : ⊥ = cc in no_more)) in
+    ap (λ (o : Option (List ℕ)). unwrap_or o []) (start ∙ ap (λ (b : Bool). cond b (Some l.text.items) None) apart)
+
+pub text_past : (p : Place) (xs : List Leaf) (n : ℕ) → Sorted xs → n ≡ position_or_len (λ l. not (is_below (numbers p) l)) xs → length xs ≤ n → unwrap_or (find order (numbers p) (entries_of xs)) [] ≡ []
+text_past p xs n h e le =
+    ap (λ (o : Option (List ℕ)). unwrap_or o []) (skipped (numbers p) xs h ∙ ap (λ (j : ℕ). hit (numbers p) (drop j xs)) (sym e) ∙ ap (hit (numbers p)) (drop_all n xs le))

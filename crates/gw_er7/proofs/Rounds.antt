@@ -1,0 +1,271 @@
+-- What was written is read again.
+use Rattle.std.proofs.Common.{◌≡◌, ◌≢◌, ℕ, zero, suc, ◌+◌, ◌-◌, ◌<◌, ◌≤◌, Bool, true, false, cond, List, [], ◌∷◌, ◌++◌, length, map, Option, None, Some, refl, sym, ap, subst, ◌∙◌, arith, inl, inr}
+use Rattle.std.specs.Prelude.{◌==◌, unwrap_or, slice_index_or, nat_lt, if◌then◌else◌}
+use Rattle.std.proofs.lemmas.Bool.{cases_eq, cases_lt, eq-eqb, eqb-true, lt-ltb}
+use Rattle.std.specs.List.{slice_split, join_with_byte, flat_map, AllByRecursion}
+use Rattle.std.specs.Ordering.{nat_cmp, eq_by_cmp}
+use Rattle.std.specs.Cmp.Lexicographic.{slice_cmp}
+use Rattle.std.specs.FinMap as texts
+use Rattle.gw_er7.specs.Text.{canon, standard, is_special, Item, Plain, Escape, spelled, IsItem, IsPlain, IsInRange, IsCanonical, escaped}
+use Rattle.gw_er7.specs.Message.{numbers, SegmentValue, first_number, IsEntry}
+use Rattle.gw_er7.specs.Reading.{raw_at, ReadsFields}
+use Rattle.gw_er7.specs.Entries.{Entry, numbered, level, value, subcomponents, components, repetitions}
+use Rattle.gw_er7.specs.Written.{strip, those, last_number, parts_from, layer, leaf_text, component_text, repetition_text, field_text, fields_text}
+use Rattle.gw_er7.proofs.Keys.{no_tie}
+use Rattle.gw_er7.proofs.Fixed.{canonical_stays}
+use Rattle.gw_er7.proofs.Levels.{look, look-numbered, look-fields, tie-cons}
+
+-- this byte stands nowhere in the bytes
+abbrev pub Lacks : ℕ → List ℕ → Type 0
+Lacks byte bytes = AllByRecursion (λ b. b ≢ byte) bytes
+
+-- a byte of a text: in range, and no separator
+pub record IsTextByte (b : ℕ) : Type 0 where
+  pub range : IsInRange b
+  pub field : b ≢ 124
+  pub repetition : b ≢ 126
+  pub component : b ≢ 94
+  pub subcomponent : b ≢ 38
+
+-- a text that is read as itself, is not empty, and holds none of | ~ ^ &
+pub record IsText (t : List ℕ) : Type 0 where
+  pub again : canon standard t ≡ t
+  pub some : t ≡ [] → ⊥
+  pub bytes : AllByRecursion IsTextByte t
+
+-- each text is such
+abbrev pub Texts : (List ℕ → Type 0) → List Entry → Type 0
+Texts P es = AllByRecursion (λ e. P e.1) es
+
+not_eq : (a b : ℕ) → a ≢ b → (a == b) ≡ false
+not_eq a b apart = not_true (a == b) (λ e. apart (eqb-true a b e))
+  where
+    not_true : (v : Bool) → (v ≡ true → ⊥) → v ≡ false
+    not_true true isn't = absurd (isn't refl)
+    not_true false isn't = refl
+
+-- ---- parts joined, and cut again
+
+split-lacks : (s : ℕ) (p : List ℕ) → Lacks s p → slice_split (λ b. b == s) p ≡ p ∷ []
+split-lacks s [] h = refl
+split-lacks s (x ∷ p) h = rw (not_eq x s h.0, split-lacks s p h.1) refl
+
+split-first : (s : ℕ) (p rest : List ℕ) → Lacks s p → slice_split (λ b. b == s) (p ++ s ∷ rest) ≡ p ∷ slice_split (λ b. b == s) rest
+split-first s [] rest h = rw (eq-eqb s s refl) refl
+split-first s (x ∷ p) rest h = rw (not_eq x s h.0, split-first s p rest h.1) refl
+
+split-join : (s : ℕ) (p : List ℕ) (ps : List (List ℕ)) → AllByRecursion (Lacks s) (p ∷ ps) → slice_split (λ b. b == s) (join_with_byte s (p ∷ ps)) ≡ p ∷ ps
+split-join s p [] h = split-lacks s p h.0
+split-join s p (q ∷ ps) h = split-first s p (join_with_byte s (q ∷ ps)) h.0 ∙ ap (λ (xs : List (List ℕ)). p ∷ xs) (split-join s q ps h.1)
+
+abbrev nil : List ℕ
+nil = []
+
+abbrev nothing : List (List ℕ)
+nothing = []
+
+index-join : (s i : ℕ) (ps : List (List ℕ)) → AllByRecursion (Lacks s) ps → slice_index_or (slice_split (λ b. b == s) (join_with_byte s ps)) i [] ≡ slice_index_or ps i []
+index-join s i [] h = nil_index i
+  where
+    nil_index : (k : ℕ) → slice_index_or (nil ∷ []) k nil ≡ slice_index_or nothing k nil
+    nil_index zero = refl
+    nil_index (suc k) = refl
+index-join s i (p ∷ ps) h = ap (λ (xs : List (List ℕ)). slice_index_or xs i []) (split-join s p ps h)
+
+-- ---- entries under a number
+
+look-those : (n : ℕ) (key : List ℕ) (es : List Entry) → look (n ∷ key) es ≡ look key (those n es)
+look-those n key [] = refl
+look-those n key (e ∷ es) = look-strip n key e.0 e.1 es (look-those n key es)
+  where
+    look-strip : (n : ℕ) (key other text : List ℕ) (es : List Entry) → look (n ∷ key) es ≡ look key (those n es) → look (n ∷ key) ((other, text) ∷ es) ≡ look key (strip n other text ++ those n es)
+    look-strip n key [] text es h = h
+    look-strip n key (m ∷ other) text es h =
+        elim (cases_eq m n) as (λ _. look (n ∷ key) ((m ∷ other, text) ∷ es) ≡ look key (strip n (m ∷ other) text ++ those n es)) [
+          | inl e ↦ rw (eq-eqb m n e, tie-cons n m key other (sym e)) (ap (λ (o : Option (List ℕ)). cond (eq_by_cmp (slice_cmp nat_cmp) key other) (Some text) o) h)
+          | inr apart ↦ rw (not_eq m n apart, no_tie (n ∷ key) (m ∷ other) (λ is. apart (let same : n ∷ key ≡ m ∷ other = is in cc))) h
+        ]
+
+those-past : (n : ℕ) (es : List Entry) → last_number es < n → those n es ≡ []
+those-past n [] lt = refl
+those-past n (e ∷ es) lt = rw (strip-past n e.0 e.1 (omega arith)) (those-past n es (omega arith))
+  where
+    strip-past : (n : ℕ) (key text : List ℕ) → first_number key < n → strip n key text ≡ []
+    strip-past n [] text lt = refl
+    strip-past n (m ∷ key) text lt = rw (not_eq m n (λ e. absurd (omega arith))) refl
+
+part-at : (inner : List Entry → List ℕ) (es : List Entry) (m count i : ℕ) → i < count → slice_index_or (parts_from inner es m count) i [] ≡ inner (those (m + i) es)
+part-at inner es m zero i lt = absurd (omega arith)
+part-at inner es m (suc count) zero lt = (let at : m + 0 ≡ m = omega arith in rw at refl)
+part-at inner es m (suc count) (suc i) lt = (let at : m + suc i ≡ (m + 1) + i = omega arith in rw at (part-at inner es (m + 1) count i (omega arith)))
+
+part-past : (inner : List Entry → List ℕ) (es : List Entry) (m count i : ℕ) → count ≤ i → slice_index_or (parts_from inner es m count) i [] ≡ []
+part-past inner es m zero i le = refl
+part-past inner es m (suc count) zero le = absurd (omega arith)
+part-past inner es m (suc count) (suc i) le = part-past inner es (m + 1) count i (omega arith)
+
+pub Texts-those : (P : List ℕ → Type 0) (n : ℕ) (es : List Entry) → Texts P es → Texts P (those n es)
+Texts-those P n [] h = tt
+Texts-those P n (e ∷ es) h = Texts-strip P n e.0 e.1 (those n es) h.0 (Texts-those P n es h.1)
+  where
+    Texts-strip : (P : List ℕ → Type 0) (n : ℕ) (key text : List ℕ) (es : List Entry) → P text → Texts P es → Texts P (strip n key text ++ es)
+    Texts-strip P n [] text es p h = h
+    Texts-strip P n (m ∷ key) text es p h =
+        elim (m == n) as (λ b. Texts P (cond b ((key, text) ∷ []) [] ++ es)) [ true ↦ (p, h) | false ↦ h ]
+
+-- ---- one level
+
+-- what a level writes lacks the separators of the levels above, and is read again
+pub record IsAgain (P : List ℕ → Type 0) (read : List ℕ → List Entry) (write : List Entry → List ℕ) (n : ℕ) : Type 0 where
+  pub empty : read [] ≡ []
+  pub none : write [] ≡ []
+  pub again : (es : List Entry) (key : List ℕ) → Texts P es → AllByRecursion (λ k. 0 < k) key → length key ≡ n → look key (read (write es)) ≡ look key es
+
+parts-lack : (P : List ℕ → Type 0) (write : List Entry → List ℕ) (s : ℕ) → ((es : List Entry) → Texts P es → Lacks s (write es)) → (es : List Entry) (m count : ℕ) → Texts P es → AllByRecursion (Lacks s) (parts_from write es m count)
+parts-lack P write s lacks es m zero texts = tt
+parts-lack P write s lacks es m (suc count) texts = (lacks (those m es) (Texts-those P m es texts), parts-lack P write s lacks es (m + 1) count texts)
+
+-- from the first number on
+pub again-at : (P : List ℕ → Type 0) (read : List ℕ → List Entry) (write : List Entry → List ℕ) (n s first k : ℕ) (key : List ℕ) (es : List Entry) → IsAgain P read write n → ((es : List Entry) → Texts P es → Lacks s (write es)) → Texts P es
+    → 0 < first → first ≤ k → AllByRecursion (λ j. 0 < j) key → length key ≡ n → look (k ∷ key) (numbered read first (slice_split (λ b. b == s) (layer write s first es))) ≡ look (k ∷ key) es
+again-at P read write n s first k key es is lacks texts lt le positive len =
+    let count = last_number es + 1 - first in
+    let one = look-numbered read k first key (slice_split (λ b. b == s) (layer write s first es)) is.empty le in
+    let cut = index-join s (k - first) (parts_from write es first count) (parts-lack P write s lacks es first count texts) in
+    let two : look (k ∷ key) (numbered read first (slice_split (λ b. b == s) (layer write s first es))) ≡ look key (read (slice_index_or (parts_from write es first count) (k - first) [])) = one ∙ ap (λ (x : List ℕ). look key (read x)) cut in
+    elim (cases_lt (k - first) count) as (λ _. look (k ∷ key) (numbered read first (slice_split (λ b. b == s) (layer write s first es))) ≡ look (k ∷ key) es) [
+      | inl small ↦ (let at : first + (k - first) ≡ k = omega (arith, le) in
+          two ∙ ap (λ (x : List ℕ). look key (read x)) (part-at write es first count (k - first) small ∙ ap (λ (i : ℕ). write (those i es)) at)
+          ∙ is.again (those k es) key (Texts-those P k es texts) positive len ∙ sym (look-those k key es))
+      | inr big ↦ two ∙ ap (λ (x : List ℕ). look key (read x)) (part-past write es first count (k - first) big) ∙ ap (look key) is.empty
+          ∙ sym (look-those k key es ∙ ap (look key) (those-past k es (omega (arith, big, le))))
+    ]
+
+pub again-level : (P : List ℕ → Type 0) (read : List ℕ → List Entry) (write : List Entry → List ℕ) (n s : ℕ) → IsAgain P read write n → ((es : List Entry) → Texts P es → Lacks s (write es)) → IsAgain P (level read s) (layer write s 1) (n + 1)
+again-level P read write n s is lacks = record {
+  empty = ap (λ (es : List Entry). map (λ (e : Entry). (1 ∷ e.0, e.1)) es ++ []) is.empty;
+  none = refl;
+  again = λ es key texts positive len. here es key texts positive len;
+}
+  where
+    here : (es : List Entry) (key : List ℕ) → Texts P es → AllByRecursion (λ k. 0 < k) key → length key ≡ n + 1 → look key (level read s (layer write s 1 es)) ≡ look key es
+    here es [] texts positive len = absurd (omega arith)
+    here es (k ∷ key) texts positive len = again-at P read write n s 1 k key es is lacks texts (omega arith) (omega (arith, positive.0)) positive.1 (omega arith)
+
+-- ---- each byte of a level
+
+pub Each-append : (Q : ℕ → Type 0) (a b : List ℕ) → AllByRecursion Q a → AllByRecursion Q b → AllByRecursion Q (a ++ b)
+Each-append Q [] b ha hb = hb
+Each-append Q (x ∷ a) b ha hb = (ha.0, Each-append Q a b ha.1 hb)
+
+pub Each-join : (Q : ℕ → Type 0) (s : ℕ) (ps : List (List ℕ)) → Q s → AllByRecursion (AllByRecursion Q) ps → AllByRecursion Q (join_with_byte s ps)
+Each-join Q s [] is h = tt
+Each-join Q s (p ∷ []) is h = h.0
+Each-join Q s (p ∷ q ∷ ps) is h = Each-append Q p (s ∷ join_with_byte s (q ∷ ps)) h.0 (is, Each-join Q s (q ∷ ps) is h.1)
+
+Each-layer : (Q : ℕ → Type 0) (s first : ℕ) (P : List ℕ → Type 0) (write : List Entry → List ℕ) → Q s → ((es : List Entry) → Texts P es → AllByRecursion Q (write es)) → (es : List Entry) → Texts P es → AllByRecursion Q (layer write s first es)
+Each-layer Q s first P write is each es texts = Each-join Q s (parts_from write es first (last_number es + 1 - first)) is (parts es first (last_number es + 1 - first) texts)
+  where
+    parts : (es : List Entry) (m count : ℕ) → Texts P es → AllByRecursion (AllByRecursion Q) (parts_from write es m count)
+    parts es m zero texts = tt
+    parts es m (suc count) texts = (each (those m es) (Texts-those P m es texts), parts es (m + 1) count texts)
+
+-- the first entry with no number
+pub leaf_cases : (Q : Option (List ℕ) → Type 0) (P : List ℕ → Type 0) (es : List Entry) → Texts P es → Q None → ((t : List ℕ) → P t → Q (Some t)) → Q (look [] es)
+leaf_cases Q P [] texts none some = none
+leaf_cases Q P (e ∷ es) texts none some = leaf_strip Q P e.0 e.1 es texts none some (leaf_cases Q P es texts.1 none some)
+  where
+    leaf_strip : (Q : Option (List ℕ) → Type 0) (P : List ℕ → Type 0) (key text : List ℕ) (es : List Entry) → Texts P ((key, text) ∷ es) → Q None → ((t : List ℕ) → P t → Q (Some t)) → Q (look [] es) → Q (look [] ((key, text) ∷ es))
+    leaf_strip Q P [] text es texts none some rest = some text texts.0
+    leaf_strip Q P (m ∷ key) text es texts none some rest = rest
+
+each-byte : (Q : ℕ → Type 0) (t : List ℕ) → ((b : ℕ) → IsTextByte b → Q b) → AllByRecursion IsTextByte t → AllByRecursion Q t
+each-byte Q [] to h = tt
+each-byte Q (b ∷ bs) to h = (to b h.0, each-byte Q bs to h.1)
+
+pub leaf-each : (Q : ℕ → Type 0) → ((b : ℕ) → IsTextByte b → Q b) → (es : List Entry) → Texts IsText es → AllByRecursion Q (leaf_text es)
+leaf-each Q to es texts = leaf_cases (λ o. AllByRecursion Q (unwrap_or o [])) IsText es texts tt (λ t is. each-byte Q t to is.bytes)
+
+pub component-each : (Q : ℕ → Type 0) → Q 38 → ((b : ℕ) → IsTextByte b → Q b) → (es : List Entry) → Texts IsText es → AllByRecursion Q (component_text es)
+component-each Q s to = Each-layer Q 38 1 IsText leaf_text s (leaf-each Q to)
+
+pub repetition-each : (Q : ℕ → Type 0) → Q 38 → Q 94 → ((b : ℕ) → IsTextByte b → Q b) → (es : List Entry) → Texts IsText es → AllByRecursion Q (repetition_text es)
+repetition-each Q s c to = Each-layer Q 94 1 IsText component_text c (component-each Q s to)
+
+pub field-each : (Q : ℕ → Type 0) → Q 38 → Q 94 → Q 126 → ((b : ℕ) → IsTextByte b → Q b) → (es : List Entry) → Texts IsText es → AllByRecursion Q (field_text es)
+field-each Q s c r to = Each-layer Q 126 1 IsText repetition_text r (repetition-each Q s c to)
+
+pub fields-each : (Q : ℕ → Type 0) (first : ℕ) → Q 38 → Q 94 → Q 126 → Q 124 → ((b : ℕ) → IsTextByte b → Q b) → (es : List Entry) → Texts IsText es → AllByRecursion Q (fields_text first es)
+fields-each Q first s c r f to = Each-layer Q 124 first IsText field_text f (field-each Q s c r to)
+
+leaf-again : IsAgain IsText (value standard) leaf_text 0
+leaf-again = record {
+  empty = refl;
+  none = refl;
+  again = λ es key texts positive len. leaf es key texts len;
+}
+  where
+    back : (t : List ℕ) → IsText t → look [] (value standard t) ≡ Some t
+    back [] is = absurd (is.some refl)
+    back (b ∷ bs) is = ap (λ (x : List ℕ). Some x) is.again
+
+    leaf : (es : List Entry) (key : List ℕ) → Texts IsText es → length key ≡ 0 → look key (value standard (leaf_text es)) ≡ look key es
+    leaf es [] texts len = leaf_cases (λ o. look [] (value standard (unwrap_or o [])) ≡ o) IsText es texts refl back
+    leaf es (k ∷ key) texts len = absurd (omega arith)
+
+component-again : IsAgain IsText (subcomponents standard) component_text 1
+component-again = again-level IsText (value standard) leaf_text 0 38 leaf-again (leaf-each (λ b. b ≢ 38) (λ b is. is.subcomponent))
+
+repetition-again : IsAgain IsText (components standard) repetition_text 2
+repetition-again = again-level IsText (subcomponents standard) component_text 1 94 component-again (component-each (λ b. b ≢ 94) (λ e. absurd (omega arith)) (λ b is. is.component))
+
+field-again : IsAgain IsText (repetitions standard) field_text 3
+field-again = again-level IsText (components standard) repetition_text 2 126 repetition-again (repetition-each (λ b. b ≢ 126) (λ e. absurd (omega arith)) (λ e. absurd (omega arith)) (λ b is. is.repetition))
+
+-- ---- the entries of a segment
+
+plain_byte : (b : ℕ) → IsPlain b → IsTextByte b
+plain_byte b is =
+    let no_special = is.not_special in
+    record { range = is.range; field = λ e. absurd (apart 124 e refl); repetition = λ e. absurd (apart 126 e refl); component = λ e. absurd (apart 94 e refl); subcomponent = λ e. absurd (apart 38 e refl) }
+  where
+    apart : (n : ℕ) → b ≡ n → is_special n ≡ true → ⊥
+    apart n e special = let t : true ≡ false = sym special ∙ ap is_special (sym e) ∙ is.not_special in cc
+
+escape_byte : IsTextByte 92
+escape_byte = record { range = (omega arith, λ lt. absurd (omega arith)); field = λ e. absurd (omega arith); repetition = λ e. absurd (omega arith); component = λ e. absurd (omega arith); subcomponent = λ e. absurd (omega arith) }
+
+plain_bytes : (body : List ℕ) → AllByRecursion IsPlain body → AllByRecursion IsTextByte body
+plain_bytes [] h = tt
+plain_bytes (b ∷ bs) h = (plain_byte b h.0, plain_bytes bs h.1)
+
+pub text_bytes : (items : List Item) → AllByRecursion IsItem items → AllByRecursion IsTextByte (flat_map spelled items)
+text_bytes [] h = tt
+text_bytes (Plain b ∷ items) h = (plain_byte b h.0, text_bytes items h.1)
+text_bytes (Escape body ∷ items) h =
+    Each-append IsTextByte (escaped body) (flat_map spelled items) (escape_byte, Each-append IsTextByte body (92 ∷ []) (plain_bytes body h.0.1) (escape_byte, tt)) (text_bytes items h.1)
+
+pub canonical_text : (t : List ℕ) → IsCanonical t → t ≢ [] → IsText t
+canonical_text t is some = record { again = canonical_stays t is; some = some; bytes = subst (λ (x : List ℕ). AllByRecursion IsTextByte x) (sym is.whole) (text_bytes is.items is.each) }
+
+pub kept_texts : (first : ℕ) (es : List Entry) → AllByRecursion (IsEntry first) es → Texts IsText es
+kept_texts first [] h = tt
+kept_texts first (e ∷ es) h = (canonical_text e.1 h.0.text h.0.some, kept_texts first es h.1)
+
+-- no text stands below the first number
+pub look-early : (first n : ℕ) (key : List ℕ) (es : List Entry) → n < first → AllByRecursion (IsEntry first) es → look (n ∷ key) es ≡ None
+look-early first n key [] lt h = refl
+look-early first n key (e ∷ es) lt h = rw (no_tie (n ∷ key) e.0 (λ is. absurd (let le = h.0.key.field in let same : first_number e.0 ≡ n = sym (ap first_number is) in omega (arith, le, same)))) (look-early first n key es lt h.1)
+
+-- the fields that are written for a segment read as that segment
+pub written_reads : (first : ℕ) (s : SegmentValue) → 0 < first → AllByRecursion (IsEntry first) (texts.entries s.at) → ReadsFields standard first (fields_text first (texts.entries s.at)) s
+written_reads first s lt kept p is =
+    let es = texts.entries s.at in
+    let seen = look-fields standard first (fields_text first es) p is in
+    elim (cases_lt p.field first) as (λ _. unwrap_or (texts.get s.at (numbers p)) [] ≡ (if nat_lt p.field first then [] else canon standard (raw_at standard (fields_text first es) (p.field + 1 - first) p))) [
+      | inl low ↦ (let below : nat_lt p.field first ≡ true = lt-ltb _ _ low in
+          rw below (ap (λ (o : Option (List ℕ)). unwrap_or o []) (texts.get-entries s.at (numbers p) ∙ look-early first p.field (p.rep ∷ p.comp ∷ p.sub ∷ []) es low kept)))
+      | inr le ↦ ap (λ (o : Option (List ℕ)). unwrap_or o []) (texts.get-entries s.at (numbers p)
+          ∙ sym (again-at IsText (repetitions standard) field_text 3 124 first p.field (p.rep ∷ p.comp ∷ p.sub ∷ []) es field-again (field-each (λ b. b ≢ 124) (λ e. absurd (omega arith)) (λ e. absurd (omega arith)) (λ e. absurd (omega arith)) (λ b is. is.field))
+          (kept_texts first es kept) lt le (is.1, (is.2, (is.3, tt))) refl)) ∙ seen
+    ]

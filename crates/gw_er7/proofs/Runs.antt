@@ -1,0 +1,103 @@
+-- Leaves in order, cut behind those with one number.
+use Rattle.std.proofs.Common.{◌≡◌, ◌≢◌, ℕ, suc, ◌+◌, ◌<◌, ◌≤◌, true, false, cond, not, List, [], ◌∷◌, ◌++◌, length, map, take, drop, None, Some, Ordering, Greater, refl, sym, ap, subst, ◌∙◌, arith, inl, inr}
+use Rattle.std.specs.Prelude.{◌==◌, nat_lt, position, T}
+use Rattle.std.proofs.lemmas.Bool.{cases_lt, lt-ltb, eqb-true, eq-eqb}
+use Rattle.std.proofs.lemmas.List.{take_all, drop_all}
+use Rattle.std.specs.List.{prefix_len, AllByRecursion}
+use Rattle.std.specs.Ordering.{is_lt, ordering_then}
+use Rattle.std.specs.Cmp.{nat_cmp_is}
+use Rattle.std.specs.FinMap.Entries.{below_all}
+use Rattle.gw_er7.specs.declared.segment.Leaf.{Leaf}
+use Rattle.gw_er7.specs.Entries.{Entry, under}
+use Rattle.gw_er7.specs.Ordered.{IsAtLeast, Above, IsOrdered, IsCut}
+use Rattle.gw_er7.proofs.Sorted.{order, both, first, second, cmp-same}
+
+less-le : (a b : ℕ) (key other : List ℕ) → T (is_lt (order (a ∷ key) (b ∷ other))) → a ≤ b
+less-le a b key other h =
+    elim (cases_lt b a) as (λ _. a ≤ b) [
+      | inl lt ↦ absurd (subst (λ (r : Ordering). T (is_lt (ordering_then r (order key other)))) (sym (nat_cmp_is a b Greater lt)) h)
+      | inr le ↦ le
+    ]
+
+below-strip : (n : ℕ) (key : List ℕ) (es rest : List Entry) → T (below_all order (n ∷ key) (map (under n) es ++ rest)) → T (below_all order key es)
+below-strip n key [] rest h = tt
+below-strip n key (e ∷ es) rest h = both _ _ (subst (λ (r : Ordering). T (is_lt r)) (cmp-same n key e.0) (first _ _ h)) (below-strip n key es rest (second _ _ h))
+
+positive-least : (key : List ℕ) → AllByRecursion (λ n. 0 < n) key → IsAtLeast 1 key
+positive-least [] h = tt
+positive-least (n ∷ key) h = omega (arith, h.0)
+
+none-ordered : (n : ℕ) → IsOrdered n []
+none-ordered n = record { rising = tt; from = tt; positive = tt }
+
+eq-false : (a b : ℕ) → (a == b) ≡ false → a ≢ b
+eq-false a b e same = absurd (let t : (a == b) ≡ true = eq-eqb a b same in let z : ⊥ = cc in z)
+
+module _ (head : Leaf → ℕ) (tail : Leaf → Entry) where
+  abbrev full : Leaf → Entry
+  full l = (head l ∷ (tail l).0, (tail l).1)
+
+  above-first : (n : ℕ) (key : List ℕ) (m : ℕ) (xs : List Leaf) → n < m → T (below_all order (m ∷ key) (map full xs)) → Above n (map full xs)
+  above-first n key m [] lt h = tt
+  above-first n key m (x ∷ xs) lt h = (let le : m ≤ head x = less-le m (head x) key (tail x).0 (first _ _ h) in omega arith, above-first n key m xs lt (second _ _ h))
+
+  least-above : (n : ℕ) (xs : List Leaf) → Above n (map full xs) → AllByRecursion (λ e. IsAtLeast (n + 1) e.0) (map full xs)
+  least-above n [] h = tt
+  least-above n (x ∷ xs) h = (omega (arith, h.0), least-above n xs h.1)
+
+  pub cut_run : (n : ℕ) (xs : List Leaf) → IsOrdered n (map full xs) → IsCut n (map full xs) (map tail (take (prefix_len (λ l. not (not (head l == n))) xs) xs)) (map full (drop (prefix_len (λ l. not (not (head l == n))) xs) xs))
+  cut_run n [] is = record { whole = refl; above = tt; inner = none-ordered 1; outer = none-ordered (n + 1) }
+  cut_run n (x ∷ xs) is =
+      let k = prefix_len (λ l. not (not (head l == n))) xs in
+      let rest : IsOrdered n (map full xs) = record { rising = second _ _ is.rising; from = is.from.1; positive = is.positive.1 } in
+      let more = cut_run n xs rest in
+      let more_is : 1 + k ≡ suc k = omega arith in
+      elim (head x == n) as (λ v. (head x == n) ≡ v → IsCut n (map full (x ∷ xs)) (map tail (take (cond (not (not v)) (1 + k) 0) (x ∷ xs))) (map full (drop (cond (not (not v)) (1 + k) 0) (x ∷ xs)))) [
+        | true ↦ λ e. subst (λ (j : ℕ). IsCut n (map full (x ∷ xs)) (map tail (take j (x ∷ xs))) (map full (drop j (x ∷ xs)))) (sym more_is) (
+            let same : head x ≡ n = eqb-true _ _ e in
+            let below : T (below_all order (n ∷ (tail x).0) (map full xs)) = subst (λ (m : ℕ). T (below_all order (m ∷ (tail x).0) (map full xs))) same (first _ _ is.rising) in
+            record {
+              whole = ap (λ (m : ℕ). (m ∷ (tail x).0, (tail x).1) ∷ map full xs) same ∙ ap (λ (es : List Entry). under n (tail x) ∷ es) more.whole;
+              above = more.above;
+              inner = record {
+                rising = both _ _ (below-strip n (tail x).0 (map tail (take k xs)) (map full (drop k xs)) (subst (λ (es : List Entry). T (below_all order (n ∷ (tail x).0) es)) more.whole below)) more.inner.rising;
+                from = (positive-least (tail x).0 is.positive.0.1, more.inner.from);
+                positive = (is.positive.0.1, more.inner.positive);
+              };
+              outer = more.outer;
+            })
+        | false ↦ λ e.
+            let far : n < head x = (let apart : head x ≢ n = eq-false _ _ e in omega (arith, is.from.0)) in
+            let above : Above n (map full (x ∷ xs)) = (far, above-first n (tail x).0 (head x) xs far (first _ _ is.rising)) in
+            record {
+              whole = refl;
+              above = above;
+              inner = none-ordered 1;
+              outer = record { rising = is.rising; from = least-above n (x ∷ xs) above; positive = is.positive };
+            }
+      ] refl
+
+  -- what `position` found
+  pub cut_none : (n : ℕ) (xs : List Leaf) → IsOrdered n (map full xs) → position (λ l. not (head l == n)) xs ≡ None → IsCut n (map full xs) (map tail xs) []
+  cut_none n xs is e =
+      let k = prefix_len (λ l. not (not (head l == n))) xs in
+      let all : length xs ≤ k = unfound k (length xs) e in
+      let t : take k xs ≡ xs = take_all k xs all in
+      let d : drop k xs ≡ [] = drop_all k xs all in
+      subst (λ (ys : List Leaf). IsCut n (map full xs) (map tail xs) (map full ys)) d (subst (λ (ys : List Leaf). IsCut n (map full xs) (map tail ys) (map full (drop k xs))) t (cut_run n xs is))
+    where
+      unfound : (a n : ℕ) → cond (nat_lt a n) (Some a) None ≡ None → n ≤ a
+      unfound a n h =
+          elim (cases_lt a n) as (λ _. n ≤ a) [
+            | inl lt ↦ (let below : nat_lt a n ≡ true = lt-ltb _ _ lt in let e = rw below at h in absurd (let z : ⊥ = cc in z))
+            | inr le ↦ le
+          ]
+
+  pub cut_some : (n : ℕ) (xs : List Leaf) (end : ℕ) (later : List Leaf) → IsOrdered n (map full xs) → position (λ l. not (head l == n)) xs ≡ Some end → later ≡ drop end xs → IsCut n (map full xs) (map tail (take end xs)) (map full later)
+  cut_some n xs end later is e d =
+      let k = prefix_len (λ l. not (not (head l == n))) xs in
+      let same : k ≡ end = found k (length xs) end e in
+      subst (λ (ys : List Leaf). IsCut n (map full xs) (map tail (take end xs)) (map full ys)) (sym d) (subst (λ (j : ℕ). IsCut n (map full xs) (map tail (take j xs)) (map full (drop j xs))) same (cut_run n xs is))
+    where
+      found : (a n end : ℕ) → cond (nat_lt a n) (Some a) None ≡ Some end → a ≡ end
+      found a n end h = elim (nat_lt a n) as (λ v. cond v (Some a) None ≡ Some end → a ≡ end) [ true ↦ λ h. cc | false ↦ λ h. absurd (let z : ⊥ = cc in z) ] h

@@ -1,0 +1,54 @@
+-- Segments as they are stored, and how they are written.
+use Rattle.std.proofs.Common.{◌≡◌, ℕ, zero, suc, ◌<◌, ◌≤◌, List, [], ◌∷◌, ◌++◌, length, get_or, drop, sym, ap, subst, ◌∙◌, append-nil, arith}
+use Rattle.std.specs.Prelude.{T}
+use Rattle.std.proofs.lemmas.List.{drop_all}
+use Rattle.std.specs.List.{AllByRecursion}
+use Rattle.std.specs.Ordering.{nat_cmp}
+use Rattle.std.specs.Cmp.Lexicographic.{slice_cmp}
+use Rattle.std.specs.FinMap as texts
+use Rattle.std.specs.FinMap.{is_sorted, entries-from_sorted}
+use Rattle.gw_er7.specs.Message.{SegmentValue, first_number, first_field, IsEntry, IsSegment, IsOther, IsMessage}
+use Rattle.gw_er7.specs.Entries.{Entry}
+use Rattle.gw_er7.specs.Ordered.{IsAtLeast, IsOrdered}
+use Rattle.gw_er7.specs.Written.{line_text, delimiters_text, behind_separator, written}
+
+abbrev pub stored : List ℕ → List Entry → SegmentValue
+stored name es = record { name = name; at = texts.from_sorted {R = slice_cmp nat_cmp} es }
+
+least : (n : ℕ) (key : List ℕ) → n ≤ first_number key → IsAtLeast n key
+least n [] h = tt
+least n (m ∷ key) h = h
+
+all-least : (n : ℕ) (es : List Entry) → AllByRecursion (IsEntry n) es → AllByRecursion (λ e. IsAtLeast n e.0) es
+all-least n [] h = tt
+all-least n (e ∷ es) h = (least n e.0 h.0.key.field, all-least n es h.1)
+
+all-positive : (n : ℕ) (es : List Entry) → AllByRecursion (IsEntry n) es → AllByRecursion (λ e. AllByRecursion (λ k. 0 < k) e.0) es
+all-positive n [] h = tt
+all-positive n (e ∷ es) h = (h.0.key.positive, all-positive n es h.1)
+
+pub ordered : (name : List ℕ) (es : List Entry) (s : SegmentValue) → T (is_sorted (slice_cmp nat_cmp) es) → stored name es ≡ s → IsSegment s → IsOrdered (first_field name) es
+ordered name es s sorted view is =
+    let here : IsSegment (stored name es) = subst (λ (v : SegmentValue). IsSegment v) (sym view) is in
+    let each : AllByRecursion (IsEntry (first_field name)) es = subst (λ (xs : List Entry). AllByRecursion (IsEntry (first_field name)) xs) (entries-from_sorted (slice_cmp nat_cmp) es sorted) here.each in
+    record { rising = sorted; from = all-least (first_field name) es each; positive = all-positive (first_field name) es each }
+
+pub line : (name : List ℕ) (es : List Entry) (s : SegmentValue) → T (is_sorted (slice_cmp nat_cmp) es) → stored name es ≡ s
+    → name ++ delimiters_text name ++ behind_separator (first_field name) es ++ 13 ∷ [] ≡ line_text s ++ 13 ∷ []
+line name es s sorted view =
+    ap (λ (xs : List Entry). name ++ delimiters_text name ++ behind_separator (first_field name) xs ++ 13 ∷ []) (sym (entries-from_sorted (slice_cmp nat_cmp) es sorted)) ∙ ap (λ (v : SegmentValue). line_text v ++ 13 ∷ []) view
+
+-- ---- all segments
+
+others_at : (i : ℕ) (ss : List SegmentValue) (d : SegmentValue) → i < length ss → AllByRecursion IsOther ss → IsSegment (get_or ss i d)
+others_at i [] d lt h = absurd (omega arith)
+others_at zero (s ∷ ss) d lt h = h.0.segment
+others_at (suc i) (s ∷ ss) d lt h = others_at i ss d (omega arith) h.1
+
+pub segment_at : (i : ℕ) (ss : List SegmentValue) (d : SegmentValue) → i < length ss → IsMessage ss → IsSegment (get_or ss i d)
+segment_at i [] d lt h = absurd (omega arith)
+segment_at zero (s ∷ ss) d lt h = h.0.segment
+segment_at (suc i) (s ∷ ss) d lt h = others_at i ss d (omega arith) h.1
+
+pub written_end : (ss : List SegmentValue) (i : ℕ) (out target : List ℕ) → length ss ≤ i → out ++ written (drop i ss) ≡ target → out ≡ target
+written_end ss i out target le h = sym (append-nil out) ∙ ap (λ (x : List SegmentValue). out ++ written x) (sym (drop_all i ss le)) ∙ h

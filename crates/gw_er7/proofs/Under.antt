@@ -1,0 +1,296 @@
+-- The last place that begins with given numbers.
+use Rattle.std.proofs.Common.{◌≡◌, ◌≢◌, ℕ, zero, suc, ◌+◌, ◌-◌, ◌<◌, ◌≤◌, true, false, cond, List, [], ◌∷◌, ◌++◌, length, get_or, drop, Option, None, Some, Ordering, Less, Equal, Greater, refl, sym, ap, subst, ◌∙◌, arith, inl, inr}
+use Rattle.std.specs.Prelude.{unwrap_or}
+use Rattle.std.proofs.lemmas.Bool.{cases_lt}
+use Rattle.std.proofs.lemmas.List.{drop_more, drop_all}
+use Rattle.std.specs.List.{AllByRecursion}
+use Rattle.std.specs.List.Sorted.{IsPartitionPoint, IsPartitionedBy}
+use Rattle.std.specs.Ordering.{nat_cmp, is_le, is_gt, is_eq, eq_by_cmp, ordering_then}
+use Rattle.std.specs.Cmp.{nat_cmp_is, ranked, Equal-is}
+use Rattle.std.specs.Cmp.Lexicographic.{slice_cmp}
+use Rattle.std.specs.FinMap as texts
+use Rattle.std.specs.FinMap.{find, get-from_sorted, slice_cmp-IsAntisymmetric, nat_cmp-IsAntisymmetric}
+use Rattle.gw_er7.specs.declared.place.Place.{Place}
+use Rattle.gw_er7.specs.declared.segment.Leaf.{Leaf}
+use Rattle.gw_er7.specs.Message.{numbers, Texts, IsEntry}
+use Rattle.gw_er7.specs.Presence.{SubAt, CompAt, RepAt, FieldAt, IsLast}
+use Rattle.gw_er7.specs.View.{entries_of, AreValues, compare_begin, is_within, StandsAt, IsLastUnder}
+use Rattle.gw_er7.proofs.Sorted.{order, cmp-same}
+use Rattle.gw_er7.proofs.Keys.{tie}
+use Rattle.gw_er7.proofs.Finds.{Sorted, rising_at}
+
+-- ---- how keys compare with their beginnings
+
+less_is : (a b : ℕ) → a < b → nat_cmp a b ≡ Less
+less_is a b lt = sym (nat_cmp_is a b Less lt)
+
+greater_is : (a b : ℕ) → b < a → nat_cmp a b ≡ Greater
+greater_is a b lt = sym (nat_cmp_is a b Greater lt)
+
+-- the three cases of two numbers
+cases_cmp : (P : Ordering → Type 0) (a b : ℕ) → (a < b → P Less) → (a ≡ b → P Equal) → (b < a → P Greater) → P (nat_cmp a b)
+cases_cmp P a b less same greater = by (nat_cmp a b) refl
+  where
+    by : (r : Ordering) → r ≡ nat_cmp a b → P r
+    by Less e = less (ranked a b Less e)
+    by Equal e = same (ranked a b Equal e)
+    by Greater e = greater (ranked a b Greater e)
+
+-- what comes before a key that isn't above the numbers isn't either
+within-less : (ps a b : List ℕ) → order a b ≡ Less → is_le (compare_begin b ps) ≡ true → is_le (compare_begin a ps) ≡ true
+within-less [] a b lt h = refl
+within-less (p ∷ ps) [] b lt h = refl
+within-less (p ∷ ps) (x ∷ a) [] lt h = absurd (let z : ⊥ = cc in z)
+within-less (p ∷ ps) (x ∷ a) (y ∷ b) lt h =
+    cases_cmp (λ r. ordering_then r (order a b) ≡ Less → is_le (compare_begin (x ∷ a) (p ∷ ps)) ≡ true) x y
+    (λ xy _. cases_cmp (λ r. is_le (ordering_then r (compare_begin b ps)) ≡ true → is_le (compare_begin (x ∷ a) (p ∷ ps)) ≡ true) y p
+    (λ yp _. ap (λ (r : Ordering). is_le (ordering_then r (compare_begin a ps))) (less_is x p (omega arith)))
+    (λ yp _. ap (λ (r : Ordering). is_le (ordering_then r (compare_begin a ps))) (less_is x p (omega arith)))
+    (λ _ e. absurd (let z : ⊥ = cc in z)) h)
+    (λ xy later. cases_cmp (λ r. is_le (ordering_then r (compare_begin b ps)) ≡ true → is_le (compare_begin (x ∷ a) (p ∷ ps)) ≡ true) y p
+    (λ yp _. ap (λ (r : Ordering). is_le (ordering_then r (compare_begin a ps))) (less_is x p (omega arith)))
+    (λ yp e. ap (λ (r : Ordering). is_le (ordering_then r (compare_begin a ps))) (sym (nat_cmp_is x p Equal (xy ∙ yp))) ∙ within-less ps a b later e)
+    (λ _ e. absurd (let z : ⊥ = cc in z)) h)
+    (λ _ e. absurd (let z : ⊥ = cc in z)) lt
+
+-- between a key that begins with the numbers and their end, keys begin with them
+begins-above : (ps a b : List ℕ) → is_gt (order a b) ≡ false → compare_begin a ps ≡ Equal → is_le (compare_begin b ps) ≡ true → compare_begin b ps ≡ Equal
+begins-above [] a b le e h = refl
+begins-above (p ∷ ps) [] b le e h = absurd (let z : ⊥ = cc in z)
+begins-above (p ∷ ps) (x ∷ a) [] le e h = absurd (let z : ⊥ = cc in z)
+begins-above (p ∷ ps) (x ∷ a) (y ∷ b) le e h =
+    cases_cmp (λ r. ordering_then r (compare_begin a ps) ≡ Equal → compare_begin (y ∷ b) (p ∷ ps) ≡ Equal) x p
+    (λ _ e. absurd (let z : ⊥ = cc in z))
+    (λ xp e. cases_cmp (λ r. is_gt (ordering_then r (order a b)) ≡ false → compare_begin (y ∷ b) (p ∷ ps) ≡ Equal) x y
+    (λ xy _. absurd (let far : is_le (compare_begin (y ∷ b) (p ∷ ps)) ≡ false = ap (λ (r : Ordering). is_le (ordering_then r (compare_begin b ps))) (greater_is y p (omega arith)) in let z : true ≡ false = sym h ∙ far in let no_more : ⊥ = cc in no_more))
+    (λ xy later.
+    let yp : nat_cmp y p ≡ Equal = sym (nat_cmp_is y p Equal (sym xy ∙ xp)) in
+    let rest : is_le (compare_begin b ps) ≡ true = sym (ap (λ (r : Ordering). is_le (ordering_then r (compare_begin b ps))) yp) ∙ h in
+    ap (λ (r : Ordering). ordering_then r (compare_begin b ps)) yp ∙ begins-above ps a b later e rest)
+    (λ _ e. absurd (let z : ⊥ = cc in z)) le)
+    (λ _ e. absurd (let z : ⊥ = cc in z)) e
+
+-- ---- a loop over the numbers
+
+pub compared_equal : (key ps : List ℕ) (i : ℕ) → i < length key → i < length ps → get_or key i 0 ≡ get_or ps i 0 → compare_begin (drop i key) (drop i ps) ≡ compare_begin (drop (i + 1) key) (drop (i + 1) ps)
+compared_equal key ps i short within e =
+    rw (drop_more key i 0 short, drop_more ps i 0 within) (ap (λ (r : Ordering). ordering_then r (compare_begin (drop (i + 1) key) (drop (i + 1) ps))) (sym (nat_cmp_is (get_or key i 0) (get_or ps i 0) Equal e)))
+
+pub compared_less : (key ps : List ℕ) (i : ℕ) → i < length key → i < length ps → get_or key i 0 < get_or ps i 0 → compare_begin (drop i key) (drop i ps) ≡ Less
+compared_less key ps i short within e =
+    rw (drop_more key i 0 short, drop_more ps i 0 within) (ap (λ (r : Ordering). ordering_then r (compare_begin (drop (i + 1) key) (drop (i + 1) ps))) (less_is (get_or key i 0) (get_or ps i 0) e))
+
+pub compared_greater : (key ps : List ℕ) (i : ℕ) → i < length key → i < length ps → get_or ps i 0 < get_or key i 0 → compare_begin (drop i key) (drop i ps) ≡ Greater
+compared_greater key ps i short within e =
+    rw (drop_more key i 0 short, drop_more ps i 0 within) (ap (λ (r : Ordering). ordering_then r (compare_begin (drop (i + 1) key) (drop (i + 1) ps))) (greater_is (get_or key i 0) (get_or ps i 0) e))
+
+pub compared_short : (key ps : List ℕ) (i : ℕ) → length key ≤ i → i < length ps → compare_begin (drop i key) (drop i ps) ≡ Less
+compared_short key ps i over within = rw (drop_all i key over, drop_more ps i 0 within) refl
+
+record Begins (k : ℕ) (key : List ℕ) (p : ℕ) (ps : List ℕ) : Type 0 where
+  head : k ≡ p
+  rest : compare_begin key ps ≡ Equal
+
+begin_is : (k : ℕ) (key : List ℕ) (p : ℕ) (ps : List ℕ) → compare_begin (k ∷ key) (p ∷ ps) ≡ Equal → Begins k key p ps
+begin_is k key p ps e =
+    cases_cmp (λ r. ordering_then r (compare_begin key ps) ≡ Equal → Begins k key p ps) k p
+    (λ _ e. absurd (let z : ⊥ = cc in z)) (λ same e. record { head = same; rest = e }) (λ _ e. absurd (let z : ⊥ = cc in z)) e
+
+begin_same : (ps rest : List ℕ) → compare_begin (ps ++ rest) ps ≡ Equal
+begin_same [] rest = refl
+begin_same (p ∷ ps) rest = ap (λ (r : Ordering). ordering_then r (compare_begin (ps ++ rest) ps)) (sym (nat_cmp_is p p Equal refl)) ∙ begin_same ps rest
+
+not_above : (a b : ℕ) (key other : List ℕ) → is_gt (order (a ∷ key) (b ∷ other)) ≡ false → a ≤ b
+not_above a b key other e =
+    elim (cases_lt b a) as (λ _. a ≤ b) [
+      | inl lt ↦ absurd (let far : is_gt (order (a ∷ key) (b ∷ other)) ≡ true = ap (λ (r : Ordering). is_gt (ordering_then r (order key other))) (greater_is a b lt) in let z : true ≡ false = sym far ∙ e in let no_more : ⊥ = cc in no_more)
+      | inr le ↦ le
+    ]
+
+not_above_behind : (a : ℕ) (key other : List ℕ) → is_gt (order (a ∷ key) (a ∷ other)) ≡ false → is_gt (order key other) ≡ false
+not_above_behind a key other e = ap is_gt (sym (cmp-same a key other)) ∙ e
+
+-- ---- leaves and the texts that stand
+
+abbrev key : Leaf → List ℕ
+key l = numbers l.place
+
+abbrev texts_of : List Leaf → Texts
+texts_of xs = texts.from_sorted (entries_of xs)
+
+stands-find : (xs : List Leaf) (k : List ℕ) → Sorted xs → StandsAt (texts_of xs) k → 0 < length (unwrap_or (find order k (entries_of xs)) [])
+stands-find xs k sorted h = subst (λ (o : Option (List ℕ)). 0 < length (unwrap_or o [])) (get-from_sorted (slice_cmp nat_cmp) (entries_of xs) k sorted) h
+
+find-stands : (xs : List Leaf) (k : List ℕ) → Sorted xs → 0 < length (unwrap_or (find order k (entries_of xs)) []) → StandsAt (texts_of xs) k
+find-stands xs k sorted h = subst (λ (o : Option (List ℕ)). 0 < length (unwrap_or o [])) (sym (get-from_sorted (slice_cmp nat_cmp) (entries_of xs) k sorted)) h
+
+-- the leaf of a key
+record Leaves (xs : List Leaf) (k : List ℕ) : Type 0 where
+  at : ℕ
+  within : at < length xs
+  here : (d : Leaf) → key (get_or xs at d) ≡ k
+
+found_leaf : (xs : List Leaf) (k : List ℕ) → 0 < length (unwrap_or (find order k (entries_of xs)) []) → Leaves xs k
+found_leaf [] k h = absurd (omega arith)
+found_leaf (x ∷ xs) k h =
+    elim (eq_by_cmp (slice_cmp nat_cmp) k (key x)) as (λ v. eq_by_cmp (slice_cmp nat_cmp) k (key x) ≡ v → 0 < length (unwrap_or (cond v (Some x.text.items) (find order k (entries_of xs))) []) → Leaves (x ∷ xs) k) [
+      | true ↦ λ e _. record { at = 0; within = omega arith; here = λ d. sym (slice_cmp-IsAntisymmetric nat_cmp-IsAntisymmetric k (key x) ((Equal-is (slice_cmp nat_cmp k (key x))).0 e)) }
+      | false ↦ λ _ h. (let more = found_leaf xs k h in record { at = suc more.at; within = omega (arith, more.within); here = more.here })
+    ] refl h
+
+full : (t : List ℕ) → t ≢ [] → 0 < length t
+full [] some = absurd (some refl)
+full (x ∷ t) some = omega arith
+
+leaf_found : (xs : List Leaf) (i : ℕ) (d : Leaf) → i < length xs → AllByRecursion (IsEntry 1) (entries_of xs) → 0 < length (unwrap_or (find order (key (get_or xs i d)) (entries_of xs)) [])
+leaf_found [] i d lt h = absurd (omega arith)
+leaf_found (x ∷ xs) zero d lt h = rw (tie (key x) (key x) refl) (full x.text.items h.0.some)
+leaf_found (x ∷ xs) (suc i) d lt h =
+    elim (eq_by_cmp (slice_cmp nat_cmp) (key (get_or xs i d)) (key x)) as (λ v. 0 < length (unwrap_or (cond v (Some x.text.items) (find order (key (get_or xs i d)) (entries_of xs))) [])) [
+      | true ↦ full x.text.items h.0.some
+      | false ↦ leaf_found xs i d (omega arith) h.1
+    ]
+
+positive_at : (xs : List Leaf) (i : ℕ) (d : Leaf) → i < length xs → AllByRecursion (IsEntry 1) (entries_of xs) → AllByRecursion (λ n. 0 < n) (key (get_or xs i d))
+positive_at [] i d lt h = absurd (omega arith)
+positive_at (x ∷ xs) zero d lt h = h.0.key.positive
+positive_at (x ∷ xs) (suc i) d lt h = positive_at xs i d (omega arith) h.1
+
+positive : (xs : List Leaf) (k : List ℕ) → AreValues xs → StandsAt (texts_of xs) k → AllByRecursion (λ n. 0 < n) k
+positive [] k is h = absurd (let none = found_leaf [] k (stands-find [] k is.sorted h) in omega (arith, none.within))
+positive (x ∷ xs) k is h =
+    let leaf = found_leaf (x ∷ xs) k (stands-find (x ∷ xs) k is.sorted h) in
+    subst (λ (q : List ℕ). AllByRecursion (λ n. 0 < n) q) (leaf.here x) (positive_at (x ∷ xs) leaf.at x leaf.within is.each)
+
+-- ---- what a search finds
+
+pub partitioned_within : (ps : List ℕ) (xs : List Leaf) → Sorted xs → IsPartitionedBy (is_within ps) xs
+partitioned_within ps xs h i j d le short is =
+    elim (cases_lt i j) as (λ _. is_within ps (get_or xs i d) ≡ true) [
+      | inl lt ↦ within-less ps (key (get_or xs i d)) (key (get_or xs j d)) (rising_at xs i j d h lt short) is
+      | inr ge ↦ (let same : j ≡ i = omega (arith, le, ge) in subst (λ (k : ℕ). is_within ps (get_or xs k d) ≡ true) same is)
+    ]
+
+abbrev pub IsEnd : List ℕ → List Leaf → ℕ → Type 0
+IsEnd ps xs n = IsPartitionPoint (λ y. is_within ps y ≡ true) (λ y. is_within ps y ≡ false) xs n
+
+-- a key that begins with the numbers stands before the end
+before_end : (ps : List ℕ) (x : Leaf) (xs : List Leaf) (n : ℕ) (k : List ℕ) → IsEnd ps (x ∷ xs) n → (leaf : Leaves (x ∷ xs) k) → compare_begin k ps ≡ Equal → leaf.at < n
+before_end ps x xs n k end leaf e =
+    elim (cases_lt leaf.at n) as (λ _. leaf.at < n) [
+      | inl lt ↦ lt
+      | inr le ↦ absurd (
+          let out : is_within ps (get_or (x ∷ xs) leaf.at x) ≡ false = end.1 leaf.at x le leaf.within in
+          let in_it : is_within ps (get_or (x ∷ xs) leaf.at x) ≡ true = ap (λ (q : List ℕ). is_le (compare_begin q ps)) (leaf.here x) ∙ ap is_le e in
+          let z : true ≡ false = sym in_it ∙ out in let no_more : ⊥ = cc in no_more)
+    ]
+
+pub none_before : (ps : List ℕ) (xs : List Leaf) (n : ℕ) → AreValues xs → IsEnd ps xs n → n ≡ 0 → IsLastUnder (texts_of xs) ps None
+none_before ps [] n is end none k h e = let leaf = found_leaf [] k (stands-find [] k is.sorted h) in absurd (omega (arith, leaf.within))
+none_before ps (x ∷ xs) n is end none k h e =
+    let leaf = found_leaf (x ∷ xs) k (stands-find (x ∷ xs) k is.sorted h) in
+    let lt = before_end ps x xs n k end leaf e in
+    absurd (omega (arith, lt))
+
+not_gt : (r : Ordering) → r ≡ Less → is_gt r ≡ false
+not_gt r e = ap is_gt e
+
+-- the leaf of a key that begins with the numbers doesn't stand above the last
+last_above : (ps : List ℕ) (x : Leaf) (xs : List Leaf) (n : ℕ) (l : Leaf) (k : List ℕ) → AreValues (x ∷ xs) → n ≤ length (x ∷ xs) → IsEnd ps (x ∷ xs) n → l ≡ get_or (x ∷ xs) (n - 1) l → StandsAt (texts_of (x ∷ xs)) k → compare_begin k ps ≡ Equal → is_gt (order k (key l)) ≡ false
+last_above ps x xs n l k is bound end at h e =
+    let leaf = found_leaf (x ∷ xs) k (stands-find (x ∷ xs) k is.sorted h) in
+    let lt = before_end ps x xs n k end leaf e in
+    let here : key (get_or (x ∷ xs) leaf.at l) ≡ k = leaf.here l in
+    elim (cases_lt leaf.at (n - 1)) as (λ _. is_gt (order k (key l)) ≡ false) [
+      | inl far ↦ (let rises = rising_at (x ∷ xs) leaf.at (n - 1) l is.sorted far (omega (arith, lt, bound)) in
+          ap (λ (q : List ℕ). is_gt (order q (key l))) (sym here) ∙ ap (λ (m : Leaf). is_gt (order (key (get_or (x ∷ xs) leaf.at l)) (key m))) at ∙ not_gt _ rises)
+      | inr near ↦ (let same : leaf.at ≡ n - 1 = omega (arith, lt, near) in
+          let key_is : k ≡ key l = sym here ∙ ap (λ (i : ℕ). key (get_or (x ∷ xs) i l)) same ∙ ap key (sym at) in
+          ap (λ (q : List ℕ). is_gt (order q (key l))) key_is ∙ ap is_gt (same_order (key l)))
+    ]
+  where
+    same_order : (q : List ℕ) → order q q ≡ Equal
+    same_order q = (Equal-is (order q q)).0 (tie q q refl)
+
+pub last_here : (ps : List ℕ) (xs : List Leaf) (n : ℕ) (l : Leaf) → AreValues xs → n ≤ length xs → IsEnd ps xs n → 0 < n → l ≡ get_or xs (n - 1) l → compare_begin (key l) ps ≡ Equal → IsLastUnder (texts_of xs) ps (Some l.place)
+last_here ps [] n l is bound end some at e = absurd (omega arith)
+last_here ps (x ∷ xs) n l is bound end some at e = (
+  find-stands (x ∷ xs) (key l) is.sorted (subst (λ (m : Leaf). 0 < length (unwrap_or (find order (key m) (entries_of (x ∷ xs))) [])) (sym at) (leaf_found (x ∷ xs) (n - 1) l (omega (arith, bound, some)) is.each)),
+  e,
+  λ k h b. last_above ps x xs n l k is bound end at h b,
+)
+
+pub none_here : (ps : List ℕ) (xs : List Leaf) (n : ℕ) (l : Leaf) → AreValues xs → n ≤ length xs → IsEnd ps xs n → 0 < n → l ≡ get_or xs (n - 1) l → is_eq (compare_begin (key l) ps) ≡ false → IsLastUnder (texts_of xs) ps None
+none_here ps [] n l is bound end some at e k h b = absurd (omega arith)
+none_here ps (x ∷ xs) n l is bound end some at e k h b =
+    let le = last_above ps x xs n l k is bound end at h b in
+    let inside : is_le (compare_begin (key l) ps) ≡ true = ap (is_within ps) at ∙ end.0 (n - 1) l (omega arith) (omega (arith, some)) in
+    let same : compare_begin (key l) ps ≡ Equal = begins-above ps k (key l) le b inside in
+    let z : true ≡ false = sym (ap is_eq same) ∙ e in
+    let no_more : ⊥ = cc in no_more
+
+-- ---- the last numbers
+
+module _ (xs : List Leaf) (is : AreValues xs) where
+  first_positive : (n : ℕ) (k : List ℕ) → StandsAt (texts_of xs) (n ∷ k) → 0 < n
+  first_positive n k h = (positive xs (n ∷ k) is h).0
+
+  pub last_field : (o : Option Place) → IsLastUnder (texts_of xs) [] o → (n : ℕ) → n ≡ elim o as (λ _. ℕ) [ None ↦ 0 | Some p ↦ p.field ] → IsLast (FieldAt (texts_of xs)) n
+  last_field None h n e = record {
+    there = λ lt. absurd (omega arith);
+    within = λ f at. absurd (h (f ∷ at.0 ∷ at.1.0 ∷ at.1.1.0 ∷ []) at.1.1.1 refl);
+  }
+  last_field (Some p) h n e = record {
+    there = λ lt. subst (λ (k : ℕ). FieldAt (texts_of xs) k) (sym e) (p.rep, (p.comp, (p.sub, h.0)));
+    within = λ f at. (first_positive f (at.0 ∷ at.1.0 ∷ at.1.1.0 ∷ []) at.1.1.1, (let le = not_above f p.field (at.0 ∷ at.1.0 ∷ at.1.1.0 ∷ []) (p.rep ∷ p.comp ∷ p.sub ∷ []) (h.2 (f ∷ at.0 ∷ at.1.0 ∷ at.1.1.0 ∷ []) at.1.1.1 refl) in omega (arith, le, e)));
+  }
+
+  pub last_rep : (f : ℕ) (o : Option Place) → IsLastUnder (texts_of xs) (f ∷ []) o → (n : ℕ) → n ≡ elim o as (λ _. ℕ) [ None ↦ 0 | Some p ↦ p.rep ] → IsLast (RepAt (texts_of xs) f) n
+  last_rep f None h n e = record {
+    there = λ lt. absurd (omega arith);
+    within = λ r at. absurd (h (f ∷ r ∷ at.0 ∷ at.1.0 ∷ []) at.1.1 (begin_same (f ∷ []) (r ∷ at.0 ∷ at.1.0 ∷ [])));
+  }
+  last_rep f (Some p) h n e =
+      let same : p.field ≡ f = (begin_is p.field (p.rep ∷ p.comp ∷ p.sub ∷ []) f [] h.1).head in
+      record {
+        there = λ lt. subst (λ (k : ℕ). RepAt (texts_of xs) f k) (sym e) (p.comp, (p.sub, subst (λ (k : ℕ). StandsAt (texts_of xs) (k ∷ p.rep ∷ p.comp ∷ p.sub ∷ [])) same h.0));
+        within = λ r at. (
+            let le = h.2 (f ∷ r ∷ at.0 ∷ at.1.0 ∷ []) at.1.1 (begin_same (f ∷ []) (r ∷ at.0 ∷ at.1.0 ∷ [])) in
+            let here : is_gt (order (f ∷ r ∷ at.0 ∷ at.1.0 ∷ []) (f ∷ p.rep ∷ p.comp ∷ p.sub ∷ [])) ≡ false = subst (λ (k : ℕ). is_gt (order (f ∷ r ∷ at.0 ∷ at.1.0 ∷ []) (k ∷ p.rep ∷ p.comp ∷ p.sub ∷ [])) ≡ false) same le in
+            ((positive xs (f ∷ r ∷ at.0 ∷ at.1.0 ∷ []) is at.1.1).1.0, (let small = not_above r p.rep (at.0 ∷ at.1.0 ∷ []) (p.comp ∷ p.sub ∷ []) (not_above_behind f (r ∷ at.0 ∷ at.1.0 ∷ []) (p.rep ∷ p.comp ∷ p.sub ∷ []) here) in omega (arith, small, e))));
+      }
+
+  pub last_comp : (f r : ℕ) (o : Option Place) → IsLastUnder (texts_of xs) (f ∷ r ∷ []) o → (n : ℕ) → n ≡ elim o as (λ _. ℕ) [ None ↦ 0 | Some p ↦ p.comp ] → IsLast (CompAt (texts_of xs) f r) n
+  last_comp f r None h n e = record {
+    there = λ lt. absurd (omega arith);
+    within = λ c at. absurd (h (f ∷ r ∷ c ∷ at.0 ∷ []) at.1 (begin_same (f ∷ r ∷ []) (c ∷ at.0 ∷ [])));
+  }
+  last_comp f r (Some p) h n e =
+      let one = begin_is p.field (p.rep ∷ p.comp ∷ p.sub ∷ []) f (r ∷ []) h.1 in
+      let two = begin_is p.rep (p.comp ∷ p.sub ∷ []) r [] one.rest in
+      let key_is : numbers p ≡ f ∷ r ∷ p.comp ∷ p.sub ∷ [] = ap (λ (k : ℕ). k ∷ p.rep ∷ p.comp ∷ p.sub ∷ []) one.head ∙ ap (λ (k : ℕ). f ∷ k ∷ p.comp ∷ p.sub ∷ []) two.head in
+      record {
+        there = λ lt. subst (λ (k : ℕ). CompAt (texts_of xs) f r k) (sym e) (p.sub, subst (λ (q : List ℕ). StandsAt (texts_of xs) q) key_is h.0);
+        within = λ c at. (
+            let le = h.2 (f ∷ r ∷ c ∷ at.0 ∷ []) at.1 (begin_same (f ∷ r ∷ []) (c ∷ at.0 ∷ [])) in
+            let here : is_gt (order (f ∷ r ∷ c ∷ at.0 ∷ []) (f ∷ r ∷ p.comp ∷ p.sub ∷ [])) ≡ false = subst (λ (q : List ℕ). is_gt (order (f ∷ r ∷ c ∷ at.0 ∷ []) q) ≡ false) key_is le in
+            ((positive xs (f ∷ r ∷ c ∷ at.0 ∷ []) is at.1).1.1.0, (let small = not_above c p.comp (at.0 ∷ []) (p.sub ∷ []) (not_above_behind r (c ∷ at.0 ∷ []) (p.comp ∷ p.sub ∷ []) (not_above_behind f (r ∷ c ∷ at.0 ∷ []) (r ∷ p.comp ∷ p.sub ∷ []) here)) in omega (arith, small, e))));
+      }
+
+  pub last_sub : (f r c : ℕ) (o : Option Place) → IsLastUnder (texts_of xs) (f ∷ r ∷ c ∷ []) o → (n : ℕ) → n ≡ elim o as (λ _. ℕ) [ None ↦ 0 | Some p ↦ p.sub ] → IsLast (SubAt (texts_of xs) f r c) n
+  last_sub f r c None h n e = record {
+    there = λ lt. absurd (omega arith);
+    within = λ s at. absurd (h (f ∷ r ∷ c ∷ s ∷ []) at (begin_same (f ∷ r ∷ c ∷ []) (s ∷ [])));
+  }
+  last_sub f r c (Some p) h n e =
+      let one = begin_is p.field (p.rep ∷ p.comp ∷ p.sub ∷ []) f (r ∷ c ∷ []) h.1 in
+      let two = begin_is p.rep (p.comp ∷ p.sub ∷ []) r (c ∷ []) one.rest in
+      let three = begin_is p.comp (p.sub ∷ []) c [] two.rest in
+      let key_is : numbers p ≡ f ∷ r ∷ c ∷ p.sub ∷ [] = ap (λ (k : ℕ). k ∷ p.rep ∷ p.comp ∷ p.sub ∷ []) one.head ∙ ap (λ (k : ℕ). f ∷ k ∷ p.comp ∷ p.sub ∷ []) two.head ∙ ap (λ (k : ℕ). f ∷ r ∷ k ∷ p.sub ∷ []) three.head in
+      record {
+        there = λ lt. subst (λ (k : ℕ). SubAt (texts_of xs) f r c k) (sym e) (subst (λ (q : List ℕ). StandsAt (texts_of xs) q) key_is h.0);
+        within = λ s at. (
+            let le = h.2 (f ∷ r ∷ c ∷ s ∷ []) at (begin_same (f ∷ r ∷ c ∷ []) (s ∷ [])) in
+            let here : is_gt (order (f ∷ r ∷ c ∷ s ∷ []) (f ∷ r ∷ c ∷ p.sub ∷ [])) ≡ false = subst (λ (q : List ℕ). is_gt (order (f ∷ r ∷ c ∷ s ∷ []) q) ≡ false) key_is le in
+            ((positive xs (f ∷ r ∷ c ∷ s ∷ []) is at).1.1.1.0, (let small = not_above s p.sub [] [] (not_above_behind c (s ∷ []) (p.sub ∷ []) (not_above_behind r (c ∷ s ∷ []) (c ∷ p.sub ∷ []) (not_above_behind f (r ∷ c ∷ s ∷ []) (r ∷ c ∷ p.sub ∷ []) here))) in omega (arith, small, e))));
+      }

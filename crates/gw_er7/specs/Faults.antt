@@ -1,0 +1,42 @@
+-- Which fault a content has: the first of six kinds, in their order.
+use Rattle.std.specs.Prelude.{◌≡◌, ℕ, ◌<◌, false, not, List, [], length, drop, Some, position}
+use Rattle.gw_er7.specs.declared.delimiters.Delimiters.{Delimiters}
+use Rattle.gw_er7.specs.declared.fault.ReadFault.{ReadFault}
+use Rattle.gw_er7.specs.declared.fault.ReadFault.TheVariants.{Memory, Empty, Control, NoHeader, BadDelimiters, BadSegment, TooManySegments}
+use Rattle.gw_er7.specs.Names.{is_header}
+use Rattle.gw_er7.specs.Content.{Line, Begins, lines, header_line, is_allowed, is_delimited, delimiters_of, first_bad}
+
+-- what a fault says of a content, whatever else is wrong with it
+abbrev pub Applies : List ℕ → ReadFault → Type 0
+Applies content Memory = ⊥
+Applies content Empty = lines content ≡ []
+Applies content (Control at) = position (λ b. not (is_allowed b)) content ≡ Some at
+Applies content NoHeader = is_header (header_line (lines content)) ≡ false
+Applies content BadDelimiters = is_delimited (header_line (lines content)) ≡ false
+Applies content (BadSegment at) = first_bad (delimiters_of (header_line (lines content))).field (drop 1 (lines content)) ≡ Some at
+Applies content TooManySegments = 10000 < length (lines content)
+
+-- the number of a fault
+abbrev pub number : ReadFault → ℕ
+number Memory = 1
+number Empty = 2
+number (Control at) = 3
+number NoHeader = 4
+number BadDelimiters = 5
+number (BadSegment at) = 6
+number TooManySegments = 7
+
+-- the first of the faults that apply
+pub record Faulty (content : List ℕ) (fault : ReadFault) : Type 0 where
+  pub applies : Applies content fault
+  pub first : (other : ReadFault) → number other < number fault → ¬ (Applies content other)
+
+-- no fault applies
+abbrev pub IsReadable : List ℕ → Type 0
+IsReadable content = (fault : ReadFault) → ¬ (Applies content fault)
+
+-- what the tests of a content find: no fault, its first line and the bytes behind it
+pub record IsChecked (content : List ℕ) (d : Delimiters) (header : Line) (behind : List ℕ) : Type 0 where
+  pub readable : IsReadable content
+  pub begins : Begins 0 content header behind
+  pub delimiters : d ≡ delimiters_of header.bytes

@@ -1,0 +1,15 @@
+pub mod Text
+pub mod Names
+pub mod Content
+pub mod Faults
+pub mod Message
+pub mod Presence
+pub mod Reading
+pub mod Building
+pub mod Written
+pub mod Writing
+pub mod Entries
+pub mod Gathered
+pub mod View
+pub mod Ordered
+pub mod Canonical

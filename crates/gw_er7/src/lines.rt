@@ -1,0 +1,107 @@
+//! The lines of a content: its parts between CR and LF that aren't empty.
+ghost use Rattle.std.specs.Prelude.{◌≡◌, ℕ, ◌+◌, ◌-◌, ◌^◌, ◌≤◌, ◌<◌, [], ◌∷◌, None, Some, length, MatchOption, MatchResult};
+ghost use Rattle.std.specs.List.{slice_split};
+ghost use Rattle.gw_er7.specs.Content.{is_line_end, placed, lines_from, Begins, first_bad, delimiters_of, header_line, lines};
+ghost use Rattle.gw_er7.specs.Faults.{Faulty, IsReadable, IsChecked};
+
+use crate::checks::{first_control, header_delimiters, is_header, is_segment_line};
+use crate::delimiters::Delimiters;
+use crate::fault::ReadFault;
+use memchr::memchr2;
+
+/// A line, its place, and the bytes behind its end.
+#[derive(Clone, Copy)]
+pub(crate) struct NextLine<'a> {
+    pub(crate) at: usize,
+    pub(crate) bytes: &'a [u8],
+    pub(crate) behind: &'a [u8],
+}
+
+/// The bytes up to the first line end, and those behind it.
+fn cut_line(bytes: &[u8]) -> (&[u8], &[u8])
+    ensures whole { (at : ℕ) → lines_from at bytes.now ≡ placed at (result.0.now ∷ slice_split is_line_end result.1.now) }
+    ensures shorter { 0 < length bytes.now → length result.1.now < length bytes.now }
+    ensures within { length result.0.now ≤ length bytes.now }
+    ensures later { 0 < length result.1.now → length result.0.now + 1 + length result.1.now ≤ length bytes.now }
+{
+    match memchr2(b'\r', b'\n', bytes) {
+        None => (bytes, &[]),
+        Some(end) => (&bytes[..end], &bytes[end + 1..]),
+    }
+}
+
+/// The first line of bytes that begin at a place.
+pub(crate) fn next_line(at: usize, bytes: &[u8]) -> Option<NextLine<'_>>
+    requires room { at < 2 ^ 64 }
+    requires later { 0 < length bytes.now → at + length bytes.now < 2 ^ 64 }
+    ensures { MatchOption result (lines_from at bytes.now ≡ []) (λ l. Begins at bytes.now (record { at = l.at; bytes = l.bytes.now }) l.behind.now) }
+{
+    let mut here = at;
+    let mut rest = bytes;
+    while !rest.is_empty() {
+        let (part, behind) = cut_line(rest);
+        if !part.is_empty() {
+            return Some(NextLine {
+                at: here,
+                bytes: part,
+                behind,
+            });
+        }
+        here += 1;
+        rest = behind;
+    }
+    None
+}
+
+/// How many lines there are, where each is that of a segment.
+pub(crate) fn count_segments(field: u8, at: usize, bytes: &[u8]) -> Result<usize, ReadFault>
+    requires room { at < 2 ^ 64 - 1 }
+    requires later { 0 < length bytes.now → at + length bytes.now < 2 ^ 64 - 1 }
+    ensures { MatchResult result
+        (λ n. (first_bad field (lines_from at bytes.now) ≡ None) × (length (lines_from at bytes.now) ≡ n))
+        (λ f. (place : ℕ) × ((first_bad field (lines_from at bytes.now) ≡ Some place) × (f ≡ ReadFault.BadSegment place))) }
+{
+    let mut here = at;
+    let mut rest = bytes;
+    let mut count = 0;
+    while let Some(line) = next_line(here, rest) {
+        if !is_segment_line(field, line.bytes) {
+            return Err(ReadFault::BadSegment { at: line.at });
+        }
+        count += 1;
+        here = line.at + line.bytes.len() + 1;
+        rest = line.behind;
+    }
+    Ok(count)
+}
+
+/// The delimiters and the first line of a content without a fault.
+#[derive(Clone, Copy)]
+pub(crate) struct Checked<'a> {
+    pub(crate) delimiters: Delimiters,
+    pub(crate) header: NextLine<'a>,
+}
+
+/// Tests a content for its faults, in their order.
+pub(crate) fn check(content: &[u8]) -> Result<Checked<'_>, ReadFault>
+    ensures { MatchResult result (λ k. IsChecked content.now k.delimiters (record { at = k.header.at; bytes = k.header.bytes.now }) k.header.behind.now) (λ f. Faulty content.now f) }
+{
+    let Some(header) = next_line(0, content) else {
+        return Err(ReadFault::Empty);
+    };
+    if let Some(at) = first_control(content) {
+        return Err(ReadFault::Control { at });
+    }
+    if !is_header(header.bytes) {
+        return Err(ReadFault::NoHeader);
+    }
+    let Some(delimiters) = header_delimiters(header.bytes) else {
+        return Err(ReadFault::BadDelimiters);
+    };
+    let behind = header.at + header.bytes.len() + 1;
+    let count = count_segments(delimiters.field, behind, header.behind)?;
+    if count >= 10_000 {
+        return Err(ReadFault::TooManySegments);
+    }
+    Ok(Checked { delimiters, header })
+}

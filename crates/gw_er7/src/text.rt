@@ -1,0 +1,110 @@
+//! The canonical text of a raw value (HL7 v2.5.1 chapter 2, 2.7 "Use of escape sequences in text fields").
+ghost use Rattle.std.specs.Prelude.{◌≡◌, ◌+◌, ◌≤◌, ◌<◌, ◌++◌, ◌∷◌, [], length, IsTrue, IfOk, IfNone, IfSome, OnOk, OnErr, ◌↔◌, Some, None, true, false, not};
+ghost use Rattle.std.specs.List.{list_all};
+ghost use Rattle.gw_er7.specs.Text.{canon, escaped, plainly, meaning, delimiter_of, is_body, is_special, body_of, opens};
+
+use crate::delimiters::Delimiters;
+use memchr::memchr;
+use std::alloc::{AllocError, Global};
+
+pub(crate) fn is_special(byte: u8) -> bool
+    ensures { result ≡ is_special byte }
+{
+    matches!(byte, b'|' | b'^' | b'~' | b'\\' | b'&')
+}
+
+fn has_no_special(bytes: &[u8]) -> bool
+    ensures { result ≡ list_all (λ b. not (is_special b)) bytes.now }
+{
+    bytes.iter().all(|byte| !is_special(*byte))
+}
+
+fn is_body(body: &[u8]) -> bool
+    ensures { result ≡ is_body body.now }
+{
+    match body {
+        [] => false,
+        _ => has_no_special(body),
+    }
+}
+
+/// The body of the sequence that begins with this byte, if one does.
+fn body_at(delimiters: Delimiters, first: u8, after: &[u8]) -> Option<&[u8]>
+    ensures none { IfNone result (opens delimiters first after.now ≡ false) }
+    ensures some { IfSome result (λ body. (opens delimiters first after.now ≡ true) × (body.now ≡ body_of delimiters after.now) × (length body.now < length after.now)) }
+{
+    if first != delimiters.escape {
+        return None;
+    }
+    let end = memchr(delimiters.escape, after)?;
+    let body = &after[..end];
+    if is_body(body) { Some(body) } else { None }
+}
+
+fn push_escaped(text: &mut Vec<u8>, body: &[u8]) -> Result<(), AllocError>
+    ensures { OnOk result (text.new.items ≡ text.old.items ++ escaped body.now) }
+{
+    text.push(b'\\')?;
+    text.extend_from_slice(body)?;
+    text.push(b'\\')?;
+    Ok(())
+}
+
+fn push_plainly(text: &mut Vec<u8>, byte: u8) -> Result<(), AllocError>
+    ensures { OnOk result (text.new.items ≡ text.old.items ++ plainly byte) }
+{
+    match byte {
+        b'|' => push_escaped(text, b"F"),
+        b'^' => push_escaped(text, b"S"),
+        b'&' => push_escaped(text, b"T"),
+        b'~' => push_escaped(text, b"R"),
+        b'\\' => push_escaped(text, b"E"),
+        _ => {
+            text.push(byte)?;
+            Ok(())
+        }
+    }
+}
+
+fn delimiter_of(delimiters: Delimiters, body: &[u8]) -> Option<u8>
+    ensures { result ≡ delimiter_of delimiters body.now }
+{
+    match body {
+        b"F" => Some(delimiters.field),
+        b"S" => Some(delimiters.component),
+        b"T" => Some(delimiters.subcomponent),
+        b"R" => Some(delimiters.repetition),
+        b"E" => Some(delimiters.escape),
+        _ => None,
+    }
+}
+
+fn push_meaning(text: &mut Vec<u8>, delimiters: Delimiters, body: &[u8]) -> Result<(), AllocError>
+    ensures { OnOk result (text.new.items ≡ text.old.items ++ meaning delimiters body.now) }
+{
+    match delimiter_of(delimiters, body) {
+        Some(byte) => push_plainly(text, byte),
+        None => push_escaped(text, body),
+    }
+}
+
+/// The canonical text of a raw value under the sender's delimiters.
+pub fn canonical(alloc: Global, delimiters: Delimiters, raw: &[u8]) -> Result<Vec<u8>, AllocError>
+    ensures { IfOk result (λ text. text.items ≡ canon delimiters raw.now) }
+{
+    let mut text = Vec::with_capacity(alloc, raw.len())?;
+    let mut rest = raw;
+    while let [first, after @ ..] = rest {
+        match body_at(delimiters, *first, after) {
+            Some(body) => {
+                push_meaning(&mut text, delimiters, body)?;
+                rest = &after[body.len() + 1..];
+            }
+            None => {
+                push_plainly(&mut text, *first)?;
+                rest = after;
+            }
+        }
+    }
+    Ok(text)
+}

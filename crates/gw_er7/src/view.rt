@@ -1,0 +1,141 @@
+//! Segments as they are lent.
+ghost use Rattle.std.specs.Prelude.{◌≡◌, ◌<◌, Some, length, slice_get};
+ghost use Rattle.gw_er7.specs.Message.{numbers};
+ghost use Rattle.gw_er7.specs.View.{entries_of};
+
+use crate::counts::last_under;
+use crate::place::Place;
+use crate::search::{count_below, text_in};
+use crate::segment::Leaf;
+use std::marker::Model;
+
+/// A segment, lent by its message: its name, and texts at places.
+#[derive(Drop)]
+pub struct Segment<'a> {
+    name: [u8; 3],
+    leaves: &'a [Leaf],
+}
+
+impl<'a> Model for Segment<'a> {
+    ghost use Rattle.gw_er7.specs.Message.{SegmentValue, segment_code};
+    ghost use Rattle.gw_er7.specs.View.{stored, IsLent};
+
+    ghost Value = { SegmentValue };
+
+    ghost coded = { segment_code };
+
+    ghost view = { λ s. stored s.name s.leaves.now };
+
+    ghost invariant = { λ s. IsLent s.name s.leaves.now };
+}
+
+/// A text and its place.
+#[derive(Clone, Copy, Debug)]
+pub struct Value<'a> {
+    pub place: Place,
+    pub text: &'a [u8],
+}
+
+fn value_at(leaves: &[Leaf], i: usize) -> Value<'_>
+    requires { i < length leaves.now }
+    ensures { slice_get (entries_of leaves.now) i ≡ Some (numbers result.place, result.text.now) }
+{
+    let leaf = &leaves[i];
+    Value {
+        place: leaf.place,
+        text: leaf.text.as_slice(),
+    }
+}
+
+impl<'a> Segment<'a> {
+    ghost use Rattle.std.specs.Prelude.{◌≡◌, ◌<◌, [], ◌∷◌, Some, length, slice_get};
+    ghost use Rattle.std.specs.FinMap as texts;
+    ghost use Rattle.gw_er7.specs.Message.{numbers, text_at, IsSegment};
+    ghost use Rattle.gw_er7.specs.Presence.{SubAt, CompAt, RepAt, FieldAt, IsLast, IsStart};
+    ghost use Rattle.gw_er7.specs.View.{stored, IsLent};
+
+    pub(crate) fn of(name: [u8; 3], leaves: &'a [Leaf]) -> Segment<'a>
+        requires { IsLent name leaves.now }
+        ensures { result ≡ stored name leaves.now }
+    {
+        Segment { name, leaves }
+    }
+
+    /// The name. It takes no memory.
+    pub fn name(&self) -> [u8; 3]
+        ensures value { result ≡ self.now.name }
+        ensures segment { IsSegment self.now }
+    {
+        self.name
+    }
+
+    /// The text at a place, empty where it is absent. It takes no memory, and time by the logarithm of the segment's values.
+    pub fn text(&self, place: Place) -> &'a [u8]
+        ensures { result.now ≡ text_at self.now place }
+    {
+        text_in(self.leaves, place)
+    }
+
+    /// The number of the last field that is present, 0 where none is. It takes no memory.
+    pub fn field_count(&self) -> usize
+        ensures { IsLast (FieldAt self.now.at) result }
+    {
+        match last_under(self.leaves, &[]) {
+            Some(place) => place.field,
+            None => 0,
+        }
+    }
+
+    /// The number of the last repetition of a field that is present, 0 where none is. It takes no memory.
+    pub fn reps(&self, field: usize) -> usize
+        ensures { IsLast (RepAt self.now.at field) result }
+    {
+        match last_under(self.leaves, &[field]) {
+            Some(place) => place.rep,
+            None => 0,
+        }
+    }
+
+    /// The number of the last component of a repetition that is present, 0 where none is. It takes no memory.
+    pub fn comps(&self, field: usize, rep: usize) -> usize
+        ensures { IsLast (CompAt self.now.at field rep) result }
+    {
+        match last_under(self.leaves, &[field, rep]) {
+            Some(place) => place.comp,
+            None => 0,
+        }
+    }
+
+    /// The number of the last subcomponent of a component that is present, 0 where none is. It takes no memory.
+    pub fn subs(&self, field: usize, rep: usize, comp: usize) -> usize
+        ensures { IsLast (SubAt self.now.at field rep comp) result }
+    {
+        match last_under(self.leaves, &[field, rep, comp]) {
+            Some(place) => place.sub,
+            None => 0,
+        }
+    }
+
+    /// How many texts the segment has. It takes no memory.
+    pub fn value_count(&self) -> usize
+        ensures count { result ≡ length (texts.entries self.now.at) }
+        ensures segment { IsSegment self.now }
+    {
+        self.leaves.len()
+    }
+
+    /// The text of this number, from 0, in order of place. It takes no memory, and a constant time.
+    pub fn value(&self, i: usize) -> Value<'a>
+        requires { i < length (texts.entries self.now.at) }
+        ensures { slice_get (texts.entries self.now.at) i ≡ Some (numbers result.place, result.text.now) }
+    {
+        value_at(self.leaves, i)
+    }
+
+    /// How many texts stand at places below this one: the number of the first text from there on. It takes no memory.
+    pub fn values_before(&self, place: Place) -> usize
+        ensures { IsStart (numbers place) (texts.entries self.now.at) result }
+    {
+        count_below(self.leaves, place)
+    }
+}
