@@ -1,0 +1,7 @@
+pub mod Begun
+pub mod Finding
+pub mod Lawful
+pub mod Says
+pub mod Stamped
+pub mod Tabled
+pub mod Tables

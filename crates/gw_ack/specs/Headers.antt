@@ -1,0 +1,55 @@
+-- What an answer takes from the header of the message that it answers (HL7 v2.5.1 chapter 2, 2.15.9 "MSH").
+use Rattle.std.specs.Prelude.{ℕ, List, [], ◌∷◌}
+use Rattle.std.specs.FinMap as texts
+use Rattle.gw_er7.specs.Entries.{Entry}
+use Rattle.gw_er7.specs.Message.{SegmentValue, Texts, text_of}
+use Rattle.gw_er7.specs.Text.{IsCanonical}
+use Rattle.gw_er7.specs.Written.{those}
+use Rattle.gw_ack.specs.Rows.{AreLeaves}
+
+-- repetition 1 of a field, with all its components and subcomponents
+abbrev pub first_repetition : ℕ → Texts → List Entry
+first_repetition field at = those 1 (those field (texts.entries at))
+
+pub record HeaderValue : Type 0 where
+  -- MSH-3 to MSH-6
+  pub sending_application : List Entry
+  pub sending_facility : List Entry
+  pub receiving_application : List Entry
+  pub receiving_facility : List Entry
+  -- MSH-9.2
+  pub event : List ℕ
+  -- MSH-10
+  pub control : List ℕ
+  -- MSH-11
+  pub processing : List Entry
+
+-- the header of a message of which nothing is known
+abbrev pub blank : HeaderValue
+blank = record { sending_application = []; sending_facility = []; receiving_application = []; receiving_facility = []; event = []; control = []; processing = [] }
+
+abbrev pub header_in : SegmentValue → HeaderValue
+header_in s = record {
+  sending_application = first_repetition 3 s.at;
+  sending_facility = first_repetition 4 s.at;
+  receiving_application = first_repetition 5 s.at;
+  receiving_facility = first_repetition 6 s.at;
+  event = text_of s.at 9 1 2 1;
+  control = text_of s.at 10 1 1 1;
+  processing = first_repetition 11 s.at;
+}
+
+-- the header of a message: of its first segment
+abbrev pub header_of : List SegmentValue → HeaderValue
+header_of [] = blank
+header_of (s ∷ ss) = header_in s
+
+-- what every header keeps
+pub record IsHeaderValue (h : HeaderValue) : Type 0 where
+  pub sending_application : AreLeaves h.sending_application
+  pub sending_facility : AreLeaves h.sending_facility
+  pub receiving_application : AreLeaves h.receiving_application
+  pub receiving_facility : AreLeaves h.receiving_facility
+  pub event : IsCanonical h.event
+  pub control : IsCanonical h.control
+  pub processing : AreLeaves h.processing

@@ -1,0 +1,22 @@
+-- Parts of the program, without where they lie in memory.
+use Rattle.std.specs.Prelude.{ℕ, List, [], ◌∷◌, map}
+use Rattle.std.specs.declared.vec.Vec.{Vec}
+use Rattle.gw_er7.specs.Entries.{Entry}
+use Rattle.gw_er7.specs.Message.{numbers}
+use Rattle.gw_ack.specs.declared.header.Leaf.{Leaf}
+use Rattle.gw_ack.specs.declared.rows.Row.{Row}
+
+abbrev pub leaf : Leaf → Entry
+leaf l = (l.comp ∷ l.sub ∷ [], l.text.items)
+
+abbrev pub leaves : List Leaf → List Entry
+leaves = map leaf
+
+abbrev pub row : Row → Entry
+row r = (numbers r.place, r.text.now)
+
+abbrev pub rows : List Row → List Entry
+rows = map row
+
+abbrev pub contents : {Z : Type 0} → List (Vec ℕ Z) → List (List ℕ)
+contents = map (λ v. v.items)

@@ -1,0 +1,6 @@
+pub mod Words
+pub mod Spelled
+pub mod Values
+pub mod Parts
+pub mod Reading
+pub mod Seen

@@ -1,0 +1,17 @@
+//! Texts of numbered lines of words.
+#![tactic(auto)]
+
+mod form;
+mod lines;
+mod parts;
+mod spelled;
+mod values;
+mod words;
+
+pub use form::{Form, TextFault, read_text, take_line, take_lines};
+pub use lines::lines_of;
+pub use parts::{
+    behind, first_word, name_at, number_at, range_at, segment_at, some_values, value_at,
+};
+pub use values::value_bytes;
+pub use words::{Word, words_of};

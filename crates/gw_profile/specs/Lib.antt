@@ -1,0 +1,17 @@
+pub mod Numbers
+pub mod Shapes
+pub mod Among
+pub mod Line
+pub mod Fault
+pub mod Taken
+pub mod Determinism
+pub mod Deterministic
+pub mod WellFormed
+pub mod Seen
+pub mod Nodes
+pub mod Same
+pub mod Value
+pub mod Building
+pub mod Whole
+pub mod Written
+pub mod Worked

@@ -1,0 +1,278 @@
+//! What the lines above leave open.
+ghost use Rattle.std.specs.Prelude.{◌≡◌, ◌∷◌, [], ◌++◌, map, IfOk, OnOk, false};
+ghost use Rattle.gw_lines.specs.Reading.{first_of};
+ghost use Rattle.gw_profile.specs.Fault as spec;
+ghost use Rattle.gw_profile.specs.WellFormed.{table_names};
+ghost use Rattle.gw_profile.specs.Seen.{line, leaf_of, parent, now, now_all, table, made, with_table, IsNewTable, IsNewLabel, ParentsFollow, NamesFollow, LevelsFollow};
+
+use crate::fault::ProfileFault;
+use crate::form::{Leaf, Line, is_forbidden};
+use crate::table::Table;
+use indexmap::{IndexMap, IndexSet};
+use std::alloc::{AllocError, Global};
+
+/// A line that may have lines below it.
+#[derive(Clone, Copy, Drop)]
+pub struct Parent {
+    pub shut: bool,
+    pub least: u32,
+    pub last: u32,
+}
+
+/// The lines to which a field, a component and a subcomponent line would belong.
+#[derive(Clone, Copy, Drop)]
+pub struct Parents {
+    pub segment: Option<Parent>,
+    pub field: Option<Parent>,
+    pub comp: Option<Parent>,
+}
+
+pub const NO_PARENTS: Parents = Parents {
+    segment: None,
+    field: None,
+    comp: None,
+};
+
+fn least_field(name: [u8; 3]) -> u32
+    ensures { result ≡ spec.least_field name }
+{
+    if name.as_slice() == b"MSH".as_slice() {
+        3
+    } else {
+        1
+    }
+}
+
+fn with_part(number: u32, held: Option<Parent>) -> Option<Parent>
+    ensures { parent result ≡ spec.with_part number (parent held) }
+{
+    match held {
+        None => None,
+        Some(parent) => Some(Parent {
+            last: number,
+            ..parent
+        }),
+    }
+}
+
+/// The parents below a line.
+pub fn parents_below(held: Parents, whole: &Line) -> Parents
+    ensures { ParentsFollow held result (line whole.now) }
+{
+    match whole {
+        Line::Segment(name, _, _, usage, _) => Parents {
+            segment: Some(Parent {
+                shut: is_forbidden(*usage),
+                least: least_field(*name),
+                last: 0,
+            }),
+            field: None,
+            comp: None,
+        },
+        Line::Field(number, usage, _, leaf) => Parents {
+            segment: with_part(*number, held.segment),
+            field: Some(Parent {
+                shut: is_forbidden(*usage) || leaf.is_some(),
+                least: 1,
+                last: 0,
+            }),
+            comp: None,
+        },
+        Line::Comp(number, usage, leaf) => Parents {
+            segment: held.segment,
+            field: with_part(*number, held.field),
+            comp: Some(Parent {
+                shut: is_forbidden(*usage) || leaf.is_some(),
+                least: 1,
+                last: 0,
+            }),
+        },
+        Line::Sub(number, _, _) => Parents {
+            segment: held.segment,
+            field: held.field,
+            comp: with_part(*number, held.comp),
+        },
+        Line::Begins(_) => NO_PARENTS,
+        Line::Table(_, _) => NO_PARENTS,
+        Line::Group(_, _, _, _) => NO_PARENTS,
+        Line::End => NO_PARENTS,
+    }
+}
+
+/// The table of a table line, where no value stands twice.
+pub fn made(alloc: Global, whole: &Line) -> Result<Option<Table>, AllocError>
+    ensures { IfOk result (λ found. found ≡ made (line whole.now)) }
+{
+    match whole {
+        Line::Table(_, values) => Table::of(alloc, values),
+        _ => Ok(None),
+    }
+}
+
+/// Whether there is a table of this name.
+pub fn knows(tables: &IndexMap<Vec<u8>, Table>, name: &[u8]) -> bool
+    ensures { result ≡ spec.is_among name.now (table_names (map table tables.now.entries)) }
+{
+    tables.contains_key(name)
+}
+
+// Puts a new table behind the others.
+fn put_table(
+    alloc: Global,
+    tables: &mut IndexMap<Vec<u8>, Table>,
+    name: &[u8],
+    found: Table,
+) -> Result<(), AllocError>
+    requires { spec.is_among name.now (table_names (map table tables.old.entries)) ≡ false }
+    ensures { OnOk result (map table tables.new.entries ≡ map table tables.old.entries ++ record { name = name.now; values = found } ∷ []) }
+{
+    let name = Vec::from_slice(alloc, name)?;
+    tables.insert(name, found)?;
+    Ok(())
+}
+
+/// The tables, with that of this line.
+pub fn tables_below(
+    alloc: Global,
+    mut tables: IndexMap<Vec<u8>, Table>,
+    whole: &Line,
+    found: Option<Table>,
+) -> Result<IndexMap<Vec<u8>, Table>, AllocError>
+    requires found { found ≡ made (line whole.now) }
+    requires new { IsNewTable (map table tables.entries) (line whole.now) }
+    ensures kept { IfOk result (λ new. map table new.entries ≡ with_table (map table tables.entries) (line whole.now)) }
+    ensures names { IfOk result (λ new. NamesFollow (map table tables.entries) (map table new.entries) (line whole.now)) }
+{
+    match whole {
+        Line::Table(name, _) => {
+            let Some(found) = found else {
+                return Ok(tables);
+            };
+            put_table(alloc, &mut tables, name, found)?;
+            Ok(tables)
+        }
+        _ => Ok(tables),
+    }
+}
+
+/// The labels of the nodes so far in the innermost open group, and in each level around it, the nearest last.
+#[derive(Drop)]
+pub struct Levels<'a> {
+    pub labels: IndexSet<&'a [u8]>,
+    pub outer: Vec<IndexSet<&'a [u8]>>,
+}
+
+/// Whether this is one of the labels.
+pub fn has_label(labels: &IndexSet<&[u8]>, label: &[u8]) -> bool
+    ensures { result ≡ spec.is_among label.now (now_all labels.now.keys) }
+{
+    labels.contains(label)
+}
+
+// Puts a new label behind the others.
+fn put_label<'a>(labels: &mut IndexSet<&'a [u8]>, label: &'a [u8]) -> Result<(), AllocError>
+    requires { spec.is_among label.now (now_all labels.old.keys) ≡ false }
+    ensures { OnOk result (now_all labels.new.keys ≡ now_all labels.old.keys ++ label.now ∷ []) }
+{
+    labels.insert(label)?;
+    Ok(())
+}
+
+/// The levels below a line.
+pub fn levels_below<'a>(
+    alloc: Global,
+    held: Levels<'a>,
+    whole: &Line<'a>,
+) -> Result<Levels<'a>, AllocError>
+    requires { IsNewLabel (now_all held.labels.keys) (line whole.now) }
+    ensures { IfOk result (λ new. LevelsFollow held.entry new (line whole.now)) }
+{
+    let Levels {
+        mut labels,
+        mut outer,
+    } = held;
+    match whole {
+        Line::Segment(_, label, _, _, _) => {
+            put_label(&mut labels, label)?;
+            Ok(Levels { labels, outer })
+        }
+        Line::Group(_, label, _, _) => {
+            put_label(&mut labels, label)?;
+            outer.push(labels)?;
+            Ok(Levels {
+                labels: IndexSet::new(alloc),
+                outer,
+            })
+        }
+        Line::End => match outer.pop() {
+            None => Ok(Levels {
+                labels: IndexSet::new(alloc),
+                outer,
+            }),
+            Some(labels) => Ok(Levels { labels, outer }),
+        },
+        _ => Ok(Levels { labels, outer }),
+    }
+}
+
+fn is_misplaced(number: u32, held: Option<Parent>) -> bool
+    ensures { result ≡ spec.is_misplaced number (parent held) }
+{
+    match held {
+        None => true,
+        Some(parent) => parent.shut || number < parent.least,
+    }
+}
+
+fn falls(number: u32, held: Option<Parent>) -> bool
+    ensures { result ≡ spec.falls number (parent held) }
+{
+    match held {
+        None => false,
+        Some(parent) => number <= parent.last,
+    }
+}
+
+fn is_unknown(name: Option<&[u8]>, tables: &IndexMap<Vec<u8>, Table>) -> bool
+    ensures { result ≡ spec.is_unknown (now name.entry) (table_names (map table tables.now.entries)) }
+{
+    match name {
+        None => false,
+        Some(name) => !knows(tables, name),
+    }
+}
+
+fn names_unknown(leaf: Option<Leaf>, tables: &IndexMap<Vec<u8>, Table>) -> bool
+    ensures { result ≡ spec.names_unknown (leaf_of leaf.entry) (table_names (map table tables.now.entries)) }
+{
+    match leaf {
+        None => false,
+        Some(leaf) => is_unknown(leaf.table, tables),
+    }
+}
+
+/// The fault of a field, component or subcomponent.
+pub fn part_fault(
+    at: u32,
+    number: u32,
+    lawful: bool,
+    leaf: Option<Leaf>,
+    held: Option<Parent>,
+    tables: &IndexMap<Vec<u8>, Table>,
+) -> Option<ProfileFault>
+    ensures { result ≡ first_of (spec.part_tests at number lawful (leaf_of leaf.entry) (parent held) (table_names (map table tables.now.entries))) }
+{
+    if is_misplaced(number, held) {
+        return Some(ProfileFault::Syntax(at));
+    }
+    if !lawful {
+        return Some(ProfileFault::Usage(at));
+    }
+    if falls(number, held) {
+        return Some(ProfileFault::Duplicate(at));
+    }
+    if names_unknown(leaf, tables) {
+        return Some(ProfileFault::UnknownTable(at));
+    }
+    None
+}

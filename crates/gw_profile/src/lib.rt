@@ -1,0 +1,30 @@
+//! Message profiles.
+#![tactic(auto)]
+
+mod build;
+mod context;
+mod fault;
+mod form;
+pub mod laws;
+mod node;
+mod profile;
+mod reader;
+mod rules;
+mod same;
+mod shape;
+mod table;
+mod text;
+mod whole;
+
+pub use fault::ProfileFault;
+pub use node::{GroupNode, Node, SegNode};
+pub use profile::Profile;
+pub use reader::Reader;
+pub use shape::{Card, CompShape, FieldShape, SubShape, Usage};
+pub use table::Table;
+pub use text::parse;
+
+#[cfg(test)]
+mod samples;
+#[cfg(test)]
+mod tests;

@@ -1,0 +1,81 @@
+//! Profiles.
+ghost use Rattle.std.specs.Prelude.{◌≡◌, ◌↔◌, IsTrue, map};
+ghost use Rattle.std.specs.Option.{option_copied};
+ghost use Rattle.gw_profile.specs.Seen.{profile_value, table};
+ghost use Rattle.gw_profile.specs.Value.{table_of};
+ghost use Rattle.gw_profile.specs.WellFormed.{WellFormed};
+
+use crate::node::Node;
+use crate::same::{same_nodes, same_tables};
+use crate::table::Table;
+use indexmap::IndexMap;
+use std::marker::Model;
+
+/// A message profile: its tables in order, and its tree of segments and groups. It is well formed by its type.
+#[derive(Drop)]
+pub struct Profile {
+    pub(crate) name: Vec<u8>,
+    pub(crate) tables: IndexMap<Vec<u8>, Table>,
+    pub(crate) nodes: Vec<Node>,
+}
+
+impl Model for Profile {
+    ghost use Rattle.std.specs.Coded.{codes};
+    ghost use Rattle.std.specs.Prelude.{ℕ, List, map};
+    ghost use Rattle.gw_profile.specs.Seen.{Contents, table, forest};
+    ghost use Rattle.gw_profile.specs.WellFormed.{WellFormed};
+    ghost use Rattle.gw_profile.specs.declared.node.Node.{Node};
+    ghost use Rattle.gw_profile.specs.contracts.node.Node as node;
+
+    ghost Value = { Contents };
+
+    ghost coded = { Prim.hlevel (codes, node.the_row.coded) };
+
+    ghost view = { λ p. record { name = p.name.items; tables = map table p.tables.entries; nodes = p.nodes.items } };
+
+    ghost invariant = { λ p. WellFormed (record { name = p.name.items; tables = map table p.tables.entries; nodes = forest p.nodes.items }) };
+}
+
+impl Profile {
+    /// The name. It takes no memory.
+    pub fn name(&self) -> &[u8]
+        ensures { result.now ≡ self.now.name }
+    {
+        self.name.as_slice()
+    }
+
+    /// The nodes at the top, in order. It takes no memory.
+    pub fn nodes(&self) -> &[Node]
+        ensures value { result.now ≡ self.now.nodes }
+        ensures formed { WellFormed (profile_value self.now) }
+    {
+        self.nodes.as_slice()
+    }
+
+    /// The tables, by their names and in order. It takes no memory.
+    pub fn tables(&self) -> &IndexMap<Vec<u8>, Table>
+        ensures { map table result.now.entries ≡ self.now.tables }
+    {
+        &self.tables
+    }
+
+    /// The table of this name. It takes no memory.
+    pub fn table(&self, name: &[u8]) -> Option<&Table>
+        ensures { option_copied result ≡ table_of name.now self.now.tables }
+    {
+        self.tables.get(name)
+    }
+
+    /// Whether the two are one profile: the same name, tables and nodes. It takes no memory.
+    pub fn same(&self, other: &Profile) -> bool
+        ensures { IsTrue result ↔ (profile_value self.now ≡ profile_value other.now) }
+    {
+        if self.name != other.name {
+            return false;
+        }
+        if !same_tables(&self.tables, &other.tables) {
+            return false;
+        }
+        same_nodes(&self.nodes, &other.nodes)
+    }
+}

@@ -1,0 +1,268 @@
+//! Determinism by one name of look-ahead.
+ghost use Rattle.std.specs.Prelude.{◌≡◌, ◌++◌, ◌∷◌, ◌+◌, ◌==◌, [], ℕ, List, IfOk, OnOk, if◌then◌else◌};
+ghost use Rattle.gw_profile.specs.Seen.{forest};
+ghost use Rattle.gw_profile.specs.Fault as fault;
+ghost use Rattle.gw_profile.specs.Line as line_of;
+ghost use Rattle.gw_profile.specs.Determinism as spec;
+ghost use Rattle.gw_profile.specs.Nodes as node_spec;
+ghost use Rattle.gw_profile.specs.Nodes.{Joins};
+
+use crate::form::allows;
+use crate::node::Node;
+use crate::shape::Card;
+use indexmap::IndexSet;
+use std::alloc::{AllocError, Global};
+
+impl Node {
+    ghost use Rattle.std.specs.Prelude.{◌≡◌};
+    ghost use Rattle.gw_profile.specs.Nodes.{card_of};
+
+    /// How often the node may come.
+    pub fn card(&self) -> Card
+        ensures { result ≡ card_of self.now }
+    {
+        match self {
+            Node::Seg(segment) => segment.card,
+            Node::Group(group) => group.card,
+        }
+    }
+}
+
+/// Whether no node has a min of at least 1.
+pub fn is_optional(nodes: &[Node]) -> bool
+    ensures { result ≡ spec.is_optional (forest nodes.now) }
+{
+    for (i, node) in nodes.iter().enumerate() {
+        if node.card().min != 0 {
+            return false;
+        }
+    }
+    true
+}
+
+// Adds the names that can begin an occurrence of the node.
+#[cycle(first)]
+fn add_first_of(out: &mut Vec<[u8; 3]>, node: &Node) -> Result<(), AllocError>
+    ensures { OnOk result (out.new.items ≡ out.old.items ++ node_spec.first_of_node node.now) }
+{
+    if !allows(node.card().max, 1) {
+        return Ok(());
+    }
+    match node {
+        Node::Seg(segment) => {
+            out.push(segment.name)?;
+            Ok(())
+        }
+        Node::Group(group) => add_first(out, &group.nodes),
+    }
+}
+
+// Adds the names that can begin a list of these nodes.
+#[cycle(first)]
+fn add_first(out: &mut Vec<[u8; 3]>, nodes: &[Node]) -> Result<(), AllocError>
+    ensures { OnOk result (out.new.items ≡ out.old.items ++ spec.first_names (forest nodes.now)) }
+{
+    for (i, node) in nodes.iter().enumerate() {
+        add_first_of(out, node)?;
+        if node.card().min > 0 {
+            return Ok(());
+        }
+    }
+    Ok(())
+}
+
+// Puts these names among the others.
+fn put_names(held: &mut IndexSet<[u8; 3]>, names: &[[u8; 3]]) -> Result<(), AllocError>
+    ensures { OnOk result (Joins names.now held.old.keys held.new.keys) }
+{
+    for (i, name) in names.iter().enumerate() {
+        held.insert(*name)?;
+    }
+    Ok(())
+}
+
+// The names that can come behind a child of a group.
+fn behind_child(
+    alloc: Global,
+    card: Card,
+    first: &[[u8; 3]],
+    after: &IndexSet<[u8; 3]>,
+) -> Result<IndexSet<[u8; 3]>, AllocError>
+    ensures { IfOk result (λ names. Joins (if line_of.allows card.max 2 then first.now else []) after.now.keys names.keys) }
+{
+    let mut names = IndexSet::new(alloc);
+    put_names(&mut names, after.as_slice())?;
+    if allows(card.max, 2) {
+        put_names(&mut names, first)?;
+        return Ok(names);
+    }
+    Ok(names)
+}
+
+// The names that can come where a node stands, before those that can come behind it.
+fn before(
+    alloc: Global,
+    min: u32,
+    first: &[[u8; 3]],
+    follow: IndexSet<[u8; 3]>,
+) -> Result<IndexSet<[u8; 3]>, AllocError>
+    ensures { IfOk result (λ names. Joins first.now (if min == 0 then follow.keys else []) names.keys) }
+{
+    if min > 0 {
+        let mut names = IndexSet::new(alloc);
+        put_names(&mut names, first)?;
+        return Ok(names);
+    }
+    let mut names = follow;
+    put_names(&mut names, first)?;
+    Ok(names)
+}
+
+fn is_before(name: &[u8], other: &[u8]) -> bool
+    ensures { result ≡ spec.is_before name.now other.now }
+{
+    let [x, xs @ ..] = name else {
+        return true;
+    };
+    let [y, ys @ ..] = other else {
+        return false;
+    };
+    if *x < *y {
+        return true;
+    }
+    *x == *y && is_before(xs, ys)
+}
+
+fn least(name: [u8; 3], found: Option<[u8; 3]>) -> [u8; 3]
+    ensures { result ≡ spec.least name found }
+{
+    match found {
+        None => name,
+        Some(other) => {
+            if is_before(&name, &other) {
+                return name;
+            }
+            other
+        }
+    }
+}
+
+fn has_name(name: [u8; 3], others: &IndexSet<[u8; 3]>) -> bool
+    ensures { result ≡ fault.is_among name others.now.keys }
+{
+    others.contains(&name)
+}
+
+fn least_shared(names: &[[u8; 3]], others: &IndexSet<[u8; 3]>) -> Option<[u8; 3]>
+    ensures { result ≡ spec.least_shared names.now others.now.keys }
+{
+    let mut found = None;
+    let mut left = names.len();
+    while left > 0 {
+        left -= 1;
+        found = with_shared(names[left], others, found);
+    }
+    found
+}
+
+fn with_shared(name: [u8; 3], others: &IndexSet<[u8; 3]>, found: Option<[u8; 3]>) -> Option<[u8; 3]>
+    ensures { (names : List (List ℕ)) → found ≡ spec.least_shared names others.now.keys → result ≡ spec.least_shared (name ∷ names) others.now.keys }
+{
+    if has_name(name, others) {
+        return Some(least(name, found));
+    }
+    found
+}
+
+// Whether more than the least number may come.
+fn is_open(card: Card) -> bool
+    ensures { result ≡ line_of.allows card.max (card.min + 1) }
+{
+    match card.max {
+        None => true,
+        Some(max) => card.min < max,
+    }
+}
+
+fn clash(card: Card, names: &[[u8; 3]], after: &IndexSet<[u8; 3]>) -> Option<[u8; 3]>
+    ensures { result ≡ spec.clash card names.now after.now.keys }
+{
+    if is_open(card) {
+        return least_shared(names, after);
+    }
+    None
+}
+
+fn first_of(alloc: Global, node: &Node) -> Result<Vec<[u8; 3]>, AllocError>
+    ensures { IfOk result (λ names. names.items ≡ node_spec.first_of_node node.now) }
+{
+    let mut names = Vec::new(alloc);
+    add_first_of(&mut names, node)?;
+    Ok(names)
+}
+
+// The least name of a node that one name of look-ahead does not determine, else the one that was found behind it.
+fn or_else(name: Option<[u8; 3]>, found: Option<[u8; 3]>) -> Option<[u8; 3]>
+    ensures { result ≡ spec.or_else name found }
+{
+    match name {
+        None => found,
+        Some(name) => Some(name),
+    }
+}
+
+/// The least name of the first node that one name of look-ahead does not determine, where one of `after` can come behind these nodes.
+/// The nodes are gone through from the last to the first, with the names that can come behind them.
+#[cycle(ambiguous)]
+pub fn ambiguous(
+    alloc: Global,
+    nodes: &[Node],
+    after: IndexSet<[u8; 3]>,
+) -> Result<Option<[u8; 3]>, AllocError>
+    ensures { IfOk result (λ found. found ≡ spec.ambiguous (forest nodes.now) after.keys) }
+{
+    let mut follow = after;
+    let mut found = None;
+    let mut left = nodes.len();
+    while left > 0 {
+        left -= 1;
+        let node = &nodes[left];
+        let name = node_ambiguous(alloc, node, &follow)?;
+        found = or_else(name, found);
+        let first = first_of(alloc, node)?;
+        follow = before(alloc, node.card().min, &first, follow)?;
+    }
+    Ok(found)
+}
+
+#[cycle(ambiguous)]
+fn node_ambiguous(
+    alloc: Global,
+    node: &Node,
+    after: &IndexSet<[u8; 3]>,
+) -> Result<Option<[u8; 3]>, AllocError>
+    ensures { IfOk result (λ found. found ≡ node_spec.node_ambiguous node.now after.now.keys) }
+{
+    match node {
+        Node::Seg(segment) => Ok(clash(segment.card, &[segment.name], after)),
+        Node::Group(group) => group_ambiguous(alloc, group.card, &group.nodes, after),
+    }
+}
+
+#[cycle(ambiguous)]
+fn group_ambiguous(
+    alloc: Global,
+    card: Card,
+    nodes: &[Node],
+    after: &IndexSet<[u8; 3]>,
+) -> Result<Option<[u8; 3]>, AllocError>
+    ensures { IfOk result (λ found. found ≡ spec.group_ambiguous card (forest nodes.now) after.now.keys) }
+{
+    let mut first = Vec::new(alloc);
+    add_first(&mut first, nodes)?;
+    if let Some(name) = clash(card, &first, after) {
+        return Ok(Some(name));
+    }
+    let behind = behind_child(alloc, card, &first, after)?;
+    ambiguous(alloc, nodes, behind)
+}

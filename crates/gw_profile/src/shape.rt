@@ -1,0 +1,43 @@
+//! What a profile asks of the fields of a segment.
+
+/// Whether an element is required, required but may be empty, optional or forbidden.
+#[derive(Clone, Copy, PartialEq, Eq, Debug, Drop)]
+pub enum Usage {
+    R,
+    RE,
+    O,
+    X,
+}
+
+/// How often an element may come.
+#[derive(Clone, Copy, PartialEq, Eq, Debug, Drop)]
+pub struct Card {
+    pub min: u32,
+    pub max: Option<u32>,
+}
+
+/// A subcomponent, with the name of its table.
+#[derive(PartialEq, Debug, Drop)]
+pub struct SubShape {
+    pub number: u32,
+    pub usage: Usage,
+    pub len: Option<u32>,
+    pub table: Option<Vec<u8>>,
+}
+
+/// A component.
+#[derive(PartialEq, Debug, Drop)]
+pub struct CompShape {
+    pub number: u32,
+    pub usage: Usage,
+    pub subs: Vec<SubShape>,
+}
+
+/// A field of a segment.
+#[derive(PartialEq, Debug, Drop)]
+pub struct FieldShape {
+    pub number: u32,
+    pub usage: Usage,
+    pub card: Card,
+    pub comps: Vec<CompShape>,
+}

@@ -1,0 +1,354 @@
+-- The least breach, level by level.
+use Rattle.std.proofs.Common.{◌≡◌, ℕ, zero, suc, ◌+◌, ◌-◌, ◌<◌, ◌≤◌, ◌⊎◌, inl, inr, Bool, true, false, List, [], ◌∷◌, ◌++◌, Option, Some, None, option_map, refl, sym, ap, ◌∙◌, subst, arith, length, take, drop, get_or, map}
+use Rattle.std.specs.Prelude.{if◌then◌else◌}
+use Rattle.std.specs.List.{AllByRecursion}
+use Rattle.std.proofs.lemmas.List.{take_more, map-append}
+use Rattle.std.proofs.lemmas.Grind.{common_steps}
+use Rattle.std.proofs.lemmas.Bool.Decides.{eqb_tells}
+use Rattle.gw_profile.specs.Shapes.{SubValue, CompValue, FieldValue, TableValue}
+use Rattle.gw_validate.specs.declared.fields.Spot.{Spot}
+use Rattle.gw_er7.specs.Message.{Texts, text_of}
+use Rattle.gw_er7.specs.Presence.{SubAt, CompAt, RepAt, IsLast}
+use Rattle.gw_validate.specs.Breaches.{Counted, is_required, is_forbidden, is_long, is_unlisted, is_null, SubBreach, sub_absent, sub_forbidden, too_long, not_listed, InAny, in_first, in_later, CompBreach, comp_absent, comp_forbidden, in_sub, RepBreach, one_too_many, in_comp, RepsBreach, in_rep, FieldBreach, too_few, field_forbidden, in_reps, NotAfter}
+use Rattle.gw_validate.specs.Least.{Least, Rises, CompRises, FieldRises, comp_key, is_full, SubsBreach, CompsBreach, NoneYet, RepsGoing}
+use Rattle.gw_validate.specs.declared.breach.Kind.{Kind}
+use Rattle.gw_validate.specs.declared.breach.Kind.TheVariants.{MissingValue}
+use Rattle.gw_validate.specs.Kinds.{number_of}
+
+true_false : true ≡ false → ⊥
+true_false e = cc
+
+pub not_after_self : (p : List ℕ) → NotAfter p p
+not_after_self [] = tt
+not_after_self (a ∷ p) = inr (refl, not_after_self p)
+
+-- ---- leaves
+
+module _ (tables : List TableValue) (shape : SubValue) (text : List ℕ) where
+  pub absent_least : (o : Option Kind) → length text ≡ 0 → o ≡ (if is_required shape.usage then Some MissingValue else None) → Least (SubBreach tables shape text) (option_map (λ kind. number_of kind ∷ []) o)
+  absent_least o none e = by (is_required shape.usage) refl o e
+    where
+      only : (q : List ℕ) → SubBreach tables shape text q → NotAfter (3 ∷ []) q
+      only q (sub_absent a b) = inr (refl, tt)
+      only q (sub_forbidden a b) = inl (omega arith)
+      only q (too_long a b c) = inl (omega arith)
+      only q (not_listed a b c) = inl (omega arith)
+
+      never : is_required shape.usage ≡ false → (q : List ℕ) → SubBreach tables shape text q → ⊥
+      never f q (sub_absent a b) = true_false (sym a ∙ f)
+      never f q (sub_forbidden a b) = omega (arith, b, none)
+      never f q (too_long a b c) = omega (arith, a, none)
+      never f q (not_listed a b c) = omega (arith, a, none)
+
+      by : (r : Bool) → is_required shape.usage ≡ r → (o : Option Kind) → o ≡ (if is_required shape.usage then Some MissingValue else None) → Least (SubBreach tables shape text) (option_map (λ kind. number_of kind ∷ []) o)
+      by true r o e = subst (λ p. Least (SubBreach tables shape text) (option_map (λ kind. number_of kind ∷ []) p)) (sym (e ∙ ap (λ b. if b then Some MissingValue else None) r)) (sub_absent r none, only)
+      by false r o e = subst (λ p. Least (SubBreach tables shape text) (option_map (λ kind. number_of kind ∷ []) p)) (sym (e ∙ ap (λ b. if b then Some MissingValue else None) r)) (never r)
+
+  pub forbidden_least : (length text ≡ 0 → ⊥) → is_forbidden shape.usage ≡ true → Least (SubBreach tables shape text) (Some (4 ∷ []))
+  forbidden_least some f = (sub_forbidden f (omega arith), only)
+    where
+      only : (q : List ℕ) → SubBreach tables shape text q → NotAfter (4 ∷ []) q
+      only q (sub_absent a b) = absurd (some b)
+      only q (sub_forbidden a b) = inr (refl, tt)
+      only q (too_long a b c) = inl (omega arith)
+      only q (not_listed a b c) = inl (omega arith)
+
+  pub delete_least : (length text ≡ 0 → ⊥) → is_forbidden shape.usage ≡ false → is_null text ≡ true → Least (SubBreach tables shape text) None
+  delete_least some f d q (sub_absent a b) = some b
+  delete_least some f d q (sub_forbidden a b) = true_false (sym a ∙ f)
+  delete_least some f d q (too_long a b c) = true_false (sym d ∙ b)
+  delete_least some f d q (not_listed a b c) = true_false (sym d ∙ b)
+
+  pub long_least : (length text ≡ 0 → ⊥) → is_forbidden shape.usage ≡ false → is_null text ≡ false → is_long shape.len text ≡ true → Least (SubBreach tables shape text) (Some (6 ∷ []))
+  long_least some f d l = (too_long (omega arith) d l, only)
+    where
+      only : (q : List ℕ) → SubBreach tables shape text q → NotAfter (6 ∷ []) q
+      only q (sub_absent a b) = absurd (some b)
+      only q (sub_forbidden a b) = absurd (true_false (sym a ∙ f))
+      only q (too_long a b c) = inr (refl, tt)
+      only q (not_listed a b c) = inl (omega arith)
+
+  pub unlisted_least : (length text ≡ 0 → ⊥) → is_forbidden shape.usage ≡ false → is_null text ≡ false → is_long shape.len text ≡ false → is_unlisted tables shape.table text ≡ true → Least (SubBreach tables shape text) (Some (7 ∷ []))
+  unlisted_least some f d l u = (not_listed (omega arith) d u, only)
+    where
+      only : (q : List ℕ) → SubBreach tables shape text q → NotAfter (7 ∷ []) q
+      only q (sub_absent a b) = absurd (some b)
+      only q (sub_forbidden a b) = absurd (true_false (sym a ∙ f))
+      only q (too_long a b c) = absurd (true_false (sym c ∙ l))
+      only q (not_listed a b c) = inr (refl, tt)
+
+  pub clean_least : (length text ≡ 0 → ⊥) → is_forbidden shape.usage ≡ false → is_long shape.len text ≡ false → is_unlisted tables shape.table text ≡ false → Least (SubBreach tables shape text) None
+  clean_least some f l u q (sub_absent a b) = some b
+  clean_least some f l u q (sub_forbidden a b) = true_false (sym a ∙ f)
+  clean_least some f l u q (too_long a b c) = true_false (sym c ∙ l)
+  clean_least some f l u q (not_listed a b c) = true_false (sym c ∙ u)
+
+-- ---- lists of shapes
+
+module _ {X : Type 0} (number : X → ℕ) (B : X → List ℕ → Type 0) where
+  none_at_all : (xs : List X) → NoneYet B xs → (q : List ℕ) → InAny number B xs q → ⊥
+  none_at_all [] n q b = elim b [ ]
+  none_at_all (x ∷ xs) n q (in_first {spot = p} b) = n.0 p b
+  none_at_all (x ∷ xs) n q (in_later b) = none_at_all xs n.1 q b
+
+  none_more : (xs : List X) (x : X) → NoneYet B xs → ((q : List ℕ) → B x q → ⊥) → NoneYet B (xs ++ x ∷ [])
+  none_more [] x n h = (h, tt)
+  none_more (y ∷ xs) x n h = (n.0, none_more xs x n.1 h)
+
+  later_above : (low : ℕ) (xs : List X) → Rises number low xs → (a : ℕ) (p q : List ℕ) → a ≤ low → InAny number B xs q → NotAfter (a ∷ p) q
+  later_above low [] r a p q le b = elim b [ ]
+  later_above low (x ∷ xs) r a p q le (in_first b) = inl (omega (arith, r.0))
+  later_above low (x ∷ xs) r a p q le (in_later b) = later_above (number x) xs r.1 a p q (omega (arith, r.0)) b
+
+  least_at : (before : List X) (x : X) (after : List X) (low : ℕ) (p : List ℕ) → NoneYet B before → Rises number low (before ++ x ∷ after) → Least (B x) (Some p) → Least (InAny number B (before ++ x ∷ after)) (Some (number x ∷ p))
+  least_at [] x after low p n r l = (in_first l.0, only)
+    where
+      only : (q : List ℕ) → InAny number B (x ∷ after) q → NotAfter (number x ∷ p) q
+      only q (in_first {spot = s} b) = inr (refl, l.1 s b)
+      only q (in_later b) = later_above (number x) after r.1 (number x) p q (omega arith) b
+  least_at (y ∷ before) x after low p n r l = let rest = least_at before x after (number y) p n.1 r.1 l in (in_later rest.0, only rest)
+    where
+      only : Least (InAny number B (before ++ x ∷ after)) (Some (number x ∷ p)) → (q : List ℕ) → InAny number B (y ∷ (before ++ x ∷ after)) q → NotAfter (number x ∷ p) q
+      only rest q (in_first {spot = s} b) = absurd (n.0 s b)
+      only rest q (in_later b) = rest.1 q b
+
+cut_at : {Y : Type 0} (ys : List Y) (i : ℕ) (y : Y) → i < length ys → y ≡ get_or ys i y → ys ≡ take i ys ++ y ∷ drop (suc i) ys
+cut_at [] i y lt at = absurd (omega arith)
+cut_at (z ∷ ys) zero y lt at = ap (λ w. w ∷ ys) (sym at)
+cut_at (z ∷ ys) (suc i) y lt at = ap (λ l. z ∷ l) (cut_at ys i y (omega arith) at)
+
+-- the shapes as the program keeps them
+module _ {Y X : Type 0} (f : Y → X) (number : X → ℕ) (B : X → List ℕ → Type 0) where
+  pub any_none : (ys : List Y) (i : ℕ) → length ys ≤ i → NoneYet B (map f (take i ys)) → Least (InAny number B (map f ys)) None
+  any_none ys i le n =
+      none_at_all number B (map f ys) (subst (λ l. NoneYet B (map f l)) (let whole : take i ys ≡ ys = grind (arith, common_steps) in whole) n)
+
+  pub any_more : (ys : List Y) (i : ℕ) (y : Y) → i < length ys → y ≡ get_or ys i y → NoneYet B (map f (take i ys)) → ((q : List ℕ) → B (f y) q → ⊥) → NoneYet B (map f (take (i + 1) ys))
+  any_more ys i y lt at n h =
+      subst (λ l. NoneYet B (map f l)) (sym (take_more ys i y lt ∙ ap (λ z. take i ys ++ z ∷ []) (sym at)))
+      (subst (NoneYet B) (sym (map-append f (take i ys) (y ∷ []))) (none_more number B (map f (take i ys)) (f y) n h))
+
+  pub any_least : (ys : List Y) (i : ℕ) (y : Y) (p : List ℕ) → i < length ys → y ≡ get_or ys i y → NoneYet B (map f (take i ys)) → Rises number 0 (map f ys) → Least (B (f y)) (Some p) → Least (InAny number B (map f ys)) (Some (number (f y) ∷ p))
+  any_least ys i y p lt at n r l =
+      let split : map f ys ≡ map f (take i ys) ++ f y ∷ map f (drop (suc i) ys) = ap (map f) (cut_at ys i y lt at) ∙ map-append f (take i ys) (y ∷ drop (suc i) ys) in
+      subst (λ w. Least (InAny number B w) (Some (number (f y) ∷ p))) (sym split)
+      (least_at number B (map f (take i ys)) (f y) (map f (drop (suc i) ys)) 0 p n (subst (Rises number 0) split r) l)
+
+pub all_at : {Y X : Type 0} (f : Y → X) (P : X → Type 0) (ys : List Y) (i : ℕ) (y : Y) → i < length ys → y ≡ get_or ys i y → AllByRecursion P (map f ys) → P (f y)
+all_at f P [] i y lt at a = absurd (omega arith)
+all_at f P (z ∷ ys) zero y lt at a = subst (λ w. P (f w)) (sym at) a.0
+all_at f P (z ∷ ys) (suc i) y lt at a = all_at f P ys i y (omega arith) at a.1
+
+-- ---- components
+
+module _ (tables : List TableValue) (m : Texts) (f r : ℕ) (shape : CompValue) (last : ℕ) (is : IsLast (SubAt m f r shape.number) last) where
+  absent : last ≡ 0 → CompAt m f r shape.number → ⊥
+  absent z c = let w = is.within c.0 c.1 in omega (arith, w.0, w.1, z)
+
+  present : (last ≡ 0 → ⊥) → CompAt m f r shape.number
+  present some = (last, is.there (omega arith))
+
+  pub absent_comp_least : (o : Option Spot) → last ≡ 0 → option_map comp_key o ≡ (if is_required shape.usage then Some (0 ∷ 3 ∷ []) else None) → Least (CompBreach tables m f r shape) (option_map comp_key o)
+  absent_comp_least o z e = subst (Least (CompBreach tables m f r shape)) (sym e) (by (is_required shape.usage) refl)
+    where
+      only : (q : List ℕ) → CompBreach tables m f r shape q → NotAfter (0 ∷ 3 ∷ []) q
+      only q (comp_absent a b) = not_after_self (0 ∷ 3 ∷ [])
+      only q (comp_forbidden a b) = absurd (absent z b)
+      only q (in_sub a b) = absurd (absent z a)
+
+      never : is_required shape.usage ≡ false → (q : List ℕ) → CompBreach tables m f r shape q → ⊥
+      never u q (comp_absent a b) = true_false (sym a ∙ u)
+      never u q (comp_forbidden a b) = absent z b
+      never u q (in_sub a b) = absent z a
+
+      by : (b : Bool) → is_required shape.usage ≡ b → Least (CompBreach tables m f r shape) (if is_required shape.usage then Some (0 ∷ 3 ∷ []) else None)
+      by true u = subst (λ b. Least (CompBreach tables m f r shape) (if b then Some (0 ∷ 3 ∷ []) else None)) (sym u) (comp_absent u (absent z), only)
+      by false u = subst (λ b. Least (CompBreach tables m f r shape) (if b then Some (0 ∷ 3 ∷ []) else None)) (sym u) (never u)
+
+  pub forbidden_comp_least : CompRises shape → (last ≡ 0 → ⊥) → is_forbidden shape.usage ≡ true → Least (CompBreach tables m f r shape) (Some (0 ∷ 4 ∷ []))
+  forbidden_comp_least rises some u = (comp_forbidden u (present some), only)
+    where
+      only : (q : List ℕ) → CompBreach tables m f r shape q → NotAfter (0 ∷ 4 ∷ []) q
+      only q (comp_absent a b) = absurd (b (present some))
+      only q (comp_forbidden a b) = not_after_self (0 ∷ 4 ∷ [])
+      only q (in_sub a b) = later_above (λ s. s.number) (λ s. SubBreach tables s (text_of m f r shape.number s.number)) 0 shape.subs rises 0 (4 ∷ []) q (omega arith) b
+
+  pub subs_comp_least : (o : Option (List ℕ)) → (last ≡ 0 → ⊥) → is_forbidden shape.usage ≡ false → Least (SubsBreach tables m f r shape.number shape.subs) o → Least (CompBreach tables m f r shape) o
+  subs_comp_least None some u l = none
+    where
+      none : (q : List ℕ) → CompBreach tables m f r shape q → ⊥
+      none q (comp_absent a b) = b (present some)
+      none q (comp_forbidden a b) = true_false (sym a ∙ u)
+      none q (in_sub a b) = l q b
+  subs_comp_least (Some p) some u l = (in_sub (present some) l.0, only)
+    where
+      only : (q : List ℕ) → CompBreach tables m f r shape q → NotAfter p q
+      only q (comp_absent a b) = absurd (b (present some))
+      only q (comp_forbidden a b) = absurd (true_false (sym a ∙ u))
+      only q (in_sub a b) = l.1 q b
+
+-- ---- repetitions
+
+pub counted_once : (P : ℕ → Type 0) (n j k : ℕ) → Counted P n j → Counted P n k → j ≡ k
+counted_once P zero j k a b = a ∙ sym b
+counted_once P (suc n) j k (inl a) (inl b) = a.2 ∙ ap suc (counted_once P n a.1 b.1 a.3 b.3) ∙ sym b.2
+counted_once P (suc n) j k (inl a) (inr b) = absurd (b.0 a.0)
+counted_once P (suc n) j k (inr a) (inl b) = absurd (a.0 b.0)
+counted_once P (suc n) j k (inr a) (inr b) = counted_once P n j k a.1 b.1
+
+module _ (tables : List TableValue) (m : Texts) (shape : FieldValue) (r before : ℕ) (u : is_forbidden shape.usage ≡ false) (c : Counted (RepAt m shape.number) (r - 1) before) where
+  pub full_least : FieldRises shape → is_full shape.card.max before ≡ true → Least (RepBreach tables m shape r) (Some (0 ∷ 0 ∷ 5 ∷ []))
+  full_least rises full = (one_too_many u (most shape.card.max full) c, only)
+    where
+      most : (o : Option ℕ) → is_full o before ≡ true → o ≡ Some before
+      most None e = absurd (cc)
+      most (Some k) e = ap Some (elim (eqb_tells k before) [ inl h ↦ h.1 | inr h ↦ absurd (true_false (sym e ∙ h.0)) ])
+
+      only : (q : List ℕ) → RepBreach tables m shape r q → NotAfter (0 ∷ 0 ∷ 5 ∷ []) q
+      only q (one_too_many a b d) = not_after_self (0 ∷ 0 ∷ 5 ∷ [])
+      only q (in_comp b) = later_above (λ c. c.number) (CompBreach tables m shape.number r) 0 shape.comps rises.comps 0 (0 ∷ 5 ∷ []) q (omega arith) b
+
+  not_full : (k : ℕ) → is_full shape.card.max before ≡ false → shape.card.max ≡ Some k → Counted (RepAt m shape.number) (r - 1) k → ⊥
+  not_full k full e d =
+      let same : k ≡ before = counted_once (RepAt m shape.number) (r - 1) k before d c in
+      true_false (sym (elim (eqb_tells k before) [ inl h ↦ h.0 | inr h ↦ absurd (h.1 same) ]) ∙ ap (λ o. is_full o before) (sym e) ∙ full)
+
+  pub comps_rep_least : (o : Option (List ℕ)) → is_full shape.card.max before ≡ false → Least (CompsBreach tables m shape.number r shape.comps) o → Least (RepBreach tables m shape r) o
+  comps_rep_least None full l = none
+    where
+      none : (q : List ℕ) → RepBreach tables m shape r q → ⊥
+      none q (one_too_many {most = k} a b d) = not_full k full b d
+      none q (in_comp b) = l q b
+  comps_rep_least (Some p) full l = (in_comp l.0, only)
+    where
+      only : (q : List ℕ) → RepBreach tables m shape r q → NotAfter p q
+      only q (one_too_many {most = k} a b d) = absurd (not_full k full b d)
+      only q (in_comp b) = l.1 q b
+
+-- ---- the program's steps
+
+pub get_or_any : {X : Type 0} (xs : List X) (i : ℕ) (d e : X) → i < length xs → get_or xs i d ≡ get_or xs i e
+get_or_any [] i d e lt = absurd (omega arith)
+get_or_any (x ∷ xs) zero d e lt = refl
+get_or_any (x ∷ xs) (suc i) d e lt = get_or_any xs i d e (omega arith)
+
+module _ {Y : Type 0} (value : Y → SubValue) (tables : List TableValue) (m : Texts) (f r c : ℕ) (subs : List Y) (i : ℕ) (y : Y) (text : List ℕ) (lt : i < length subs) (at : y ≡ get_or subs i y) (is : text ≡ text_of m f r c (value y).number) where
+  abbrev At : SubValue → List ℕ → Type 0
+  At s = SubBreach tables s (text_of m f r c s.number)
+
+  pub sub_found : (kind said : Kind) → said ≡ kind → NoneYet At (map value (take i subs)) → Rises (λ s. s.number) 0 (map value subs) → Least (SubBreach tables (value y) text) (Some (number_of kind ∷ [])) → Least (SubsBreach tables m f r c (map value subs)) (Some ((value y).number ∷ number_of said ∷ []))
+  sub_found kind said e n rises l =
+      subst (λ k. Least (SubsBreach tables m f r c (map value subs)) (Some ((value y).number ∷ number_of k ∷ []))) (sym e)
+      (any_least value (λ s. s.number) At subs i y (number_of kind ∷ []) lt at n rises (subst (λ t. Least (SubBreach tables (value y) t) (Some (number_of kind ∷ []))) is l))
+
+  pub sub_more : NoneYet At (map value (take i subs)) → Least (SubBreach tables (value y) text) None → NoneYet At (map value (take (i + 1) subs))
+  sub_more n l = any_more value (λ s. s.number) At subs i y lt at n (subst (λ t. Least (SubBreach tables (value y) t) None) is l)
+
+module _ (m : Texts) (f r : ℕ) (last : ℕ) (is : IsLast (CompAt m f r) last) where
+  pub no_rep : last ≡ 0 → RepAt m f r → ⊥
+  no_rep z p = let w = is.within p.0 p.1 in omega (arith, w.0, w.1, z)
+
+  pub some_rep : (last ≡ 0 → ⊥) → RepAt m f r
+  some_rep some = (last, is.there (omega arith))
+
+pub counted_no : (P : ℕ → Type 0) (r k : ℕ) → 0 < r → Counted P (r - 1) k → (P r → ⊥) → Counted P r k
+counted_no P zero k lt c n = absurd (omega arith)
+counted_no P (suc r) k lt c n = inr (n, subst (λ j. Counted P j k) (let e : suc r - 1 ≡ r = omega arith in e) c)
+
+pub counted_yes : (P : ℕ → Type 0) (r k : ℕ) → 0 < r → Counted P (r - 1) k → P r → Counted P r (k + 1)
+counted_yes P zero k lt c p = absurd (omega arith)
+counted_yes P (suc r) k lt c p = inl (p, k, (let e : k + 1 ≡ suc k = omega arith in e), subst (λ j. Counted P j k) (let e : suc r - 1 ≡ r = omega arith in e) c)
+
+pub counted_before : (P : ℕ → Type 0) (i k : ℕ) → Counted P i k → Counted P (i + 1 - 1) k
+counted_before P i k c = subst (λ j. Counted P j k) (let e : i ≡ i + 1 - 1 = omega arith in e) c
+
+module _ (tables : List TableValue) (m : Texts) (shape : FieldValue) where
+  module _ (n r before : ℕ) (g : RepsGoing tables m shape n before) (lt : n < r) (there : RepAt m shape.number r) (first : (j : ℕ) → n < j → RepAt m shape.number j → r ≤ j) where
+    compare : (a r : ℕ) → (r < a) ⊎ ((a ≡ r) ⊎ (a < r))
+    compare zero zero = inr (inl refl)
+    compare zero (suc r) = inr (inr (omega arith))
+    compare (suc a) zero = inl (omega arith)
+    compare (suc a) (suc r) = elim (compare a r) [ inl h ↦ inl (omega arith) | inr h ↦ inr (elim h [ inl e ↦ inl (ap suc e) | inr l ↦ inr (omega arith) ]) ]
+
+    -- no breach in an earlier repetition
+    earlier : (j : ℕ) (q : List ℕ) → j < r → RepAt m shape.number j → RepBreach tables m shape j q → ⊥
+    earlier j q less p b = by (compare n j)
+      where
+        by : (j < n) ⊎ ((n ≡ j) ⊎ (n < j)) → ⊥
+        by (inl h) = g.none j q (omega arith) p b
+        by (inr (inl e)) = g.none j q (omega arith) p b
+        by (inr (inr h)) = let w = first j h p in omega arith
+
+    pub reps_more : Counted (RepAt m shape.number) r (before + 1) → Least (RepBreach tables m shape r) None → RepsGoing tables m shape r (before + 1)
+    reps_more c l = record { counted = c; small = omega (arith, g.small); none = λ j q le p b. by j q le p b (compare r j) }
+      where
+        by : (j : ℕ) (q : List ℕ) → j ≤ r → RepAt m shape.number j → RepBreach tables m shape j q → (j < r) ⊎ ((r ≡ j) ⊎ (r < j)) → ⊥
+        by j q le p b (inl h) = earlier j q h p b
+        by j q le p b (inr (inl e)) = l q (subst (λ k. RepBreach tables m shape k q) (sym e) b)
+        by j q le p b (inr (inr h)) = omega arith
+
+    pub reps_found : (p : List ℕ) → Least (RepBreach tables m shape r) (Some p) → Least (RepsBreach tables m shape) (Some (r ∷ p))
+    reps_found p l = (in_rep there l.0, only)
+      where
+        by : (j : ℕ) (q : List ℕ) → RepAt m shape.number j → RepBreach tables m shape j q → (j < r) ⊎ ((r ≡ j) ⊎ (r < j)) → NotAfter (r ∷ p) (j ∷ q)
+        by j q at b (inl h) = absurd (earlier j q h at b)
+        by j q at b (inr (inl e)) = inr (e, l.1 q (subst (λ k. RepBreach tables m shape k q) (sym e) b))
+        by j q at b (inr (inr h)) = inl h
+
+        only : (q : List ℕ) → RepsBreach tables m shape q → NotAfter (r ∷ p) q
+        only q (in_rep {r = j} {spot = k} at b) = by j k at b (compare r j)
+
+  pub reps_none : (i before last : ℕ) → RepsGoing tables m shape i before → IsLast (RepAt m shape.number) last → last ≤ i → Least (RepsBreach tables m shape) None
+  reps_none i before last g is le q (in_rep {r = r} {spot = p} there b) = let w = is.within r there in g.none r p (omega (arith, w.1, le)) there b
+
+  module _ (last : ℕ) (is : IsLast (RepAt m shape.number) last) where
+    pub forbidden_absent : is_forbidden shape.usage ≡ true → last ≡ 0 → Least (FieldBreach tables m shape) None
+    forbidden_absent u z q (too_few a b c d) = true_false (sym u ∙ a)
+    forbidden_absent u z q (field_forbidden a b) = let w = is.within b.0 b.1 in omega (arith, w.0, w.1, z)
+    forbidden_absent u z q (in_reps (in_rep {r = r} there b)) = let w = is.within r there in omega (arith, w.0, w.1, z)
+
+    pub forbidden_present : is_forbidden shape.usage ≡ true → (last ≡ 0 → ⊥) → Least (FieldBreach tables m shape) (Some (0 ∷ 0 ∷ 0 ∷ 4 ∷ []))
+    forbidden_present u some = (field_forbidden u (last, is.there (omega arith)), only)
+      where
+        only : (q : List ℕ) → FieldBreach tables m shape q → NotAfter (0 ∷ 0 ∷ 0 ∷ 4 ∷ []) q
+        only q (too_few a b c d) = absurd (true_false (sym u ∙ a))
+        only q (field_forbidden a b) = not_after_self (0 ∷ 0 ∷ 0 ∷ 4 ∷ [])
+        only q (in_reps (in_rep {r = r} there b)) = let w = is.within r there in inl w.0
+
+    pub few_least : (count : ℕ) → is_forbidden shape.usage ≡ false → Counted (RepAt m shape.number) last count → count < shape.card.min → Least (FieldBreach tables m shape) (Some (0 ∷ 0 ∷ 0 ∷ 3 ∷ []))
+    few_least count u c lt = (too_few u is c lt, only)
+      where
+        only : (q : List ℕ) → FieldBreach tables m shape q → NotAfter (0 ∷ 0 ∷ 0 ∷ 3 ∷ []) q
+        only q (too_few a b c d) = not_after_self (0 ∷ 0 ∷ 0 ∷ 3 ∷ [])
+        only q (field_forbidden a b) = absurd (true_false (sym a ∙ u))
+        only q (in_reps (in_rep {r = r} there b)) = let w = is.within r there in inl w.0
+
+    up : (P : ℕ → Type 0) (a b : ℕ) → IsLast P a → IsLast P b → a ≤ b
+    up P zero b x y = omega arith
+    up P (suc a) b x y = (y.within (suc a) (x.there (omega arith))).1
+
+    last_once : (P : ℕ → Type 0) (a b : ℕ) → IsLast P a → IsLast P b → a ≡ b
+    last_once P a b x y = let p = up P a b x y in let q = up P b a y x in omega arith
+
+    enough : (count l k : ℕ) → Counted (RepAt m shape.number) last count → shape.card.min ≤ count → IsLast (RepAt m shape.number) l → Counted (RepAt m shape.number) l k → k < shape.card.min → ⊥
+    enough count l k c le x d lt =
+        let e : l ≡ last = last_once (RepAt m shape.number) l last x is in
+        let same : k ≡ count = counted_once (RepAt m shape.number) last k count (subst (λ j. Counted (RepAt m shape.number) j k) e d) c in
+        omega arith
+
+    pub reps_field_least : (count : ℕ) (o : Option (List ℕ)) → is_forbidden shape.usage ≡ false → Counted (RepAt m shape.number) last count → shape.card.min ≤ count → Least (RepsBreach tables m shape) o → Least (FieldBreach tables m shape) o
+    reps_field_least count None u c le l = none
+      where
+        none : (q : List ℕ) → FieldBreach tables m shape q → ⊥
+        none q (too_few {last = k} {count = j} a b d e) = enough count k j c le b d e
+        none q (field_forbidden a b) = true_false (sym a ∙ u)
+        none q (in_reps b) = l q b
+    reps_field_least count (Some p) u c le l = (in_reps l.0, only)
+      where
+        only : (q : List ℕ) → FieldBreach tables m shape q → NotAfter p q
+        only q (too_few {last = k} {count = j} a b d e) = absurd (enough count k j c le b d e)
+        only q (field_forbidden a b) = absurd (true_false (sym a ∙ u))
+        only q (in_reps b) = l.1 q b
+
+pub reps_start : (tables : List TableValue) (m : Texts) (shape : FieldValue) (last : ℕ) → IsLast (RepAt m shape.number) last → RepsGoing tables m shape 0 0
+reps_start tables m shape last is = record { counted = refl; small = omega arith; none = λ r q le there b. let w = is.within r there in omega (arith, w.0, le) }

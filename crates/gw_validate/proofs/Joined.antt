@@ -1,0 +1,136 @@
+-- A name, and the shortest list, over joined forests.
+use Rattle.gw_profile.specs.Shapes.{SegmentValue, GroupValue}
+use Rattle.std.proofs.Common.{◌≡◌, ℕ, zero, suc, ◌-◌, Bool, true, false, List, [], ◌∷◌, ◌++◌, Option, Some, None, refl, sym, ap, ◌∙◌, subst, arith, append_assoc}
+use Rattle.gw_profile.specs.declared.shape.Card.{Card}
+use Rattle.gw_profile.specs.declared.node.Node.{Node, Seg, Group'}
+use Rattle.gw_validate.specs.declared.walk.Frame.{Frame}
+use Rattle.gw_validate.specs.declared.walk.Step.TheVariants.{Taken, Passed, Stuck}
+use Rattle.std.specs.Str.{bytes_eq}
+use Rattle.gw_profile.specs.Shapes.{Forest, nothing, segment, group}
+use Rattle.gw_validate.specs.Residual.{less, append, has_room, when, pass, or_else, before, after_name, seg, grp}
+use Rattle.gw_profile.specs.Seen.{forest, row_forest, node_forest}
+use Rattle.gw_profile.specs.Nodes.{card_of}
+use Rattle.gw_validate.specs.Shortest.{head, several, shortest, shortest_node}
+use Rattle.gw_validate.specs.State.{due_forest, frame_forest, stack_on, Tries}
+use Rattle.gw_validate.proofs.Walking.{append_assoc_forest, stack_on-push, node_due}
+use Rattle.gw_profile.specs.Deterministic.{Name, Optional}
+
+-- what becomes of a name where h stands behind f
+abbrev pub Joins : Forest → Forest → Name → Option Forest → Option Forest → Type 0
+Joins f h x None o = (Optional f → o ≡ after_name h x) × ((Optional f → ⊥) → o ≡ None)
+Joins f h x (Some g) o = o ≡ Some (append g h)
+
+module _ (h : Forest) (x : Name) (sv : SegmentValue) (hi : Option ℕ) (rest : Forest) where
+  pass_segment : (lo : ℕ) (o o' : Option Forest) → Joins rest h x o o' → Joins (seg sv lo hi rest) h x (pass lo o) (pass lo o')
+  pass_segment zero None o' j = (λ p. j.0 p.1, λ q. j.1 (λ p. q (refl, p)))
+  pass_segment zero (Some g) o' j = j
+  pass_segment (suc l) o o' j = (λ p. absurd (omega (arith, p.0)), λ q. refl)
+
+  join_segment : (a b : Bool) (lo : ℕ) (o o' : Option Forest) → Joins rest h x o o' → Joins (seg sv lo hi rest) h x (or_else (when a (when b (Some (seg sv (lo - 1) (less hi) rest)))) (pass lo o)) (or_else (when a (when b (Some (seg sv (lo - 1) (less hi) (append rest h))))) (pass lo o'))
+  join_segment true true lo o o' j = refl
+  join_segment true false lo o o' j = pass_segment lo o o' j
+  join_segment false b lo o o' j = pass_segment lo o o' j
+
+module _ (h : Forest) (x : Name) (gv : GroupValue) (hi : Option ℕ) (ch rest : Forest) where
+  pass_group : (lo : ℕ) (o o' : Option Forest) → Joins rest h x o o' → Joins (grp gv lo hi ch rest) h x (pass lo o) (pass lo o')
+  pass_group zero None o' j = (λ p. j.0 p.1, λ q. j.1 (λ p. q (refl, p)))
+  pass_group zero (Some g) o' j = j
+  pass_group (suc l) o o' j = (λ p. absurd (omega (arith, p.0)), λ q. refl)
+
+  join_group : (a : Bool) (i : Option Forest) (lo : ℕ) (o o' : Option Forest) → Joins rest h x o o' → Joins (grp gv lo hi ch rest) h x (or_else (when a (before (grp gv (lo - 1) (less hi) ch rest) i)) (pass lo o)) (or_else (when a (before (grp gv (lo - 1) (less hi) ch (append rest h)) i)) (pass lo o'))
+  join_group true (Some i) lo o o' j = ap Some (sym (append_assoc_forest i (grp gv (lo - 1) (less hi) ch rest) h))
+  join_group true None lo o o' j = pass_group lo o o' j
+  join_group false i lo o o' j = pass_group lo o o' j
+
+pub joins : (f h : Forest) (x : Name) → Joins f h x (after_name f x) (after_name (append f h) x)
+joins nothing h x = (λ p. refl, λ q. absurd (q tt))
+joins (segment sv rest) h x = join_segment h x sv sv.card.max rest (has_room sv.card.max) (bytes_eq x sv.name) sv.card.min _ _ (joins rest h x)
+joins (group gv ch rest) h x = join_group h x gv gv.card.max ch rest (has_room gv.card.max) (after_name ch x) gv.card.min _ _ (joins rest h x)
+
+joins_at : (f h : Forest) (x : Name) (o : Option Forest) → after_name f x ≡ o → Joins f h x o (after_name (append f h) x)
+joins_at f h x o e = subst (λ p. Joins f h x p (after_name (append f h) x)) e (joins f h x)
+
+pub append_nothing : (f : Forest) → append f nothing ≡ f
+append_nothing nothing = refl
+append_nothing (segment sv rest) = ap (λ r. seg sv sv.card.min sv.card.max r) (append_nothing rest)
+append_nothing (group gv ch rest) = ap (λ r. grp gv gv.card.min gv.card.max ch r) (append_nothing rest)
+
+module _ (f : Frame) (x : Name) (start rest new popped : List Frame) (same : after_name (stack_on start nothing) x ≡ after_name (stack_on popped nothing) x) (pop : popped ≡ rest ++ f ∷ []) where
+  split : stack_on popped nothing ≡ append (frame_forest f) (stack_on rest nothing)
+  split = ap (λ l. stack_on l nothing) pop ∙ stack_on-push rest f nothing
+
+  pub advance_taken : Tries (frame_forest f) x rest new Taken → after_name (stack_on start nothing) x ≡ Some (stack_on new nothing)
+  advance_taken t =
+      same ∙ ap (λ g. after_name g x) split
+      ∙ joins_at (frame_forest f) (stack_on rest nothing) x (Some t.0) t.1
+      ∙ ap Some (sym (t.2 nothing))
+
+  pub advance_stuck : Tries (frame_forest f) x rest new Stuck → after_name (stack_on start nothing) x ≡ None
+  advance_stuck t =
+      same ∙ ap (λ g. after_name g x) split ∙ (joins_at (frame_forest f) (stack_on rest nothing) x None t.0).1 t.1
+
+  pub advance_passed : Tries (frame_forest f) x rest new Passed → after_name (stack_on start nothing) x ≡ after_name (stack_on new nothing) x
+  advance_passed t =
+      same ∙ ap (λ g. after_name g x) split ∙ (joins_at (frame_forest f) (stack_on rest nothing) x None t.0).0 t.1
+      ∙ ap (λ l. after_name (stack_on l nothing) x) (sym t.2)
+
+abbrev pub first_of_two : Option Name → Option Name → Option Name
+first_of_two None o = o
+first_of_two (Some x) o = Some x
+
+pub head-append : (a b : List Name) → head (a ++ b) ≡ first_of_two (head a) (head b)
+head-append [] b = refl
+head-append (x ∷ a) b = refl
+
+first_of_none : (o : Option Name) → first_of_two o None ≡ o
+first_of_none None = refl
+first_of_none (Some x) = refl
+
+first_of_same : (o : Option Name) → first_of_two o o ≡ o
+first_of_same None = refl
+first_of_same (Some x) = refl
+
+pub head_several : (k : ℕ) (l : List Name) → (k ≡ 0 → ⊥) → head (several k l) ≡ head l
+head_several zero l p = absurd (p refl)
+head_several (suc zero) l p = head-append l [] ∙ first_of_none (head l)
+head_several (suc (suc k)) l p =
+    head-append l (several (suc k) l) ∙ ap (first_of_two (head l)) (head_several (suc k) l (λ e. omega arith)) ∙ first_of_same (head l)
+
+pub shortest-join : (f g : Forest) → shortest (append f g) ≡ shortest f ++ shortest g
+shortest-join nothing g = refl
+shortest-join (segment sv rest) g = ap (λ l. several sv.card.min (sv.name ∷ []) ++ l) (shortest-join rest g) ∙ sym (append_assoc (several sv.card.min (sv.name ∷ [])) (shortest rest) (shortest g))
+shortest-join (group gv ch rest) g = ap (λ l. several gv.card.min (shortest ch) ++ l) (shortest-join rest g) ∙ sym (append_assoc (several gv.card.min (shortest ch)) (shortest rest) (shortest g))
+
+pub shortest_due : (n : Node) (due : Card) (rest : Forest) → shortest (due_forest n due rest) ≡ several due.min (shortest_node n) ++ shortest rest
+shortest_due (Seg s) due rest = refl
+shortest_due (Group' lb u c shape row) due rest = refl
+
+pub head_node : (n : Node) (rest : Forest) → head (shortest (node_forest n rest)) ≡ first_of_two (head (several (card_of n).min (shortest_node n))) (head (shortest rest))
+head_node (Seg s) rest = head-append (several s.card.min (s.name ∷ [])) (shortest rest)
+head_node (Group' lb u c shape row) rest = head-append (several c.min (shortest (row_forest row))) (shortest rest)
+
+-- the first name of a frame's shortest list
+pub head_frame : (f : Frame) (behind : Forest) → head (shortest (append (frame_forest f) behind)) ≡ first_of_two (head (several f.due.min (shortest_node f.node.now))) (first_of_two (head (shortest (forest f.rest.now))) (head (shortest behind)))
+head_frame f behind =
+    ap head (shortest-join (frame_forest f) behind)
+    ∙ head-append (shortest (frame_forest f)) (shortest behind)
+    ∙ ap (λ l. first_of_two (head l) (head (shortest behind))) (shortest_due f.node.now f.due (forest f.rest.now))
+    ∙ ap (λ o. first_of_two o (head (shortest behind))) (head-append (several f.due.min (shortest_node f.node.now)) (shortest (forest f.rest.now)))
+    ∙ regroup (head (several f.due.min (shortest_node f.node.now))) (head (shortest (forest f.rest.now))) (head (shortest behind))
+  where
+    regroup : (a b c : Option Name) → first_of_two (first_of_two a b) c ≡ first_of_two a (first_of_two b c)
+    regroup None b c = refl
+    regroup (Some x) b c = refl
+
+-- what the frame that was taken off says of the shortest list
+pub head_popped : (f : Frame) (start rest popped : List Frame) (a b : Option Name) → head (shortest (stack_on start nothing)) ≡ head (shortest (stack_on popped nothing)) → popped ≡ rest ++ f ∷ [] → a ≡ head (several f.due.min (shortest_node f.node.now)) → b ≡ head (shortest (forest f.rest.now)) → head (shortest (stack_on start nothing)) ≡ first_of_two a (first_of_two b (head (shortest (stack_on rest nothing))))
+head_popped f start rest popped a b same pop here next =
+    same
+    ∙ ap (λ l. head (shortest (stack_on l nothing))) pop
+    ∙ ap (λ g. head (shortest g)) (stack_on-push rest f nothing)
+    ∙ head_frame f (stack_on rest nothing)
+    ∙ ap (λ o. first_of_two o (first_of_two (head (shortest (forest f.rest.now))) (head (shortest (stack_on rest nothing))))) (sym here)
+    ∙ ap (λ o. first_of_two a (first_of_two o (head (shortest (stack_on rest nothing))))) (sym next)
+
+pub start_forest : (n : Node) (due : Card) (rest : List Node) → due ≡ card_of n → append (due_forest n due (forest rest)) nothing ≡ forest (n ∷ rest)
+start_forest n due rest e = append_nothing _ ∙ ap (λ d. due_forest n d (forest rest)) e ∙ sym (node_due n (forest rest))

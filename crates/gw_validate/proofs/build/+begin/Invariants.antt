@@ -1,0 +1,7 @@
+use Rattle.std.proofs.Common.{◌≡◌, drop}
+use Rattle.gw_profile.specs.Seen.{forest}
+use Rattle.gw_validate.specs.Tests.{can_begin}
+use Rattle.gw_validate.proofs.build.+begin.Given as goal
+
+abbrev pub invariant-can_begin-loop-i : goal.invariant-can_begin-loop-i
+invariant-can_begin-loop-i l = can_begin (forest l.nodes) l.name ≡ can_begin (forest (drop l.i l.nodes)) l.name

@@ -1,0 +1,25 @@
+use Rattle.gw_profile.specs.Seen.{field}
+use Rattle.std.proofs.Common.{sym, subst, Some}
+use Rattle.gw_validate.specs.declared.fields.Spot.{Spot}
+use Rattle.gw_validate.specs.Least.{Least, field_key}
+use Rattle.gw_validate.specs.Breaches.{FieldBreach}
+use Rattle.gw_validate.proofs.Breaches.{forbidden_absent, forbidden_present, few_least, reps_field_least}
+use Rattle.gw_validate.proofs.fields.field_breach.Goals as goal
+
+pub returns-then-last-eq0 : goal.returns-then-last-eq0
+returns-then-last-eq0 c =
+    forbidden_absent c.args.profile.now.tables c.args.segment.now.at (field c.args.shape.now) c.reps-last.result c.reps-last.ensures (sym c.if-is_forbidden.ensures) c.if-last-eq0.true
+
+pub returns-then-is_forbidden : goal.returns-then-is_forbidden
+returns-then-is_forbidden c =
+    subst (λ (s : Spot). Least (FieldBreach c.args.profile.now.tables c.args.segment.now.at (field c.args.shape.now)) (Some (field_key s))) (sym c.of_kind.ensures)
+    (forbidden_present c.args.profile.now.tables c.args.segment.now.at (field c.args.shape.now) c.reps-last.result c.reps-last.ensures (sym c.if-is_forbidden.ensures) c.if-last-eq0.false)
+
+pub returns-then-count-from : goal.returns-then-count-from
+returns-then-count-from c =
+    subst (λ (s : Spot). Least (FieldBreach c.args.profile.now.tables c.args.segment.now.at (field c.args.shape.now)) (Some (field_key s))) (sym c.of_kind-then-count-from.ensures)
+    (few_least c.args.profile.now.tables c.args.segment.now.at (field c.args.shape.now) c.reps-last.result c.reps-last.ensures c.count_reps-count.result (sym c.if-is_forbidden.ensures) c.count_reps-count.ensures (rw c.from.ensures at c.if-count-from.true))
+
+pub returns : goal.returns
+returns c =
+    reps_field_least c.args.profile.now.tables c.args.segment.now.at (field c.args.shape.now) c.reps-last.result c.reps-last.ensures c.count_reps-count.result _ (sym c.if-is_forbidden.ensures) c.count_reps-count.ensures (rw c.from.ensures at c.if-count-from.false) c.reps_breach.ensures

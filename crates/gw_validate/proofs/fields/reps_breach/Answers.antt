@@ -1,0 +1,33 @@
+use Rattle.std.proofs.Common.{arith}
+use Rattle.gw_er7.specs.Presence.{RepAt}
+use Rattle.gw_profile.specs.Seen.{field}
+use Rattle.gw_validate.specs.Least.{rep_key}
+use Rattle.gw_validate.proofs.Breaches.{reps_start, reps_found, reps_more, reps_none}
+use Rattle.gw_validate.proofs.Nexts.{counted_gap, next_counted}
+use Rattle.gw_validate.proofs.fields.reps_breach.Goals as goal
+
+pub loop-rep-init : goal.loop-rep-init
+loop-rep-init c = record {
+  going = reps_start c.args.profile.now.tables c.args.segment.now.at (field c.args.shape.now) c.args.last c.requires.last;
+  within = omega arith;
+}
+
+pub rep_breach-requires-clause-before : goal.rep_breach-requires-clause-before
+rep_breach-requires-clause-before c =
+    counted_gap (RepAt c.args.segment.now.at c.args.shape.now.number) c.loop-rep.rep c.next_rep-rep.result c.loop-rep.before c.next_rep-rep.ensures.after c.next_rep-rep.ensures.first c.loop-rep.invariant.going.counted
+
+pub returns-in-Some : goal.returns-in-Some
+returns-in-Some c =
+    reps_found c.args.profile.now.tables c.args.segment.now.at (field c.args.shape.now) c.loop-rep.rep c.next_rep-rep.result c.loop-rep.before c.loop-rep.invariant.going c.next_rep-rep.ensures.after c.next_rep-rep.ensures.there c.next_rep-rep.ensures.first (rep_key c.in-Some.found) c.in-Some.ensures
+
+pub loop-rep-preserved : goal.loop-rep-preserved
+loop-rep-preserved c = record {
+  going = reps_more c.args.profile.now.tables c.args.segment.now.at (field c.args.shape.now) c.loop-rep.rep c.next_rep-rep.result c.loop-rep.before c.loop-rep.invariant.going c.next_rep-rep.ensures.after c.next_rep-rep.ensures.there c.next_rep-rep.ensures.first
+      (next_counted (RepAt c.args.segment.now.at c.args.shape.now.number) c.loop-rep.rep c.next_rep-rep.result c.loop-rep.before c.next_rep-rep.ensures.after c.next_rep-rep.ensures.there c.next_rep-rep.ensures.first c.loop-rep.invariant.going.counted)
+      c.in_default.ensures;
+  within = (c.requires.last.within c.next_rep-rep.result c.next_rep-rep.ensures.there).1;
+}
+
+pub returns : goal.returns
+returns c =
+    reps_none c.args.profile.now.tables c.args.segment.now.at (field c.args.shape.now) c.loop-rep.rep c.loop-rep.before c.args.last c.loop-rep.invariant.going c.requires.last c.loop-rep-test.false

@@ -1,0 +1,19 @@
+use Rattle.gw_profile.specs.Seen.{sub}
+use Rattle.std.proofs.Common.{ap}
+use Rattle.gw_validate.specs.declared.fields.Spot.{Spot}
+use Rattle.gw_er7.specs.Message.{text_of}
+use Rattle.gw_validate.specs.Breaches.{SubBreach}
+use Rattle.gw_validate.proofs.Breaches.{sub_found, sub_more, any_none}
+use Rattle.gw_validate.proofs.fields.subs_breach.Goals as goal
+
+pub returns-in-Some : goal.returns-in-Some
+returns-in-Some c =
+    sub_found sub c.args.profile.now.tables c.args.segment.now.at c.args.field c.args.rep c.args.comp c.args.subs.now c.loop-i.i c.index-subs-i.result c.text-text.result.now c.loop-i-test.true c.index-subs-i.is c.text-text.ensures c.in-Some.kind _ (ap (λ (s : Spot). s.kind) c.of_kind.ensures) c.loop-i.invariant c.requires c.in-Some.ensures
+
+pub loop-i-preserved : goal.loop-i-preserved
+loop-i-preserved c =
+    sub_more sub c.args.profile.now.tables c.args.segment.now.at c.args.field c.args.rep c.args.comp c.args.subs.now c.loop-i.i c.index-subs-i.result c.text-text.result.now c.loop-i-test.true c.index-subs-i.is c.text-text.ensures c.loop-i.invariant c.in_default.ensures
+
+pub returns : goal.returns
+returns c =
+    any_none sub (λ s. s.number) (λ s. SubBreach c.args.profile.now.tables s (text_of c.args.segment.now.at c.args.field c.args.rep c.args.comp s.number)) c.args.subs.now c.loop-i.i c.loop-i-test.false c.loop-i.invariant

@@ -1,0 +1,9 @@
+use Rattle.gw_profile.specs.Seen.{sub}
+use Rattle.std.proofs.Common.{take, map}
+use Rattle.gw_er7.specs.Message.{text_of}
+use Rattle.gw_validate.specs.Least.{NoneYet}
+use Rattle.gw_validate.specs.Breaches.{SubBreach}
+use Rattle.gw_validate.proofs.fields.subs_breach.Given as goal
+
+abbrev pub invariant-loop-i : goal.invariant-loop-i
+invariant-loop-i l = NoneYet (λ s. SubBreach l.profile.tables s (text_of l.segment.at l.field l.rep l.comp s.number)) (map sub (take l.i l.subs))

@@ -1,0 +1,17 @@
+use Rattle.std.proofs.Common.{◌∙◌, ap, arith, ◌<◌, length, ℕ}
+use Rattle.std.specs.declared.vec.Vec.{Vec}
+use Rattle.std.specs.Global.{Global}
+use Rattle.gw_profile.specs.Seen.{forest}
+use Rattle.gw_validate.proofs.Gathered.{number_found, number_passed}
+use Rattle.gw_validate.proofs.listing.listed.Goals as goal
+use Rattle.gw_validate.proofs.listing.listed.Goals.{then-contains+in_ok-push, else-contains}
+
+pub loop-number-preserved : goal.loop-number-preserved
+loop-number-preserved c =
+    let lt : c.loop-number.number < length c.args.message.now = omega (arith, c.segment_count-number-end.ensures.count) in
+    elim c.if-contains.branch [
+      | then-contains+in_ok-push w ↦ ap (λ (v : Vec ℕ Global). v.items) w.found-is ∙
+          number_found (forest c.args.nodes.now) c.args.message.now c.loop-number.number lt c.in_ok-names.names c.in_ok-names.ensures c.loop-number.found.items c.loop-number.invariant c.name_at.result c.name_at.ensures c.contains.result c.contains.ensures w.if-contains.true w.push.new.self.items w.in_ok-push.ensures.items
+      | else-contains w ↦ ap (λ (v : Vec ℕ Global). v.items) w.found-is ∙
+          number_passed (forest c.args.nodes.now) c.args.message.now c.loop-number.number lt c.in_ok-names.names c.in_ok-names.ensures c.loop-number.found.items c.loop-number.invariant c.name_at.result c.name_at.ensures c.contains.result c.contains.ensures w.if-contains.false
+    ]

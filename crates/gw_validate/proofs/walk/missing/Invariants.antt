@@ -1,0 +1,12 @@
+use Rattle.std.proofs.Common.{◌≡◌, vec_len}
+use Rattle.gw_validate.specs.Shortest.{head, shortest}
+use Rattle.gw_validate.specs.State.{stack_on}
+use Rattle.gw_profile.specs.Shapes.{nothing}
+use Rattle.gw_validate.proofs.walk.missing.Given as goal
+
+abbrev pub invariant-loop-frame : goal.invariant-loop-frame
+invariant-loop-frame l =
+    head (shortest (stack_on l.initial.stack.items nothing)) ≡ head (shortest (stack_on l.stack.items nothing))
+
+abbrev pub decreases-loop-frame : goal.decreases-loop-frame
+decreases-loop-frame l = vec_len l.stack

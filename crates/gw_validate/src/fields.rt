@@ -1,0 +1,330 @@
+//! The least breach of a segment's shape.
+ghost use Rattle.std.specs.Prelude.{◌≡◌, ℕ, ◌<◌, ◌∷◌, [], option_map, IfOk, IfErr, false, true, length, ◌-◌, ◌+◌, ◌≤◌, Some, None, if◌then◌else◌, map};
+ghost use Rattle.std.specs.List.{AllByRecursion};
+ghost use Rattle.gw_er7.specs.Presence.{RepAt, CompAt, IsLast};
+ghost use Rattle.gw_profile.specs.Seen.{sub, comp as comp_value, field as field_value, items_of};
+ghost use Rattle.gw_validate.specs.declared.breach.Kind.TheVariants.{MissingValue};
+ghost use Rattle.gw_validate.specs.Kinds.{number_of};
+ghost use Rattle.gw_validate.specs.Breaches.{is_required, is_forbidden, is_long, is_unlisted, is_null, SubBreach, CompBreach, RepBreach, RepsBreach, FieldBreach, SegmentBreach, Counted};
+ghost use Rattle.gw_validate.specs.Least.{Least, CompRises, FieldRises, ShapeRises, Rises, comp_key, rep_key, field_key, segment_key, is_full, SubsBreach, CompsBreach};
+
+use crate::breach::Kind;
+use gw_er7::{Place, Segment};
+use gw_profile::{CompShape, FieldShape, Profile, SubShape, Usage};
+
+/// Where a breach stands, with 0 for a number that is not said, and its kind.
+#[derive(Clone, Copy, Debug, Drop)]
+pub(crate) struct Spot {
+    pub(crate) field: usize,
+    pub(crate) rep: usize,
+    pub(crate) comp: usize,
+    pub(crate) sub: usize,
+    pub(crate) kind: Kind,
+}
+
+// A spot of which only the kind is said.
+pub(crate) fn of_kind(kind: Kind) -> Spot
+    ensures { result ≡ record { field = 0; rep = 0; comp = 0; sub = 0; kind = kind } }
+{
+    Spot {
+        field: 0,
+        rep: 0,
+        comp: 0,
+        sub: 0,
+        kind,
+    }
+}
+
+fn is_required(usage: Usage) -> bool
+    ensures { result ≡ is_required usage }
+{
+    match usage {
+        Usage::R => true,
+        _ => false,
+    }
+}
+
+fn is_forbidden(usage: Usage) -> bool
+    ensures { result ≡ is_forbidden usage }
+{
+    match usage {
+        Usage::X => true,
+        _ => false,
+    }
+}
+
+fn is_null(text: &[u8]) -> bool
+    ensures { result ≡ is_null text.now }
+{
+    text == b"\"\"".as_slice()
+}
+
+fn is_long(len: Option<u32>, text: &[u8]) -> bool
+    ensures { result ≡ is_long len text.now }
+{
+    match len {
+        None => false,
+        Some(most) => u64::from(most) < text.len() as u64,
+    }
+}
+
+fn is_unlisted(profile: &Profile, table: &Option<Vec<u8>>, text: &[u8]) -> bool
+    ensures { result ≡ is_unlisted profile.now.tables (items_of table.now) text.now }
+{
+    let Some(name) = table else {
+        return false;
+    };
+    match profile.table(name) {
+        None => false,
+        Some(table) => !table.contains(text),
+    }
+}
+
+// The least kind of breach at a leaf.
+fn sub_breach(profile: &Profile, shape: &SubShape, text: &[u8]) -> Option<Kind>
+    ensures { Least (SubBreach profile.now.tables (sub shape.now) text.now) (option_map (λ kind. number_of kind ∷ []) result) }
+{
+    if text.len() == 0 {
+        return absent_sub(shape);
+    }
+    if is_forbidden(shape.usage) {
+        return Some(Kind::Forbidden);
+    }
+    if is_null(text) {
+        return None;
+    }
+    if is_long(shape.len, text) {
+        return Some(Kind::TooLong);
+    }
+    if is_unlisted(profile, &shape.table, text) {
+        return Some(Kind::NotInTable);
+    }
+    None
+}
+
+// The breach at a leaf that is absent.
+fn absent_sub(shape: &SubShape) -> Option<Kind>
+    ensures { result ≡ (if is_required shape.now.usage then Some MissingValue else None) }
+{
+    if is_required(shape.usage) {
+        Some(Kind::MissingValue)
+    } else {
+        None
+    }
+}
+
+// The least breach at the leaves of a component that is present.
+fn subs_breach(
+    profile: &Profile,
+    segment: &Segment<'_>,
+    field: usize,
+    rep: usize,
+    comp: usize,
+    subs: &[SubShape],
+) -> Option<Spot>
+    requires { Rises (λ s. s.number) 0 (map sub subs.now) }
+    ensures { Least (SubsBreach profile.now.tables segment.now.at field rep comp (map sub subs.now)) (option_map comp_key result) }
+{
+    for (i, sub) in subs.iter().enumerate() {
+        let text = segment.text(Place {
+            field,
+            rep,
+            comp,
+            sub: sub.number as usize,
+        });
+        if let Some(kind) = sub_breach(profile, sub, text) {
+            return Some(Spot {
+                sub: sub.number as usize,
+                ..of_kind(kind)
+            });
+        }
+    }
+    None
+}
+
+// The breach at a component that is absent.
+fn absent_comp(shape: &CompShape) -> Option<Spot>
+    ensures { option_map comp_key result ≡ (if is_required shape.now.usage then Some (0 ∷ 3 ∷ []) else None) }
+{
+    if is_required(shape.usage) {
+        Some(of_kind(Kind::MissingValue))
+    } else {
+        None
+    }
+}
+
+// The least breach of a component.
+fn comp_breach(
+    profile: &Profile,
+    segment: &Segment<'_>,
+    field: usize,
+    rep: usize,
+    shape: &CompShape,
+) -> Option<Spot>
+    requires { CompRises (comp_value shape.now) }
+    ensures { Least (CompBreach profile.now.tables segment.now.at field rep (comp_value shape.now)) (option_map comp_key result) }
+{
+    let last = segment.subs(field, rep, shape.number as usize);
+    if last == 0 {
+        return absent_comp(shape);
+    }
+    if is_forbidden(shape.usage) {
+        return Some(of_kind(Kind::Forbidden));
+    }
+    subs_breach(
+        profile,
+        segment,
+        field,
+        rep,
+        shape.number as usize,
+        &shape.subs,
+    )
+}
+
+// The least breach at the components of a repetition.
+fn comps_breach(
+    profile: &Profile,
+    segment: &Segment<'_>,
+    field: usize,
+    rep: usize,
+    comps: &[CompShape],
+) -> Option<Spot>
+    requires rises { Rises (λ c. c.number) 0 (map comp_value comps.now) }
+    requires each { AllByRecursion CompRises (map comp_value comps.now) }
+    ensures { Least (CompsBreach profile.now.tables segment.now.at field rep (map comp_value comps.now)) (option_map rep_key result) }
+{
+    for (i, comp) in comps.iter().enumerate() {
+        if let Some(found) = comp_breach(profile, segment, field, rep, comp) {
+            return Some(Spot {
+                comp: comp.number as usize,
+                ..found
+            });
+        }
+    }
+    None
+}
+
+// Whether this many are all that may come.
+fn is_full(max: Option<u32>, count: usize) -> bool
+    ensures { result ≡ is_full max count }
+{
+    match max {
+        None => false,
+        Some(most) => u64::from(most) == count as u64,
+    }
+}
+
+// The least breach in a repetition that is present, with this many before it.
+fn rep_breach(
+    profile: &Profile,
+    segment: &Segment<'_>,
+    shape: &FieldShape,
+    rep: usize,
+    before: usize,
+) -> Option<Spot>
+    requires rises { FieldRises (field_value shape.now) }
+    requires before { Counted (RepAt segment.now.at shape.now.number) (rep - 1) before }
+    requires usage { is_forbidden shape.now.usage ≡ false }
+    ensures { Least (RepBreach profile.now.tables segment.now.at (field_value shape.now) rep) (option_map rep_key result) }
+{
+    if is_full(shape.card.max, before) {
+        return Some(of_kind(Kind::TooManyReps));
+    }
+    comps_breach(profile, segment, shape.number as usize, rep, &shape.comps)
+}
+
+// The first repetition of a field that is present after this one, up to the last.
+fn next_rep(segment: &Segment<'_>, field: usize, after: usize, last: usize) -> usize
+    requires last { IsLast (RepAt segment.now.at field) last }
+    requires after { after < last }
+    ensures there { RepAt segment.now.at field result }
+    ensures after { after < result }
+    ensures first { (rep : ℕ) → after < rep → RepAt segment.now.at field rep → result ≤ rep }
+{
+    let start = segment.values_before(Place {
+        field,
+        rep: after + 1,
+        comp: 0,
+        sub: 0,
+    });
+    let holds = start < segment.value_count();
+    prove!(holds);
+    segment.value(start).place.rep
+}
+
+// The least breach in the repetitions of a field.
+fn reps_breach(
+    profile: &Profile,
+    segment: &Segment<'_>,
+    shape: &FieldShape,
+    last: usize,
+) -> Option<Spot>
+    requires rises { FieldRises (field_value shape.now) }
+    requires last { IsLast (RepAt segment.now.at shape.now.number) last }
+    requires usage { is_forbidden shape.now.usage ≡ false }
+    ensures { Least (RepsBreach profile.now.tables segment.now.at (field_value shape.now)) (option_map field_key result) }
+{
+    let mut before = 0;
+    let mut rep = 0;
+    while rep < last {
+        rep = next_rep(segment, shape.number as usize, rep, last);
+        if let Some(found) = rep_breach(profile, segment, shape, rep, before) {
+            return Some(Spot { rep, ..found });
+        }
+        before += 1;
+    }
+    None
+}
+
+// How many repetitions of a field are present.
+fn count_reps(segment: &Segment<'_>, field: usize, last: usize) -> usize
+    requires { IsLast (RepAt segment.now.at field) last }
+    ensures { Counted (RepAt segment.now.at field) last result }
+{
+    let mut count = 0;
+    let mut rep = 0;
+    while rep < last {
+        rep = next_rep(segment, field, rep, last);
+        count += 1;
+    }
+    count
+}
+
+// The least breach of a field.
+fn field_breach(profile: &Profile, segment: &Segment<'_>, shape: &FieldShape) -> Option<Spot>
+    requires { FieldRises (field_value shape.now) }
+    ensures { Least (FieldBreach profile.now.tables segment.now.at (field_value shape.now)) (option_map field_key result) }
+{
+    let last = segment.reps(shape.number as usize);
+    if is_forbidden(shape.usage) {
+        if last == 0 {
+            return None;
+        }
+        return Some(of_kind(Kind::Forbidden));
+    }
+    let count = count_reps(segment, shape.number as usize, last);
+    if (count as u64) < u64::from(shape.card.min) {
+        return Some(of_kind(Kind::MissingValue));
+    }
+    reps_breach(profile, segment, shape, last)
+}
+
+/// The least breach of a segment's shape.
+pub(crate) fn least_breach(
+    profile: &Profile,
+    segment: &Segment<'_>,
+    fields: &[FieldShape],
+) -> Option<Spot>
+    requires { ShapeRises (map field_value fields.now) }
+    ensures { Least (SegmentBreach profile.now.tables (map field_value fields.now) segment.now.at) (option_map segment_key result) }
+{
+    for (i, field) in fields.iter().enumerate() {
+        if let Some(found) = field_breach(profile, segment, field) {
+            return Some(Spot {
+                field: field.number as usize,
+                ..found
+            });
+        }
+    }
+    None
+}

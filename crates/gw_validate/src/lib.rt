@@ -1,0 +1,22 @@
+//! Whether a message conforms to a profile: its tree where it does, and else what it breaks first (HL7 v2.5.1 chapter 2, 2.12).
+#![tactic(auto)]
+
+mod breach;
+mod build;
+mod fields;
+pub mod laws;
+mod listing;
+mod occ;
+mod occurrences;
+mod search;
+mod tree;
+mod verdict;
+mod walk;
+
+pub use breach::{Breach, Kind};
+pub use occ::Occ;
+pub use tree::Tree;
+pub use verdict::{Verdict, validate};
+
+#[cfg(test)]
+mod tests;

@@ -1,0 +1,137 @@
+//! Whether a message conforms to a profile, and if not, what it breaks first.
+ghost use Rattle.std.specs.Prelude.{◌≡◌, ◌<◌, ◌+◌, ◌^◌, ◌↔◌, take, IfOk, IfErr, IsTrue};
+ghost use Rattle.std.specs.Arc.{arc_value};
+ghost use Rattle.std.specs.List.{count_by};
+ghost use Rattle.std.specs.Str.{bytes_eq};
+ghost use Rattle.gw_profile.specs.Seen.{profile_value, forest};
+ghost use Rattle.gw_validate.specs.Conforming.{NamesFit, numbers, Conforms};
+ghost use Rattle.gw_validate.specs.Least.{segment_key};
+ghost use Rattle.gw_validate.specs.Broken.{sequence, spot_of};
+ghost use Rattle.gw_validate.specs.Verdict.{is_fit, IfFits, IfBreaks, HasTree, HasBreach, IsJudged};
+
+use crate::breach::{Breach, Kind};
+use crate::build::build;
+use crate::fields::{Spot, of_kind};
+use crate::listing::{listed, name_at, names_of};
+use crate::occurrences::Occurrences;
+use crate::search::search_nodes;
+use crate::tree::Tree;
+use crate::walk::{Answer, walk};
+use gw_er7::Message;
+use gw_profile::Profile;
+use std::alloc::{AllocError, Global};
+use std::sync::Arc;
+
+/// What a message is by a profile.
+#[derive(Drop)]
+pub enum Verdict {
+    /// It conforms, and this is its tree.
+    Fits(Tree),
+    /// It does not, and this is its first breach; the message is handed back.
+    Breaks(Breach, Message),
+}
+
+/// The same, before the profile and the message are moved.
+#[derive(Drop)]
+enum Judged {
+    Fits(Vec<Occurrences>),
+    Breaks(Breach),
+}
+
+// How many of the segments before the one of this number have the name.
+fn count_named(message: &Message, number: usize, name: [u8; 3]) -> usize
+    ensures count { result ≡ count_by (λ s. bytes_eq s.name name) (take number message.now) }
+    ensures room { result + 1 < 2 ^ 64 }
+{
+    let mut count = 0;
+    for i in 0..message.segment_count() {
+        if i == number {
+            return count;
+        }
+        if name_at(message, i) == name {
+            count += 1;
+        }
+    }
+    count
+}
+
+// The breach at this spot of the segment of this number, or of one that is missing there.
+fn breach_at(message: &Message, number: usize, name: [u8; 3], spot: Spot) -> Breach
+    ensures segment { result.segment ≡ name }
+    ensures sequence { result.sequence ≡ sequence message.now number name }
+    ensures spot { spot_of result ≡ segment_key spot }
+{
+    let before = count_named(message, number, name);
+    Breach {
+        kind: spot.kind,
+        segment: name,
+        sequence: before + 1,
+        field: spot.field,
+        rep: spot.rep,
+        comp: spot.comp,
+        sub: spot.sub,
+    }
+}
+
+// What a message is whose names fit.
+fn judge_segments(
+    alloc: Global,
+    profile: &Profile,
+    message: &Message,
+    taken: &[usize],
+) -> Result<Judged, AllocError>
+    requires taken { taken.now ≡ numbers (forest profile.now.nodes) message.now }
+    requires fits { NamesFit (forest profile.now.nodes) message.now }
+    ensures { IfOk result (IsJudged (profile_value profile.now) message.now) }
+{
+    let each = build(alloc, profile.nodes(), message, taken)?;
+    match search_nodes(profile, message, &each, profile.nodes()) {
+        None => Ok(Judged::Fits(each)),
+        Some((number, spot)) => Ok(Judged::Breaks(breach_at(
+            message,
+            number,
+            name_at(message, number),
+            spot,
+        ))),
+    }
+}
+
+// What a message is by a profile.
+fn judge(alloc: Global, profile: &Profile, message: &Message) -> Result<Judged, AllocError>
+    ensures { IfOk result (IsJudged (profile_value profile.now) message.now) }
+{
+    let taken = listed(alloc, profile.nodes(), message)?;
+    let names = names_of(alloc, message, &taken)?;
+    match walk(alloc, profile.nodes(), &names)? {
+        Answer::Fits => judge_segments(alloc, profile, message, &taken),
+        Answer::OutOfOrder(i) => {
+            let number = taken[i];
+            Ok(Judged::Breaks(breach_at(
+                message,
+                number,
+                name_at(message, number),
+                of_kind(Kind::OutOfOrder),
+            )))
+        }
+        Answer::Missing(name) => Ok(Judged::Breaks(breach_at(
+            message,
+            message.segment_count(),
+            name,
+            of_kind(Kind::MissingSegment),
+        ))),
+    }
+}
+
+/// What a message is by a profile: it conforms, with its one tree, or it breaks, with its first breach. Err is want of memory.
+pub fn validate(alloc: Global, profile: Arc<Profile>, message: Message) -> Result<Verdict, Message>
+    ensures exact { IfOk result (λ verdict. IsTrue (is_fit verdict) ↔ Conforms (profile_value (arc_value profile)) message) }
+    ensures tree { IfOk result (λ verdict. IfFits verdict (HasTree (profile_value (arc_value profile)) message)) }
+    ensures breach { IfOk result (λ verdict. IfBreaks verdict (HasBreach (profile_value (arc_value profile)) message)) }
+    ensures refused { IfErr result (λ back. back ≡ message) }
+{
+    match judge(alloc, &profile, &message) {
+        Err(_) => Err(message),
+        Ok(Judged::Breaks(breach)) => Ok(Verdict::Breaks(breach, message)),
+        Ok(Judged::Fits(each)) => Ok(Verdict::Fits(Tree::of(profile, message, each))),
+    }
+}

@@ -1,0 +1,248 @@
+//! A walk over a profile by one name of look-ahead.
+ghost use Rattle.std.specs.Prelude.{◌≡◌, IfOk, ◌-◌};
+ghost use Rattle.std.specs.Str.{bytes_eq};
+ghost use Rattle.gw_validate.specs.Residual.{has_room, less, after_name};
+ghost use Rattle.gw_profile.specs.Seen.{forest};
+ghost use Rattle.gw_validate.specs.State.{Tries, TriesNode, left_out, frame_forest, stack_on, Advances};
+ghost use Rattle.gw_profile.specs.Shapes.{nothing};
+ghost use Rattle.gw_validate.specs.Shortest.{head, several, shortest, shortest_node};
+ghost use Rattle.gw_validate.specs.Answers.{Answers};
+ghost use Rattle.gw_profile.specs.Deterministic.{Determined, NoName};
+
+use gw_profile::{Card, Node};
+use std::alloc::{AllocError, Global};
+
+/// A node with how often it may still come, and the nodes behind it.
+#[derive(Clone, Copy)]
+struct Frame<'a> {
+    node: &'a Node,
+    due: Card,
+    rest: &'a [Node],
+}
+
+/// What a list of names is.
+#[derive(Clone, Copy, PartialEq, Eq, Debug, Drop)]
+pub(crate) enum Answer {
+    /// It fits.
+    Fits,
+    /// The names up to this one begin no list that fits, and those before it begin one.
+    OutOfOrder(usize),
+    /// The names begin a list that fits, and the shortest completion begins with this name.
+    Missing([u8; 3]),
+}
+
+/// What came of a name.
+#[derive(Drop)]
+enum Step {
+    /// It was read.
+    Taken,
+    /// It cannot come here, but what stands here may be left out.
+    Passed,
+    /// It cannot come here, and something else must.
+    Stuck,
+}
+
+pub(crate) fn same_name(a: [u8; 3], b: [u8; 3]) -> bool
+    ensures { result ≡ bytes_eq a b }
+{
+    a == b
+}
+
+// Whether one more occurrence is allowed.
+pub(crate) fn has_room(due: Card) -> bool
+    ensures { result ≡ has_room due.max }
+{
+    match due.max {
+        None => true,
+        Some(max) => max > 0,
+    }
+}
+
+// What is left after one more occurrence.
+pub(crate) fn less_one(due: Card) -> Card
+    ensures min { result.min ≡ due.min - 1 }
+    ensures max { result.max ≡ less due.max }
+{
+    let max = match due.max {
+        None => None,
+        Some(max) => Some(max.saturating_sub(1)),
+    };
+    Card {
+        min: due.min.saturating_sub(1),
+        max,
+    }
+}
+
+// What comes of a name that the node does not take.
+fn left_out(due: Card) -> Step
+    ensures { result ≡ left_out due.min }
+{
+    if due.min == 0 {
+        Step::Passed
+    } else {
+        Step::Stuck
+    }
+}
+
+#[cycle(take)]
+fn take_node<'a>(
+    stack: &mut Vec<Frame<'a>>,
+    frame: Frame<'a>,
+    name: [u8; 3],
+) -> Result<Step, AllocError>
+    ensures { IfOk result (λ s. TriesNode frame.entry name stack.old.items stack.new.items s) }
+{
+    if !has_room(frame.due) {
+        return Ok(left_out(frame.due));
+    }
+    let left = Frame {
+        due: less_one(frame.due),
+        ..frame
+    };
+    match frame.node {
+        Node::Seg(segment) => {
+            if same_name(segment.name, name) {
+                stack.push(left)?;
+                return Ok(Step::Taken);
+            }
+            Ok(left_out(frame.due))
+        }
+        Node::Group(group) => {
+            let depth = stack.len();
+            stack.push(left)?;
+            match take_nodes(stack, &group.nodes, name)? {
+                Step::Taken => Ok(Step::Taken),
+                _ => {
+                    stack.truncate(depth);
+                    Ok(left_out(frame.due))
+                }
+            }
+        }
+    }
+}
+
+#[cycle(take)]
+fn take_nodes<'a>(
+    stack: &mut Vec<Frame<'a>>,
+    nodes: &'a [Node],
+    name: [u8; 3],
+) -> Result<Step, AllocError>
+    ensures { IfOk result (λ s. Tries (forest nodes.now) name stack.old.items stack.new.items s) }
+{
+    for (i, node) in nodes.iter().enumerate() {
+        let frame = Frame {
+            node,
+            due: node.card(),
+            rest: &nodes[i + 1..],
+        };
+        match take_node(stack, frame, name)? {
+            Step::Passed => {}
+            taken => return Ok(taken),
+        }
+    }
+    Ok(Step::Passed)
+}
+
+// A name, tried on a frame.
+fn take_frame<'a>(
+    stack: &mut Vec<Frame<'a>>,
+    frame: Frame<'a>,
+    name: [u8; 3],
+) -> Result<Step, AllocError>
+    ensures { IfOk result (λ s. Tries (frame_forest frame.entry) name stack.old.items stack.new.items s) }
+{
+    match take_node(stack, frame, name)? {
+        Step::Passed => take_nodes(stack, frame.rest, name),
+        Step::Taken => Ok(Step::Taken),
+        Step::Stuck => Ok(Step::Stuck),
+    }
+}
+
+// Goes on by one name, if the names so far and this one begin a list that fits.
+fn advance<'a>(stack: &mut Vec<Frame<'a>>, name: [u8; 3]) -> Result<bool, AllocError>
+    ensures { IfOk result (λ yes. Advances (stack_on stack.old.items nothing) name (stack_on stack.new.items nothing) yes) }
+{
+    while let Some(frame) = stack.pop() {
+        match take_frame(stack, frame, name)? {
+            Step::Taken => return Ok(true),
+            Step::Stuck => return Ok(false),
+            Step::Passed => {}
+        }
+    }
+    Ok(false)
+}
+
+// The first name of the fewest occurrences that are still due.
+#[cycle(missing)]
+fn missing_node(node: &Node, due: Card) -> Option<[u8; 3]>
+    ensures { result ≡ head (several due.min (shortest_node node.now)) }
+{
+    if due.min == 0 {
+        return None;
+    }
+    match node {
+        Node::Seg(segment) => Some(segment.name),
+        Node::Group(group) => missing_nodes(&group.nodes),
+    }
+}
+
+#[cycle(missing)]
+fn missing_nodes(nodes: &[Node]) -> Option<[u8; 3]>
+    ensures { result ≡ head (shortest (forest nodes.now)) }
+{
+    for (i, node) in nodes.iter().enumerate() {
+        let name = missing_node(node, node.card());
+        if name.is_some() {
+            return name;
+        }
+    }
+    None
+}
+
+// The first name of the shortest completion.
+fn missing(mut stack: Vec<Frame>) -> Option<[u8; 3]>
+    ensures { result ≡ head (shortest (stack_on stack.entry.items nothing)) }
+{
+    while let Some(frame) = stack.pop() {
+        if let Some(name) = missing_node(frame.node, frame.due) {
+            return Some(name);
+        }
+        if let Some(name) = missing_nodes(frame.rest) {
+            return Some(name);
+        }
+    }
+    None
+}
+
+// Where nothing was read yet.
+fn start(alloc: Global, nodes: &[Node]) -> Result<Vec<Frame<'_>>, AllocError>
+    ensures { IfOk result (λ stack. stack_on stack.items nothing ≡ forest nodes.now) }
+{
+    let mut stack = Vec::new(alloc);
+    let Some((node, rest)) = nodes.split_first() else {
+        return Ok(stack);
+    };
+    stack.push(Frame {
+        node,
+        due: node.card(),
+        rest,
+    })?;
+    Ok(stack)
+}
+
+/// What the list of names is.
+pub(crate) fn walk(alloc: Global, nodes: &[Node], names: &[[u8; 3]]) -> Result<Answer, AllocError>
+    requires { Determined (forest nodes.now) NoName }
+    ensures { IfOk result (λ answer. Answers (forest nodes.now) names.now answer) }
+{
+    let mut stack = start(alloc, nodes)?;
+    for (i, name) in names.iter().enumerate() {
+        if !advance(&mut stack, *name)? {
+            return Ok(Answer::OutOfOrder(i));
+        }
+    }
+    match missing(stack) {
+        None => Ok(Answer::Fits),
+        Some(name) => Ok(Answer::Missing(name)),
+    }
+}
