@@ -1,0 +1,5 @@
+pub mod Sent
+pub mod Faults
+pub mod Answers
+pub mod Counted
+pub mod Streams

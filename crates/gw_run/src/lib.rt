@@ -1,0 +1,26 @@
+//! Runs over bytes: streams of framed messages, answered through any reader and writer that can fail.
+//!
+//! [`answer_stream`] answers each block of a stream by one profile (MLLP Release 1; HL7 v2.5.1 chapter 2, 2.9.2: original mode).
+#![tactic(auto)]
+
+mod answer;
+mod counts;
+mod fault;
+pub mod laws;
+mod reads;
+mod send;
+mod sink;
+mod source;
+mod stream;
+mod writes;
+
+pub use counts::Counts;
+pub use fault::RunFault;
+pub use reads::Reads;
+pub use sink::Sink;
+pub use source::{Failed, Source};
+pub use stream::answer_stream;
+pub use writes::Writes;
+
+#[cfg(test)]
+mod tests;

@@ -1,0 +1,48 @@
+//! A reader of std as a source.
+use crate::source::{Failed, Source};
+use std::io::Read;
+
+/// A reader of std as a source.
+#[derive(Drop)]
+pub struct Reads<R: Read> {
+    reader: R,
+    failed: bool,
+}
+
+impl<R: Read> Reads<R> {
+    ghost use Rattle.std.specs.Prelude.{◌≡◌, false};
+
+    /// A source that hasn't failed. It takes no memory.
+    pub fn new(reader: R) -> Self
+        ensures left { ⟦<Reads<R> as Source>⟧.remaining result ≡ R.remaining reader }
+        ensures works { ⟦<Reads<R> as Source>⟧.has_failed result ≡ false }
+    {
+        Reads {
+            reader,
+            failed: false,
+        }
+    }
+}
+
+impl<R: Read> Source for Reads<R> {
+    ghost remaining = { λ s. R.remaining s.reader };
+
+    ghost has_failed = { λ s. s.failed };
+
+    fn failed(&self) -> bool {
+        self.failed
+    }
+
+    fn read(&mut self, buf: &mut [u8]) -> Result<usize, Failed> {
+        match self.reader.read(buf) {
+            Ok(count) => {
+                self.failed = false;
+                Ok(count)
+            }
+            Err(_) => {
+                self.failed = true;
+                Err(Failed)
+            }
+        }
+    }
+}

@@ -1,0 +1,47 @@
+//! The words of a command line.
+use clap::{Arg, ArgAction, ArgMatches, Command, Error};
+use std::alloc::{AllocError, Global};
+use std::env::{Env, args};
+use std::io;
+
+/// The words that the process was started with.
+pub(crate) fn process_words<R: Env + AllocGlobal>(rt: &R) -> io::Result<Vec<String>> {
+    let words: Vec<String> = args(rt)?.collect(rt.alloc())?;
+    Ok(words)
+}
+
+/// `validate PROFILE [--stamp DIGITS]`.
+fn validate<'a>(alloc: Global) -> Result<Command<'a>, AllocError> {
+    let profile = Arg::new(alloc, "PROFILE")
+        .help("The file of the message profile")
+        .required(true)
+        .action(ArgAction::Set);
+    let stamp = Arg::new(alloc, "stamp")
+        .long("stamp")
+        .value_name("DIGITS")
+        .help("The time stamp of the answers, YYYYMMDDHHMMSS [default: now, in UTC]")
+        .action(ArgAction::Set);
+    Command::new(alloc, "validate")
+        .about("Answers each message of a stream on standard input (MLLP) by a profile")
+        .arg(profile)?
+        .arg(stamp)
+}
+
+/// All commands.
+fn grammar<'a>(alloc: Global) -> Result<Command<'a>, AllocError> {
+    Command::new(alloc, "hl7gate")
+        .bin_name("hl7gate")?
+        .version("0.1.0")
+        .about("A message gateway for HL7 v2.5.1")
+        .after_help(
+            "Statuses: 0 done, 1 refused, 2 usage, 3 read, write or frame fault, 4 out of memory",
+        )
+        .subcommand_required(true)
+        .subcommand(validate(alloc)?)
+}
+
+/// The command that the words ask for.
+pub(crate) fn parse<'a>(alloc: Global, words: &'a [String]) -> Result<ArgMatches<'a>, Error> {
+    let grammar: Command<'a> = grammar(alloc)?;
+    grammar.try_get_matches_from(words)
+}

@@ -1,0 +1,21 @@
+//! The texts that a command reads from files.
+use gw_run::RunFault;
+use std::fs::File;
+use std::io::{ErrorKind, Read};
+use std::rt::Files;
+
+/// One byte more than the longest text that can be lawful: a plan's.
+const MOST: u64 = 4_194_305;
+
+/// The bytes of a file, or the first of them where there are more than any text may have.
+pub(crate) fn read_text<R: Files + AllocGlobal>(rt: &R, path: &str) -> Result<Vec<u8>, RunFault> {
+    let Ok(file) = File::open(rt, path) else {
+        return Err(RunFault::Read);
+    };
+    let mut text = Vec::new(rt.alloc());
+    match file.take(MOST).read_to_end(&mut text) {
+        Ok(_) => Ok(text),
+        Err(error) if error.kind() == ErrorKind::OutOfMemory => Err(RunFault::Memory),
+        Err(_) => Err(RunFault::Read),
+    }
+}

@@ -1,0 +1,26 @@
+//! The message gateway's program: it reads a command line, and does what it says.
+//!
+//! `program::command` does it over any reader and two writers; here are the process's own.
+#![tactic(auto)]
+
+mod arguments;
+mod files;
+mod program;
+mod report;
+mod stamps;
+
+use arguments::process_words;
+use program::command;
+use report::tell_unread_words;
+use std::process::ExitCode;
+
+#[cfg(test)]
+mod tests;
+
+fn main(rt: HostRuntime) -> ExitCode {
+    let status = match process_words(&rt) {
+        Ok(words) => command(&rt, words.as_slice(), rt.stdin(), rt.stdout(), rt.stderr()),
+        Err(error) => tell_unread_words(&mut rt.stderr(), &error),
+    };
+    ExitCode::from(status)
+}

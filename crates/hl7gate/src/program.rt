@@ -1,0 +1,52 @@
+//! The commands, over any reader and two writers.
+use crate::arguments::parse;
+use crate::files::read_text;
+use crate::report::{Ended, USAGE, status_of, tell, tell_words};
+use crate::stamps::stamp_of;
+use clap::ArgMatches;
+use gw_run::{Counts, Reads, Writes, answer_stream};
+use std::io::{Read, Write};
+use std::rt::Files;
+use std::sync::Arc;
+use std::time::Clock;
+
+/// Answers each message of a stream by a profile.
+fn validate<R: Files + Clock + AllocGlobal, I: Read + Drop, O: Write + Drop>(
+    rt: &R,
+    words: &ArgMatches<'_>,
+    input: I,
+    output: O,
+) -> Result<Counts, Ended> {
+    let Some(stamp) = stamp_of(rt, words.get_str("stamp")) else {
+        return Err(Ended::Stamp);
+    };
+    let path = words.get_str("PROFILE").unwrap_or("");
+    let text = read_text(rt, path)?;
+    let profile = gw_profile::parse(rt.alloc(), &text)?;
+    let profile = Arc::new(rt.alloc(), profile)?;
+    let mut reader = Reads::new(input);
+    let mut writer = Writes::new(output);
+    let counts = answer_stream(rt.alloc(), profile, stamp, &mut reader, &mut writer)?;
+    Ok(counts)
+}
+
+/// Does what the words say, and answers the status: 0 done, 1 refused, 2 usage, 3 a fault of a device, a frame or a run, 4 want of memory.
+pub fn command<R: Files + Clock + AllocGlobal, I: Read + Drop, O: Write + Drop, E: Write + Drop>(
+    rt: &R,
+    words: &[String],
+    input: I,
+    mut output: O,
+    mut errors: E,
+) -> u8 {
+    let matches = match parse(rt.alloc(), words) {
+        Ok(matches) => matches,
+        Err(error) => return tell_words(&mut output, &mut errors, &error),
+    };
+    let Some(("validate", words)) = matches.subcommand() else {
+        return USAGE;
+    };
+    match validate(rt, words, input, output) {
+        Ok(counts) => status_of(counts),
+        Err(ended) => tell(&mut errors, ended),
+    }
+}

@@ -1,0 +1,22 @@
+//! The time stamp of a run's answers.
+use gw_ack::Stamp;
+use jiff::Timestamp;
+use jiff::tz::Offset;
+use std::time::Clock;
+
+/// Now in UTC, or fourteen zeros where the clock gives no year from 0 to 9999.
+fn now<R: Clock>(clock: &R) -> Option<Stamp> {
+    let zeros = Stamp::from_digits(b"00000000000000");
+    let Ok(at) = Timestamp::now(clock) else {
+        return zeros;
+    };
+    Stamp::from_civil(&Offset::UTC.to_datetime(at)).or(zeros)
+}
+
+/// The stamp that the words give, else now. None where the digits aren't fourteen.
+pub(crate) fn stamp_of<R: Clock>(clock: &R, digits: Option<&str>) -> Option<Stamp> {
+    match digits {
+        Some(digits) => Stamp::from_digits(digits.as_bytes()),
+        None => now(clock),
+    }
+}

@@ -1,0 +1,369 @@
+//! Commands, over bytes in memory, fed whole and one byte at a time.
+use crate::program::command;
+use std::alloc::{AllocError, Global};
+use std::io::{ErrorKind, Read, Write};
+use std::rt::Files;
+use std::test::Fail;
+use std::time::Clock;
+use std::{fs, io};
+
+const PROFILE: &[u8] =
+    b"profile P1\ntable SEX M F U\nsegment MSH R 1..1\n  field 10 R 1..1\nsegment PID R 1..1\n  field 3 R 1..2\n  field 5 RE 0..1\n  field 8 RE 0..1 len 1 table SEX\nsegment NK1 O 0..2\n";
+
+/// The header of each message.
+const H: &[u8] = b"MSH|^~\\&|LAB|H1|GW|H2|20240102030405||ADT^A01^ADT_A01|7|P|2.5.1\r";
+
+/// The answers to it, up to their codes.
+const G1: &[u8] = b"MSH|^~\\&|GW|H2|LAB|H1|20240102030406||ACK^A01^ACK|G1|P|2.5.1\rMSA|";
+
+const G2: &[u8] = b"MSH|^~\\&|GW|H2|LAB|H1|20240102030406||ACK^A01^ACK|G2|P|2.5.1\rMSA|";
+
+/// The answer to a content that can't be read.
+const UNREADABLE: &[u8] =
+    b"MSH|^~\\&|||||20240102030406||ACK^^ACK|G1|P|2.5.1\rMSA|AR\rERR|||207^Application internal error^HL70357|E\r";
+
+/// Gives so many bytes a read, and fails at the last of so many reads.
+#[derive(Drop)]
+struct Drip<'a> {
+    rest: &'a [u8],
+    most: usize,
+    reads: usize,
+}
+
+impl Read for Drip<'_> {
+    fn read(&mut self, buf: &mut [u8]) -> io::Result<usize> {
+        if self.reads == 0 {
+            return Err(io::Error::from(ErrorKind::Other));
+        }
+        self.reads -= 1;
+        let count = self.rest.len().min(buf.len()).min(self.most);
+        let (front, rest) = self.rest.split_at(count);
+        buf[..count].copy_from_slice(front);
+        self.rest = rest;
+        Ok(count)
+    }
+}
+
+/// Takes one byte a write, and fails after so many.
+#[derive(Drop)]
+struct Narrow<'a> {
+    held: &'a mut Vec<u8>,
+    writes: usize,
+}
+
+impl Write for Narrow<'_> {
+    fn write(&mut self, buf: &[u8]) -> io::Result<usize> {
+        if self.writes == 0 {
+            return Err(io::Error::from(ErrorKind::BrokenPipe));
+        }
+        self.writes -= 1;
+        match buf.first() {
+            None => Ok(0),
+            Some(byte) => {
+                self.held.push(*byte)?;
+                Ok(1)
+            }
+        }
+    }
+
+    fn flush(&mut self) -> io::Result<()> {
+        Ok(())
+    }
+}
+
+fn joined(alloc: Global, parts: &[&[u8]]) -> Result<Vec<u8>, AllocError> {
+    let mut whole = Vec::new(alloc);
+    for part in parts {
+        whole.extend_from_slice(part)?;
+    }
+    Ok(whole)
+}
+
+/// The status of a command, and what it wrote to its two writers.
+fn done<R: Files + Clock + AllocGlobal, I: Read + Drop>(
+    rt: &R,
+    words: &[&str],
+    input: I,
+) -> Result<(u8, Vec<u8>, Vec<u8>), AllocError> {
+    let alloc = rt.alloc();
+    let mut given = Vec::new(alloc);
+    given.push("hl7gate".to_string(alloc)?)?;
+    for word in words {
+        given.push(word.to_string(alloc)?)?;
+    }
+    let mut output = Vec::new(alloc);
+    let mut errors = Vec::new(alloc);
+    let status = command(rt, given.as_slice(), input, &mut output, &mut errors);
+    Ok((status, output, errors))
+}
+
+const VALIDATE: [&str; 4] = ["validate", "profile.txt", "--stamp", "20240102030406"];
+
+/// The same for a stream that is validated, so many bytes a read.
+fn validated<R: Files + Clock + AllocGlobal>(
+    rt: &R,
+    stream: &[u8],
+    most: usize,
+) -> Result<(u8, Vec<u8>, Vec<u8>), AllocError> {
+    let input = Drip {
+        rest: stream,
+        most,
+        reads: 2_000_000,
+    };
+    done(rt, &VALIDATE, input)
+}
+
+/// Messages that begin with the header, and what they are answered: the status, the code and the segment behind MSA.
+#[test]
+fn answers_messages(rt: HostRuntime) -> Result<(), Fail> {
+    let rows: [(u8, &[u8], &[u8], &[u8]); 10] = [
+        (0, b"PID|||123||DOE^JOHN\r", b"AA", b""),
+        (
+            1,
+            b"PID|||||DOE\r",
+            b"AE",
+            b"ERR||PID^1^3|101^Required field missing^HL70357|E\r",
+        ),
+        (
+            1,
+            b"",
+            b"AE",
+            b"ERR||PID^1|100^Segment sequence error^HL70357|E\r",
+        ),
+        (
+            1,
+            b"NK1|1\rPID|||123\r",
+            b"AE",
+            b"ERR||NK1^1|100^Segment sequence error^HL70357|E\r",
+        ),
+        (0, b"EVN|A01\rPID|||123\r", b"AA", b""),
+        (0, b"PID|||123|||||\"\"\r", b"AA", b""),
+        (
+            1,
+            b"PID|||123|||||X\r",
+            b"AE",
+            b"ERR||PID^1^8^1^1^1|103^Table value not found^HL70357|E\r",
+        ),
+        (
+            1,
+            b"PID|||123|||||MM\r",
+            b"AE",
+            b"ERR||PID^1^8^1^1^1|102^Data type error^HL70357|E\r",
+        ),
+        (0, b"PID|||A~~B\r", b"AA", b""),
+        (
+            1,
+            b"PID|||A~B~C\r",
+            b"AE",
+            b"ERR||PID^1^3^3|102^Data type error^HL70357|E\r",
+        ),
+    ];
+    fs::write(&rt, "profile.txt", PROFILE)?;
+    for (status, tail, code, err) in rows {
+        let stream = joined(rt.alloc(), &[b"\x0b", H, tail, b"\x1c\r"])?;
+        let want = joined(rt.alloc(), &[b"\x0b", G1, code, b"|7\r", err, b"\x1c\r"])?;
+        for most in [1, 65_536] {
+            let got = validated(&rt, &stream, most)?;
+            assert!(rt; got.0 == status && got.1 == want && got.2.is_empty());
+        }
+    }
+    Ok(())
+}
+
+/// Whole streams: two messages, line ends of all kinds, a content that can't be read, an open block.
+#[test]
+fn answers_streams(rt: HostRuntime) -> Result<(), Fail> {
+    let alloc = rt.alloc();
+    let first = joined(alloc, &[b"\x0b", H, b"PID|||123||DOE^JOHN\r\x1c\r"])?;
+    let lines =
+        b"\x0bMSH|^~\\&|LAB|H1|GW|H2|20240102030405||ADT^A01^ADT_A01|7|P|2.5.1|||AL\r\nPID|||123\x1c\r";
+    let rows: [(u8, Vec<u8>, Vec<u8>, &[u8]); 5] = [
+        (
+            0,
+            joined(alloc, &[&first, b"\r\n", &first])?,
+            joined(
+                alloc,
+                &[b"\x0b", G1, b"AA|7\r\x1c\r\x0b", G2, b"AA|7\r\x1c\r"],
+            )?,
+            b"",
+        ),
+        (
+            0,
+            joined(alloc, &[lines])?,
+            joined(alloc, &[b"\x0b", G1, b"AA|7\r\x1c\r"])?,
+            b"",
+        ),
+        (
+            1,
+            joined(alloc, &[b"\x0b\x1c\r"])?,
+            joined(alloc, &[b"\x0b", UNREADABLE, b"\x1c\r"])?,
+            b"",
+        ),
+        (
+            3,
+            joined(alloc, &[b"\x0b", H])?,
+            Vec::new(alloc),
+            b"fault 4\n",
+        ),
+        (
+            3,
+            joined(alloc, &[b"\x0b\x1c\r\x0b", H])?,
+            joined(alloc, &[b"\x0b", UNREADABLE, b"\x1c\r"])?,
+            b"fault 4\n",
+        ),
+    ];
+    fs::write(&rt, "profile.txt", PROFILE)?;
+    for (status, stream, output, errors) in &rows {
+        for most in [1, 65_536] {
+            let got = validated(&rt, stream, most)?;
+            assert!(rt; got.0 == *status && got.1 == *output && got.2.as_slice() == *errors);
+        }
+    }
+    Ok(())
+}
+
+/// A content of 1,048,576 bytes is a block, and one byte more ends the run.
+#[test]
+fn answers_the_longest_content(rt: HostRuntime) -> Result<(), Fail> {
+    let alloc = rt.alloc();
+    fs::write(&rt, "profile.txt", PROFILE)?;
+    let content = vec![in alloc; 65u8; 1_048_576]?;
+    let long = joined(alloc, &[b"\x0b", &content, b"\x1c\r"])?;
+    let got = validated(&rt, &long, 65_536)?;
+    let want = joined(alloc, &[b"\x0b", UNREADABLE, b"\x1c\r"])?;
+    assert!(rt; got.0 == 1 && got.1 == want);
+    let longer = joined(alloc, &[b"\x0b", &content, b"A\x1c\r"])?;
+    let got = validated(&rt, &longer, 65_536)?;
+    assert!(rt; got.0 == 3 && got.1.is_empty() && got.2.as_slice() == b"fault 4\n".as_slice());
+    Ok(())
+}
+
+/// The words and the profile are refused before standard input is read: a read would be fault 2.
+#[test]
+fn refuses(rt: HostRuntime) -> Result<(), Fail> {
+    let rows: [(u8, &[&str], &[u8]); 9] = [
+        (
+            2,
+            &["validate", "missing.txt", "--stamp", "2024010203040"],
+            b"error: the value of '--stamp' is fourteen digits\n",
+        ),
+        (
+            2,
+            &["validate", "missing.txt", "--stamp", "2024010203040x"],
+            b"error: the value of '--stamp' is fourteen digits\n",
+        ),
+        (3, &["validate", "missing.txt"], b"fault 2\n"),
+        (3, &["validate", "."], b"fault 2\n"),
+        (1, &["validate", "empty.txt"], b"profile refused 2 line 1\n"),
+        (1, &["validate", "usage.txt"], b"profile refused 3 line 3\n"),
+        (
+            1,
+            &["validate", "ambiguous.txt"],
+            b"profile refused 7 OBR\n",
+        ),
+        (1, &["validate", "header.txt"], b"profile refused 8\n"),
+        (1, &["validate", "long.txt"], b"profile refused 10\n"),
+    ];
+    fs::write(&rt, "empty.txt", b"")?;
+    fs::write(
+        &rt,
+        "usage.txt",
+        b"profile P\nsegment MSH R 1..1\nsegment PID R 0..1\n",
+    )?;
+    fs::write(
+        &rt,
+        "ambiguous.txt",
+        b"profile P\nsegment MSH R 1..1\nsegment OBR O 0..1\nsegment OBR as B R 1..1\n",
+    )?;
+    fs::write(&rt, "header.txt", b"profile P\nsegment PID R 1..1\n")?;
+    fs::write(
+        &rt,
+        "long.txt",
+        vec![in rt.alloc(); 35u8; 1_048_577]?.as_slice(),
+    )?;
+    for (status, words, errors) in rows {
+        let input = Drip {
+            rest: b"",
+            most: 1,
+            reads: 0,
+        };
+        let got = done(&rt, words, input)?;
+        assert!(rt; got.0 == status && got.1.is_empty() && got.2.as_slice() == errors);
+    }
+    Ok(())
+}
+
+/// Words that are no command go to the errors, help and the version to the output.
+#[test]
+fn reads_words(rt: HostRuntime) -> Result<(), Fail> {
+    let rows: [(u8, &[&str]); 6] = [
+        (2, &[]),
+        (2, &["validate"]),
+        (2, &["answer"]),
+        (2, &["validate", "a", "b"]),
+        (0, &["--help"]),
+        (0, &["--version"]),
+    ];
+    for (status, words) in rows {
+        let got = done(&rt, words, b"".as_slice())?;
+        assert!(rt;
+            got.0 == status
+                && got.1.is_empty() == (status == 2)
+                && got.2.is_empty() == (status == 0)
+        );
+    }
+    let got = done(&rt, &["--version"], b"".as_slice())?;
+    assert!(rt; got.1.as_slice() == b"hl7gate 0.1.0\n".as_slice());
+    Ok(())
+}
+
+/// A reader that fails at each call, and a writer that does: what was written is a prefix of the answer.
+#[test]
+fn devices_fail(rt: HostRuntime) -> Result<(), Fail> {
+    let alloc = rt.alloc();
+    fs::write(&rt, "profile.txt", PROFILE)?;
+    let stream = joined(alloc, &[b"\x0b", H, b"PID|||123\r\x1c\r"])?;
+    let want = joined(alloc, &[b"\x0b", G1, b"AA|7\r\x1c\r"])?;
+    for reads in 0..stream.len() + 2 {
+        let input = Drip {
+            rest: &stream,
+            most: 1,
+            reads,
+        };
+        let got = done(&rt, &VALIDATE, input)?;
+        let whole = reads > stream.len();
+        assert!(rt; got.0 == if whole { 0 } else { 3 });
+        assert!(rt; got.1.is_empty() == (reads < stream.len()) && want.starts_with(&got.1));
+        assert!(rt;
+            got.2.as_slice()
+                == if whole {
+                    b"".as_slice()
+                } else {
+                    b"fault 2\n".as_slice()
+                }
+        );
+    }
+    let mut words = Vec::new(alloc);
+    words.push("hl7gate".to_string(alloc)?)?;
+    for word in VALIDATE {
+        words.push(word.to_string(alloc)?)?;
+    }
+    for writes in 0..want.len() {
+        let mut held = Vec::new(alloc);
+        let mut errors = Vec::new(alloc);
+        let output = Narrow {
+            held: &mut held,
+            writes,
+        };
+        let status = command(
+            &rt,
+            words.as_slice(),
+            stream.as_slice(),
+            output,
+            &mut errors,
+        );
+        assert!(rt; status == 3 && errors.as_slice() == b"fault 3\n".as_slice());
+        assert!(rt; held.len() == writes && want.starts_with(&held));
+    }
+    Ok(())
+}
