@@ -1,0 +1,22 @@
+//! Where a number stands in a list.
+
+ghost use Rattle.std.specs.Prelude.{◌≡◌, ◌==◌, position};
+ghost use Rattle.std.specs.List.Sorted.{IsStrictlyIncreasing};
+
+/// Where the number stands among numbers that rise.
+pub(crate) fn place_among(due: &[u64], n: u64) -> Option<usize>
+    requires rising { IsStrictlyIncreasing due.now }
+    ensures { result ≡ position (λ m. m == n) due.now }
+{
+    match due.binary_search(&n) {
+        Ok(place) => Some(place),
+        Err(_) => None,
+    }
+}
+
+/// The first entry under the number.
+pub(crate) fn entry_of<T: Drop>(entries: &[(u64, T)], n: u64) -> Option<usize>
+    ensures { result ≡ position (λ entry. entry.0 == n) entries.now }
+{
+    entries.iter().position(|entry| entry.0 == n)
+}
