@@ -7,6 +7,10 @@ pub record DeskState (T : Type 0) : Type 0 where
   pub kept : List (Option T)
   pub room : ℕ
 
+-- nothing is due, so nothing was released and no value is kept, and there is no room
+abbrev pub nothing_due : {T : Type 0} → DeskState T
+nothing_due = record { due = []; released = 0; kept = []; room = 0 }
+
 -- the same but for the room
 pub record SameButRoom {T : Type 0} (old new : DeskState T) : Type 0 where
   pub due : new.due ≡ old.due

@@ -46,15 +46,13 @@ impl<T: Drop> Model for Desk<T> {
 }
 
 impl<T: Drop> Desk<T> {
-    ghost use Rattle.std.specs.Prelude.{◌≡◌, ◌<◌, ◌≤◌, ◌↔◌, [], OnOk, OnErr, All, IsTrue, option_map};
-    ghost use Rattle.gw_reorder.specs.State.{SameButRoom, with_due};
+    ghost use Rattle.std.specs.Prelude.{◌≡◌, ◌<◌, ◌≤◌, ◌↔◌, OnOk, OnErr, All, IsTrue, option_map};
+    ghost use Rattle.gw_reorder.specs.State.{SameButRoom, nothing_due, with_due};
     ghost use Rattle.gw_reorder.specs.Calls.{status_of, Holds, next_of, after_giving};
 
-    /// Nothing is due.
+    /// Nothing is due, and there is no room yet.
     pub fn new(alloc: Global) -> Self
-        ensures due { result.due ≡ [] }
-        ensures released { result.released ≡ 0 }
-        ensures kept { result.kept ≡ [] }
+        ensures { result ≡ nothing_due }
     {
         Desk {
             due: Vec::new(alloc),

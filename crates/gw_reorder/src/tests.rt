@@ -32,6 +32,7 @@ fn gives(desk: &mut Desk<u64>, want: Option<(u64, u64)>) -> bool {
 #[test]
 fn numbers_with_gaps(rt: HostRuntime) -> Result<(), Fail> {
     let mut desk = Desk::new(rt.alloc());
+    let room_before = desk.has_room();
     desk.reserve()?;
     let room = desk.has_room();
     desk.due(0);
@@ -40,6 +41,7 @@ fn numbers_with_gaps(rt: HostRuntime) -> Result<(), Fail> {
     desk.reserve()?;
     desk.due(4);
     let answers = [
+        !room_before,
         room,
         brings(&mut desk, 4, 40, Status::Waiting),
         brings(&mut desk, 1, 10, Status::Stranger),
