@@ -31,7 +31,7 @@ fn answer_message(
     ensures answer { (content : List ℕ) → Reads content message → IfOk result (λ a. IsAnswer (Validated (profile_value (arc_value profile.now))) stamp number content (record { code = a.0; content = a.1.items })) }
     ensures content { IfOk result (λ a. HasNoEnd a.1.items) }
 {
-    let _segments = message.segment_count();
+    prove!(message.segment_count() > 0);
     let header = Header::of(alloc, &message)?;
     match validate(alloc, profile.clone()?, message) {
         Ok(Verdict::Fits(_tree)) => {

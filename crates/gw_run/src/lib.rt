@@ -8,6 +8,7 @@ mod counts;
 mod fault;
 pub mod laws;
 mod reads;
+mod retry;
 mod send;
 mod sink;
 mod source;

@@ -1,4 +1,5 @@
-//! A reader of std as a source.
+//! A reader of std as a source. A read that a signal interrupts is made again.
+use crate::retry::read_retrying;
 use crate::source::{Failed, Source};
 use std::io::Read;
 
@@ -34,7 +35,7 @@ impl<R: Read> Source for Reads<R> {
     }
 
     fn read(&mut self, buf: &mut [u8]) -> Result<usize, Failed> {
-        match self.reader.read(buf) {
+        match read_retrying(&mut self.reader, buf) {
             Ok(count) => {
                 self.failed = false;
                 Ok(count)

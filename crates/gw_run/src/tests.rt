@@ -3,6 +3,8 @@ use crate::{Counts, Failed, Reads, RunFault, Sink, Source, Writes, answer_stream
 use gw_ack::Stamp;
 use gw_profile::{Profile, parse};
 use std::alloc::Global;
+use std::io;
+use std::io::{ErrorKind, Read, Write};
 use std::sync::Arc;
 use std::test::Fail;
 
@@ -232,6 +234,89 @@ fn turns(rt: HostRuntime) -> Result<(), Fail> {
         let stamp = stamp().ok_or("a stamp")?;
         let result = answer_stream(alloc, profile(alloc)?, stamp, &mut source, &mut writer);
         assert!(rt; result == want && held.is_empty());
+    }
+    Ok(())
+}
+
+/// Is interrupted so often before each call, and then moves one byte.
+#[derive(Drop)]
+struct Disturbed<'a> {
+    rest: &'a [u8],
+    held: Vec<u8>,
+    often: usize,
+    left: usize,
+}
+
+impl Disturbed<'_> {
+    fn begin(&mut self) -> io::Result<()> {
+        if self.left > 0 {
+            self.left -= 1;
+            return Err(io::Error::from(ErrorKind::Interrupted));
+        }
+        self.left = self.often;
+        Ok(())
+    }
+}
+
+impl Read for Disturbed<'_> {
+    fn read(&mut self, buf: &mut [u8]) -> io::Result<usize> {
+        self.begin()?;
+        match (buf.first_mut(), self.rest.split_first()) {
+            (Some(place), Some((first, rest))) => {
+                *place = *first;
+                self.rest = rest;
+                Ok(1)
+            }
+            _ => Ok(0),
+        }
+    }
+}
+
+impl Write for Disturbed<'_> {
+    fn write(&mut self, buf: &[u8]) -> io::Result<usize> {
+        self.begin()?;
+        match buf.first() {
+            None => Ok(0),
+            Some(byte) => {
+                self.held.push(*byte)?;
+                Ok(1)
+            }
+        }
+    }
+
+    fn flush(&mut self) -> io::Result<()> {
+        Ok(())
+    }
+}
+
+/// A call that is interrupted a thousand times is made again, and one that is interrupted once more has failed.
+#[test]
+fn interrupted(rt: HostRuntime) -> Result<(), Fail> {
+    let alloc = rt.alloc();
+    let rows: [(usize, usize, Result<Counts, RunFault>, &[u8]); 4] = [
+        (1, 1, Ok(COUNTS), ANSWERS),
+        (1_000, 1_000, Ok(COUNTS), ANSWERS),
+        (1_001, 0, Err(RunFault::Read), b""),
+        (0, 1_001, Err(RunFault::Write), b""),
+    ];
+    for (reads, writes, want, answers) in rows {
+        let mut input = Disturbed {
+            rest: STREAM,
+            held: Vec::new(alloc),
+            often: reads,
+            left: reads,
+        };
+        let mut output = Disturbed {
+            rest: b"",
+            held: Vec::new(alloc),
+            often: writes,
+            left: writes,
+        };
+        let mut reader = Reads::new(&mut input);
+        let mut writer = Writes::new(&mut output);
+        let stamp = stamp().ok_or("a stamp")?;
+        let result = answer_stream(alloc, profile(alloc)?, stamp, &mut reader, &mut writer);
+        assert!(rt; result == want && output.held.as_slice() == answers);
     }
     Ok(())
 }

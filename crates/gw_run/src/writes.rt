@@ -1,4 +1,5 @@
-//! A writer of std as a sink.
+//! A writer of std as a sink. A write that a signal interrupts is made again.
+use crate::retry::write_retrying;
 use crate::sink::Sink;
 use crate::source::Failed;
 use std::io::Write;
@@ -35,7 +36,7 @@ impl<W: Write> Sink for Writes<W> {
     }
 
     fn write(&mut self, buf: &[u8]) -> Result<usize, Failed> {
-        match self.writer.write(buf) {
+        match write_retrying(&mut self.writer, buf) {
             Ok(count) => {
                 let stuck = count == 0 && !buf.is_empty();
                 self.failed = stuck;
