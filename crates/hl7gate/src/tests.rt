@@ -97,11 +97,15 @@ fn done<R: Files + Clock + AllocGlobal, I: Read + Drop>(
     Ok((status, output, errors))
 }
 
-const VALIDATE: [&str; 4] = ["validate", "profile.txt", "--stamp", "20240102030406"];
+/// The words that validate by the profile of a file.
+fn by_profile(path: &str) -> [&str; 4] {
+    ["validate", path, "--stamp", "20240102030406"]
+}
 
-/// The same for a stream that is validated, so many bytes a read.
+/// The same for a stream that is validated by the profile of a file, so many bytes a read.
 fn validated<R: Files + Clock + AllocGlobal>(
     rt: &R,
+    path: &str,
     stream: &[u8],
     most: usize,
 ) -> Result<(u8, Vec<u8>, Vec<u8>), AllocError> {
@@ -110,7 +114,7 @@ fn validated<R: Files + Clock + AllocGlobal>(
         most,
         reads: 2_000_000,
     };
-    done(rt, &VALIDATE, input)
+    done(rt, &by_profile(path), input)
 }
 
 /// Messages that begin with the header, and what they are answered: the status, the code and the segment behind MSA.
@@ -158,15 +162,84 @@ fn answers_messages(rt: HostRuntime) -> Result<(), Fail> {
             b"ERR||PID^1^3^3|102^Data type error^HL70357|E\r",
         ),
     ];
-    fs::write(&rt, "profile.txt", PROFILE)?;
+    fs::write(&rt, "messages.txt", PROFILE)?;
     for (status, tail, code, err) in rows {
         let stream = joined(rt.alloc(), &[b"\x0b", H, tail, b"\x1c\r"])?;
         let want = joined(rt.alloc(), &[b"\x0b", G1, code, b"|7\r", err, b"\x1c\r"])?;
         for most in [1, 65_536] {
-            let got = validated(&rt, &stream, most)?;
+            let got = validated(&rt, "messages.txt", &stream, most)?;
             assert!(rt; got.0 == status && got.1 == want && got.2.is_empty());
         }
     }
+    fs::remove_file(&rt, "messages.txt")?;
+    Ok(())
+}
+
+/// The answer to a header that says nothing but `LAB` in MSH-3, up to its code.
+const TO_LAB: &[u8] = b"MSH|^~\\&|||LAB||20240102030406||ACK^^ACK|G1|P|2.5.1\rMSA|";
+
+/// Messages, the canonical text of their PID-3 and its octets: by a length and a table that fit it, by a length of one octet less, by another table.
+#[test]
+fn measures_canonical_texts(rt: HostRuntime) -> Result<(), Fail> {
+    let alloc = rt.alloc();
+    let rows: [(&[u8], &[u8], &[u8], &[u8]); 4] = [
+        (
+            b"MSH#^~\\&#LAB\rPID###a\\F\\b|c\r",
+            b"a#b\\F\\c",
+            b"7",
+            b"6",
+        ),
+        (b"MSH|^~\\&|LAB\rPID|||C:\\a\r", b"C:\\E\\a", b"6", b"5"),
+        (
+            b"MSH|^~\\&|LAB\rPID|||x\\.br\\y\r",
+            b"x\\.br\\y",
+            b"7",
+            b"6",
+        ),
+        (
+            b"MSH|^~\\&|LAB\rPID|||a\\\\b\r",
+            b"a\\E\\\\E\\b",
+            b"8",
+            b"7",
+        ),
+    ];
+    for (content, text, octets, fewer) in rows {
+        let stream = joined(alloc, &[b"\x0b", content, b"\x1c\r"])?;
+        let ends: [(&[u8], &[u8], u8, &[u8]); 3] = [
+            (octets, text, 0, b"AA\r"),
+            (
+                fewer,
+                text,
+                1,
+                b"AE\rERR||PID^1^3^1^1^1|102^Data type error^HL70357|E\r",
+            ),
+            (
+                octets,
+                b"other",
+                1,
+                b"AE\rERR||PID^1^3^1^1^1|103^Table value not found^HL70357|E\r",
+            ),
+        ];
+        for (length, listed, status, tail) in ends {
+            let profile = joined(
+                alloc,
+                &[
+                    b"profile P\ntable TEXTS ",
+                    listed,
+                    b"\nsegment MSH R 1..1\nsegment PID R 1..1\n  field 3 R 1..1 len ",
+                    length,
+                    b" table TEXTS\n",
+                ],
+            )?;
+            fs::write(&rt, "canonical.txt", profile.as_slice())?;
+            let want = joined(alloc, &[b"\x0b", TO_LAB, tail, b"\x1c\r"])?;
+            for most in [1, 65_536] {
+                let got = validated(&rt, "canonical.txt", &stream, most)?;
+                assert!(rt; got.0 == status && got.1 == want && got.2.is_empty());
+            }
+        }
+    }
+    fs::remove_file(&rt, "canonical.txt")?;
     Ok(())
 }
 
@@ -212,29 +285,39 @@ fn answers_streams(rt: HostRuntime) -> Result<(), Fail> {
             b"fault 4\n",
         ),
     ];
-    fs::write(&rt, "profile.txt", PROFILE)?;
+    fs::write(&rt, "streams.txt", PROFILE)?;
     for (status, stream, output, errors) in &rows {
         for most in [1, 65_536] {
-            let got = validated(&rt, stream, most)?;
+            let got = validated(&rt, "streams.txt", stream, most)?;
             assert!(rt; got.0 == *status && got.1 == *output && got.2.as_slice() == *errors);
         }
     }
+    fs::remove_file(&rt, "streams.txt")?;
     Ok(())
 }
 
-/// A content of 1,048,576 bytes is a block, and one byte more ends the run.
+/// A content of 1,048,576 bytes is a block, and one byte more ends the run. At one byte a read neither is read to its end in 1,000,000 reads.
 #[test]
 fn answers_the_longest_content(rt: HostRuntime) -> Result<(), Fail> {
     let alloc = rt.alloc();
-    fs::write(&rt, "profile.txt", PROFILE)?;
     let content = vec![in alloc; 65u8; 1_048_576]?;
     let long = joined(alloc, &[b"\x0b", &content, b"\x1c\r"])?;
-    let got = validated(&rt, &long, 65_536)?;
-    let want = joined(alloc, &[b"\x0b", UNREADABLE, b"\x1c\r"])?;
-    assert!(rt; got.0 == 1 && got.1 == want);
     let longer = joined(alloc, &[b"\x0b", &content, b"A\x1c\r"])?;
-    let got = validated(&rt, &longer, 65_536)?;
-    assert!(rt; got.0 == 3 && got.1.is_empty() && got.2.as_slice() == b"fault 4\n".as_slice());
+    let answer = joined(alloc, &[b"\x0b", UNREADABLE, b"\x1c\r"])?;
+    let rows: [(&[u8], usize, u8, &[u8], &[u8]); 6] = [
+        (&long, 65_536, 1, &answer, b""),
+        (&long, 2, 1, &answer, b""),
+        (&long, 1, 3, b"", b"fault 6\n"),
+        (&longer, 65_536, 3, b"", b"fault 4\n"),
+        (&longer, 2, 3, b"", b"fault 4\n"),
+        (&longer, 1, 3, b"", b"fault 6\n"),
+    ];
+    fs::write(&rt, "limits.txt", PROFILE)?;
+    for (stream, most, status, output, errors) in rows {
+        let got = validated(&rt, "limits.txt", stream, most)?;
+        assert!(rt; got.0 == status && got.1.as_slice() == output && got.2.as_slice() == errors);
+    }
+    fs::remove_file(&rt, "limits.txt")?;
     Ok(())
 }
 
@@ -290,6 +373,15 @@ fn refuses(rt: HostRuntime) -> Result<(), Fail> {
         let got = done(&rt, words, input)?;
         assert!(rt; got.0 == status && got.1.is_empty() && got.2.as_slice() == errors);
     }
+    for path in [
+        "empty.txt",
+        "usage.txt",
+        "ambiguous.txt",
+        "header.txt",
+        "long.txt",
+    ] {
+        fs::remove_file(&rt, path)?;
+    }
     Ok(())
 }
 
@@ -321,7 +413,7 @@ fn reads_words(rt: HostRuntime) -> Result<(), Fail> {
 #[test]
 fn devices_fail(rt: HostRuntime) -> Result<(), Fail> {
     let alloc = rt.alloc();
-    fs::write(&rt, "profile.txt", PROFILE)?;
+    fs::write(&rt, "devices.txt", PROFILE)?;
     let stream = joined(alloc, &[b"\x0b", H, b"PID|||123\r\x1c\r"])?;
     let want = joined(alloc, &[b"\x0b", G1, b"AA|7\r\x1c\r"])?;
     for reads in 0..stream.len() + 2 {
@@ -330,7 +422,7 @@ fn devices_fail(rt: HostRuntime) -> Result<(), Fail> {
             most: 1,
             reads,
         };
-        let got = done(&rt, &VALIDATE, input)?;
+        let got = done(&rt, &by_profile("devices.txt"), input)?;
         let whole = reads > stream.len();
         assert!(rt; got.0 == if whole { 0 } else { 3 });
         assert!(rt; got.1.is_empty() == (reads < stream.len()) && want.starts_with(&got.1));
@@ -345,7 +437,7 @@ fn devices_fail(rt: HostRuntime) -> Result<(), Fail> {
     }
     let mut words = Vec::new(alloc);
     words.push("hl7gate".to_string(alloc)?)?;
-    for word in VALIDATE {
+    for word in by_profile("devices.txt") {
         words.push(word.to_string(alloc)?)?;
     }
     for writes in 0..want.len() {
@@ -365,5 +457,6 @@ fn devices_fail(rt: HostRuntime) -> Result<(), Fail> {
         assert!(rt; status == 3 && errors.as_slice() == b"fault 3\n".as_slice());
         assert!(rt; held.len() == writes && want.starts_with(&held));
     }
+    fs::remove_file(&rt, "devices.txt")?;
     Ok(())
 }
