@@ -66,23 +66,36 @@ fn truncated(rt: HostRuntime) -> Result<(), Fail> {
     Ok(())
 }
 
+/// Feeds the bytes at once, or byte by byte.
+fn feed_bytes(decoder: &mut Decoder, bytes: &[u8], at_once: bool) -> Result<(), FrameFault> {
+    if at_once {
+        return decoder.feed(bytes);
+    }
+    for byte in bytes {
+        decoder.feed(&[*byte])?;
+    }
+    Ok(())
+}
+
 /// A content of 1,048,576 bytes is a block, and one byte more is none.
 #[test]
 fn at_the_limit(rt: HostRuntime) -> Result<(), Fail> {
     let content = vec![in rt.alloc(); 65; 1_048_576]?;
-    let mut decoder = Decoder::new(rt.alloc());
-    decoder.feed(b"\x0b")?;
-    decoder.feed(&content)?;
-    decoder.feed(b"\x1c")?;
-    decoder.feed(b"\r\x0b")?;
-    let block = decoder.next_block().ok_or("no block")?;
-    assert_eq!(rt; block.len(), 1_048_576);
-    decoder.feed(&content)?;
-    decoder.feed(b"\x1c")?;
-    assert_eq!(rt; decoder.feed(b"A"), Err(FrameFault::TooLong));
-    assert_eq!(rt; decoder.feed(b"\x1c\r"), Err(FrameFault::TooLong));
-    assert_eq!(rt; decoder.at_end(), Err(FrameFault::TooLong));
-    assert!(rt; decoder.next_block().is_none());
+    for at_once in [true, false] {
+        let mut decoder = Decoder::new(rt.alloc());
+        decoder.feed(b"\x0b")?;
+        feed_bytes(&mut decoder, &content, at_once)?;
+        decoder.feed(b"\x1c")?;
+        feed_bytes(&mut decoder, b"\r\x0b", at_once)?;
+        let block = decoder.next_block().ok_or("no block")?;
+        assert_eq!(rt; block, content);
+        feed_bytes(&mut decoder, &content, at_once)?;
+        decoder.feed(b"\x1c")?;
+        assert_eq!(rt; decoder.feed(b"A"), Err(FrameFault::TooLong));
+        assert_eq!(rt; decoder.feed(b"\x1c\r"), Err(FrameFault::TooLong));
+        assert_eq!(rt; decoder.at_end(), Err(FrameFault::TooLong));
+        assert!(rt; decoder.next_block().is_none());
+    }
     Ok(())
 }
 
