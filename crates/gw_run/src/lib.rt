@@ -8,7 +8,6 @@ mod counts;
 mod fault;
 pub mod laws;
 mod reads;
-mod retry;
 mod send;
 mod sink;
 mod source;

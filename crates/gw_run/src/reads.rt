@@ -1,9 +1,8 @@
-//! A reader of std as a source. A read that a signal interrupts is made again.
-use crate::retry::read_retrying;
-use crate::source::{Failed, Source};
-use std::io::Read;
+//! A reader of std as a source.
+use crate::source::{Failed, Source, TRIES};
+use std::io::{ErrorKind, Read};
 
-/// A reader of std as a source.
+/// A reader of std as a source. A read that a signal interrupts is made again.
 #[derive(Drop)]
 pub struct Reads<R: Read> {
     reader: R,
@@ -35,15 +34,20 @@ impl<R: Read> Source for Reads<R> {
     }
 
     fn read(&mut self, buf: &mut [u8]) -> Result<usize, Failed> {
-        match read_retrying(&mut self.reader, buf) {
-            Ok(count) => {
-                self.failed = false;
-                Ok(count)
-            }
-            Err(_) => {
-                self.failed = true;
-                Err(Failed)
+        'tries: for _try in 0..TRIES {
+            match self.reader.read(buf) {
+                Ok(count) => {
+                    self.failed = false;
+                    return Ok(count);
+                }
+                Err(error) if error.kind() == ErrorKind::Interrupted => {}
+                Err(_) => {
+                    self.failed = true;
+                    return Err(Failed);
+                }
             }
         }
+        self.failed = true;
+        Err(Failed)
     }
 }

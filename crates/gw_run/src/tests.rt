@@ -289,15 +289,15 @@ impl Write for Disturbed<'_> {
     }
 }
 
-/// A call that is interrupted a thousand times is made again, and one that is interrupted once more has failed.
+/// A call that is interrupted is made again, and has failed at the thousandth interruption.
 #[test]
 fn interrupted(rt: HostRuntime) -> Result<(), Fail> {
     let alloc = rt.alloc();
     let rows: [(usize, usize, Result<Counts, RunFault>, &[u8]); 4] = [
         (1, 1, Ok(COUNTS), ANSWERS),
-        (1_000, 1_000, Ok(COUNTS), ANSWERS),
-        (1_001, 0, Err(RunFault::Read), b""),
-        (0, 1_001, Err(RunFault::Write), b""),
+        (999, 999, Ok(COUNTS), ANSWERS),
+        (1_000, 0, Err(RunFault::Read), b""),
+        (0, 1_000, Err(RunFault::Write), b""),
     ];
     for (reads, writes, want, answers) in rows {
         let mut input = Disturbed {

@@ -1,10 +1,9 @@
-//! A writer of std as a sink. A write that a signal interrupts is made again.
-use crate::retry::write_retrying;
+//! A writer of std as a sink.
 use crate::sink::Sink;
-use crate::source::Failed;
-use std::io::Write;
+use crate::source::{Failed, TRIES};
+use std::io::{ErrorKind, Write};
 
-/// A writer of std as a sink.
+/// A writer of std as a sink. A write that a signal interrupts is made again.
 #[derive(Drop)]
 pub struct Writes<W: Write> {
     writer: W,
@@ -36,16 +35,21 @@ impl<W: Write> Sink for Writes<W> {
     }
 
     fn write(&mut self, buf: &[u8]) -> Result<usize, Failed> {
-        match write_retrying(&mut self.writer, buf) {
-            Ok(count) => {
-                let stuck = count == 0 && !buf.is_empty();
-                self.failed = stuck;
-                if stuck { Err(Failed) } else { Ok(count) }
-            }
-            Err(_) => {
-                self.failed = true;
-                Err(Failed)
+        'tries: for _try in 0..TRIES {
+            match self.writer.write(buf) {
+                Ok(count) => {
+                    let stuck = count == 0 && !buf.is_empty();
+                    self.failed = stuck;
+                    return if stuck { Err(Failed) } else { Ok(count) };
+                }
+                Err(error) if error.kind() == ErrorKind::Interrupted => {}
+                Err(_) => {
+                    self.failed = true;
+                    return Err(Failed);
+                }
             }
         }
+        self.failed = true;
+        Err(Failed)
     }
 }
