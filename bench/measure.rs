@@ -37,7 +37,11 @@ fn seconds(time: [i64; 2]) -> f64 {
 }
 
 fn run(command: &mut Command, input: &Path, output: &Path) -> io::Result<Taken> {
-    let child = command.stdin(File::open(input)?).stdout(File::create(output)?).stderr(Stdio::null()).spawn()?;
+    let child = command
+        .stdin(File::open(input)?)
+        .stdout(File::create(output)?)
+        .stderr(Stdio::null())
+        .spawn()?;
     let mut usage = Usage::default();
     let mut status = 0;
     let pid = child.id() as i32;
@@ -113,13 +117,27 @@ impl Bench {
         let answers = self.traffic.join(format!("{name}.program"));
         let plain = self.traffic.join(format!("{name}.baseline"));
         let program = best(self.rounds, || {
-            run(Command::new(&self.program).arg("validate").arg(&profile).args(["--stamp", STAMP]), &input, &answers)
+            run(
+                Command::new(&self.program)
+                    .arg("validate")
+                    .arg(&profile)
+                    .args(["--stamp", STAMP]),
+                &input,
+                &answers,
+            )
         })?;
-        let baseline =
-            best(self.rounds, || run(Command::new(&self.baseline).arg(&profile).arg(STAMP), &input, &plain))?;
+        let baseline = best(self.rounds, || {
+            run(
+                Command::new(&self.baseline).arg(&profile).arg(STAMP),
+                &input,
+                &plain,
+            )
+        })?;
         let same = same_answers(&answers, &plain)?.filter(|_| program.status == baseline.status);
         let Some(messages) = same else {
-            return Err(io::Error::other(format!("{name}: the answers or the statuses differ")));
+            return Err(io::Error::other(format!(
+                "{name}: the answers or the statuses differ"
+            )));
         };
         Ok(Row {
             name,
@@ -154,9 +172,17 @@ impl Bench {
     }
 
     /// Hostile streams against an honest one whose contents have the same size, per byte.
-    fn print_hostile(&self, honest: &'static str, profile: &str, streams: &[&'static str]) -> io::Result<()> {
+    fn print_hostile(
+        &self,
+        honest: &'static str,
+        profile: &str,
+        streams: &[&'static str],
+    ) -> io::Result<()> {
         let honest = self.row(honest, profile)?;
-        println!("| Stream | Program MB/s | peak kB | times {} | Baseline MB/s | peak kB | times {} |", honest.name, honest.name);
+        println!(
+            "| Stream | Program MB/s | peak kB | times {} | Baseline MB/s | peak kB | times {} |",
+            honest.name, honest.name
+        );
         println!("|---|---|---|---|---|---|---|");
         for name in streams {
             let row = self.row(name, profile)?;

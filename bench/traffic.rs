@@ -28,35 +28,104 @@ impl Dice {
     }
 
     fn digits(&mut self, count: usize) -> String {
-        (0..count).map(|_| char::from(b'0' + self.below(10) as u8)).collect()
+        (0..count)
+            .map(|_| char::from(b'0' + self.below(10) as u8))
+            .collect()
     }
 
     fn day(&mut self) -> String {
-        format!("{}{:02}{:02}", 1930 + self.below(90), 1 + self.below(12), 1 + self.below(28))
+        format!(
+            "{}{:02}{:02}",
+            1930 + self.below(90),
+            1 + self.below(12),
+            1 + self.below(28)
+        )
     }
 
     fn moment(&mut self) -> String {
         let (hour, minute) = (self.below(24), self.below(60));
-        format!("2024{:02}{:02}{hour:02}{minute:02}30", 1 + self.below(12), 1 + self.below(28))
+        format!(
+            "2024{:02}{:02}{hour:02}{minute:02}30",
+            1 + self.below(12),
+            1 + self.below(28)
+        )
     }
 }
 
 const FAMILIES: [&str; 12] = [
-    "ARDEN", "BELMORE", "CASTLETON", "DRAYCOTT", "FENWICK", "GARROW", "HOLLIS", "KESTREL", "MARCHANT", "O'DOWD",
-    "QUILLER", "VAN DER BERG",
+    "ARDEN",
+    "BELMORE",
+    "CASTLETON",
+    "DRAYCOTT",
+    "FENWICK",
+    "GARROW",
+    "HOLLIS",
+    "KESTREL",
+    "MARCHANT",
+    "O'DOWD",
+    "QUILLER",
+    "VAN DER BERG",
 ];
-const GIVEN: [&str; 10] = ["ALMA", "BRUNO", "CLARA", "DAMIAN", "EDITH", "FELIX", "GRETA", "HUGO", "INES", "JONAS"];
-const STREETS: [&str; 5] = ["MILL LANE", "CHURCH ROW", "RIVER WALK", "LINDEN COURT", "HARBOUR STREET"];
+const GIVEN: [&str; 10] = [
+    "ALMA", "BRUNO", "CLARA", "DAMIAN", "EDITH", "FELIX", "GRETA", "HUGO", "INES", "JONAS",
+];
+const STREETS: [&str; 5] = [
+    "MILL LANE",
+    "CHURCH ROW",
+    "RIVER WALK",
+    "LINDEN COURT",
+    "HARBOUR STREET",
+];
 const TOWNS: [&str; 4] = ["SOUTHWICK", "NORTHFORD", "EASTMERE", "WESTHAVEN"];
 const TESTS: [(&str, &str, &str, &str); 8] = [
-    ("718-7", "Hemoglobin [Mass/volume] in Blood", "g/dL", "12.0-17.0"),
-    ("777-3", "Platelets [#/volume] in Blood by Automated count", "10*9/L", "150-400"),
-    ("789-8", "Erythrocytes [#/volume] in Blood by Automated count", "10*12/L", "4-6"),
-    ("787-2", "MCV [Entitic volume] by Automated count", "fL", "80-100"),
-    ("2951-2", "Sodium [Moles/volume] in Serum or Plasma", "mmol/L", "135-145"),
-    ("2823-3", "Potassium [Moles/volume] in Serum or Plasma", "mmol/L", "3.5-5.1"),
-    ("2160-0", "Creatinine [Mass/volume] in Serum or Plasma", "mg/dL", "0.6-1.3"),
-    ("1988-5", "C reactive protein [Mass/volume] in Serum or Plasma", "mg/L", "0-10"),
+    (
+        "718-7",
+        "Hemoglobin [Mass/volume] in Blood",
+        "g/dL",
+        "12.0-17.0",
+    ),
+    (
+        "777-3",
+        "Platelets [#/volume] in Blood by Automated count",
+        "10*9/L",
+        "150-400",
+    ),
+    (
+        "789-8",
+        "Erythrocytes [#/volume] in Blood by Automated count",
+        "10*12/L",
+        "4-6",
+    ),
+    (
+        "787-2",
+        "MCV [Entitic volume] by Automated count",
+        "fL",
+        "80-100",
+    ),
+    (
+        "2951-2",
+        "Sodium [Moles/volume] in Serum or Plasma",
+        "mmol/L",
+        "135-145",
+    ),
+    (
+        "2823-3",
+        "Potassium [Moles/volume] in Serum or Plasma",
+        "mmol/L",
+        "3.5-5.1",
+    ),
+    (
+        "2160-0",
+        "Creatinine [Mass/volume] in Serum or Plasma",
+        "mg/dL",
+        "0.6-1.3",
+    ),
+    (
+        "1988-5",
+        "C reactive protein [Mass/volume] in Serum or Plasma",
+        "mg/L",
+        "0-10",
+    ),
 ];
 const AUTHORITY: &str = "HOSP&2.16.840.1.999999.2&ISO";
 
@@ -68,7 +137,12 @@ fn header(dice: &mut Dice, sender: &str, kind: &str, number: u64) -> String {
 }
 
 fn doctor(dice: &mut Dice) -> String {
-    format!("{}^{}^{}^^^DR^^^{AUTHORITY}^L^^^EI", dice.digits(5), dice.one(&FAMILIES), dice.one(&GIVEN))
+    format!(
+        "{}^{}^{}^^^DR^^^{AUTHORITY}^L^^^EI",
+        dice.digits(5),
+        dice.one(&FAMILIES),
+        dice.one(&GIVEN)
+    )
 }
 
 /// How a message breaks its profile, if it does: one in fifty.
@@ -129,7 +203,12 @@ fn admission(dice: &mut Dice, number: u64) -> String {
             dice.one(&GIVEN)
         );
     }
-    let (ward, attending, consulting, admitting) = (dice.one(&["W02", "PED", "ED", "ICU"]), doctor(dice), doctor(dice), doctor(dice));
+    let (ward, attending, consulting, admitting) = (
+        dice.one(&["W02", "PED", "ED", "ICU"]),
+        doctor(dice),
+        doctor(dice),
+        doctor(dice),
+    );
     let _ = write!(
         text,
         "PV1|1|{}|{ward}^17^3^{AUTHORITY}|A||MAT^8^4|{attending}|{consulting}||MED||||1|||{admitting}||{}^^^{AUTHORITY}^VN|||||||||||||||||||||||||{}\r",
@@ -138,14 +217,27 @@ fn admission(dice: &mut Dice, number: u64) -> String {
         dice.moment()
     );
     for i in 0..dice.below(4) {
-        let _ = write!(text, "OBX|{}|NM|29463-7^Body weight^LN||{}|kg|||||F\r", i + 1, 40 + dice.below(80));
+        let _ = write!(
+            text,
+            "OBX|{}|NM|29463-7^Body weight^LN||{}|kg|||||F\r",
+            i + 1,
+            40 + dice.below(80)
+        );
     }
     for i in 0..dice.below(3) {
-        let _ = write!(text, "AL1|{}|DA^^HL70127|7980^PENICILLIN G \\T\\ OTHERS^RXNORM|SV|RASH\r", i + 1);
+        let _ = write!(
+            text,
+            "AL1|{}|DA^^HL70127|7980^PENICILLIN G \\T\\ OTHERS^RXNORM|SV|RASH\r",
+            i + 1
+        );
     }
     for i in 0..1 + dice.below(3) {
         let at = dice.moment();
-        let _ = write!(text, "DG1|{}||E11.9^Type 2 diabetes mellitus without complications^I10||{at}|A\r", i + 1);
+        let _ = write!(
+            text,
+            "DG1|{}||E11.9^Type 2 diabetes mellitus without complications^I10||{at}|A\r",
+            i + 1
+        );
     }
     for i in 0..dice.below(5) {
         let policy = dice.digits(8);
@@ -239,7 +331,11 @@ fn save(folder: &Path, name: &str, contents: &[String]) -> io::Result<()> {
         stream.extend_from_slice(&[0x1c, 0x0d]);
     }
     let bytes: usize = contents.iter().map(String::len).sum();
-    println!("{name}: {} messages of {} bytes on average", contents.len(), bytes / contents.len());
+    println!(
+        "{name}: {} messages of {} bytes on average",
+        contents.len(),
+        bytes / contents.len()
+    );
     fs::write(folder.join(name), stream)
 }
 

@@ -1,7 +1,7 @@
 //! Answers in original acknowledgment mode (HL7 v2.5.1 chapter 2, 2.9.2).
-use crate::er7::{Message, Repetition, is_present, read, write_repetition};
+use crate::er7::{is_present, read, write_repetition, Message, Repetition};
 use crate::profile::Profile;
-use crate::validate::{Breach, validate};
+use crate::validate::{validate, Breach};
 
 fn text_of(code: u16) -> &'static str {
     match code {
@@ -26,7 +26,8 @@ impl Header<'_> {
     }
 
     fn text(&self, field: usize, comp: usize) -> &[u8] {
-        self.message.map_or(&[], |message| message.segments[0].text(field, 1, comp, 1))
+        self.message
+            .map_or(&[], |message| message.segments[0].text(field, 1, comp, 1))
     }
 
     fn processing(&self) -> Vec<u8> {
@@ -68,7 +69,11 @@ fn add_error(out: &mut Vec<u8>, location: &str, code: u16) {
 }
 
 fn location(breach: &Breach) -> String {
-    let mut location = format!("{}^{}", String::from_utf8_lossy(&breach.segment), breach.sequence);
+    let mut location = format!(
+        "{}^{}",
+        String::from_utf8_lossy(&breach.segment),
+        breach.sequence
+    );
     for number in breach.place.iter().take_while(|number| **number > 0) {
         location.push_str(&format!("^{number}"));
     }
@@ -82,7 +87,9 @@ pub fn answer(profile: &Profile, stamp: &str, number: u64, content: &[u8]) -> (b
         add_error(&mut out, "", 207);
         return (false, out);
     };
-    let header = Header { message: Some(&message) };
+    let header = Header {
+        message: Some(&message),
+    };
     match validate(profile, &message) {
         None => (true, begun(&header, stamp, number, "AA")),
         Some(breach) => {

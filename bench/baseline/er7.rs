@@ -138,7 +138,9 @@ fn parts<T>(raw: &[u8], separator: u8, read: impl Fn(&[u8]) -> T) -> Vec<T> {
 fn read_field(delimiters: &Delimiters, raw: &[u8]) -> Field {
     parts(raw, delimiters.repetition, |raw| {
         parts(raw, delimiters.component, |raw| {
-            parts(raw, delimiters.subcomponent, |raw| canonical(delimiters, raw))
+            parts(raw, delimiters.subcomponent, |raw| {
+                canonical(delimiters, raw)
+            })
         })
     })
 }
@@ -146,7 +148,9 @@ fn read_field(delimiters: &Delimiters, raw: &[u8]) -> Field {
 fn read_segment(delimiters: &Delimiters, line: &[u8]) -> Result<Segment, Unreadable> {
     let named = line.len() >= 3
         && line[0].is_ascii_uppercase()
-        && line[1..3].iter().all(|byte| byte.is_ascii_uppercase() || byte.is_ascii_digit());
+        && line[1..3]
+            .iter()
+            .all(|byte| byte.is_ascii_uppercase() || byte.is_ascii_digit());
     if !named || &line[..3] == b"MSH" || (line.len() > 3 && line[3] != delimiters.field) {
         return Err(Unreadable);
     }
@@ -161,7 +165,9 @@ fn read_segment(delimiters: &Delimiters, line: &[u8]) -> Result<Segment, Unreada
 fn read_header(delimiters: &Delimiters, line: &[u8]) -> Segment {
     let mut fields = vec![Vec::new(), Vec::new()];
     let behind = line.get(9..).unwrap_or(&[]);
-    fields.extend(parts(behind, delimiters.field, |raw| read_field(delimiters, raw)));
+    fields.extend(parts(behind, delimiters.field, |raw| {
+        read_field(delimiters, raw)
+    }));
     Segment {
         name: *b"MSH",
         fields,
@@ -203,7 +209,10 @@ pub fn write_repetition(out: &mut Vec<u8>, repetition: &[Component]) {
         if i > 0 {
             out.push(b'^');
         }
-        for (k, text) in trimmed(component, |text| !text.is_empty()).iter().enumerate() {
+        for (k, text) in trimmed(component, |text| !text.is_empty())
+            .iter()
+            .enumerate()
+        {
             if k > 0 {
                 out.push(b'&');
             }

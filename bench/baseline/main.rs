@@ -6,14 +6,15 @@ mod profile;
 mod validate;
 
 use answer::answer;
-use mllp::{Decoder, block};
+use mllp::{block, Decoder};
 use std::io::{self, Read, Write};
 use std::process::ExitCode;
 
 /// The status of the program that this one is compared with: 0 all AA, 1 not, 3 a fault of a frame or a device.
 fn run(path: &str, stamp: &str) -> io::Result<u8> {
     let text = std::fs::read_to_string(path)?;
-    let profile = profile::parse(&text).map_err(|line| io::Error::other(format!("profile line {line}")))?;
+    let profile =
+        profile::parse(&text).map_err(|line| io::Error::other(format!("profile line {line}")))?;
     let mut input = io::stdin().lock();
     let mut output = io::stdout().lock();
     let mut decoder = Decoder::default();

@@ -76,8 +76,15 @@ fn usage(word: &str) -> Usage {
 
 fn card(word: &str) -> Option<Card> {
     let (min, max) = word.split_once("..")?;
-    let max = if max == "*" { usize::MAX } else { max.parse().ok()? };
-    Some(Card { min: min.parse().ok()?, max })
+    let max = if max == "*" {
+        usize::MAX
+    } else {
+        max.parse().ok()?
+    };
+    Some(Card {
+        min: min.parse().ok()?,
+        max,
+    })
 }
 
 /// What follows a usage and a cardinality: `leaf`, `len N`, `table NAME`.
@@ -139,7 +146,11 @@ impl Parser {
         let options = options(words.get(4..)?, &self.names_of_tables)?;
         let subs = leaf(&options);
         let comps = if options.is_leaf {
-            vec![Comp { number: 1, usage: Usage::Required, subs }]
+            vec![Comp {
+                number: 1,
+                usage: Usage::Required,
+                subs,
+            }]
         } else {
             Vec::new()
         };
@@ -180,13 +191,21 @@ impl Parser {
         let name: [u8; 3] = words[1].as_bytes().try_into().ok()?;
         let card = card(words.last()?)?;
         self.profile.names.insert(name);
-        self.level().push(Node::Segment { name, card, fields: Vec::new() });
+        self.level().push(Node::Segment {
+            name,
+            card,
+            fields: Vec::new(),
+        });
         Some(())
     }
 
     fn take_table(&mut self, words: &[String]) {
-        self.names_of_tables.insert(words[1].clone(), self.profile.tables.len());
-        let values = words[2..].iter().map(|word| word.clone().into_bytes()).collect();
+        self.names_of_tables
+            .insert(words[1].clone(), self.profile.tables.len());
+        let values = words[2..]
+            .iter()
+            .map(|word| word.clone().into_bytes())
+            .collect();
         self.profile.tables.push(values);
     }
 

@@ -1,5 +1,5 @@
 //! Whether a message conforms to a profile, and if not, its least breach (HL7 v2.5.1 chapter 2, 2.12).
-use crate::er7::{Message, Repetition, Segment, is_component_present, is_present};
+use crate::er7::{is_component_present, is_present, Message, Repetition, Segment};
 use crate::profile::{Comp, Field, Node, Profile, Sub, Usage};
 
 /// A breach: its code, and its place with 0 for what isn't said.
@@ -18,7 +18,9 @@ const TABLE: u16 = 103;
 fn can_begin(nodes: &[Node], name: [u8; 3]) -> bool {
     for node in nodes {
         let (begins, min) = match node {
-            Node::Segment { name: own, card, .. } => (card.max > 0 && *own == name, card.min),
+            Node::Segment {
+                name: own, card, ..
+            } => (card.max > 0 && *own == name, card.min),
             Node::Group { card, nodes } => (can_begin(nodes, name), card.min),
         };
         if begins {
@@ -124,7 +126,9 @@ fn sub_breach(profile: &Profile, shape: &Sub, text: &[u8]) -> Option<u16> {
 }
 
 fn comp_breach(profile: &Profile, shape: &Comp, repetition: &Repetition) -> Found<1> {
-    let component = repetition.get(shape.number - 1).filter(|found| is_component_present(found));
+    let component = repetition
+        .get(shape.number - 1)
+        .filter(|found| is_component_present(found));
     let Some(component) = component else {
         return (shape.usage == Usage::Required).then_some((MISSING, [0]));
     };
@@ -146,14 +150,20 @@ fn rep_breach(profile: &Profile, shape: &Field, repetition: &Repetition) -> Foun
 
 fn field_breach(profile: &Profile, shape: &Field, segment: &Segment) -> Found<3> {
     let field = segment.field(shape.number);
-    let count = field.iter().filter(|repetition| is_present(repetition)).count();
+    let count = field
+        .iter()
+        .filter(|repetition| is_present(repetition))
+        .count();
     if shape.usage == Usage::Forbidden {
         return (count > 0).then_some((DATA, [0; 3]));
     }
     if count < shape.card.min {
         return Some((MISSING, [0; 3]));
     }
-    let present = field.iter().enumerate().filter(|(_, repetition)| is_present(repetition));
+    let present = field
+        .iter()
+        .enumerate()
+        .filter(|(_, repetition)| is_present(repetition));
     for (before, (i, repetition)) in present.enumerate() {
         if before == shape.card.max {
             return Some((DATA, [i + 1, 0, 0]));
@@ -172,8 +182,17 @@ fn segment_breach(profile: &Profile, shapes: &[Field], segment: &Segment) -> Fou
     })
 }
 
-fn breach_at(message: &Message, number: usize, name: [u8; 3], code: u16, place: [usize; 4]) -> Breach {
-    let before = message.segments[..number].iter().filter(|segment| segment.name == name).count();
+fn breach_at(
+    message: &Message,
+    number: usize,
+    name: [u8; 3],
+    code: u16,
+    place: [usize; 4],
+) -> Breach {
+    let before = message.segments[..number]
+        .iter()
+        .filter(|segment| segment.name == name)
+        .count();
     Breach {
         code,
         segment: name,
@@ -194,7 +213,10 @@ pub fn validate(profile: &Profile, message: &Message) -> Option<Breach> {
         assigned: Vec::new(),
     };
     let misfit = match cut.take_nodes(&profile.nodes) {
-        Ok(()) => cut.listed.get(cut.next).map(|number| Misfit::OutOfOrder(*number)),
+        Ok(()) => cut
+            .listed
+            .get(cut.next)
+            .map(|number| Misfit::OutOfOrder(*number)),
         Err(misfit) => Some(misfit),
     };
     match misfit {
@@ -202,9 +224,13 @@ pub fn validate(profile: &Profile, message: &Message) -> Option<Breach> {
             let name = message.segments[number].name;
             Some(breach_at(message, number, name, SEQUENCE, [0; 4]))
         }
-        Some(Misfit::Missing(name)) => {
-            Some(breach_at(message, message.segments.len(), name, SEQUENCE, [0; 4]))
-        }
+        Some(Misfit::Missing(name)) => Some(breach_at(
+            message,
+            message.segments.len(),
+            name,
+            SEQUENCE,
+            [0; 4],
+        )),
         None => cut.assigned.iter().find_map(|(number, shapes)| {
             let segment = &message.segments[*number];
             let (code, place) = segment_breach(profile, shapes, segment)?;
