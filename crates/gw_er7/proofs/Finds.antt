@@ -1,11 +1,11 @@
 -- Look-ups among leaves in order.
-use Rattle.std.proofs.Common.{◌≡◌, ◌≢◌, ℕ, zero, suc, ◌+◌, ◌<◌, ◌≤◌, Bool, true, false, cond, not, List, [], ◌∷◌, length, get_or, drop, Option, None, Some, Ordering, Less, Equal, Greater, refl, sym, ap, subst, ◌∙◌, arith, inl, inr}
+use Rattle.std.proofs.Common.{◌≡◌, ◌≢◌, ℕ, zero, suc, ◌+◌, ◌-◌, ◌<◌, ◌≤◌, Bool, true, false, cond, not, List, [], ◌∷◌, length, get_or, drop, Option, None, Some, Ordering, Less, Equal, Greater, refl, sym, ap, subst, ◌∙◌, arith, inl, inr}
 use Rattle.std.specs.Prelude.{◌==◌, ◌&&◌, T, unwrap_or}
 use Rattle.std.proofs.lemmas.Bool.{cases_lt, eq-eqb}
 use Rattle.std.proofs.lemmas.Bool.Decides.{nat_tests}
 use Rattle.std.proofs.lemmas.List.{drop_more, drop_all}
 use Rattle.std.proofs.lemmas.List.Sums.{position_or_len_is}
-use Rattle.std.specs.List.{position_or_len, prefix_len}
+use Rattle.std.specs.List.{position_or_len, prefix_len, AllWithin}
 use Rattle.std.specs.List.Sorted.{IsPartitionPoint, IsPartitionedBy}
 use Rattle.std.specs.Ordering.{nat_cmp, is_lt, is_eq, eq_by_cmp, ordering_reverse}
 use Rattle.std.specs.Cmp.Lexicographic.{slice_cmp, nat_list_cmp_total}
@@ -51,6 +51,23 @@ partitioned q xs h i j d le short is =
       | inl lt ↦ ap is_lt (nat_list_cmp_total.trans (key (get_or xs i d)) (key (get_or xs j d)) q (rising_at xs i j d h lt short) (lt_true _ is))
       | inr ge ↦ (let same : j ≡ i = omega (arith, le, ge) in subst (λ (k : ℕ). is_below q (get_or xs k d) ≡ true) same is)
     ]
+
+here : (xs : List Leaf) (n : ℕ) (l d : Leaf) → n < length xs → l ≡ get_or xs n l → get_or xs n d ≡ l
+here [] n l d lt is = absurd (omega arith)
+here (x ∷ xs) zero l d lt is = sym is
+here (x ∷ xs) (suc n) l d lt is = here xs n l d (omega arith) is
+
+-- where one leaf is below, so are those before it; where one isn't, so aren't those behind it
+pub all_below : (q : List ℕ) (xs : List Leaf) (n : ℕ) (l : Leaf) → Sorted xs → n < length xs → l ≡ get_or xs n l → is_below q l ≡ true → AllWithin (λ y. is_below q y ≡ true) xs 0 (n + 1)
+all_below q xs n l h lt is below = λ k d low high. partitioned q xs h k n d (omega arith) lt (ap (is_below q) (here xs n l d lt is) ∙ below)
+
+pub none_below : (q : List ℕ) (xs : List Leaf) (n : ℕ) (l : Leaf) → Sorted xs → n < length xs → l ≡ get_or xs n l → is_below q l ≡ false → AllWithin (λ y. is_below q y ≡ false) xs n (length xs)
+none_below q xs n l h lt is behind = λ k d low high. by k d low high (is_below q (get_or xs k d)) refl
+  where
+    by : (k : ℕ) (d : Leaf) → n ≤ k → k < length xs → (b : Bool) → is_below q (get_or xs k d) ≡ b → is_below q (get_or xs k d) ≡ false
+    by k d low high false e = e
+    by k d low high true e =
+        absurd (let z : true ≡ false = sym (partitioned q xs h n k d low high e) ∙ ap (is_below q) (here xs n l d lt is) ∙ behind in let no_more : ⊥ = cc in no_more)
 
 pub count_is : (q : List ℕ) (xs : List Leaf) (n : ℕ) → n ≤ length xs → IsPartitionPoint (λ y. is_below q y ≡ true) (λ y. is_below q y ≡ false) xs n → n ≡ position_or_len (λ l. not (is_below q l)) xs
 count_is q [] n le h = omega arith

@@ -1,6 +1,6 @@
 //! Look-ups among leaves in order.
-ghost use Rattle.std.specs.Prelude.{◌≡◌, ◌≤◌, [], length, unwrap_or, not, T, true, false};
-ghost use Rattle.std.specs.List.{position_or_len};
+ghost use Rattle.std.specs.Prelude.{◌≡◌, ◌≤◌, [], length, unwrap_or, not, T, IsTrue, true, false};
+ghost use Rattle.std.specs.List.{position_or_len, AllWithin};
 ghost use Rattle.std.specs.List.Sorted.{IsPartitionPoint};
 ghost use Rattle.std.specs.Ordering.{nat_cmp, is_lt};
 ghost use Rattle.std.specs.Cmp.Lexicographic.{slice_cmp};
@@ -43,12 +43,53 @@ pub(crate) fn count_below(leaves: &[Leaf], place: Place) -> usize
     )
 }
 
-/// The text at a place, empty where it is absent.
-pub(crate) fn text_in(leaves: &[Leaf], place: Place) -> &[u8]
+/// How far behind the number that was named a place is looked for, before all the leaves are searched.
+const NEAR: usize = 8;
+
+// Whether the leaves before this number stand at places below this one.
+fn are_below(leaves: &[Leaf], at: usize, place: Place) -> bool
     requires { T (is_sorted (slice_cmp nat_cmp) (entries_of leaves.now)) }
+    ensures bound { IsTrue result → at ≤ length leaves.now }
+    ensures below { IsTrue result → AllWithin (λ l. is_below (numbers place) l ≡ true) leaves.now 0 at }
+{
+    if at == 0 {
+        return true;
+    }
+    if at > leaves.len() {
+        return false;
+    }
+    is_below(&leaves[at - 1], place)
+}
+
+/// How many leaves stand at places below this one: found at once where that is the number named or one of a few behind it.
+pub(crate) fn count_below_near(leaves: &[Leaf], near: usize, place: Place) -> usize
+    requires { T (is_sorted (slice_cmp nat_cmp) (entries_of leaves.now)) }
+    ensures bound { result ≤ length leaves.now }
+    ensures start { IsPartitionPoint (λ l. is_below (numbers place) l ≡ true) (λ l. is_below (numbers place) l ≡ false) leaves.now result }
+{
+    if !are_below(leaves, near, place) {
+        return count_below(leaves, place);
+    }
+    let mut at = near;
+    for _step in 0..NEAR {
+        if at == leaves.len() {
+            return at;
+        }
+        if !is_below(&leaves[at], place) {
+            return at;
+        }
+        at += 1;
+    }
+    count_below(leaves, place)
+}
+
+// The text at a place that these many leaves stand below, empty where it is absent.
+fn text_behind(leaves: &[Leaf], at: usize, place: Place) -> &[u8]
+    requires sorted { T (is_sorted (slice_cmp nat_cmp) (entries_of leaves.now)) }
+    requires bound { at ≤ length leaves.now }
+    requires start { IsPartitionPoint (λ l. is_below (numbers place) l ≡ true) (λ l. is_below (numbers place) l ≡ false) leaves.now at }
     ensures { result.now ≡ unwrap_or (find (slice_cmp nat_cmp) (numbers place) (entries_of leaves.now)) [] }
 {
-    let at = count_below(leaves, place);
     if at >= leaves.len() {
         return &[];
     }
@@ -57,4 +98,20 @@ pub(crate) fn text_in(leaves: &[Leaf], place: Place) -> &[u8]
         return &[];
     }
     leaf.text.as_slice()
+}
+
+/// The text at a place, empty where it is absent.
+pub(crate) fn text_in(leaves: &[Leaf], place: Place) -> &[u8]
+    requires { T (is_sorted (slice_cmp nat_cmp) (entries_of leaves.now)) }
+    ensures { result.now ≡ unwrap_or (find (slice_cmp nat_cmp) (numbers place) (entries_of leaves.now)) [] }
+{
+    text_behind(leaves, count_below(leaves, place), place)
+}
+
+/// The same, looked for from a number on.
+pub(crate) fn text_near(leaves: &[Leaf], near: usize, place: Place) -> &[u8]
+    requires { T (is_sorted (slice_cmp nat_cmp) (entries_of leaves.now)) }
+    ensures { result.now ≡ unwrap_or (find (slice_cmp nat_cmp) (numbers place) (entries_of leaves.now)) [] }
+{
+    text_behind(leaves, count_below_near(leaves, near, place), place)
 }

@@ -159,7 +159,11 @@ fn a_segment_is_looked_at(rt: HostRuntime) -> Result<(), Fail> {
     assert_eq!(rt; segment.comps(3, 1), 2);
     assert_eq!(rt; segment.comps(3, 2), 0);
     assert_eq!(rt; segment.subs(3, 1, 2), 2);
-    assert_eq!(rt; segment.values_before(place(3, 1, 2, 0)), 2);
+    for near in 0..8 {
+        assert_eq!(rt; segment.values_before(near, place(3, 1, 2, 0)), 2);
+        assert_eq!(rt; segment.text_near(near, place(3, 3, 1, 1)), b"d".as_slice());
+        assert!(rt; segment.text_near(near, place(3, 2, 1, 1)).is_empty());
+    }
     assert_eq!(rt; segment.value_count(), VALUES.len());
     for i in 0..segment.value_count() {
         let value = segment.value(i);

@@ -5,7 +5,7 @@ ghost use Rattle.gw_er7.specs.View.{entries_of};
 
 use crate::counts::last_under;
 use crate::place::Place;
-use crate::search::{count_below, text_in};
+use crate::search::{count_below_near, text_in, text_near};
 use crate::segment::Leaf;
 use std::marker::Model;
 
@@ -132,10 +132,18 @@ impl<'a> Segment<'a> {
         value_at(self.leaves, i)
     }
 
-    /// How many texts stand at places below this one: the number of the first text from there on. It takes no memory.
-    pub fn values_before(&self, place: Place) -> usize
+    /// How many texts stand at places below this one: the number of the first text from there on.
+    /// It takes no memory, and a constant time where that is the number named or one of a few behind it.
+    pub fn values_before(&self, near: usize, place: Place) -> usize
         ensures { IsStart (numbers place) (texts.entries self.now.at) result }
     {
-        count_below(self.leaves, place)
+        count_below_near(self.leaves, near, place)
+    }
+
+    /// The same as `text`, in a constant time where the text's number is the one named or one of a few behind it.
+    pub fn text_near(&self, near: usize, place: Place) -> &'a [u8]
+        ensures { result.now ≡ text_at self.now place }
+    {
+        text_near(self.leaves, near, place)
     }
 }

@@ -141,49 +141,43 @@ all_at f P (z ∷ ys) (suc i) y lt at a = all_at f P ys i y (omega arith) at a.1
 
 -- ---- components
 
-module _ (tables : List TableValue) (m : Texts) (f r : ℕ) (shape : CompValue) (last : ℕ) (is : IsLast (SubAt m f r shape.number) last) where
-  absent : last ≡ 0 → CompAt m f r shape.number → ⊥
-  absent z c = let w = is.within c.0 c.1 in omega (arith, w.0, w.1, z)
-
-  present : (last ≡ 0 → ⊥) → CompAt m f r shape.number
-  present some = (last, is.there (omega arith))
-
-  pub absent_comp_least : (o : Option Spot) → last ≡ 0 → option_map comp_key o ≡ (if is_required shape.usage then Some (0 ∷ 3 ∷ []) else None) → Least (CompBreach tables m f r shape) (option_map comp_key o)
+module _ (tables : List TableValue) (m : Texts) (f r : ℕ) (shape : CompValue) where
+  pub absent_comp_least : (o : Option Spot) → (CompAt m f r shape.number → ⊥) → option_map comp_key o ≡ (if is_required shape.usage then Some (0 ∷ 3 ∷ []) else None) → Least (CompBreach tables m f r shape) (option_map comp_key o)
   absent_comp_least o z e = subst (Least (CompBreach tables m f r shape)) (sym e) (by (is_required shape.usage) refl)
     where
       only : (q : List ℕ) → CompBreach tables m f r shape q → NotAfter (0 ∷ 3 ∷ []) q
       only q (comp_absent a b) = not_after_self (0 ∷ 3 ∷ [])
-      only q (comp_forbidden a b) = absurd (absent z b)
-      only q (in_sub a b) = absurd (absent z a)
+      only q (comp_forbidden a b) = absurd (z b)
+      only q (in_sub a b) = absurd (z a)
 
       never : is_required shape.usage ≡ false → (q : List ℕ) → CompBreach tables m f r shape q → ⊥
       never u q (comp_absent a b) = true_false (sym a ∙ u)
-      never u q (comp_forbidden a b) = absent z b
-      never u q (in_sub a b) = absent z a
+      never u q (comp_forbidden a b) = z b
+      never u q (in_sub a b) = z a
 
       by : (b : Bool) → is_required shape.usage ≡ b → Least (CompBreach tables m f r shape) (if is_required shape.usage then Some (0 ∷ 3 ∷ []) else None)
-      by true u = subst (λ b. Least (CompBreach tables m f r shape) (if b then Some (0 ∷ 3 ∷ []) else None)) (sym u) (comp_absent u (absent z), only)
+      by true u = subst (λ b. Least (CompBreach tables m f r shape) (if b then Some (0 ∷ 3 ∷ []) else None)) (sym u) (comp_absent u z, only)
       by false u = subst (λ b. Least (CompBreach tables m f r shape) (if b then Some (0 ∷ 3 ∷ []) else None)) (sym u) (never u)
 
-  pub forbidden_comp_least : CompRises shape → (last ≡ 0 → ⊥) → is_forbidden shape.usage ≡ true → Least (CompBreach tables m f r shape) (Some (0 ∷ 4 ∷ []))
-  forbidden_comp_least rises some u = (comp_forbidden u (present some), only)
+  pub forbidden_comp_least : CompRises shape → CompAt m f r shape.number → is_forbidden shape.usage ≡ true → Least (CompBreach tables m f r shape) (Some (0 ∷ 4 ∷ []))
+  forbidden_comp_least rises some u = (comp_forbidden u some, only)
     where
       only : (q : List ℕ) → CompBreach tables m f r shape q → NotAfter (0 ∷ 4 ∷ []) q
-      only q (comp_absent a b) = absurd (b (present some))
+      only q (comp_absent a b) = absurd (b some)
       only q (comp_forbidden a b) = not_after_self (0 ∷ 4 ∷ [])
       only q (in_sub a b) = later_above (λ s. s.number) (λ s. SubBreach tables s (text_of m f r shape.number s.number)) 0 shape.subs rises 0 (4 ∷ []) q (omega arith) b
 
-  pub subs_comp_least : (o : Option (List ℕ)) → (last ≡ 0 → ⊥) → is_forbidden shape.usage ≡ false → Least (SubsBreach tables m f r shape.number shape.subs) o → Least (CompBreach tables m f r shape) o
+  pub subs_comp_least : (o : Option (List ℕ)) → CompAt m f r shape.number → is_forbidden shape.usage ≡ false → Least (SubsBreach tables m f r shape.number shape.subs) o → Least (CompBreach tables m f r shape) o
   subs_comp_least None some u l = none
     where
       none : (q : List ℕ) → CompBreach tables m f r shape q → ⊥
-      none q (comp_absent a b) = b (present some)
+      none q (comp_absent a b) = b some
       none q (comp_forbidden a b) = true_false (sym a ∙ u)
       none q (in_sub a b) = l q b
-  subs_comp_least (Some p) some u l = (in_sub (present some) l.0, only)
+  subs_comp_least (Some p) some u l = (in_sub some l.0, only)
     where
       only : (q : List ℕ) → CompBreach tables m f r shape q → NotAfter p q
-      only q (comp_absent a b) = absurd (b (present some))
+      only q (comp_absent a b) = absurd (b some)
       only q (comp_forbidden a b) = absurd (true_false (sym a ∙ u))
       only q (in_sub a b) = l.1 q b
 
@@ -330,23 +324,23 @@ module _ (tables : List TableValue) (m : Texts) (shape : FieldValue) where
     last_once : (P : ℕ → Type 0) (a b : ℕ) → IsLast P a → IsLast P b → a ≡ b
     last_once P a b x y = let p = up P a b x y in let q = up P b a y x in omega arith
 
-    enough : (count l k : ℕ) → Counted (RepAt m shape.number) last count → shape.card.min ≤ count → IsLast (RepAt m shape.number) l → Counted (RepAt m shape.number) l k → k < shape.card.min → ⊥
-    enough count l k c le x d lt =
+    enough : (l k : ℕ) → ((count : ℕ) → Counted (RepAt m shape.number) last count → shape.card.min ≤ count) → IsLast (RepAt m shape.number) l → Counted (RepAt m shape.number) l k → k < shape.card.min → ⊥
+    enough l k le x d lt =
         let e : l ≡ last = last_once (RepAt m shape.number) l last x is in
-        let same : k ≡ count = counted_once (RepAt m shape.number) last k count (subst (λ j. Counted (RepAt m shape.number) j k) e d) c in
-        omega arith
+        let w = le k (subst (λ n. Counted (RepAt m shape.number) n k) e d) in
+        omega (arith, w, lt)
 
-    pub reps_field_least : (count : ℕ) (o : Option (List ℕ)) → is_forbidden shape.usage ≡ false → Counted (RepAt m shape.number) last count → shape.card.min ≤ count → Least (RepsBreach tables m shape) o → Least (FieldBreach tables m shape) o
-    reps_field_least count None u c le l = none
+    pub reps_field_least : (o : Option (List ℕ)) → is_forbidden shape.usage ≡ false → ((count : ℕ) → Counted (RepAt m shape.number) last count → shape.card.min ≤ count) → Least (RepsBreach tables m shape) o → Least (FieldBreach tables m shape) o
+    reps_field_least None u le l = none
       where
         none : (q : List ℕ) → FieldBreach tables m shape q → ⊥
-        none q (too_few {last = k} {count = j} a b d e) = enough count k j c le b d e
+        none q (too_few {last = k} {count = j} a b d e) = enough k j le b d e
         none q (field_forbidden a b) = true_false (sym a ∙ u)
         none q (in_reps b) = l q b
-    reps_field_least count (Some p) u c le l = (in_reps l.0, only)
+    reps_field_least (Some p) u le l = (in_reps l.0, only)
       where
         only : (q : List ℕ) → FieldBreach tables m shape q → NotAfter p q
-        only q (too_few {last = k} {count = j} a b d e) = absurd (enough count k j c le b d e)
+        only q (too_few {last = k} {count = j} a b d e) = absurd (enough k j le b d e)
         only q (field_forbidden a b) = absurd (true_false (sym a ∙ u))
         only q (in_reps b) = l.1 q b
 

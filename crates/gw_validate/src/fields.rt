@@ -117,6 +117,7 @@ fn absent_sub(shape: &SubShape) -> Option<Kind>
 fn subs_breach(
     profile: &Profile,
     segment: &Segment<'_>,
+    near: usize,
     field: usize,
     rep: usize,
     comp: usize,
@@ -126,12 +127,13 @@ fn subs_breach(
     ensures { Least (SubsBreach profile.now.tables segment.now.at field rep comp (map sub subs.now)) (option_map comp_key result) }
 {
     for (i, sub) in subs.iter().enumerate() {
-        let text = segment.text(Place {
+        let place = Place {
             field,
             rep,
             comp,
             sub: sub.number as usize,
-        });
+        };
+        let text = segment.text_near(near, place);
         if let Some(kind) = sub_breach(profile, sub, text) {
             return Some(Spot {
                 sub: sub.number as usize,
@@ -153,10 +155,29 @@ fn absent_comp(shape: &CompShape) -> Option<Spot>
     }
 }
 
+// Whether a component is present.
+fn has_comp(segment: &Segment<'_>, near: usize, field: usize, rep: usize, comp: usize) -> bool
+    ensures yes { result ≡ true → CompAt segment.now.at field rep comp }
+    ensures no { result ≡ false → CompAt segment.now.at field rep comp → ⊥ }
+{
+    let first = Place {
+        field,
+        rep,
+        comp,
+        sub: 1,
+    };
+    let text = segment.text_near(near, first);
+    if text.len() > 0 {
+        return true;
+    }
+    segment.subs(field, rep, comp) > 0
+}
+
 // The least breach of a component.
 fn comp_breach(
     profile: &Profile,
     segment: &Segment<'_>,
+    near: usize,
     field: usize,
     rep: usize,
     shape: &CompShape,
@@ -164,8 +185,7 @@ fn comp_breach(
     requires { CompRises (comp_value shape.now) }
     ensures { Least (CompBreach profile.now.tables segment.now.at field rep (comp_value shape.now)) (option_map comp_key result) }
 {
-    let last = segment.subs(field, rep, shape.number as usize);
-    if last == 0 {
+    if !has_comp(segment, near, field, rep, shape.number as usize) {
         return absent_comp(shape);
     }
     if is_forbidden(shape.usage) {
@@ -174,6 +194,7 @@ fn comp_breach(
     subs_breach(
         profile,
         segment,
+        near,
         field,
         rep,
         shape.number as usize,
@@ -185,6 +206,7 @@ fn comp_breach(
 fn comps_breach(
     profile: &Profile,
     segment: &Segment<'_>,
+    near: usize,
     field: usize,
     rep: usize,
     comps: &[CompShape],
@@ -194,7 +216,7 @@ fn comps_breach(
     ensures { Least (CompsBreach profile.now.tables segment.now.at field rep (map comp_value comps.now)) (option_map rep_key result) }
 {
     for (i, comp) in comps.iter().enumerate() {
-        if let Some(found) = comp_breach(profile, segment, field, rep, comp) {
+        if let Some(found) = comp_breach(profile, segment, near, field, rep, comp) {
             return Some(Spot {
                 comp: comp.number as usize,
                 ..found
@@ -218,6 +240,7 @@ fn is_full(max: Option<u32>, count: usize) -> bool
 fn rep_breach(
     profile: &Profile,
     segment: &Segment<'_>,
+    near: usize,
     shape: &FieldShape,
     rep: usize,
     before: usize,
@@ -230,26 +253,42 @@ fn rep_breach(
     if is_full(shape.card.max, before) {
         return Some(of_kind(Kind::TooManyReps));
     }
-    comps_breach(profile, segment, shape.number as usize, rep, &shape.comps)
+    comps_breach(
+        profile,
+        segment,
+        near,
+        shape.number as usize,
+        rep,
+        &shape.comps,
+    )
+}
+
+/// A repetition that is present, and the number of its first text, from which others are looked for.
+#[derive(Clone, Copy)]
+struct Present {
+    rep: usize,
+    at: usize,
 }
 
 // The first repetition of a field that is present after this one, up to the last.
-fn next_rep(segment: &Segment<'_>, field: usize, after: usize, last: usize) -> usize
+fn next_rep(segment: &Segment<'_>, field: usize, after: Present, last: usize) -> Present
     requires last { IsLast (RepAt segment.now.at field) last }
-    requires after { after < last }
-    ensures there { RepAt segment.now.at field result }
-    ensures after { after < result }
-    ensures first { (rep : ℕ) → after < rep → RepAt segment.now.at field rep → result ≤ rep }
+    requires after { after.rep < last }
+    ensures there { RepAt segment.now.at field result.rep }
+    ensures after { after.rep < result.rep }
+    ensures first { (rep : ℕ) → after.rep < rep → RepAt segment.now.at field rep → result.rep ≤ rep }
 {
-    let start = segment.values_before(Place {
+    let place = Place {
         field,
-        rep: after + 1,
+        rep: after.rep + 1,
         comp: 0,
         sub: 0,
-    });
-    let holds = start < segment.value_count();
+    };
+    let at = segment.values_before(after.at, place);
+    let holds = at < segment.value_count();
     prove!(holds);
-    segment.value(start).place.rep
+    let rep = segment.value(at).place.rep;
+    Present { rep, at }
 }
 
 // The least breach in the repetitions of a field.
@@ -265,11 +304,14 @@ fn reps_breach(
     ensures { Least (RepsBreach profile.now.tables segment.now.at (field_value shape.now)) (option_map field_key result) }
 {
     let mut before = 0;
-    let mut rep = 0;
-    while rep < last {
-        rep = next_rep(segment, shape.number as usize, rep, last);
-        if let Some(found) = rep_breach(profile, segment, shape, rep, before) {
-            return Some(Spot { rep, ..found });
+    let mut found = Present { rep: 0, at: 0 };
+    while found.rep < last {
+        found = next_rep(segment, shape.number as usize, found, last);
+        if let Some(breach) = rep_breach(profile, segment, found.at, shape, found.rep, before) {
+            return Some(Spot {
+                rep: found.rep,
+                ..breach
+            });
         }
         before += 1;
     }
@@ -282,12 +324,25 @@ fn count_reps(segment: &Segment<'_>, field: usize, last: usize) -> usize
     ensures { Counted (RepAt segment.now.at field) last result }
 {
     let mut count = 0;
-    let mut rep = 0;
-    while rep < last {
-        rep = next_rep(segment, field, rep, last);
+    let mut found = Present { rep: 0, at: 0 };
+    while found.rep < last {
+        found = next_rep(segment, field, found, last);
         count += 1;
     }
     count
+}
+
+// Whether fewer repetitions of a field are present than must be. Where the last is present and one is enough, none is counted.
+fn comes_short(segment: &Segment<'_>, shape: &FieldShape, last: usize) -> bool
+    requires { IsLast (RepAt segment.now.at shape.now.number) last }
+    ensures yes { result ≡ true → (count : ℕ) × Counted (RepAt segment.now.at shape.now.number) last count × (count < shape.now.card.min) }
+    ensures no { result ≡ false → (count : ℕ) → Counted (RepAt segment.now.at shape.now.number) last count → shape.now.card.min ≤ count }
+{
+    if last > 0 && shape.card.min <= 1 {
+        return false;
+    }
+    let count = count_reps(segment, shape.number as usize, last);
+    (count as u64) < u64::from(shape.card.min)
 }
 
 // The least breach of a field.
@@ -302,8 +357,7 @@ fn field_breach(profile: &Profile, segment: &Segment<'_>, shape: &FieldShape) ->
         }
         return Some(of_kind(Kind::Forbidden));
     }
-    let count = count_reps(segment, shape.number as usize, last);
-    if (count as u64) < u64::from(shape.card.min) {
+    if comes_short(segment, shape, last) {
         return Some(of_kind(Kind::MissingValue));
     }
     reps_breach(profile, segment, shape, last)

@@ -34,7 +34,7 @@ fn grammar<'a>(alloc: Global) -> Result<Command<'a>, AllocError> {
         .version("0.1.0")
         .about("A message gateway for HL7 v2.5.1")
         .after_help(
-            "Statuses: 0 done, 1 refused, 2 usage, 3 read, write or frame fault, 4 out of memory",
+            "Statuses: 0 done, 1 refused, 2 usage, 3 read, write or frame fault, 4 out of memory\nThe numbers on standard error are explained in docs/PROGRAM.md",
         )
         .subcommand_required(true)
         .subcommand(validate(alloc)?)

@@ -7,6 +7,9 @@ use std::test::Fail;
 use std::time::Clock;
 use std::{fs, io};
 
+mod groups;
+mod refusals;
+
 const PROFILE: &[u8] =
     b"profile P1\ntable SEX M F U\nsegment MSH R 1..1\n  field 10 R 1..1\nsegment PID R 1..1\n  field 3 R 1..2\n  field 5 RE 0..1\n  field 8 RE 0..1 len 1 table SEX\nsegment NK1 O 0..2\n";
 

@@ -1,5 +1,5 @@
 use Rattle.gw_profile.specs.Seen.{field}
-use Rattle.std.proofs.Common.{sym, subst, Some}
+use Rattle.std.proofs.Common.{refl, sym, subst, Some}
 use Rattle.gw_validate.specs.declared.fields.Spot.{Spot}
 use Rattle.gw_validate.specs.Least.{Least, field_key}
 use Rattle.gw_validate.specs.Breaches.{FieldBreach}
@@ -15,11 +15,12 @@ returns-then-is_forbidden c =
     subst (λ (s : Spot). Least (FieldBreach c.args.profile.now.tables c.args.segment.now.at (field c.args.shape.now)) (Some (field_key s))) (sym c.of_kind.ensures)
     (forbidden_present c.args.profile.now.tables c.args.segment.now.at (field c.args.shape.now) c.reps-last.result c.reps-last.ensures (sym c.if-is_forbidden.ensures) c.if-last-eq0.false)
 
-pub returns-then-count-from : goal.returns-then-count-from
-returns-then-count-from c =
-    subst (λ (s : Spot). Least (FieldBreach c.args.profile.now.tables c.args.segment.now.at (field c.args.shape.now)) (Some (field_key s))) (sym c.of_kind-then-count-from.ensures)
-    (few_least c.args.profile.now.tables c.args.segment.now.at (field c.args.shape.now) c.reps-last.result c.reps-last.ensures c.count_reps-count.result (sym c.if-is_forbidden.ensures) c.count_reps-count.ensures (rw c.from.ensures at c.if-count-from.true))
+pub returns-then-comes_short : goal.returns-then-comes_short
+returns-then-comes_short c =
+    let few = c.if-comes_short.ensures.yes refl in
+    subst (λ (s : Spot). Least (FieldBreach c.args.profile.now.tables c.args.segment.now.at (field c.args.shape.now)) (Some (field_key s))) (sym c.of_kind-then-comes_short.ensures)
+    (few_least c.args.profile.now.tables c.args.segment.now.at (field c.args.shape.now) c.reps-last.result c.reps-last.ensures few.0 (sym c.if-is_forbidden.ensures) few.1 few.2)
 
 pub returns : goal.returns
 returns c =
-    reps_field_least c.args.profile.now.tables c.args.segment.now.at (field c.args.shape.now) c.reps-last.result c.reps-last.ensures c.count_reps-count.result _ (sym c.if-is_forbidden.ensures) c.count_reps-count.ensures (rw c.from.ensures at c.if-count-from.false) c.reps_breach.ensures
+    reps_field_least c.args.profile.now.tables c.args.segment.now.at (field c.args.shape.now) c.reps-last.result c.reps-last.ensures _ (sym c.if-is_forbidden.ensures) (c.if-comes_short.ensures.no refl) c.reps_breach.ensures

@@ -8,11 +8,11 @@ use Rattle.gw_validate.proofs.fields.subs_breach.Goals as goal
 
 pub returns-in-Some : goal.returns-in-Some
 returns-in-Some c =
-    sub_found sub c.args.profile.now.tables c.args.segment.now.at c.args.field c.args.rep c.args.comp c.args.subs.now c.loop-i.i c.index-subs-i.result c.text-text.result.now c.loop-i-test.true c.index-subs-i.is c.text-text.ensures c.in-Some.kind _ (ap (λ (s : Spot). s.kind) c.of_kind.ensures) c.loop-i.invariant c.requires c.in-Some.ensures
+    sub_found sub c.args.profile.now.tables c.args.segment.now.at c.args.field c.args.rep c.args.comp c.args.subs.now c.loop-i.i c.index-subs-i.result c.text_near-text.result.now c.loop-i-test.true c.index-subs-i.is c.text_near-text.ensures c.in-Some.kind _ (ap (λ (s : Spot). s.kind) c.of_kind.ensures) c.loop-i.invariant c.requires c.in-Some.ensures
 
 pub loop-i-preserved : goal.loop-i-preserved
 loop-i-preserved c =
-    sub_more sub c.args.profile.now.tables c.args.segment.now.at c.args.field c.args.rep c.args.comp c.args.subs.now c.loop-i.i c.index-subs-i.result c.text-text.result.now c.loop-i-test.true c.index-subs-i.is c.text-text.ensures c.loop-i.invariant c.in_default.ensures
+    sub_more sub c.args.profile.now.tables c.args.segment.now.at c.args.field c.args.rep c.args.comp c.args.subs.now c.loop-i.i c.index-subs-i.result c.text_near-text.result.now c.loop-i-test.true c.index-subs-i.is c.text_near-text.ensures c.loop-i.invariant c.in_default.ensures
 
 pub returns : goal.returns
 returns c =

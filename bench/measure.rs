@@ -1,0 +1,251 @@
+//! `measure PROGRAM BASELINE PROFILES TRAFFIC ROUNDS`: runs both over each stream, compares their answers, and prints what they took.
+//!
+//! It reads no file whole: a child's peak counts what its parent had when it began.
+//! Times are processor seconds (user and system) of the best of so many rounds, which other work on the machine disturbs less than the clock's.
+use std::fs::File;
+use std::io::{self, BufRead, BufReader};
+use std::path::{Path, PathBuf};
+use std::process::{Command, ExitCode, Stdio};
+use std::{env, fs};
+
+const STAMP: &str = "20240102030406";
+
+/// `struct rusage` of Linux on 64 bits, up to the peak of resident memory; the rest isn't looked at.
+#[repr(C)]
+#[derive(Default)]
+struct Usage {
+    user: [i64; 2],
+    system: [i64; 2],
+    peak_kilobytes: i64,
+    rest: [i64; 13],
+}
+
+extern "C" {
+    fn wait4(pid: i32, status: *mut i32, options: i32, usage: *mut Usage) -> i32;
+}
+
+/// What a run took.
+#[derive(Clone, Copy)]
+struct Taken {
+    seconds: f64,
+    kilobytes: i64,
+    status: i32,
+}
+
+fn seconds(time: [i64; 2]) -> f64 {
+    time[0] as f64 + time[1] as f64 / 1e6
+}
+
+fn run(command: &mut Command, input: &Path, output: &Path) -> io::Result<Taken> {
+    let child = command
+        .stdin(File::open(input)?)
+        .stdout(File::create(output)?)
+        .stderr(Stdio::null())
+        .spawn()?;
+    let mut usage = Usage::default();
+    let mut status = 0;
+    let pid = child.id() as i32;
+    // SAFETY: both pointers are to values of the types that the call fills, which live as long as it.
+    if unsafe { wait4(pid, &mut status, 0, &mut usage) } != pid {
+        return Err(io::Error::last_os_error());
+    }
+    Ok(Taken {
+        seconds: seconds(usage.user) + seconds(usage.system),
+        kilobytes: usage.peak_kilobytes,
+        status: status >> 8,
+    })
+}
+
+/// The two programs, and where their files are.
+struct Bench {
+    program: PathBuf,
+    baseline: PathBuf,
+    profiles: PathBuf,
+    traffic: PathBuf,
+    rounds: usize,
+}
+
+/// What both took for a stream.
+struct Row {
+    name: &'static str,
+    bytes: f64,
+    messages: usize,
+    program: Taken,
+    baseline: Taken,
+}
+
+impl Row {
+    fn speed(&self, taken: Taken) -> f64 {
+        self.bytes / 1e6 / taken.seconds
+    }
+}
+
+/// How many messages were answered, where both files are the same.
+fn same_answers(one: &Path, other: &Path) -> io::Result<Option<usize>> {
+    let mut one = BufReader::new(File::open(one)?);
+    let mut other = BufReader::new(File::open(other)?);
+    let mut count = 0;
+    loop {
+        let (a, b) = (one.fill_buf()?, other.fill_buf()?);
+        if a.is_empty() || b.is_empty() {
+            return Ok((a.is_empty() && b.is_empty()).then_some(count));
+        }
+        let both = a.len().min(b.len());
+        if a[..both] != b[..both] {
+            return Ok(None);
+        }
+        count += a[..both].iter().filter(|byte| **byte == 0x0b).count();
+        one.consume(both);
+        other.consume(both);
+    }
+}
+
+fn best(rounds: usize, mut once: impl FnMut() -> io::Result<Taken>) -> io::Result<Taken> {
+    let mut best = once()?;
+    for _ in 1..rounds {
+        let taken = once()?;
+        best.seconds = best.seconds.min(taken.seconds);
+        best.kilobytes = best.kilobytes.min(taken.kilobytes);
+    }
+    Ok(best)
+}
+
+impl Bench {
+    fn row(&self, name: &'static str, profile: &str) -> io::Result<Row> {
+        let profile = self.profiles.join(profile);
+        let input = self.traffic.join(name);
+        let answers = self.traffic.join(format!("{name}.program"));
+        let plain = self.traffic.join(format!("{name}.baseline"));
+        let program = best(self.rounds, || {
+            run(
+                Command::new(&self.program)
+                    .arg("validate")
+                    .arg(&profile)
+                    .args(["--stamp", STAMP]),
+                &input,
+                &answers,
+            )
+        })?;
+        let baseline = best(self.rounds, || {
+            run(
+                Command::new(&self.baseline).arg(&profile).arg(STAMP),
+                &input,
+                &plain,
+            )
+        })?;
+        let same = same_answers(&answers, &plain)?.filter(|_| program.status == baseline.status);
+        let Some(messages) = same else {
+            return Err(io::Error::other(format!(
+                "{name}: the answers or the statuses differ"
+            )));
+        };
+        Ok(Row {
+            name,
+            bytes: fs::metadata(input)?.len() as f64,
+            messages,
+            program,
+            baseline,
+        })
+    }
+
+    fn print_honest(&self, streams: &[(&'static str, &str)]) -> io::Result<()> {
+        println!("| Stream | MB | Messages | Program MB/s | messages/s | peak kB | Baseline MB/s | messages/s | peak kB | Speed ratio | Memory ratio |");
+        println!("|---|---|---|---|---|---|---|---|---|---|---|");
+        for (name, profile) in streams {
+            let row = self.row(name, profile)?;
+            println!(
+                "| {} | {:.1} | {} | {:.1} | {:.0} | {} | {:.1} | {:.0} | {} | {:.2} | {:.2} |",
+                row.name,
+                row.bytes / 1e6,
+                row.messages,
+                row.speed(row.program),
+                row.messages as f64 / row.program.seconds,
+                row.program.kilobytes,
+                row.speed(row.baseline),
+                row.messages as f64 / row.baseline.seconds,
+                row.baseline.kilobytes,
+                row.baseline.seconds / row.program.seconds,
+                row.program.kilobytes as f64 / row.baseline.kilobytes as f64,
+            );
+        }
+        Ok(())
+    }
+
+    /// Hostile streams against an honest one whose contents have the same size, per byte.
+    fn print_hostile(
+        &self,
+        honest: &'static str,
+        profile: &str,
+        streams: &[&'static str],
+    ) -> io::Result<()> {
+        let honest = self.row(honest, profile)?;
+        println!(
+            "| Stream | Program MB/s | peak kB | times {} | Baseline MB/s | peak kB | times {} |",
+            honest.name, honest.name
+        );
+        println!("|---|---|---|---|---|---|---|");
+        for name in streams {
+            let row = self.row(name, profile)?;
+            println!(
+                "| {} | {:.1} | {} | {:.2} | {:.1} | {} | {:.2} |",
+                row.name,
+                row.speed(row.program),
+                row.program.kilobytes,
+                honest.speed(honest.program) / row.speed(row.program),
+                row.speed(row.baseline),
+                row.baseline.kilobytes,
+                honest.speed(honest.baseline) / row.speed(row.baseline),
+            );
+        }
+        Ok(())
+    }
+
+    fn print_all(&self) -> io::Result<()> {
+        let (adt, oru) = ("adt_a01.profile", "oru_r01.profile");
+        self.print_honest(&[
+            ("admissions", adt),
+            ("reports", oru),
+            ("results_5000", oru),
+            ("megabyte", oru),
+            ("sixty_kilobytes", oru),
+            ("unreadable", oru),
+            ("tiny_blocks", oru),
+        ])?;
+        println!();
+        let hostile = [
+            "separators",
+            "fields",
+            "components",
+            "subcomponents",
+            "repetitions",
+            "escapes",
+            "lone_escapes",
+            "empty_lines",
+        ];
+        self.print_hostile("megabyte", oru, &hostile)?;
+        println!();
+        self.print_hostile("sixty_kilobytes", oru, &["short_lines"])
+    }
+}
+
+fn main() -> ExitCode {
+    let words: Vec<String> = env::args().collect();
+    let [_, program, baseline, profiles, traffic, rounds] = words.as_slice() else {
+        eprintln!("measure PROGRAM BASELINE PROFILES TRAFFIC ROUNDS");
+        return ExitCode::from(2);
+    };
+    let bench = Bench {
+        program: program.into(),
+        baseline: baseline.into(),
+        profiles: profiles.into(),
+        traffic: traffic.into(),
+        rounds: rounds.parse().unwrap_or(3),
+    };
+    match bench.print_all() {
+        Ok(()) => ExitCode::SUCCESS,
+        Err(error) => {
+            eprintln!("{error}");
+            ExitCode::FAILURE
+        }
+    }
+}
