@@ -6,3 +6,4 @@ pub mod Shaped
 pub mod Kept
 pub mod Lists
 pub mod Formed
+pub mod Same

@@ -9,3 +9,4 @@ pub mod Value
 pub mod Whole
 pub mod Seen
 pub mod Building
+pub mod Identity

@@ -53,7 +53,13 @@ fn close_parts(alloc: Global, below: &mut Below)
     below.rules = Vec::new(alloc);
 }
 
-fn segment_item(line: u32, label: Vec<u8>, source: Option<Vec<Vec<u8>>>, rules: Vec<Rule>) -> Item
+/// A segment with these rules.
+pub fn segment_item(
+    line: u32,
+    label: Vec<u8>,
+    source: Option<Vec<Vec<u8>>>,
+    rules: Vec<Rule>,
+) -> Item
     ensures { IsSegment result line label.items (path_some source) (map rule rules.items) }
 {
     match source {
@@ -168,7 +174,8 @@ fn flat_item(line: u32, from: Vec<Vec<u8>>, items: Vec<Item>) -> Item
     })
 }
 
-fn group_item(line: u32, label: Vec<u8>, from: Vec<Vec<u8>>, items: Vec<Item>) -> Item
+/// A group of these items.
+pub fn group_item(line: u32, label: Vec<u8>, from: Vec<Vec<u8>>, items: Vec<Item>) -> Item
     ensures { IsEach result line (Some label.items) (path from) items.items }
 {
     Item::EachAs(GroupItem {

@@ -6,6 +6,7 @@ mod context;
 mod fault;
 mod form;
 mod item;
+mod itself;
 mod map;
 mod parts;
 mod reader;
@@ -16,6 +17,7 @@ mod whole;
 
 pub use fault::MapFault;
 pub use item::{AlwaysItem, FlatItem, FromItem, GroupItem, Item};
+pub use itself::identity;
 pub use map::Map;
 pub use reader::Reader;
 pub use rule::{
@@ -23,3 +25,8 @@ pub use rule::{
 };
 pub use table::Table;
 pub use text::parse;
+
+#[cfg(test)]
+mod texts;
+#[cfg(test)]
+mod values;
