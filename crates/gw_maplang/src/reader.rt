@@ -135,37 +135,37 @@ fn any_bad(leaves: &[LeafRule]) -> bool
     false
 }
 
-fn is_misplaced(field: u32, open: &Option<OpenSegment>) -> bool
-    ensures { result ≡ spec.is_misplaced field (open_segment open.now) }
+fn is_misplaced(field: u32, held: &Option<OpenSegment>) -> bool
+    ensures { result ≡ spec.is_misplaced field (open_segment held.now) }
 {
-    match open {
+    match held {
         None => true,
         Some(segment) => field < segment.least,
     }
 }
 
-fn is_made(field: u32, open: &Option<OpenSegment>) -> bool
-    ensures { result ≡ spec.is_made field (open_segment open.now) }
+fn is_made(field: u32, held: &Option<OpenSegment>) -> bool
+    ensures { result ≡ spec.is_made field (open_segment held.now) }
 {
-    match open {
+    match held {
         None => false,
         Some(segment) => segment.fields.contains(&field),
     }
 }
 
-fn is_misplaced_leaf(made: &Leaf, open: &Option<OpenRule>) -> bool
-    ensures { result ≡ spec.is_misplaced_leaf (leaf made.now) (open_rule open.now) }
+fn is_misplaced_leaf(made: &Leaf, held: &Option<OpenRule>) -> bool
+    ensures { result ≡ spec.is_misplaced_leaf (leaf made.now) (open_rule held.now) }
 {
-    match open {
+    match held {
         None => true,
         Some(rule) => is_stray(rule.repeated, made),
     }
 }
 
-fn is_placed(place: LeafPlace, open: &Option<OpenRule>) -> bool
-    ensures { result ≡ spec.is_placed place (open_rule open.now) }
+fn is_placed(place: LeafPlace, held: &Option<OpenRule>) -> bool
+    ensures { result ≡ spec.is_placed place (open_rule held.now) }
 {
-    match open {
+    match held {
         None => false,
         Some(rule) => rule.places.contains(&place),
     }

@@ -1,8 +1,7 @@
 //! Maps and what they spell, written by hand.
 
 use crate::{
-    AlwaysItem, BuildRule, CopyRule, Dropped, FieldPath, FlatItem, FromItem, GroupItem, Item, Leaf,
-    LeafPlace, LeafRule, Map, MapFault, Ref, RepeatRule, Rule, identity, parse,
+    Dropped, FieldPath, Item, Leaf, LeafPlace, LeafRule, Map, MapFault, Ref, Rule, identity, parse,
 };
 use std::alloc::{AllocError, Global};
 use std::test::Fail;
@@ -27,134 +26,220 @@ const RESULTS: &[u8] =
 const PROFILE: &[u8] =
     b"profile ORU\ntable T a\nsegment MSH R 1..1\n  field 10 R 1..1\n  field 12 X 0..0\nsegment SFT X 0..0\ngroup PATIENT_RESULT R 1..*\n  group PATIENT R 1..1\n    segment PID R 1..1\n      field 3 R 1..2\n      field 4 X 0..0\n      field 5 RE 0..1 len 4 table T\n  end\n  group ORDER R 1..*\n    segment OBR as TEST R 1..1\n  end\nend\n";
 
-fn path(alloc: Global, labels: &[&[u8]]) -> Result<Vec<Vec<u8>>, AllocError> {
-    let mut path = Vec::new(alloc);
+/// What is shown of each: its head; its items with their lines, labels and paths; rules by line and field; leaves by line and place; drops.
+const SHOWN: &[(&[u8], &[u8])] = &[
+    (
+        M1,
+        b"M1 P1 T1 1 { 6 MSH from MSH { 7 10 copy MSH 10 } 8 PID from PID { 9 8 build { 9 1 1 lookup SEXMAP PID 8 1 1 } } } 10 PID 3 11 PID 5 ",
+    ),
+    (
+        M2,
+        b"M2 P2 T1 1 { 6 MSH from MSH { 7 10 copy MSH 10 } 8 PID from PID { 9 8 build { 9 1 1 lookup SEXMAP PID 8 1 1 } } } 10 PID 3 11 PID 5 ",
+    ),
+    (
+        M3,
+        b"M3 ORU FLAT 1 { 2 MSH from MSH { } 3 flat PATIENT_RESULT { 4 flat ORDER { 5 OBR from OBR { 6 1 copy OBR 1 } } } } ",
+    ),
+    (
+        WARD,
+        b"WARD_TO_ARCHIVE WARD ARCHIVE 1 { 6 MSH from MSH { 7 10 copy MSH 10 8 11 build { 8 1 1 const P } } 9 PID from PID { 10 3 copy PID 3 11 5 first PID 5 12 8 repeat PID 8 { 13 1 1 lookup SEX 1 1 } } 14 STAY each VISIT { 15 PV1 from PV1 { 16 2 copy PV1 2 17 3 build { 18 1 1 copy PV1 3 1 1 19 4 1 const WEST WING } } } 21 ZAR always { 22 1 build { 22 1 1 copy PID 18 1 1 } } } 23 NK1 24 PID 13 ",
+    ),
+    (
+        RESULTS,
+        b"RESULTS LAB FLAT 1 { 2 MSH from MSH { 3 10 copy MSH 10 } 4 flat PATIENT_RESULT { 5 flat ORDER { 6 OBR from OBR { 7 1 copy OBR 1 8 2 build { 8 1 1 copy PATIENT PID 3 1 1 } } } } } ",
+    ),
+    (
+        DELETED,
+        b"A B C 2 { 3 PID from A PID { 4 3 build { 4 1 1 const \"\" } 5 4 repeat PID 4 { 6 2 3 copy 4 5 7 1 1 const a b } } 8 G each H { } } ",
+    ),
+];
+
+/// Lines that are passed over, the delete value, a place in full and an empty group.
+const DELETED: &[u8] =
+    b"# A\nmap A from B to C\nsegment PID from A/PID\nbuild 3 const \"\"\nrepeat 4 from PID-4\nat 2.3 copy .4.5\nat 1 const \"a b\"\ngroup G each H\nend\n";
+
+fn word(out: &mut Vec<u8>, bytes: &[u8]) -> Result<(), AllocError> {
+    out.extend_from_slice(bytes)?;
+    out.push(b' ')?;
+    Ok(())
+}
+
+fn number(out: &mut Vec<u8>, alloc: Global, number: u32) -> Result<(), AllocError> {
+    let digits = format!(in alloc; "{number}")?;
+    word(out, digits.as_bytes())
+}
+
+fn path(out: &mut Vec<u8>, labels: &[Vec<u8>]) -> Result<(), AllocError> {
     for label in labels.iter() {
-        path.push(Vec::from_slice(alloc, label)?)?;
+        word(out, label)?;
     }
-    Ok(path)
+    Ok(())
 }
 
-fn place(comp: u32, sub: u32) -> LeafPlace {
-    LeafPlace { comp, sub }
+fn place(out: &mut Vec<u8>, alloc: Global, place: LeafPlace) -> Result<(), AllocError> {
+    number(out, alloc, place.comp)?;
+    number(out, alloc, place.sub)
 }
 
-fn field(alloc: Global, label: &[u8], field: u32) -> Result<FieldPath, AllocError> {
-    let path = path(alloc, &[label])?;
-    Ok(FieldPath { path, field })
+fn field(out: &mut Vec<u8>, alloc: Global, from: &FieldPath) -> Result<(), AllocError> {
+    path(out, &from.path)?;
+    number(out, alloc, from.field)
 }
 
-fn copy(
-    alloc: Global,
-    line: u32,
-    number: u32,
-    label: &[u8],
-    source: u32,
-) -> Result<Rule, AllocError> {
-    let from = field(alloc, label, source)?;
-    Ok(Rule::CopyField(CopyRule {
-        line,
-        field: number,
-        from,
-    }))
+fn source(out: &mut Vec<u8>, alloc: Global, from: &Ref) -> Result<(), AllocError> {
+    match from {
+        Ref::Field(from, leaf) => {
+            field(out, alloc, from)?;
+            place(out, alloc, *leaf)
+        }
+        Ref::Current(leaf) => place(out, alloc, *leaf),
+    }
 }
 
-fn build(alloc: Global, line: u32, field: u32, leaf: LeafRule) -> Result<Rule, AllocError> {
-    let mut leaves = Vec::new(alloc);
-    leaves.push(leaf)?;
-    Ok(Rule::Build(BuildRule {
-        line,
-        field,
-        leaves,
-    }))
+fn leaf(out: &mut Vec<u8>, alloc: Global, leaf: &Leaf) -> Result<(), AllocError> {
+    match leaf {
+        Leaf::Const(value) => {
+            word(out, b"const")?;
+            word(out, value)
+        }
+        Leaf::Copy(from) => {
+            word(out, b"copy")?;
+            source(out, alloc, from)
+        }
+        Leaf::Lookup(table, from) => {
+            word(out, b"lookup")?;
+            word(out, table)?;
+            source(out, alloc, from)
+        }
+    }
 }
 
-fn segment(alloc: Global, line: u32, label: &[u8], rules: Vec<Rule>) -> Result<Item, AllocError> {
-    let path = path(alloc, &[label])?;
-    let label = Vec::from_slice(alloc, label)?;
-    Ok(Item::SegFrom(FromItem {
-        line,
-        label,
-        path,
-        rules,
-    }))
+fn leaves(out: &mut Vec<u8>, alloc: Global, leaves: &[LeafRule]) -> Result<(), AllocError> {
+    word(out, b"{")?;
+    for made in leaves.iter() {
+        number(out, alloc, made.line)?;
+        place(out, alloc, made.place)?;
+        leaf(out, alloc, &made.leaf)?;
+    }
+    word(out, b"}")
 }
 
-fn flat(alloc: Global, line: u32, label: &[u8], only: Item) -> Result<Item, AllocError> {
-    let path = path(alloc, &[label])?;
-    let mut items = Vec::new(alloc);
-    items.push(only)?;
-    Ok(Item::EachFlat(FlatItem { line, path, items }))
+fn rule(out: &mut Vec<u8>, alloc: Global, rule: &Rule) -> Result<(), AllocError> {
+    number(out, alloc, rule.line())?;
+    number(out, alloc, rule.field())?;
+    match rule {
+        Rule::CopyField(made) => {
+            word(out, b"copy")?;
+            field(out, alloc, &made.from)
+        }
+        Rule::FirstRep(made) => {
+            word(out, b"first")?;
+            field(out, alloc, &made.from)
+        }
+        Rule::RepeatField(made) => {
+            word(out, b"repeat")?;
+            field(out, alloc, &made.from)?;
+            leaves(out, alloc, &made.leaves)
+        }
+        Rule::Build(made) => {
+            word(out, b"build")?;
+            leaves(out, alloc, &made.leaves)
+        }
+    }
 }
 
-fn group(alloc: Global, line: u32, label: &[u8], only: Item) -> Result<Item, AllocError> {
-    let path = path(alloc, &[label])?;
-    let label = Vec::from_slice(alloc, label)?;
-    let mut items = Vec::new(alloc);
-    items.push(only)?;
-    Ok(Item::EachAs(GroupItem {
-        line,
-        label,
-        path,
-        items,
-    }))
+fn rules(out: &mut Vec<u8>, alloc: Global, rules: &[Rule]) -> Result<(), AllocError> {
+    word(out, b"{")?;
+    for made in rules.iter() {
+        rule(out, alloc, made)?;
+    }
+    word(out, b"}")
 }
 
-fn one(alloc: Global, rule: Rule) -> Result<Vec<Rule>, AllocError> {
-    let mut rules = Vec::new(alloc);
-    rules.push(rule)?;
-    Ok(rules)
+#[cycle(shown)]
+fn item(out: &mut Vec<u8>, alloc: Global, item: &Item) -> Result<(), AllocError> {
+    match item {
+        Item::SegFrom(made) => {
+            number(out, alloc, made.line)?;
+            word(out, &made.label)?;
+            word(out, b"from")?;
+            path(out, &made.path)?;
+            rules(out, alloc, &made.rules)
+        }
+        Item::SegAlways(made) => {
+            number(out, alloc, made.line)?;
+            word(out, &made.label)?;
+            word(out, b"always")?;
+            rules(out, alloc, &made.rules)
+        }
+        Item::EachAs(made) => {
+            number(out, alloc, made.line)?;
+            word(out, &made.label)?;
+            word(out, b"each")?;
+            path(out, &made.path)?;
+            items(out, alloc, &made.items)
+        }
+        Item::EachFlat(made) => {
+            number(out, alloc, made.line)?;
+            word(out, b"flat")?;
+            path(out, &made.path)?;
+            items(out, alloc, &made.items)
+        }
+    }
 }
 
-fn dropped(alloc: Global, line: u32, label: &[u8], field: u32) -> Result<Dropped, AllocError> {
-    let path = path(alloc, &[label])?;
-    Ok(Dropped {
-        line,
-        path,
-        field: Some(field),
-    })
+#[cycle(shown)]
+fn items(out: &mut Vec<u8>, alloc: Global, items: &[Item]) -> Result<(), AllocError> {
+    word(out, b"{")?;
+    for made in items.iter() {
+        item(out, alloc, made)?;
+    }
+    word(out, b"}")
 }
 
-// What both of the maps with a table spell.
-fn translated(alloc: Global) -> Result<(Vec<Item>, Vec<Dropped>), AllocError> {
-    let mut items = Vec::new(alloc);
-    let id = one(alloc, copy(alloc, 7, 10, b"MSH", 10)?)?;
-    items.push(segment(alloc, 6, b"MSH", id)?)?;
-    let from = field(alloc, b"PID", 8)?;
-    let leaf = LeafRule {
-        line: 9,
-        place: place(1, 1),
-        leaf: Leaf::Lookup(
-            Vec::from_slice(alloc, b"SEXMAP")?,
-            Ref::Field(from, place(1, 1)),
-        ),
-    };
-    let sex = one(alloc, build(alloc, 9, 8, leaf)?)?;
-    items.push(segment(alloc, 8, b"PID", sex)?)?;
-    let mut drops = Vec::new(alloc);
-    drops.push(dropped(alloc, 10, b"PID", 3)?)?;
-    drops.push(dropped(alloc, 11, b"PID", 5)?)?;
-    Ok((items, drops))
+fn drops(out: &mut Vec<u8>, alloc: Global, drops: &[Dropped]) -> Result<(), AllocError> {
+    for left in drops.iter() {
+        number(out, alloc, left.line)?;
+        path(out, &left.path)?;
+        if let Some(field) = left.field {
+            number(out, alloc, field)?;
+        }
+    }
+    Ok(())
 }
 
-// The names and the first line of a map.
-fn head(map: &Map) -> (&[u8], &[u8], &[u8], u32) {
-    (map.name(), map.source(), map.target(), map.line())
+// What a map says, with its lines.
+fn shown(alloc: Global, map: &Map) -> Result<Vec<u8>, AllocError> {
+    let mut out = Vec::new(alloc);
+    word(&mut out, map.name())?;
+    word(&mut out, map.source())?;
+    word(&mut out, map.target())?;
+    number(&mut out, alloc, map.line())?;
+    items(&mut out, alloc, map.items())?;
+    drops(&mut out, alloc, map.drops())?;
+    Ok(out)
 }
 
 #[test]
-fn with_a_table(rt: HostRuntime) -> Result<(), Fail> {
-    let alloc = rt.alloc();
-    for (text, name, source) in [
-        (M1, b"M1".as_slice(), b"P1".as_slice()),
-        (M2, b"M2".as_slice(), b"P2".as_slice()),
-    ] {
-        let map = parse(alloc, text).map_err(|_| "map")?;
-        assert_eq!(rt; head(&map), (name, source, b"T1".as_slice(), 1));
-        let (items, drops) = translated(alloc)?;
-        assert_eq!(rt; map.items(), items.as_slice());
-        assert_eq!(rt; map.drops(), drops.as_slice());
+fn values(rt: HostRuntime) -> Result<(), Fail> {
+    for (i, (text, want)) in SHOWN.iter().enumerate() {
+        let map = parse(rt.alloc(), text).map_err(|_| "map")?;
+        let shown = shown(rt.alloc(), &map)?;
+        assert_eq!(rt; shown.as_slice(), *want, "map {i}");
     }
+    Ok(())
+}
+
+#[test]
+fn unchanged(rt: HostRuntime) -> Result<(), Fail> {
+    let profile = gw_profile::parse(rt.alloc(), PROFILE).map_err(|_| "profile")?;
+    let map = identity(rt.alloc(), &profile)?;
+    let shown = shown(rt.alloc(), &map)?;
+    assert_eq!(rt;
+        shown.as_slice(),
+        b"ORU ORU ORU 0 { 0 MSH from MSH { 0 10 copy MSH 10 } 0 PATIENT_RESULT each PATIENT_RESULT { 0 PATIENT each PATIENT { 0 PID from PID { 0 3 copy PID 3 0 5 copy PID 5 } } 0 ORDER each ORDER { 0 TEST from TEST { } } } } ".as_slice()
+    );
+    assert_eq!(rt; map.tables().len(), 0);
     Ok(())
 }
 
@@ -170,197 +255,7 @@ fn table(rt: HostRuntime) -> Result<(), Fail> {
         assert_eq!(rt; table.second(value), second);
     }
     assert_eq!(rt; table.other(), Some(b"9".as_slice()));
-    assert_eq!(rt; table.rows().len(), 2);
-    assert_eq!(rt; map.tables().len(), 1);
-    assert!(rt; map.table(b"SEX").is_none());
-    Ok(())
-}
-
-#[test]
-fn flattened(rt: HostRuntime) -> Result<(), Fail> {
-    let alloc = rt.alloc();
-    let map = parse(alloc, M3).map_err(|_| "M3")?;
-    assert_eq!(rt;
-        head(&map),
-        (b"M3".as_slice(), b"ORU".as_slice(), b"FLAT".as_slice(), 1)
-    );
-    let number = one(alloc, copy(alloc, 6, 1, b"OBR", 1)?)?;
-    let order = flat(alloc, 4, b"ORDER", segment(alloc, 5, b"OBR", number)?)?;
-    let mut items = Vec::new(alloc);
-    items.push(segment(alloc, 2, b"MSH", Vec::new(alloc))?)?;
-    items.push(flat(alloc, 3, b"PATIENT_RESULT", order)?)?;
-    assert_eq!(rt; map.items(), items.as_slice());
-    assert_eq!(rt; map.drops().len(), 0);
-    assert_eq!(rt; map.tables().len(), 0);
-    Ok(())
-}
-
-// The rules of PID in the manual's first example.
-fn ward_patient(alloc: Global) -> Result<Vec<Rule>, AllocError> {
-    let mut rules = one(alloc, copy(alloc, 10, 3, b"PID", 3)?)?;
-    let from = field(alloc, b"PID", 5)?;
-    rules.push(Rule::FirstRep(CopyRule {
-        line: 11,
-        field: 5,
-        from,
-    }))?;
-    let from = field(alloc, b"PID", 8)?;
-    let mut leaves = Vec::new(alloc);
-    leaves.push(LeafRule {
-        line: 13,
-        place: place(1, 1),
-        leaf: Leaf::Lookup(Vec::from_slice(alloc, b"SEX")?, Ref::Current(place(1, 1))),
-    })?;
-    rules.push(Rule::RepeatField(RepeatRule {
-        line: 12,
-        field: 8,
-        from,
-        leaves,
-    }))?;
-    Ok(rules)
-}
-
-// PV1 in the manual's first example.
-fn ward_visit(alloc: Global) -> Result<Item, AllocError> {
-    let mut rules = one(alloc, copy(alloc, 16, 2, b"PV1", 2)?)?;
-    let from = field(alloc, b"PV1", 3)?;
-    let mut leaves = Vec::new(alloc);
-    leaves.push(LeafRule {
-        line: 18,
-        place: place(1, 1),
-        leaf: Leaf::Copy(Ref::Field(from, place(1, 1))),
-    })?;
-    leaves.push(LeafRule {
-        line: 19,
-        place: place(4, 1),
-        leaf: Leaf::Const(Vec::from_slice(alloc, b"WEST WING")?),
-    })?;
-    rules.push(Rule::Build(BuildRule {
-        line: 17,
-        field: 3,
-        leaves,
-    }))?;
-    let visit = segment(alloc, 15, b"PV1", rules)?;
-    let path = path(alloc, &[b"VISIT"])?;
-    let label = Vec::from_slice(alloc, b"STAY")?;
-    let mut items = Vec::new(alloc);
-    items.push(visit)?;
-    Ok(Item::EachAs(GroupItem {
-        line: 14,
-        label,
-        path,
-        items,
-    }))
-}
-
-// The segment that is always made in the manual's first example.
-fn ward_archive(alloc: Global) -> Result<Item, AllocError> {
-    let from = field(alloc, b"PID", 18)?;
-    let leaf = LeafRule {
-        line: 22,
-        place: place(1, 1),
-        leaf: Leaf::Copy(Ref::Field(from, place(1, 1))),
-    };
-    let rules = one(alloc, build(alloc, 22, 1, leaf)?)?;
-    let label = Vec::from_slice(alloc, b"ZAR")?;
-    Ok(Item::SegAlways(AlwaysItem {
-        line: 21,
-        label,
-        rules,
-    }))
-}
-
-#[test]
-fn ward(rt: HostRuntime) -> Result<(), Fail> {
-    let alloc = rt.alloc();
-    let map = parse(alloc, WARD).map_err(|_| "WARD")?;
-    let mut rules = one(alloc, copy(alloc, 7, 10, b"MSH", 10)?)?;
-    let leaf = LeafRule {
-        line: 8,
-        place: place(1, 1),
-        leaf: Leaf::Const(Vec::from_slice(alloc, b"P")?),
-    };
-    rules.push(build(alloc, 8, 11, leaf)?)?;
-    let mut items = Vec::new(alloc);
-    items.push(segment(alloc, 6, b"MSH", rules)?)?;
-    items.push(segment(alloc, 9, b"PID", ward_patient(alloc)?)?)?;
-    items.push(ward_visit(alloc)?)?;
-    items.push(ward_archive(alloc)?)?;
-    assert_eq!(rt; map.items(), items.as_slice());
-    let [kin, birth] = map.drops() else {
-        return Err("drops".into());
-    };
-    assert_eq!(rt; (kin.line, kin.field), (23, None));
-    assert_eq!(rt; *birth, dropped(alloc, 24, b"PID", 13)?);
-    Ok(())
-}
-
-#[test]
-fn lines_and_fields_of_rules(rt: HostRuntime) -> Result<(), Fail> {
-    let alloc = rt.alloc();
-    let rules = ward_patient(alloc)?;
-    for (rule, want) in rules.iter().zip([(10, 3), (11, 5), (12, 8)].iter()) {
-        assert_eq!(rt; (rule.line(), rule.field()), *want);
-    }
-    Ok(())
-}
-
-#[test]
-fn scopes(rt: HostRuntime) -> Result<(), Fail> {
-    let alloc = rt.alloc();
-    let map = parse(alloc, RESULTS).map_err(|_| "RESULTS")?;
-    let mut rules = one(alloc, copy(alloc, 7, 1, b"OBR", 1)?)?;
-    let from = FieldPath {
-        path: path(alloc, &[b"PATIENT", b"PID"])?,
-        field: 3,
-    };
-    let leaf = LeafRule {
-        line: 8,
-        place: place(1, 1),
-        leaf: Leaf::Copy(Ref::Field(from, place(1, 1))),
-    };
-    rules.push(build(alloc, 8, 2, leaf)?)?;
-    let order = flat(alloc, 5, b"ORDER", segment(alloc, 6, b"OBR", rules)?)?;
-    let id = one(alloc, copy(alloc, 3, 10, b"MSH", 10)?)?;
-    let mut items = Vec::new(alloc);
-    items.push(segment(alloc, 2, b"MSH", id)?)?;
-    items.push(flat(alloc, 4, b"PATIENT_RESULT", order)?)?;
-    assert_eq!(rt; map.items(), items.as_slice());
-    Ok(())
-}
-
-#[test]
-fn unchanged(rt: HostRuntime) -> Result<(), Fail> {
-    let alloc = rt.alloc();
-    let profile = gw_profile::parse(alloc, PROFILE).map_err(|_| "profile")?;
-    let map = identity(alloc, &profile)?;
-    assert_eq!(rt;
-        head(&map),
-        (b"ORU".as_slice(), b"ORU".as_slice(), b"ORU".as_slice(), 0)
-    );
-    let mut patient = one(alloc, copy(alloc, 0, 3, b"PID", 3)?)?;
-    patient.push(copy(alloc, 0, 5, b"PID", 5)?)?;
-    let patient = group(alloc, 0, b"PATIENT", segment(alloc, 0, b"PID", patient)?)?;
-    let order = group(
-        alloc,
-        0,
-        b"ORDER",
-        segment(alloc, 0, b"TEST", Vec::new(alloc))?,
-    )?;
-    let mut inner = Vec::new(alloc);
-    inner.push(patient)?;
-    inner.push(order)?;
-    let mut items = Vec::new(alloc);
-    let id = one(alloc, copy(alloc, 0, 10, b"MSH", 10)?)?;
-    items.push(segment(alloc, 0, b"MSH", id)?)?;
-    items.push(Item::EachAs(GroupItem {
-        line: 0,
-        label: Vec::from_slice(alloc, b"PATIENT_RESULT")?,
-        path: path(alloc, &[b"PATIENT_RESULT"])?,
-        items: inner,
-    }))?;
-    assert_eq!(rt; map.items(), items.as_slice());
-    assert_eq!(rt; (map.drops().len(), map.tables().len()), (0, 0));
+    assert_eq!(rt; (table.rows().len(), map.tables().len()), (2, 1));
     Ok(())
 }
 
