@@ -1,13 +1,13 @@
 -- Lists of names and numbers, and their tests.
-use Rattle.std.proofs.Common.{◌≡◌, ℕ, ◌⊎◌, inl, inr, Bool, true, false, List, [], ◌∷◌, ◌++◌, refl, sym, ap, bytes_eq}
+use Rattle.std.proofs.Common.{◌≡◌, ℕ, ◌⊎◌, inl, inr, Bool, true, false, List, [], ◌∷◌, ◌++◌, sym, ap, bytes_eq}
 use Rattle.std.specs.Prelude.{◌&&◌, ◌||◌, ◌==◌}
 use Rattle.std.specs.List.{list_any}
 use Rattle.std.proofs.lemmas.Bool.Decides.{Decides-eqb}
 use Rattle.std.proofs.lemmas.Slice.Eq.{bytes_eq-Decides}
-use Rattle.gw_profile.proofs.Facts.{both, either, or_left, or_right}
+use Rattle.gw_profile.proofs.Facts.{either, or_left}
 use Rattle.gw_maplang.specs.declared.rule.LeafPlace.{LeafPlace}
 use Rattle.gw_maplang.specs.Among.{Among, Distinct}
-use Rattle.gw_maplang.specs.Fault.{is_among, is_number_among, is_place, is_place_among}
+use Rattle.gw_maplang.specs.Fault.{is_place}
 
 -- a test that tells what is the same
 abbrev pub Tells : {A : Type 0} → (A → A → Bool) → Type 0

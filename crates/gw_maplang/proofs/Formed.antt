@@ -1,19 +1,19 @@
 -- Lines without a fault spell a map that is lawful.
-use Rattle.std.proofs.Common.{◌≡◌, ℕ, suc, ◌+◌, ◌<◌, ◌≤◌, ◌⊎◌, inl, inr, Bool, true, false, List, [], ◌∷◌, ◌++◌, map, reverse, Option, Some, None, refl, sym, ap, subst, ◌∙◌, bytes_eq, arith}
-use Rattle.std.specs.Prelude.{◌==◌, ◌||◌, ◌&&◌, not, nat_le, IfSome}
+use Rattle.std.proofs.Common.{◌≡◌, ℕ, ◌<◌, ◌≤◌, inl, inr, Bool, true, false, List, [], ◌∷◌, ◌++◌, reverse, Option, Some, None, refl, sym, ap, subst, bytes_eq, arith}
+use Rattle.std.specs.Prelude.{◌==◌, not, nat_le, IfSome}
 use Rattle.std.specs.List.{AllByRecursion, list_any}
 use Rattle.gw_lines.specs.Spelled.{is_name}
 use Rattle.gw_lines.specs.Values.{is_value}
 use Rattle.gw_profile.proofs.Facts.{both, neither, not_false, no_clash, le_is}
 use Rattle.gw_maplang.specs.declared.rule.LeafPlace.{LeafPlace}
 use Rattle.gw_maplang.specs.Among.{Among, Distinct}
-use Rattle.gw_maplang.specs.Shapes.{Path, Ref, Field, Current, Leaf, Const, Copy, Lookup, LeafValue, Making, Copies, Firsts, Repeats, Builds, RuleValue, Items, nothing, Row, TableValue, DropValue}
-use Rattle.gw_maplang.specs.Lawful.{Lawful, least_field, LawfulRef, LawfulLeaf, LawfulLeafValue, LawfulLeaves, LawfulMaking, LawfulSegment, LawfulItems, LawfulDrop, LawfulPath, LawfulTable, firsts, places, rule_fields, table_names}
+use Rattle.gw_maplang.specs.Shapes.{Path, Field, Current, Leaf, Const, Copy, Lookup, LeafValue, Making, Copies, Firsts, Repeats, Builds, RuleValue, Items, nothing, Row, TableValue}
+use Rattle.gw_maplang.specs.Lawful.{Lawful, LawfulLeaf, LawfulLeafValue, LawfulLeaves, LawfulMaking, LawfulItems, LawfulDrop, LawfulPath, LawfulTable, firsts, places, rule_fields, table_names}
 use Rattle.gw_maplang.specs.Line.{Line, Begins, Table, Rows, Else, Segment, Makes, At, Each, End, Drops}
-use Rattle.gw_maplang.specs.Fault.{begun, at_last, with_row, with_other, tables_below, last_table, is_flat, OpenSegment, OpenRule, open_segment, open_rule, opened, with_field, with_place, tables, depth, hollow, is_stray, is_unknown, is_bad, own_leaf, is_misplaced, is_misplaced_leaf, is_made, is_placed, is_among, is_place, is_place_among, is_number_among}
+use Rattle.gw_maplang.specs.Fault.{begun, at_last, with_row, with_other, tables_below, last_table, is_flat, OpenSegment, OpenRule, open_segment, open_rule, opened, with_field, with_place, tables, depth, hollow, is_stray, is_unknown, is_bad, own_leaf, is_misplaced, is_misplaced_leaf, is_made, is_placed, is_among, is_place}
 use Rattle.gw_maplang.specs.Value.{Parts, Levels, Head, head, head_of, no_parts, parts, own_or, with_leaves, rule_with, next, past, each_item, levels, drops}
-use Rattle.gw_maplang.proofs.Among.{not_among, among_append, among_left, among_right, among_tells, bytes_see, bytes_tell, distinct_push, numbers_see, places_see}
-use Rattle.gw_maplang.proofs.Shaped.{ShapedRef, ShapedLeaf, ShapedLeafValue, ShapedMaking, Shaped}
+use Rattle.gw_maplang.proofs.Among.{not_among, among_left, among_right, among_tells, bytes_see, bytes_tell, distinct_push, numbers_see, places_see}
+use Rattle.gw_maplang.proofs.Shaped.{ShapedLeaf, ShapedLeafValue, ShapedMaking}
 use Rattle.std.proofs.lemmas.Bool.Decides.{Decides-eqb}
 use mathlib.Core.List.{reverse_aux}
 use Rattle.gw_maplang.specs.Whole.{is_unclosed, map_of}

@@ -1,6 +1,6 @@
 -- What a line that was taken keeps, given the lines above it.
-use Rattle.std.proofs.Common.{◌≡◌, ℕ, ◌<◌, ◌≤◌, Bool, true, false, List, [], ◌∷◌, Option, Some, None, Ok, refl, subst, arith}
-use Rattle.std.specs.Prelude.{◌==◌, not, nat_le, IfSome}
+use Rattle.std.proofs.Common.{◌≡◌, ℕ, Bool, true, false, List, [], ◌∷◌, Option, Some, None, Ok, refl, subst}
+use Rattle.std.specs.Prelude.{IfSome}
 use Rattle.std.specs.List.{AllByRecursion}
 use Rattle.gw_lines.specs.Reading.{first_of, unless}
 use Rattle.gw_profile.proofs.Facts.{lt_is}

@@ -1,5 +1,5 @@
 -- The items of a group or flat as a list.
-use Rattle.std.proofs.Common.{◌≡◌, List, [], ◌∷◌, refl, ap, ◌∙◌}
+use Rattle.std.proofs.Common.{◌≡◌, refl, ap, ◌∙◌}
 use mathlib.Core.Former.{Count}
 use Rattle.gw_maplang.specs.declared.item.GroupItem.{GroupItem}
 use Rattle.gw_maplang.specs.declared.item.FlatItem.{FlatItem}

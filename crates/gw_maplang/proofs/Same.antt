@@ -1,5 +1,5 @@
 -- The map that leaves all as it is, is lawful.
-use Rattle.std.proofs.Common.{◌≡◌, ℕ, suc, ◌≤◌, inl, inr, Bool, true, false, List, [], ◌∷◌, refl, sym, ap, ◌∙◌, bytes_eq, arith}
+use Rattle.std.proofs.Common.{◌≡◌, ℕ, suc, ◌≤◌, inl, inr, Bool, true, false, List, [], ◌∷◌, sym, ap, ◌∙◌, bytes_eq, arith}
 use Rattle.std.specs.Prelude.{if◌then◌else◌, Option, Some, Result, Ok, Err, IfOk, codes}
 use Rattle.std.specs.List.{AllByRecursion}
 use Rattle.std.proofs.lemmas.Slice.Eq.{bytes_eq-Decides}
@@ -15,7 +15,7 @@ use Rattle.gw_profile.proofs.Facts.{false_not, if_false}
 use Rattle.gw_profile.proofs.Rows.{group_forest}
 use Rattle.gw_maplang.specs.declared.item.Item.{Item}
 use Rattle.gw_maplang.specs.Among.{Among, Distinct}
-use Rattle.gw_maplang.specs.Shapes.{Items, RuleValue, MapValue, segment, group}
+use Rattle.gw_maplang.specs.Shapes.{Items, RuleValue, segment, group}
 use Rattle.gw_maplang.specs.Lawful.{Lawful, least_field, LawfulPath, LawfulRule, LawfulItems, rule_fields}
 use Rattle.gw_maplang.specs.Identity.{field_rules, copy_rule, same_items, identity, with_some, IsSame}
 

@@ -1,20 +1,19 @@
 -- What the words of a line say of it.
-use Rattle.std.proofs.Common.{◌≡◌, ℕ, ◌≤◌, ◌+◌, Bool, true, false, List, [], ◌∷◌, length, Option, Some, None, refl, sym, ap, ◌∙◌, arith}
-use Rattle.std.specs.Prelude.{◌&&◌, if◌then◌else◌, IfSome, codes}
+use Rattle.std.proofs.Common.{◌≡◌, ℕ, ◌≤◌, ◌+◌, Bool, true, List, [], ◌∷◌, length, Option, Some, None, refl, sym, ap, ◌∙◌, arith}
+use Rattle.std.specs.Prelude.{IfSome, codes}
 use Rattle.std.specs.List.{AllByRecursion, list_all, slice_split, before_first, count_by}
 use Rattle.std.specs.Option.{option_map}
 use Rattle.std.proofs.lemmas.List.Splits.{length-slice_split}
 use Rattle.gw_lines.specs.Words.{Word}
-use Rattle.gw_lines.specs.Spelled.{plain_bytes, is_name, is_dot, number, is_keyword}
+use Rattle.gw_lines.specs.Spelled.{is_name, is_dot, number, is_keyword}
 use Rattle.gw_lines.specs.Values.{bytes_of}
-use Rattle.gw_lines.specs.Parts.{◌>>=◌, first_word, name_at, number_at, behind, with_all}
+use Rattle.gw_lines.specs.Parts.{first_word, name_at, number_at, behind, with_all}
 use Rattle.gw_profile.proofs.Facts.{both}
 use Rattle.gw_profile.proofs.Shaped.{any, gives, map_gives, chosen, either_gives, with_all_is, number_is, name_at_is, number_at_is}
-use Rattle.gw_maplang.specs.declared.rule.LeafPlace.{LeafPlace}
 use Rattle.gw_maplang.specs.Among.{Distinct}
-use Rattle.gw_maplang.specs.Shapes.{Path, FieldPath, Ref, Field, Current, Leaf, Const, Copy, Lookup, LeafValue, Making, Copies, Firsts, Repeats, Builds, RuleValue, DropValue}
+use Rattle.gw_maplang.specs.Shapes.{Path, FieldPath, Ref, Field, Current, Leaf, Const, Copy, Lookup, LeafValue, Making, Copies, Firsts, Repeats, Builds}
 use Rattle.gw_maplang.specs.Lawful.{LawfulPath, LawfulField, LawfulFieldPath, LawfulPlace, LawfulDrop, last_label, places}
-use Rattle.gw_maplang.specs.Line.{Line, Begins, Table, Rows, Else, Segment, Makes, At, Each, End, Drops, is_slash, is_dash, behind_first, path_of, field_of, field_path, sub_of, place_of, place_or_first, field_ref, ref_of, dropped_field, drop_of, some_bytes, constant, plain_word, plain_at, text_at, from_at, const_form, copy_form, lookup_form, leaf_of, leaf_form, own_leaves, map_form, table_form, row_form, else_form, source_behind, source_at, segment_form, made_from, copies_form, firsts_form, repeats_form, builds_form, at_form, each_form, group_form, drop_form, rule_form, keyword_form, form}
+use Rattle.gw_maplang.specs.Line.{Line, Begins, Table, Rows, Else, Segment, Makes, At, Each, End, Drops, is_slash, is_dash, behind_first, path_of, field_of, field_path, sub_of, place_of, place_or_first, field_ref, ref_of, dropped_field, drop_of, constant, plain_word, plain_at, text_at, from_at, const_form, copy_form, lookup_form, leaf_of, leaf_form, own_leaves, map_form, table_form, row_form, else_form, source_behind, source_at, segment_form, made_from, copies_form, firsts_form, repeats_form, builds_form, at_form, each_form, group_form, drop_form, rule_form, keyword_form, form}
 
 abbrev pub ShapedRef : Ref → Type 0
 ShapedRef (Field from place) = LawfulFieldPath from × LawfulPlace place

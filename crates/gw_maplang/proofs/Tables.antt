@@ -9,7 +9,7 @@ use Rattle.std.proofs.lemmas.Map.Made.{is_some-lookup}
 use Rattle.indexmap.specs.IndexMap.{insert_entry}
 use Rattle.indexmap.specs.Layout.{set_value_at}
 use Rattle.gw_profile.proofs.Kept.{map_push}
-use Rattle.gw_maplang.specs.Shapes.{Row, Rows, TableValue, second_of, table_of}
+use Rattle.gw_maplang.specs.Shapes.{Rows, TableValue, second_of, table_of}
 use Rattle.gw_maplang.specs.Lawful.{firsts, table_names}
 use Rattle.gw_maplang.specs.Fault.{is_among, last_table, at_last, is_said}
 use Rattle.gw_maplang.specs.Seen.{row, table, now}

@@ -1,4 +1,4 @@
-use Rattle.std.proofs.Common.{◌≡◌, ◌∙◌, ap, sym, OnOk, Ok, Err}
+use Rattle.std.proofs.Common.{sym}
 use Rattle.gw_maplang.specs.Fault.{with_other}
 use Rattle.gw_maplang.proofs.Tables.{last_set_where}
 use Rattle.gw_maplang.proofs.context.put_other.Goals as goal

@@ -1,4 +1,4 @@
-use Rattle.std.proofs.Common.{◌≡◌, ◌∙◌, ap, sym, OnOk, Ok, Err}
+use Rattle.std.proofs.Common.{◌∙◌, ap, sym}
 use Rattle.gw_maplang.specs.Lawful.{firsts}
 use Rattle.gw_maplang.specs.Fault.{is_among, with_row}
 use Rattle.gw_maplang.proofs.Tables.{last_value_is, last_set_where}

@@ -1,5 +1,4 @@
-use Rattle.std.proofs.Common.{◌∙◌, ap, List, ℕ, map, ◌++◌, ◌∷◌, [], None}
-use Rattle.gw_maplang.specs.Shapes.{Rows}
+use Rattle.std.proofs.Common.{◌∙◌, ap, List, ℕ, map, ◌++◌, ◌∷◌, []}
 use Rattle.gw_maplang.specs.Lawful.{table_names}
 use Rattle.gw_maplang.specs.Fault.{is_among}
 use Rattle.gw_maplang.specs.Seen.{table}

@@ -1,4 +1,4 @@
-use Rattle.std.proofs.Common.{◌≡◌, drop, map, false}
+use Rattle.std.proofs.Common.{◌≡◌, drop, map}
 use Rattle.std.specs.List.{list_any}
 use Rattle.gw_maplang.specs.Shapes.{LeafValue}
 use Rattle.gw_maplang.specs.Fault.{is_bad}

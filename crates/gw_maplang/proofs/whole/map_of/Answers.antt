@@ -1,13 +1,11 @@
 use Rattle.std.proofs.Common.{◌≡◌, List, map, reverse, ap, sym, subst, ◌∙◌}
 use Rattle.std.proofs.lemmas.List.{reverse-reverse}
 use Rattle.gw_maplang.specs.declared.form.Line as declared
-use Rattle.gw_maplang.specs.Shapes.{MapValue, Items, DropValue}
 use Rattle.gw_maplang.specs.Line.{Line}
 use Rattle.gw_maplang.specs.Lawful.{Lawful}
-use Rattle.gw_maplang.specs.Value.{Head, head, levels, drops}
+use Rattle.gw_maplang.specs.Value.{head, levels, drops}
 use Rattle.gw_maplang.specs.Building.{head_value}
 use Rattle.gw_maplang.specs.Seen.{line, above, all_items, dropped}
-use Rattle.gw_maplang.specs.Whole.{map_of}
 use Rattle.gw_maplang.proofs.Formed.{formed}
 use Rattle.gw_maplang.proofs.whole.map_of.Goals as goal
 

@@ -2,8 +2,6 @@ use Rattle.std.proofs.Common.{ap, ◌∙◌, sym, subst, ℕ, List}
 use Rattle.gw_maplang.specs.declared.context as Held
 use Rattle.gw_maplang.specs.Shapes.{TableValue}
 use Rattle.gw_maplang.specs.Fault as Fault
-use Rattle.gw_maplang.specs.Line.{Line}
-use Rattle.gw_maplang.specs.Taken.{Taken}
 use Rattle.gw_maplang.specs.Seen.{line, HasRoom, IsNewTable, IsNewField, IsNewPlace}
 use Rattle.gw_maplang.proofs.Kept.{new_table, new_field, new_place, has_room}
 use Rattle.gw_maplang.proofs.reader.Reader.add.Goals as goal

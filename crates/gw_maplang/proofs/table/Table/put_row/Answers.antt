@@ -1,5 +1,5 @@
-use Rattle.std.proofs.Common.{◌≡◌, ◌∙◌, ap, sym, List, ℕ, [], ◌∷◌, ◌++◌, map}
-use Rattle.gw_maplang.specs.Shapes.{Row, Rows}
+use Rattle.std.proofs.Common.{◌∙◌, ap, List, ℕ, [], ◌∷◌, ◌++◌, map}
+use Rattle.gw_maplang.specs.Shapes.{Rows}
 use Rattle.gw_maplang.specs.Lawful.{firsts}
 use Rattle.gw_maplang.specs.Fault.{is_among}
 use Rattle.gw_maplang.specs.Seen.{row}

@@ -1,4 +1,4 @@
-use Rattle.std.proofs.Common.{◌∙◌, ap, sym, ℕ, Option, Some}
+use Rattle.std.proofs.Common.{◌∙◌, ap, sym, ℕ, Some}
 use Rattle.std.specs.Option.{option_map, option_copied}
 use Rattle.std.specs.Global.{Vec}
 use Rattle.gw_maplang.specs.Shapes.{Rows, second_of}
