@@ -1,0 +1,8 @@
+use Rattle.std.proofs.Common.{◌≡◌, ◌++◌, drop, map}
+use Rattle.gw_profile.specs.Seen.{field}
+use Rattle.gw_maplang.specs.Identity.{field_rules}
+use Rattle.gw_maplang.specs.Seen.{rule}
+use Rattle.gw_maplang.proofs.itself.field_rules.Given as goal
+
+abbrev pub invariant-loop-i : goal.invariant-loop-i
+invariant-loop-i l = map rule l.rules.items ++ field_rules l.label (map field (drop l.i l.fields)) ≡ field_rules l.label (map field l.fields)

@@ -1,0 +1,12 @@
+pub mod Numbers
+pub mod Shapes
+pub mod Among
+pub mod Lawful
+pub mod Line
+pub mod Fault
+pub mod Taken
+pub mod Value
+pub mod Whole
+pub mod Seen
+pub mod Building
+pub mod Identity

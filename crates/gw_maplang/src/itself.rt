@@ -1,0 +1,153 @@
+//! The map that makes of each message of a profile the message itself.
+ghost use Rattle.std.specs.Prelude.{◌≡◌, ◌∷◌, [], map, reverse, IfOk, OnOk, Some};
+ghost use Rattle.gw_profile.specs.Line.{is_forbidden};
+ghost use Rattle.gw_profile.specs.Seen.{field as field_value, segment_value, forest, profile_value};
+ghost use Rattle.gw_profile.specs.Shapes as profiles;
+ghost use Rattle.gw_maplang.specs.Shapes.{Items, group};
+ghost use Rattle.gw_maplang.specs.Identity as spec;
+ghost use Rattle.gw_maplang.specs.Identity.{IsSame, with_some};
+ghost use Rattle.gw_maplang.specs.Seen.{rule, path, all_items, map_value};
+
+use crate::build::{group_item, segment_item};
+use crate::item::Item;
+use crate::map::Map;
+use crate::rule::{CopyRule, FieldPath, Rule};
+use gw_profile::{FieldShape, Node, Profile, SegNode, Usage};
+use indexmap::IndexMap;
+use std::alloc::{AllocError, Global};
+
+fn is_forbidden(usage: Usage) -> bool
+    ensures { result ≡ is_forbidden (Some usage) }
+{
+    match usage {
+        Usage::R => false,
+        Usage::RE => false,
+        Usage::O => false,
+        Usage::X => true,
+    }
+}
+
+fn copy_of(alloc: Global, bytes: &[u8]) -> Result<Vec<u8>, AllocError>
+    ensures { IfOk result (λ v. v.items ≡ bytes.now) }
+{
+    Vec::from_slice(alloc, bytes)
+}
+
+// The path of this label alone.
+fn path_to(alloc: Global, label: &[u8]) -> Result<Vec<Vec<u8>>, AllocError>
+    ensures { IfOk result (λ p. path p ≡ label.now ∷ []) }
+{
+    let only = copy_of(alloc, label)?;
+    let mut all = Vec::new(alloc);
+    all.push(only)?;
+    Ok(all)
+}
+
+// A copy of the field.
+fn same_field(alloc: Global, label: &[u8], number: u32) -> Result<Rule, AllocError>
+    ensures { IfOk result (λ r. rule r ≡ spec.copy_rule label.now number) }
+{
+    let path = path_to(alloc, label)?;
+    Ok(Rule::CopyField(CopyRule {
+        line: 0,
+        field: number,
+        from: FieldPath {
+            path,
+            field: number,
+        },
+    }))
+}
+
+// Copies of the fields that are not X.
+fn field_rules(alloc: Global, label: &[u8], fields: &[FieldShape]) -> Result<Vec<Rule>, AllocError>
+    ensures { IfOk result (λ v. map rule v.items ≡ spec.field_rules label.now (map field_value fields.now)) }
+{
+    let mut rules = Vec::new(alloc);
+    for (i, field) in fields.iter().enumerate() {
+        if !is_forbidden(field.usage) {
+            let rule = same_field(alloc, label, field.number)?;
+            rules.push(rule)?;
+        }
+    }
+    Ok(rules)
+}
+
+// The segment from itself, unless it is X.
+fn same_segment(alloc: Global, segment: &SegNode) -> Result<Option<Item>, AllocError>
+    ensures { IfOk result (λ item. (rest : profiles.Forest) → with_some item (spec.same_items rest) ≡ spec.same_items (profiles.segment (segment_value segment.now) rest)) }
+{
+    if is_forbidden(segment.usage) {
+        return Ok(None);
+    }
+    let rules = field_rules(alloc, &segment.label, &segment.fields)?;
+    let source = path_to(alloc, &segment.label)?;
+    let label = copy_of(alloc, &segment.label)?;
+    Ok(Some(segment_item(0, label, Some(source), rules)))
+}
+
+fn push_some(items: &mut Vec<Item>, item: Option<Item>) -> Result<(), AllocError>
+    ensures { OnOk result (all_items (reverse items.new.items) ≡ with_some item (all_items (reverse items.old.items))) }
+{
+    match item {
+        None => Ok(()),
+        Some(item) => {
+            items.push(item)?;
+            Ok(())
+        }
+    }
+}
+
+#[cycle(same)]
+fn same_group(alloc: Global, label: &[u8], nodes: &[Node]) -> Result<Option<Item>, AllocError>
+    ensures { IfOk result (λ item. (rest : Items) → with_some item rest ≡ group (record { line = 0; label = label.now; path = label.now ∷ [] }) (spec.same_items (forest nodes.now)) rest) }
+{
+    let items = same_items(alloc, nodes)?;
+    let from = path_to(alloc, label)?;
+    let label = copy_of(alloc, label)?;
+    Ok(Some(group_item(0, label, from, items)))
+}
+
+#[cycle(same)]
+fn same_item(alloc: Global, node: &Node) -> Result<Option<Item>, AllocError>
+    ensures { IfOk result (λ item. IsSame item node.now) }
+{
+    match node {
+        Node::Seg(segment) => same_segment(alloc, segment),
+        Node::Group(group) => same_group(alloc, &group.label, &group.nodes),
+    }
+}
+
+// The items for these nodes; they are gone through from the last to the first.
+#[cycle(same)]
+fn same_items(alloc: Global, nodes: &[Node]) -> Result<Vec<Item>, AllocError>
+    ensures { IfOk result (λ v. all_items v.items ≡ spec.same_items (forest nodes.now)) }
+{
+    let mut items = Vec::new(alloc);
+    let mut left = nodes.len();
+    while left > 0 {
+        left -= 1;
+        let item = same_item(alloc, &nodes[left])?;
+        push_some(&mut items, item)?;
+    }
+    items.reverse();
+    Ok(items)
+}
+
+/// The map from the profile to itself: each segment from itself with a copy of each listed field that is not X, each group from itself, X segments left out. Every line is 0.
+pub fn identity(alloc: Global, profile: &Profile) -> Result<Map, AllocError>
+    ensures { IfOk result (λ m. map_value m ≡ spec.identity (profile_value profile.now)) }
+{
+    let items = same_items(alloc, profile.nodes())?;
+    let name = copy_of(alloc, profile.name())?;
+    let source = copy_of(alloc, profile.name())?;
+    let target = copy_of(alloc, profile.name())?;
+    Ok(Map {
+        name,
+        source,
+        target,
+        line: 0,
+        tables: IndexMap::new(alloc),
+        items,
+        drops: Vec::new(alloc),
+    })
+}
