@@ -52,7 +52,6 @@ pub fn standing_below(held: Standing, whole: &Line) -> Standing
         ..held
     };
     match whole {
-        Line::Begins(_, _, _, _) => held,
         Line::Table(_) => Standing {
             in_table: true,
             ..held
@@ -70,8 +69,6 @@ pub fn standing_below(held: Standing, whole: &Line) -> Standing
             hollow: false,
             ..held
         },
-        Line::Makes(_) => held,
-        Line::At(_) => held,
         Line::Each(_, label, _) => Standing {
             has_item: true,
             depth: held.depth + 1,
@@ -83,7 +80,7 @@ pub fn standing_below(held: Standing, whole: &Line) -> Standing
             hollow: false,
             ..held
         },
-        Line::Drops(_) => held,
+        _ => held,
     }
 }
 
