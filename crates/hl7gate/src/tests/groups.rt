@@ -1,5 +1,5 @@
 //! Profiles with groups and components, by the command.
-use super::{H, VALIDATE, done, joined};
+use super::{H, by_profile, done, joined};
 use std::fs;
 use std::test::Fail;
 
@@ -74,13 +74,14 @@ fn answers_by_groups_and_components(rt: HostRuntime) -> Result<(), Fail> {
         (NAMED, H, b"PID|||123\r", NUMBERED, b"AA|7\r"),
     ];
     for (profile, header, tail, begun, rest) in rows {
-        fs::write(&rt, "profile.txt", profile)?;
+        fs::write(&rt, "groups.txt", profile)?;
         let stream = joined(alloc, &[b"\x0b", header, tail, b"\x1c\r"])?;
         let want = joined(alloc, &[b"\x0b", begun, rest, b"\x1c\r"])?;
-        let (status, output, errors) = done(&rt, &VALIDATE, stream.as_slice())?;
+        let (status, output, errors) = done(&rt, &by_profile("groups.txt"), stream.as_slice())?;
         let fits = rest.starts_with(b"AA");
         assert!(rt; status == if fits { 0 } else { 1 });
         assert!(rt; output == want && errors.is_empty());
     }
+    fs::remove_file(&rt, "groups.txt")?;
     Ok(())
 }

@@ -49,5 +49,6 @@ fn tells_each_fault_of_a_profile(rt: HostRuntime) -> Result<(), Fail> {
         let got = done(&rt, &["validate", "refused.txt"], b"".as_slice())?;
         assert!(rt; got.0 == 1 && got.1.is_empty() && got.2.as_slice() == told);
     }
+    fs::remove_file(&rt, "refused.txt")?;
     Ok(())
 }
