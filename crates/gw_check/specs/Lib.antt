@@ -1,0 +1,14 @@
+pub mod Intervals
+pub mod Places
+pub mod Resolved
+pub mod Leaves
+pub mod Counts
+pub mod Failures
+pub mod Fields
+pub mod Levels
+pub mod Reads
+pub mod Placed
+pub mod Typed
+pub mod Lawful
+pub mod Naming
+pub mod Checked

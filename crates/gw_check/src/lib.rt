@@ -1,0 +1,4 @@
+//! Checks maps before they run.
+mod shape;
+
+pub use shape::{Presence, Shape, Values};

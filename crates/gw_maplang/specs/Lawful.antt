@@ -1,0 +1,131 @@
+-- What every map keeps.
+use Rattle.std.specs.Prelude.{◌≡◌, ℕ, ◌≤◌, Bool, true, false, if◌then◌else◌, List, [], ◌∷◌, map, Option, IfSome, codes, bytes_eq}
+use Rattle.std.specs.List.{AllByRecursion}
+use Rattle.gw_lines.specs.Spelled.{is_name}
+use Rattle.gw_lines.specs.Values.{is_value}
+use Rattle.gw_maplang.specs.declared.rule.LeafPlace.{LeafPlace}
+use Rattle.gw_maplang.specs.Among.{Among, Distinct}
+use Rattle.gw_maplang.specs.Shapes.{Path, FieldPath, Ref, Field, Current, Leaf, Const, Copy, Lookup, LeafValue, Making, Copies, Firsts, Repeats, Builds, RuleValue, SegmentItem, GroupItem, FlatItem, Items, nothing, segment, group, flat, Row, TableValue, DropValue, MapValue}
+
+-- ---- numbers and paths
+
+abbrev pub is_msh : List ℕ → Bool
+is_msh label = bytes_eq label (codes "MSH")
+
+-- fields 1 and 2 of MSH are its delimiters
+abbrev pub least_field : List ℕ → ℕ
+least_field label = if is_msh label then 3 else 1
+
+-- the last label of a path
+abbrev pub last_label : Path → List ℕ
+last_label [] = []
+last_label (label ∷ []) = label
+last_label (label ∷ next ∷ path) = last_label (next ∷ path)
+
+-- one label at least, each a name
+pub record LawfulPath (path : Path) : Type 0 where
+  pub some : path ≡ [] → ⊥
+  pub each : AllByRecursion (λ label. is_name label ≡ true) path
+
+-- a number of a field of the segment with this label
+abbrev pub LawfulField : List ℕ → ℕ → Type 0
+LawfulField label field = (least_field label ≤ field) × (field ≤ 999)
+
+pub record LawfulFieldPath (f : FieldPath) : Type 0 where
+  pub path : LawfulPath f.path
+  pub field : LawfulField (last_label f.path) f.field
+
+pub record LawfulPlace (place : LeafPlace) : Type 0 where
+  pub comp : (1 ≤ place.comp) × (place.comp ≤ 99)
+  pub sub : (1 ≤ place.sub) × (place.sub ≤ 99)
+
+-- ---- rules, in a map whose tables have these names
+
+-- Current stands only where a field is repeated.
+abbrev pub LawfulRef : Bool → Ref → Type 0
+LawfulRef repeated (Field from place) = LawfulFieldPath from × LawfulPlace place
+LawfulRef repeated (Current place) = (repeated ≡ true) × LawfulPlace place
+
+-- Constants are canonical texts that aren't empty; each table that is named stands in the map.
+abbrev pub LawfulLeaf : List (List ℕ) → Bool → Leaf → Type 0
+LawfulLeaf tables repeated (Const value) = is_value value ≡ true
+LawfulLeaf tables repeated (Copy ref) = LawfulRef repeated ref
+LawfulLeaf tables repeated (Lookup table ref) = Among table tables × LawfulRef repeated ref
+
+abbrev pub LawfulLeafValue : List (List ℕ) → Bool → LeafValue → Type 0
+LawfulLeafValue tables repeated l = LawfulPlace l.place × LawfulLeaf tables repeated l.leaf
+
+abbrev pub places : List LeafValue → List LeafPlace
+places = map (λ (l : LeafValue). l.place)
+
+-- one leaf for each place
+pub record LawfulLeaves (tables : List (List ℕ)) (repeated : Bool) (leaves : List LeafValue) : Type 0 where
+  pub each : AllByRecursion (LawfulLeafValue tables repeated) leaves
+  pub distinct : Distinct (places leaves)
+
+abbrev pub LawfulMaking : List (List ℕ) → Making → Type 0
+LawfulMaking tables (Copies from) = LawfulFieldPath from
+LawfulMaking tables (Firsts from) = LawfulFieldPath from
+LawfulMaking tables (Repeats from leaves) = LawfulFieldPath from × LawfulLeaves tables true leaves
+LawfulMaking tables (Builds leaves) = LawfulLeaves tables false leaves
+
+abbrev pub LawfulRule : List (List ℕ) → List ℕ → RuleValue → Type 0
+LawfulRule tables label r = LawfulField label r.field × LawfulMaking tables r.making
+
+abbrev pub rule_fields : List RuleValue → List ℕ
+rule_fields = map (λ (r : RuleValue). r.field)
+
+-- ---- items
+
+-- one rule for each field of the target
+pub record LawfulSegment (tables : List (List ℕ)) (s : SegmentItem) : Type 0 where
+  pub labelled : is_name s.label ≡ true
+  pub source : IfSome s.source LawfulPath
+  pub each : AllByRecursion (LawfulRule tables s.label) s.rules
+  pub distinct : Distinct (rule_fields s.rules)
+
+pub record LawfulGroup (g : GroupItem) : Type 0 where
+  pub labelled : is_name g.label ≡ true
+  pub path : LawfulPath g.path
+
+-- a flat has an item
+pub record LawfulFlat (f : FlatItem) (items : Items) : Type 0 where
+  pub path : LawfulPath f.path
+  pub some : items ≡ nothing → ⊥
+
+abbrev pub LawfulItems : List (List ℕ) → Items → Type 0
+LawfulItems tables nothing = Unit {0}
+LawfulItems tables (segment s rest) = LawfulSegment tables s × LawfulItems tables rest
+LawfulItems tables (group g items rest) = LawfulGroup g × LawfulItems tables items × LawfulItems tables rest
+LawfulItems tables (flat f items rest) = LawfulFlat f items × LawfulItems tables items × LawfulItems tables rest
+
+-- ---- the map
+
+abbrev pub LawfulRow : Row → Type 0
+LawfulRow r = (is_value r.first ≡ true) × (is_value r.second ≡ true)
+
+abbrev pub firsts : List Row → List (List ℕ)
+firsts = map (λ (r : Row). r.first)
+
+-- one row for each first value; its values are canonical texts that aren't empty
+pub record LawfulTable (t : TableValue) : Type 0 where
+  pub named : is_name t.name ≡ true
+  pub each : AllByRecursion LawfulRow t.rows
+  pub distinct : Distinct (firsts t.rows)
+  pub other : IfSome t.other (λ value. is_value value ≡ true)
+
+pub record LawfulDrop (d : DropValue) : Type 0 where
+  pub path : LawfulPath d.path
+  pub field : IfSome d.field (LawfulField (last_label d.path))
+
+abbrev pub table_names : List TableValue → List (List ℕ)
+table_names = map (λ (t : TableValue). t.name)
+
+pub record Lawful (m : MapValue) : Type 0 where
+  pub named : is_name m.name ≡ true
+  pub source : is_name m.source ≡ true
+  pub target : is_name m.target ≡ true
+  pub tables : AllByRecursion LawfulTable m.tables
+  pub tables_distinct : Distinct (table_names m.tables)
+  pub items : LawfulItems (table_names m.tables) m.items
+  pub drops : AllByRecursion LawfulDrop m.drops

@@ -1,0 +1,9 @@
+pub mod Numbers
+pub mod Shapes
+pub mod Among
+pub mod Lawful
+pub mod Line
+pub mod Fault
+pub mod Value
+pub mod Whole
+pub mod Seen

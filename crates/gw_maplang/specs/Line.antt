@@ -1,0 +1,282 @@
+-- The lines of a map, and the words of each.
+use Rattle.std.specs.Prelude.{ℕ, Bool, ◌==◌, if◌then◌else◌, List, [], ◌∷◌, Option, Some, None, codes}
+use Rattle.std.specs.List.{list_all, list_any, slice_split, before_first, after_first}
+use Rattle.std.specs.Option.{option_and_then, option_map}
+use Rattle.gw_lines.specs.Words.{Word}
+use Rattle.gw_lines.specs.Spelled.{plain_bytes, is_keyword, is_name, is_dot, number}
+use Rattle.gw_lines.specs.Values.{bytes_of}
+use Rattle.gw_lines.specs.Parts.{first_word, name_at, number_at, behind, with_all, ◌>>=◌}
+use Rattle.gw_maplang.specs.declared.rule.LeafPlace.{LeafPlace}
+use Rattle.gw_maplang.specs.Shapes.{Path, FieldPath, Ref, Field, Current, Leaf, Const, Copy, Lookup, LeafValue, Making, Copies, Firsts, Repeats, Builds, RuleValue, Row, DropValue}
+use Rattle.gw_maplang.specs.Lawful.{least_field, last_label}
+
+-- A line. A rule has the leaf of its own line alone. No label stands for `flat`.
+pub data Line : Type 0 where
+  Begins : (at : ℕ) (name source target : List ℕ) → Line
+  Table : (name : List ℕ) → Line
+  Rows : (row : Row) → Line
+  Else : (value : List ℕ) → Line
+  Segment : (at : ℕ) (label : List ℕ) (source : Option Path) → Line
+  Makes : (rule : RuleValue) → Line
+  At : (leaf : LeafValue) → Line
+  Each : (at : ℕ) (label : Option (List ℕ)) (path : Path) → Line
+  End : Line
+  Drops : (drop : DropValue) → Line
+
+-- ---- parts of a word
+
+abbrev pub is_slash : ℕ → Bool
+is_slash b = b == 47
+
+abbrev pub is_dash : ℕ → Bool
+is_dash b = b == 45
+
+-- what stands behind the first such byte, where there is one
+abbrev pub behind_first : (ℕ → Bool) → List ℕ → Option (List ℕ)
+behind_first is_end bytes = if list_any is_end bytes then Some (after_first is_end bytes) else None
+
+-- labels joined by slashes
+abbrev pub path_of : List ℕ → Option Path
+path_of bytes = if list_all is_name (slice_split is_slash bytes) then Some (slice_split is_slash bytes) else None
+
+-- a field of the segment to which the path leads
+abbrev pub field_of : Path → List ℕ → Option ℕ
+field_of path bytes = number (least_field (last_label path)) 999 bytes
+
+-- PATH-F
+abbrev pub field_path : List ℕ → Option FieldPath
+field_path bytes = do
+  path ← path_of (before_first is_dash bytes)
+  more ← behind_first is_dash bytes
+  field ← field_of path more
+  Some (record { path = path; field = field })
+
+-- a subcomponent, 1 where none is said
+abbrev pub sub_of : Option (List ℕ) → Option ℕ
+sub_of None = Some 1
+sub_of (Some bytes) = number 1 99 bytes
+
+-- C or C.S
+abbrev pub place_of : List ℕ → Option LeafPlace
+place_of bytes = do
+  comp ← number 1 99 (before_first is_dot bytes)
+  sub ← sub_of (behind_first is_dot bytes)
+  Some (record { comp = comp; sub = sub })
+
+-- a place, 1.1 where none is said
+abbrev pub place_or_first : Option (List ℕ) → Option LeafPlace
+place_or_first None = Some (record { comp = 1; sub = 1 })
+place_or_first (Some bytes) = place_of bytes
+
+-- PATH-F, PATH-F.C or PATH-F.C.S
+abbrev pub field_ref : List ℕ → Option Ref
+field_ref bytes = do
+  from ← field_path (before_first is_dot bytes)
+  place ← place_or_first (behind_first is_dot bytes)
+  Some (Field from place)
+
+-- the same, or .C or .C.S
+abbrev pub ref_of : List ℕ → Option Ref
+ref_of [] = None
+ref_of (b ∷ bytes) = if is_dot b then option_map Current (place_of bytes) else field_ref (b ∷ bytes)
+
+-- PATH or PATH-F
+abbrev pub dropped_field : Path → Option (List ℕ) → Option (Option ℕ)
+dropped_field path None = Some None
+dropped_field path (Some bytes) = option_map Some (field_of path bytes)
+
+abbrev pub drop_of : ℕ → List ℕ → Option DropValue
+drop_of at bytes = do
+  path ← path_of (before_first is_dash bytes)
+  field ← dropped_field path (behind_first is_dash bytes)
+  Some (record { line = at; path = path; field = field })
+
+-- a value, which has a byte; the word "" isn't one
+abbrev pub some_bytes : List ℕ → Option (List ℕ)
+some_bytes [] = None
+some_bytes (b ∷ bytes) = Some (b ∷ bytes)
+
+-- a constant; the word "" stands for itself
+abbrev pub constant : List ℕ → List ℕ
+constant [] = 34 ∷ 34 ∷ []
+constant (b ∷ bytes) = b ∷ bytes
+
+-- ---- parts of a line, each with the words behind it
+
+-- a part that one plain word is
+abbrev pub plain_at : {A : Type 0} → (List ℕ → Option A) → List Word → Option (A × List Word)
+plain_at part words = do
+  w ← first_word words
+  bytes ← plain_bytes w.0
+  x ← part bytes
+  Some (x, w.1)
+
+-- VALUE, not yet tested
+abbrev pub text_at : List Word → Option (List ℕ × List Word)
+text_at words = do
+  w ← first_word words
+  bytes ← some_bytes (bytes_of w.0)
+  Some (bytes, w.1)
+
+-- from PATH-F
+abbrev pub from_at : List Word → Option (FieldPath × List Word)
+from_at words = do
+  more ← behind (codes "from") words
+  plain_at field_path more
+
+-- const VALUE
+abbrev pub const_form : List Word → Option Leaf
+const_form words = do
+  w ← first_word words
+  with_all w.1 (Const (constant (bytes_of w.0)))
+
+-- copy REF
+abbrev pub copy_form : List Word → Option Leaf
+copy_form words = do
+  ref ← plain_at ref_of words
+  with_all ref.1 (Copy ref.0)
+
+-- lookup TABLE REF
+abbrev pub lookup_form : List Word → Option Leaf
+lookup_form words = do
+  table ← name_at words
+  ref ← plain_at ref_of table.1
+  with_all ref.1 (Lookup table.0 ref.0)
+
+-- LEAF
+abbrev pub leaf_form : List Word → Option Leaf
+leaf_form [] = None
+leaf_form (keyword ∷ more) =
+    if is_keyword (codes "const") keyword then const_form more
+    else if is_keyword (codes "copy") keyword then copy_form more
+    else if is_keyword (codes "lookup") keyword then lookup_form more
+    else None
+
+-- [LEAF], at place 1.1
+abbrev pub own_leaves : ℕ → List Word → Option (List LeafValue)
+own_leaves at [] = Some []
+own_leaves at (w ∷ words) = option_map (λ leaf. record { line = at; place = record { comp = 1; sub = 1 }; leaf = leaf } ∷ []) (leaf_form (w ∷ words))
+
+-- ---- lines
+
+-- map NAME from SOURCE to TARGET
+abbrev pub map_form : ℕ → List Word → Option Line
+map_form at words = do
+  name ← name_at words
+  first ← behind (codes "from") name.1
+  source ← name_at first
+  second ← behind (codes "to") source.1
+  target ← name_at second
+  with_all target.1 (Begins at name.0 source.0 target.0)
+
+-- table NAME
+abbrev pub table_form : List Word → Option Line
+table_form words = do
+  name ← name_at words
+  with_all name.1 (Table name.0)
+
+-- row VALUE VALUE
+abbrev pub row_form : List Word → Option Line
+row_form words = do
+  first ← text_at words
+  second ← text_at first.1
+  with_all second.1 (Rows (record { first = first.0; second = second.0 }))
+
+-- else VALUE
+abbrev pub else_form : List Word → Option Line
+else_form words = do
+  value ← text_at words
+  with_all value.1 (Else value.0)
+
+-- from PATH or always
+abbrev pub source_behind : Option (List Word) → List Word → Option (Option Path × List Word)
+source_behind None words = option_map (λ more. (None, more)) (behind (codes "always") words)
+source_behind (Some more) words = option_map (λ p. (Some p.0, p.1)) (plain_at path_of more)
+
+abbrev pub source_at : List Word → Option (Option Path × List Word)
+source_at words = source_behind (behind (codes "from") words) words
+
+-- segment LABEL from PATH, segment LABEL always
+abbrev pub segment_form : ℕ → List Word → Option Line
+segment_form at words = do
+  label ← name_at words
+  source ← source_at label.1
+  with_all source.1 (Segment at label.0 source.0)
+
+-- copy N from PATH-F
+abbrev pub copies_form : ℕ → List Word → Option Line
+copies_form at words = do
+  field ← number_at 999 words
+  from ← from_at field.1
+  with_all from.1 (Makes (record { line = at; field = field.0; making = Copies from.0 }))
+
+-- first N from PATH-F
+abbrev pub firsts_form : ℕ → List Word → Option Line
+firsts_form at words = do
+  field ← number_at 999 words
+  from ← from_at field.1
+  with_all from.1 (Makes (record { line = at; field = field.0; making = Firsts from.0 }))
+
+-- repeat N from PATH-F
+abbrev pub repeats_form : ℕ → List Word → Option Line
+repeats_form at words = do
+  field ← number_at 999 words
+  from ← from_at field.1
+  with_all from.1 (Makes (record { line = at; field = field.0; making = Repeats from.0 [] }))
+
+-- build N [LEAF]
+abbrev pub builds_form : ℕ → List Word → Option Line
+builds_form at words = do
+  field ← number_at 999 words
+  leaves ← own_leaves at field.1
+  Some (Makes (record { line = at; field = field.0; making = Builds leaves }))
+
+-- at C[.S] LEAF
+abbrev pub at_form : ℕ → List Word → Option Line
+at_form at words = do
+  place ← plain_at place_of words
+  leaf ← leaf_form place.1
+  Some (At (record { line = at; place = place.0; leaf = leaf }))
+
+-- each PATH
+abbrev pub each_form : ℕ → Option (List ℕ) → List Word → Option Line
+each_form at label words = do
+  more ← behind (codes "each") words
+  path ← plain_at path_of more
+  with_all path.1 (Each at label path.0)
+
+-- group LABEL each PATH
+abbrev pub group_form : ℕ → List Word → Option Line
+group_form at words = do
+  label ← name_at words
+  each_form at (Some label.0) label.1
+
+-- drop PATH[-F]
+abbrev pub drop_form : ℕ → List Word → Option Line
+drop_form at words = do
+  drop ← plain_at (drop_of at) words
+  with_all drop.1 (Drops drop.0)
+
+-- the line of a keyword and the words behind it
+abbrev pub keyword_form : ℕ → Word → List Word → Option Line
+keyword_form at keyword more =
+    if is_keyword (codes "map") keyword then map_form at more
+    else if is_keyword (codes "table") keyword then table_form more
+    else if is_keyword (codes "row") keyword then row_form more
+    else if is_keyword (codes "else") keyword then else_form more
+    else if is_keyword (codes "segment") keyword then segment_form at more
+    else if is_keyword (codes "copy") keyword then copies_form at more
+    else if is_keyword (codes "first") keyword then firsts_form at more
+    else if is_keyword (codes "repeat") keyword then repeats_form at more
+    else if is_keyword (codes "build") keyword then builds_form at more
+    else if is_keyword (codes "at") keyword then at_form at more
+    else if is_keyword (codes "group") keyword then group_form at more
+    else if is_keyword (codes "flat") keyword then each_form at None more
+    else if is_keyword (codes "end") keyword then with_all more End
+    else if is_keyword (codes "drop") keyword then drop_form at more
+    else None
+
+-- the line that these words are
+abbrev pub form : ℕ → List Word → Option Line
+form at [] = None
+form at (keyword ∷ more) = keyword_form at keyword more

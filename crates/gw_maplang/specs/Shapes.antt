@@ -1,0 +1,106 @@
+-- The parts of a map, without where they lie in memory.
+use Rattle.std.specs.Prelude.{ℕ, if◌then◌else◌, List, [], ◌∷◌, Option, Some, None, bytes_eq}
+use Rattle.gw_maplang.specs.declared.rule.LeafPlace.{LeafPlace}
+
+-- labels that lead to a segment or group, from the outermost on
+abbrev pub Path : Type 0
+Path = List (List ℕ)
+
+-- a field of the segment to which the path leads
+pub record FieldPath : Type 0 where
+  pub path : Path
+  pub field : ℕ
+
+-- where a text is taken from: from the first repetition of a field, or from the current repetition of the field that is repeated
+pub data Ref : Type 0 where
+  Field : (from : FieldPath) (place : LeafPlace) → Ref
+  Current : (place : LeafPlace) → Ref
+
+-- what gives the text of one place
+pub data Leaf : Type 0 where
+  Const : (value : List ℕ) → Leaf
+  Copy : (ref : Ref) → Leaf
+  Lookup : (table : List ℕ) (ref : Ref) → Leaf
+
+pub record LeafValue : Type 0 where
+  pub line : ℕ
+  pub place : LeafPlace
+  pub leaf : Leaf
+
+-- how a field is made: it is another one as it is, its first repetition, one repetition of these leaves for each of its own, or one of these leaves
+pub data Making : Type 0 where
+  Copies : (from : FieldPath) → Making
+  Firsts : (from : FieldPath) → Making
+  Repeats : (from : FieldPath) (leaves : List LeafValue) → Making
+  Builds : (leaves : List LeafValue) → Making
+
+-- what makes the field of this number
+pub record RuleValue : Type 0 where
+  pub line : ℕ
+  pub field : ℕ
+  pub making : Making
+
+-- a segment of the target with this label, for each occurrence to which the source leads, or one where no source is said
+pub record SegmentItem : Type 0 where
+  pub line : ℕ
+  pub label : List ℕ
+  pub source : Option Path
+  pub rules : List RuleValue
+
+-- a group of the target with this label, for each occurrence to which the path leads
+pub record GroupItem : Type 0 where
+  pub line : ℕ
+  pub label : List ℕ
+  pub path : Path
+
+-- the occurrences to which the path leads, without a group of the target
+pub record FlatItem : Type 0 where
+  pub line : ℕ
+  pub path : Path
+
+-- a list of items: each a segment, or a group or flat with its own items
+pub data Items : Type 0 where
+  nothing : Items
+  segment : (s : SegmentItem) (rest : Items) → Items
+  group : (g : GroupItem) (items rest : Items) → Items
+  flat : (f : FlatItem) (items rest : Items) → Items
+
+-- a row: a value, and what stands for it
+pub record Row : Type 0 where
+  pub first : List ℕ
+  pub second : List ℕ
+
+-- the rows of a table, and what stands for each other value
+pub record Rows : Type 0 where
+  pub rows : List Row
+  pub other : Option (List ℕ)
+
+pub record TableValue : Type 0 where
+  pub name : List ℕ
+  pub rows : List Row
+  pub other : Option (List ℕ)
+
+-- what is left out on purpose: where the path leads, or one field there
+pub record DropValue : Type 0 where
+  pub line : ℕ
+  pub path : Path
+  pub field : Option ℕ
+
+pub record MapValue : Type 0 where
+  pub name : List ℕ
+  pub source : List ℕ
+  pub target : List ℕ
+  pub line : ℕ
+  pub tables : List TableValue
+  pub items : Items
+  pub drops : List DropValue
+
+-- the second value of the row of this first value
+abbrev pub second_of : List ℕ → List Row → Option (List ℕ)
+second_of value [] = None
+second_of value (r ∷ rows) = if bytes_eq value r.first then Some r.second else second_of value rows
+
+-- the table of this name
+abbrev pub table_of : List ℕ → List TableValue → Option Rows
+table_of name [] = None
+table_of name (t ∷ tables) = if bytes_eq name t.name then Some (record { rows = t.rows; other = t.other }) else table_of name tables
