@@ -12,3 +12,4 @@ pub mod Typed
 pub mod Lawful
 pub mod Naming
 pub mod Checked
+pub mod Worked
