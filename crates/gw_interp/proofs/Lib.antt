@@ -1,1 +1,4 @@
 pub mod Walks
+pub mod Paths
+pub mod Parts
+pub mod Splits
