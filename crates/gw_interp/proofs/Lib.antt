@@ -4,3 +4,6 @@ pub mod Parts
 pub mod Splits
 pub mod LevelsSound
 pub mod Whole
+pub mod Known
+pub mod Trees
+pub mod Sound

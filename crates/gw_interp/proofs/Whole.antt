@@ -24,11 +24,10 @@ use Rattle.gw_check.specs.Placed.{is_segment, is_group, follows, number_or, all_
 use Rattle.gw_check.specs.Lawful.{LawfulItems}
 use Rattle.gw_interp.specs.Occurrences.{Occurrence}
 use Rattle.gw_interp.specs.Meaning.{Give}
-use Rattle.gw_interp.proofs.Walks.{InScope}
 use Rattle.gw_interp.proofs.Parts.{Given}
 use Rattle.gw_interp.proofs.Splits as splits
 use Rattle.gw_interp.proofs.Splits.{both_true, three_true, four_true, from_nat_le, nil_left, nil_right, join, joined, lawful_join, groups_join, failures_join, give_join, placed_its, placed_beyond}
-use Rattle.gw_interp.proofs.LevelsSound.{none_broken, from_eq, LawfulNodes, FieldsSound, meets, Part, LevelSound, items_given}
+use Rattle.gw_interp.proofs.LevelsSound.{none_broken, from_eq, LawfulNodes, Scoped, FieldsSound, meets, Part, LevelSound, items_given}
 
 -- ---- counts
 
@@ -128,54 +127,54 @@ next nodes j i {c} h = let same : j + suc i ≡ suc j + i = omega arith in subst
 from_zero : (nodes : Forest) (i : ℕ) → child nodes (0 + i) ≡ child nodes i
 from_zero nodes i = let same : 0 + i ≡ i = omega arith in ap (child nodes) same
 
-module _ (from to : List TableValue) (names : List (List ℕ)) (m : List SegmentValue) (sound : FieldsSound from to names m) where
+module _ (from to : List TableValue) (from_names names : List (List ℕ)) (m : List SegmentValue) (sound : FieldsSound from to from_names names m) where
   -- from node j on
-  level_from : (f : Forest) (j : ℕ) (items : Items) → splits.EachGroup (LevelSound from to names m) items → (es : List Element) (os : List Occurrence) (holder : ℕ) (nodes : Forest) (list : List SegmentValue) →
-      InScope from m es os → LawfulNodes names nodes → LawfulNodes names f → ((i : ℕ) → child nodes (j + i) ≡ child f i) → LawfulItems nodes items → are_placed nodes j items ≡ true →
-      level_failures es holder j f items ≡ [] → items_failures from to es nodes items ≡ [] → Give m os nodes items list → Seq (λ x. x.name) (meets from to names m) f list
+  level_from : (f : Forest) (j : ℕ) (items : Items) → splits.EachGroup (LevelSound from to from_names names m) items → (es : List Element) (os : List Occurrence) (holder : ℕ) (nodes : Forest) (list : List SegmentValue) →
+      Scoped from to from_names names m es os → LawfulNodes names nodes → LawfulNodes names f → ((i : ℕ) → child nodes (j + i) ≡ child f i) → LawfulItems nodes items → are_placed nodes j items ≡ true →
+      level_failures es holder j f items ≡ [] → items_failures from to es nodes items ≡ [] → Give m os nodes items list → Seq (λ x. x.name) (meets from to from_names names m) f list
   level_from nothing j items inner es os holder nodes list h l lf rest_is li p lev f g =
       let none = none_left nodes j items rest_is p in subst (λ i. Give m os nodes i list) none g
   level_from (segment s rest) j items inner es os holder nodes list h l lf rest_is li p lev f g =
       let whole = joined j items in
       let cut = give_join m os nodes (its j items) (beyond j items) list (subst (λ i. Give m os nodes i list) (sym whole) g) in
       let laws = lawful_join nodes (its j items) (beyond j items) (subst (LawfulItems nodes) (sym whole) li) in
-      let groups = groups_join _ (its j items) (beyond j items) (subst (splits.EachGroup (LevelSound from to names m)) (sym whole) inner) in
+      let groups = groups_join _ (its j items) (beyond j items) (subst (splits.EachGroup (LevelSound from to from_names names m)) (sym whole) inner) in
       let fails = failures_join from to es nodes (its j items) (beyond j items) (subst (λ i. items_failures from to es nodes i ≡ []) (sym whole) f) in
-      let given = items_given from to names m sound (its j items) groups.0 es os j nodes cut.front h l laws.0 (placed_its nodes j items p) fails.0 cut.here in
+      let given = items_given from to from_names names m sound (its j items) groups.0 es os j nodes cut.front h l laws.0 (placed_its nodes j items p) fails.0 cut.here in
       let here : child nodes j ≡ Some (a_segment s) = at_first nodes j (a_segment s) (rest_is 0) in
       record {
         front = cut.front;
         back = cut.back;
         joined = cut.joined;
-        here = times_given _ s.card (items_count es (its j items)) cut.front holder (its j items) s.usage lf.segments.0.agrees (nil_left _ _ lev) (subst (λ c. Given (Part from to names m c) (items_count es (its j items)) cut.front) here given);
+        here = times_given _ s.card (items_count es (its j items)) cut.front holder (its j items) s.usage lf.segments.0.agrees (nil_left _ _ lev) (subst (λ c. Given (Part from to from_names names m c) (items_count es (its j items)) cut.front) here given);
         there = level_from rest (suc j) (beyond j items) groups.1 es os holder nodes cut.back h l (record { segments = lf.segments.1; groups = lf.groups }) (λ i. next nodes j i (rest_is (suc i))) laws.1 (placed_beyond nodes j items p) (nil_right _ _ lev) fails.1 cut.there;
       }
   level_from (group x below rest) j items inner es os holder nodes list h l lf rest_is li p lev f g =
       let whole = joined j items in
       let cut = give_join m os nodes (its j items) (beyond j items) list (subst (λ i. Give m os nodes i list) (sym whole) g) in
       let laws = lawful_join nodes (its j items) (beyond j items) (subst (LawfulItems nodes) (sym whole) li) in
-      let groups = groups_join _ (its j items) (beyond j items) (subst (splits.EachGroup (LevelSound from to names m)) (sym whole) inner) in
+      let groups = groups_join _ (its j items) (beyond j items) (subst (splits.EachGroup (LevelSound from to from_names names m)) (sym whole) inner) in
       let fails = failures_join from to es nodes (its j items) (beyond j items) (subst (λ i. items_failures from to es nodes i ≡ []) (sym whole) f) in
-      let given = items_given from to names m sound (its j items) groups.0 es os j nodes cut.front h l laws.0 (placed_its nodes j items p) fails.0 cut.here in
+      let given = items_given from to from_names names m sound (its j items) groups.0 es os j nodes cut.front h l laws.0 (placed_its nodes j items p) fails.0 cut.here in
       let here : child nodes j ≡ Some (a_group x below) = at_first nodes j (a_group x below) (rest_is 0) in
       record {
         front = cut.front;
         back = cut.back;
         joined = cut.joined;
-        here = times_given _ x.card (items_count es (its j items)) cut.front holder (its j items) x.usage lf.groups.0.agrees (nil_left _ _ lev) (subst (λ c. Given (Part from to names m c) (items_count es (its j items)) cut.front) here given);
+        here = times_given _ x.card (items_count es (its j items)) cut.front holder (its j items) x.usage lf.groups.0.agrees (nil_left _ _ lev) (subst (λ c. Given (Part from to from_names names m c) (items_count es (its j items)) cut.front) here given);
         there = level_from rest (suc j) (beyond j items) groups.1 es os holder nodes cut.back h l (record { segments = lf.segments.1; groups = lf.groups.2 }) (λ i. next nodes j i (rest_is (suc i))) laws.1 (placed_beyond nodes j items p) (nil_right _ _ lev) fails.1 cut.there;
       }
 
-  level_sound : (items : Items) → splits.EachGroup (LevelSound from to names m) items → LevelSound from to names m items
+  level_sound : (items : Items) → splits.EachGroup (LevelSound from to from_names names m) items → LevelSound from to from_names names m items
   level_sound items inner es os holder nodes list h l li p lev f g =
       level_from nodes 0 items inner es os holder nodes list h l l (λ i. from_zero nodes i) li p lev f g
 
   -- whatever the items
-  groups_sound : (items : Items) → splits.EachGroup (LevelSound from to names m) items
+  groups_sound : (items : Items) → splits.EachGroup (LevelSound from to from_names names m) items
   groups_sound no_items = tt
   groups_sound (segment_item s rest) = groups_sound rest
   groups_sound (group_item x items rest) = (level_sound items (groups_sound items), groups_sound rest)
   groups_sound (flat_item x items rest) = (groups_sound items, groups_sound rest)
 
-  pub items_sound : (items : Items) → LevelSound from to names m items
+  pub items_sound : (items : Items) → LevelSound from to from_names names m items
   items_sound items = level_sound items (groups_sound items)
