@@ -12,4 +12,6 @@ pub mod Typed
 pub mod Lawful
 pub mod Naming
 pub mod Checked
+pub mod Noted
+pub mod Seen
 pub mod Worked

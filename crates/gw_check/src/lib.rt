@@ -1,6 +1,9 @@
 //! Checks maps before they run.
 #![tactic(auto)]
 
+mod element;
+mod failure;
+mod interval;
 pub mod laws;
 mod shape;
 

@@ -3,7 +3,4 @@ pub mod Shapes
 pub mod Among
 pub mod Lawful
 pub mod Line
-pub mod Fault
-pub mod Value
-pub mod Whole
 pub mod Seen
