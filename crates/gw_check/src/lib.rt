@@ -5,6 +5,10 @@ mod element;
 mod failure;
 mod interval;
 pub mod laws;
+mod resolved;
 mod shape;
 
+pub use resolved::{
+    At, FlatItem, GroupItem, Item, Leaf, LeftOut, Making, Place, Reference, Rule, SegmentItem, Source,
+};
 pub use shape::{Presence, Shape, Values};
