@@ -58,6 +58,30 @@ fn capped_all(count: Option<u32>) -> Option<u32>
     }
 }
 
+fn multiplied(a: Option<u32>, b: Option<u32>) -> Option<u32>
+    ensures { result ≡ option_map (λ n. min n cap) (spec.multiply a b) }
+{
+    match (a, b) {
+        (None, None) => None,
+        (Some(a), Some(b)) => Some(capped(a.saturating_mul(b))),
+        (None, Some(n)) | (Some(n), None) => {
+            if n == 0 {
+                return Some(0);
+            }
+            None
+        }
+    }
+}
+
+fn added(a: Option<u32>, b: Option<u32>) -> Option<u32>
+    ensures { result ≡ option_map (λ n. min n cap) (spec.add a b) }
+{
+    match (a, b) {
+        (Some(a), Some(b)) => Some(capped(a.saturating_add(b))),
+        _ => None,
+    }
+}
+
 impl Interval {
     ghost use Rattle.std.specs.Prelude.{◌≡◌};
     ghost use Rattle.gw_check.specs.Intervals as spec;
@@ -70,6 +94,78 @@ impl Interval {
         Interval {
             least: capped(card.min),
             greatest: capped_all(card.max),
+        }
+    }
+
+    /// So many of what comes so often.
+    pub(crate) fn times(self, other: Interval) -> Interval
+        ensures { interval result ≡ saturated (spec.product (interval self) (interval other)) }
+    {
+        Interval {
+            least: capped(self.least.saturating_mul(other.least)),
+            greatest: multiplied(self.greatest, other.greatest),
+        }
+    }
+
+    /// The one and the other.
+    pub(crate) fn plus(self, other: Interval) -> Interval
+        ensures { interval result ≡ saturated (spec.sum (interval self) (interval other)) }
+    {
+        Interval {
+            least: capped(self.least.saturating_add(other.least)),
+            greatest: added(self.greatest, other.greatest),
+        }
+    }
+
+    /// At least one.
+    pub(crate) fn is_sure(self) -> bool
+        ensures { result ≡ spec.is_sure (interval self) }
+    {
+        self.least >= 1
+    }
+
+    /// None.
+    pub(crate) fn is_never(self) -> bool
+        ensures { result ≡ spec.is_never self.greatest }
+    {
+        match self.greatest {
+            None => false,
+            Some(most) => most == 0,
+        }
+    }
+
+    /// No more than the limit.
+    pub(crate) fn is_within(self, limit: Option<u32>) -> bool
+        ensures { result ≡ spec.is_within self.greatest limit }
+    {
+        match (self.greatest, limit) {
+            (_, None) => true,
+            (None, Some(_)) => false,
+            (Some(most), Some(limit)) => most <= limit,
+        }
+    }
+
+    /// One at most.
+    pub(crate) fn at_most_one(self) -> Interval
+        ensures { interval result ≡ spec.at_most_one (interval self) }
+    {
+        let most = match self.greatest {
+            None => 1,
+            Some(most) => most.min(1),
+        };
+        Interval {
+            least: self.least.min(1),
+            greatest: Some(most),
+        }
+    }
+
+    /// Maybe none.
+    pub(crate) fn or_none(self) -> Interval
+        ensures { interval result ≡ record { least = 0; greatest = self.greatest } }
+    {
+        Interval {
+            least: 0,
+            greatest: self.greatest,
         }
     }
 }
