@@ -1,2 +1,4 @@
 pub mod Children
 pub mod Rows
+pub mod Saturation
+pub mod Finding

@@ -14,4 +14,5 @@ pub mod Naming
 pub mod Checked
 pub mod Noted
 pub mod Seen
+pub mod Founds
 pub mod Worked

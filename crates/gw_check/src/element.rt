@@ -3,8 +3,10 @@ ghost use Rattle.std.specs.Prelude.{◌≡◌, option_map, Some};
 ghost use Rattle.gw_profile.specs.Seen.{forest, node_forest};
 ghost use Rattle.gw_profile.specs.Shapes.{nothing};
 ghost use Rattle.gw_check.specs.Places as spec;
-ghost use Rattle.gw_check.specs.Seen.{element as seen};
+ghost use Rattle.gw_check.specs.Seen.{element as seen, interval, saturated};
+ghost use Rattle.gw_check.specs.Founds.{count_of};
 
+use crate::interval::{Interval, once};
 use gw_profile::{GroupNode, Node, SegNode};
 
 /// A segment, a group, or the nodes of the whole profile.
@@ -31,6 +33,17 @@ pub(crate) fn child(nodes: &[Node], number: usize) -> Option<Element<'_>>
     match nodes.get(number) {
         None => None,
         Some(node) => Some(of_node(node)),
+    }
+}
+
+/// How often an element comes; the whole comes once.
+pub(crate) fn count_of(element: Element<'_>) -> Interval
+    ensures { interval result ≡ saturated (count_of (seen element.entry)) }
+{
+    match element {
+        Element::Segment(segment) => Interval::of(segment.card),
+        Element::Group(group) => Interval::of(group.card),
+        Element::Whole(_) => once(),
     }
 }
 

@@ -5,6 +5,7 @@ mod element;
 mod failure;
 mod interval;
 pub mod laws;
+mod place;
 mod resolved;
 mod shape;
 
