@@ -1,1 +1,4 @@
 pub mod Walks
+pub mod Lists
+pub mod Shaped
+pub mod Held
