@@ -85,14 +85,14 @@ module _ (names : List (List ℕ)) (tables : List TableValue) (has : HasTables n
     comp_number : (c : CompValue) → comp_of (Some f) n ≡ Some c → c.number ≡ n
     comp_number c e = (Decides-eqb c.number n).0 (found_test (λ (d : CompValue). d.number == n) f.comps c e)
 
-    comp_there : is_always (comp_presence (comp_of (Some f) n)) ≡ true → (CompAt m f.number r n → ⊥) → ⊥
+    pub comp_there : is_always (comp_presence (comp_of (Some f) n)) ≡ true → (CompAt m f.number r n → ⊥) → ⊥
     comp_there a none = by (comp_of (Some f) n) refl a
       where
         by : (o : Option CompValue) → comp_of (Some f) n ≡ o → is_always (comp_presence o) ≡ true → ⊥
         by None e a = cc
         by (Some c) e a = comp_broken c (0 ∷ 3 ∷ []) e (comp_absent (always_required c.usage a) (λ at. none (subst (CompAt m f.number r) (comp_number c e) at)))
 
-    comp_gone : is_absent (comp_presence (comp_of (Some f) n)) ≡ true → CompAt m f.number r n → ⊥
+    pub comp_gone : is_absent (comp_presence (comp_of (Some f) n)) ≡ true → CompAt m f.number r n → ⊥
     comp_gone a at = by (comp_of (Some f) n) refl a
       where
         by : (o : Option CompValue) → comp_of (Some f) n ≡ o → is_absent (comp_presence o) ≡ true → ⊥
@@ -119,14 +119,14 @@ module _ (names : List (List ℕ)) (tables : List TableValue) (has : HasTables n
               let sub : LawfulSub names s = found_all (λ (t : SubValue). t.number == k) (LawfulSub names) c.subs s es comp.each in
               shaped_sub s (text_of m f.number r n k) sub (sub_broken c s ec es)
 
-      copied_here : IsShaped (record { presence = sub_presence (comp_of (Some f) n) (sub_of (comp_of (Some f) n) k); values = sub_values tables (sub_of (comp_of (Some f) n) k) }) (text_of m f.number r n k)
+      pub copied_here : IsShaped (record { presence = sub_presence (comp_of (Some f) n) (sub_of (comp_of (Some f) n) k); values = sub_values tables (sub_of (comp_of (Some f) n) k) }) (text_of m f.number r n k)
       copied_here = by (is_absent (comp_presence (comp_of (Some f) n))) refl
         where
           by : (b : Bool) → is_absent (comp_presence (comp_of (Some f) n)) ≡ b → IsShaped (record { presence = sub_presence (comp_of (Some f) n) (sub_of (comp_of (Some f) n) k); values = sub_values tables (sub_of (comp_of (Some f) n) k) }) (text_of m f.number r n k)
           by true e = absurd (comp_gone e at)
           by false e = rw e sub_shaped
 
-    rep_shaped : (k : ℕ) → IsShaped (record { presence = rep_presence (Some f) n k; values = sub_values tables (sub_of (comp_of (Some f) n) k) }) (text_of m f.number r n k)
+    pub rep_shaped : (k : ℕ) → IsShaped (record { presence = rep_presence (Some f) n k; values = sub_values tables (sub_of (comp_of (Some f) n) k) }) (text_of m f.number r n k)
     rep_shaped k = record {
       always = λ e none. let p = both_always (comp_presence (comp_of (Some f) n)) _ e in comp_there p.0 (λ at. (sub_shaped k at).always p.1 none);
       absent = λ e. no_text (text_of m f.number r n k) (λ lt. gone lt (both_absent (comp_presence (comp_of (Some f) n)) _ e));

@@ -2,3 +2,4 @@ pub mod Walks
 pub mod Lists
 pub mod Shaped
 pub mod Held
+pub mod Sources
