@@ -3,3 +3,4 @@ pub mod Lists
 pub mod Shaped
 pub mod Held
 pub mod Sources
+pub mod Leaves
