@@ -4,3 +4,5 @@ pub mod Shaped
 pub mod Held
 pub mod Sources
 pub mod Leaves
+pub mod Repetitions
+pub mod Copied
