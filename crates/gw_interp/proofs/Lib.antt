@@ -6,3 +6,4 @@ pub mod Sources
 pub mod Leaves
 pub mod Repetitions
 pub mod Copied
+pub mod Contents

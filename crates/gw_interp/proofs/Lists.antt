@@ -91,3 +91,9 @@ both_empty (x ∷ xs) ys e = absurd (cc)
 pub each_empty : {A B : Type 0} (f : A → List B) (xs : List A) → flat_map f xs ≡ [] → AllByRecursion (λ x. f x ≡ []) xs
 each_empty f [] e = tt
 each_empty f (x ∷ xs) e = let p = both_empty (f x) (flat_map f xs) e in (p.0, each_empty f xs p.1)
+
+pub three_empty : {A : Type 0} (xs ys zs : List A) → xs ++ ys ++ zs ≡ [] → (xs ≡ []) × (ys ≡ []) × (zs ≡ [])
+three_empty xs ys zs e = let p = both_empty (xs ++ ys) zs e in let q = both_empty xs ys p.0 in (q.0, q.1, p.1)
+
+pub four_empty : {A : Type 0} (ws xs ys zs : List A) → ws ++ xs ++ ys ++ zs ≡ [] → (ws ≡ []) × (xs ≡ []) × (ys ≡ []) × (zs ≡ [])
+four_empty ws xs ys zs e = let p = three_empty (ws ++ xs) ys zs e in let q = both_empty ws xs p.0 in (q.0, q.1, p.1, p.2)
