@@ -7,3 +7,4 @@ pub mod Leaves
 pub mod Repetitions
 pub mod Copied
 pub mod Contents
+pub mod Made
