@@ -8,3 +8,4 @@ pub mod Repetitions
 pub mod Copied
 pub mod Contents
 pub mod Made
+pub mod FieldSound
