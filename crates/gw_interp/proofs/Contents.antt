@@ -1,5 +1,5 @@
 -- What a field copied from another holds breaks nothing, where no rule fails for it.
-use Rattle.std.proofs.Common.{◌≡◌, ℕ, zero, suc, ◌<◌, ◌⊎◌, inl, inr, Bool, true, false, List, [], ◌∷◌, ◌++◌, Option, Some, None, refl, sym, ap, ◌∙◌, subst, arith, length}
+use Rattle.std.proofs.Common.{◌≡◌, ℕ, ◌<◌, Bool, true, false, List, [], ◌∷◌, Option, refl, sym, ap, ◌∙◌, subst, arith, length}
 use Rattle.std.specs.Prelude.{◌&&◌, not, flat_map}
 use Rattle.std.specs.List.{AllByRecursion}
 use Rattle.gw_er7.specs.Message.{Texts, text_of}
@@ -7,10 +7,9 @@ use Rattle.gw_er7.specs.Presence.{CompAt, RepAt}
 use Rattle.gw_profile.specs.Shapes.{SubValue, CompValue, FieldValue, TableValue}
 use Rattle.gw_profile.proofs.Facts.{no_clash}
 use Rattle.gw_validate.specs.Breaches.{is_required, is_forbidden, is_null, SubBreach, sub_absent, sub_forbidden, too_long, not_listed, InAny, in_first, in_later, CompBreach, comp_absent, comp_forbidden, in_sub}
-use Rattle.gw_check.specs.Failures.{Failure, fails}
+use Rattle.gw_check.specs.Failures.{fails}
 use Rattle.gw_check.specs.Leaves.{Shape, is_always, is_absent, comp_of, sub_of, comp_presence, sub_presence, sub_values}
 use Rattle.gw_check.specs.Fields.{value_failures, copied_sub, copied_comp}
-use Rattle.gw_interp.specs.Meaning.{IsFirst}
 use Rattle.gw_interp.proofs.Lists.{all_as, none_fails, three_empty, each_empty}
 use Rattle.gw_interp.proofs.Shaped.{IsShaped, IsFit, fit_values, no_text, text_there}
 use Rattle.gw_interp.proofs.Held.{HasTables}

@@ -1,16 +1,15 @@
 -- A field that is copied, or its first repetition: how often it is there, and what it holds.
-use Rattle.std.proofs.Common.{◌≡◌, ℕ, zero, suc, ◌<◌, ◌≤◌, ◌-◌, ◌⊎◌, inl, inr, min, Bool, true, false, List, [], ◌∷◌, ◌++◌, Option, Some, None, refl, sym, ap, ◌∙◌, subst, arith, length}
-use Rattle.std.specs.Prelude.{◌==◌, ◌&&◌, not, find, flat_map, if◌then◌else◌}
-use Rattle.std.specs.List.{AllByRecursion}
+use Rattle.std.proofs.Common.{◌≡◌, ℕ, ◌<◌, ◌≤◌, ◌-◌, ◌⊎◌, inl, inr, min, Bool, true, false, List, [], ◌∷◌, Option, Some, None, refl, sym, ap, ◌∙◌, subst, arith, length}
+use Rattle.std.specs.Prelude.{if◌then◌else◌}
 use Rattle.gw_er7.specs.Message.{Texts, text_of}
 use Rattle.gw_er7.specs.Presence.{CompAt, RepAt, IsLast}
 use Rattle.gw_profile.specs.declared.shape.Usage.{Usage}
 use Rattle.gw_profile.specs.declared.shape.Usage.TheVariants.{R, RE, O, X}
 use Rattle.gw_profile.specs.declared.shape.Card.{Card}
-use Rattle.gw_profile.specs.Shapes.{SubValue, CompValue, FieldValue, TableValue}
+use Rattle.gw_profile.specs.Shapes.{FieldValue, TableValue}
 use Rattle.gw_profile.specs.WellFormed.{Agrees}
 use Rattle.gw_profile.proofs.Facts.{tells}
-use Rattle.gw_validate.specs.Breaches.{Counted, is_forbidden, FieldBreach, too_few, field_forbidden, in_reps, in_rep, one_too_many}
+use Rattle.gw_validate.specs.Breaches.{Counted, is_forbidden, too_few, field_forbidden, in_reps, in_rep, one_too_many}
 use Rattle.gw_check.specs.Intervals.{Interval, never, is_sure, is_never, at_most_one}
 use Rattle.gw_check.specs.Places.{Known}
 use Rattle.gw_check.specs.Leaves.{field_of}
@@ -19,7 +18,7 @@ use Rattle.gw_interp.specs.Meaning.{IsFirst, InFirst, Where}
 use Rattle.gw_interp.proofs.Walks.{IsKnown}
 use Rattle.gw_interp.proofs.Shaped.{text_there}
 use Rattle.gw_interp.proofs.Held.{HasTables}
-use Rattle.gw_interp.proofs.Sources.{IsUnbroken, IsHeld, known_held, sure_held, no_rep}
+use Rattle.gw_interp.proofs.Sources.{IsHeld, known_held, sure_held, no_rep}
 use Rattle.gw_interp.proofs.Repetitions.{IsCounted, last_none, surplus, first_exists, first_once, never_counted, counted_never, single, counted_alike}
 use Rattle.std.proofs.lemmas.Bool.{cases_lt}
 

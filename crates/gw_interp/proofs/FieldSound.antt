@@ -1,12 +1,12 @@
 -- A target segment for which no rule on fields fails meets its shape.
-use Rattle.std.proofs.Common.{◌≡◌, ℕ, zero, suc, ◌<◌, ◌≤◌, ◌⊎◌, inl, inr, Bool, true, false, List, [], ◌∷◌, ◌++◌, Option, Some, None, refl, sym, ap, ◌∙◌, subst, arith, length, IfSome}
-use Rattle.std.specs.Prelude.{◌==◌, ◌&&◌, not, nat_lt, nat_le, flat_map, bytes_eq, if◌then◌else◌}
+use Rattle.std.proofs.Common.{◌≡◌, ℕ, ◌≤◌, ◌⊎◌, inl, inr, Bool, true, false, List, [], ◌∷◌, Option, Some, None, refl, sym, ap, ◌∙◌, arith, IfSome}
+use Rattle.std.specs.Prelude.{◌==◌, ◌&&◌, not, nat_lt, flat_map, bytes_eq, if◌then◌else◌}
 use Rattle.std.specs.List.{AllByRecursion}
 use Rattle.std.proofs.lemmas.Bool.Decides.{nat_tests, Decides-eqb}
 use Rattle.gw_er7.specs.Message.{Texts, text_of, SegmentValue}
 use Rattle.gw_er7.specs.Presence.{RepAt}
 use Rattle.gw_profile.specs.Among.{Among}
-use Rattle.gw_profile.specs.Shapes.{CompValue, FieldValue, TableValue}
+use Rattle.gw_profile.specs.Shapes.{FieldValue, TableValue}
 use Rattle.gw_profile.specs.Value.{table_of}
 use Rattle.gw_profile.specs.WellFormed.{LawfulField, table_names}
 use Rattle.gw_profile.proofs.Facts.{le_is, no_clash}
@@ -14,12 +14,12 @@ use Rattle.std.proofs.lemmas.Slice.Eq.{bytes_eq-Decides}
 use Rattle.gw_validate.specs.Breaches.{is_forbidden, InAny, CompBreach, one_too_many, in_comp, in_rep, FieldBreach, too_few, field_forbidden, in_reps, Meets}
 use Rattle.gw_check.specs.Intervals.{Interval, once, is_never, is_within}
 use Rattle.gw_check.specs.Places.{known}
-use Rattle.gw_check.specs.Failures.{Failure, fails}
-use Rattle.gw_check.specs.Resolved.{At, leaf_at, Making, copy, first, repeat, build, Rule, rule_of}
+use Rattle.gw_check.specs.Failures.{fails}
+use Rattle.gw_check.specs.Resolved.{Making, copy, first, repeat, build, Rule, rule_of}
 use Rattle.gw_check.specs.Leaves.{Sources, at_field}
 use Rattle.gw_check.specs.Counts as counts
 use Rattle.gw_check.specs.Counts.{making_count, rule_count}
-use Rattle.gw_check.specs.Fields.{copied_comp, is_expected, has_no_rule, line_of_rule, making_failures, content_failures, count_failures, field_failures, rule_lookups, segment_failures}
+use Rattle.gw_check.specs.Fields.{is_expected, has_no_rule, line_of_rule, making_failures, content_failures, count_failures, field_failures, rule_lookups, segment_failures}
 use Rattle.gw_check.specs.Lawful.{LawfulMaking, LawfulRule, LawfulRules}
 use Rattle.gw_interp.specs.Occurrences.{texts_at}
 use Rattle.gw_interp.specs.Meaning.{Walked, walking, MakingMeans, RuleMeans, IsImage}
@@ -31,7 +31,7 @@ use Rattle.gw_interp.proofs.Sources.{known_held}
 use Rattle.gw_interp.proofs.Leaves.{walked_on, HasNoFault, no_fault_of_rule}
 use Rattle.gw_interp.proofs.Repetitions.{IsCounted, never_counted, counted_never, single}
 use Rattle.gw_interp.proofs.Copied.{source_counted, copy_counted, first_counted}
-use Rattle.gw_interp.proofs.Contents.{none_broken, demanded, IsCopied, copied_whole, copied_first, comps_kept}
+use Rattle.gw_interp.proofs.Contents.{none_broken, demanded, copied_whole, copied_first, comps_kept}
 use Rattle.gw_interp.proofs.Made.{made_counted, comps_made}
 
 -- the names of tables are those of tables

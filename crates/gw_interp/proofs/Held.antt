@@ -1,7 +1,6 @@
 -- What a field that breaks nothing says of the texts in its repetitions.
-use Rattle.std.proofs.Common.{◌≡◌, ℕ, suc, ◌<◌, ◌≤◌, ◌⊎◌, inl, inr, Bool, true, false, List, [], ◌∷◌, map, Option, Some, None, refl, sym, ap, ◌∙◌, subst, arith, length, IfSome}
-use Rattle.std.specs.Prelude.{◌==◌, ◌&&◌, not, nat_lt, nat_le, filter, find, cond, if◌then◌else◌, unwrap_or}
-use Rattle.std.specs.List.{AllByRecursion}
+use Rattle.std.proofs.Common.{◌≡◌, ℕ, ◌<◌, ◌⊎◌, inl, inr, Bool, true, false, List, [], ◌∷◌, Option, Some, None, refl, sym, ap, ◌∙◌, subst, arith, length, IfSome}
+use Rattle.std.specs.Prelude.{◌==◌, nat_lt, nat_le, filter, find, cond, unwrap_or}
 use Rattle.std.proofs.lemmas.Bool.Decides.{nat_tests, Decides-eqb}
 use Rattle.gw_er7.specs.Message.{Texts, text_of}
 use Rattle.gw_er7.specs.Presence.{CompAt, RepAt}
@@ -12,9 +11,9 @@ use Rattle.gw_profile.specs.Value.{table_of}
 use Rattle.gw_profile.specs.WellFormed.{LawfulSub, LawfulComp, LawfulField}
 use Rattle.gw_profile.proofs.Among.{among_is}
 use Rattle.gw_profile.proofs.Facts.{tells, false_not, not_false}
-use Rattle.gw_validate.specs.Breaches.{is_long, lacks, is_unlisted, is_null, SubBreach, sub_absent, sub_forbidden, too_long, not_listed, InAny, in_first, in_later, CompBreach, comp_absent, comp_forbidden, in_sub, in_comp, in_rep, FieldBreach, in_reps}
+use Rattle.gw_validate.specs.Breaches.{is_long, lacks, is_unlisted, SubBreach, sub_absent, sub_forbidden, too_long, not_listed, InAny, in_first, in_later, CompBreach, comp_absent, comp_forbidden, in_sub, in_comp, in_rep, FieldBreach, in_reps}
 use Rattle.gw_check.specs.declared.shape.Presence.TheVariants.{Maybe}
-use Rattle.gw_check.specs.Leaves.{Values, any, listed, Shape, is_short, is_always, is_absent, comp_of, sub_of, comp_presence, sub_usage, sub_presence, rep_presence, sub_values}
+use Rattle.gw_check.specs.Leaves.{any, is_short, is_always, is_absent, comp_of, sub_of, comp_presence, sub_usage, sub_presence, rep_presence, sub_values}
 use Rattle.gw_interp.proofs.Lists.{found_test, found_all}
 use Rattle.gw_interp.proofs.Shaped.{IsOf, IsShaped, always_required, absent_forbidden, both_always, both_absent, some_text, no_text, text_there}
 

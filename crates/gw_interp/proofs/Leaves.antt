@@ -1,8 +1,8 @@
 -- The text of a leaf is as its shape says, and no leaf is a fault.
-use Rattle.std.proofs.Common.{◌≡◌, ℕ, suc, ◌<◌, ◌≤◌, ◌⊎◌, inl, inr, Bool, true, false, List, [], ◌∷◌, ◌++◌, map, Option, Some, None, refl, sym, ap, ◌∙◌, subst, arith, length, IfSome}
+use Rattle.std.proofs.Common.{◌≡◌, ℕ, ◌⊎◌, inl, inr, Bool, true, false, List, [], ◌∷◌, map, Option, Some, None, refl, sym, ap, ◌∙◌, subst, IfSome}
 use Rattle.std.specs.Prelude.{◌||◌, not, filter_map, option_to_list, bytes_eq, if◌then◌else◌}
 use Rattle.std.specs.List.{AllByRecursion, cons_option}
-use Rattle.gw_er7.specs.Message.{Texts, text_of}
+use Rattle.gw_er7.specs.Message.{text_of}
 use Rattle.gw_er7.specs.Presence.{RepAt}
 use Rattle.gw_lines.specs.Values.{is_value}
 use Rattle.gw_profile.specs.Among.{Among}
@@ -13,7 +13,6 @@ use Rattle.gw_validate.specs.Breaches.{is_null}
 use Rattle.gw_maplang.specs.Shapes.{Row, Rows, second_of}
 use Rattle.gw_maplang.specs.Lawful.{LawfulRow}
 use Rattle.gw_check.specs.Places.{known}
-use Rattle.gw_check.specs.Failures.{fails}
 use Rattle.gw_check.specs.Resolved.{Reference, Source, Leaf, const, copied, looked_up, At, Making, copy, first, repeat, build, Rule}
 use Rattle.gw_check.specs.Leaves.{Values, any, listed, Sources, at_field, or_otherwise, given, given_values, has_no_row, source_shape, leaf_shape}
 use Rattle.gw_check.specs.Counts as counts
@@ -21,11 +20,11 @@ use Rattle.gw_check.specs.Fields.{lookup_failures, rule_lookups}
 use Rattle.gw_check.specs.Lawful.{LawfulRows, LawfulLeaf}
 use Rattle.gw_interp.specs.Occurrences.{texts_at}
 use Rattle.gw_interp.specs.Meaning.{Walked, SourceMeans, LeafMeans, look_up, walking}
-use Rattle.gw_interp.proofs.Walks.{IsRepetition, IsCurrent, IsWalked}
+use Rattle.gw_interp.proofs.Walks.{IsCurrent, IsWalked}
 use Rattle.gw_interp.proofs.Lists.{all_as, none_fails, each_empty}
 use Rattle.gw_interp.proofs.Shaped.{IsOf, IsShaped}
 use Rattle.gw_interp.proofs.Held.{HasTables}
-use Rattle.gw_interp.proofs.Sources.{IsUnbroken, IsHeld, known_held, source_shaped}
+use Rattle.gw_interp.proofs.Sources.{IsHeld, known_held, source_shaped}
 
 -- ---- what rows give
 

@@ -1,11 +1,11 @@
 -- Lists: what holds of each element, what is found, and when nothing fails.
-use Rattle.std.proofs.Common.{◌≡◌, ℕ, suc, ◌≤◌, ◌⊎◌, inl, inr, Bool, true, false, List, [], ◌∷◌, ◌++◌, map, Option, Some, None, refl, sym, ap, ◌∙◌, subst, arith}
-use Rattle.std.specs.Prelude.{◌||◌, ◌&&◌, cond, find, flat_map}
+use Rattle.std.proofs.Common.{◌≡◌, ℕ, suc, ◌≤◌, inl, inr, Bool, true, false, List, [], ◌∷◌, ◌++◌, map, Some, refl, sym, ap, ◌∙◌, subst, arith}
+use Rattle.std.specs.Prelude.{◌||◌, cond, find, flat_map}
 use Rattle.std.specs.List.{AllByRecursion, list_any, list_all}
 use Rattle.gw_profile.specs.WellFormed.{Rising}
-use Rattle.gw_profile.proofs.Facts.{both, tells, neither}
+use Rattle.gw_profile.proofs.Facts.{both, neither}
 use Rattle.gw_maplang.specs.Among.{Among, Distinct}
-use Rattle.gw_check.specs.Failures.{Failure, fails}
+use Rattle.gw_check.specs.Failures.{fails}
 
 -- ---- each element
 

@@ -1,5 +1,5 @@
 -- A field made of leaves: how often it is there, and that what it holds breaks nothing where no rule fails for it.
-use Rattle.std.proofs.Common.{◌≡◌, ℕ, zero, suc, ◌<◌, ◌≤◌, ◌⊎◌, inl, inr, Bool, true, false, List, [], ◌∷◌, ◌++◌, map, Option, Some, None, refl, sym, ap, ◌∙◌, subst, arith, length}
+use Rattle.std.proofs.Common.{◌≡◌, ℕ, ◌<◌, ◌⊎◌, inl, inr, Bool, true, false, List, [], ◌∷◌, map, Option, Some, None, refl, sym, ap, ◌∙◌, subst, length}
 use Rattle.std.specs.Prelude.{◌==◌, ◌&&◌, ◌||◌, not, find, flat_map, if◌then◌else◌}
 use Rattle.std.specs.List.{AllByRecursion, list_any, list_all}
 use Rattle.std.proofs.lemmas.Bool.Decides.{Decides-eqb}
@@ -10,13 +10,13 @@ use Rattle.gw_profile.specs.Shapes.{SubValue, CompValue, FieldValue, TableValue}
 use Rattle.gw_profile.specs.WellFormed.{Rising, LawfulComp, LawfulField}
 use Rattle.gw_profile.proofs.Facts as facts
 use Rattle.gw_profile.proofs.Facts.{either, neither, and_of, no_clash, not_true}
-use Rattle.gw_validate.specs.Breaches.{is_required, is_forbidden, is_null, SubBreach, InAny, CompBreach, comp_absent, comp_forbidden, in_sub}
+use Rattle.gw_validate.specs.Breaches.{is_required, is_null, SubBreach, InAny, CompBreach, comp_absent, comp_forbidden, in_sub}
 use Rattle.gw_maplang.specs.declared.rule.LeafPlace.{LeafPlace}
 use Rattle.gw_check.specs.Intervals.{Interval, never}
 use Rattle.gw_check.specs.Resolved.{Leaf, const, copied, looked_up, At, leaf_at}
 use Rattle.gw_check.specs.Leaves.{Sources, comp_of, sub_of, leaf_shape, is_always, is_absent, may_be_unlisted, may_be_long}
 use Rattle.gw_check.specs.Counts.{some_always, all_absent, leaves_count}
-use Rattle.gw_check.specs.Failures.{Failure, fails}
+use Rattle.gw_check.specs.Failures.{fails}
 use Rattle.gw_check.specs.Fields.{table_values, is_comp_sure, is_sub_sure, made_sub, made_comp, is_forbidden_comp, is_forbidden_sub, leaf_failures, placed, made_leaf, made_field}
 use Rattle.gw_check.specs.Lawful.{LawfulAt, LawfulLeaves, place}
 use Rattle.gw_interp.specs.Meaning.{Walked, LeafMeans, AtMeans, Where}

@@ -1,9 +1,9 @@
 -- How often something is there, and the first time that it is.
-use Rattle.std.proofs.Common.{◌≡◌, ℕ, zero, suc, ◌-◌, ◌<◌, ◌≤◌, ◌⊎◌, inl, inr, min, Option, Some, None, refl, sym, ap, ◌∙◌, subst, arith}
+use Rattle.std.proofs.Common.{◌≡◌, ℕ, zero, suc, ◌-◌, ◌<◌, ◌≤◌, ◌⊎◌, inl, inr, Some, refl, subst, arith}
 use Rattle.std.proofs.lemmas.Bool.{cases_lt}
 use Rattle.gw_er7.specs.Presence.{IsLast}
 use Rattle.gw_validate.specs.Breaches.{Counted}
-use Rattle.gw_check.specs.Intervals.{Interval, never, once, at_most_one}
+use Rattle.gw_check.specs.Intervals.{Interval, never}
 use Rattle.gw_interp.specs.Meaning.{IsFirst}
 
 -- no fewer and no more of the numbers from 1 on than an interval says
@@ -104,4 +104,3 @@ module _ (P Q : ℕ → Type 0) (so : (r : ℕ) → P r → Q r) where
       enough = λ last count l c lt. is.enough last count (record { there = λ some. so last (l.there some); within = λ k q. l.within k (back k q) }) (same_count last count c) lt;
       limited = λ most r k e p c le. is.limited most r k e (so r p) (same_count (r - 1) k c) le;
     }
-

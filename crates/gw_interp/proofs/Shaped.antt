@@ -1,8 +1,7 @@
 -- A text that is as a shape says, and what that means for a target subcomponent for which no rule fails.
-use Rattle.std.proofs.Common.{◌≡◌, ℕ, suc, ◌<◌, ◌≤◌, ◌⊎◌, inl, inr, Bool, true, false, List, [], ◌∷◌, ◌++◌, map, Option, Some, None, refl, sym, ap, ◌∙◌, subst, arith, length}
-use Rattle.std.specs.Prelude.{◌||◌, ◌&&◌, not, nat_lt, nat_le, filter, cond, unwrap_or, option_and_then}
-use Rattle.std.specs.List.{AllByRecursion, list_any}
-use Rattle.std.proofs.lemmas.Grind.{common_steps}
+use Rattle.std.proofs.Common.{◌≡◌, ℕ, ◌<◌, ◌⊎◌, inl, inr, Bool, true, false, List, [], ◌∷◌, Option, Some, None, refl, ap, ◌∙◌, arith, length}
+use Rattle.std.specs.Prelude.{◌&&◌, not, nat_lt, option_and_then}
+use Rattle.std.specs.List.{list_any}
 use Rattle.std.proofs.lemmas.Bool.Decides.{nat_tests}
 use Rattle.gw_profile.specs.declared.shape.Usage.{Usage}
 use Rattle.gw_profile.specs.declared.shape.Usage.TheVariants.{R, RE, O, X}
@@ -10,8 +9,7 @@ use Rattle.gw_profile.specs.Among.{Among}
 use Rattle.gw_profile.specs.Fault.{is_among}
 use Rattle.gw_profile.specs.Shapes.{SubValue, TableValue}
 use Rattle.gw_profile.specs.Value.{table_of}
-use Rattle.gw_profile.proofs.Among.{among_is}
-use Rattle.gw_profile.proofs.Facts.{both, tells, neither, not_false, not_is, not_of, is_not, no_clash, false_not, le_is, lt_is}
+use Rattle.gw_profile.proofs.Facts.{neither}
 use Rattle.gw_validate.specs.Breaches.{is_required, is_forbidden, is_long, lacks, is_unlisted, is_null}
 use Rattle.gw_check.specs.declared.shape.Presence.{Presence}
 use Rattle.gw_check.specs.declared.shape.Presence.TheVariants.{Always, Maybe, Never}

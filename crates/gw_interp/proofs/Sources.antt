@@ -1,27 +1,26 @@
 -- What the source's profile says of the texts that a map reads.
-use Rattle.std.proofs.Common.{◌≡◌, ℕ, suc, ◌<◌, ◌≤◌, ◌⊎◌, inl, inr, Bool, true, false, List, [], ◌∷◌, Option, Some, None, refl, sym, ap, ◌∙◌, subst, arith, length}
-use Rattle.std.specs.Prelude.{◌==◌, ◌&&◌, nat_le, find, if◌then◌else◌}
+use Rattle.std.proofs.Common.{◌≡◌, ℕ, ◌≤◌, ◌⊎◌, inl, inr, Bool, true, false, List, [], ◌∷◌, Option, Some, None, refl, sym, ap, ◌∙◌, subst, arith, length}
+use Rattle.std.specs.Prelude.{◌==◌, ◌&&◌, nat_le, if◌then◌else◌}
 use Rattle.std.specs.List.{AllByRecursion}
 use Rattle.std.proofs.lemmas.Bool.Decides.{Decides-eqb}
 use Rattle.gw_er7.specs.Message.{Texts, text_of}
 use Rattle.gw_er7.specs.Presence.{CompAt, RepAt, FieldAt, IsLast}
 use Rattle.gw_profile.specs.declared.shape.Usage.{Usage}
 use Rattle.gw_profile.specs.declared.shape.Usage.TheVariants.{R, RE, O, X}
-use Rattle.gw_profile.specs.Shapes.{SubValue, CompValue, FieldValue, TableValue}
+use Rattle.gw_profile.specs.Shapes.{FieldValue, TableValue}
 use Rattle.gw_profile.specs.WellFormed.{LawfulField}
 use Rattle.gw_profile.proofs.Facts.{tells, no_clash, le_is}
 use Rattle.gw_profile.proofs.Facts as facts
 use Rattle.gw_validate.specs.Breaches.{is_required, is_forbidden, is_null, FieldBreach, too_few, field_forbidden, Meets}
-use Rattle.gw_check.specs.declared.shape.Presence.{Presence}
 use Rattle.gw_check.specs.declared.shape.Presence.TheVariants.{Always, Maybe, Never}
 use Rattle.gw_check.specs.Intervals.{is_sure, is_never}
 use Rattle.gw_check.specs.Places.{Known, known}
-use Rattle.gw_check.specs.Resolved.{Source, of_field, of_current, Reference}
+use Rattle.gw_check.specs.Resolved.{Source, of_field, of_current}
 use Rattle.gw_check.specs.Leaves as leaves
 use Rattle.gw_check.specs.Leaves.{Shape, Sources, is_always, is_absent, field_of, comp_of, sub_of, by_usage, comp_presence, sub_usage, sub_presence, rep_presence, field_presence, sub_values, at_field, source_shape}
 use Rattle.gw_interp.specs.Occurrences.{texts_at}
-use Rattle.gw_interp.specs.Meaning.{InFirst, Walked, SourceMeans, IsFirst}
-use Rattle.gw_interp.proofs.Walks.{NoText, IsKnown, IsRepetition, IsCurrent, IsWalked}
+use Rattle.gw_interp.specs.Meaning.{InFirst, Walked, SourceMeans}
+use Rattle.gw_interp.proofs.Walks.{NoText, IsKnown, IsCurrent, IsWalked}
 use Rattle.gw_interp.proofs.Lists.{found_test, found_all}
 use Rattle.gw_interp.proofs.Shaped.{IsOf, IsShaped, always_required, absent_forbidden, both_always, both_absent}
 use Rattle.gw_interp.proofs.Held.{HasTables, in_found, shaped_any, comp_there, comp_gone, copied_here, rep_shaped}
