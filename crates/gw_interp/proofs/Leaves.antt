@@ -93,12 +93,12 @@ given_among table (any len) text value is e = (among_append (map (λ (r : Row). 
 given_among table (listed texts) text value is e = filtered (given table) text value texts is e
 
 -- how a text is looked up
-data LooksUp (table : Rows) (from text : List ℕ) : Type 0 where
+pub data LooksUp (table : Rows) (from text : List ℕ) : Type 0 where
   of_none : from ≡ [] → text ≡ [] → LooksUp table from text
   of_null : is_null text ≡ true → text ≡ from → LooksUp table from text
   of_value : is_null from ≡ false → (from ≡ [] → ⊥) → given table from ≡ Some text → LooksUp table from text
 
-looks_up : (table : Rows) (from text : List ℕ) → look_up table from ≡ Some text → LooksUp table from text
+pub looks_up : (table : Rows) (from text : List ℕ) → look_up table from ≡ Some text → LooksUp table from text
 looks_up table [] text e = of_none refl (let same : text ≡ [] = cc in same)
 looks_up table (b ∷ bytes) text e = by (is_null (b ∷ bytes)) refl e
   where

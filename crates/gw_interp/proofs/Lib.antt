@@ -9,3 +9,4 @@ pub mod Copied
 pub mod Contents
 pub mod Made
 pub mod FieldSound
+pub mod Images

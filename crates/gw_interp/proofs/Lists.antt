@@ -3,7 +3,7 @@ use Rattle.std.proofs.Common.{◌≡◌, ℕ, suc, ◌≤◌, inl, inr, Bool, tr
 use Rattle.std.specs.Prelude.{◌||◌, cond, find, flat_map}
 use Rattle.std.specs.List.{AllByRecursion, list_any, list_all}
 use Rattle.gw_profile.specs.WellFormed.{Rising}
-use Rattle.gw_profile.proofs.Facts.{both, neither}
+use Rattle.gw_profile.proofs.Facts.{both}
 use Rattle.gw_maplang.specs.Among.{Among, Distinct}
 use Rattle.gw_check.specs.Failures.{fails}
 
@@ -23,10 +23,6 @@ module _ {A : Type 0} (test : A → Bool) where
   pub all_pass : (xs : List A) → list_all test xs ≡ true → AllByRecursion (λ x. test x ≡ true) xs
   all_pass [] e = tt
   all_pass (x ∷ xs) e = let p = both (test x) (list_all test xs) e in (p.0, all_pass xs p.1)
-
-  pub none_pass : (xs : List A) → list_any test xs ≡ false → AllByRecursion (λ x. test x ≡ false) xs
-  none_pass [] e = tt
-  none_pass (x ∷ xs) e = let p = neither (test x) (list_any test xs) e in (p.0, none_pass xs p.1)
 
   -- an element passes, and what holds of each holds of it
   pub some_pass : (P : A → Type 0) (xs : List A) → list_any test xs ≡ true → AllByRecursion P xs → (x : A) × (test x ≡ true) × P x

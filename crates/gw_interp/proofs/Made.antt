@@ -213,8 +213,8 @@ module _ (names : List (List ℕ)) (s : Sources) (has : HasTables names s.tables
         (λ u. no_text _ (λ lt. kept_out c.number sub.number lt (facts.or_right (is_forbidden_comp (comp_of (Some target) c.number)) _ (ap is_forbidden_sub found ∙ u))))
         (fit_leaf c.number sub.number sub found)
 
-    comp_made : (names : List (List ℕ)) (c : CompValue) → RepAt m number r → LawfulComp names c → made_comp s line leaves c ≡ [] → comp_of (Some target) c.number ≡ Some c → (spot : List ℕ) → CompBreach tables m number r c spot → ⊥
-    comp_made names c rep lawful none ec = by (both_empty _ (flat_map (made_sub s line leaves c.number) c.subs) none)
+    comp_made : (target_names : List (List ℕ)) (c : CompValue) → RepAt m number r → LawfulComp target_names c → made_comp s line leaves c ≡ [] → comp_of (Some target) c.number ≡ Some c → (spot : List ℕ) → CompBreach tables m number r c spot → ⊥
+    comp_made target_names c rep lawful none ec = by (both_empty _ (flat_map (made_sub s line leaves c.number) c.subs) none)
       where
         by : (fails 5 line (is_required c.usage && not (is_comp_sure s leaves c.number)) ≡ []) × (flat_map (made_sub s line leaves c.number) c.subs ≡ []) → (spot : List ℕ) → CompBreach tables m number r c spot → ⊥
         by parts spot (comp_absent u gone) = gone (comp_sure c.number rep (demanded (is_required c.usage) _ (none_fails 5 line _ parts.0) u))
@@ -225,11 +225,11 @@ module _ (names : List (List ℕ)) (s : Sources) (has : HasTables names s.tables
             (λ t e f. sub_made c ec at t e f) c.subs (each_empty (made_sub s line leaves c.number) c.subs parts.1) (found_by_number (λ (t : SubValue). t.number) 1 99 c.subs lawful.rising)) spot b
 
   -- a repetition that is made breaks no component
-  pub comps_made : (names : List (List ℕ)) (tables : List TableValue) (line : ℕ) (target : FieldValue) → LawfulField names target → made_field s tables line leaves target ≡ [] → (r : ℕ) → RepAt m number r → (spot : List ℕ) → InAny (λ c. c.number) (CompBreach tables m number r) target.comps spot → ⊥
-  comps_made names tables line target lawful none r rep =
+  pub comps_made : (target_names : List (List ℕ)) (tables : List TableValue) (line : ℕ) (target : FieldValue) → LawfulField target_names target → made_field s tables line leaves target ≡ [] → (r : ℕ) → RepAt m number r → (spot : List ℕ) → InAny (λ c. c.number) (CompBreach tables m number r) target.comps spot → ⊥
+  comps_made target_names tables line target lawful none r rep =
       let parts = both_empty (flat_map (made_comp s line leaves) target.comps) (flat_map (made_leaf s tables target) leaves) none in
       let unfailed = each_empty (made_leaf s tables target) leaves parts.1 in
       none_broken (λ (c : CompValue). c.number) (CompBreach tables m number r) target.comps
-      (all_with (λ (c : CompValue). made_comp s line leaves c ≡ []) (λ (c : CompValue). LawfulComp names c × (comp_of (Some target) c.number ≡ Some c)) (λ (c : CompValue). (spot : List ℕ) → CompBreach tables m number r c spot → ⊥)
-      (λ c e f. comp_made tables line target unfailed r names c rep f.0 e f.1) target.comps (each_empty (made_comp s line leaves) target.comps parts.0)
-      (all_with (LawfulComp names) (λ (c : CompValue). comp_of (Some target) c.number ≡ Some c) (λ (c : CompValue). LawfulComp names c × (comp_of (Some target) c.number ≡ Some c)) (λ c a b. (a, b)) target.comps lawful.each (found_by_number (λ (c : CompValue). c.number) 1 99 target.comps lawful.rising)))
+      (all_with (λ (c : CompValue). made_comp s line leaves c ≡ []) (λ (c : CompValue). LawfulComp target_names c × (comp_of (Some target) c.number ≡ Some c)) (λ (c : CompValue). (spot : List ℕ) → CompBreach tables m number r c spot → ⊥)
+      (λ c e f. comp_made tables line target unfailed r target_names c rep f.0 e f.1) target.comps (each_empty (made_comp s line leaves) target.comps parts.0)
+      (all_with (LawfulComp target_names) (λ (c : CompValue). comp_of (Some target) c.number ≡ Some c) (λ (c : CompValue). LawfulComp target_names c × (comp_of (Some target) c.number ≡ Some c)) (λ c a b. (a, b)) target.comps lawful.each (found_by_number (λ (c : CompValue). c.number) 1 99 target.comps lawful.rising)))
