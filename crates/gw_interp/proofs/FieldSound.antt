@@ -129,10 +129,10 @@ module _ (to : List TableValue) (m : Texts) (holder : ℕ) (i : Interval) (o : O
 
 -- ---- a segment
 
-module _ (s : Sources) (w : Walked) (is : IsWalked (table_names s.tables) s w) (to : List TableValue) (holder : ℕ) (name : List ℕ) (rules : List Rule) (fields : List FieldValue) (none : segment_failures s to holder rules fields ≡ []) where
+module _ (s : Sources) (w : Walked) (is : IsWalked (table_names s.tables) s w) (to : List TableValue) (holder : ℕ) (rules : List Rule) (fields : List FieldValue) (none : segment_failures s to holder rules fields ≡ []) where
   -- a segment that the rules give breaks none of the target's fields
-  pub field_sound : (names : List (List ℕ)) → AllByRecursion (LawfulField names) fields → LawfulRules name rules → (seg : SegmentValue) → IsImage w name rules seg → Meets to fields seg.at
-  field_sound names lawful_fields lawful seg image =
+  pub field_sound : (names : List (List ℕ)) (name : List ℕ) → AllByRecursion (LawfulField names) fields → LawfulRules name rules → (seg : SegmentValue) → IsImage w name rules seg → Meets to fields seg.at
+  field_sound names name lawful_fields lawful seg image =
       none_broken (λ (f : FieldValue). f.number) (FieldBreach to seg.at) fields
       (all_with (LawfulField names) (λ (f : FieldValue). field_failures s to holder rules f ≡ []) (λ (f : FieldValue). (spot : List ℕ) → FieldBreach to seg.at f spot → ⊥)
       (λ f l e. each f l (both_empty (count_failures holder (rule_count s (rule_of rules f.number)) f (rule_of rules f.number)) (content_failures s to f (rule_of rules f.number)) e)) fields lawful_fields
