@@ -7,3 +7,14 @@ pub mod Whole
 pub mod Known
 pub mod Trees
 pub mod Sound
+pub mod Lists
+pub mod Shaped
+pub mod Held
+pub mod Sources
+pub mod Leaves
+pub mod Repetitions
+pub mod Copied
+pub mod Contents
+pub mod Made
+pub mod FieldSound
+pub mod Images

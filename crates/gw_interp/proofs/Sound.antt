@@ -22,7 +22,7 @@ use Rattle.gw_check.specs.Lawful.{LawfulRules, LawfulItems}
 use Rattle.gw_interp.specs.Occurrences as occurrences
 use Rattle.gw_interp.specs.Occurrences.{Occurrence}
 use Rattle.gw_interp.specs.Meaning.{Walked, IsImage, walked, Means}
-use Rattle.gw_interp.proofs.Walks.{IsWalked}
+use Rattle.gw_interp.proofs.FieldSound.{field_sound}
 use Rattle.gw_interp.proofs.Splits.{nil_left, nil_right}
 use Rattle.gw_interp.proofs.LevelsSound.{Scoped, FieldsSound, meets}
 use Rattle.gw_interp.proofs.Whole.{items_sound}
@@ -79,19 +79,12 @@ all_listed f (s ∷ l) h = ap (λ b. cond b (s ∷ listed f l) (listed f l)) h.0
 
 -- ---- soundness
 
--- what is proved of the fields of one segment
-abbrev pub FieldTheorem : Type 0
-FieldTheorem =
-    (names target_names : List (List ℕ)) (to : List TableValue) (s : Sources) (w : Walked) (holder low : ℕ) (name : List ℕ) (rules : List Rule) (fields : List FieldValue) (made : SegmentValue) →
-    IsWalked names s w → Rising low 999 (field_numbers fields) → AllByRecursion (LawfulField target_names) fields → LawfulRules name rules →
-    segment_failures s to holder rules fields ≡ [] → IsImage w name rules made → Meets to fields made.at
+fields_sound : (from to : List TableValue) (names : List (List ℕ)) (m : List SegmentValue) → FieldsSound from to (table_names from) names m
+fields_sound from to names m es os holder low name rules fields s h rising lawful rules_lawful none image =
+    field_sound (sources from es) (walked m os) (walked_known from to (table_names from) names m es os h) to holder rules fields none names name lawful rules_lawful s image
 
-fields_sound : FieldTheorem → (from to : List TableValue) (from_names names : List (List ℕ)) (m : List SegmentValue) → FieldsSound from to from_names names m
-fields_sound theorem from to from_names names m es os holder low name rules fields s h rising lawful rules_lawful none image =
-    theorem from_names names to (sources from es) (walked m os) holder low name rules fields s (walked_known from to from_names names m es os h) rising lawful rules_lawful none image
-
-pub sound : FieldTheorem → (source target : ProfileValue) (map : Resolved) → WellFormed source → WellFormed target → LawfulItems target.nodes map.items → IsTyped source target map → (m : List SegmentValue) (tree : Tree) → Conforms source m → IsTreeOf source m tree → (made : List SegmentValue) → Means target map m tree made → Conforms target made
-sound theorem source target map ws wt li typed m tree conforms is made means =
+pub sound : (source target : ProfileValue) (map : Resolved) → WellFormed source → WellFormed target → LawfulItems target.nodes map.items → IsTyped source target map → (m : List SegmentValue) (tree : Tree) → Conforms source m → IsTreeOf source m tree → (made : List SegmentValue) → Means target map m tree made → Conforms target made
+sound source target map ws wt li typed m tree conforms is made means =
     let level = nil_left (level_failures (the_whole source.nodes ∷ []) map.line 0 target.nodes map.items) (items_failures source.tables target.tables (the_whole source.nodes ∷ []) target.nodes map.items) (nil_left _ _ typed.none_fails) in
     let inner = nil_right (level_failures (the_whole source.nodes ∷ []) map.line 0 target.nodes map.items) (items_failures source.tables target.tables (the_whole source.nodes ∷ []) target.nodes map.items) (nil_left _ _ typed.none_fails) in
     let scope : Scoped source.tables target.tables (table_names source.tables) (table_names target.tables) m (the_whole source.nodes ∷ []) (occurrences.nodes tree ∷ []) =
@@ -99,7 +92,7 @@ sound theorem source target map ws wt li typed m tree conforms is made means =
       walks = (is_level source.tables m tree source.nodes (numbers source.nodes m) is (message_decided source m ws.determined tree is conforms), tt);
       lawful = (record { segments = ws.segments; groups = ws.groups }, tt);
     } in
-    let seq = items_sound source.tables target.tables (table_names source.tables) (table_names target.tables) m (fields_sound theorem source.tables target.tables (table_names source.tables) (table_names target.tables) m) map.items
+    let seq = items_sound source.tables target.tables (table_names source.tables) (table_names target.tables) m (fields_sound source.tables target.tables (table_names target.tables) m) map.items
         (the_whole source.nodes ∷ []) (occurrences.nodes tree ∷ []) map.line target.nodes made scope (record { segments = wt.segments; groups = wt.groups }) li typed.placed level inner means in
     let same = all_listed target.nodes made (seq_stands _ target.nodes made seq) in
     subst (Seq (λ s. s.name) (λ shape s. Meets target.tables shape s.at) target.nodes) (sym same) seq
