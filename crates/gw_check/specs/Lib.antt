@@ -15,4 +15,5 @@ pub mod Checked
 pub mod Noted
 pub mod Seen
 pub mod Founds
+pub mod Reading
 pub mod Worked

@@ -3,11 +3,13 @@
 
 mod element;
 mod failure;
+mod field;
 mod interval;
 pub mod laws;
 mod place;
 mod resolved;
 mod shape;
+mod sources;
 
 pub use resolved::{
     At, FlatItem, GroupItem, Item, Leaf, LeftOut, Making, Place, Reference, Rule, SegmentItem, Source,
