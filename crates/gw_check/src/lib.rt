@@ -1,6 +1,7 @@
 //! Checks maps before they run.
 #![tactic(auto)]
 
+mod checked;
 mod element;
 mod failure;
 mod field;
@@ -11,6 +12,7 @@ mod resolved;
 mod shape;
 mod sources;
 
+pub use checked::CheckedMap;
 pub use resolved::{
     At, FlatItem, GroupItem, Item, Leaf, LeftOut, Making, Place, Reference, Rule, SegmentItem, Source,
 };
