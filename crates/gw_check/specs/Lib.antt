@@ -16,5 +16,6 @@ pub mod Noted
 pub mod Seen
 pub mod Founds
 pub mod Reading
+pub mod Counted
 pub mod CheckedMap
 pub mod Worked

@@ -7,6 +7,8 @@ mod failure;
 mod field;
 mod interval;
 pub mod laws;
+mod items;
+mod level;
 mod place;
 mod resolved;
 mod shape;
