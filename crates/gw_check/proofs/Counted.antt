@@ -1,6 +1,6 @@
 -- How often the items of a level come, and for which node.
 use Rattle.std.proofs.lemmas.List.{take_more, drop_all}
-use Rattle.std.proofs.Common.{◌≡◌, ℕ, ◌+◌, ◌++◌, take, Bool, true, false, List, [], ◌∷◌, Option, Some, None, refl, sym, ap, ◌∙◌, drop, length, ◌<◌, ◌≤◌, suc, ◌-◌, get_or, subst, arith, drop-cons}
+use Rattle.std.proofs.Common.{◌≡◌, ◌⊎◌, inl, inr, ◌==◌, ℕ, ◌+◌, ◌++◌, take, Bool, true, false, List, [], ◌∷◌, Option, Some, None, refl, sym, ap, ◌∙◌, drop, length, ◌<◌, ◌≤◌, suc, ◌-◌, get_or, subst, arith, drop-cons}
 use Rattle.gw_maplang.specs.Shapes.{TableValue}
 use Rattle.gw_check.specs.declared.resolved.GroupItem.{GroupItem}
 use Rattle.gw_check.specs.declared.resolved.FlatItem.{FlatItem}
@@ -12,7 +12,8 @@ use Rattle.gw_check.specs.Resolved.{Items, no_items, first_child}
 use Rattle.gw_check.specs.Counts.{items_count}
 use Rattle.gw_check.specs.Seen.{interval, saturated, place, with_item, all_items}
 use Rattle.gw_check.specs.Counted.{first_count, CountsOne, CountsAll, FirstChild, ChildOf, Leads}
-use Rattle.gw_check.specs.Levels.{is_of, its, beyond}
+use Rattle.gw_check.specs.Levels.{is_of, its, beyond, has_no_item}
+use Rattle.std.proofs.lemmas.Bool.Decides.{eqb_tells}
 use Rattle.gw_check.proofs.Saturation.{sum_saturated, product_saturated}
 use Rattle.gw_check.proofs.Rows.{group_items, flat_items}
 
@@ -157,7 +158,7 @@ leads_all j is h =
     }
   where
     none : drop (length is) is ≡ []
-    none = drop_all is (length is) (omega arith)
+    none = drop_all (length is) is (omega arith)
 
 pub leads_none : (j : ℕ) (is : List Item) → LeadsSoFar j is 0
 unfolding onto
@@ -165,3 +166,19 @@ leads_none j is = record { these = λ tables. refl; others = λ tables. refl }
 
 pub leads_to_end : (j : ℕ) (is : List Item) (n : ℕ) → n ≤ length is → length is ≤ n → LeadsSoFar j is n → Leads j is (length is)
 leads_to_end j is n low high h = let same : n ≡ length is = omega (arith, low, high) in leads_all j is (subst (LeadsSoFar j is) same h)
+
+pub none_there : (tables : List TableValue) (is : List Item) → (length is == 0) ≡ has_no_item (all_items tables is)
+none_there tables [] = refl
+none_there tables (i ∷ is) = some ∙ sym (go i)
+  where
+    some : (length (i ∷ is) == 0) ≡ false
+    some =
+        elim (eqb_tells (length (i ∷ is)) 0) [
+          | inl h ↦ absurd (omega (arith, h.1))
+          | inr h ↦ h.0
+        ]
+
+    go : (i : Item) → has_no_item (with_item tables i (all_items tables is)) ≡ false
+    go (Segment s) = refl
+    go (Group' line child from shape row) = refl
+    go (Flat' line from shape row) = refl

@@ -3,3 +3,5 @@ pub mod Rows
 pub mod Saturation
 pub mod Finding
 pub mod Counted
+pub mod Noting
+pub mod Nodes

@@ -17,5 +17,6 @@ pub mod Seen
 pub mod Founds
 pub mod Reading
 pub mod Counted
+pub mod Checking
 pub mod CheckedMap
 pub mod Worked

@@ -1,0 +1,35 @@
+-- The failures of a level, as the program takes note of them.
+use Rattle.std.specs.Prelude.{◌≡◌, ℕ, List, Option}
+use Rattle.gw_profile.specs.declared.shape.Usage.{Usage}
+use Rattle.gw_profile.specs.declared.shape.Card.{Card}
+use Rattle.gw_profile.specs.Shapes.{Forest, nothing, segment, group}
+use Rattle.gw_profile.specs.declared.node.Node.{Node, Seg, Group'}
+use Rattle.gw_profile.specs.WellFormed.{Counted}
+use Rattle.gw_maplang.specs.Shapes.{TableValue}
+use Rattle.gw_check.specs.declared.resolved.Item.{Item}
+use Rattle.gw_check.specs.declared.failure.Failure as declared
+use Rattle.gw_check.specs.Places.{Element}
+use Rattle.gw_check.specs.Counts.{items_count}
+use Rattle.gw_check.specs.Levels.{node_failures, level_failures}
+use Rattle.gw_check.specs.Noted.{noted}
+use Rattle.gw_check.specs.Seen.{failures, all_items}
+
+-- with the failures of one node, whatever the map's tables are
+abbrev pub NotesNode : List Element → ℕ → Usage → Card → List Item → Option declared.Failure → Option declared.Failure → Type 0
+NotesNode scope holder usage card is old new =
+    (tables : List TableValue) → failures new ≡ noted (failures old) (node_failures holder usage card (items_count scope (all_items tables is)) (all_items tables is))
+
+-- with those of the nodes from number j on
+abbrev pub NotesLevel : List Element → ℕ → ℕ → Forest → List Item → Option declared.Failure → Option declared.Failure → Type 0
+NotesLevel scope holder j nodes is old new =
+    (tables : List TableValue) → failures new ≡ noted (failures old) (level_failures scope holder j nodes (all_items tables is))
+
+-- counts are at most 9999
+abbrev pub CountedNodes : Forest → Type 0
+CountedNodes nothing = Unit {0}
+CountedNodes (segment s rest) = Counted s.card × CountedNodes rest
+CountedNodes (group g nodes rest) = Counted g.card × CountedNodes nodes × CountedNodes rest
+
+abbrev pub usage_of : Node → Usage
+usage_of (Seg s) = s.usage
+usage_of (Group' label usage card shape nodes) = usage
