@@ -5,3 +5,4 @@ pub mod Finding
 pub mod Counted
 pub mod Noting
 pub mod Nodes
+pub mod Stepped

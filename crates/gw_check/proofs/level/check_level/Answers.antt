@@ -1,0 +1,15 @@
+use Rattle.std.proofs.Common.{sym, ap, subst, ◌∙◌}
+use Rattle.gw_profile.specs.WellFormed.{Counted}
+use Rattle.gw_check.specs.Seen.{scope}
+use Rattle.gw_check.specs.Checking.{NotesNode}
+use Rattle.gw_check.proofs.Stepped.{counted_at, noted_node, level_more}
+use Rattle.gw_check.proofs.level.check_level.Goals as goal
+
+pub check_node-requires : goal.check_node-requires
+check_node-requires c = subst Counted (sym c.card.ensures) (counted_at c.args.nodes.now c.loop-j.j c.index-nodes-j.result c.requires c.loop-j-test.true c.index-nodes-j.is)
+
+pub loop-j-preserved : goal.loop-j-preserved
+loop-j-preserved c =
+    level_more (scope c.args.scope.now) c.args.holder c.args.nodes.now c.args.items.now c.args.worst c.loop-j.j c.loop-j.done c.leading-count.result c.index-nodes-j.result c.loop-j.worst c.in_ok-worst.worst
+    c.loop-j-test.true c.index-nodes-j.is c.leading-count.ensures
+    (noted_node (scope c.args.scope.now) c.args.holder c.index-nodes-j.result c.usage_of.result c.card.result _ c.loop-j.worst c.in_ok-worst.worst c.usage_of.ensures c.card.ensures c.in_ok-worst.ensures) c.loop-j.invariant

@@ -1,0 +1,6 @@
+use Rattle.gw_check.specs.Seen.{scope}
+use Rattle.gw_check.proofs.Stepped.{LevelSoFar}
+use Rattle.gw_check.proofs.level.check_level.Given as goal
+
+abbrev pub invariant-loop-j : goal.invariant-loop-j
+invariant-loop-j l = LevelSoFar (scope l.scope) l.holder l.nodes l.items l.initial.worst l.j l.done l.worst
