@@ -1,6 +1,6 @@
 -- The nodes of a level, one after the other.
-use Rattle.std.proofs.lemmas.List.{drop_all, length-drop}
-use Rattle.std.proofs.Common.{◌≡◌, ℕ, zero, suc, ◌+◌, ◌≤◌, ◌<◌, List, [], ◌∷◌, ◌++◌, Option, length, take, drop, drop-cons, get_or, refl, sym, ap, ◌∙◌, subst, arith}
+use Rattle.std.proofs.lemmas.List.{drop_all, take_all, length-drop}
+use Rattle.std.proofs.Common.{◌≡◌, ℕ, zero, suc, ◌+◌, ◌-◌, ◌≤◌, ◌<◌, List, [], ◌∷◌, ◌++◌, Option, length, take, drop, drop-cons, get_or, refl, sym, ap, ◌∙◌, subst, arith}
 use Rattle.gw_profile.specs.declared.node.Node.{Node, Seg, Group'}
 use Rattle.gw_profile.specs.declared.shape.Usage.{Usage}
 use Rattle.gw_profile.specs.declared.shape.Card.{Card}
@@ -80,3 +80,7 @@ module _ (scope : List Element) (holder : ℕ) (nodes : List Node) (items : List
 -- with what the program read of the node
 pub noted_node : (scope : List Element) (holder : ℕ) (n : Node) (usage : Usage) (card : Card) (is : List Item) (old new : Option declared.Failure) → usage ≡ usage_of n → card ≡ card_of n → NotesNode scope holder usage card is old new → NotesNode scope holder (usage_of n) (card_of n) is old new
 noted_node scope holder n usage card is old new u k h = subst (λ c. NotesNode scope holder (usage_of n) c is old new) k (subst (λ v. NotesNode scope holder v card is old new) u h)
+
+-- what is lent from there on
+pub from_there : {X : Type 0} (l : List X) (done : ℕ) → take (length l - done) (drop done l) ≡ drop done l
+from_there l done = take_all (length l - done) (drop done l) (omega (arith, length-drop done l))
