@@ -2,6 +2,7 @@
 use Rattle.std.specs.Prelude.{◌≡◌, ℕ, List, Option}
 use Rattle.gw_profile.specs.declared.shape.Usage.{Usage}
 use Rattle.gw_profile.specs.declared.shape.Card.{Card}
+use Rattle.gw_profile.specs.Shapes as profiles
 use Rattle.gw_profile.specs.Shapes.{Forest, nothing, segment, group}
 use Rattle.gw_profile.specs.declared.node.Node.{Node, Seg, Group'}
 use Rattle.gw_profile.specs.WellFormed.{Counted}
@@ -10,9 +11,10 @@ use Rattle.gw_check.specs.declared.resolved.Item.{Item}
 use Rattle.gw_check.specs.declared.failure.Failure as declared
 use Rattle.gw_check.specs.Places.{Element}
 use Rattle.gw_check.specs.Counts.{items_count}
-use Rattle.gw_check.specs.Levels.{node_failures, level_failures}
+use Rattle.gw_check.specs.Levels.{node_failures, level_failures, items_failures}
+use Rattle.gw_check.specs.Resolved.{no_items}
 use Rattle.gw_check.specs.Noted.{noted}
-use Rattle.gw_check.specs.Seen.{failures, all_items}
+use Rattle.gw_check.specs.Seen.{failures, with_item, all_items}
 
 -- with the failures of one node, whatever the map's tables are
 abbrev pub NotesNode : List Element → ℕ → Usage → Card → List Item → Option declared.Failure → Option declared.Failure → Type 0
@@ -33,3 +35,10 @@ CountedNodes (group g nodes rest) = Counted g.card × CountedNodes nodes × Coun
 abbrev pub usage_of : Node → Usage
 usage_of (Seg s) = s.usage
 usage_of (Group' label usage card shape nodes) = usage
+
+-- with those of what the items give; the map has these tables
+abbrev pub NotesItems : List TableValue → List profiles.TableValue → List profiles.TableValue → List Element → Forest → List Item → Option declared.Failure → Option declared.Failure → Type 0
+NotesItems tables from to scope nodes is old new = failures new ≡ noted (failures old) (items_failures from to scope nodes (all_items tables is))
+
+abbrev pub NotesItem : List TableValue → List profiles.TableValue → List profiles.TableValue → List Element → Forest → Item → Option declared.Failure → Option declared.Failure → Type 0
+NotesItem tables from to scope nodes i old new = failures new ≡ noted (failures old) (items_failures from to scope nodes (with_item tables i no_items))

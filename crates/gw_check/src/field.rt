@@ -14,7 +14,7 @@ use gw_profile::{FieldShape, Profile};
 /// The failures of the rules on the fields of a target segment, which an item at this line gives by these rules.
 pub(crate) fn check_segment(
     worst: Option<Failure>,
-    sources: Sources<'_>,
+    sources: Sources<'_, '_, '_, '_>,
     target: &Profile,
     holder: u32,
     rules: &[Rule],

@@ -7,6 +7,7 @@ mod failure;
 mod field;
 mod interval;
 pub mod laws;
+mod inside;
 mod items;
 mod level;
 mod place;
