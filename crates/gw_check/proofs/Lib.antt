@@ -6,3 +6,4 @@ pub mod Counted
 pub mod Noting
 pub mod Nodes
 pub mod Stepped
+pub mod Within

@@ -1,5 +1,5 @@
 -- The failures of a level, as the program takes note of them.
-use Rattle.std.specs.Prelude.{◌≡◌, ℕ, List, Option}
+use Rattle.std.specs.Prelude.{◌≡◌, ℕ, ◌+◌, List, [], Option}
 use Rattle.gw_profile.specs.declared.shape.Usage.{Usage}
 use Rattle.gw_profile.specs.declared.shape.Card.{Card}
 use Rattle.gw_profile.specs.Shapes as profiles
@@ -12,7 +12,7 @@ use Rattle.gw_check.specs.declared.failure.Failure as declared
 use Rattle.gw_check.specs.Places.{Element}
 use Rattle.gw_check.specs.Counts.{items_count}
 use Rattle.gw_check.specs.Levels.{node_failures, level_failures, items_failures}
-use Rattle.gw_check.specs.Resolved.{no_items}
+use Rattle.gw_check.specs.Resolved.{Items, no_items, segment_item, group_item, flat_item}
 use Rattle.gw_check.specs.Noted.{noted}
 use Rattle.gw_check.specs.Seen.{failures, with_item, all_items}
 
@@ -42,3 +42,16 @@ NotesItems tables from to scope nodes is old new = failures new ≡ noted (failu
 
 abbrev pub NotesItem : List TableValue → List profiles.TableValue → List profiles.TableValue → List Element → Forest → Item → Option declared.Failure → Option declared.Failure → Type 0
 NotesItem tables from to scope nodes i old new = failures new ≡ noted (failures old) (items_failures from to scope nodes (with_item tables i no_items))
+
+-- how many items there are, at any depth
+abbrev pub weight : Items → ℕ
+weight no_items = 0
+weight (segment_item s rest) = 1 + weight rest
+weight (group_item g items rest) = 1 + weight items + weight rest
+weight (flat_item f items rest) = 1 + weight items + weight rest
+
+abbrev pub weight_one : Item → ℕ
+weight_one i = weight (with_item [] i no_items)
+
+abbrev pub weight_all : List Item → ℕ
+weight_all is = weight (all_items [] is)

@@ -67,8 +67,7 @@ fn check_item(
     nodes: &[Node],
     item: &Item,
 ) -> Result<Option<Failure>, AllocError>
-    requires { CountedNodes (forest nodes.now) }
-    ensures { IfOk result (λ new. NotesItem sides.entry.map.now.tables sides.entry.source.now.tables sides.entry.target.now.tables (walked scope.now) (forest nodes.now) item.now worst new) }
+    ensures { IfOk result (λ new. CountedNodes (forest nodes.now) → NotesItem sides.entry.map.now.tables sides.entry.source.now.tables sides.entry.target.now.tables (walked scope.now) (forest nodes.now) item.now worst new) }
 {
     match item {
         Item::Segment(segment) => {
@@ -111,8 +110,7 @@ pub(crate) fn check_items(
     nodes: &[Node],
     items: &[Item],
 ) -> Result<Option<Failure>, AllocError>
-    requires { CountedNodes (forest nodes.now) }
-    ensures { IfOk result (λ new. NotesItems sides.entry.map.now.tables sides.entry.source.now.tables sides.entry.target.now.tables (walked scope.now) (forest nodes.now) items.now worst new) }
+    ensures { IfOk result (λ new. CountedNodes (forest nodes.now) → NotesItems sides.entry.map.now.tables sides.entry.source.now.tables sides.entry.target.now.tables (walked scope.now) (forest nodes.now) items.now worst new) }
 {
     let mut worst = worst;
     for (i, item) in items.iter().enumerate() {

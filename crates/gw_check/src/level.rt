@@ -140,8 +140,7 @@ fn check_node(
     card: Card,
     items: &[Item],
 ) -> Result<Option<Failure>, AllocError>
-    requires { Counted card }
-    ensures { IfOk result (λ new. NotesNode (walked scope.now) holder usage card items.now worst new) }
+    ensures { IfOk result (λ new. Counted card → NotesNode (walked scope.now) holder usage card items.now worst new) }
 {
     let count = items_count(alloc, scope, items)?;
     let line = first_line(holder, items);
@@ -160,8 +159,7 @@ pub(crate) fn check_level(
     nodes: &[Node],
     items: &[Item],
 ) -> Result<Option<Failure>, AllocError>
-    requires { CountedNodes (forest nodes.now) }
-    ensures { IfOk result (λ new. NotesLevel (walked scope.now) holder 0 (forest nodes.now) items.now worst new) }
+    ensures { IfOk result (λ new. CountedNodes (forest nodes.now) → NotesLevel (walked scope.now) holder 0 (forest nodes.now) items.now worst new) }
 {
     let mut worst = worst;
     let mut done = 0;

@@ -4,9 +4,9 @@ use Rattle.gw_check.proofs.Nodes.{node_noted}
 use Rattle.gw_check.proofs.level.check_node.Goals as goal
 
 pub returns : goal.returns
-returns c =
+returns c = λ counted.
     node_noted (scope c.args.scope.now) c.args.holder c.first_line-line.result c.args.usage c.args.card c.args.items.now c.in_ok-count.count
     c.args.worst c.note-worst.result c.note-worst-2.result c.note-worst-3.result c.note.result
     c.is_too_often.result _ c.is_missing.result c.is_there_forbidden.result
-    c.requires c.in_ok-count.ensures c.first_line-line.ensures c.is_too_often.ensures refl c.is_missing.ensures c.is_there_forbidden.ensures
+    counted c.in_ok-count.ensures c.first_line-line.ensures c.is_too_often.ensures refl c.is_missing.ensures c.is_there_forbidden.ensures
     c.note-worst.ensures c.note-worst-2.ensures c.note-worst-3.ensures c.note.ensures
