@@ -18,5 +18,6 @@ pub mod Founds
 pub mod Reading
 pub mod Counted
 pub mod Checking
+pub mod Collected
 pub mod CheckedMap
 pub mod Worked

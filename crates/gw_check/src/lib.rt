@@ -11,6 +11,7 @@ mod inside;
 mod items;
 mod level;
 mod place;
+mod reads;
 mod resolved;
 mod shape;
 mod sources;
