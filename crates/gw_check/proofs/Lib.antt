@@ -7,3 +7,5 @@ pub mod Noting
 pub mod Nodes
 pub mod Stepped
 pub mod Within
+pub mod Passing
+pub mod Collecting

@@ -78,7 +78,8 @@ fn first_line(holder: u32, items: &[Item]) -> u32
     line_of(item)
 }
 
-fn is_forbidden(usage: Usage) -> bool
+/// Forbidden.
+pub(crate) fn is_forbidden(usage: Usage) -> bool
     ensures { result ≡ is_forbidden usage }
 {
     match usage {
