@@ -14,6 +14,7 @@ pub mod Naming
 pub mod Checked
 pub mod Noted
 pub mod Seen
+pub mod Looking
 pub mod Founds
 pub mod Reading
 pub mod Worked

@@ -6,6 +6,8 @@ mod failure;
 mod field;
 mod interval;
 pub mod laws;
+mod naming;
+mod paths;
 mod place;
 mod resolved;
 mod shape;
