@@ -2,3 +2,9 @@ pub mod Children
 pub mod Rows
 pub mod Saturation
 pub mod Finding
+pub mod Noting
+pub mod Labels
+pub mod Targeting
+pub mod Built
+pub mod Least
+pub mod Placing

@@ -10,8 +10,10 @@ mod naming;
 mod paths;
 mod place;
 mod resolved;
+mod resolving;
 mod shape;
 mod sources;
+mod targets;
 
 pub use resolved::{
     At, FlatItem, GroupItem, Item, Leaf, LeftOut, Making, Place, Reference, Rule, SegmentItem, Source,

@@ -1,7 +1,8 @@
 //! The rules on source paths (1 and 2).
-ghost use Rattle.std.specs.Prelude.{◌≡◌, ◌++◌, not, IfOk, Some, None, map, flat_map, option_map};
+ghost use Rattle.std.specs.Prelude.{◌≡◌, ◌++◌, if◌then◌else◌, is_some, not, IfOk, Some, None, map, flat_map, option_map};
 ghost use Rattle.gw_profile.specs.Seen.{forest};
-ghost use Rattle.gw_maplang.specs.Seen.{items_all, field_path, ref as seen_ref, leaf_value, rule as seen_rule, with_item, all_items, dropped};
+ghost use Rattle.gw_maplang.specs.Seen.{items_all, field_path, ref as seen_ref, leaf_value, rule as seen_rule, with_item, all_items, dropped as seen_dropped};
+ghost use Rattle.gw_maplang.specs.declared.item.Item.{SegFrom};
 ghost use Rattle.gw_maplang.specs.Shapes.{nothing};
 ghost use Rattle.gw_check.specs.Failures.{fails};
 ghost use Rattle.gw_check.specs.Looking.{comes_often, place_there};
@@ -16,7 +17,7 @@ use crate::element::{Element, child, nodes_of, nodes_of_child};
 use crate::failure::{Failure, note};
 use crate::paths::{element_at, place_of, within};
 use crate::resolved::Place;
-use gw_maplang::{Dropped, FieldPath, Item, Leaf, LeafRule, Ref, Rule};
+use gw_maplang::{Dropped, FieldPath, FromItem, Item, Leaf, LeafRule, Ref, Rule};
 use gw_profile::{Card, Node};
 use std::alloc::{AllocError, Global};
 
@@ -76,7 +77,7 @@ fn start_of<'a>(scope: &[Element<'a>], place: &Place) -> &'a [Node]
 
 // No step of the place may come more than once, its last aside.
 fn is_walked_once(scope: &[Element<'_>], place: Option<&Place>) -> bool
-    ensures { result ≡ spec.is_single_place (walked scope.now) spec.but_last (place_there place) }
+    ensures { result ≡ spec.is_single_place (walked scope.now) spec.but_last (place_there place.entry) }
 {
     match place {
         None => true,
@@ -86,7 +87,7 @@ fn is_walked_once(scope: &[Element<'_>], place: Option<&Place>) -> bool
 
 // No step of the place may come more than once.
 fn is_read_once(scope: &[Element<'_>], place: Option<&Place>) -> bool
-    ensures { result ≡ spec.is_single_place (walked scope.now) (λ steps. steps) (place_there place) }
+    ensures { result ≡ spec.is_single_place (walked scope.now) (λ steps. steps) (place_there place.entry) }
 {
     match place {
         None => true,
@@ -105,7 +106,7 @@ fn is_segment(element: Element<'_>) -> bool
 }
 
 fn ends_at_segment(scope: &[Element<'_>], place: Option<&Place>) -> bool
-    ensures { result ≡ spec.ends_at_segment (walked scope.now) (place_there place) }
+    ensures { result ≡ spec.ends_at_segment (walked scope.now) (place_there place.entry) }
 {
     match place {
         None => false,
@@ -243,6 +244,111 @@ fn rules_failures(
     let mut worst = worst;
     for (i, rule) in rules.iter().enumerate() {
         worst = rule_failures(alloc, worst, scope, rule)?;
+    }
+    Ok(worst)
+}
+
+// The failures of a segment item that walks a path.
+fn from_failures(
+    alloc: Global,
+    worst: Option<Failure>,
+    scope: &[Element<'_>],
+    made: &FromItem,
+) -> Result<Option<Failure>, AllocError>
+    ensures { IfOk result (λ all. failures all ≡ noted (failures worst) (spec.path_failures (walked scope.now) (with_item (SegFrom made.now) nothing))) }
+{
+    let worst = segments_failures(alloc, worst, scope, made.line, &made.path)?;
+    let inner = within(alloc, scope, &made.path)?;
+    rules_failures(alloc, worst, &inner, &made.rules)
+}
+
+// The failures of a path that is walked, and of the items of each occurrence.
+#[cycle(items)]
+fn each_failures(
+    alloc: Global,
+    worst: Option<Failure>,
+    scope: &[Element<'_>],
+    line: u32,
+    path: &[Vec<u8>],
+    items: &[Item],
+) -> Result<Option<Failure>, AllocError>
+    ensures { IfOk result (λ all. failures all ≡ noted (failures worst) (spec.walk_failures (walked scope.now) line (items_all path.now) ++ spec.path_failures (places.within (walked scope.now) (spec.place_or (walked scope.now) (items_all path.now))) (all_items items.now))) }
+{
+    let worst = walk_failures(alloc, worst, scope, line, path)?;
+    let inner = within(alloc, scope, path)?;
+    path_failures(alloc, worst, &inner, items)
+}
+
+#[cycle(items)]
+fn item_failures(
+    alloc: Global,
+    worst: Option<Failure>,
+    scope: &[Element<'_>],
+    item: &Item,
+) -> Result<Option<Failure>, AllocError>
+    ensures { IfOk result (λ all. failures all ≡ noted (failures worst) (spec.path_failures (walked scope.now) (with_item item.now nothing))) }
+{
+    match item {
+        Item::SegFrom(made) => from_failures(alloc, worst, scope, made),
+        Item::SegAlways(made) => rules_failures(alloc, worst, scope, &made.rules),
+        Item::EachAs(made) => each_failures(alloc, worst, scope, made.line, &made.path, &made.items),
+        Item::EachFlat(made) => each_failures(alloc, worst, scope, made.line, &made.path, &made.items),
+    }
+}
+
+/// The failures of the paths of items and of what stands within them.
+#[cycle(items)]
+pub(crate) fn path_failures(
+    alloc: Global,
+    worst: Option<Failure>,
+    scope: &[Element<'_>],
+    items: &[Item],
+) -> Result<Option<Failure>, AllocError>
+    ensures { IfOk result (λ all. failures all ≡ noted (failures worst) (spec.path_failures (walked scope.now) (all_items items.now))) }
+{
+    let mut worst = worst;
+    for (i, item) in items.iter().enumerate() {
+        worst = item_failures(alloc, worst, scope, item)?;
+    }
+    Ok(worst)
+}
+
+// Whether what is left out is there, and a segment where a field of it is named.
+fn leads(scope: &[Element<'_>], field: Option<u32>, place: Option<&Place>) -> bool
+    ensures { result ≡ (if is_some field then spec.ends_at_segment (walked scope.now) (place_there place.entry) else spec.has_place (place_there place.entry)) }
+{
+    match field {
+        None => place.is_some(),
+        Some(_) => ends_at_segment(scope, place),
+    }
+}
+
+fn drop_failures(
+    alloc: Global,
+    worst: Option<Failure>,
+    message: Element<'_>,
+    dropped: &Dropped,
+) -> Result<Option<Failure>, AllocError>
+    ensures { IfOk result (λ all. failures all ≡ noted (failures worst) (spec.drop_failures (seen message.entry) (seen_dropped dropped.now))) }
+{
+    let scope = [message];
+    let place = place_of(alloc, &scope, &dropped.path)?;
+    let there = leads(&scope, dropped.field, place.as_ref());
+    Ok(note(worst, 1, dropped.line, !there))
+}
+
+/// The failures of what is left out.
+pub(crate) fn drops_failures(
+    alloc: Global,
+    worst: Option<Failure>,
+    message: Element<'_>,
+    drops: &[Dropped],
+) -> Result<Option<Failure>, AllocError>
+    ensures { IfOk result (λ all. failures all ≡ noted (failures worst) (flat_map (spec.drop_failures (seen message.entry)) (map seen_dropped drops.now))) }
+{
+    let mut worst = worst;
+    for (i, dropped) in drops.iter().enumerate() {
+        worst = drop_failures(alloc, worst, message, dropped)?;
     }
     Ok(worst)
 }

@@ -15,7 +15,8 @@ use crate::resolved::Place;
 use gw_profile::Node;
 use std::alloc::{AllocError, Global};
 
-fn same(one: &[u8], other: &[u8]) -> bool
+/// Whether the two are the same octets.
+pub(crate) fn same(one: &[u8], other: &[u8]) -> bool
     ensures { result ≡ bytes_eq one.now other.now }
 {
     one == other
