@@ -1,10 +1,11 @@
 -- The least of failures, however they are taken.
-use Rattle.std.proofs.Common.{◌≡◌, ℕ, suc, ◌<◌, ◌≤◌, ◌⊎◌, inl, inr, true, false, List, [], ◌∷◌, Option, Some, None, refl, sym, ap, ap₂, ◌∙◌, arith}
+use Rattle.std.proofs.Common.{◌≡◌, ℕ, suc, ◌<◌, ◌≤◌, ◌⊎◌, inl, inr, true, false, List, [], ◌∷◌, ◌++◌, Option, Some, None, refl, sym, ap, ap₂, ◌∙◌, arith}
 use Rattle.std.specs.Prelude.{nat_lt, ◌==◌, ◌&&◌, ◌||◌, if◌then◌else◌}
 use Rattle.std.proofs.lemmas.Bool.Decides.{leb_tells, eqb_tells}
 use Rattle.gw_check.specs.Failures.{Failure}
 use Rattle.gw_check.specs.Checked.{is_before, lesser, least}
 use Rattle.gw_check.specs.Noted.{noted}
+use Rattle.gw_check.proofs.Noting.{noted_append}
 
 abbrev Before : Failure → Failure → Type 0
 Before a b = (a.rule < b.rule) ⊎ ((a.rule ≡ b.rule) × (a.line < b.line))
@@ -131,3 +132,8 @@ none_least (f ∷ fs) e = absurd (cc)
 pub some_least : (l : List Failure) (f : Failure) → Some f ≡ least l → l ≡ [] → ⊥
 some_least [] f e is = absurd (cc)
 some_least (g ∷ fs) f e is = absurd (cc)
+
+-- three lists, one after the other
+pub least_of_three : (a b c : List Failure) (u v w : Option Failure) → u ≡ noted None a → v ≡ noted u b → w ≡ noted v c → w ≡ least (a ++ b ++ c)
+least_of_three a b c u v w e f g =
+    g ∙ ap (λ x. noted x c) (f ∙ ap (λ x. noted x b) e ∙ sym (noted_append None a b)) ∙ sym (noted_append None (a ++ b) c) ∙ noted_is_least (a ++ b ++ c)

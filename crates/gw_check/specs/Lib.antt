@@ -15,6 +15,7 @@ pub mod Checked
 pub mod Noted
 pub mod Seen
 pub mod Looking
+pub mod Resolving
 pub mod Founds
 pub mod Reading
 pub mod Worked

@@ -9,6 +9,7 @@ pub mod laws;
 mod naming;
 mod paths;
 mod place;
+mod resolve;
 mod resolved;
 mod resolving;
 mod shape;
