@@ -8,3 +8,4 @@ pub mod Targeting
 pub mod Built
 pub mod Least
 pub mod Placing
+pub mod Keeping

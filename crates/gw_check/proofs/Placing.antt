@@ -61,7 +61,7 @@ named nodes is_kind j line label none e =
     named_by nodes is_kind j label (labelled nodes label) none refl (not_false _ (not_broken 3 line _ p.0)) (not_broken 3 line _ p.1)
 
 -- its number, whatever stands in for none
-number_is : (nodes : Forest) (label : List ℕ) (k j : ℕ) → labelled nodes label ≡ Some k → node_or j nodes label ≡ k
+pub number_is : (nodes : Forest) (label : List ℕ) (k j : ℕ) → labelled nodes label ≡ Some k → node_or j nodes label ≡ k
 number_is nodes label k j e = ap (λ o. unwrap_or o j) e
 
 -- ---- items that have labels
@@ -78,21 +78,21 @@ pub some_labels : (names : List (List ℕ)) (items : raw.Items) → theirs.Lawfu
 some_labels names raw.nothing h some e = absurd (some refl)
 some_labels names (raw.segment s rest) h some e = absurd (cc)
 some_labels names (raw.group g items rest) h some e = absurd (cc)
-some_labels names (raw.flat f items rest) h some e = some_labels names items h.1.0 h.0.some (list_nil (labels items) (labels rest) e)
+some_labels names (raw.flat f items rest) h some e = some_labels names items h.1 h.0.some (list_nil (labels items) (labels rest) e)
 
 -- ---- the failures of each kind of item
 
 pub record SegmentParts (nodes : Forest) (j : ℕ) (s : raw.SegmentItem) (rest : raw.Items) : Type 0 where
   pub label : label_failures nodes is_segment j s.line s.label ≡ []
-  pub rest : target_failures nodes (node_or j nodes s.label) rest ≡ []
+  pub others : target_failures nodes (node_or j nodes s.label) rest ≡ []
 
 pub segment_parts : (nodes : Forest) (j : ℕ) (s : raw.SegmentItem) (rest : raw.Items) → target_failures nodes j (raw.segment s rest) ≡ [] → SegmentParts nodes j s rest
-segment_parts nodes j s rest e = let p = nil_both (label_failures nodes is_segment j s.line s.label) (target_failures nodes (node_or j nodes s.label) rest) e in record { label = p.0; rest = p.1 }
+segment_parts nodes j s rest e = let p = nil_both (label_failures nodes is_segment j s.line s.label) (target_failures nodes (node_or j nodes s.label) rest) e in record { label = p.0; others = p.1 }
 
 pub record GroupParts (nodes : Forest) (j : ℕ) (g : raw.GroupItem) (items rest : raw.Items) : Type 0 where
   pub label : label_failures nodes is_group j g.line g.label ≡ []
-  pub items : target_failures (nodes_of_child nodes (node_or j nodes g.label)) 0 items ≡ []
-  pub rest : target_failures nodes (node_or j nodes g.label) rest ≡ []
+  pub inner : target_failures (nodes_of_child nodes (node_or j nodes g.label)) 0 items ≡ []
+  pub others : target_failures nodes (node_or j nodes g.label) rest ≡ []
 
 pub group_parts : (nodes : Forest) (j : ℕ) (g : raw.GroupItem) (items rest : raw.Items) → target_failures nodes j (raw.group g items rest) ≡ [] → GroupParts nodes j g items rest
 group_parts nodes j g items rest e =
@@ -100,13 +100,13 @@ group_parts nodes j g items rest e =
     let b = target_failures (nodes_of_child nodes (node_or j nodes g.label)) 0 items in
     let p = nil_both (a ++ b) (target_failures nodes (node_or j nodes g.label) rest) e in
     let q = nil_both a b p.0 in
-    record { label = q.0; items = q.1; rest = p.1 }
+    record { label = q.0; inner = q.1; others = p.1 }
 
 pub record FlatParts (nodes : Forest) (j : ℕ) (items rest : raw.Items) : Type 0 where
   pub one : are_one (labels items) ≡ true
   pub order : nat_lt (node_or j nodes (first_or (labels items))) j ≡ false
-  pub items : target_failures nodes 0 items ≡ []
-  pub rest : target_failures nodes (node_or j nodes (first_or (labels items))) rest ≡ []
+  pub inner : target_failures nodes 0 items ≡ []
+  pub others : target_failures nodes (node_or j nodes (first_or (labels items))) rest ≡ []
 
 pub flat_parts : (nodes : Forest) (j : ℕ) (f : raw.FlatItem) (items rest : raw.Items) → target_failures nodes j (raw.flat f items rest) ≡ [] → FlatParts nodes j items rest
 flat_parts nodes j f items rest e =
@@ -116,7 +116,7 @@ flat_parts nodes j f items rest e =
     let p = nil_both (a ++ b ++ c) (target_failures nodes (node_or j nodes (first_or (labels items))) rest) e in
     let q = nil_both (a ++ b) c p.0 in
     let r = nil_both a b q.0 in
-    record { one = not_false _ (not_broken 3 f.line _ r.0); order = not_broken 3 f.line _ r.1; items = q.1; rest = p.1 }
+    record { one = not_false _ (not_broken 3 f.line _ r.0); order = not_broken 3 f.line _ r.1; inner = q.1; others = p.1 }
 
 not_less : (j m k : ℕ) → nat_lt m j ≡ false → m ≡ k → j ≤ k
 not_less j m k e is = elim (leb_tells (suc m) j) [ | inl h ↦ absurd (cc) | inr h ↦ omega (arith, h.1, is) ]
@@ -129,7 +129,7 @@ first_named names nodes j (raw.segment s rest) h some e =
 first_named names nodes j (raw.group g items rest) h some e =
     let n = named nodes is_group j g.line g.label refl (group_parts nodes j g items rest e).label in (n.number, n.at)
 first_named names nodes j (raw.flat f items rest) h some e =
-    let n = first_named names nodes 0 items h.1 h.0.some (flat_parts nodes j f items rest e).items in
+    let n = first_named names nodes 0 items h.1 h.0.some (flat_parts nodes j f items rest e).inner in
     (n.0, ap (labelled nodes) (first_of_both (labels items) (labels rest) (some_labels names items h.1 h.0.some)) ∙ n.1)
 
 -- the number of the first node
@@ -170,14 +170,14 @@ fit tables names scope nodes (raw.segment s rest) h =
           let p = segment_parts nodes j s rest e in
           let n = named nodes is_segment j s.line s.label refl p.label in
           subst (λ c. nat_le j c && is_segment (child nodes c) && are_placed nodes c others ≡ true) (sym (number_is nodes s.label n.number 0 n.at))
-          (three _ _ _ (le-leb j n.number n.order) n.kind (behind.placed n.number (subst (λ c. target_failures nodes c rest ≡ []) (number_is nodes s.label n.number j n.at) p.rest)));
+          (three _ _ _ (le-leb j n.number n.order) n.kind (behind.placed n.number (subst (λ c. target_failures nodes c rest ≡ []) (number_is nodes s.label n.number j n.at) p.others)));
       same = λ j k label e all is.
           let p = segment_parts nodes j s rest e in
           let n = named nodes is_segment j s.line s.label refl p.label in
           let a = both (bytes_eq label s.label) (list_all (bytes_eq label) (labels rest)) all in
           let here : node_or 0 nodes s.label ≡ k = ap (node_or 0 nodes) (sym ((bytes_eq-Decides label s.label).0 a.0)) ∙ is in
           let number : n.number ≡ k = sym (number_is nodes s.label n.number 0 n.at) ∙ here in
-          three _ _ _ (equal (node_or 0 nodes s.label) k here) (subst (λ c. is_segment (child nodes c) ≡ true) number n.kind) (behind.same (node_or j nodes s.label) k label p.rest a.1 is);
+          three _ _ _ (equal (node_or 0 nodes s.label) k here) (subst (λ c. is_segment (child nodes c) ≡ true) number n.kind) (behind.same (node_or j nodes s.label) k label p.others a.1 is);
     }
 fit tables names scope nodes (raw.group g items rest) h =
     let behind = fit tables names scope nodes rest h.2 in
@@ -190,9 +190,9 @@ fit tables names scope nodes (raw.group g items rest) h =
           let below = fit tables names inner (nodes_of_child nodes (node_or 0 nodes g.label)) items h.1 in
           let made = resolved_items tables inner (nodes_of_child nodes (node_or 0 nodes g.label)) items in
           let same = number_is nodes g.label n.number j n.at ∙ sym (number_is nodes g.label n.number 0 n.at) in
-          let within_it = below.placed 0 (subst (λ c. target_failures (nodes_of_child nodes c) 0 items ≡ []) same p.items) in
+          let within_it = below.placed 0 (subst (λ c. target_failures (nodes_of_child nodes c) 0 items ≡ []) same p.inner) in
           subst (λ c. nat_le j c && is_group (child nodes c) && are_placed (nodes_of_child nodes c) 0 made && are_placed nodes c others ≡ true) (sym (number_is nodes g.label n.number 0 n.at))
-          (four _ _ _ _ (le-leb j n.number n.order) n.kind (subst (λ c. are_placed (nodes_of_child nodes c) 0 made ≡ true) (number_is nodes g.label n.number 0 n.at) within_it) (behind.placed n.number (subst (λ c. target_failures nodes c rest ≡ []) (number_is nodes g.label n.number j n.at) p.rest)));
+          (four _ _ _ _ (le-leb j n.number n.order) n.kind (subst (λ c. are_placed (nodes_of_child nodes c) 0 made ≡ true) (number_is nodes g.label n.number 0 n.at) within_it) (behind.placed n.number (subst (λ c. target_failures nodes c rest ≡ []) (number_is nodes g.label n.number j n.at) p.others)));
       same = λ j k label e all is.
           let p = group_parts nodes j g items rest e in
           let n = named nodes is_group j g.line g.label refl p.label in
@@ -202,9 +202,9 @@ fit tables names scope nodes (raw.group g items rest) h =
           let below = fit tables names inner (nodes_of_child nodes (node_or 0 nodes g.label)) items h.1 in
           let made = resolved_items tables inner (nodes_of_child nodes (node_or 0 nodes g.label)) items in
           let same = number_is nodes g.label n.number j n.at ∙ sym (number_is nodes g.label n.number 0 n.at) in
-          let within_it = below.placed 0 (subst (λ c. target_failures (nodes_of_child nodes c) 0 items ≡ []) same p.items) in
+          let within_it = below.placed 0 (subst (λ c. target_failures (nodes_of_child nodes c) 0 items ≡ []) same p.inner) in
           four _ _ _ _ (equal (node_or 0 nodes g.label) k here) (subst (λ c. is_group (child nodes c) ≡ true) number n.kind)
-          (subst (λ c. are_placed (nodes_of_child nodes c) 0 made ≡ true) here within_it) (behind.same (node_or j nodes g.label) k label p.rest a.1 is);
+          (subst (λ c. are_placed (nodes_of_child nodes c) 0 made ≡ true) here within_it) (behind.same (node_or j nodes g.label) k label p.others a.1 is);
     }
 fit tables names scope nodes (raw.flat f items rest) h =
     let behind = fit tables names scope nodes rest h.2 in
@@ -215,17 +215,17 @@ fit tables names scope nodes (raw.flat f items rest) h =
     record {
       placed = λ j e.
           let p = flat_parts nodes j f items rest e in
-          let n = first_named names nodes 0 items h.1 h.0.some p.items in
+          let n = first_named names nodes 0 items h.1 h.0.some p.inner in
           let number = number_is nodes (first_or (labels items)) n.0 0 n.1 in
           let order : j ≤ n.0 = not_less j (node_or j nodes (first_or (labels items))) n.0 p.order (number_is nodes (first_or (labels items)) n.0 j n.1) in
           let first : first_child made ≡ Some n.0 = first_is tables inner names nodes items h.1 h.0.some ∙ ap Some number in
           subst (λ o. follows o j && all_for nodes (number_or j o) made && are_placed nodes (number_or j o) others ≡ true) (sym first)
-          (three _ _ _ (le-leb j n.0 order) (below.same 0 n.0 (first_or (labels items)) p.items (one_all (labels items) p.one) number)
-          (behind.placed n.0 (subst (λ c. target_failures nodes c rest ≡ []) (number_is nodes (first_or (labels items)) n.0 j n.1) p.rest)));
+          (three _ _ _ (le-leb j n.0 order) (below.same 0 n.0 (first_or (labels items)) p.inner (one_all (labels items) p.one) number)
+          (behind.placed n.0 (subst (λ c. target_failures nodes c rest ≡ []) (number_is nodes (first_or (labels items)) n.0 j n.1) p.others)));
       same = λ j k label e all is.
           let p = flat_parts nodes j f items rest e in
           let a = all_both (bytes_eq label) (labels items) (labels rest) all in
-          ap₂ (λ s t. s && t) (below.same 0 k label p.items a.0 is) (behind.same (node_or j nodes (first_or (labels items))) k label p.rest a.1 is);
+          ap₂ (λ s t. s && t) (below.same 0 k label p.inner a.0 is) (behind.same (node_or j nodes (first_or (labels items))) k label p.others a.1 is);
     }
 
 -- each item gives a node of its level, in their order
