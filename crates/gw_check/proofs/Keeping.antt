@@ -31,7 +31,7 @@ abbrev Fair : SegmentValue → Type 0
 Fair s = first_field s.name ≤ theirs.least_field s.label
 
 three_long : (name : List ℕ) → Names.is_name name ≡ true → length name ≡ 3
-three_long name e = elim (eqb_tells (length name) 3) [ | inl h ↦ h.1 | inr h ↦ absurd (let n : false ≡ true = sym h.0 ∙ (both (length name == 3) (Names.is_named name) e).0 in cc) ]
+three_long name e = elim (eqb_tells (length name) 3) [ inl h ↦ h.1 | inr h ↦ absurd (let n : false ≡ true = sym h.0 ∙ (both (length name == 3) (Names.is_named name) e).0 in cc) ]
 
 is_header_name : (name : List ℕ) → length name ≡ 3 → Names.is_header name ≡ true → name ≡ codes "MSH"
 is_header_name [] n e = absurd (omega (arith, n))
@@ -165,18 +165,19 @@ items_kept tables names scope nodes j (raw.segment s rest) t h f e =
     let n = named nodes is_segment j s.line s.label refl p.label in
     let fair : first_field (name_of (child nodes (node_or 0 nodes s.label))) ≤ theirs.least_field s.label =
     subst (λ k. first_field (name_of (child nodes k)) ≤ theirs.least_field s.label) (sym (number_is nodes s.label n.number 0 n.at)) (fair_child nodes s.label n.number f n.at n.kind) in
-    let inner = walked_if scope s.source in
-    (record {
-      each = each_kept tables names inner (name_of (child nodes (node_or 0 nodes s.label))) s.label s.rules fair t h.0.each;
-      distinct = subst Distinct (sym (same_fields tables inner s.rules)) h.0.distinct;
-    }, items_kept tables names scope nodes (node_or j nodes s.label) rest t h.1 f p.others)
+    let inner = walked_if scope s.source in (
+      record {
+        each = each_kept tables names inner (name_of (child nodes (node_or 0 nodes s.label))) s.label s.rules fair t h.0.each;
+        distinct = subst Distinct (sym (same_fields tables inner s.rules)) h.0.distinct;
+      },
+      items_kept tables names scope nodes (node_or j nodes s.label) rest t h.1 f p.others,
+    )
 items_kept tables names scope nodes j (raw.group g items rest) t h f e =
     let p = group_parts nodes j g items rest e in
     let n = named nodes is_group j g.line g.label refl p.label in
-    let same = number_is nodes g.label n.number j n.at ∙ sym (number_is nodes g.label n.number 0 n.at) in
-    (
+    let same = number_is nodes g.label n.number j n.at ∙ sym (number_is nodes g.label n.number 0 n.at) in (
       items_kept tables names (within scope (place_or scope g.path)) (nodes_of_child nodes (node_or 0 nodes g.label)) 0 items t h.1 (fair_below nodes (node_or 0 nodes g.label) f)
-      (subst (λ c. target_failures (nodes_of_child nodes c) 0 items ≡ []) same p.inner),
+          (subst (λ c. target_failures (nodes_of_child nodes c) 0 items ≡ []) same p.inner),
       items_kept tables names scope nodes (node_or j nodes g.label) rest t h.2 f p.others,
     )
 items_kept tables names scope nodes j (raw.flat w items rest) t h f e =

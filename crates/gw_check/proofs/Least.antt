@@ -86,11 +86,11 @@ either_way a b =
     ]
 
 before : (a b : Failure) → Before a b → is_before a b ≡ true
-before a b h = elim (compared a b) [ | inl k ↦ k.0 | inr k ↦ absurd (never_both a b h k.1) ]
+before a b h = elim (compared a b) [ inl k ↦ k.0 | inr k ↦ absurd (never_both a b h k.1) ]
 
 -- a isn't behind b, and c isn't before b
 not_before : (a b c : Failure) → Behind b a → Behind c b → is_before c a ≡ false
-not_before a b c h k = elim (compared c a) [ | inl m ↦ absurd (never_both c b (onwards c a b m.1 h) k) | inr m ↦ m.0 ]
+not_before a b c h k = elim (compared c a) [ inl m ↦ absurd (never_both c b (onwards c a b m.1 h) k) | inr m ↦ m.0 ]
 
 -- of three
 grouped : (a b c : Failure) → of_two (of_two a b) c ≡ of_two a (of_two b c)

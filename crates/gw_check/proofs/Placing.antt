@@ -52,7 +52,7 @@ named_by nodes is_kind j label (Some k) none at kind order = record {
   number = k;
   at = at;
   kind = kind;
-  order = elim (leb_tells (suc k) j) [ | inl h ↦ absurd (cc) | inr h ↦ omega (arith, h.1) ];
+  order = elim (leb_tells (suc k) j) [ inl h ↦ absurd (cc) | inr h ↦ omega (arith, h.1) ];
 }
 
 pub named : (nodes : Forest) (is_kind : Option Element → Bool) (j line : ℕ) (label : List ℕ) → is_kind None ≡ false → label_failures nodes is_kind j line label ≡ [] → Named nodes is_kind j label
@@ -119,7 +119,7 @@ flat_parts nodes j f items rest e =
     record { one = not_false _ (not_broken 3 f.line _ r.0); order = not_broken 3 f.line _ r.1; inner = q.1; others = p.1 }
 
 not_less : (j m k : ℕ) → nat_lt m j ≡ false → m ≡ k → j ≤ k
-not_less j m k e is = elim (leb_tells (suc m) j) [ | inl h ↦ absurd (cc) | inr h ↦ omega (arith, h.1, is) ]
+not_less j m k e is = elim (leb_tells (suc m) j) [ inl h ↦ absurd (cc) | inr h ↦ omega (arith, h.1, is) ]
 
 -- the first label names a node
 first_named : (names : List (List ℕ)) (nodes : Forest) (j : ℕ) (items : raw.Items) → theirs.LawfulItems names items → (items ≡ raw.nothing → ⊥) → target_failures nodes j items ≡ [] → (k : ℕ) × (labelled nodes (first_or (labels items)) ≡ Some k)
@@ -153,7 +153,7 @@ one_all [] e = refl
 one_all (x ∷ ls) e = ap₂ (λ s t. s && t) ((bytes_eq-Decides x x).1 refl) e
 
 equal : (a b : ℕ) → a ≡ b → (a == b) ≡ true
-equal a b e = elim (eqb_tells a b) [ | inl h ↦ h.0 | inr h ↦ absurd (h.1 e) ]
+equal a b e = elim (eqb_tells a b) [ inl h ↦ h.0 | inr h ↦ absurd (h.1 e) ]
 
 -- what the rules on labels say of items, whatever nodes come before
 record Fit (nodes : Forest) (made : Items) (items : raw.Items) : Type 0 where

@@ -17,6 +17,10 @@ mod sources;
 mod targets;
 
 pub use resolved::{
-    At, FlatItem, GroupItem, Item, Leaf, LeftOut, Making, Place, Reference, Rule, SegmentItem, Source,
+    At, FlatItem, GroupItem, Item, Leaf, LeftOut, Making, Place, Reference, Rule, SegmentItem,
+    Source,
 };
 pub use shape::{Presence, Shape, Values};
+
+#[cfg(test)]
+mod resolve_tests;

@@ -291,8 +291,22 @@ fn item_failures(
     match item {
         Item::SegFrom(made) => from_failures(alloc, worst, scope, made),
         Item::SegAlways(made) => rules_failures(alloc, worst, scope, &made.rules),
-        Item::EachAs(made) => each_failures(alloc, worst, scope, made.line, &made.path, &made.items),
-        Item::EachFlat(made) => each_failures(alloc, worst, scope, made.line, &made.path, &made.items),
+        Item::EachAs(made) => each_failures(
+            alloc,
+            worst,
+            scope,
+            made.line,
+            &made.path,
+            &made.items,
+        ),
+        Item::EachFlat(made) => each_failures(
+            alloc,
+            worst,
+            scope,
+            made.line,
+            &made.path,
+            &made.items,
+        ),
     }
 }
 

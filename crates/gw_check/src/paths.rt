@@ -73,7 +73,12 @@ fn one_step(alloc: Global, out: usize, number: usize) -> Result<Place, AllocErro
 }
 
 // The label among the nodes of an element so far outwards, or its own.
-fn begin(alloc: Global, element: Element<'_>, out: usize, label: &[u8]) -> Result<Option<Place>, AllocError>
+fn begin(
+    alloc: Global,
+    element: Element<'_>,
+    out: usize,
+    label: &[u8],
+) -> Result<Option<Place>, AllocError>
     ensures { IfOk result (λ p. option_map seen_place p ≡ option_map (further out) (begun (seen element.entry) label.now)) }
 {
     if let Some(number) = labelled(nodes_of(element), label) {
@@ -87,7 +92,11 @@ fn begin(alloc: Global, element: Element<'_>, out: usize, label: &[u8]) -> Resul
 }
 
 // From the innermost element outwards.
-fn first_label(alloc: Global, scope: &[Element<'_>], label: &[u8]) -> Result<Option<Place>, AllocError>
+fn first_label(
+    alloc: Global,
+    scope: &[Element<'_>],
+    label: &[u8],
+) -> Result<Option<Place>, AllocError>
     ensures { IfOk result (λ p. option_map seen_place p ≡ spec.first_label (walked scope.now) label.now) }
 {
     let mut left = scope;
@@ -102,7 +111,11 @@ fn first_label(alloc: Global, scope: &[Element<'_>], label: &[u8]) -> Result<Opt
 }
 
 // The numbers of nodes to which the labels lead, each within the one before it, behind these.
-fn follow(nodes: &[Node], path: &[Vec<u8>], steps: Vec<usize>) -> Result<Option<Vec<usize>>, AllocError>
+fn follow(
+    nodes: &[Node],
+    path: &[Vec<u8>],
+    steps: Vec<usize>,
+) -> Result<Option<Vec<usize>>, AllocError>
     ensures { IfOk result (λ found. option_map (λ (v : Vec ℕ). v.items) found ≡ option_map (λ more. steps.items ++ more) (spec.steps_of (forest nodes.now) (items_all path.now))) }
 {
     let mut nodes = nodes;
@@ -128,7 +141,11 @@ pub(crate) fn element_at<'a>(scope: &[Element<'a>], place: &Place) -> Element<'a
 }
 
 // The place to which the labels lead from here.
-fn follow_from(scope: &[Element<'_>], path: &[Vec<u8>], place: Place) -> Result<Option<Place>, AllocError>
+fn follow_from(
+    scope: &[Element<'_>],
+    path: &[Vec<u8>],
+    place: Place,
+) -> Result<Option<Place>, AllocError>
     ensures { IfOk result (λ p. option_map seen_place p ≡ onwards (walked scope.now) (items_all path.now) (seen_place place)) }
 {
     let nodes = nodes_of(element_at(scope, &place));
@@ -143,7 +160,11 @@ fn follow_from(scope: &[Element<'_>], path: &[Vec<u8>], place: Place) -> Result<
 }
 
 /// The place to which a path leads.
-pub(crate) fn place_of(alloc: Global, scope: &[Element<'_>], path: &[Vec<u8>]) -> Result<Option<Place>, AllocError>
+pub(crate) fn place_of(
+    alloc: Global,
+    scope: &[Element<'_>],
+    path: &[Vec<u8>],
+) -> Result<Option<Place>, AllocError>
     ensures { IfOk result (λ p. option_map seen_place p ≡ spec.place_of (walked scope.now) (items_all path.now)) }
 {
     let [label, labels @ ..] = path else {
@@ -156,7 +177,11 @@ pub(crate) fn place_of(alloc: Global, scope: &[Element<'_>], path: &[Vec<u8>]) -
 }
 
 /// The place of a path that names one.
-pub(crate) fn place_or(alloc: Global, scope: &[Element<'_>], path: &[Vec<u8>]) -> Result<Place, AllocError>
+pub(crate) fn place_or(
+    alloc: Global,
+    scope: &[Element<'_>],
+    path: &[Vec<u8>],
+) -> Result<Place, AllocError>
     ensures { IfOk result (λ p. seen_place p ≡ spec.place_or (walked scope.now) (items_all path.now)) }
 {
     match place_of(alloc, scope, path)? {

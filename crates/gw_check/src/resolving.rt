@@ -11,14 +11,19 @@ ghost use Rattle.gw_check.specs.Seen.{scope as walked};
 use crate::element::{Element, nodes_of_child};
 use crate::paths::{place_or, within};
 use crate::resolved::{
-    At, FlatItem, GroupItem, Item, Leaf, LeftOut, Making, Place, Reference, Rule, SegmentItem, Source,
+    At, FlatItem, GroupItem, Item, Leaf, LeftOut, Making, Place, Reference, Rule, SegmentItem,
+    Source,
 };
 use crate::targets::node_or;
 use gw_maplang::{Dropped, FieldPath, LeafRule, Ref};
 use gw_profile::Node;
 use std::alloc::{AllocError, Global};
 
-fn reference(alloc: Global, scope: &[Element<'_>], from: &FieldPath) -> Result<Reference, AllocError>
+fn reference(
+    alloc: Global,
+    scope: &[Element<'_>],
+    from: &FieldPath,
+) -> Result<Reference, AllocError>
     ensures { IfOk result (λ r. seen.reference r ≡ spec.reference (walked scope.now) (raw.field_path from.now)) }
 {
     let place = place_or(alloc, scope, &from.path)?;
@@ -99,7 +104,11 @@ fn rule(alloc: Global, scope: &[Element<'_>], made: &gw_maplang::Rule) -> Result
     })
 }
 
-fn making(alloc: Global, scope: &[Element<'_>], made: &gw_maplang::Rule) -> Result<Making, AllocError>
+fn making(
+    alloc: Global,
+    scope: &[Element<'_>],
+    made: &gw_maplang::Rule,
+) -> Result<Making, AllocError>
     ensures { IfOk result (λ m. (tables : List TableValue) → seen.making tables m ≡ spec.making tables (walked scope.now) ((raw.rule made.now).making)) }
 {
     match made {
@@ -123,7 +132,11 @@ fn making(alloc: Global, scope: &[Element<'_>], made: &gw_maplang::Rule) -> Resu
     }
 }
 
-fn rules(alloc: Global, scope: &[Element<'_>], all: &[gw_maplang::Rule]) -> Result<Vec<Rule>, AllocError>
+fn rules(
+    alloc: Global,
+    scope: &[Element<'_>],
+    all: &[gw_maplang::Rule],
+) -> Result<Vec<Rule>, AllocError>
     ensures { IfOk result (λ v. (tables : List TableValue) → map (seen.rule tables) v.items ≡ map (spec.rule tables (walked scope.now)) (map raw.rule all.now)) }
 {
     let mut built = Vec::new(alloc);

@@ -142,13 +142,25 @@ fn names_group(nodes: &[Node], label: &[u8]) -> bool
 }
 
 // Takes note of what is wrong with the nodes of an item, or of one that comes behind one of a later node.
-fn note_target(worst: Option<Failure>, line: u32, fits: bool, j: usize, node: usize) -> Option<Failure>
+fn note_target(
+    worst: Option<Failure>,
+    line: u32,
+    fits: bool,
+    j: usize,
+    node: usize,
+) -> Option<Failure>
     ensures { failures result ≡ noted (failures worst) (fails 3 line (not fits) ++ fails 3 line (nat_lt node j)) }
 {
     note(note(worst, 3, line, !fits), 3, line, node < j)
 }
 
-fn segment_target(worst: Option<Failure>, nodes: &[Node], j: usize, line: u32, label: &[u8]) -> Reached
+fn segment_target(
+    worst: Option<Failure>,
+    nodes: &[Node],
+    j: usize,
+    line: u32,
+    label: &[u8],
+) -> Reached
     ensures worst { failures result.worst ≡ noted (failures worst) (spec.label_failures (forest nodes.now) is_segment j line label.now) }
     ensures node { result.node ≡ spec.node_or j (forest nodes.now) label.now }
 {
@@ -203,7 +215,12 @@ fn item_target(worst: Option<Failure>, item: &Item, nodes: &[Node], j: usize) ->
 
 /// The failures of the target labels of items behind one of node j.
 #[cycle(targets)]
-pub(crate) fn target_failures(worst: Option<Failure>, items: &[Item], nodes: &[Node], j: usize) -> Option<Failure>
+pub(crate) fn target_failures(
+    worst: Option<Failure>,
+    items: &[Item],
+    nodes: &[Node],
+    j: usize,
+) -> Option<Failure>
     ensures { failures result ≡ noted (failures worst) (spec.target_failures (forest nodes.now) j (all_items items.now)) }
 {
     let mut reached = Reached { worst, node: j };

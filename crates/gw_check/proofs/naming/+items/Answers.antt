@@ -1,5 +1,4 @@
 use Rattle.std.proofs.Common.{◌≡◌, ◌∙◌, subst, IfOk}
-use Rattle.gw_check.specs.Naming as spec
 use Rattle.gw_check.specs.Noted.{noted}
 use Rattle.gw_check.specs.Seen.{scope as walked, failures}
 use Rattle.gw_check.proofs.Noting.{group_failures, flat_failures, items_next}

@@ -1,4 +1,4 @@
-use Rattle.std.proofs.Common.{◌≡◌, List, ◌++◌, drop, map}
+use Rattle.std.proofs.Common.{◌≡◌, ◌++◌, drop, map}
 use Rattle.gw_maplang.specs.Seen as raw
 use Rattle.gw_check.specs.Naming as spec
 use Rattle.gw_check.specs.Seen as seen

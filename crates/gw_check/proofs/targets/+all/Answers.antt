@@ -1,7 +1,5 @@
 use Rattle.std.proofs.Common.{ap, ◌∙◌, bytes_eq}
 use Rattle.std.specs.List.{list_all}
-use Rattle.gw_maplang.specs.Seen.{all_items}
-use Rattle.gw_check.specs.Naming as spec
 use Rattle.gw_check.proofs.Labels.{labels_front, flat_labels, one_other, one_more}
 use Rattle.gw_check.proofs.targets.+all.Goals as goal
 
