@@ -9,3 +9,9 @@ pub mod Stepped
 pub mod Within
 pub mod Passing
 pub mod Collecting
+pub mod Labels
+pub mod Targeting
+pub mod Built
+pub mod Least
+pub mod Placing
+pub mod Keeping

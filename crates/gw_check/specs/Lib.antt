@@ -14,6 +14,8 @@ pub mod Naming
 pub mod Checked
 pub mod Noted
 pub mod Seen
+pub mod Looking
+pub mod Resolving
 pub mod Founds
 pub mod Reading
 pub mod Counted

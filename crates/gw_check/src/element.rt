@@ -57,3 +57,13 @@ pub(crate) fn nodes_of(element: Element<'_>) -> &[Node]
         Element::Whole(nodes) => nodes,
     }
 }
+
+/// The nodes within the node of this number.
+pub(crate) fn nodes_of_child(nodes: &[Node], number: usize) -> &[Node]
+    ensures { forest result.now ≡ spec.nodes_of_child (forest nodes.now) number }
+{
+    match child(nodes, number) {
+        None => &[],
+        Some(element) => nodes_of(element),
+    }
+}
