@@ -2,3 +2,4 @@ pub mod Children
 pub mod Rows
 pub mod Saturation
 pub mod Finding
+pub mod Lists

@@ -5,6 +5,7 @@ mod element;
 mod failure;
 mod field;
 mod interval;
+mod known;
 pub mod laws;
 mod place;
 mod resolved;
