@@ -16,4 +16,5 @@ pub mod Noted
 pub mod Seen
 pub mod Founds
 pub mod Reading
+pub mod Texts
 pub mod Worked
