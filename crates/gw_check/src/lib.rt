@@ -10,6 +10,7 @@ mod interval;
 mod known;
 pub mod laws;
 mod leaf;
+mod lookup;
 mod made;
 mod place;
 mod presence;

@@ -130,13 +130,20 @@ fn second_fails(test: Test<'_>, table: Option<&Rows>) -> bool
     }
 }
 
+/// What stands for a text without a row.
+pub(crate) fn other<'a>(table: Option<&'a Rows>) -> Option<&'a [u8]>
+    ensures { now result ≡ (rows_value table.entry).other }
+{
+    match table {
+        None => None,
+        Some(table) => table.other(),
+    }
+}
+
 fn other_fails(test: Test<'_>, table: Option<&Rows>) -> bool
     ensures { result ≡ fails_some (test_value test.entry) (rows_value table.entry).other }
 {
-    match table {
-        None => false,
-        Some(table) => fails_some(test, table.other()),
-    }
+    fails_some(test, other(table))
 }
 
 // Whether something that the rows give for a source fails the test.
