@@ -1,5 +1,5 @@
 -- Counts that end at the cap: what is asked of them is the same.
-use Rattle.std.proofs.Common.{◌≡◌, ℕ, Bool, true, false, List, Option, Some, None, refl, ap, ◌∙◌}
+use Rattle.std.proofs.Common.{◌≡◌, Bool, true, false, List, refl}
 use Rattle.std.specs.Prelude.{if◌then◌else◌}
 use Rattle.gw_check.specs.Intervals.{Interval, never}
 use Rattle.gw_check.specs.Resolved.{At}

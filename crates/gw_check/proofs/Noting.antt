@@ -1,5 +1,5 @@
 -- Failures that are noted one after the other.
-use Rattle.std.proofs.Common.{◌≡◌, ℕ, suc, ◌+◌, ◌<◌, List, [], ◌∷◌, ◌++◌, Option, Some, None, refl, sym, ap, ap₂, ◌∙◌, arith, length, map, drop, drop-cons, get_or, add-one}
+use Rattle.std.proofs.Common.{◌≡◌, ℕ, ◌+◌, ◌<◌, List, [], ◌∷◌, ◌++◌, Option, Some, refl, sym, ap, ap₂, ◌∙◌, length, map, drop, drop-cons, get_or, add-one}
 use Rattle.std.specs.Prelude.{flat_map}
 use Rattle.gw_check.specs.Failures.{Failure}
 use Rattle.gw_check.specs.Checked.{lesser}

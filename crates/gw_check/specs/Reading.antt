@@ -1,5 +1,5 @@
 -- What the rules of a map can read, and what they read it for, as the program holds it.
-use Rattle.std.specs.Prelude.{ℕ, Bool, not, nat_lt, ◌&&◌, ◌++◌, List, map, Option, Some, None, option_map, option_copied, unwrap_or}
+use Rattle.std.specs.Prelude.{ℕ, Bool, not, nat_lt, ◌&&◌, ◌++◌, List, map, Option, option_map}
 use denote.Ref.{Bor}
 use Rattle.gw_profile.specs.declared.shape.Usage.{Usage}
 use Rattle.gw_profile.specs.declared.shape.Card.{Card}

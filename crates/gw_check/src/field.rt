@@ -73,12 +73,7 @@ fn check_rule_there(
 }
 
 // A field that is forbidden comes.
-fn check_never(
-    worst: Option<Failure>,
-    line: u32,
-    count: Interval,
-    usage: Usage,
-) -> Option<Failure>
+fn check_never(worst: Option<Failure>, line: u32, count: Interval, usage: Usage) -> Option<Failure>
     ensures { failures result ≡ noted (failures worst) (fails 11 line (is_forbidden usage && not (intervals.is_never (interval count).greatest))) }
 {
     if !is_forbidden(usage) {
@@ -135,7 +130,14 @@ fn check_making(
     match making {
         Making::Copy(from) => check_copied(worst, sources, target, line, from, field),
         Making::First(from) => check_copied(worst, sources, target, line, from, field),
-        Making::Repeat(from, leaves) => check_made(worst, walking(sources, from), target, line, leaves, field),
+        Making::Repeat(from, leaves) => check_made(
+            worst,
+            walking(sources, from),
+            target,
+            line,
+            leaves,
+            field,
+        ),
         Making::Build(leaves) => check_made(worst, sources, target, line, leaves, field),
     }
 }

@@ -6,7 +6,7 @@ ghost use Rattle.gw_check.specs.Fields.{table_values};
 ghost use Rattle.gw_check.specs.Leaves as spec;
 ghost use Rattle.gw_check.specs.Reading.{sources_value, map_tables, some_sub};
 ghost use Rattle.gw_check.specs.Seen.{source as seen_source, leaf as seen_leaf};
-ghost use Rattle.gw_check.specs.Texts.{read_value, texts_value, rows_value, items_all, values_value, shape_value, some_items, meets};
+ghost use Rattle.gw_check.specs.Texts.{read_value, texts_value, items_all, values_value, shape_value, some_items, meets};
 
 use crate::known::{at_field, comp_of, sub_of};
 use crate::presence::{is_absent, is_always};

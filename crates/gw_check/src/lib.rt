@@ -22,6 +22,7 @@ mod values;
 
 pub use leaf::included;
 pub use resolved::{
-    At, FlatItem, GroupItem, Item, Leaf, LeftOut, Making, Place, Reference, Rule, SegmentItem, Source,
+    At, FlatItem, GroupItem, Item, Leaf, LeftOut, Making, Place, Reference, Rule, SegmentItem,
+    Source,
 };
 pub use shape::{Presence, Shape, Values};

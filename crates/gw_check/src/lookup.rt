@@ -27,7 +27,12 @@ fn check_rows(
 {
     match other(table) {
         Some(_) => worst,
-        None => note(worst, 10, at.line, has_no_row(table, source_texts(sources, source))),
+        None => note(
+            worst,
+            10,
+            at.line,
+            has_no_row(table, source_texts(sources, source)),
+        ),
     }
 }
 
@@ -64,7 +69,11 @@ fn check_rule(worst: Option<Failure>, sources: Sources<'_>, rule: &Rule) -> Opti
 }
 
 /// The failures of the lookups of these rules.
-pub(crate) fn check_rules(mut worst: Option<Failure>, sources: Sources<'_>, rules: &[Rule]) -> Option<Failure>
+pub(crate) fn check_rules(
+    mut worst: Option<Failure>,
+    sources: Sources<'_>,
+    rules: &[Rule],
+) -> Option<Failure>
     ensures { failures result ≡ noted (failures worst) (flat_map (spec.rule_lookups (sources_value sources.entry)) (map (seen_rule (map_tables sources.entry)) rules.now)) }
 {
     for (i, rule) in rules.iter().enumerate() {

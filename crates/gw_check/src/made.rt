@@ -7,7 +7,7 @@ ghost use Rattle.gw_check.specs.Failures.{fails};
 ghost use Rattle.gw_check.specs.Fields as spec;
 ghost use Rattle.gw_check.specs.Leaves as leaves_spec;
 ghost use Rattle.gw_check.specs.Noted.{noted};
-ghost use Rattle.gw_check.specs.Reading.{sources_value, map_tables, some_field, some_comp, some_sub};
+ghost use Rattle.gw_check.specs.Reading.{sources_value, map_tables, some_comp, some_sub};
 ghost use Rattle.gw_check.specs.Seen.{failures, at_leaf, leaf as seen_leaf};
 ghost use Rattle.gw_check.specs.Texts.{texts_value};
 
@@ -27,9 +27,7 @@ use gw_profile::{CompShape, FieldShape, Profile, SubShape};
 fn has_comp_among(sources: Sources<'_>, leaves: &[At], comp: u32) -> bool
     ensures { result ≡ list_any (λ a. a.place.comp == comp && leaves_spec.is_always (leaves_spec.leaf_shape (sources_value sources.entry) (seen_leaf (map_tables sources.entry) a.leaf)).presence) leaves.now }
 {
-    leaves
-        .iter()
-        .any(|at| at.place.comp == comp && is_always(leaf_presence(sources, &at.leaf)))
+    leaves.iter().any(|at| at.place.comp == comp && is_always(leaf_presence(sources, &at.leaf)))
 }
 
 // Some leaf of the component is always there.
@@ -42,9 +40,7 @@ fn has_comp(sources: Sources<'_>, leaves: &[At], comp: u32) -> bool
 fn has_only_comp_among(sources: Sources<'_>, leaves: &[At], comp: u32) -> bool
     ensures { result ≡ list_all (λ a. a.place.comp == comp || leaves_spec.is_absent (leaves_spec.leaf_shape (sources_value sources.entry) (seen_leaf (map_tables sources.entry) a.leaf)).presence) leaves.now }
 {
-    leaves
-        .iter()
-        .all(|at| at.place.comp == comp || is_absent(leaf_presence(sources, &at.leaf)))
+    leaves.iter().all(|at| at.place.comp == comp || is_absent(leaf_presence(sources, &at.leaf)))
 }
 
 // No text can stand but in the component.
@@ -64,9 +60,7 @@ fn has_sub_among(sources: Sources<'_>, leaves: &[At], comp: u32, sub: u32) -> bo
     ensures { result ≡ list_any (λ a. a.place.comp == comp && a.place.sub == sub && leaves_spec.is_always (leaves_spec.leaf_shape (sources_value sources.entry) (seen_leaf (map_tables sources.entry) a.leaf)).presence) leaves.now }
 {
     leaves.iter().any(|at| {
-        at.place.comp == comp
-            && at.place.sub == sub
-            && is_always(leaf_presence(sources, &at.leaf))
+        at.place.comp == comp && at.place.sub == sub && is_always(leaf_presence(sources, &at.leaf))
     })
 }
 
@@ -81,9 +75,7 @@ fn has_only_sub_among(sources: Sources<'_>, leaves: &[At], comp: u32, sub: u32) 
     ensures { result ≡ list_all (λ a. not (a.place.comp == comp) || a.place.sub == sub || leaves_spec.is_absent (leaves_spec.leaf_shape (sources_value sources.entry) (seen_leaf (map_tables sources.entry) a.leaf)).presence) leaves.now }
 {
     leaves.iter().all(|at| {
-        at.place.comp != comp
-            || at.place.sub == sub
-            || is_absent(leaf_presence(sources, &at.leaf))
+        at.place.comp != comp || at.place.sub == sub || is_absent(leaf_presence(sources, &at.leaf))
     })
 }
 
@@ -115,7 +107,12 @@ fn check_sub(
     if !is_required(sub.usage) {
         return worst;
     }
-    note(worst, 5, line, !is_sub_sure(sources, leaves, comp, sub.number))
+    note(
+        worst,
+        5,
+        line,
+        !is_sub_sure(sources, leaves, comp, sub.number),
+    )
 }
 
 fn check_subs(

@@ -4,15 +4,10 @@ ghost use Rattle.std.specs.List.{list_any};
 ghost use Rattle.gw_maplang.specs.Seen.{now};
 ghost use Rattle.gw_maplang.specs.Shapes.{second_of};
 ghost use Rattle.gw_check.specs.Leaves as spec;
-ghost use Rattle.gw_check.specs.Reading.{sources_value, map_tables, some_sub};
-ghost use Rattle.gw_check.specs.Seen.{source as seen_source, leaf as seen_leaf};
 ghost use Rattle.gw_check.specs.Texts.{read_value, texts_value, rows_value, test_value, fails_some, some_fails, some_items, is_any, is_any_long, is_there};
 
-use crate::known::{at_field, comp_of, sub_of};
-use crate::resolved::{Leaf, Source};
-use crate::sources::Sources;
 use gw_maplang::Table as Rows;
-use gw_profile::{Profile, SubShape, Table};
+use gw_profile::Table;
 use indexmap::IndexMap;
 
 /// The texts of a source: any of at most so many octets, or of these those that aren't longer.
@@ -94,7 +89,8 @@ fn given<'a>(table: Option<&'a Rows>, text: &[u8]) -> Option<&'a [u8]>
 fn some_short_fails(test: Test<'_>, len: Option<u32>, all: &[Vec<u8>]) -> bool
     ensures { result ≡ list_any (λ v. spec.is_short len v.items && test_value test.entry v.items) all.now }
 {
-    all.iter().any(|text| is_short(len, text) && fails(test, text))
+    all.iter()
+        .any(|text| is_short(len, text) && fails(test, text))
 }
 
 // Whether what the rows give for one of the texts that aren't longer fails the test.
@@ -243,7 +239,8 @@ fn is_there(text: Option<&[u8]>) -> bool
 fn some_unrowed(table: Option<&Rows>, len: Option<u32>, all: &[Vec<u8>]) -> bool
     ensures { result ≡ list_any (λ v. spec.is_short len v.items && not (is_there (second_of v.items (rows_value table.entry).rows))) all.now }
 {
-    all.iter().any(|text| is_short(len, text) && !has_row(table, text))
+    all.iter()
+        .any(|text| is_short(len, text) && !has_row(table, text))
 }
 
 /// Whether a text of the source has no row, as far as is known.

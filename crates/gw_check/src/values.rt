@@ -77,7 +77,12 @@ fn check_table(
     if is_absent(presence) {
         return worst;
     }
-    note(worst, 6, line, may_be_unlisted(texts, table_of(target, sub)))
+    note(
+        worst,
+        6,
+        line,
+        may_be_unlisted(texts, table_of(target, sub)),
+    )
 }
 
 fn check_length(

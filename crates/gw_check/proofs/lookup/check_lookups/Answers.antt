@@ -1,4 +1,4 @@
-use Rattle.std.proofs.Common.{◌∙◌, map}
+use Rattle.std.proofs.Common.{◌∙◌}
 use Rattle.gw_check.specs.Fields.{lookup_failures}
 use Rattle.gw_check.specs.Reading.{sources_value, map_tables}
 use Rattle.gw_check.specs.Seen.{failures, at_leaf}

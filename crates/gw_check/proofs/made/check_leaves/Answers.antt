@@ -1,4 +1,4 @@
-use Rattle.std.proofs.Common.{◌∙◌, map}
+use Rattle.std.proofs.Common.{◌∙◌}
 use Rattle.gw_profile.specs.Seen.{field}
 use Rattle.gw_check.specs.Fields.{made_leaf}
 use Rattle.gw_check.specs.Reading.{sources_value, map_tables}

@@ -1,6 +1,6 @@
 use Rattle.std.proofs.Common.{sym, ◌∙◌}
-use Rattle.std.specs.Prelude.{◌==◌, ◌&&◌, ◌||◌, not}
-use Rattle.gw_check.specs.Leaves.{is_always, is_absent, leaf_shape}
+use Rattle.std.specs.Prelude.{◌==◌, ◌||◌}
+use Rattle.gw_check.specs.Leaves.{is_absent, leaf_shape}
 use Rattle.gw_check.specs.Reading.{sources_value, map_tables}
 use Rattle.gw_check.specs.Seen.{at_leaf}
 use Rattle.gw_check.proofs.Lists.{all_map}

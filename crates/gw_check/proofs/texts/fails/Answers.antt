@@ -1,4 +1,4 @@
-use Rattle.std.proofs.Common.{sym, ap, ◌∙◌, List, ℕ}
+use Rattle.std.proofs.Common.{sym, ap, ◌∙◌, ℕ}
 use Rattle.std.specs.Prelude.{not, bytes_eq}
 use Rattle.std.specs.Global.{Vec}
 use Rattle.gw_check.specs.Texts.{test_value}

@@ -1,4 +1,4 @@
-use Rattle.std.proofs.Common.{sym, ap, ◌∙◌, ℕ, map}
+use Rattle.std.proofs.Common.{sym, ap, ◌∙◌, ℕ}
 use Rattle.std.specs.Prelude.{not, filter}
 use Rattle.std.specs.Global.{Vec}
 use Rattle.gw_maplang.specs.Shapes.{second_of}
