@@ -26,3 +26,6 @@ pub use resolved::{
     Source,
 };
 pub use shape::{Presence, Shape, Values};
+
+#[cfg(test)]
+mod included_tests;
