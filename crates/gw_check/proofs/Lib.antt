@@ -15,3 +15,6 @@ pub mod Built
 pub mod Least
 pub mod Placing
 pub mod Keeping
+pub mod Lists
+pub mod Tested
+pub mod Counting

@@ -77,9 +77,14 @@ flat_failures scope item g p items is e f =
 
 -- ---- several lists
 
-pub noted_both : (w : Option Failure) (a b : List Failure) → noted w (a ++ b) ≡ noted (noted w a) b
-noted_both = noted_append
+-- first the ones, then the others
+pub noted_both : (w one two : Option Failure) (a b : List Failure) → one ≡ noted w a → two ≡ noted one b → two ≡ noted w (a ++ b)
+noted_both w one two a b e f = f ∙ ap (λ o. noted o b) e ∙ sym (noted_append w a b)
 
 pub noted_four : (w : Option Failure) (a b c d : List Failure) → noted w (a ++ b ++ c ++ d) ≡ noted (noted (noted (noted w a) b) c) d
 noted_four w a b c d =
     noted_append w (a ++ b ++ c) d ∙ ap (λ v. noted v d) (noted_append w (a ++ b) c) ∙ ap (λ v. noted (noted v c) d) (noted_append w a b)
+
+-- one element more
+pub noted_more : {A B : Type 0} (f : A → List Failure) (view : B → A) (xs : List B) (i : ℕ) (x : B) (w next : Option Failure) → i < length xs → x ≡ get_or xs i x → next ≡ noted w (f (view x)) → noted w (flat_map f (map view (drop i xs))) ≡ noted next (flat_map f (map view (drop (i + 1) xs)))
+noted_more f view xs i x w next h is e = noted_next f view xs i x next w h is e

@@ -19,7 +19,7 @@ use Rattle.gw_check.specs.Counted.{Leads}
 use Rattle.gw_check.specs.Seen.{failures, all_items}
 use Rattle.gw_check.specs.Checking.{NotesNode, NotesLevel, CountedNodes, usage_of}
 use Rattle.gw_profile.specs.WellFormed.{Counted}
-use Rattle.gw_check.proofs.Noting.{noted_both}
+use Rattle.gw_check.proofs.Noting.{noted_append}
 
 drop_drop : {X : Type 0} (a b : ℕ) (l : List X) → drop b (drop a l) ≡ drop (a + b) l
 drop_drop zero b l = let same : 0 + b ≡ b = omega arith in ap (λ n. drop n l) (sym same)
@@ -58,7 +58,7 @@ module _ (scope : List Element) (holder : ℕ) (nodes : List Node) (items : List
             h.noted_so_far tables
             ∙ ap (λ f. noted (failures old) (level_failures scope holder j f (all_items tables (drop done items)))) step
             ∙ ap (noted (failures old)) (one_node scope holder j n (forest (drop (j + 1) nodes)) (all_items tables (drop done items)))
-            ∙ noted_both (failures old) (node_failures holder (usage_of n) (card_of n) (items_count scope (its j (all_items tables (drop done items)))) (its j (all_items tables (drop done items)))) _
+            ∙ noted_append (failures old) (node_failures holder (usage_of n) (card_of n) (items_count scope (its j (all_items tables (drop done items)))) (its j (all_items tables (drop done items)))) _
             ∙ ap (λ v. noted v (level_failures scope holder (suc j) (forest (drop (j + 1) nodes)) (beyond j (all_items tables (drop done items))))) (ap (λ (i : Items). noted (failures old) (node_failures holder (usage_of n) (card_of n) (items_count scope i) i)) (sym (leads.these tables)) ∙ sym (notes tables))
             ∙ ap (λ i. noted (failures new) (level_failures scope holder (suc j) (forest (drop (j + 1) nodes)) i)) (sym (leads.others tables) ∙ ap (all_items tables) behind)
             ∙ ap (λ k. noted (failures new) (level_failures scope holder k (forest (drop (j + 1) nodes)) (all_items tables (drop (done + count) items)))) next;

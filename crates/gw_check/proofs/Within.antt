@@ -16,7 +16,7 @@ use Rattle.gw_check.specs.Noted.{noted}
 use Rattle.gw_check.specs.declared.element.Element as elements
 use Rattle.gw_check.specs.Seen.{failures, place, with_item, all_items, scope}
 use Rattle.gw_check.specs.Checking.{weight, weight_one, weight_all, CountedNodes, NotesLevel, NotesItem, NotesItems}
-use Rattle.gw_check.proofs.Noting.{noted_both}
+use Rattle.gw_check.proofs.Noting.{noted_append}
 use Rattle.gw_check.proofs.Rows.{group_items, flat_items}
 
 -- ---- counts
@@ -76,7 +76,7 @@ module _ (tables : List TableValue) (from to : List profiles.TableValue) where
       let step : drop k items ≡ i ∷ drop (k + 1) items = drop-cons items k i low ∙ ap (λ x. x ∷ drop (suc k) items) (sym at) ∙ ap (λ n. i ∷ drop n items) next in
       h ∙ ap (λ l. noted (failures old) (items_failures from to scope nodes (all_items tables l))) step
       ∙ ap (noted (failures old)) (first_and_rest scope nodes i (all_items tables (drop (k + 1) items)))
-      ∙ noted_both (failures old) (items_failures from to scope nodes (with_item tables i no_items)) (items_failures from to scope nodes (all_items tables (drop (k + 1) items)))
+      ∙ noted_append (failures old) (items_failures from to scope nodes (with_item tables i no_items)) (items_failures from to scope nodes (all_items tables (drop (k + 1) items)))
       ∙ ap (λ w. noted w (items_failures from to scope nodes (all_items tables (drop (k + 1) items)))) (sym notes)
 
   -- ---- a group, and a flat
@@ -85,7 +85,7 @@ module _ (tables : List TableValue) (from to : List profiles.TableValue) where
       NotesLevel inner g.line 0 below is first middle → NotesItems tables from to inner below is middle last → NotesItem tables from to scope nodes i first last
   group_noted scope inner nodes below i g is first middle last same items there under level inside =
       inside ∙ ap (λ w. noted w (items_failures from to inner below (all_items tables is))) (level tables)
-      ∙ sym (noted_both (failures first) (level_failures inner g.line 0 below (all_items tables is)) (items_failures from to inner below (all_items tables is)))
+      ∙ sym (noted_append (failures first) (level_failures inner g.line 0 below (all_items tables is)) (items_failures from to inner below (all_items tables is)))
       ∙ ap (λ (s : List Element). noted (failures first) (level_failures s g.line 0 below (all_items tables is) ++ items_failures from to s below (all_items tables is))) there
       ∙ ap (λ f. noted (failures first) (level_failures (within scope (place g.place)) g.line 0 f (all_items tables is) ++ items_failures from to (within scope (place g.place)) f (all_items tables is))) under
       ∙ ap (λ l. noted (failures first) (level_failures (within scope (place g.place)) g.line 0 (nodes_of_child nodes g.child) (all_items tables l) ++ items_failures from to (within scope (place g.place)) (nodes_of_child nodes g.child) (all_items tables l))) items

@@ -1,5 +1,5 @@
 -- The failures of a level, as the program takes note of them.
-use Rattle.std.specs.Prelude.{◌≡◌, ℕ, ◌+◌, List, [], Option}
+use Rattle.std.specs.Prelude.{◌≡◌, ℕ, ◌+◌, List, [], map, option_map, Option}
 use Rattle.gw_profile.specs.declared.shape.Usage.{Usage}
 use Rattle.gw_profile.specs.declared.shape.Card.{Card}
 use Rattle.gw_profile.specs.Shapes as profiles
@@ -9,12 +9,14 @@ use Rattle.gw_profile.specs.WellFormed.{Counted}
 use Rattle.gw_maplang.specs.Shapes.{TableValue}
 use Rattle.gw_check.specs.declared.resolved.Item.{Item}
 use Rattle.gw_check.specs.declared.failure.Failure as declared
-use Rattle.gw_check.specs.Places.{Element}
+use Rattle.gw_check.specs.Places.{Element, child, fields_of, within_if}
+use Rattle.gw_check.specs.Fields.{segment_failures}
+use Rattle.gw_check.specs.declared.resolved.SegmentItem.{SegmentItem}
 use Rattle.gw_check.specs.Counts.{items_count}
-use Rattle.gw_check.specs.Levels.{node_failures, level_failures, items_failures}
+use Rattle.gw_check.specs.Levels.{sources, node_failures, level_failures, items_failures}
 use Rattle.gw_check.specs.Resolved.{Items, no_items, segment_item, group_item, flat_item}
 use Rattle.gw_check.specs.Noted.{noted}
-use Rattle.gw_check.specs.Seen.{failures, with_item, all_items}
+use Rattle.gw_check.specs.Seen.{failures, place, rule, with_item, all_items}
 
 -- with the failures of one node, whatever the map's tables are
 abbrev pub NotesNode : List Element → ℕ → Usage → Card → List Item → Option declared.Failure → Option declared.Failure → Type 0
@@ -55,3 +57,8 @@ weight_one i = weight (with_item [] i no_items)
 
 abbrev pub weight_all : List Item → ℕ
 weight_all is = weight (all_items [] is)
+
+-- with those of the segments that an item gives
+abbrev pub NotesSegment : List TableValue → List profiles.TableValue → List profiles.TableValue → List Element → Forest → SegmentItem → Option declared.Failure → Option declared.Failure → Type 0
+NotesSegment tables from to scope nodes s old new =
+    failures new ≡ noted (failures old) (segment_failures (sources from (within_if scope (option_map place s.place))) to s.line (map (rule tables) s.rules.items) (fields_of (child nodes s.child)))

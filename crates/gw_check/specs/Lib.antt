@@ -22,4 +22,5 @@ pub mod Counted
 pub mod Checking
 pub mod Collected
 pub mod CheckedMap
+pub mod Texts
 pub mod Worked

@@ -31,9 +31,9 @@ failures f = option_map failure f
 abbrev pub interval : intervals.Interval → Interval
 interval i = record { least = i.least; greatest = i.greatest }
 
--- above every number that a profile can name
+-- above every number that a cardinality can name
 abbrev pub cap : ℕ
-cap = 10000
+cap = 4294967296
 
 -- numbers from the cap on are one
 abbrev pub saturated : Interval → Interval

@@ -2,14 +2,14 @@
 ghost use Rattle.std.specs.Prelude.{◌≡◌, map, IfOk, option_map};
 ghost use Rattle.gw_profile.specs.Seen.{forest, field};
 ghost use Rattle.gw_check.specs.Places as places;
-ghost use Rattle.gw_check.specs.Checking.{CountedNodes, NotesItem, NotesItems};
+ghost use Rattle.gw_check.specs.Checking.{CountedNodes, NotesSegment, NotesItem, NotesItems};
 ghost use Rattle.gw_check.specs.Seen.{scope as walked, place as seen_place};
 
 use crate::element::{Element, child, nodes_of};
 use crate::failure::Failure;
 use crate::field::check_segment;
 use crate::level::{check_level, within};
-use crate::resolved::{Item, Place};
+use crate::resolved::{Item, Place, SegmentItem};
 use crate::sources::Sources;
 use gw_maplang::Map;
 use gw_profile::{FieldShape, Node, Profile};
@@ -57,6 +57,34 @@ fn within_if<'a>(
     }
 }
 
+// The failures of the rules on the segments that an item gives.
+fn check_given(
+    alloc: Global,
+    worst: Option<Failure>,
+    sides: Sides<'_, '_, '_>,
+    scope: &[Element<'_>],
+    nodes: &[Node],
+    segment: &SegmentItem,
+) -> Result<Option<Failure>, AllocError>
+    ensures { IfOk result (λ new. NotesSegment sides.entry.map.now.tables sides.entry.source.now.tables sides.entry.target.now.tables (walked scope.now) (forest nodes.now) segment.now worst new) }
+{
+    let inner = within_if(alloc, scope, &segment.place)?;
+    let sources = Sources {
+        profile: sides.source,
+        map: sides.map,
+        scope: &inner,
+        current: None,
+    };
+    Ok(check_segment(
+        worst,
+        sources,
+        sides.target,
+        segment.line,
+        &segment.rules,
+        fields_at(nodes, segment.child),
+    ))
+}
+
 // The failures of the rules on what one item gives.
 #[cycle(inside)]
 fn check_item(
@@ -70,23 +98,7 @@ fn check_item(
     ensures { IfOk result (λ new. CountedNodes (forest nodes.now) → NotesItem sides.entry.map.now.tables sides.entry.source.now.tables sides.entry.target.now.tables (walked scope.now) (forest nodes.now) item.now worst new) }
 {
     match item {
-        Item::Segment(segment) => {
-            let inner = within_if(alloc, scope, &segment.place)?;
-            let sources = Sources {
-                profile: sides.source,
-                map: sides.map,
-                scope: &inner,
-                current: None,
-            };
-            Ok(check_segment(
-                worst,
-                sources,
-                sides.target,
-                segment.line,
-                &segment.rules,
-                fields_at(nodes, segment.child),
-            ))
-        }
+        Item::Segment(segment) => check_given(alloc, worst, sides, scope, nodes, segment),
         Item::Group(group) => {
             let inner = within(alloc, scope, &group.place)?;
             let below = nodes_at(nodes, group.child);

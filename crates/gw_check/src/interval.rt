@@ -5,14 +5,14 @@ ghost use Rattle.gw_check.specs.Seen.{cap, interval, saturated};
 
 use gw_profile::Card;
 
-/// Above the greatest count that a profile can name, which is 9999.
-pub(crate) const CAP: u32 = 10_000;
+/// Above every number that a cardinality can name.
+pub(crate) const CAP: u64 = 4_294_967_296;
 
 /// At least so often, and at most so often or without limit.
 #[derive(Clone, Copy, PartialEq, Eq, Debug, Drop)]
 pub(crate) struct Interval {
-    pub(crate) least: u32,
-    pub(crate) greatest: Option<u32>,
+    pub(crate) least: u64,
+    pub(crate) greatest: Option<u64>,
 }
 
 pub(crate) fn never() -> Interval
@@ -43,22 +43,22 @@ pub(crate) fn any_number() -> Interval
 }
 
 /// No more than the cap.
-fn capped(count: u32) -> u32
+fn capped(count: u64) -> u64
     ensures { result ≡ min count cap }
 {
     count.min(CAP)
 }
 
-fn capped_all(count: Option<u32>) -> Option<u32>
+fn capped_all(count: Option<u32>) -> Option<u64>
     ensures { result ≡ option_map (λ n. min n cap) count }
 {
     match count {
         None => None,
-        Some(count) => Some(capped(count)),
+        Some(count) => Some(capped(u64::from(count))),
     }
 }
 
-fn multiplied(a: Option<u32>, b: Option<u32>) -> Option<u32>
+fn multiplied(a: Option<u64>, b: Option<u64>) -> Option<u64>
     ensures { result ≡ option_map (λ n. min n cap) (spec.multiply a b) }
 {
     match (a, b) {
@@ -73,7 +73,7 @@ fn multiplied(a: Option<u32>, b: Option<u32>) -> Option<u32>
     }
 }
 
-fn added(a: Option<u32>, b: Option<u32>) -> Option<u32>
+fn added(a: Option<u64>, b: Option<u64>) -> Option<u64>
     ensures { result ≡ option_map (λ n. min n cap) (spec.add a b) }
 {
     match (a, b) {
@@ -92,7 +92,7 @@ impl Interval {
         ensures { interval result ≡ saturated (spec.of_card card) }
     {
         Interval {
-            least: capped(card.min),
+            least: capped(u64::from(card.min)),
             greatest: capped_all(card.max),
         }
     }
@@ -141,7 +141,7 @@ impl Interval {
         match (self.greatest, limit) {
             (_, None) => true,
             (None, Some(_)) => false,
-            (Some(most), Some(limit)) => most <= limit,
+            (Some(most), Some(limit)) => most <= u64::from(limit),
         }
     }
 

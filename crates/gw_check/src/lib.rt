@@ -2,10 +2,13 @@
 #![tactic(auto)]
 
 mod checked;
+mod copied;
+mod count;
 mod element;
 mod failure;
 mod field;
 mod interval;
+mod known;
 pub mod laws;
 mod inside;
 mod items;
@@ -15,6 +18,10 @@ mod reads;
 mod naming;
 mod paths;
 mod resolve;
+mod leaf;
+mod lookup;
+mod made;
+mod presence;
 mod resolved;
 mod resolving;
 mod shape;
@@ -22,6 +29,10 @@ mod sources;
 mod targets;
 
 pub use checked::CheckedMap;
+mod texts;
+mod values;
+
+pub use leaf::included;
 pub use resolved::{
     At, FlatItem, GroupItem, Item, Leaf, LeftOut, Making, Place, Reference, Rule, SegmentItem,
     Source,
@@ -30,3 +41,4 @@ pub use shape::{Presence, Shape, Values};
 
 #[cfg(test)]
 mod resolve_tests;
+mod included_tests;
