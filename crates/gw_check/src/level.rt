@@ -146,7 +146,7 @@ fn check_node(
     let count = items_count(alloc, scope, items)?;
     let line = first_line(holder, items);
     let worst = note(worst, 4, line, is_too_often(usage, count, card.max));
-    let worst = note(worst, 5, line, count.least < card.min);
+    let worst = note(worst, 5, line, count.least < u64::from(card.min));
     let worst = note(worst, 8, holder, is_missing(usage, items));
     Ok(note(worst, 11, line, is_there_forbidden(usage, count)))
 }

@@ -1,4 +1,4 @@
-//! Checks maps before they run.
+//! Checks maps before they run: the rules that keep a translation from failing, and from giving what its receiver refuses.
 #![tactic(auto)]
 
 mod checked;
@@ -8,30 +8,28 @@ mod element;
 mod failure;
 mod field;
 mod interval;
+mod items;
 mod known;
 pub mod laws;
-mod inside;
-mod items;
-mod level;
-mod place;
-mod reads;
-mod naming;
-mod paths;
-mod resolve;
 mod leaf;
+mod level;
 mod lookup;
 mod made;
+mod naming;
+mod paths;
+mod place;
 mod presence;
+mod reads;
+mod resolve;
 mod resolved;
 mod resolving;
 mod shape;
 mod sources;
 mod targets;
-
-pub use checked::CheckedMap;
 mod texts;
 mod values;
 
+pub use checked::CheckedMap;
 pub use leaf::included;
 pub use resolved::{
     At, FlatItem, GroupItem, Item, Leaf, LeftOut, Making, Place, Reference, Rule, SegmentItem,
@@ -40,5 +38,6 @@ pub use resolved::{
 pub use shape::{Presence, Shape, Values};
 
 #[cfg(test)]
-mod resolve_tests;
 mod included_tests;
+#[cfg(test)]
+mod resolve_tests;
