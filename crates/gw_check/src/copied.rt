@@ -92,7 +92,7 @@ fn check_comps(
 /// The failures of a field that is copied from this one.
 pub(crate) fn check_copied(
     worst: Option<Failure>,
-    sources: Sources<'_>,
+    sources: Sources<'_, '_, '_, '_>,
     target: &Profile,
     line: u32,
     from: &Reference,

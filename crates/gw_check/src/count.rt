@@ -36,7 +36,7 @@ fn reference_count(known: Known<'_>, field: Option<&FieldShape>) -> Interval
 }
 
 // Of the source field of a reference.
-fn field_count(sources: Sources<'_>, from: &Reference) -> Interval
+fn field_count(sources: Sources<'_, '_, '_, '_>, from: &Reference) -> Interval
     ensures { interval result ≡ saturated (spec.field_count (sources_value sources.entry) (reference from.now)) }
 {
     let known = segment_at(sources.scope, &from.place);
@@ -44,7 +44,10 @@ fn field_count(sources: Sources<'_>, from: &Reference) -> Interval
 }
 
 /// The same below `repeat`, where the field of the reference is walked.
-pub(crate) fn walking<'a>(sources: Sources<'a>, from: &Reference) -> Sources<'a>
+pub(crate) fn walking<'p, 'm, 's, 'e>(
+    sources: Sources<'p, 'm, 's, 'e>,
+    from: &Reference,
+) -> Sources<'p, 'm, 's, 'e>
     ensures same { map_tables result ≡ map_tables sources.entry }
     ensures walking { sources_value result ≡ spec.walking (sources_value sources.entry) (reference from.now) }
 {
@@ -54,7 +57,7 @@ pub(crate) fn walking<'a>(sources: Sources<'a>, from: &Reference) -> Sources<'a>
     }
 }
 
-fn some_always_among(sources: Sources<'_>, leaves: &[At]) -> bool
+fn some_always_among(sources: Sources<'_, '_, '_, '_>, leaves: &[At]) -> bool
     ensures { result ≡ list_any (λ a. leaves_spec.is_always (leaves_spec.leaf_shape (sources_value sources.entry) (seen_leaf (map_tables sources.entry) a.leaf)).presence) leaves.now }
 {
     leaves
@@ -63,13 +66,13 @@ fn some_always_among(sources: Sources<'_>, leaves: &[At]) -> bool
 }
 
 // Whether some leaf is always there.
-fn some_always(sources: Sources<'_>, leaves: &[At]) -> bool
+fn some_always(sources: Sources<'_, '_, '_, '_>, leaves: &[At]) -> bool
     ensures { result ≡ spec.some_always (sources_value sources.entry) (map (at_leaf (map_tables sources.entry)) leaves.now) }
 {
     some_always_among(sources, leaves)
 }
 
-fn all_absent_among(sources: Sources<'_>, leaves: &[At]) -> bool
+fn all_absent_among(sources: Sources<'_, '_, '_, '_>, leaves: &[At]) -> bool
     ensures { result ≡ list_all (λ a. leaves_spec.is_absent (leaves_spec.leaf_shape (sources_value sources.entry) (seen_leaf (map_tables sources.entry) a.leaf)).presence) leaves.now }
 {
     leaves
@@ -78,14 +81,14 @@ fn all_absent_among(sources: Sources<'_>, leaves: &[At]) -> bool
 }
 
 // Whether no leaf ever is.
-fn all_absent(sources: Sources<'_>, leaves: &[At]) -> bool
+fn all_absent(sources: Sources<'_, '_, '_, '_>, leaves: &[At]) -> bool
     ensures { result ≡ spec.all_absent (sources_value sources.entry) (map (at_leaf (map_tables sources.entry)) leaves.now) }
 {
     all_absent_among(sources, leaves)
 }
 
 // What leaves give where there is something to give them for.
-fn leaves_count(sources: Sources<'_>, leaves: &[At], count: Interval) -> Interval
+fn leaves_count(sources: Sources<'_, '_, '_, '_>, leaves: &[At], count: Interval) -> Interval
     ensures { interval result ≡ spec.leaves_count (sources_value sources.entry) (map (at_leaf (map_tables sources.entry)) leaves.now) (interval count) }
 {
     if all_absent(sources, leaves) {
@@ -97,7 +100,7 @@ fn leaves_count(sources: Sources<'_>, leaves: &[At], count: Interval) -> Interva
     count.or_none()
 }
 
-fn making_count(sources: Sources<'_>, making: &Making) -> Interval
+fn making_count(sources: Sources<'_, '_, '_, '_>, making: &Making) -> Interval
     ensures { interval result ≡ saturated (spec.making_count (sources_value sources.entry) (seen_making (map_tables sources.entry) making.now)) }
 {
     match making {
@@ -113,7 +116,7 @@ fn making_count(sources: Sources<'_>, making: &Making) -> Interval
 }
 
 /// How often a rule gives its field.
-pub(crate) fn rule_count(sources: Sources<'_>, rule: Option<&Rule>) -> Interval
+pub(crate) fn rule_count(sources: Sources<'_, '_, '_, '_>, rule: Option<&Rule>) -> Interval
     ensures { interval result ≡ saturated (spec.rule_count (sources_value sources.entry) (some_rule (map_tables sources.entry) rule.entry)) }
 {
     match rule {

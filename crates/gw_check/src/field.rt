@@ -119,7 +119,7 @@ fn check_whole_count(
 
 fn check_making(
     worst: Option<Failure>,
-    sources: Sources<'_>,
+    sources: Sources<'_, '_, '_, '_>,
     target: &Profile,
     line: u32,
     making: &Making,
@@ -144,7 +144,7 @@ fn check_making(
 
 fn check_made_by(
     worst: Option<Failure>,
-    sources: Sources<'_>,
+    sources: Sources<'_, '_, '_, '_>,
     target: &Profile,
     field: &FieldShape,
     rule: &Rule,
@@ -159,7 +159,7 @@ fn check_made_by(
 
 fn check_content(
     worst: Option<Failure>,
-    sources: Sources<'_>,
+    sources: Sources<'_, '_, '_, '_>,
     target: &Profile,
     field: &FieldShape,
     rule: Option<&Rule>,
@@ -195,7 +195,7 @@ fn is_missing(rule: Option<&Rule>) -> bool
 
 fn check_rule_count(
     worst: Option<Failure>,
-    sources: Sources<'_>,
+    sources: Sources<'_, '_, '_, '_>,
     holder: u32,
     rule: Option<&Rule>,
     field: &FieldShape,
@@ -217,7 +217,7 @@ fn check_rule_count(
 #[tactic(auto, using(crate::proofs::Noting::noted_both))]
 fn check_by(
     worst: Option<Failure>,
-    sources: Sources<'_>,
+    sources: Sources<'_, '_, '_, '_>,
     target: &Profile,
     holder: u32,
     rule: Option<&Rule>,
@@ -231,7 +231,7 @@ fn check_by(
 
 fn check_field(
     worst: Option<Failure>,
-    sources: Sources<'_>,
+    sources: Sources<'_, '_, '_, '_>,
     target: &Profile,
     holder: u32,
     rules: &[Rule],
@@ -251,7 +251,7 @@ fn check_field(
 
 fn check_fields(
     mut worst: Option<Failure>,
-    sources: Sources<'_>,
+    sources: Sources<'_, '_, '_, '_>,
     target: &Profile,
     holder: u32,
     rules: &[Rule],
@@ -269,7 +269,7 @@ fn check_fields(
 #[tactic(auto, using(crate::proofs::Noting::noted_both))]
 pub(crate) fn check_segment(
     worst: Option<Failure>,
-    sources: Sources<'_>,
+    sources: Sources<'_, '_, '_, '_>,
     target: &Profile,
     holder: u32,
     rules: &[Rule],

@@ -114,7 +114,10 @@ pub(crate) fn rule_of(rules: &[Rule], number: u32) -> Option<&Rule>
 }
 
 /// The source field of this reference.
-pub(crate) fn at_field<'a>(sources: Sources<'a>, from: &Reference) -> Option<&'a FieldShape>
+pub(crate) fn at_field<'e>(
+    sources: Sources<'_, '_, '_, 'e>,
+    from: &Reference,
+) -> Option<&'e FieldShape>
     ensures { some_field result ≡ spec.at_field (sources_value sources.entry) (reference from.now) }
 {
     field_of(segment_at(sources.scope, &from.place).fields, from.field)

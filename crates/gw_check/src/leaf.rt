@@ -56,7 +56,7 @@ fn listed_texts<'a>(profile: &'a Profile, sub: &SubShape) -> Read<'a>
 }
 
 /// The texts of a source.
-pub(crate) fn source_texts<'a>(sources: Sources<'a>, source: &Source) -> Read<'a>
+pub(crate) fn source_texts<'p>(sources: Sources<'p, '_, '_, '_>, source: &Source) -> Read<'p>
     ensures { read_value result ≡ (spec.source_shape (sources_value sources.entry) (seen_source source.now)).values }
 {
     match source {
@@ -72,7 +72,7 @@ pub(crate) fn source_texts<'a>(sources: Sources<'a>, source: &Source) -> Read<'a
 }
 
 /// The texts of a leaf.
-pub(crate) fn leaf_texts<'a>(sources: Sources<'a>, leaf: &'a Leaf) -> Texts<'a>
+pub(crate) fn leaf_texts<'a>(sources: Sources<'a, 'a, '_, '_>, leaf: &'a Leaf) -> Texts<'a>
     ensures { texts_value result ≡ (spec.leaf_shape (sources_value sources.entry) (seen_leaf (map_tables sources.entry) leaf.now)).values }
 {
     match leaf {

@@ -7,6 +7,7 @@ mod count;
 mod element;
 mod failure;
 mod field;
+mod inside;
 mod interval;
 mod items;
 mod known;

@@ -18,7 +18,7 @@ use gw_maplang::Table as Rows;
 // A leaf that is looked up in this table.
 fn check_rows(
     worst: Option<Failure>,
-    sources: Sources<'_>,
+    sources: Sources<'_, '_, '_, '_>,
     at: &At,
     table: Option<&Rows>,
     source: &Source,
@@ -36,7 +36,7 @@ fn check_rows(
     }
 }
 
-fn check_lookup(worst: Option<Failure>, sources: Sources<'_>, at: &At) -> Option<Failure>
+fn check_lookup(worst: Option<Failure>, sources: Sources<'_, '_, '_, '_>, at: &At) -> Option<Failure>
     ensures { failures result ≡ noted (failures worst) (spec.lookup_failures (sources_value sources.entry) (at_leaf (map_tables sources.entry) at.now)) }
 {
     match &at.leaf {
@@ -48,7 +48,7 @@ fn check_lookup(worst: Option<Failure>, sources: Sources<'_>, at: &At) -> Option
     }
 }
 
-fn check_lookups(mut worst: Option<Failure>, sources: Sources<'_>, leaves: &[At]) -> Option<Failure>
+fn check_lookups(mut worst: Option<Failure>, sources: Sources<'_, '_, '_, '_>, leaves: &[At]) -> Option<Failure>
     ensures { failures result ≡ noted (failures worst) (flat_map (spec.lookup_failures (sources_value sources.entry)) (map (at_leaf (map_tables sources.entry)) leaves.now)) }
 {
     for (i, at) in leaves.iter().enumerate() {
@@ -57,7 +57,7 @@ fn check_lookups(mut worst: Option<Failure>, sources: Sources<'_>, leaves: &[At]
     worst
 }
 
-fn check_rule(worst: Option<Failure>, sources: Sources<'_>, rule: &Rule) -> Option<Failure>
+fn check_rule(worst: Option<Failure>, sources: Sources<'_, '_, '_, '_>, rule: &Rule) -> Option<Failure>
     ensures { failures result ≡ noted (failures worst) (spec.rule_lookups (sources_value sources.entry) (seen_rule (map_tables sources.entry) rule.now)) }
 {
     match &rule.making {
@@ -71,7 +71,7 @@ fn check_rule(worst: Option<Failure>, sources: Sources<'_>, rule: &Rule) -> Opti
 /// The failures of the lookups of these rules.
 pub(crate) fn check_rules(
     mut worst: Option<Failure>,
-    sources: Sources<'_>,
+    sources: Sources<'_, '_, '_, '_>,
     rules: &[Rule],
 ) -> Option<Failure>
     ensures { failures result ≡ noted (failures worst) (flat_map (spec.rule_lookups (sources_value sources.entry)) (map (seen_rule (map_tables sources.entry)) rules.now)) }

@@ -24,39 +24,39 @@ use gw_profile::{CompShape, FieldShape, Profile, SubShape};
 
 // ---- whether something required is there
 
-fn has_comp_among(sources: Sources<'_>, leaves: &[At], comp: u32) -> bool
+fn has_comp_among(sources: Sources<'_, '_, '_, '_>, leaves: &[At], comp: u32) -> bool
     ensures { result ≡ list_any (λ a. a.place.comp == comp && leaves_spec.is_always (leaves_spec.leaf_shape (sources_value sources.entry) (seen_leaf (map_tables sources.entry) a.leaf)).presence) leaves.now }
 {
     leaves.iter().any(|at| at.place.comp == comp && is_always(leaf_presence(sources, &at.leaf)))
 }
 
 // Some leaf of the component is always there.
-fn has_comp(sources: Sources<'_>, leaves: &[At], comp: u32) -> bool
+fn has_comp(sources: Sources<'_, '_, '_, '_>, leaves: &[At], comp: u32) -> bool
     ensures { result ≡ list_any (λ a. a.comp == comp && leaves_spec.is_always (leaves_spec.leaf_shape (sources_value sources.entry) a.leaf).presence) (map (at_leaf (map_tables sources.entry)) leaves.now) }
 {
     has_comp_among(sources, leaves, comp)
 }
 
-fn has_only_comp_among(sources: Sources<'_>, leaves: &[At], comp: u32) -> bool
+fn has_only_comp_among(sources: Sources<'_, '_, '_, '_>, leaves: &[At], comp: u32) -> bool
     ensures { result ≡ list_all (λ a. a.place.comp == comp || leaves_spec.is_absent (leaves_spec.leaf_shape (sources_value sources.entry) (seen_leaf (map_tables sources.entry) a.leaf)).presence) leaves.now }
 {
     leaves.iter().all(|at| at.place.comp == comp || is_absent(leaf_presence(sources, &at.leaf)))
 }
 
 // No text can stand but in the component.
-fn has_only_comp(sources: Sources<'_>, leaves: &[At], comp: u32) -> bool
+fn has_only_comp(sources: Sources<'_, '_, '_, '_>, leaves: &[At], comp: u32) -> bool
     ensures { result ≡ list_all (λ a. a.comp == comp || leaves_spec.is_absent (leaves_spec.leaf_shape (sources_value sources.entry) a.leaf).presence) (map (at_leaf (map_tables sources.entry)) leaves.now) }
 {
     has_only_comp_among(sources, leaves, comp)
 }
 
-fn is_comp_sure(sources: Sources<'_>, leaves: &[At], comp: u32) -> bool
+fn is_comp_sure(sources: Sources<'_, '_, '_, '_>, leaves: &[At], comp: u32) -> bool
     ensures { result ≡ spec.is_comp_sure (sources_value sources.entry) (map (at_leaf (map_tables sources.entry)) leaves.now) comp }
 {
     has_comp(sources, leaves, comp) || has_only_comp(sources, leaves, comp)
 }
 
-fn has_sub_among(sources: Sources<'_>, leaves: &[At], comp: u32, sub: u32) -> bool
+fn has_sub_among(sources: Sources<'_, '_, '_, '_>, leaves: &[At], comp: u32, sub: u32) -> bool
     ensures { result ≡ list_any (λ a. a.place.comp == comp && a.place.sub == sub && leaves_spec.is_always (leaves_spec.leaf_shape (sources_value sources.entry) (seen_leaf (map_tables sources.entry) a.leaf)).presence) leaves.now }
 {
     leaves.iter().any(|at| {
@@ -65,13 +65,13 @@ fn has_sub_among(sources: Sources<'_>, leaves: &[At], comp: u32, sub: u32) -> bo
 }
 
 // The leaf of the subcomponent is always there.
-fn has_sub(sources: Sources<'_>, leaves: &[At], comp: u32, sub: u32) -> bool
+fn has_sub(sources: Sources<'_, '_, '_, '_>, leaves: &[At], comp: u32, sub: u32) -> bool
     ensures { result ≡ list_any (λ a. a.comp == comp && a.sub == sub && leaves_spec.is_always (leaves_spec.leaf_shape (sources_value sources.entry) a.leaf).presence) (map (at_leaf (map_tables sources.entry)) leaves.now) }
 {
     has_sub_among(sources, leaves, comp, sub)
 }
 
-fn has_only_sub_among(sources: Sources<'_>, leaves: &[At], comp: u32, sub: u32) -> bool
+fn has_only_sub_among(sources: Sources<'_, '_, '_, '_>, leaves: &[At], comp: u32, sub: u32) -> bool
     ensures { result ≡ list_all (λ a. not (a.place.comp == comp) || a.place.sub == sub || leaves_spec.is_absent (leaves_spec.leaf_shape (sources_value sources.entry) (seen_leaf (map_tables sources.entry) a.leaf)).presence) leaves.now }
 {
     leaves.iter().all(|at| {
@@ -80,13 +80,13 @@ fn has_only_sub_among(sources: Sources<'_>, leaves: &[At], comp: u32, sub: u32) 
 }
 
 // The component can have no text but in the subcomponent.
-fn has_only_sub(sources: Sources<'_>, leaves: &[At], comp: u32, sub: u32) -> bool
+fn has_only_sub(sources: Sources<'_, '_, '_, '_>, leaves: &[At], comp: u32, sub: u32) -> bool
     ensures { result ≡ list_all (λ a. not (a.comp == comp) || a.sub == sub || leaves_spec.is_absent (leaves_spec.leaf_shape (sources_value sources.entry) a.leaf).presence) (map (at_leaf (map_tables sources.entry)) leaves.now) }
 {
     has_only_sub_among(sources, leaves, comp, sub)
 }
 
-fn is_sub_sure(sources: Sources<'_>, leaves: &[At], comp: u32, sub: u32) -> bool
+fn is_sub_sure(sources: Sources<'_, '_, '_, '_>, leaves: &[At], comp: u32, sub: u32) -> bool
     ensures { result ≡ spec.is_sub_sure (sources_value sources.entry) (map (at_leaf (map_tables sources.entry)) leaves.now) comp sub }
 {
     has_sub(sources, leaves, comp, sub) || has_only_sub(sources, leaves, comp, sub)
@@ -96,7 +96,7 @@ fn is_sub_sure(sources: Sources<'_>, leaves: &[At], comp: u32, sub: u32) -> bool
 
 fn check_sub(
     worst: Option<Failure>,
-    sources: Sources<'_>,
+    sources: Sources<'_, '_, '_, '_>,
     line: u32,
     leaves: &[At],
     comp: u32,
@@ -117,7 +117,7 @@ fn check_sub(
 
 fn check_subs(
     mut worst: Option<Failure>,
-    sources: Sources<'_>,
+    sources: Sources<'_, '_, '_, '_>,
     line: u32,
     leaves: &[At],
     comp: u32,
@@ -134,7 +134,7 @@ fn check_subs(
 // The component itself.
 fn check_required_comp(
     worst: Option<Failure>,
-    sources: Sources<'_>,
+    sources: Sources<'_, '_, '_, '_>,
     line: u32,
     leaves: &[At],
     comp: &CompShape,
@@ -150,7 +150,7 @@ fn check_required_comp(
 #[tactic(auto, using(crate::proofs::Noting::noted_both))]
 fn check_comp(
     worst: Option<Failure>,
-    sources: Sources<'_>,
+    sources: Sources<'_, '_, '_, '_>,
     line: u32,
     leaves: &[At],
     comp: &CompShape,
@@ -163,7 +163,7 @@ fn check_comp(
 
 fn check_comps(
     mut worst: Option<Failure>,
-    sources: Sources<'_>,
+    sources: Sources<'_, '_, '_, '_>,
     line: u32,
     leaves: &[At],
     comps: &[CompShape],
@@ -208,7 +208,7 @@ fn check_const(
 
 fn check_source(
     worst: Option<Failure>,
-    sources: Sources<'_>,
+    sources: Sources<'_, '_, '_, '_>,
     target: &Profile,
     line: u32,
     leaf: &Leaf,
@@ -228,7 +228,7 @@ fn check_source(
 
 fn check_leaf(
     worst: Option<Failure>,
-    sources: Sources<'_>,
+    sources: Sources<'_, '_, '_, '_>,
     target: &Profile,
     line: u32,
     leaf: &Leaf,
@@ -246,7 +246,7 @@ fn check_leaf(
 // A leaf at a place that the target may list.
 fn check_placed(
     worst: Option<Failure>,
-    sources: Sources<'_>,
+    sources: Sources<'_, '_, '_, '_>,
     target: &Profile,
     at: &At,
     sub: Option<&SubShape>,
@@ -300,7 +300,7 @@ fn check_barred(
 #[tactic(auto, using(crate::proofs::Noting::noted_both))]
 fn check_at(
     worst: Option<Failure>,
-    sources: Sources<'_>,
+    sources: Sources<'_, '_, '_, '_>,
     target: &Profile,
     field: &FieldShape,
     at: &At,
@@ -316,7 +316,7 @@ fn check_at(
 
 fn check_leaves(
     mut worst: Option<Failure>,
-    sources: Sources<'_>,
+    sources: Sources<'_, '_, '_, '_>,
     target: &Profile,
     field: &FieldShape,
     leaves: &[At],
@@ -333,7 +333,7 @@ fn check_leaves(
 #[tactic(auto, using(crate::proofs::Noting::noted_both))]
 pub(crate) fn check_made(
     worst: Option<Failure>,
-    sources: Sources<'_>,
+    sources: Sources<'_, '_, '_, '_>,
     target: &Profile,
     line: u32,
     leaves: &[At],

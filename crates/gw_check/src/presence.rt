@@ -118,7 +118,7 @@ fn field_presence(known: Known<'_>, field: Option<&FieldShape>) -> Presence
 }
 
 // Of the first repetition of the field of a reference.
-fn reference_presence(sources: Sources<'_>, from: &Reference) -> Presence
+fn reference_presence(sources: Sources<'_, '_, '_, '_>, from: &Reference) -> Presence
     ensures { result ≡ spec.field_presence (known (walked sources.entry.scope.now) (seen_place from.now.place)) (spec.at_field (sources_value sources.entry) (reference from.now)) }
 {
     let known = segment_at(sources.scope, &from.place);
@@ -126,7 +126,7 @@ fn reference_presence(sources: Sources<'_>, from: &Reference) -> Presence
 }
 
 /// Of the text of a source.
-pub(crate) fn source_presence(sources: Sources<'_>, source: &Source) -> Presence
+pub(crate) fn source_presence(sources: Sources<'_, '_, '_, '_>, source: &Source) -> Presence
     ensures { result ≡ (spec.source_shape (sources_value sources.entry) (seen_source source.now)).presence }
 {
     match source {
@@ -139,7 +139,7 @@ pub(crate) fn source_presence(sources: Sources<'_>, source: &Source) -> Presence
 }
 
 /// Of the text of a leaf.
-pub(crate) fn leaf_presence(sources: Sources<'_>, leaf: &Leaf) -> Presence
+pub(crate) fn leaf_presence(sources: Sources<'_, '_, '_, '_>, leaf: &Leaf) -> Presence
     ensures { result ≡ (spec.leaf_shape (sources_value sources.entry) (seen_leaf (map_tables sources.entry) leaf.now)).presence }
 {
     match leaf {

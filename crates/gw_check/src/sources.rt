@@ -6,9 +6,9 @@ use gw_profile::{FieldShape, Profile};
 
 /// The source profile, the map with its tables, the elements that are walked, the innermost last, and the field whose repetition is walked.
 #[derive(Clone, Copy)]
-pub(crate) struct Sources<'a> {
-    pub(crate) profile: &'a Profile,
-    pub(crate) map: &'a Map,
-    pub(crate) scope: &'a [Element<'a>],
-    pub(crate) current: Option<&'a FieldShape>,
+pub(crate) struct Sources<'p, 'm, 's, 'e> {
+    pub(crate) profile: &'p Profile,
+    pub(crate) map: &'m Map,
+    pub(crate) scope: &'s [Element<'e>],
+    pub(crate) current: Option<&'e FieldShape>,
 }
