@@ -1,5 +1,5 @@
 -- What rules and items read, taken together.
-use Rattle.std.proofs.Common.{◌≡◌, ℕ, suc, ◌+◌, ◌<◌, List, [], ◌∷◌, ◌++◌, length, drop, drop-cons, get_or, refl, sym, ap, ◌∙◌, subst, arith, map, OnOk, Result, Ok, Err}
+use Rattle.std.proofs.Common.{◌≡◌, ℕ, suc, ◌+◌, ◌<◌, List, [], ◌∷◌, ◌++◌, length, drop, drop-cons, get_or, refl, sym, ap, ◌∙◌, subst, arith, map, OnOk, Result, Ok, Err, Option, option_map}
 use Rattle.std.specs.Prelude.{flat_map}
 use Rattle.std.specs.Global.{Vec}
 use Rattle.std.proofs.lemmas.List.{append-nil, append_assoc}
@@ -12,9 +12,12 @@ use Rattle.gw_check.specs.declared.resolved.GroupItem.{GroupItem}
 use Rattle.gw_check.specs.declared.resolved.FlatItem.{FlatItem}
 use Rattle.gw_check.specs.declared.resolved.Item.{Item, Segment, Group, Flat, Group', Flat'}
 use Rattle.gw_check.specs.Resolved.{Items, no_items}
-use Rattle.gw_check.specs.Reads.{Position, SourceField, read_by, at_reads, making_reads, inner, items_read}
+use Rattle.gw_check.specs.declared.resolved.Place as places
+use Rattle.gw_check.specs.declared.resolved.Rule as rules_of
+use Rattle.gw_check.specs.declared.resolved.SegmentItem.{SegmentItem}
+use Rattle.gw_check.specs.Reads.{Position, SourceField, read_by, at_reads, making_reads, rules_read, inner, inner_if, items_read}
 use Rattle.gw_check.specs.Collected.{reads, Adds}
-use Rattle.gw_check.specs.Seen.{place, reference, at_leaf, making, with_item, all_items}
+use Rattle.gw_check.specs.Seen.{place, reference, at_leaf, making, rule, with_item, all_items}
 use Rattle.gw_check.proofs.Rows.{group_items, flat_items}
 
 pub on_ok : {A E : Type 0} (r : Result A E) (P Q : Type 0) → (P → Q) → OnOk r P → OnOk r Q
@@ -64,3 +67,12 @@ flat_added tables scope within i f is old new same items there h =
     ∙ ap (λ l. reads old ++ items_read (inner scope (place f.place)) (all_items tables l)) items
     ∙ ap (λ l. reads old ++ l) (sym (append-nil (items_read (inner scope (place f.place)) (all_items tables f.items.items))))
     ∙ sym (ap (λ x. reads old ++ items_read scope x) (ap (λ j. with_item tables j no_items) same ∙ flat_items tables f no_items))
+
+pub segment_added : (tables : List TableValue) (scope within : List Position) (p : Option places.Place) (list rules : List rules_of.Rule) (old new : List Read) → within ≡ inner_if scope (option_map place p) → list ≡ rules → Adds old new (rules_read within (map (rule tables) list)) → Adds old new (rules_read (inner_if scope (option_map place p)) (map (rule tables) rules))
+segment_added tables scope within p list rules old new there same h =
+    subst (λ l. Adds old new (rules_read (inner_if scope (option_map place p)) (map (rule tables) l))) same (subst (λ s. Adds old new (rules_read s (map (rule tables) list))) there h)
+
+pub segment_item_added : (tables : List TableValue) (scope : List Position) (i : Item) (s : SegmentItem) (old new : List Read) → i ≡ Segment s → Adds old new (rules_read (inner_if scope (option_map place s.place)) (map (rule tables) s.rules.items)) → Adds old new (items_read scope (with_item tables i no_items))
+segment_item_added tables scope i s old new same h =
+    subst (λ j. Adds old new (items_read scope (with_item tables j no_items))) (sym same)
+    (h ∙ ap (λ l. reads old ++ l) (sym (append-nil (rules_read (inner_if scope (option_map place s.place)) (map (rule tables) s.rules.items)))))

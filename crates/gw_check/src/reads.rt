@@ -1,15 +1,16 @@
 //! Which fields of the source are read, and which are passed over.
-ghost use Rattle.std.specs.Prelude.{◌≡◌, ◌++◌, ◌∷◌, ◌==◌, ◌&&◌, [], List, map, flat_map, bytes_eq, not, IfOk, OnOk};
+ghost use Rattle.std.specs.Prelude.{◌≡◌, ◌++◌, ◌∷◌, ◌==◌, ◌&&◌, [], List, map, flat_map, bytes_eq, not, option_map, IfOk, OnOk};
 ghost use Rattle.std.specs.List.{starts_with, list_any};
 ghost use Rattle.gw_profile.specs.Seen.{forest, field as seen_field};
 ghost use Rattle.gw_check.specs.Reads as spec;
 ghost use Rattle.gw_check.specs.Collected.{Adds, covers, node_passes, reads as seen_reads, positions};
-ghost use Rattle.gw_check.specs.Seen.{place as seen_place, reference, source, leaf, at_leaf, making, rule, left_out as seen_drop};
+ghost use Rattle.gw_check.specs.Seen.{place as seen_place, reference, source, leaf, at_leaf, making, rule, with_item, all_items, left_out as seen_drop};
 ghost use Rattle.gw_maplang.specs.Shapes.{TableValue};
+ghost use Rattle.gw_check.specs.Resolved.{no_items};
 
 use crate::level::is_forbidden;
 use crate::resolved::{
-    At, Leaf, LeftOut, Making, Place, Reference, Rule, Source,
+    At, Item, Leaf, LeftOut, Making, Place, Reference, Rule, SegmentItem, Source,
 };
 use gw_profile::{FieldShape, Node, Usage};
 use std::alloc::{AllocError, Global};
@@ -266,4 +267,76 @@ fn inner(
     }
     inner.push(at)?;
     Ok(inner)
+}
+
+fn add_segment(
+    alloc: Global,
+    reads: &mut Vec<Read>,
+    scope: &[Vec<usize>],
+    segment: &SegmentItem,
+) -> Result<(), AllocError>
+    ensures { (tables : List TableValue) → OnOk result (Adds reads.old.items reads.new.items (spec.rules_read (spec.inner_if (positions scope.now) (option_map seen_place segment.now.place)) (map (rule tables) segment.now.rules.items))) }
+{
+    match &segment.place {
+        None => add_rules(alloc, reads, scope, &segment.rules),
+        Some(place) => {
+            let within = inner(alloc, scope, place)?;
+            add_rules(alloc, reads, &within, &segment.rules)
+        }
+    }
+}
+
+// Adds what one item reads.
+#[cycle(add)]
+fn add_item(
+    alloc: Global,
+    reads: &mut Vec<Read>,
+    scope: &[Vec<usize>],
+    item: &Item,
+) -> Result<(), AllocError>
+    ensures { (tables : List TableValue) → OnOk result (Adds reads.old.items reads.new.items (spec.items_read (positions scope.now) (with_item tables item.now no_items))) }
+{
+    match item {
+        Item::Segment(segment) => add_segment(alloc, reads, scope, segment),
+        Item::Group(group) => {
+            let within = inner(alloc, scope, &group.place)?;
+            add_items(alloc, reads, &within, &group.items)
+        }
+        Item::Flat(flat) => {
+            let within = inner(alloc, scope, &flat.place)?;
+            add_items(alloc, reads, &within, &flat.items)
+        }
+    }
+}
+
+/// Adds what the items read.
+#[cycle(add)]
+fn add_items(
+    alloc: Global,
+    reads: &mut Vec<Read>,
+    scope: &[Vec<usize>],
+    items: &[Item],
+) -> Result<(), AllocError>
+    ensures { (tables : List TableValue) → OnOk result (Adds reads.old.items reads.new.items (spec.items_read (positions scope.now) (all_items tables items.now))) }
+{
+    for (i, item) in items.iter().enumerate() {
+        add_item(alloc, reads, scope, item)?;
+    }
+    Ok(())
+}
+
+/// Whether some field of the source that may hold something is neither read by the items nor dropped.
+pub(crate) fn passes_over(
+    alloc: Global,
+    nodes: &[Node],
+    items: &[Item],
+    drops: &[LeftOut],
+) -> Result<bool, AllocError>
+    ensures { IfOk result (λ b. (tables : List TableValue) → b ≡ spec.some_passed_over (spec.items_read ([] ∷ []) (all_items tables items.now)) (map seen_drop drops.now) [] 0 (forest nodes.now)) }
+{
+    let mut scope = Vec::new(alloc);
+    scope.push(Vec::new(alloc))?;
+    let mut reads = Vec::new(alloc);
+    add_items(alloc, &mut reads, &scope, items)?;
+    some_passed_over(alloc, &reads, drops, &[], nodes)
 }
