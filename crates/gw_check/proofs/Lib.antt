@@ -18,3 +18,4 @@ pub mod Keeping
 pub mod Lists
 pub mod Tested
 pub mod Counting
+pub mod Judging

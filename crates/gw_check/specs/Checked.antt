@@ -6,13 +6,13 @@ use Rattle.gw_check.specs.Failures.{Failure}
 use Rattle.gw_check.specs.Naming.{naming_failures, resolved}
 use Rattle.gw_check.specs.Typed.{failures}
 
+abbrev pub or_later : List Failure → List Failure → List Failure
+or_later [] later = later
+or_later (f ∷ fs) later = f ∷ fs
+
 -- the rules 4 to 12 are looked at only where 1 to 3 hold
 abbrev pub all_failures : ProfileValue → ProfileValue → MapValue → List Failure
-all_failures source target map = go (naming_failures source target map)
-  where
-    go : List Failure → List Failure
-    go [] = failures source target (resolved source target map)
-    go (f ∷ fs) = f ∷ fs
+all_failures source target map = or_later (naming_failures source target map) (failures source target (resolved source target map))
 
 -- by rule, then by line
 abbrev pub is_before : Failure → Failure → Bool

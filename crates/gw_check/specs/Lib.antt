@@ -23,4 +23,5 @@ pub mod Checking
 pub mod Collected
 pub mod CheckedMap
 pub mod Texts
+pub mod Answers
 pub mod Worked

@@ -1,6 +1,7 @@
 //! Checks maps before they run: the rules that keep a translation from failing, and from giving what its receiver refuses.
 #![tactic(auto)]
 
+mod checker;
 mod checked;
 mod copied;
 mod count;
@@ -30,6 +31,7 @@ mod targets;
 mod texts;
 mod values;
 
+pub use checker::{CheckFault, check};
 pub use checked::CheckedMap;
 pub use leaf::included;
 pub use resolved::{
