@@ -1,0 +1,184 @@
+-- How often the items of a level come, and for which node.
+use Rattle.std.proofs.lemmas.List.{take_more, drop_all}
+use Rattle.std.proofs.Common.{◌≡◌, ◌⊎◌, inl, inr, ◌==◌, ℕ, ◌+◌, ◌++◌, take, Bool, true, false, List, [], ◌∷◌, Option, Some, None, refl, sym, ap, ◌∙◌, drop, length, ◌<◌, ◌≤◌, suc, ◌-◌, get_or, subst, arith, drop-cons}
+use Rattle.gw_maplang.specs.Shapes.{TableValue}
+use Rattle.gw_check.specs.declared.resolved.GroupItem.{GroupItem}
+use Rattle.gw_check.specs.declared.resolved.FlatItem.{FlatItem}
+use Rattle.gw_check.specs.declared.resolved.Item.{Item, Segment, Group, Flat, Group', Flat'}
+use Rattle.gw_check.specs.declared.interval.Interval as declared
+use Rattle.gw_check.specs.Intervals.{Interval, sum, product}
+use Rattle.gw_check.specs.Places.{Element, count_at, within}
+use Rattle.gw_check.specs.Resolved.{Items, no_items, first_child}
+use Rattle.gw_check.specs.Counts.{items_count}
+use Rattle.gw_check.specs.Seen.{interval, saturated, place, with_item, all_items}
+use Rattle.gw_check.specs.Counted.{first_count, CountsOne, CountsAll, FirstChild, ChildOf, Leads}
+use Rattle.gw_check.specs.Levels.{is_of, its, beyond, has_no_item}
+use Rattle.std.proofs.lemmas.Bool.Decides.{eqb_tells}
+use Rattle.gw_check.proofs.Saturation.{sum_saturated, product_saturated}
+use Rattle.gw_check.proofs.Rows.{group_items, flat_items}
+
+-- one item more
+pub count_more : (scope : List Element) (i : Item) (is : List Item) (one more total : declared.Interval) → CountsOne scope i one → CountsAll scope is more → interval total ≡ saturated (sum (interval one) (interval more)) → CountsAll scope (i ∷ is) total
+count_more scope i is one more total a b e tables =
+    e ∙ ap (λ c. saturated (sum c (interval more))) (a tables) ∙ ap (λ c. saturated (sum (saturated (first_count scope (with_item tables i no_items))) c)) (b tables)
+    ∙ sum_saturated (first_count scope (with_item tables i no_items)) (items_count scope (all_items tables is))
+    ∙ go i
+  where
+    go : (i : Item) → saturated (sum (first_count scope (with_item tables i no_items)) (items_count scope (all_items tables is))) ≡ saturated (items_count scope (with_item tables i (all_items tables is)))
+    go (Segment s) = refl
+    go (Group' line child from shape row) = refl
+    go (Flat' line from shape row) = refl
+
+-- a group, and a flat
+pub count_group : (scope : List Element) (i : Item) (g : GroupItem) (c : declared.Interval) → i ≡ Group g → interval c ≡ saturated (count_at scope (place g.place)) → CountsOne scope i c
+count_group scope i g c is e tables = e ∙ sym (ap (λ x. saturated (first_count scope x)) (ap (λ j. with_item tables j no_items) is ∙ group_items tables g no_items))
+
+pub count_flat : (scope inner : List Element) (i : Item) (f : FlatItem) (at each c : declared.Interval) → i ≡ Flat f → interval at ≡ saturated (count_at scope (place f.place)) → inner ≡ within scope (place f.place) → CountsAll inner f.items.items each → interval c ≡ saturated (product (interval at) (interval each)) → CountsOne scope i c
+count_flat scope inner i f at each c is often there more e tables =
+    e ∙ ap (λ x. saturated (product x (interval each))) often
+    ∙ ap (λ x. saturated (product (saturated (count_at scope (place f.place))) x)) (more tables ∙ ap (λ s. saturated (items_count s (all_items tables f.items.items))) there)
+    ∙ product_saturated (count_at scope (place f.place)) (items_count (within scope (place f.place)) (all_items tables f.items.items))
+    ∙ sym (ap (λ x. saturated (first_count scope x)) (ap (λ j. with_item tables j no_items) is ∙ flat_items tables f no_items))
+
+-- ---- target nodes
+
+pub child_flat : (i : Item) (f : FlatItem) (is : List Item) (c : Option ℕ) → i ≡ Flat f → is ≡ f.items.items → FirstChild is c → ChildOf i c
+child_flat i f is c same items first tables =
+    first tables ∙ ap (λ l. first_child (all_items tables l)) items
+    ∙ sym (ap first_child (ap (λ j. with_item tables j no_items) same ∙ flat_items tables f no_items))
+
+pub child_group : (i : Item) (g : GroupItem) → i ≡ Group g → ChildOf i (Some g.child)
+child_group i g same tables = sym (ap first_child (ap (λ j. with_item tables j no_items) same ∙ group_items tables g no_items))
+
+pub child_first : (i : Item) (is : List Item) (c : Option ℕ) → ChildOf i c → FirstChild (i ∷ is) c
+child_first i is c h tables = h tables ∙ go i
+  where
+    go : (i : Item) → first_child (with_item tables i no_items) ≡ first_child (with_item tables i (all_items tables is))
+    go (Segment s) = refl
+    go (Group' line child from shape row) = refl
+    go (Flat' line from shape row) = refl
+
+-- ---- from the last item on
+
+behind : (items : List Item) (left : ℕ) (i : Item) → 0 < left → left ≤ length items → i ≡ get_or items (left - 1) i → drop (left - 1) items ≡ i ∷ drop left items
+behind items left i some within is =
+    let low : left - 1 < length items = omega (arith, some, within) in
+    let next : suc (left - 1) ≡ left = omega (arith, some) in
+    drop-cons items (left - 1) i low ∙ ap (λ n. get_or items (left - 1) i ∷ drop n items) next ∙ ap (λ x. x ∷ drop left items) (sym is)
+
+pub count_step : (scope : List Element) (items : List Item) (left : ℕ) (i : Item) (one more total : declared.Interval) → 0 < left → left ≤ length items → i ≡ get_or items (left - 1) i → CountsOne scope i one → CountsAll scope (drop left items) more → interval total ≡ saturated (sum (interval one) (interval more)) → CountsAll scope (drop (left - 1) items) total
+count_step scope items left i one more total some within is a b e =
+    subst (λ l. CountsAll scope l total) (sym (behind items left i some within is)) (count_more scope i (drop left items) one more total a b e)
+
+pub count_done : (scope : List Element) (items : List Item) (left : ℕ) (total : declared.Interval) → left ≤ 0 → CountsAll scope (drop left items) total → CountsAll scope items total
+count_done scope items left total none h = let zero : left ≡ 0 = omega (arith, none) in subst (λ n. CountsAll scope (drop n items) total) zero h
+
+pub child_at_first : (items : List Item) (i : Item) (c : Option ℕ) → 1 ≤ length items → i ≡ get_or items 0 i → ChildOf i c → FirstChild items c
+child_at_first [] i c some is h = absurd (omega (arith, some))
+child_at_first (x ∷ items) i c some is h = child_first x items c (subst (λ j. ChildOf j c) is h)
+
+-- ---- the items of one node
+
+pub onto : List TableValue → List Item → Items → Items
+onto tables [] rest = rest
+onto tables (i ∷ is) rest = with_item tables i (onto tables is rest)
+
+pub onto_none : (tables : List TableValue) (is : List Item) → onto tables is no_items ≡ all_items tables is
+unfolding onto
+onto_none tables [] = refl
+onto_none tables (i ∷ is) = ap (with_item tables i) (onto_none tables is)
+
+pub onto_more : (tables : List TableValue) (is : List Item) (i : Item) (rest : Items) → onto tables (is ++ i ∷ []) rest ≡ onto tables is (with_item tables i rest)
+unfolding onto
+onto_more tables [] i rest = refl
+onto_more tables (x ∷ is) i rest = ap (with_item tables x) (onto_more tables is i rest)
+
+-- an item of node j, and one of another
+one_of : (tables : List TableValue) (j : ℕ) (i : Item) (rest : Items) → is_of j (first_child (with_item tables i no_items)) ≡ true → (its j (with_item tables i rest) ≡ with_item tables i (its j rest)) × (beyond j (with_item tables i rest) ≡ beyond j rest)
+one_of tables j (Segment s) rest e = rw e (refl, refl)
+one_of tables j (Group' line child from shape row) rest e = rw e (refl, refl)
+one_of tables j (Flat' line from shape row) rest e = rw e (refl, refl)
+
+other_of : (tables : List TableValue) (j : ℕ) (i : Item) (rest : Items) → is_of j (first_child (with_item tables i no_items)) ≡ false → (its j (with_item tables i rest) ≡ no_items) × (beyond j (with_item tables i rest) ≡ with_item tables i rest)
+other_of tables j (Segment s) rest e = rw e (refl, refl)
+other_of tables j (Group' line child from shape row) rest e = rw e (refl, refl)
+other_of tables j (Flat' line from shape row) rest e = rw e (refl, refl)
+
+-- the first n items are of node j
+pub record LeadsSoFar (j : ℕ) (is : List Item) (n : ℕ) : Type 0 where
+  pub these : (tables : List TableValue) → its j (all_items tables is) ≡ onto tables (take n is) (its j (all_items tables (drop n is)))
+  pub others : (tables : List TableValue) → beyond j (all_items tables is) ≡ beyond j (all_items tables (drop n is))
+
+pub leads_more : (j : ℕ) (is : List Item) (n : ℕ) (i : Item) (c : Option ℕ) → n < length is → i ≡ get_or is n i → ChildOf i c → is_of j c ≡ true → LeadsSoFar j is n → LeadsSoFar j is (n + 1)
+leads_more j is n i c low at child same h =
+    record {
+      these = λ tables.
+          h.these tables ∙ ap (λ l. onto tables (take n is) (its j (all_items tables l))) (step tables)
+          ∙ ap (onto tables (take n is)) (one_of tables j i (all_items tables (drop (n + 1) is)) (this tables)).0
+          ∙ sym (onto_more tables (take n is) i (its j (all_items tables (drop (n + 1) is))))
+          ∙ ap (λ l. onto tables l (its j (all_items tables (drop (n + 1) is)))) taken;
+      others = λ tables.
+          h.others tables ∙ ap (λ l. beyond j (all_items tables l)) (step tables) ∙ (one_of tables j i (all_items tables (drop (n + 1) is)) (this tables)).1;
+    }
+  where
+    this : (tables : List TableValue) → is_of j (first_child (with_item tables i no_items)) ≡ true
+    this tables = ap (is_of j) (sym (child tables)) ∙ same
+
+    step : (tables : List TableValue) → drop n is ≡ i ∷ drop (n + 1) is
+    step tables =
+        let next : suc n ≡ n + 1 = omega arith in
+        drop-cons is n i low ∙ ap (λ x. x ∷ drop (suc n) is) (sym at) ∙ ap (λ k. i ∷ drop k is) next
+
+    taken : take n is ++ i ∷ [] ≡ take (n + 1) is
+    taken = ap (λ x. take n is ++ x ∷ []) at ∙ sym (take_more is n i low)
+
+pub leads_here : (j : ℕ) (is : List Item) (n : ℕ) (i : Item) (c : Option ℕ) → n < length is → i ≡ get_or is n i → ChildOf i c → is_of j c ≡ false → LeadsSoFar j is n → Leads j is n
+leads_here j is n i c low at child other h =
+    record {
+      within = omega (arith, low);
+      these = λ tables.
+          sym (h.these tables ∙ ap (λ l. onto tables (take n is) (its j (all_items tables l))) step
+          ∙ ap (onto tables (take n is)) (other_of tables j i (all_items tables (drop (suc n) is)) (this tables)).0 ∙ onto_none tables (take n is));
+      others = λ tables.
+          sym (h.others tables ∙ ap (λ l. beyond j (all_items tables l)) step ∙ (other_of tables j i (all_items tables (drop (suc n) is)) (this tables)).1 ∙ ap (all_items tables) (sym step));
+    }
+  where
+    this : (tables : List TableValue) → is_of j (first_child (with_item tables i no_items)) ≡ false
+    this tables = ap (is_of j) (sym (child tables)) ∙ other
+
+    step : drop n is ≡ i ∷ drop (suc n) is
+    step = drop-cons is n i low ∙ ap (λ x. x ∷ drop (suc n) is) (sym at)
+
+pub leads_all : (j : ℕ) (is : List Item) → LeadsSoFar j is (length is) → Leads j is (length is)
+leads_all j is h =
+    record {
+      within = omega arith;
+      these = λ tables. sym (h.these tables ∙ ap (λ l. onto tables (take (length is) is) (its j (all_items tables l))) none ∙ onto_none tables (take (length is) is));
+      others = λ tables. sym (h.others tables ∙ ap (λ l. beyond j (all_items tables l)) none ∙ ap (all_items tables) (sym none));
+    }
+  where
+    none : drop (length is) is ≡ []
+    none = drop_all (length is) is (omega arith)
+
+pub leads_none : (j : ℕ) (is : List Item) → LeadsSoFar j is 0
+unfolding onto
+leads_none j is = record { these = λ tables. refl; others = λ tables. refl }
+
+pub leads_to_end : (j : ℕ) (is : List Item) (n : ℕ) → n ≤ length is → length is ≤ n → LeadsSoFar j is n → Leads j is (length is)
+leads_to_end j is n low high h = let same : n ≡ length is = omega (arith, low, high) in leads_all j is (subst (LeadsSoFar j is) same h)
+
+pub none_there : (tables : List TableValue) (is : List Item) → (length is == 0) ≡ has_no_item (all_items tables is)
+none_there tables [] = refl
+none_there tables (i ∷ is) = some ∙ sym (go i)
+  where
+    some : (length (i ∷ is) == 0) ≡ false
+    some =
+        elim (eqb_tells (length (i ∷ is)) 0) [
+          | inl h ↦ absurd (omega (arith, h.1))
+          | inr h ↦ h.0
+        ]
+
+    go : (i : Item) → has_no_item (with_item tables i (all_items tables is)) ≡ false
+    go (Segment s) = refl
+    go (Group' line child from shape row) = refl
+    go (Flat' line from shape row) = refl

@@ -1,0 +1,90 @@
+-- Failures noted one list after the other.
+use Rattle.std.proofs.Common.{◌≡◌, ℕ, zero, suc, ◌+◌, ◌-◌, ◌<◌, ◌≤◌, add-one, List, [], ◌∷◌, ◌++◌, map, flat_map, take, drop, drop-cons, get_or, length, Option, Some, None, refl, sym, ap, ◌∙◌, subst, arith}
+use Rattle.std.proofs.lemmas.List.{append-nil}
+use Rattle.std.specs.Global.{Vec}
+use Rattle.std.proofs.Common.{ap₂}
+use Rattle.gw_maplang.specs.declared.item.GroupItem.{GroupItem}
+use Rattle.gw_maplang.specs.declared.item.FlatItem.{FlatItem}
+use Rattle.gw_maplang.specs.declared.item.Item.{Item, SegFrom, SegAlways, EachAs, EachFlat, EachAs', EachFlat'}
+use Rattle.gw_maplang.proofs.Rows.{group_items, flat_items}
+use Rattle.gw_maplang.specs.Shapes.{Items, nothing}
+use Rattle.gw_maplang.specs.Seen.{path, items_all, with_item, row_items, all_items, rule}
+use Rattle.gw_check.specs.Places.{Element, within}
+use Rattle.gw_check.specs.Failures.{Failure}
+use Rattle.gw_check.specs.Checked.{lesser}
+use Rattle.gw_check.specs.Noted.{noted}
+use Rattle.gw_check.specs.Naming.{but_last, place_or, walked_if, source_failures, walk_failures, rule_failures, path_failures}
+
+pub noted_append : (w : Option Failure) (a b : List Failure) → noted w (a ++ b) ≡ noted (noted w a) b
+noted_append w [] b = refl
+noted_append w (f ∷ a) b = noted_append (Some (lesser f w)) a b
+
+-- one element of a list, and those behind it
+pub front : {A : Type 0} (xs : List A) (i : ℕ) (x : A) → i < length xs → x ≡ get_or xs i x → drop i xs ≡ x ∷ drop (i + 1) xs
+front xs i x m e = drop-cons xs i x m ∙ ap (λ z. z ∷ drop (suc i) xs) (sym e) ∙ ap (λ (k : ℕ). x ∷ drop k xs) (sym (add-one i))
+
+-- the failures of one more
+pub noted_next : {A B : Type 0} (f : B → List Failure) (view : A → B) (xs : List A) (i : ℕ) (x : A) (v w : Option Failure) → i < length xs → x ≡ get_or xs i x → v ≡ noted w (f (view x)) → noted w (flat_map f (map view (drop i xs))) ≡ noted v (flat_map f (map view (drop (i + 1) xs)))
+noted_next f view xs i x v w m e made =
+    ap (λ l. noted w (flat_map f (map view l))) (front xs i x m e)
+    ∙ noted_append w (f (view x)) (flat_map f (map view (drop (i + 1) xs)))
+    ∙ ap (λ o. noted o (flat_map f (map view (drop (i + 1) xs)))) (sym made)
+
+-- ---- steps but the last
+
+before_last : (n : ℕ) (xs : List ℕ) → length xs ≡ suc n → take n xs ≡ but_last xs
+before_last zero [] e = refl
+before_last (suc n) [] e = absurd (omega (arith, e))
+before_last zero (x ∷ []) e = refl
+before_last (suc n) (x ∷ []) e = absurd (omega (arith, e))
+before_last zero (x ∷ y ∷ xs) e = absurd (omega (arith, e))
+before_last (suc n) (x ∷ y ∷ xs) e = ap (λ l. x ∷ l) (before_last n (y ∷ xs) (omega (arith, e)))
+
+pub all_but_last : (xs : List ℕ) → 1 ≤ length xs → take (length xs - 1) xs ≡ but_last xs
+all_but_last xs h = before_last (length xs - 1) xs (omega (arith, h))
+
+-- ---- items
+
+pub joined : (a c : List Failure) → a ++ c ≡ a ++ [] ++ c
+joined a c = ap (λ l. l ++ c) (sym (append-nil a))
+
+-- an item, and those behind it
+pub one_item : (scope : List Element) (x : Item) (rest : Items) → path_failures scope (with_item x rest) ≡ path_failures scope (with_item x nothing) ++ path_failures scope rest
+one_item scope (SegFrom s) rest = joined (source_failures scope s.line (Some (path s.path)) ++ flat_map (rule_failures (walked_if scope (Some (path s.path)))) (map rule s.rules.items)) (path_failures scope rest)
+one_item scope (SegAlways s) rest = joined (flat_map (rule_failures scope) (map rule s.rules.items)) (path_failures scope rest)
+one_item scope (EachAs' line label from shape row) rest = joined (walk_failures scope line (path from) ++ path_failures (within scope (place_or scope (path from))) (row_items row)) (path_failures scope rest)
+one_item scope (EachFlat' line from shape row) rest = joined (walk_failures scope line (path from) ++ path_failures (within scope (place_or scope (path from))) (row_items row)) (path_failures scope rest)
+
+pub items_next : (scope : List Element) (xs : List Item) (i : ℕ) (x : Item) (v w : Option Failure) → i < length xs → x ≡ get_or xs i x → v ≡ noted w (path_failures scope (with_item x nothing)) → noted w (path_failures scope (all_items (drop i xs))) ≡ noted v (path_failures scope (all_items (drop (i + 1) xs)))
+items_next scope xs i x v w m e made =
+    ap (λ l. noted w (path_failures scope (all_items l))) (front xs i x m e)
+    ∙ ap (noted w) (one_item scope x (all_items (drop (i + 1) xs)))
+    ∙ noted_append w (path_failures scope (with_item x nothing)) (path_failures scope (all_items (drop (i + 1) xs)))
+    ∙ ap (λ o. noted o (path_failures scope (all_items (drop (i + 1) xs)))) (sym made)
+
+abbrev each : List Element → ℕ → List (Vec ℕ) → List Item → List Failure
+each scope line p items = walk_failures scope line (items_all p) ++ path_failures (within scope (place_or scope (items_all p))) (all_items items)
+
+pub group_failures : (scope : List Element) (item : Item) (g : GroupItem) (p : List (Vec ℕ)) (items : List Item) → item ≡ EachAs g → p ≡ g.path.items → items ≡ g.items.items → each scope g.line p items ≡ path_failures scope (with_item item nothing)
+group_failures scope item g p items is e f =
+    ap₂ (each scope g.line) e f ∙ sym (append-nil (each scope g.line g.path.items g.items.items))
+    ∙ sym (ap (path_failures scope) (ap (λ x. with_item x nothing) is ∙ group_items g nothing))
+
+pub flat_failures : (scope : List Element) (item : Item) (g : FlatItem) (p : List (Vec ℕ)) (items : List Item) → item ≡ EachFlat g → p ≡ g.path.items → items ≡ g.items.items → each scope g.line p items ≡ path_failures scope (with_item item nothing)
+flat_failures scope item g p items is e f =
+    ap₂ (each scope g.line) e f ∙ sym (append-nil (each scope g.line g.path.items g.items.items))
+    ∙ sym (ap (path_failures scope) (ap (λ x. with_item x nothing) is ∙ flat_items g nothing))
+
+-- ---- several lists
+
+-- first the ones, then the others
+pub noted_both : (w one two : Option Failure) (a b : List Failure) → one ≡ noted w a → two ≡ noted one b → two ≡ noted w (a ++ b)
+noted_both w one two a b e f = f ∙ ap (λ o. noted o b) e ∙ sym (noted_append w a b)
+
+pub noted_four : (w : Option Failure) (a b c d : List Failure) → noted w (a ++ b ++ c ++ d) ≡ noted (noted (noted (noted w a) b) c) d
+noted_four w a b c d =
+    noted_append w (a ++ b ++ c) d ∙ ap (λ v. noted v d) (noted_append w (a ++ b) c) ∙ ap (λ v. noted (noted v c) d) (noted_append w a b)
+
+-- one element more
+pub noted_more : {A B : Type 0} (f : A → List Failure) (view : B → A) (xs : List B) (i : ℕ) (x : B) (w next : Option Failure) → i < length xs → x ≡ get_or xs i x → next ≡ noted w (f (view x)) → noted w (flat_map f (map view (drop i xs))) ≡ noted next (flat_map f (map view (drop (i + 1) xs)))
+noted_more f view xs i x w next h is e = noted_next f view xs i x next w h is e

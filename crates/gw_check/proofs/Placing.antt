@@ -1,0 +1,233 @@
+-- Where the rules on labels hold, items stand in the order of their nodes, and keep what every map keeps.
+use Rattle.std.proofs.Common.{◌≡◌, ℕ, zero, suc, ◌<◌, ◌≤◌, ◌⊎◌, inl, inr, Bool, true, false, List, [], ◌∷◌, ◌++◌, map, Option, Some, None, refl, sym, ap, ap₂, ◌∙◌, subst, arith}
+use Rattle.std.specs.Prelude.{nat_lt, nat_le, ◌==◌, ◌&&◌, not, if◌then◌else◌, bytes_eq, IfSome, unwrap_or, option_map, option_and_then}
+use Rattle.std.specs.List.{list_all, AllByRecursion}
+use Rattle.std.proofs.lemmas.Bool.{le-leb}
+use Rattle.std.proofs.lemmas.Bool.Decides.{leb_tells, eqb_tells}
+use Rattle.std.proofs.lemmas.Slice.Eq.{bytes_eq-Decides}
+use Rattle.gw_profile.proofs.Facts.{both, tells, not_false}
+use Rattle.gw_profile.specs.Shapes.{Forest, nothing, segment, group}
+use Rattle.gw_maplang.specs.Shapes as raw
+use Rattle.gw_maplang.specs.Shapes.{TableValue}
+use Rattle.gw_maplang.specs.Lawful as theirs
+use Rattle.gw_check.specs.Failures.{Failure, fails}
+use Rattle.gw_check.specs.Places.{Element, a_segment, a_group, the_whole, child, nodes_of_child, within}
+use Rattle.gw_check.specs.Resolved.{Items, first_child}
+use Rattle.gw_check.specs.Placed.{is_segment, is_group, all_for, are_placed, follows, number_or}
+use Rattle.gw_check.specs.Naming.{labelled, node_or, first_or, labels, are_one, label_failures, target_failures, resolved_items, place_or}
+
+-- ---- no failures
+
+pub nil_both : (a b : List Failure) → a ++ b ≡ [] → (a ≡ []) × (b ≡ [])
+nil_both [] b e = (refl, e)
+nil_both (f ∷ a) b e = absurd (cc)
+
+pub not_broken : (rule line : ℕ) (broken : Bool) → fails rule line broken ≡ [] → broken ≡ false
+not_broken rule line true e = absurd (cc)
+not_broken rule line false e = refl
+
+three : (a b c : Bool) → a ≡ true → b ≡ true → c ≡ true → a && b && c ≡ true
+three true true true e f g = refl
+three true true false e f g = absurd (cc)
+three true false c e f g = absurd (cc)
+three false b c e f g = absurd (cc)
+
+four : (a b c d : Bool) → a ≡ true → b ≡ true → c ≡ true → d ≡ true → a && b && c && d ≡ true
+four true true true true e f g h = refl
+four true true true false e f g h = absurd (cc)
+four true true false d e f g h = absurd (cc)
+four true false c d e f g h = absurd (cc)
+four false b c d e f g h = absurd (cc)
+
+-- a label that names a node of this kind, none of a lower number than j
+pub record Named (nodes : Forest) (is_kind : Option Element → Bool) (j : ℕ) (label : List ℕ) : Type 0 where
+  pub number : ℕ
+  pub at : labelled nodes label ≡ Some number
+  pub kind : is_kind (child nodes number) ≡ true
+  pub order : j ≤ number
+
+named_by : (nodes : Forest) (is_kind : Option Element → Bool) (j : ℕ) (label : List ℕ) (o : Option ℕ) → is_kind None ≡ false → labelled nodes label ≡ o → is_kind (option_and_then (child nodes) o) ≡ true → nat_lt (unwrap_or o j) j ≡ false → Named nodes is_kind j label
+named_by nodes is_kind j label None none at kind order = absurd (cc)
+named_by nodes is_kind j label (Some k) none at kind order = record {
+  number = k;
+  at = at;
+  kind = kind;
+  order = elim (leb_tells (suc k) j) [ inl h ↦ absurd (cc) | inr h ↦ omega (arith, h.1) ];
+}
+
+pub named : (nodes : Forest) (is_kind : Option Element → Bool) (j line : ℕ) (label : List ℕ) → is_kind None ≡ false → label_failures nodes is_kind j line label ≡ [] → Named nodes is_kind j label
+named nodes is_kind j line label none e =
+    let p = nil_both (fails 3 line (not (is_kind (option_and_then (child nodes) (labelled nodes label))))) (fails 3 line (nat_lt (node_or j nodes label) j)) e in
+    named_by nodes is_kind j label (labelled nodes label) none refl (not_false _ (not_broken 3 line _ p.0)) (not_broken 3 line _ p.1)
+
+-- its number, whatever stands in for none
+pub number_is : (nodes : Forest) (label : List ℕ) (k j : ℕ) → labelled nodes label ≡ Some k → node_or j nodes label ≡ k
+number_is nodes label k j e = ap (λ o. unwrap_or o j) e
+
+-- ---- items that have labels
+
+list_nil : (a b : List (List ℕ)) → a ++ b ≡ [] → a ≡ []
+list_nil [] b e = refl
+list_nil (x ∷ a) b e = absurd (cc)
+
+first_of_both : (a b : List (List ℕ)) → (a ≡ [] → ⊥) → first_or (a ++ b) ≡ first_or a
+first_of_both [] b f = absurd (f refl)
+first_of_both (x ∷ a) b f = refl
+
+pub some_labels : (names : List (List ℕ)) (items : raw.Items) → theirs.LawfulItems names items → (items ≡ raw.nothing → ⊥) → labels items ≡ [] → ⊥
+some_labels names raw.nothing h some e = absurd (some refl)
+some_labels names (raw.segment s rest) h some e = absurd (cc)
+some_labels names (raw.group g items rest) h some e = absurd (cc)
+some_labels names (raw.flat f items rest) h some e = some_labels names items h.1 h.0.some (list_nil (labels items) (labels rest) e)
+
+-- ---- the failures of each kind of item
+
+pub record SegmentParts (nodes : Forest) (j : ℕ) (s : raw.SegmentItem) (rest : raw.Items) : Type 0 where
+  pub label : label_failures nodes is_segment j s.line s.label ≡ []
+  pub others : target_failures nodes (node_or j nodes s.label) rest ≡ []
+
+pub segment_parts : (nodes : Forest) (j : ℕ) (s : raw.SegmentItem) (rest : raw.Items) → target_failures nodes j (raw.segment s rest) ≡ [] → SegmentParts nodes j s rest
+segment_parts nodes j s rest e = let p = nil_both (label_failures nodes is_segment j s.line s.label) (target_failures nodes (node_or j nodes s.label) rest) e in record { label = p.0; others = p.1 }
+
+pub record GroupParts (nodes : Forest) (j : ℕ) (g : raw.GroupItem) (items rest : raw.Items) : Type 0 where
+  pub label : label_failures nodes is_group j g.line g.label ≡ []
+  pub inner : target_failures (nodes_of_child nodes (node_or j nodes g.label)) 0 items ≡ []
+  pub others : target_failures nodes (node_or j nodes g.label) rest ≡ []
+
+pub group_parts : (nodes : Forest) (j : ℕ) (g : raw.GroupItem) (items rest : raw.Items) → target_failures nodes j (raw.group g items rest) ≡ [] → GroupParts nodes j g items rest
+group_parts nodes j g items rest e =
+    let a = label_failures nodes is_group j g.line g.label in
+    let b = target_failures (nodes_of_child nodes (node_or j nodes g.label)) 0 items in
+    let p = nil_both (a ++ b) (target_failures nodes (node_or j nodes g.label) rest) e in
+    let q = nil_both a b p.0 in
+    record { label = q.0; inner = q.1; others = p.1 }
+
+pub record FlatParts (nodes : Forest) (j : ℕ) (items rest : raw.Items) : Type 0 where
+  pub one : are_one (labels items) ≡ true
+  pub order : nat_lt (node_or j nodes (first_or (labels items))) j ≡ false
+  pub inner : target_failures nodes 0 items ≡ []
+  pub others : target_failures nodes (node_or j nodes (first_or (labels items))) rest ≡ []
+
+pub flat_parts : (nodes : Forest) (j : ℕ) (f : raw.FlatItem) (items rest : raw.Items) → target_failures nodes j (raw.flat f items rest) ≡ [] → FlatParts nodes j items rest
+flat_parts nodes j f items rest e =
+    let a = fails 3 f.line (not (are_one (labels items))) in
+    let b = fails 3 f.line (nat_lt (node_or j nodes (first_or (labels items))) j) in
+    let c = target_failures nodes 0 items in
+    let p = nil_both (a ++ b ++ c) (target_failures nodes (node_or j nodes (first_or (labels items))) rest) e in
+    let q = nil_both (a ++ b) c p.0 in
+    let r = nil_both a b q.0 in
+    record { one = not_false _ (not_broken 3 f.line _ r.0); order = not_broken 3 f.line _ r.1; inner = q.1; others = p.1 }
+
+not_less : (j m k : ℕ) → nat_lt m j ≡ false → m ≡ k → j ≤ k
+not_less j m k e is = elim (leb_tells (suc m) j) [ inl h ↦ absurd (cc) | inr h ↦ omega (arith, h.1, is) ]
+
+-- the first label names a node
+first_named : (names : List (List ℕ)) (nodes : Forest) (j : ℕ) (items : raw.Items) → theirs.LawfulItems names items → (items ≡ raw.nothing → ⊥) → target_failures nodes j items ≡ [] → (k : ℕ) × (labelled nodes (first_or (labels items)) ≡ Some k)
+first_named names nodes j raw.nothing h some e = absurd (some refl)
+first_named names nodes j (raw.segment s rest) h some e =
+    let n = named nodes is_segment j s.line s.label refl (segment_parts nodes j s rest e).label in (n.number, n.at)
+first_named names nodes j (raw.group g items rest) h some e =
+    let n = named nodes is_group j g.line g.label refl (group_parts nodes j g items rest e).label in (n.number, n.at)
+first_named names nodes j (raw.flat f items rest) h some e =
+    let n = first_named names nodes 0 items h.1 h.0.some (flat_parts nodes j f items rest e).inner in
+    (n.0, ap (labelled nodes) (first_of_both (labels items) (labels rest) (some_labels names items h.1 h.0.some)) ∙ n.1)
+
+-- the number of the first node
+first_is : (tables : List TableValue) (scope : List Element) (names : List (List ℕ)) (nodes : Forest) (items : raw.Items) → theirs.LawfulItems names items → (items ≡ raw.nothing → ⊥) → first_child (resolved_items tables scope nodes items) ≡ Some (node_or 0 nodes (first_or (labels items)))
+first_is tables scope names nodes raw.nothing h some = absurd (some refl)
+first_is tables scope names nodes (raw.segment s rest) h some = refl
+first_is tables scope names nodes (raw.group g items rest) h some = refl
+first_is tables scope names nodes (raw.flat f items rest) h some =
+    first_is tables (within scope (place_or scope f.path)) names nodes items h.1 h.0.some
+    ∙ ap (λ l. Some (node_or 0 nodes l)) (sym (first_of_both (labels items) (labels rest) (some_labels names items h.1 h.0.some)))
+
+all_both : (test : List ℕ → Bool) (a b : List (List ℕ)) → list_all test (a ++ b) ≡ true → (list_all test a ≡ true) × (list_all test b ≡ true)
+all_both test [] b e = (refl, e)
+all_both test (x ∷ a) b e =
+    let p = both (test x) (list_all test (a ++ b)) e in
+    let q = all_both test a b p.1 in
+    (ap₂ (λ s t. s && t) p.0 q.0, q.1)
+
+one_all : (ls : List (List ℕ)) → are_one ls ≡ true → list_all (bytes_eq (first_or ls)) ls ≡ true
+one_all [] e = refl
+one_all (x ∷ ls) e = ap₂ (λ s t. s && t) ((bytes_eq-Decides x x).1 refl) e
+
+equal : (a b : ℕ) → a ≡ b → (a == b) ≡ true
+equal a b e = elim (eqb_tells a b) [ inl h ↦ h.0 | inr h ↦ absurd (h.1 e) ]
+
+-- what the rules on labels say of items, whatever nodes come before
+record Fit (nodes : Forest) (made : Items) (items : raw.Items) : Type 0 where
+  placed : (j : ℕ) → target_failures nodes j items ≡ [] → are_placed nodes j made ≡ true
+  same : (j k : ℕ) (label : List ℕ) → target_failures nodes j items ≡ [] → list_all (bytes_eq label) (labels items) ≡ true → node_or 0 nodes label ≡ k → all_for nodes k made ≡ true
+
+fit : (tables : List TableValue) (names : List (List ℕ)) (scope : List Element) (nodes : Forest) (items : raw.Items) → theirs.LawfulItems names items → Fit nodes (resolved_items tables scope nodes items) items
+fit tables names scope nodes raw.nothing h = record { placed = λ j e. refl; same = λ j k label e all is. refl }
+fit tables names scope nodes (raw.segment s rest) h =
+    let behind = fit tables names scope nodes rest h.1 in
+    let others = resolved_items tables scope nodes rest in
+    record {
+      placed = λ j e.
+          let p = segment_parts nodes j s rest e in
+          let n = named nodes is_segment j s.line s.label refl p.label in
+          subst (λ c. nat_le j c && is_segment (child nodes c) && are_placed nodes c others ≡ true) (sym (number_is nodes s.label n.number 0 n.at))
+          (three _ _ _ (le-leb j n.number n.order) n.kind (behind.placed n.number (subst (λ c. target_failures nodes c rest ≡ []) (number_is nodes s.label n.number j n.at) p.others)));
+      same = λ j k label e all is.
+          let p = segment_parts nodes j s rest e in
+          let n = named nodes is_segment j s.line s.label refl p.label in
+          let a = both (bytes_eq label s.label) (list_all (bytes_eq label) (labels rest)) all in
+          let here : node_or 0 nodes s.label ≡ k = ap (node_or 0 nodes) (sym ((bytes_eq-Decides label s.label).0 a.0)) ∙ is in
+          let number : n.number ≡ k = sym (number_is nodes s.label n.number 0 n.at) ∙ here in
+          three _ _ _ (equal (node_or 0 nodes s.label) k here) (subst (λ c. is_segment (child nodes c) ≡ true) number n.kind) (behind.same (node_or j nodes s.label) k label p.others a.1 is);
+    }
+fit tables names scope nodes (raw.group g items rest) h =
+    let behind = fit tables names scope nodes rest h.2 in
+    let others = resolved_items tables scope nodes rest in
+    let inner = within scope (place_or scope g.path) in
+    record {
+      placed = λ j e.
+          let p = group_parts nodes j g items rest e in
+          let n = named nodes is_group j g.line g.label refl p.label in
+          let below = fit tables names inner (nodes_of_child nodes (node_or 0 nodes g.label)) items h.1 in
+          let made = resolved_items tables inner (nodes_of_child nodes (node_or 0 nodes g.label)) items in
+          let same = number_is nodes g.label n.number j n.at ∙ sym (number_is nodes g.label n.number 0 n.at) in
+          let within_it = below.placed 0 (subst (λ c. target_failures (nodes_of_child nodes c) 0 items ≡ []) same p.inner) in
+          subst (λ c. nat_le j c && is_group (child nodes c) && are_placed (nodes_of_child nodes c) 0 made && are_placed nodes c others ≡ true) (sym (number_is nodes g.label n.number 0 n.at))
+          (four _ _ _ _ (le-leb j n.number n.order) n.kind (subst (λ c. are_placed (nodes_of_child nodes c) 0 made ≡ true) (number_is nodes g.label n.number 0 n.at) within_it) (behind.placed n.number (subst (λ c. target_failures nodes c rest ≡ []) (number_is nodes g.label n.number j n.at) p.others)));
+      same = λ j k label e all is.
+          let p = group_parts nodes j g items rest e in
+          let n = named nodes is_group j g.line g.label refl p.label in
+          let a = both (bytes_eq label g.label) (list_all (bytes_eq label) (labels rest)) all in
+          let here : node_or 0 nodes g.label ≡ k = ap (node_or 0 nodes) (sym ((bytes_eq-Decides label g.label).0 a.0)) ∙ is in
+          let number : n.number ≡ k = sym (number_is nodes g.label n.number 0 n.at) ∙ here in
+          let below = fit tables names inner (nodes_of_child nodes (node_or 0 nodes g.label)) items h.1 in
+          let made = resolved_items tables inner (nodes_of_child nodes (node_or 0 nodes g.label)) items in
+          let same = number_is nodes g.label n.number j n.at ∙ sym (number_is nodes g.label n.number 0 n.at) in
+          let within_it = below.placed 0 (subst (λ c. target_failures (nodes_of_child nodes c) 0 items ≡ []) same p.inner) in
+          four _ _ _ _ (equal (node_or 0 nodes g.label) k here) (subst (λ c. is_group (child nodes c) ≡ true) number n.kind)
+          (subst (λ c. are_placed (nodes_of_child nodes c) 0 made ≡ true) here within_it) (behind.same (node_or j nodes g.label) k label p.others a.1 is);
+    }
+fit tables names scope nodes (raw.flat f items rest) h =
+    let behind = fit tables names scope nodes rest h.2 in
+    let others = resolved_items tables scope nodes rest in
+    let inner = within scope (place_or scope f.path) in
+    let below = fit tables names inner nodes items h.1 in
+    let made = resolved_items tables inner nodes items in
+    record {
+      placed = λ j e.
+          let p = flat_parts nodes j f items rest e in
+          let n = first_named names nodes 0 items h.1 h.0.some p.inner in
+          let number = number_is nodes (first_or (labels items)) n.0 0 n.1 in
+          let order : j ≤ n.0 = not_less j (node_or j nodes (first_or (labels items))) n.0 p.order (number_is nodes (first_or (labels items)) n.0 j n.1) in
+          let first : first_child made ≡ Some n.0 = first_is tables inner names nodes items h.1 h.0.some ∙ ap Some number in
+          subst (λ o. follows o j && all_for nodes (number_or j o) made && are_placed nodes (number_or j o) others ≡ true) (sym first)
+          (three _ _ _ (le-leb j n.0 order) (below.same 0 n.0 (first_or (labels items)) p.inner (one_all (labels items) p.one) number)
+          (behind.placed n.0 (subst (λ c. target_failures nodes c rest ≡ []) (number_is nodes (first_or (labels items)) n.0 j n.1) p.others)));
+      same = λ j k label e all is.
+          let p = flat_parts nodes j f items rest e in
+          let a = all_both (bytes_eq label) (labels items) (labels rest) all in
+          ap₂ (λ s t. s && t) (below.same 0 k label p.inner a.0 is) (behind.same (node_or j nodes (first_or (labels items))) k label p.others a.1 is);
+    }
+
+-- each item gives a node of its level, in their order
+pub placed_where_named : (tables : List TableValue) (names : List (List ℕ)) (scope : List Element) (nodes : Forest) (items : raw.Items) → theirs.LawfulItems names items → target_failures nodes 0 items ≡ [] → are_placed nodes 0 (resolved_items tables scope nodes items) ≡ true
+placed_where_named tables names scope nodes items h e = (fit tables names scope nodes items h).placed 0 e

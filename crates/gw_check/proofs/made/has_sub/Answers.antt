@@ -1,0 +1,10 @@
+use Rattle.std.proofs.Common.{sym, ◌∙◌}
+use Rattle.std.specs.Prelude.{◌==◌, ◌&&◌}
+use Rattle.gw_check.specs.Leaves.{is_always, leaf_shape}
+use Rattle.gw_check.specs.Reading.{sources_value, map_tables}
+use Rattle.gw_check.specs.Seen.{at_leaf}
+use Rattle.gw_check.proofs.Lists.{any_map}
+use Rattle.gw_check.proofs.made.has_sub.Goals as goal
+
+pub returns : goal.returns
+returns c = c.has_sub_among.ensures ∙ sym (any_map (at_leaf (map_tables c.args.sources)) (λ a. a.comp == c.args.comp && a.sub == c.args.sub && is_always (leaf_shape (sources_value c.args.sources) a.leaf).presence) c.args.leaves.now)

@@ -1,0 +1,34 @@
+-- What `check` answers.
+use Rattle.std.specs.Prelude.{◌≡◌, List, [], map, Some}
+use Rattle.gw_profile.specs.Shapes.{ProfileValue}
+use Rattle.gw_profile.specs.WellFormed.{WellFormed}
+use Rattle.gw_maplang.specs.Shapes.{MapValue}
+use Rattle.gw_maplang.specs.Seen.{Contents}
+use Rattle.gw_check.specs.declared.checker.Judged as judged
+use Rattle.gw_check.specs.declared.checker.CheckFault as faults
+use Rattle.gw_check.specs.declared.resolved.Item.{Item}
+use Rattle.gw_check.specs.declared.resolved.LeftOut.{LeftOut}
+use Rattle.gw_check.specs.Resolved.{Resolved}
+use Rattle.gw_check.specs.Naming.{resolved}
+use Rattle.gw_check.specs.Checked.{all_failures, least}
+use Rattle.gw_check.specs.Seen.{failure, all_items, left_out}
+
+-- a map without labels, as the program holds it
+abbrev pub unlabelled : MapValue → List Item → List LeftOut → Resolved
+unlabelled m is drops = record { line = m.line; items = all_items m.tables is; drops = map left_out drops }
+
+pub record IsAllowed (from to : ProfileValue) (m : MapValue) (is : List Item) : Type 0 where
+  pub source : WellFormed from
+  pub target : WellFormed to
+  pub none : all_failures from to m ≡ []
+  pub items : all_items m.tables is ≡ (resolved from to m).items
+
+-- no rule fails, or the least failure
+abbrev pub Judges : ProfileValue → ProfileValue → MapValue → judged.Judged → Type 0
+Judges from to m (judged.TheVariants.Allowed is) = IsAllowed from to m is.items
+Judges from to m (judged.TheVariants.Refused f) = Some (failure f) ≡ least (all_failures from to m)
+
+-- the least failing rule at its least line, or want of memory; the map is handed back
+abbrev pub IsRefusal : ProfileValue → ProfileValue → MapValue → Contents → faults.CheckFault → Type 0
+IsRefusal from to m given (faults.TheVariants.Memory back) = back ≡ given
+IsRefusal from to m given (faults.TheVariants.Rule rule line back) = (Some (record { rule = rule; line = line }) ≡ least (all_failures from to m)) × (back ≡ given)

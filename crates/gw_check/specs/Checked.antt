@@ -1,0 +1,28 @@
+-- What the checker answers.
+use Rattle.std.specs.Prelude.{Bool, ◌==◌, ◌&&◌, ◌||◌, nat_lt, if◌then◌else◌, List, [], ◌∷◌, Option, Some, None}
+use Rattle.gw_profile.specs.Shapes.{ProfileValue}
+use Rattle.gw_maplang.specs.Shapes.{MapValue}
+use Rattle.gw_check.specs.Failures.{Failure}
+use Rattle.gw_check.specs.Naming.{naming_failures, resolved}
+use Rattle.gw_check.specs.Typed.{failures}
+
+abbrev pub or_later : List Failure → List Failure → List Failure
+or_later [] later = later
+or_later (f ∷ fs) later = f ∷ fs
+
+-- the rules 4 to 12 are looked at only where 1 to 3 hold
+abbrev pub all_failures : ProfileValue → ProfileValue → MapValue → List Failure
+all_failures source target map = or_later (naming_failures source target map) (failures source target (resolved source target map))
+
+-- by rule, then by line
+abbrev pub is_before : Failure → Failure → Bool
+is_before a b = nat_lt a.rule b.rule || (a.rule == b.rule && nat_lt a.line b.line)
+
+abbrev pub lesser : Failure → Option Failure → Failure
+lesser a None = a
+lesser a (Some b) = if is_before b a then b else a
+
+-- the least failing rule, at its least line
+abbrev pub least : List Failure → Option Failure
+least [] = None
+least (f ∷ fs) = Some (lesser f (least fs))

@@ -1,0 +1,38 @@
+-- The items of a level one by one, as the program counts them.
+use Rattle.std.specs.Prelude.{◌≡◌, ℕ, ◌≤◌, List, length, take, drop, Option}
+use Rattle.gw_maplang.specs.Shapes.{TableValue}
+use Rattle.gw_check.specs.declared.resolved.Item.{Item}
+use Rattle.gw_check.specs.Intervals.{Interval, never, product}
+use Rattle.gw_check.specs.Places.{Element, count_at, count_if, within}
+use Rattle.gw_check.specs.Resolved.{Items, no_items, segment_item, group_item, flat_item, first_child}
+use Rattle.gw_check.specs.Counts.{items_count}
+use Rattle.gw_check.specs.Levels.{its, beyond}
+use Rattle.gw_check.specs.Seen.{interval, saturated, with_item, all_items}
+use Rattle.gw_check.specs.declared.interval.Interval as declared
+
+-- how often the first item comes
+abbrev pub first_count : List Element → Items → Interval
+first_count scope no_items = never
+first_count scope (segment_item s rest) = count_if scope s.place
+first_count scope (group_item g items rest) = count_at scope g.place
+first_count scope (flat_item f items rest) = product (count_at scope f.place) (items_count (within scope f.place) items)
+
+-- the program's count of one item, and of many, whatever the map's tables are
+abbrev pub CountsOne : List Element → Item → declared.Interval → Type 0
+CountsOne scope i c = (tables : List TableValue) → interval c ≡ saturated (first_count scope (with_item tables i no_items))
+
+abbrev pub CountsAll : List Element → List Item → declared.Interval → Type 0
+CountsAll scope is c = (tables : List TableValue) → interval c ≡ saturated (items_count scope (all_items tables is))
+
+-- the program's target node of the first item
+abbrev pub FirstChild : List Item → Option ℕ → Type 0
+FirstChild is c = (tables : List TableValue) → c ≡ first_child (all_items tables is)
+
+abbrev pub ChildOf : Item → Option ℕ → Type 0
+ChildOf i c = (tables : List TableValue) → c ≡ first_child (with_item tables i no_items)
+
+-- the items of node j are the first so many, whatever the map's tables are
+pub record Leads (j : ℕ) (is : List Item) (n : ℕ) : Type 0 where
+  pub within : n ≤ length is
+  pub these : (tables : List TableValue) → all_items tables (take n is) ≡ its j (all_items tables is)
+  pub others : (tables : List TableValue) → all_items tables (drop n is) ≡ beyond j (all_items tables is)

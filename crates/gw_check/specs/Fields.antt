@@ -1,0 +1,167 @@
+-- The rules on target fields: cardinality (4), usage R and RE (5, 8) and X (11), tables (6, 12), lengths (7, 12), lookups (10).
+use Rattle.std.specs.Prelude.{ℕ, Bool, true, false, ◌==◌, ◌&&◌, ◌||◌, not, nat_lt, if◌then◌else◌, List, [], ◌∷◌, ◌++◌, flat_map, Option, Some, None, option_and_then}
+use Rattle.std.specs.List.{list_any, list_all}
+use Rattle.gw_profile.specs.declared.shape.Usage.{Usage}
+use Rattle.gw_profile.specs.declared.shape.Usage.TheVariants.{R, RE, O, X}
+use Rattle.gw_profile.specs.Shapes.{SubValue, CompValue, FieldValue, TableValue}
+use Rattle.gw_profile.specs.Value.{table_of}
+use Rattle.gw_validate.specs.Breaches.{is_required, is_forbidden, is_null}
+use Rattle.gw_check.specs.Intervals.{Interval, is_never, is_within}
+use Rattle.gw_maplang.specs.Shapes.{Rows}
+use Rattle.gw_check.specs.Resolved.{Reference, Source, Leaf, const, copied, looked_up, At, Making, copy, first, repeat, build, Rule, rule_of}
+use Rattle.gw_check.specs.Leaves.{Sources, Shape, Values, at_field, comp_of, sub_of, comp_presence, sub_presence, sub_values, source_shape, leaf_shape, is_always, is_absent, has_no_row, may_be_unlisted, may_be_long}
+use Rattle.gw_check.specs.Counts.{walking, rule_count}
+use Rattle.gw_check.specs.Failures.{Failure, fails}
+
+-- ---- a subcomponent
+
+-- the values of the table that it names
+abbrev pub table_values : List TableValue → SubValue → Option (List (List ℕ))
+table_values tables s = option_and_then (λ name. table_of name tables) s.table
+
+-- what can stand there has another value than its table's, or is too long
+abbrev pub value_failures : List TableValue → ℕ → Shape → SubValue → List Failure
+value_failures tables line shape s =
+    fails 6 line (not (is_absent shape.presence) && may_be_unlisted shape.values (table_values tables s))
+    ++ fails 7 line (not (is_absent shape.presence) && may_be_long shape.values s.len)
+
+-- ---- copied fields
+
+-- a component or subcomponent stands for that of the same number
+abbrev pub copied_sub : List TableValue → List TableValue → ℕ → Option CompValue → SubValue → List Failure
+copied_sub sources tables line c s =
+    fails 5 line (is_required s.usage && not (is_always (sub_presence c (sub_of c s.number))))
+    ++ fails 11 line (is_forbidden s.usage && not (is_absent (sub_presence c (sub_of c s.number))))
+    ++ value_failures tables line (record { presence = sub_presence c (sub_of c s.number); values = sub_values sources (sub_of c s.number) }) s
+
+abbrev pub copied_comp : List TableValue → List TableValue → ℕ → Option FieldValue → CompValue → List Failure
+copied_comp sources tables line f c =
+    fails 5 line (is_required c.usage && not (is_always (comp_presence (comp_of f c.number))))
+    ++ fails 11 line (is_forbidden c.usage && not (is_absent (comp_presence (comp_of f c.number))))
+    ++ flat_map (copied_sub sources tables line (comp_of f c.number)) c.subs
+
+abbrev pub copied_field : Sources → List TableValue → ℕ → Reference → FieldValue → List Failure
+copied_field s tables line from target = flat_map (copied_comp s.tables tables line (at_field s from)) target.comps
+
+-- ---- fields made of leaves
+
+-- some leaf of the component is always there, or there is no text but in it
+abbrev pub is_comp_sure : Sources → List At → ℕ → Bool
+is_comp_sure s leaves comp =
+    list_any (λ a. a.comp == comp && is_always (leaf_shape s a.leaf).presence) leaves
+    || list_all (λ a. a.comp == comp || is_absent (leaf_shape s a.leaf).presence) leaves
+
+-- its leaf is always there, or the component has no other text
+abbrev pub is_sub_sure : Sources → List At → ℕ → ℕ → Bool
+is_sub_sure s leaves comp sub =
+    list_any (λ a. a.comp == comp && a.sub == sub && is_always (leaf_shape s a.leaf).presence) leaves
+    || list_all (λ a. not (a.comp == comp) || a.sub == sub || is_absent (leaf_shape s a.leaf).presence) leaves
+
+abbrev pub made_sub : Sources → ℕ → List At → ℕ → SubValue → List Failure
+made_sub s line leaves comp sub = fails 5 line (is_required sub.usage && not (is_sub_sure s leaves comp sub.number))
+
+abbrev pub made_comp : Sources → ℕ → List At → CompValue → List Failure
+made_comp s line leaves c =
+    fails 5 line (is_required c.usage && not (is_comp_sure s leaves c.number)) ++ flat_map (made_sub s line leaves c.number) c.subs
+
+abbrev pub is_forbidden_comp : Option CompValue → Bool
+is_forbidden_comp None = false
+is_forbidden_comp (Some c) = is_forbidden c.usage
+
+abbrev pub is_forbidden_sub : Option SubValue → Bool
+is_forbidden_sub None = false
+is_forbidden_sub (Some s) = is_forbidden s.usage
+
+-- a constant has another value than the table's, or is too long; "" is exempt
+abbrev pub leaf_failures : Sources → List TableValue → ℕ → Leaf → SubValue → List Failure
+leaf_failures s tables line (const text) sub =
+    fails 12 line (not (is_null text) && (may_be_unlisted (leaf_shape s (const text)).values (table_values tables sub) || may_be_long (leaf_shape s (const text)).values sub.len))
+leaf_failures s tables line (copied source) sub = value_failures tables line (leaf_shape s (copied source)) sub
+leaf_failures s tables line (looked_up table source) sub = value_failures tables line (leaf_shape s (looked_up table source)) sub
+
+-- a leaf at a place that the target lists
+abbrev pub placed : Sources → List TableValue → ℕ → Leaf → Option SubValue → List Failure
+placed s tables line leaf None = []
+placed s tables line leaf (Some sub) = leaf_failures s tables line leaf sub
+
+abbrev pub made_leaf : Sources → List TableValue → FieldValue → At → List Failure
+made_leaf s tables target a =
+    fails 11 a.line ((is_forbidden_comp (comp_of (Some target) a.comp) || is_forbidden_sub (sub_of (comp_of (Some target) a.comp) a.sub)) && not (is_absent (leaf_shape s a.leaf).presence))
+    ++ placed s tables a.line a.leaf (sub_of (comp_of (Some target) a.comp) a.sub)
+
+abbrev pub made_field : Sources → List TableValue → ℕ → List At → FieldValue → List Failure
+made_field s tables line leaves target =
+    flat_map (made_comp s line leaves) target.comps ++ flat_map (made_leaf s tables target) leaves
+
+-- ---- a field
+
+-- what its rule gives, where it gives something
+abbrev pub making_failures : Sources → List TableValue → ℕ → Making → FieldValue → List Failure
+making_failures s tables line (copy from) target = copied_field s tables line from target
+making_failures s tables line (first from) target = copied_field s tables line from target
+making_failures s tables line (repeat from leaves) target = made_field (walking s from) tables line leaves target
+making_failures s tables line (build leaves) target = made_field s tables line leaves target
+
+abbrev pub content_failures : Sources → List TableValue → FieldValue → Option Rule → List Failure
+content_failures s tables target None = []
+content_failures s tables target (Some r) =
+    if is_never (rule_count s (Some r)).greatest then [] else making_failures s tables r.line r.making target
+
+-- the line of the rule, or of the segment that should hold one
+abbrev pub line_of_rule : ℕ → Option Rule → ℕ
+line_of_rule holder None = holder
+line_of_rule holder (Some r) = r.line
+
+abbrev pub has_no_rule : Option Rule → Bool
+has_no_rule None = true
+has_no_rule (Some r) = false
+
+abbrev pub is_expected : Usage → Bool
+is_expected R = false
+is_expected RE = true
+is_expected O = false
+is_expected X = false
+
+abbrev pub count_failures : ℕ → Interval → FieldValue → Option Rule → List Failure
+count_failures holder count target rule =
+    fails 4 (line_of_rule holder rule) (not (is_forbidden target.usage) && not (is_within count.greatest target.card.max))
+    ++ fails 5 (line_of_rule holder rule) (nat_lt count.least target.card.min)
+    ++ fails 8 holder (is_expected target.usage && has_no_rule rule)
+    ++ fails 11 (line_of_rule holder rule) (is_forbidden target.usage && not (is_never count.greatest))
+
+-- of a target field, in a segment that an item at this line gives by these rules
+abbrev pub field_failures : Sources → List TableValue → ℕ → List Rule → FieldValue → List Failure
+field_failures s tables holder rules target =
+    count_failures holder (rule_count s (rule_of rules target.number)) target (rule_of rules target.number)
+    ++ content_failures s tables target (rule_of rules target.number)
+
+-- ---- lookups
+
+-- without a value for texts that have no row, each text of the source needs one
+abbrev pub lookup_failures : Sources → At → List Failure
+lookup_failures s a = go a.leaf
+  where
+    unrowed : Rows → Source → Option (List ℕ) → List Failure
+    unrowed table source None = fails 10 a.line (has_no_row table (source_shape s source).values)
+    unrowed table source (Some text) = []
+
+    go : Leaf → List Failure
+    go (const text) = []
+    go (copied source) = []
+    go (looked_up table source) = unrowed table source table.other
+
+abbrev pub rule_lookups : Sources → Rule → List Failure
+rule_lookups s r = go r.making
+  where
+    go : Making → List Failure
+    go (copy from) = []
+    go (first from) = []
+    go (repeat from leaves) = flat_map (lookup_failures (walking s from)) leaves
+    go (build leaves) = flat_map (lookup_failures s) leaves
+
+-- ---- a segment
+
+-- of a target segment with these fields, which an item at this line gives by these rules
+abbrev pub segment_failures : Sources → List TableValue → ℕ → List Rule → List FieldValue → List Failure
+segment_failures s tables holder rules fields =
+    flat_map (field_failures s tables holder rules) fields ++ flat_map (rule_lookups s) rules

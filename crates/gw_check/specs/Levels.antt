@@ -1,0 +1,83 @@
+-- The rules on target segments and groups: cardinality (4), usage R (5), RE (8) and X (11).
+use Rattle.std.specs.Prelude.{ℕ, suc, Bool, true, false, ◌==◌, ◌&&◌, not, nat_lt, if◌then◌else◌, List, [], ◌∷◌, ◌++◌, Option, Some, None}
+use Rattle.gw_profile.specs.declared.shape.Usage.{Usage}
+use Rattle.gw_profile.specs.declared.shape.Card.{Card}
+use Rattle.gw_profile.specs.Shapes.{FieldValue, TableValue, Forest, nothing, segment, group}
+use Rattle.gw_validate.specs.Breaches.{is_forbidden}
+use Rattle.gw_check.specs.Intervals.{Interval, is_never, is_within}
+use Rattle.gw_check.specs.Places.{Element, Place, child, nodes_of_child, fields_of, within, within_if}
+use Rattle.gw_check.specs.Resolved.{SegmentItem, Items, no_items, segment_item, group_item, flat_item, first_child}
+use Rattle.gw_check.specs.Leaves.{Sources}
+use Rattle.gw_check.specs.Counts.{items_count}
+use Rattle.gw_check.specs.Failures.{Failure, fails}
+use Rattle.gw_check.specs.Fields.{is_expected, segment_failures}
+
+-- ---- the items of one node; items stand in the order of the nodes
+
+abbrev pub is_of : ℕ → Option ℕ → Bool
+is_of j None = false
+is_of j (Some k) = k == j
+
+-- the items of node j, which stand first
+abbrev pub its : ℕ → Items → Items
+its j no_items = no_items
+its j (segment_item s rest) = if s.child == j then segment_item s (its j rest) else no_items
+its j (group_item g items rest) = if g.child == j then group_item g items (its j rest) else no_items
+its j (flat_item f items rest) = if is_of j (first_child items) then flat_item f items (its j rest) else no_items
+
+-- those of later nodes
+abbrev pub beyond : ℕ → Items → Items
+beyond j no_items = no_items
+beyond j (segment_item s rest) = if s.child == j then beyond j rest else segment_item s rest
+beyond j (group_item g items rest) = if g.child == j then beyond j rest else group_item g items rest
+beyond j (flat_item f items rest) = if is_of j (first_child items) then beyond j rest else flat_item f items rest
+
+-- the line of the first item, or of the group or map that should hold one
+abbrev pub first_line : ℕ → Items → ℕ
+first_line holder no_items = holder
+first_line holder (segment_item s rest) = s.line
+first_line holder (group_item g items rest) = g.line
+first_line holder (flat_item f items rest) = f.line
+
+abbrev pub has_no_item : Items → Bool
+has_no_item no_items = true
+has_no_item (segment_item s rest) = false
+has_no_item (group_item g items rest) = false
+has_no_item (flat_item f items rest) = false
+
+-- ---- a node
+
+abbrev pub node_failures : ℕ → Usage → Card → Interval → Items → List Failure
+node_failures holder usage card count items =
+    fails 4 (first_line holder items) (not (is_forbidden usage) && not (is_within count.greatest card.max))
+    ++ fails 5 (first_line holder items) (nat_lt count.least card.min)
+    ++ fails 8 holder (is_expected usage && has_no_item items)
+    ++ fails 11 (first_line holder items) (is_forbidden usage && not (is_never count.greatest))
+
+-- the nodes from number j on, at a level whose items stand in the group, or the map, at this line
+abbrev pub level_failures : List Element → ℕ → ℕ → Forest → Items → List Failure
+level_failures scope holder j nothing items = []
+level_failures scope holder j (segment s rest) items =
+    node_failures holder s.usage s.card (items_count scope (its j items)) (its j items)
+    ++ level_failures scope holder (suc j) rest (beyond j items)
+level_failures scope holder j (group g nodes rest) items =
+    node_failures holder g.usage g.card (items_count scope (its j items)) (its j items)
+    ++ level_failures scope holder (suc j) rest (beyond j items)
+
+-- ---- within the items
+
+abbrev pub sources : List TableValue → List Element → Sources
+sources tables scope = record { tables = tables; scope = scope; current = None }
+
+-- of what the items give, where the target's nodes of their level are these
+abbrev pub items_failures : List TableValue → List TableValue → List Element → Forest → Items → List Failure
+items_failures from to scope nodes no_items = []
+items_failures from to scope nodes (segment_item s rest) =
+    segment_failures (sources from (within_if scope s.place)) to s.line s.rules (fields_of (child nodes s.child))
+    ++ items_failures from to scope nodes rest
+items_failures from to scope nodes (group_item g items rest) =
+    level_failures (within scope g.place) g.line 0 (nodes_of_child nodes g.child) items
+    ++ items_failures from to (within scope g.place) (nodes_of_child nodes g.child) items
+    ++ items_failures from to scope nodes rest
+items_failures from to scope nodes (flat_item f items rest) =
+    items_failures from to (within scope f.place) nodes items ++ items_failures from to scope nodes rest

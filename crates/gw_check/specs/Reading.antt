@@ -1,0 +1,62 @@
+-- What the rules of a map can read, and what they read it for, as the program holds it.
+use Rattle.std.specs.Prelude.{ℕ, Bool, not, nat_lt, ◌&&◌, ◌++◌, List, map, Option, option_map}
+use denote.Ref.{Bor}
+use Rattle.gw_profile.specs.declared.shape.Usage.{Usage}
+use Rattle.gw_profile.specs.declared.shape.Card.{Card}
+use Rattle.gw_profile.specs.declared.shape.SubShape.{SubShape}
+use Rattle.gw_profile.specs.declared.shape.CompShape.{CompShape}
+use Rattle.gw_profile.specs.declared.shape.FieldShape.{FieldShape}
+use Rattle.gw_profile.specs.Shapes.{SubValue, CompValue, FieldValue}
+use Rattle.gw_profile.specs.Seen.{field, comp, sub}
+use Rattle.gw_maplang.specs.Shapes.{TableValue}
+use Rattle.gw_check.specs.declared.resolved.Rule as rules_of
+use Rattle.gw_check.specs.declared.sources.Sources as declared
+use Rattle.gw_check.specs.declared.known.Known as the_known
+use Rattle.gw_validate.specs.Breaches.{is_forbidden}
+use Rattle.gw_check.specs.Intervals.{Interval, is_within, is_never}
+use Rattle.gw_check.specs.Failures.{Failure, fails}
+use Rattle.gw_check.specs.Fields.{is_expected}
+use Rattle.gw_check.specs.Places.{Known}
+use Rattle.gw_check.specs.Resolved.{Rule}
+use Rattle.gw_check.specs.Leaves.{Sources}
+use Rattle.gw_check.specs.Seen.{scope, interval, saturated, rule}
+
+abbrev pub sources_value : declared.Sources → Sources
+sources_value s = record { tables = s.profile.now.tables; scope = scope s.scope.now; current = option_map (λ f. field f.now) s.current }
+
+-- the tables of the map
+abbrev pub map_tables : declared.Sources → List TableValue
+map_tables s = s.map.now.tables
+
+-- ---- elements that may be there
+
+abbrev pub some_field : Option (Bor FieldShape) → Option FieldValue
+some_field f = option_map (λ b. field b.now) f
+
+abbrev pub some_comp : Option (Bor CompShape) → Option CompValue
+some_comp c = option_map (λ b. comp b.now) c
+
+abbrev pub some_sub : Option (Bor SubShape) → Option SubValue
+some_sub s = option_map (λ b. sub b.now) s
+
+abbrev pub some_rule : List TableValue → Option (Bor rules_of.Rule) → Option Rule
+some_rule tables r = option_map (λ b. rule tables b.now) r
+
+-- ---- the segment at a place
+
+abbrev pub known_value : the_known.Known → Known
+known_value k = record { count = interval k.count; fields = map field k.fields.now }
+
+-- the program's counts end at the cap
+abbrev pub saturated_known : Known → Known
+saturated_known k = record { count = saturated k.count; fields = k.fields }
+
+-- ---- how often a field comes
+
+-- what is told of a count, where the rule stands at this line, or is missing
+abbrev pub told : ℕ → ℕ → Interval → Usage → Card → Bool → List Failure
+told holder line count usage card is_missing =
+    fails 4 line (not (is_forbidden usage) && not (is_within count.greatest card.max))
+    ++ fails 5 line (nat_lt count.least card.min)
+    ++ fails 8 holder (is_expected usage && is_missing)
+    ++ fails 11 line (is_forbidden usage && not (is_never count.greatest))

@@ -1,0 +1,20 @@
+-- What looking up the labels of a map gives.
+use Rattle.std.specs.Prelude.{◌≡◌, List, [], map, Some}
+use Rattle.gw_profile.specs.Shapes.{ProfileValue}
+use Rattle.gw_maplang.specs.Shapes.{MapValue}
+use Rattle.gw_check.specs.declared.resolve.Named.{Named}
+use Rattle.gw_check.specs.declared.resolve.Resolving as declared
+use Rattle.gw_check.specs.Checked.{least}
+use Rattle.gw_check.specs.Naming.{naming_failures, resolved}
+use Rattle.gw_check.specs.Seen.{failure, all_items, left_out}
+
+-- no rule on labels fails, and this is the map without them
+pub record IsNamed (from to : ProfileValue) (m : MapValue) (made : Named) : Type 0 where
+  pub none : naming_failures from to m ≡ []
+  pub items : all_items m.tables made.items.items ≡ (resolved from to m).items
+  pub drops : map left_out made.drops.items ≡ (resolved from to m).drops
+
+-- the map without labels, or the least failure
+abbrev pub Resolves : ProfileValue → ProfileValue → MapValue → declared.Resolving → Type 0
+Resolves from to m (declared.TheVariants.Refused f) = Some (failure f) ≡ least (naming_failures from to m)
+Resolves from to m (declared.TheVariants.Resolved made) = IsNamed from to m made

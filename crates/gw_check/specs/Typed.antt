@@ -1,0 +1,21 @@
+-- Which maps the rules allow.
+use Rattle.std.specs.Prelude.{◌≡◌, ℕ, true, List, [], ◌∷◌, ◌++◌}
+use Rattle.gw_profile.specs.Shapes.{ProfileValue}
+use Rattle.gw_check.specs.Places.{the_whole}
+use Rattle.gw_check.specs.Resolved.{Resolved}
+use Rattle.gw_check.specs.Failures.{Failure, fails}
+use Rattle.gw_check.specs.Levels.{level_failures, items_failures}
+use Rattle.gw_check.specs.Reads.{items_read, some_passed_over}
+use Rattle.gw_check.specs.Placed.{are_placed}
+
+-- the failures of the rules 4 to 12
+abbrev pub failures : ProfileValue → ProfileValue → Resolved → List Failure
+failures source target map =
+    level_failures (the_whole source.nodes ∷ []) map.line 0 target.nodes map.items
+    ++ items_failures source.tables target.tables (the_whole source.nodes ∷ []) target.nodes map.items
+    ++ fails 9 map.line (some_passed_over (items_read ([] ∷ []) map.items) map.drops [] 0 source.nodes)
+
+-- the items stand in order, and no rule fails
+pub record IsTyped (source target : ProfileValue) (map : Resolved) : Type 0 where
+  pub placed : are_placed target.nodes 0 map.items ≡ true
+  pub none_fails : failures source target map ≡ []

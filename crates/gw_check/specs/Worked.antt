@@ -1,0 +1,169 @@
+-- Worked profiles and maps.
+use Rattle.std.specs.Prelude.{ℕ, ◌+◌, List, [], ◌∷◌, Option, Some, None, codes}
+use Rattle.gw_profile.specs.declared.shape.Usage.{Usage}
+use Rattle.gw_profile.specs.declared.shape.Usage.TheVariants.{R, RE, O}
+use Rattle.gw_profile.specs.declared.shape.Card.{Card}
+use Rattle.gw_profile.specs.Shapes.{FieldValue, SegmentValue, Forest, nothing, segment, group, ProfileValue}
+use Rattle.gw_profile.specs.Value.{leaf_comp}
+use Rattle.gw_maplang.specs.declared.rule.LeafPlace.{LeafPlace}
+use Rattle.gw_maplang.specs.Shapes as raw
+use Rattle.gw_maplang.specs.Shapes.{MapValue, Row, TableValue}
+use Rattle.gw_check.specs.Failures.{Failure}
+
+abbrev card : ℕ → ℕ → Card
+card min max = record { min = min; max = Some max }
+
+abbrev many : ℕ → Card
+many min = record { min = min; max = None }
+
+abbrev field : ℕ → Usage → Card → FieldValue
+field number usage card = record { number = number; usage = usage; card = card; comps = [] }
+
+-- a field of one leaf of one octet, with a table
+abbrev coded : ℕ → Usage → Card → List ℕ → FieldValue
+coded number usage card table = record { number = number; usage = usage; card = card; comps = leaf_comp (record { len = Some 1; table = Some table }) ∷ [] }
+
+abbrev seg : List ℕ → Usage → Card → List FieldValue → Forest → Forest
+seg name usage card fields rest = segment (record { name = name; label = name; usage = usage; card = card; fields = fields }) rest
+
+abbrev grp : List ℕ → Card → Forest → Forest → Forest
+grp label card nodes rest = group (record { label = label; usage = R; card = card }) nodes rest
+
+abbrev msh : List FieldValue → Forest → Forest
+msh fields rest = seg (codes "MSH") R (card 1 1) fields rest
+
+-- patients, whose sex may be missing (P1) or not (P2)
+abbrev patients : List ℕ → FieldValue → ProfileValue
+patients name sex =
+    record {
+      name = name;
+      tables = record { name = codes "SEX"; values = codes "M" ∷ codes "F" ∷ codes "U" ∷ [] } ∷ [];
+      nodes =
+          msh (field 10 R (card 1 1) ∷ [])
+          (seg (codes "PID") R (card 1 1) (field 3 R (card 1 2) ∷ field 5 RE (card 0 1) ∷ sex ∷ [])
+          (seg (codes "NK1") O (card 0 2) [] nothing));
+    }
+
+abbrev pub p1 : ProfileValue
+p1 = patients (codes "P1") (coded 8 RE (card 0 1) (codes "SEX"))
+
+abbrev pub p2 : ProfileValue
+p2 = patients (codes "P2") (coded 8 R (card 1 1) (codes "SEX"))
+
+-- the same sex by the codes of ISO 5218
+abbrev pub t1 : ProfileValue
+t1 =
+    record {
+      name = codes "T1";
+      tables = record { name = codes "ISO"; values = codes "1" ∷ codes "2" ∷ codes "9" ∷ [] } ∷ [];
+      nodes = msh (field 10 R (card 1 1) ∷ []) (seg (codes "PID") R (card 1 1) (coded 8 R (card 1 1) (codes "ISO") ∷ []) nothing);
+    }
+
+abbrev leaf_place : LeafPlace
+leaf_place = record { comp = 1; sub = 1 }
+
+abbrev from : List ℕ → ℕ → raw.FieldPath
+from label number = record { path = label ∷ []; field = number }
+
+abbrev copies : ℕ → List ℕ → ℕ → raw.RuleValue
+copies line label number = record { line = line; field = number; making = raw.Copies (from label number) }
+
+abbrev item : ℕ → List ℕ → List ℕ → List raw.RuleValue → raw.Items → raw.Items
+item line label source rules rest = raw.segment (record { line = line; label = label; source = Some (source ∷ []); rules = rules }) rest
+
+abbrev dropped : ℕ → ℕ → raw.DropValue
+dropped line number = record { line = line; path = codes "PID" ∷ []; field = Some number }
+
+-- lines 1 to 11, or fewer where a row or the other value is left out
+abbrev sex_map : ℕ → List Row → Option (List ℕ) → MapValue
+sex_map behind rows other =
+    record {
+      name = codes "M";
+      source = codes "P";
+      target = codes "T1";
+      line = 1;
+      tables = record { name = codes "SEXMAP"; rows = rows; other = other } ∷ [];
+      items =
+          item (behind + 1) (codes "MSH") (codes "MSH") (copies (behind + 2) (codes "MSH") 10 ∷ [])
+          (item (behind + 3) (codes "PID") (codes "PID")
+          (record { line = behind + 4; field = 8; making = raw.Builds (record { line = behind + 4; place = leaf_place; leaf = raw.Lookup (codes "SEXMAP") (raw.Field (from (codes "PID") 8) leaf_place) } ∷ []) } ∷ [])
+          raw.nothing);
+      drops = dropped (behind + 5) 3 ∷ dropped (behind + 6) 5 ∷ [];
+    }
+
+abbrev row : List ℕ → List ℕ → Row
+row first second = record { first = first; second = second }
+
+abbrev pub m1 : MapValue
+m1 = sex_map 5 (row (codes "M") (codes "1") ∷ row (codes "F") (codes "2") ∷ []) (Some (codes "9"))
+
+-- without a row for F, and without another value
+abbrev pub m4 : MapValue
+m4 = sex_map 3 (row (codes "M") (codes "1") ∷ []) None
+
+-- next of kin and guarantors, and a target for both
+abbrev pub kin : ProfileValue
+kin =
+    record {
+      name = codes "KIN";
+      tables = [];
+      nodes = msh [] (seg (codes "NK1") O (card 0 2) [] (seg (codes "GT1") O (card 0 2) [] nothing));
+    }
+
+abbrev pub contacts : ℕ → ProfileValue
+contacts most = record { name = codes "CONTACTS"; tables = []; nodes = msh [] (seg (codes "NK1") O (card 0 most) [] nothing) }
+
+abbrev pub both_kinds : MapValue
+both_kinds =
+    record {
+      name = codes "BOTH";
+      source = codes "KIN";
+      target = codes "CONTACTS";
+      line = 1;
+      tables = [];
+      items = item 2 (codes "MSH") (codes "MSH") [] (item 3 (codes "NK1") (codes "NK1") [] (item 4 (codes "NK1") (codes "GT1") [] raw.nothing));
+      drops = [];
+    }
+
+-- results in groups, and a target without
+abbrev pub oru : ProfileValue
+oru =
+    record {
+      name = codes "ORU";
+      tables = [];
+      nodes =
+          msh []
+          (grp (codes "PATIENT_RESULT") (many 1)
+          (grp (codes "PATIENT") (card 1 1) (seg (codes "PID") R (card 1 1) [] nothing)
+          (grp (codes "ORDER") (many 1) (seg (codes "OBR") R (card 1 1) (field 1 RE (card 0 1) ∷ []) nothing) nothing))
+          nothing);
+    }
+
+abbrev pub orders : Card → ProfileValue
+orders how_many = record { name = codes "FLAT"; tables = []; nodes = msh [] (seg (codes "OBR") R how_many (field 1 RE (card 0 1) ∷ []) nothing) }
+
+abbrev pub any_orders : ProfileValue
+any_orders = orders (many 1)
+
+abbrev pub two_orders : ProfileValue
+two_orders = orders (card 1 2)
+
+abbrev flat : ℕ → List ℕ → raw.Items → raw.Items → raw.Items
+flat line label items rest = raw.flat (record { line = line; path = label ∷ [] }) items rest
+
+abbrev pub m3 : MapValue
+m3 =
+    record {
+      name = codes "M3";
+      source = codes "ORU";
+      target = codes "FLAT";
+      line = 1;
+      tables = [];
+      items =
+          item 2 (codes "MSH") (codes "MSH") []
+          (flat 3 (codes "PATIENT_RESULT") (flat 4 (codes "ORDER") (item 5 (codes "OBR") (codes "OBR") (copies 6 (codes "OBR") 1 ∷ []) raw.nothing) raw.nothing) raw.nothing);
+      drops = [];
+    }
+
+abbrev pub failure : ℕ → ℕ → Option Failure
+failure rule line = Some (record { rule = rule; line = line })

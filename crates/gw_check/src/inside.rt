@@ -1,0 +1,132 @@
+//! The rules within the items of a map.
+ghost use Rattle.std.specs.Prelude.{◌≡◌, map, IfOk, option_map};
+ghost use Rattle.gw_profile.specs.Seen.{forest, field};
+ghost use Rattle.gw_check.specs.Places as places;
+ghost use Rattle.gw_check.specs.Checking.{CountedNodes, NotesSegment, NotesItem, NotesItems};
+ghost use Rattle.gw_check.specs.Seen.{scope as walked, place as seen_place};
+
+use crate::element::{Element, child, nodes_of};
+use crate::failure::Failure;
+use crate::field::check_segment;
+use crate::level::{check_level, within};
+use crate::resolved::{Item, Place, SegmentItem};
+use crate::sources::Sources;
+use gw_maplang::Map;
+use gw_profile::{FieldShape, Node, Profile};
+use std::alloc::{AllocError, Global};
+
+/// A map with its profiles, while it is checked.
+#[derive(Clone, Copy)]
+pub(crate) struct Sides<'s, 't, 'm> {
+    pub(crate) source: &'s Profile,
+    pub(crate) target: &'t Profile,
+    pub(crate) map: &'m Map,
+}
+
+/// The nodes within the node of this number.
+pub(crate) fn nodes_at(nodes: &[Node], number: usize) -> &[Node]
+    ensures { forest result.now ≡ places.nodes_of_child (forest nodes.now) number }
+{
+    match child(nodes, number) {
+        None => &[],
+        Some(element) => nodes_of(element),
+    }
+}
+
+/// The fields of the segment of this number.
+pub(crate) fn fields_at(nodes: &[Node], number: usize) -> &[FieldShape]
+    ensures { map field result.now ≡ places.fields_of (places.child (forest nodes.now) number) }
+{
+    match child(nodes, number) {
+        Some(Element::Segment(segment)) => &segment.fields,
+        _ => &[],
+    }
+}
+
+/// The scope of what is walked at a place; where none is said nothing more is walked.
+fn within_if<'a>(
+    alloc: Global,
+    scope: &[Element<'a>],
+    place: &Option<Place>,
+) -> Result<Vec<Element<'a>>, AllocError>
+    ensures { IfOk result (λ es. walked es.items ≡ places.within_if (walked scope.now) (option_map seen_place place.now)) }
+{
+    match place {
+        None => Vec::from_slice(alloc, scope),
+        Some(place) => within(alloc, scope, place),
+    }
+}
+
+// The failures of the rules on the segments that an item gives.
+fn check_given(
+    alloc: Global,
+    worst: Option<Failure>,
+    sides: Sides<'_, '_, '_>,
+    scope: &[Element<'_>],
+    nodes: &[Node],
+    segment: &SegmentItem,
+) -> Result<Option<Failure>, AllocError>
+    ensures { IfOk result (λ new. NotesSegment sides.entry.map.now.tables sides.entry.source.now.tables sides.entry.target.now.tables (walked scope.now) (forest nodes.now) segment.now worst new) }
+{
+    let inner = within_if(alloc, scope, &segment.place)?;
+    let sources = Sources {
+        profile: sides.source,
+        map: sides.map,
+        scope: &inner,
+        current: None,
+    };
+    Ok(check_segment(
+        worst,
+        sources,
+        sides.target,
+        segment.line,
+        &segment.rules,
+        fields_at(nodes, segment.child),
+    ))
+}
+
+// The failures of the rules on what one item gives.
+#[cycle(inside)]
+fn check_item(
+    alloc: Global,
+    worst: Option<Failure>,
+    sides: Sides<'_, '_, '_>,
+    scope: &[Element<'_>],
+    nodes: &[Node],
+    item: &Item,
+) -> Result<Option<Failure>, AllocError>
+    ensures { IfOk result (λ new. CountedNodes (forest nodes.now) → NotesItem sides.entry.map.now.tables sides.entry.source.now.tables sides.entry.target.now.tables (walked scope.now) (forest nodes.now) item.now worst new) }
+{
+    match item {
+        Item::Segment(segment) => check_given(alloc, worst, sides, scope, nodes, segment),
+        Item::Group(group) => {
+            let inner = within(alloc, scope, &group.place)?;
+            let below = nodes_at(nodes, group.child);
+            let worst = check_level(alloc, worst, &inner, group.line, below, &group.items)?;
+            check_items(alloc, worst, sides, &inner, below, &group.items)
+        }
+        Item::Flat(flat) => {
+            let inner = within(alloc, scope, &flat.place)?;
+            check_items(alloc, worst, sides, &inner, nodes, &flat.items)
+        }
+    }
+}
+
+/// The failures of the rules on what the items give, where the target's nodes of their level are these.
+#[cycle(inside)]
+pub(crate) fn check_items(
+    alloc: Global,
+    worst: Option<Failure>,
+    sides: Sides<'_, '_, '_>,
+    scope: &[Element<'_>],
+    nodes: &[Node],
+    items: &[Item],
+) -> Result<Option<Failure>, AllocError>
+    ensures { IfOk result (λ new. CountedNodes (forest nodes.now) → NotesItems sides.entry.map.now.tables sides.entry.source.now.tables sides.entry.target.now.tables (walked scope.now) (forest nodes.now) items.now worst new) }
+{
+    let mut worst = worst;
+    for (i, item) in items.iter().enumerate() {
+        worst = check_item(alloc, worst, sides, scope, nodes, item)?;
+    }
+    Ok(worst)
+}

@@ -1,0 +1,94 @@
+//! The items of a level: how often they come, and for which target node.
+ghost use Rattle.std.specs.Prelude.{◌≡◌, ◌++◌, IfOk};
+ghost use Rattle.gw_check.specs.Counted.{CountsOne, CountsAll, FirstChild, ChildOf, Leads};
+ghost use Rattle.gw_check.specs.Levels.{is_of};
+ghost use Rattle.gw_check.specs.Seen.{scope as walked};
+
+use crate::element::Element;
+use crate::interval::{Interval, never};
+use crate::level::{count_at, count_if, within};
+use crate::resolved::Item;
+use std::alloc::{AllocError, Global};
+
+// How often one item comes.
+#[cycle(count)]
+fn item_count(
+    alloc: Global,
+    scope: &[Element<'_>],
+    item: &Item,
+) -> Result<Interval, AllocError>
+    ensures { IfOk result (λ c. CountsOne (walked scope.now) item.now c) }
+{
+    match item {
+        Item::Segment(segment) => Ok(count_if(scope, &segment.place)),
+        Item::Group(group) => Ok(count_at(scope, &group.place)),
+        Item::Flat(flat) => {
+            let inner = within(alloc, scope, &flat.place)?;
+            let each = items_count(alloc, &inner, &flat.items)?;
+            Ok(count_at(scope, &flat.place).times(each))
+        }
+    }
+}
+
+/// How often the items come together.
+#[cycle(count)]
+pub(crate) fn items_count(
+    alloc: Global,
+    scope: &[Element<'_>],
+    items: &[Item],
+) -> Result<Interval, AllocError>
+    ensures { IfOk result (λ c. CountsAll (walked scope.now) items.now c) }
+{
+    let mut total = never();
+    let mut left = items.len();
+    while left > 0 {
+        left -= 1;
+        let one = item_count(alloc, scope, &items[left])?;
+        total = one.plus(total);
+    }
+    Ok(total)
+}
+
+// The target node of an item; all items of a flat have one.
+#[cycle(child)]
+fn child_of(item: &Item) -> Option<usize>
+    ensures { ChildOf item.now result }
+{
+    match item {
+        Item::Segment(segment) => Some(segment.child),
+        Item::Group(group) => Some(group.child),
+        Item::Flat(flat) => first_child(&flat.items),
+    }
+}
+
+// The target node of the first item.
+#[cycle(child)]
+fn first_child(items: &[Item]) -> Option<usize>
+    ensures { FirstChild items.now result }
+{
+    let [item, ..] = items else {
+        return None;
+    };
+    child_of(item)
+}
+
+fn is_of(node: usize, child: Option<usize>) -> bool
+    ensures { result ≡ is_of node child }
+{
+    match child {
+        None => false,
+        Some(child) => child == node,
+    }
+}
+
+/// How many of the items, which stand in the order of the nodes, are of this node.
+pub(crate) fn leading(items: &[Item], node: usize) -> usize
+    ensures { Leads node items.now result }
+{
+    for (i, item) in items.iter().enumerate() {
+        if !is_of(node, child_of(item)) {
+            return i;
+        }
+    }
+    items.len()
+}

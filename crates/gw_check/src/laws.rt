@@ -1,0 +1,15 @@
+//! What holds of the definitions.
+ghost use Rattle.std.specs.Prelude.{◌≡◌, None};
+ghost use Rattle.gw_check.specs.Checked.{all_failures, least};
+ghost use Rattle.gw_check.specs.Worked.{p1, p2, t1, m1, m4, kin, contacts, both_kinds, oru, any_orders, two_orders, m3, failure};
+
+/// What the rules say of worked maps.
+pub fn worked_maps()
+    ensures may_be_absent { least (all_failures p1 t1 m1) ≡ failure 5 9 }
+    ensures is_there { least (all_failures p2 t1 m1) ≡ None }
+    ensures without_a_row { least (all_failures p2 t1 m4) ≡ failure 10 7 }
+    ensures too_many { least (all_failures kin (contacts 3) both_kinds) ≡ failure 4 3 }
+    ensures enough_room { least (all_failures kin (contacts 4) both_kinds) ≡ None }
+    ensures flattened { least (all_failures oru any_orders m3) ≡ None }
+    ensures flattened_too_many { least (all_failures oru two_orders m3) ≡ failure 4 3 }
+{}

@@ -1,0 +1,182 @@
+//! The rules on target segments and groups.
+ghost use Rattle.std.specs.Prelude.{◌≡◌, ◌&&◌, not, ℕ, List, IfOk, option_map};
+ghost use Rattle.gw_profile.specs.Seen.{forest};
+ghost use Rattle.gw_check.specs.Levels as spec;
+ghost use Rattle.gw_check.specs.Resolved as resolved;
+ghost use Rattle.gw_check.specs.Places as places;
+ghost use Rattle.gw_check.specs.Seen.{interval, saturated, scope as walked, place as seen_place, with_item, all_items};
+ghost use Rattle.gw_check.specs.Checking.{NotesNode, NotesLevel, CountedNodes, usage_of};
+ghost use Rattle.gw_check.specs.Fields.{is_expected};
+ghost use Rattle.gw_check.specs.Intervals.{is_never, is_within};
+ghost use Rattle.gw_profile.specs.WellFormed.{Counted};
+ghost use Rattle.gw_validate.specs.Breaches.{is_forbidden};
+ghost use Rattle.gw_maplang.specs.Shapes.{TableValue};
+
+use crate::element::Element;
+use crate::failure::{Failure, note};
+use crate::interval::{Interval, never, once};
+use crate::items::{items_count, leading};
+use crate::place::find;
+use crate::resolved::{Item, Place};
+use gw_profile::{Card, Node, Usage};
+use std::alloc::{AllocError, Global};
+
+/// The scope of what is walked at a place.
+pub(crate) fn within<'a>(
+    alloc: Global,
+    scope: &[Element<'a>],
+    place: &Place,
+) -> Result<Vec<Element<'a>>, AllocError>
+    ensures { IfOk result (λ es. walked es.items ≡ places.within (walked scope.now) (seen_place place.now)) }
+{
+    let mut inner = Vec::from_slice(alloc, scope)?;
+    match find(scope, place) {
+        None => inner.push(Element::Whole(&[]))?,
+        Some(found) => inner.push(found.element)?,
+    }
+    Ok(inner)
+}
+
+/// How often a place is there.
+pub(crate) fn count_at(scope: &[Element<'_>], place: &Place) -> Interval
+    ensures { interval result ≡ saturated (places.count_at (walked scope.now) (seen_place place.now)) }
+{
+    match find(scope, place) {
+        None => never(),
+        Some(found) => found.count,
+    }
+}
+
+/// How often a place is there, once where none is said.
+pub(crate) fn count_if(scope: &[Element<'_>], place: &Option<Place>) -> Interval
+    ensures { interval result ≡ saturated (places.count_if (walked scope.now) (option_map seen_place place.now)) }
+{
+    match place {
+        None => once(),
+        Some(place) => count_at(scope, place),
+    }
+}
+
+// The line of an item.
+fn line_of(item: &Item) -> u32
+    ensures { (tables : List TableValue) (rest : resolved.Items) (holder : ℕ) → result ≡ spec.first_line holder (with_item tables item.now rest) }
+{
+    match item {
+        Item::Segment(segment) => segment.line,
+        Item::Group(group) => group.line,
+        Item::Flat(flat) => flat.line,
+    }
+}
+
+// The line of the first item, or of what should hold one.
+fn first_line(holder: u32, items: &[Item]) -> u32
+    ensures { (tables : List TableValue) → result ≡ spec.first_line holder (all_items tables items.now) }
+{
+    let [item, ..] = items else {
+        return holder;
+    };
+    line_of(item)
+}
+
+/// Forbidden.
+pub(crate) fn is_forbidden(usage: Usage) -> bool
+    ensures { result ≡ is_forbidden usage }
+{
+    match usage {
+        Usage::X => true,
+        _ => false,
+    }
+}
+
+/// Required, but it may be empty.
+pub(crate) fn is_expected(usage: Usage) -> bool
+    ensures { result ≡ is_expected usage }
+{
+    match usage {
+        Usage::RE => true,
+        _ => false,
+    }
+}
+
+fn is_too_often(usage: Usage, count: Interval, most: Option<u32>) -> bool
+    ensures { result ≡ not (is_forbidden usage) && not (is_within count.greatest most) }
+{
+    !is_forbidden(usage) && !count.is_within(most)
+}
+
+fn has_no_item(items: &[Item]) -> bool
+    ensures { (tables : List TableValue) → result ≡ spec.has_no_item (all_items tables items.now) }
+{
+    items.is_empty()
+}
+
+fn is_missing(usage: Usage, items: &[Item]) -> bool
+    ensures { (tables : List TableValue) → result ≡ is_expected usage && spec.has_no_item (all_items tables items.now) }
+{
+    is_expected(usage) && has_no_item(items)
+}
+
+fn is_there_forbidden(usage: Usage, count: Interval) -> bool
+    ensures { result ≡ is_forbidden usage && not (is_never count.greatest) }
+{
+    is_forbidden(usage) && !count.is_never()
+}
+
+fn usage_of(node: &Node) -> Usage
+    ensures { result ≡ usage_of node.now }
+{
+    match node {
+        Node::Seg(segment) => segment.usage,
+        Node::Group(group) => group.usage,
+    }
+}
+
+// The failures of the rules on the count of a node, of which these are the items.
+fn check_node(
+    alloc: Global,
+    worst: Option<Failure>,
+    scope: &[Element<'_>],
+    holder: u32,
+    usage: Usage,
+    card: Card,
+    items: &[Item],
+) -> Result<Option<Failure>, AllocError>
+    ensures { IfOk result (λ new. Counted card → NotesNode (walked scope.now) holder usage card items.now worst new) }
+{
+    let count = items_count(alloc, scope, items)?;
+    let line = first_line(holder, items);
+    let worst = note(worst, 4, line, is_too_often(usage, count, card.max));
+    let worst = note(worst, 5, line, count.least < u64::from(card.min));
+    let worst = note(worst, 8, holder, is_missing(usage, items));
+    Ok(note(worst, 11, line, is_there_forbidden(usage, count)))
+}
+
+/// The failures of the rules on the counts of these nodes, at a level whose items stand in the group, or the map, at this line.
+pub(crate) fn check_level(
+    alloc: Global,
+    worst: Option<Failure>,
+    scope: &[Element<'_>],
+    holder: u32,
+    nodes: &[Node],
+    items: &[Item],
+) -> Result<Option<Failure>, AllocError>
+    ensures { IfOk result (λ new. CountedNodes (forest nodes.now) → NotesLevel (walked scope.now) holder 0 (forest nodes.now) items.now worst new) }
+{
+    let mut worst = worst;
+    let mut done = 0;
+    for (j, node) in nodes.iter().enumerate() {
+        let rest = &items[done..];
+        let count = leading(rest, j);
+        worst = check_node(
+            alloc,
+            worst,
+            scope,
+            holder,
+            usage_of(node),
+            node.card(),
+            &rest[..count],
+        )?;
+        done += count;
+    }
+    Ok(worst)
+}

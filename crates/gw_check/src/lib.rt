@@ -1,0 +1,46 @@
+//! Checks maps before they run: the rules that keep a translation from failing, and from giving what its receiver refuses.
+#![tactic(auto)]
+
+mod checker;
+mod checked;
+mod copied;
+mod count;
+mod element;
+mod failure;
+mod field;
+mod inside;
+mod interval;
+mod items;
+mod known;
+pub mod laws;
+mod leaf;
+mod level;
+mod lookup;
+mod made;
+mod naming;
+mod paths;
+mod place;
+mod presence;
+mod reads;
+mod resolve;
+mod resolved;
+mod resolving;
+mod shape;
+mod sources;
+mod targets;
+mod texts;
+mod values;
+
+pub use checker::{CheckFault, check};
+pub use checked::CheckedMap;
+pub use leaf::included;
+pub use resolved::{
+    At, FlatItem, GroupItem, Item, Leaf, LeftOut, Making, Place, Reference, Rule, SegmentItem,
+    Source,
+};
+pub use shape::{Presence, Shape, Values};
+
+#[cfg(test)]
+mod included_tests;
+#[cfg(test)]
+mod resolve_tests;

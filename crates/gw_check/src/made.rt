@@ -1,0 +1,346 @@
+//! The rules on fields that are made of leaves.
+ghost use Rattle.std.specs.Prelude.{◌≡◌, ◌==◌, ◌&&◌, ◌||◌, not, map, flat_map, Some, ◌∷◌, []};
+ghost use Rattle.std.specs.List.{list_any, list_all};
+ghost use Rattle.gw_profile.specs.Seen.{sub as sub_value, comp as comp_value, field as field_value};
+ghost use Rattle.gw_validate.specs.Breaches.{is_null, is_required};
+ghost use Rattle.gw_check.specs.Failures.{fails};
+ghost use Rattle.gw_check.specs.Fields as spec;
+ghost use Rattle.gw_check.specs.Leaves as leaves_spec;
+ghost use Rattle.gw_check.specs.Noted.{noted};
+ghost use Rattle.gw_check.specs.Reading.{sources_value, map_tables, some_comp, some_sub};
+ghost use Rattle.gw_check.specs.Seen.{failures, at_leaf, leaf as seen_leaf};
+ghost use Rattle.gw_check.specs.Texts.{texts_value};
+
+use crate::failure::{Failure, note};
+use crate::known::{comp_of, sub_of};
+use crate::leaf::{leaf_texts, table_of};
+use crate::presence::{is_absent, is_always, leaf_presence};
+use crate::resolved::{At, Leaf};
+use crate::shape::Presence;
+use crate::sources::Sources;
+use crate::texts::{Texts, may_be_long, may_be_unlisted};
+use crate::values::{check_values, is_forbidden, is_required};
+use gw_profile::{CompShape, FieldShape, Profile, SubShape};
+
+// ---- whether something required is there
+
+fn has_comp_among(sources: Sources<'_, '_, '_, '_>, leaves: &[At], comp: u32) -> bool
+    ensures { result ≡ list_any (λ a. a.place.comp == comp && leaves_spec.is_always (leaves_spec.leaf_shape (sources_value sources.entry) (seen_leaf (map_tables sources.entry) a.leaf)).presence) leaves.now }
+{
+    leaves.iter().any(|at| at.place.comp == comp && is_always(leaf_presence(sources, &at.leaf)))
+}
+
+// Some leaf of the component is always there.
+fn has_comp(sources: Sources<'_, '_, '_, '_>, leaves: &[At], comp: u32) -> bool
+    ensures { result ≡ list_any (λ a. a.comp == comp && leaves_spec.is_always (leaves_spec.leaf_shape (sources_value sources.entry) a.leaf).presence) (map (at_leaf (map_tables sources.entry)) leaves.now) }
+{
+    has_comp_among(sources, leaves, comp)
+}
+
+fn has_only_comp_among(sources: Sources<'_, '_, '_, '_>, leaves: &[At], comp: u32) -> bool
+    ensures { result ≡ list_all (λ a. a.place.comp == comp || leaves_spec.is_absent (leaves_spec.leaf_shape (sources_value sources.entry) (seen_leaf (map_tables sources.entry) a.leaf)).presence) leaves.now }
+{
+    leaves.iter().all(|at| at.place.comp == comp || is_absent(leaf_presence(sources, &at.leaf)))
+}
+
+// No text can stand but in the component.
+fn has_only_comp(sources: Sources<'_, '_, '_, '_>, leaves: &[At], comp: u32) -> bool
+    ensures { result ≡ list_all (λ a. a.comp == comp || leaves_spec.is_absent (leaves_spec.leaf_shape (sources_value sources.entry) a.leaf).presence) (map (at_leaf (map_tables sources.entry)) leaves.now) }
+{
+    has_only_comp_among(sources, leaves, comp)
+}
+
+fn is_comp_sure(sources: Sources<'_, '_, '_, '_>, leaves: &[At], comp: u32) -> bool
+    ensures { result ≡ spec.is_comp_sure (sources_value sources.entry) (map (at_leaf (map_tables sources.entry)) leaves.now) comp }
+{
+    has_comp(sources, leaves, comp) || has_only_comp(sources, leaves, comp)
+}
+
+fn has_sub_among(sources: Sources<'_, '_, '_, '_>, leaves: &[At], comp: u32, sub: u32) -> bool
+    ensures { result ≡ list_any (λ a. a.place.comp == comp && a.place.sub == sub && leaves_spec.is_always (leaves_spec.leaf_shape (sources_value sources.entry) (seen_leaf (map_tables sources.entry) a.leaf)).presence) leaves.now }
+{
+    leaves.iter().any(|at| {
+        at.place.comp == comp && at.place.sub == sub && is_always(leaf_presence(sources, &at.leaf))
+    })
+}
+
+// The leaf of the subcomponent is always there.
+fn has_sub(sources: Sources<'_, '_, '_, '_>, leaves: &[At], comp: u32, sub: u32) -> bool
+    ensures { result ≡ list_any (λ a. a.comp == comp && a.sub == sub && leaves_spec.is_always (leaves_spec.leaf_shape (sources_value sources.entry) a.leaf).presence) (map (at_leaf (map_tables sources.entry)) leaves.now) }
+{
+    has_sub_among(sources, leaves, comp, sub)
+}
+
+fn has_only_sub_among(sources: Sources<'_, '_, '_, '_>, leaves: &[At], comp: u32, sub: u32) -> bool
+    ensures { result ≡ list_all (λ a. not (a.place.comp == comp) || a.place.sub == sub || leaves_spec.is_absent (leaves_spec.leaf_shape (sources_value sources.entry) (seen_leaf (map_tables sources.entry) a.leaf)).presence) leaves.now }
+{
+    leaves.iter().all(|at| {
+        at.place.comp != comp || at.place.sub == sub || is_absent(leaf_presence(sources, &at.leaf))
+    })
+}
+
+// The component can have no text but in the subcomponent.
+fn has_only_sub(sources: Sources<'_, '_, '_, '_>, leaves: &[At], comp: u32, sub: u32) -> bool
+    ensures { result ≡ list_all (λ a. not (a.comp == comp) || a.sub == sub || leaves_spec.is_absent (leaves_spec.leaf_shape (sources_value sources.entry) a.leaf).presence) (map (at_leaf (map_tables sources.entry)) leaves.now) }
+{
+    has_only_sub_among(sources, leaves, comp, sub)
+}
+
+fn is_sub_sure(sources: Sources<'_, '_, '_, '_>, leaves: &[At], comp: u32, sub: u32) -> bool
+    ensures { result ≡ spec.is_sub_sure (sources_value sources.entry) (map (at_leaf (map_tables sources.entry)) leaves.now) comp sub }
+{
+    has_sub(sources, leaves, comp, sub) || has_only_sub(sources, leaves, comp, sub)
+}
+
+// ---- what is made
+
+fn check_sub(
+    worst: Option<Failure>,
+    sources: Sources<'_, '_, '_, '_>,
+    line: u32,
+    leaves: &[At],
+    comp: u32,
+    sub: &SubShape,
+) -> Option<Failure>
+    ensures { failures result ≡ noted (failures worst) (spec.made_sub (sources_value sources.entry) line (map (at_leaf (map_tables sources.entry)) leaves.now) comp (sub_value sub.now)) }
+{
+    if !is_required(sub.usage) {
+        return worst;
+    }
+    note(
+        worst,
+        5,
+        line,
+        !is_sub_sure(sources, leaves, comp, sub.number),
+    )
+}
+
+fn check_subs(
+    mut worst: Option<Failure>,
+    sources: Sources<'_, '_, '_, '_>,
+    line: u32,
+    leaves: &[At],
+    comp: u32,
+    subs: &[SubShape],
+) -> Option<Failure>
+    ensures { failures result ≡ noted (failures worst) (flat_map (spec.made_sub (sources_value sources.entry) line (map (at_leaf (map_tables sources.entry)) leaves.now) comp) (map sub_value subs.now)) }
+{
+    for (i, sub) in subs.iter().enumerate() {
+        worst = check_sub(worst, sources, line, leaves, comp, sub);
+    }
+    worst
+}
+
+// The component itself.
+fn check_required_comp(
+    worst: Option<Failure>,
+    sources: Sources<'_, '_, '_, '_>,
+    line: u32,
+    leaves: &[At],
+    comp: &CompShape,
+) -> Option<Failure>
+    ensures { failures result ≡ noted (failures worst) (fails 5 line (is_required comp.now.usage && not (spec.is_comp_sure (sources_value sources.entry) (map (at_leaf (map_tables sources.entry)) leaves.now) comp.now.number))) }
+{
+    if !is_required(comp.usage) {
+        return worst;
+    }
+    note(worst, 5, line, !is_comp_sure(sources, leaves, comp.number))
+}
+
+#[tactic(auto, using(crate::proofs::Noting::noted_both))]
+fn check_comp(
+    worst: Option<Failure>,
+    sources: Sources<'_, '_, '_, '_>,
+    line: u32,
+    leaves: &[At],
+    comp: &CompShape,
+) -> Option<Failure>
+    ensures { failures result ≡ noted (failures worst) (spec.made_comp (sources_value sources.entry) line (map (at_leaf (map_tables sources.entry)) leaves.now) (comp_value comp.now)) }
+{
+    let worst = check_required_comp(worst, sources, line, leaves, comp);
+    check_subs(worst, sources, line, leaves, comp.number, &comp.subs)
+}
+
+fn check_comps(
+    mut worst: Option<Failure>,
+    sources: Sources<'_, '_, '_, '_>,
+    line: u32,
+    leaves: &[At],
+    comps: &[CompShape],
+) -> Option<Failure>
+    ensures { failures result ≡ noted (failures worst) (flat_map (spec.made_comp (sources_value sources.entry) line (map (at_leaf (map_tables sources.entry)) leaves.now)) (map comp_value comps.now)) }
+{
+    for (i, comp) in comps.iter().enumerate() {
+        worst = check_comp(worst, sources, line, leaves, comp);
+    }
+    worst
+}
+
+// ---- what the leaves give
+
+fn is_null(text: &[u8]) -> bool
+    ensures { result ≡ is_null text.now }
+{
+    text == b"\"\"".as_slice()
+}
+
+// Another value than the table's, or too long.
+fn breaks(target: &Profile, texts: Texts<'_>, sub: &SubShape) -> bool
+    ensures { result ≡ (leaves_spec.may_be_unlisted (texts_value texts.entry) (spec.table_values target.now.tables (sub_value sub.now)) || leaves_spec.may_be_long (texts_value texts.entry) sub.now.len) }
+{
+    may_be_unlisted(texts, table_of(target, sub)) || may_be_long(texts, sub.len)
+}
+
+fn check_const(
+    worst: Option<Failure>,
+    target: &Profile,
+    line: u32,
+    text: &[u8],
+    sub: &SubShape,
+) -> Option<Failure>
+    ensures { failures result ≡ noted (failures worst) (fails 12 line (not (is_null text.now) && (leaves_spec.may_be_unlisted (leaves_spec.listed (text.now ∷ [])) (spec.table_values target.now.tables (sub_value sub.now)) || leaves_spec.may_be_long (leaves_spec.listed (text.now ∷ [])) sub.now.len))) }
+{
+    if is_null(text) {
+        return worst;
+    }
+    note(worst, 12, line, breaks(target, Texts::One(text), sub))
+}
+
+fn check_source(
+    worst: Option<Failure>,
+    sources: Sources<'_, '_, '_, '_>,
+    target: &Profile,
+    line: u32,
+    leaf: &Leaf,
+    sub: &SubShape,
+) -> Option<Failure>
+    ensures { failures result ≡ noted (failures worst) (spec.value_failures target.now.tables line (leaves_spec.leaf_shape (sources_value sources.entry) (seen_leaf (map_tables sources.entry) leaf.now)) (sub_value sub.now)) }
+{
+    check_values(
+        worst,
+        target,
+        line,
+        leaf_presence(sources, leaf),
+        leaf_texts(sources, leaf),
+        sub,
+    )
+}
+
+fn check_leaf(
+    worst: Option<Failure>,
+    sources: Sources<'_, '_, '_, '_>,
+    target: &Profile,
+    line: u32,
+    leaf: &Leaf,
+    sub: &SubShape,
+) -> Option<Failure>
+    ensures { failures result ≡ noted (failures worst) (spec.leaf_failures (sources_value sources.entry) target.now.tables line (seen_leaf (map_tables sources.entry) leaf.now) (sub_value sub.now)) }
+{
+    match leaf {
+        Leaf::Const(text) => check_const(worst, target, line, text, sub),
+        Leaf::Copied(_) => check_source(worst, sources, target, line, leaf, sub),
+        Leaf::LookedUp(_, _) => check_source(worst, sources, target, line, leaf, sub),
+    }
+}
+
+// A leaf at a place that the target may list.
+fn check_placed(
+    worst: Option<Failure>,
+    sources: Sources<'_, '_, '_, '_>,
+    target: &Profile,
+    at: &At,
+    sub: Option<&SubShape>,
+) -> Option<Failure>
+    ensures { failures result ≡ noted (failures worst) (spec.placed (sources_value sources.entry) target.now.tables at.now.line (seen_leaf (map_tables sources.entry) at.now.leaf) (some_sub sub.entry)) }
+{
+    match sub {
+        None => worst,
+        Some(sub) => check_leaf(worst, sources, target, at.line, &at.leaf, sub),
+    }
+}
+
+fn is_forbidden_comp(comp: Option<&CompShape>) -> bool
+    ensures { result ≡ spec.is_forbidden_comp (some_comp comp.entry) }
+{
+    match comp {
+        None => false,
+        Some(comp) => is_forbidden(comp.usage),
+    }
+}
+
+fn is_forbidden_sub(sub: Option<&SubShape>) -> bool
+    ensures { result ≡ spec.is_forbidden_sub (some_sub sub.entry) }
+{
+    match sub {
+        None => false,
+        Some(sub) => is_forbidden(sub.usage),
+    }
+}
+
+fn is_barred(comp: Option<&CompShape>, sub: Option<&SubShape>) -> bool
+    ensures { result ≡ (spec.is_forbidden_comp (some_comp comp.entry) || spec.is_forbidden_sub (some_sub sub.entry)) }
+{
+    is_forbidden_comp(comp) || is_forbidden_sub(sub)
+}
+
+fn check_barred(
+    worst: Option<Failure>,
+    line: u32,
+    barred: bool,
+    presence: Presence,
+) -> Option<Failure>
+    ensures { failures result ≡ noted (failures worst) (fails 11 line (barred && not (leaves_spec.is_absent presence))) }
+{
+    if !barred {
+        return worst;
+    }
+    note(worst, 11, line, !is_absent(presence))
+}
+
+#[tactic(auto, using(crate::proofs::Noting::noted_both))]
+fn check_at(
+    worst: Option<Failure>,
+    sources: Sources<'_, '_, '_, '_>,
+    target: &Profile,
+    field: &FieldShape,
+    at: &At,
+) -> Option<Failure>
+    ensures { failures result ≡ noted (failures worst) (spec.made_leaf (sources_value sources.entry) target.now.tables (field_value field.now) (at_leaf (map_tables sources.entry) at.now)) }
+{
+    let comp = comp_of(Some(field), at.place.comp);
+    let sub = sub_of(comp, at.place.sub);
+    let presence = leaf_presence(sources, &at.leaf);
+    let worst = check_barred(worst, at.line, is_barred(comp, sub), presence);
+    check_placed(worst, sources, target, at, sub)
+}
+
+fn check_leaves(
+    mut worst: Option<Failure>,
+    sources: Sources<'_, '_, '_, '_>,
+    target: &Profile,
+    field: &FieldShape,
+    leaves: &[At],
+) -> Option<Failure>
+    ensures { failures result ≡ noted (failures worst) (flat_map (spec.made_leaf (sources_value sources.entry) target.now.tables (field_value field.now)) (map (at_leaf (map_tables sources.entry)) leaves.now)) }
+{
+    for (i, at) in leaves.iter().enumerate() {
+        worst = check_at(worst, sources, target, field, at);
+    }
+    worst
+}
+
+/// The failures of a field that is made of these leaves.
+#[tactic(auto, using(crate::proofs::Noting::noted_both))]
+pub(crate) fn check_made(
+    worst: Option<Failure>,
+    sources: Sources<'_, '_, '_, '_>,
+    target: &Profile,
+    line: u32,
+    leaves: &[At],
+    field: &FieldShape,
+) -> Option<Failure>
+    ensures { failures result ≡ noted (failures worst) (spec.made_field (sources_value sources.entry) target.now.tables line (map (at_leaf (map_tables sources.entry)) leaves.now) (field_value field.now)) }
+{
+    let worst = check_comps(worst, sources, line, leaves, &field.comps);
+    check_leaves(worst, sources, target, field, leaves)
+}

@@ -1,0 +1,368 @@
+//! The rules on source paths (1 and 2).
+ghost use Rattle.std.specs.Prelude.{◌≡◌, ◌++◌, if◌then◌else◌, is_some, not, IfOk, Some, None, map, flat_map, option_map};
+ghost use Rattle.gw_profile.specs.Seen.{forest};
+ghost use Rattle.gw_maplang.specs.Seen.{items_all, field_path, ref as seen_ref, leaf_value, rule as seen_rule, with_item, all_items, dropped as seen_dropped};
+ghost use Rattle.gw_maplang.specs.declared.item.Item.{SegFrom};
+ghost use Rattle.gw_maplang.specs.Shapes.{nothing};
+ghost use Rattle.gw_check.specs.Failures.{fails};
+ghost use Rattle.gw_check.specs.Looking.{comes_often, place_there};
+ghost use Rattle.gw_check.specs.Naming as spec;
+ghost use Rattle.gw_profile.specs.Line.{allows};
+ghost use Rattle.gw_check.specs.Placed.{is_segment};
+ghost use Rattle.gw_check.specs.Noted.{noted};
+ghost use Rattle.gw_check.specs.Places as places;
+ghost use Rattle.gw_check.specs.Seen.{element as seen, place as seen_place, scope as walked, failures};
+
+use crate::element::{Element, child, nodes_of, nodes_of_child};
+use crate::failure::{Failure, note};
+use crate::paths::{element_at, place_of, within};
+use crate::resolved::Place;
+use gw_maplang::{Dropped, FieldPath, FromItem, Item, Leaf, LeafRule, Ref, Rule};
+use gw_profile::{Card, Node};
+use std::alloc::{AllocError, Global};
+
+fn allows_two(card: Card) -> bool
+    ensures { result ≡ allows card.max 2 }
+{
+    match card.max {
+        None => true,
+        Some(most) => most >= 2,
+    }
+}
+
+// Whether the node of this number may come more than once.
+fn comes_often(nodes: &[Node], number: usize) -> bool
+    ensures { result ≡ comes_often (places.child (forest nodes.now) number) }
+{
+    match child(nodes, number) {
+        None => false,
+        Some(Element::Segment(segment)) => allows_two(segment.card),
+        Some(Element::Group(group)) => allows_two(group.card),
+        Some(Element::Whole(_)) => false,
+    }
+}
+
+// No step may come more than once.
+fn are_single(nodes: &[Node], steps: &[usize]) -> bool
+    ensures { result ≡ spec.are_single (forest nodes.now) steps.now }
+{
+    let mut nodes = nodes;
+    for (i, step) in steps.iter().enumerate() {
+        if comes_often(nodes, *step) {
+            return false;
+        }
+        nodes = nodes_of_child(nodes, *step);
+    }
+    true
+}
+
+fn but_last(steps: &[usize]) -> &[usize]
+    ensures { result.now ≡ spec.but_last steps.now }
+{
+    let [before @ .., _] = steps else {
+        return &[];
+    };
+    before
+}
+
+// From where the steps of a place begin.
+fn start_of<'a>(scope: &[Element<'a>], place: &Place) -> &'a [Node]
+    ensures { forest result.now ≡ spec.start_of (walked scope.now) (seen_place place.now) }
+{
+    if place.out >= scope.len() {
+        return &[];
+    }
+    nodes_of(scope[scope.len() - 1 - place.out])
+}
+
+// No step of the place may come more than once, its last aside.
+fn is_walked_once(scope: &[Element<'_>], place: Option<&Place>) -> bool
+    ensures { result ≡ spec.is_single_place (walked scope.now) spec.but_last (place_there place.entry) }
+{
+    match place {
+        None => true,
+        Some(place) => are_single(start_of(scope, place), but_last(&place.steps)),
+    }
+}
+
+// No step of the place may come more than once.
+fn is_read_once(scope: &[Element<'_>], place: Option<&Place>) -> bool
+    ensures { result ≡ spec.is_single_place (walked scope.now) (λ steps. steps) (place_there place.entry) }
+{
+    match place {
+        None => true,
+        Some(place) => are_single(start_of(scope, place), &place.steps),
+    }
+}
+
+fn is_segment(element: Element<'_>) -> bool
+    ensures { result ≡ is_segment (Some (seen element.entry)) }
+{
+    match element {
+        Element::Segment(_) => true,
+        Element::Group(_) => false,
+        Element::Whole(_) => false,
+    }
+}
+
+fn ends_at_segment(scope: &[Element<'_>], place: Option<&Place>) -> bool
+    ensures { result ≡ spec.ends_at_segment (walked scope.now) (place_there place.entry) }
+{
+    match place {
+        None => false,
+        Some(place) => is_segment(element_at(scope, place)),
+    }
+}
+
+// Takes note of a path that leads nowhere, or by steps that come often.
+fn note_both(worst: Option<Failure>, line: u32, leads: bool, once: bool) -> Option<Failure>
+    ensures { failures result ≡ noted (failures worst) (fails 1 line (not leads) ++ fails 2 line (not once)) }
+{
+    note(note(worst, 1, line, !leads), 2, line, !once)
+}
+
+/// The failures of a path to what is walked, whose last step may come often.
+fn walk_failures(
+    alloc: Global,
+    worst: Option<Failure>,
+    scope: &[Element<'_>],
+    line: u32,
+    path: &[Vec<u8>],
+) -> Result<Option<Failure>, AllocError>
+    ensures { IfOk result (λ all. failures all ≡ noted (failures worst) (spec.walk_failures (walked scope.now) line (items_all path.now))) }
+{
+    let place = place_of(alloc, scope, path)?;
+    let leads = place.is_some();
+    let once = is_walked_once(scope, place.as_ref());
+    Ok(note_both(worst, line, leads, once))
+}
+
+/// The failures of a path to the segments that are walked.
+fn segments_failures(
+    alloc: Global,
+    worst: Option<Failure>,
+    scope: &[Element<'_>],
+    line: u32,
+    path: &[Vec<u8>],
+) -> Result<Option<Failure>, AllocError>
+    ensures { IfOk result (λ all. failures all ≡ noted (failures worst) (spec.segments_failures (walked scope.now) line (items_all path.now))) }
+{
+    let place = place_of(alloc, scope, path)?;
+    let leads = ends_at_segment(scope, place.as_ref());
+    let once = is_walked_once(scope, place.as_ref());
+    Ok(note_both(worst, line, leads, once))
+}
+
+/// The failures of a path to the one segment that is read.
+fn read_failures(
+    alloc: Global,
+    worst: Option<Failure>,
+    scope: &[Element<'_>],
+    line: u32,
+    from: &FieldPath,
+) -> Result<Option<Failure>, AllocError>
+    ensures { IfOk result (λ all. failures all ≡ noted (failures worst) (spec.read_failures (walked scope.now) line (field_path from.now))) }
+{
+    let place = place_of(alloc, scope, &from.path)?;
+    let leads = ends_at_segment(scope, place.as_ref());
+    let once = is_read_once(scope, place.as_ref());
+    Ok(note_both(worst, line, leads, once))
+}
+
+fn ref_failures(
+    alloc: Global,
+    worst: Option<Failure>,
+    scope: &[Element<'_>],
+    line: u32,
+    from: &Ref,
+) -> Result<Option<Failure>, AllocError>
+    ensures { IfOk result (λ all. failures all ≡ noted (failures worst) (spec.ref_failures (walked scope.now) line (seen_ref from.now))) }
+{
+    match from {
+        Ref::Field(from, _) => read_failures(alloc, worst, scope, line, from),
+        Ref::Current(_) => Ok(worst),
+    }
+}
+
+fn leaf_failures(
+    alloc: Global,
+    worst: Option<Failure>,
+    scope: &[Element<'_>],
+    leaf: &LeafRule,
+) -> Result<Option<Failure>, AllocError>
+    ensures { IfOk result (λ all. failures all ≡ noted (failures worst) (spec.leaf_failures (walked scope.now) (leaf_value leaf.now))) }
+{
+    match &leaf.leaf {
+        Leaf::Const(_) => Ok(worst),
+        Leaf::Copy(from) => ref_failures(alloc, worst, scope, leaf.line, from),
+        Leaf::Lookup(_, from) => ref_failures(alloc, worst, scope, leaf.line, from),
+    }
+}
+
+fn leaves_failures(
+    alloc: Global,
+    worst: Option<Failure>,
+    scope: &[Element<'_>],
+    leaves: &[LeafRule],
+) -> Result<Option<Failure>, AllocError>
+    ensures { IfOk result (λ all. failures all ≡ noted (failures worst) (flat_map (spec.leaf_failures (walked scope.now)) (map leaf_value leaves.now))) }
+{
+    let mut worst = worst;
+    for (i, leaf) in leaves.iter().enumerate() {
+        worst = leaf_failures(alloc, worst, scope, leaf)?;
+    }
+    Ok(worst)
+}
+
+fn rule_failures(
+    alloc: Global,
+    worst: Option<Failure>,
+    scope: &[Element<'_>],
+    rule: &Rule,
+) -> Result<Option<Failure>, AllocError>
+    ensures { IfOk result (λ all. failures all ≡ noted (failures worst) (spec.rule_failures (walked scope.now) (seen_rule rule.now))) }
+{
+    match rule {
+        Rule::CopyField(made) => read_failures(alloc, worst, scope, made.line, &made.from),
+        Rule::FirstRep(made) => read_failures(alloc, worst, scope, made.line, &made.from),
+        Rule::RepeatField(made) => {
+            let worst = read_failures(alloc, worst, scope, made.line, &made.from)?;
+            leaves_failures(alloc, worst, scope, &made.leaves)
+        }
+        Rule::Build(made) => leaves_failures(alloc, worst, scope, &made.leaves),
+    }
+}
+
+fn rules_failures(
+    alloc: Global,
+    worst: Option<Failure>,
+    scope: &[Element<'_>],
+    rules: &[Rule],
+) -> Result<Option<Failure>, AllocError>
+    ensures { IfOk result (λ all. failures all ≡ noted (failures worst) (flat_map (spec.rule_failures (walked scope.now)) (map seen_rule rules.now))) }
+{
+    let mut worst = worst;
+    for (i, rule) in rules.iter().enumerate() {
+        worst = rule_failures(alloc, worst, scope, rule)?;
+    }
+    Ok(worst)
+}
+
+// The failures of a segment item that walks a path.
+fn from_failures(
+    alloc: Global,
+    worst: Option<Failure>,
+    scope: &[Element<'_>],
+    made: &FromItem,
+) -> Result<Option<Failure>, AllocError>
+    ensures { IfOk result (λ all. failures all ≡ noted (failures worst) (spec.path_failures (walked scope.now) (with_item (SegFrom made.now) nothing))) }
+{
+    let worst = segments_failures(alloc, worst, scope, made.line, &made.path)?;
+    let inner = within(alloc, scope, &made.path)?;
+    rules_failures(alloc, worst, &inner, &made.rules)
+}
+
+// The failures of a path that is walked, and of the items of each occurrence.
+#[cycle(items)]
+fn each_failures(
+    alloc: Global,
+    worst: Option<Failure>,
+    scope: &[Element<'_>],
+    line: u32,
+    path: &[Vec<u8>],
+    items: &[Item],
+) -> Result<Option<Failure>, AllocError>
+    ensures { IfOk result (λ all. failures all ≡ noted (failures worst) (spec.walk_failures (walked scope.now) line (items_all path.now) ++ spec.path_failures (places.within (walked scope.now) (spec.place_or (walked scope.now) (items_all path.now))) (all_items items.now))) }
+{
+    let worst = walk_failures(alloc, worst, scope, line, path)?;
+    let inner = within(alloc, scope, path)?;
+    path_failures(alloc, worst, &inner, items)
+}
+
+#[cycle(items)]
+fn item_failures(
+    alloc: Global,
+    worst: Option<Failure>,
+    scope: &[Element<'_>],
+    item: &Item,
+) -> Result<Option<Failure>, AllocError>
+    ensures { IfOk result (λ all. failures all ≡ noted (failures worst) (spec.path_failures (walked scope.now) (with_item item.now nothing))) }
+{
+    match item {
+        Item::SegFrom(made) => from_failures(alloc, worst, scope, made),
+        Item::SegAlways(made) => rules_failures(alloc, worst, scope, &made.rules),
+        Item::EachAs(made) => each_failures(
+            alloc,
+            worst,
+            scope,
+            made.line,
+            &made.path,
+            &made.items,
+        ),
+        Item::EachFlat(made) => each_failures(
+            alloc,
+            worst,
+            scope,
+            made.line,
+            &made.path,
+            &made.items,
+        ),
+    }
+}
+
+/// The failures of the paths of items and of what stands within them.
+#[cycle(items)]
+pub(crate) fn path_failures(
+    alloc: Global,
+    worst: Option<Failure>,
+    scope: &[Element<'_>],
+    items: &[Item],
+) -> Result<Option<Failure>, AllocError>
+    ensures { IfOk result (λ all. failures all ≡ noted (failures worst) (spec.path_failures (walked scope.now) (all_items items.now))) }
+{
+    let mut worst = worst;
+    for (i, item) in items.iter().enumerate() {
+        worst = item_failures(alloc, worst, scope, item)?;
+    }
+    Ok(worst)
+}
+
+// Whether what is left out is there, and a segment where a field of it is named.
+fn leads(scope: &[Element<'_>], field: Option<u32>, place: Option<&Place>) -> bool
+    ensures { result ≡ (if is_some field then spec.ends_at_segment (walked scope.now) (place_there place.entry) else spec.has_place (place_there place.entry)) }
+{
+    match field {
+        None => place.is_some(),
+        Some(_) => ends_at_segment(scope, place),
+    }
+}
+
+fn drop_failures(
+    alloc: Global,
+    worst: Option<Failure>,
+    message: Element<'_>,
+    dropped: &Dropped,
+) -> Result<Option<Failure>, AllocError>
+    ensures { IfOk result (λ all. failures all ≡ noted (failures worst) (spec.drop_failures (seen message.entry) (seen_dropped dropped.now))) }
+{
+    let scope = [message];
+    let place = place_of(alloc, &scope, &dropped.path)?;
+    let there = leads(&scope, dropped.field, place.as_ref());
+    Ok(note(worst, 1, dropped.line, !there))
+}
+
+/// The failures of what is left out.
+pub(crate) fn drops_failures(
+    alloc: Global,
+    worst: Option<Failure>,
+    message: Element<'_>,
+    drops: &[Dropped],
+) -> Result<Option<Failure>, AllocError>
+    ensures { IfOk result (λ all. failures all ≡ noted (failures worst) (flat_map (spec.drop_failures (seen message.entry)) (map seen_dropped drops.now))) }
+{
+    let mut worst = worst;
+    for (i, dropped) in drops.iter().enumerate() {
+        worst = drop_failures(alloc, worst, message, dropped)?;
+    }
+    Ok(worst)
+}

@@ -1,0 +1,342 @@
+//! Which fields of the source are read, and which are passed over.
+ghost use Rattle.std.specs.Prelude.{◌≡◌, ◌++◌, ◌∷◌, ◌==◌, ◌&&◌, [], List, map, flat_map, bytes_eq, not, option_map, IfOk, OnOk};
+ghost use Rattle.std.specs.List.{starts_with, list_any};
+ghost use Rattle.gw_profile.specs.Seen.{forest, field as seen_field};
+ghost use Rattle.gw_check.specs.Reads as spec;
+ghost use Rattle.gw_check.specs.Collected.{Adds, covers, node_passes, reads as seen_reads, positions};
+ghost use Rattle.gw_check.specs.Seen.{place as seen_place, reference, source, leaf, at_leaf, making, rule, with_item, all_items, left_out as seen_drop};
+ghost use Rattle.gw_maplang.specs.Shapes.{TableValue};
+ghost use Rattle.gw_check.specs.Resolved.{no_items};
+
+use crate::level::is_forbidden;
+use crate::resolved::{
+    At, Item, Leaf, LeftOut, Making, Place, Reference, Rule, SegmentItem, Source,
+};
+use gw_profile::{FieldShape, Node, Usage};
+use std::alloc::{AllocError, Global};
+
+/// A field of the segment at a position.
+#[derive(Debug, Drop)]
+pub(crate) struct Read {
+    at: Vec<usize>,
+    field: u32,
+}
+
+/// The position of a place, seen from the positions that are walked, the innermost last.
+fn position(
+    alloc: Global,
+    scope: &[Vec<usize>],
+    place: &Place,
+) -> Result<Vec<usize>, AllocError>
+    ensures { IfOk result (λ p. p.items ≡ spec.position (positions scope.now) (seen_place place.now)) }
+{
+    if place.out >= scope.len() {
+        return Vec::from_slice(alloc, &place.steps);
+    }
+    let mut at = Vec::from_slice(alloc, &scope[scope.len() - 1 - place.out])?;
+    at.extend_from_slice(&place.steps)?;
+    Ok(at)
+}
+
+fn add_reference(
+    alloc: Global,
+    reads: &mut Vec<Read>,
+    scope: &[Vec<usize>],
+    from: &Reference,
+) -> Result<(), AllocError>
+    ensures { OnOk result (Adds reads.old.items reads.new.items (spec.read_by (positions scope.now) (reference from.now) ∷ [])) }
+{
+    let at = position(alloc, scope, &from.place)?;
+    let read = Read {
+        at,
+        field: from.field,
+    };
+    reads.push(read)?;
+    Ok(())
+}
+
+fn add_source(
+    alloc: Global,
+    reads: &mut Vec<Read>,
+    scope: &[Vec<usize>],
+    from: &Source,
+) -> Result<(), AllocError>
+    ensures { OnOk result (Adds reads.old.items reads.new.items (spec.source_reads (positions scope.now) (source from.now))) }
+{
+    match from {
+        Source::OfField(from, _) => add_reference(alloc, reads, scope, from),
+        Source::OfCurrent(_) => Ok(()),
+    }
+}
+
+fn add_leaf(
+    alloc: Global,
+    reads: &mut Vec<Read>,
+    scope: &[Vec<usize>],
+    at: &At,
+) -> Result<(), AllocError>
+    ensures { (tables : List TableValue) → OnOk result (Adds reads.old.items reads.new.items (spec.at_reads (positions scope.now) (at_leaf tables at.now))) }
+{
+    match &at.leaf {
+        Leaf::Const(_) => Ok(()),
+        Leaf::Copied(from) => add_source(alloc, reads, scope, from),
+        Leaf::LookedUp(_, from) => add_source(alloc, reads, scope, from),
+    }
+}
+
+fn same_steps(a: &[usize], b: &[usize]) -> bool
+    ensures { result ≡ bytes_eq a.now b.now }
+{
+    a == b
+}
+
+fn begins_with(at: &[usize], steps: &[usize]) -> bool
+    ensures { result ≡ starts_with (λ a b. a == b) at.now steps.now }
+{
+    at.starts_with(steps)
+}
+
+fn may_hold(usage: Usage) -> bool
+    ensures { result ≡ spec.may_hold usage }
+{
+    match usage {
+        Usage::R | Usage::RE => true,
+        Usage::O | Usage::X => false,
+    }
+}
+
+fn is_same(read: &Read, at: &[usize], field: u32) -> bool
+    ensures { result ≡ bytes_eq read.now.at.items at.now && read.now.field == field }
+{
+    read.field == field && same_steps(&read.at, at)
+}
+
+fn is_read(reads: &[Read], at: &[usize], field: u32) -> bool
+    ensures { result ≡ spec.is_read (seen_reads reads.now) at.now field }
+{
+    for (i, read) in reads.iter().enumerate() {
+        if is_same(read, at, field) {
+            return true;
+        }
+    }
+    false
+}
+
+fn covers(left_out: &LeftOut, at: &[usize], field: u32) -> bool
+    ensures { result ≡ covers (seen_drop left_out.now) at.now field }
+{
+    match left_out.field {
+        None => begins_with(at, &left_out.steps),
+        Some(number) => same_steps(&left_out.steps, at) && number == field,
+    }
+}
+
+fn is_dropped(drops: &[LeftOut], at: &[usize], field: u32) -> bool
+    ensures { result ≡ spec.is_dropped (map seen_drop drops.now) at.now field }
+{
+    for (i, left_out) in drops.iter().enumerate() {
+        if covers(left_out, at, field) {
+            return true;
+        }
+    }
+    false
+}
+
+fn is_passed_over(reads: &[Read], drops: &[LeftOut], at: &[usize], field: &FieldShape) -> bool
+    ensures { result ≡ spec.is_passed_over (seen_reads reads.now) (map seen_drop drops.now) at.now (seen_field field.now) }
+{
+    if !may_hold(field.usage) {
+        return false;
+    }
+    if is_read(reads, at, field.number) {
+        return false;
+    }
+    !is_dropped(drops, at, field.number)
+}
+
+// Whether a field of the segment is passed over; a forbidden segment has none.
+fn segment_passes(reads: &[Read], drops: &[LeftOut], at: &[usize], fields: &[FieldShape]) -> bool
+    ensures { result ≡ list_any (spec.is_passed_over (seen_reads reads.now) (map seen_drop drops.now) at.now) (map seen_field fields.now) }
+{
+    for (i, field) in fields.iter().enumerate() {
+        if is_passed_over(reads, drops, at, field) {
+            return true;
+        }
+    }
+    false
+}
+
+// Whether a field of the node at this position, or of one within it, is passed over.
+#[cycle(pass)]
+fn node_passes(
+    alloc: Global,
+    reads: &[Read],
+    drops: &[LeftOut],
+    at: &[usize],
+    node: &Node,
+) -> Result<bool, AllocError>
+    ensures { IfOk result (λ b. b ≡ node_passes (seen_reads reads.now) (map seen_drop drops.now) at.now node.now) }
+{
+    match node {
+        Node::Seg(segment) => {
+            Ok(!is_forbidden(segment.usage) && segment_passes(reads, drops, at, &segment.fields))
+        }
+        Node::Group(group) => some_passed_over(alloc, reads, drops, at, &group.nodes),
+    }
+}
+
+/// Whether a field of the nodes, or of one within them, is passed over, where they stand below this position.
+#[cycle(pass)]
+pub(crate) fn some_passed_over(
+    alloc: Global,
+    reads: &[Read],
+    drops: &[LeftOut],
+    above: &[usize],
+    nodes: &[Node],
+) -> Result<bool, AllocError>
+    ensures { IfOk result (λ b. b ≡ spec.some_passed_over (seen_reads reads.now) (map seen_drop drops.now) above.now 0 (forest nodes.now)) }
+{
+    for (j, node) in nodes.iter().enumerate() {
+        let mut at = Vec::from_slice(alloc, above)?;
+        at.push(j)?;
+        if node_passes(alloc, reads, drops, &at, node)? {
+            return Ok(true);
+        }
+    }
+    Ok(false)
+}
+
+fn add_leaves(
+    alloc: Global,
+    reads: &mut Vec<Read>,
+    scope: &[Vec<usize>],
+    leaves: &[At],
+) -> Result<(), AllocError>
+    ensures { (tables : List TableValue) → OnOk result (Adds reads.old.items reads.new.items (flat_map (spec.at_reads (positions scope.now)) (map (at_leaf tables) leaves.now))) }
+{
+    for (i, at) in leaves.iter().enumerate() {
+        add_leaf(alloc, reads, scope, at)?;
+    }
+    Ok(())
+}
+
+fn add_rule(
+    alloc: Global,
+    reads: &mut Vec<Read>,
+    scope: &[Vec<usize>],
+    of: &Rule,
+) -> Result<(), AllocError>
+    ensures { (tables : List TableValue) → OnOk result (Adds reads.old.items reads.new.items (spec.making_reads (positions scope.now) (making tables of.now.making))) }
+{
+    match &of.making {
+        Making::Copy(from) | Making::First(from) => add_reference(alloc, reads, scope, from),
+        Making::Repeat(from, leaves) => {
+            add_reference(alloc, reads, scope, from)?;
+            add_leaves(alloc, reads, scope, leaves)
+        }
+        Making::Build(leaves) => add_leaves(alloc, reads, scope, leaves),
+    }
+}
+
+fn add_rules(
+    alloc: Global,
+    reads: &mut Vec<Read>,
+    scope: &[Vec<usize>],
+    rules: &[Rule],
+) -> Result<(), AllocError>
+    ensures { (tables : List TableValue) → OnOk result (Adds reads.old.items reads.new.items (spec.rules_read (positions scope.now) (map (rule tables) rules.now))) }
+{
+    for (i, of) in rules.iter().enumerate() {
+        add_rule(alloc, reads, scope, of)?;
+    }
+    Ok(())
+}
+
+fn inner(
+    alloc: Global,
+    scope: &[Vec<usize>],
+    place: &Place,
+) -> Result<Vec<Vec<usize>>, AllocError>
+    ensures { IfOk result (λ inner. positions inner.items ≡ spec.inner (positions scope.now) (seen_place place.now)) }
+{
+    let at = position(alloc, scope, place)?;
+    let mut inner = Vec::new(alloc);
+    for (i, outer) in scope.iter().enumerate() {
+        let copy = Vec::from_slice(alloc, outer)?;
+        inner.push(copy)?;
+    }
+    inner.push(at)?;
+    Ok(inner)
+}
+
+fn add_segment(
+    alloc: Global,
+    reads: &mut Vec<Read>,
+    scope: &[Vec<usize>],
+    segment: &SegmentItem,
+) -> Result<(), AllocError>
+    ensures { (tables : List TableValue) → OnOk result (Adds reads.old.items reads.new.items (spec.rules_read (spec.inner_if (positions scope.now) (option_map seen_place segment.now.place)) (map (rule tables) segment.now.rules.items))) }
+{
+    match &segment.place {
+        None => add_rules(alloc, reads, scope, &segment.rules),
+        Some(place) => {
+            let within = inner(alloc, scope, place)?;
+            add_rules(alloc, reads, &within, &segment.rules)
+        }
+    }
+}
+
+// Adds what one item reads.
+#[cycle(add)]
+fn add_item(
+    alloc: Global,
+    reads: &mut Vec<Read>,
+    scope: &[Vec<usize>],
+    item: &Item,
+) -> Result<(), AllocError>
+    ensures { (tables : List TableValue) → OnOk result (Adds reads.old.items reads.new.items (spec.items_read (positions scope.now) (with_item tables item.now no_items))) }
+{
+    match item {
+        Item::Segment(segment) => add_segment(alloc, reads, scope, segment),
+        Item::Group(group) => {
+            let within = inner(alloc, scope, &group.place)?;
+            add_items(alloc, reads, &within, &group.items)
+        }
+        Item::Flat(flat) => {
+            let within = inner(alloc, scope, &flat.place)?;
+            add_items(alloc, reads, &within, &flat.items)
+        }
+    }
+}
+
+/// Adds what the items read.
+#[cycle(add)]
+fn add_items(
+    alloc: Global,
+    reads: &mut Vec<Read>,
+    scope: &[Vec<usize>],
+    items: &[Item],
+) -> Result<(), AllocError>
+    ensures { (tables : List TableValue) → OnOk result (Adds reads.old.items reads.new.items (spec.items_read (positions scope.now) (all_items tables items.now))) }
+{
+    for (i, item) in items.iter().enumerate() {
+        add_item(alloc, reads, scope, item)?;
+    }
+    Ok(())
+}
+
+/// Whether some field of the source that may hold something is neither read by the items nor dropped.
+pub(crate) fn passes_over(
+    alloc: Global,
+    nodes: &[Node],
+    items: &[Item],
+    drops: &[LeftOut],
+) -> Result<bool, AllocError>
+    ensures { IfOk result (λ b. (tables : List TableValue) → b ≡ spec.some_passed_over (spec.items_read ([] ∷ []) (all_items tables items.now)) (map seen_drop drops.now) [] 0 (forest nodes.now)) }
+{
+    let mut scope = Vec::new(alloc);
+    scope.push(Vec::new(alloc))?;
+    let mut reads = Vec::new(alloc);
+    add_items(alloc, &mut reads, &scope, items)?;
+    some_passed_over(alloc, &reads, drops, &[], nodes)
+}

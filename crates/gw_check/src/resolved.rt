@@ -1,0 +1,100 @@
+//! A map whose labels were looked up: target nodes by their numbers, source places by steps.
+
+use gw_maplang::LeafPlace;
+
+/// One of the occurrences that are walked, counted outwards from the innermost, and from there the number of a child, step by step.
+#[derive(PartialEq, Debug, Drop)]
+pub struct Place {
+    pub out: usize,
+    pub steps: Vec<usize>,
+}
+
+/// A field of the segment at a place.
+#[derive(PartialEq, Debug, Drop)]
+pub struct Reference {
+    pub place: Place,
+    pub field: u32,
+}
+
+/// A subcomponent: of the first present repetition of a field, or of the repetition that is walked.
+#[derive(PartialEq, Debug, Drop)]
+pub enum Source {
+    OfField(Reference, LeafPlace),
+    OfCurrent(LeafPlace),
+}
+
+/// A text, the text of a source, or what the table of this name gives for that.
+#[derive(PartialEq, Debug, Drop)]
+pub enum Leaf {
+    Const(Vec<u8>),
+    Copied(Source),
+    LookedUp(Vec<u8>, Source),
+}
+
+/// The leaf of a component and subcomponent.
+#[derive(PartialEq, Debug, Drop)]
+pub struct At {
+    pub line: u32,
+    pub place: LeafPlace,
+    pub leaf: Leaf,
+}
+
+/// How a field is made: as another, as its first repetition, a repetition of leaves for each of its own, or one of leaves.
+#[derive(PartialEq, Debug, Drop)]
+pub enum Making {
+    Copy(Reference),
+    First(Reference),
+    Repeat(Reference, Vec<At>),
+    Build(Vec<At>),
+}
+
+/// The rule of a target field.
+#[derive(PartialEq, Debug, Drop)]
+pub struct Rule {
+    pub line: u32,
+    pub field: u32,
+    pub making: Making,
+}
+
+/// A target segment for each occurrence at a place, or one where no place is said.
+#[derive(PartialEq, Debug, Drop)]
+pub struct SegmentItem {
+    pub line: u32,
+    pub child: usize,
+    pub place: Option<Place>,
+    pub rules: Vec<Rule>,
+}
+
+/// A target group for each occurrence at a place.
+#[derive(PartialEq, Debug, Drop)]
+#[cycle(item)]
+pub struct GroupItem {
+    pub line: u32,
+    pub child: usize,
+    pub place: Place,
+    pub items: Vec<Item>,
+}
+
+/// The occurrences at a place, without a target group.
+#[derive(PartialEq, Debug, Drop)]
+#[cycle(item)]
+pub struct FlatItem {
+    pub line: u32,
+    pub place: Place,
+    pub items: Vec<Item>,
+}
+
+#[derive(PartialEq, Debug, Drop)]
+#[cycle(item)]
+pub enum Item {
+    Segment(SegmentItem),
+    Group(GroupItem),
+    Flat(FlatItem),
+}
+
+/// A source element that is left out on purpose, or one field of it.
+#[derive(PartialEq, Debug, Drop)]
+pub struct LeftOut {
+    pub steps: Vec<usize>,
+    pub field: Option<u32>,
+}

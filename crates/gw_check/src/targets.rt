@@ -1,0 +1,231 @@
+//! The rule on target labels and the order of items (3).
+ghost use Rattle.std.specs.Prelude.{◌≡◌, ◌++◌, ◌&&◌, not, nat_lt, Some, slice_get, bytes_eq, option_map, option_and_then};
+ghost use Rattle.std.specs.List.{list_all};
+ghost use Rattle.gw_profile.specs.Seen.{forest};
+ghost use Rattle.gw_maplang.specs.declared.item.Item.{EachAs, EachFlat};
+ghost use Rattle.gw_maplang.specs.Seen.{now, with_item, all_items};
+ghost use Rattle.gw_maplang.specs.Shapes.{nothing};
+ghost use Rattle.gw_check.specs.Failures.{fails};
+ghost use Rattle.gw_check.specs.Naming as spec;
+ghost use Rattle.gw_check.specs.Noted.{noted};
+ghost use Rattle.gw_check.specs.Placed.{is_segment, is_group};
+ghost use Rattle.gw_check.specs.Places as places;
+ghost use Rattle.gw_check.specs.Seen.{element as seen, failures};
+
+use crate::element::{Element, child, nodes_of_child};
+use crate::failure::{Failure, note};
+use crate::paths::{labelled, same};
+use gw_maplang::{FlatItem, GroupItem, Item};
+use gw_profile::Node;
+
+// ---- labels
+
+#[cycle(first)]
+fn first_of_item(item: &Item) -> Option<&[u8]>
+    ensures { now result ≡ slice_get (spec.labels (with_item item.now nothing)) 0 }
+{
+    match item {
+        Item::SegFrom(made) => Some(&made.label),
+        Item::SegAlways(made) => Some(&made.label),
+        Item::EachAs(made) => Some(&made.label),
+        Item::EachFlat(made) => first_of(&made.items),
+    }
+}
+
+// The first label of items, with those of items in a flat.
+#[cycle(first)]
+fn first_of(items: &[Item]) -> Option<&[u8]>
+    ensures { now result ≡ slice_get (spec.labels (all_items items.now)) 0 }
+{
+    for (i, item) in items.iter().enumerate() {
+        let first = first_of_item(item);
+        if first.is_some() {
+            return first;
+        }
+    }
+    None
+}
+
+#[cycle(all)]
+fn item_has(item: &Item, label: &[u8]) -> bool
+    ensures { result ≡ list_all (bytes_eq label.now) (spec.labels (with_item item.now nothing)) }
+{
+    match item {
+        Item::SegFrom(made) => same(label, &made.label),
+        Item::SegAlways(made) => same(label, &made.label),
+        Item::EachAs(made) => same(label, &made.label),
+        Item::EachFlat(made) => all_have(&made.items, label),
+    }
+}
+
+// Whether this is the label of all items, and of all in a flat.
+#[cycle(all)]
+fn all_have(items: &[Item], label: &[u8]) -> bool
+    ensures { result ≡ list_all (bytes_eq label.now) (spec.labels (all_items items.now)) }
+{
+    for (i, item) in items.iter().enumerate() {
+        if !item_has(item, label) {
+            return false;
+        }
+    }
+    true
+}
+
+// Whether all items have one label.
+fn are_one(items: &[Item]) -> bool
+    ensures { result ≡ spec.are_one (spec.labels (all_items items.now)) }
+{
+    match first_of(items) {
+        None => true,
+        Some(label) => all_have(items, label),
+    }
+}
+
+// The first label, empty where there is none.
+fn first_or(items: &[Item]) -> &[u8]
+    ensures { result.now ≡ spec.first_or (spec.labels (all_items items.now)) }
+{
+    match first_of(items) {
+        None => &[],
+        Some(label) => label,
+    }
+}
+
+// ---- target nodes
+
+// The failures so far, and the number of the node of the last item.
+#[derive(Clone, Copy)]
+struct Reached {
+    worst: Option<Failure>,
+    node: usize,
+}
+
+/// The number of the node with this label, j where there is none.
+pub(crate) fn node_or(j: usize, nodes: &[Node], label: &[u8]) -> usize
+    ensures { result ≡ spec.node_or j (forest nodes.now) label.now }
+{
+    match labelled(nodes, label) {
+        None => j,
+        Some(number) => number,
+    }
+}
+
+fn target<'a>(nodes: &'a [Node], label: &[u8]) -> Option<Element<'a>>
+    ensures { option_map seen result ≡ option_and_then (places.child (forest nodes.now)) (spec.labelled (forest nodes.now) label.now) }
+{
+    match labelled(nodes, label) {
+        None => None,
+        Some(number) => child(nodes, number),
+    }
+}
+
+fn names_segment(nodes: &[Node], label: &[u8]) -> bool
+    ensures { result ≡ is_segment (option_and_then (places.child (forest nodes.now)) (spec.labelled (forest nodes.now) label.now)) }
+{
+    match target(nodes, label) {
+        None => false,
+        Some(Element::Segment(_)) => true,
+        Some(Element::Group(_)) => false,
+        Some(Element::Whole(_)) => false,
+    }
+}
+
+fn names_group(nodes: &[Node], label: &[u8]) -> bool
+    ensures { result ≡ is_group (option_and_then (places.child (forest nodes.now)) (spec.labelled (forest nodes.now) label.now)) }
+{
+    match target(nodes, label) {
+        None => false,
+        Some(Element::Segment(_)) => false,
+        Some(Element::Group(_)) => true,
+        Some(Element::Whole(_)) => false,
+    }
+}
+
+// Takes note of what is wrong with the nodes of an item, or of one that comes behind one of a later node.
+fn note_target(
+    worst: Option<Failure>,
+    line: u32,
+    fits: bool,
+    j: usize,
+    node: usize,
+) -> Option<Failure>
+    ensures { failures result ≡ noted (failures worst) (fails 3 line (not fits) ++ fails 3 line (nat_lt node j)) }
+{
+    note(note(worst, 3, line, !fits), 3, line, node < j)
+}
+
+fn segment_target(
+    worst: Option<Failure>,
+    nodes: &[Node],
+    j: usize,
+    line: u32,
+    label: &[u8],
+) -> Reached
+    ensures worst { failures result.worst ≡ noted (failures worst) (spec.label_failures (forest nodes.now) is_segment j line label.now) }
+    ensures node { result.node ≡ spec.node_or j (forest nodes.now) label.now }
+{
+    let node = node_or(j, nodes, label);
+    let fits = names_segment(nodes, label);
+    Reached {
+        worst: note_target(worst, line, fits, j, node),
+        node,
+    }
+}
+
+#[cycle(targets)]
+fn group_target(worst: Option<Failure>, made: &GroupItem, nodes: &[Node], j: usize) -> Reached
+    ensures worst { failures result.worst ≡ noted (failures worst) (spec.target_failures (forest nodes.now) j (with_item (EachAs made.now) nothing)) }
+    ensures node { result.node ≡ spec.node_or j (forest nodes.now) made.now.label.items }
+{
+    let node = node_or(j, nodes, &made.label);
+    let fits = names_group(nodes, &made.label);
+    let worst = note_target(worst, made.line, fits, j, node);
+    Reached {
+        worst: target_failures(worst, &made.items, nodes_of_child(nodes, node), 0),
+        node,
+    }
+}
+
+#[cycle(targets)]
+fn flat_target(worst: Option<Failure>, made: &FlatItem, nodes: &[Node], j: usize) -> Reached
+    ensures worst { failures result.worst ≡ noted (failures worst) (spec.target_failures (forest nodes.now) j (with_item (EachFlat made.now) nothing)) }
+    ensures node { result.node ≡ spec.node_or j (forest nodes.now) (spec.first_or (spec.labels (with_item (EachFlat made.now) nothing))) }
+{
+    let node = node_or(j, nodes, first_or(&made.items));
+    let fits = are_one(&made.items);
+    let worst = note_target(worst, made.line, fits, j, node);
+    Reached {
+        worst: target_failures(worst, &made.items, nodes, 0),
+        node,
+    }
+}
+
+#[cycle(targets)]
+fn item_target(worst: Option<Failure>, item: &Item, nodes: &[Node], j: usize) -> Reached
+    ensures worst { failures result.worst ≡ noted (failures worst) (spec.target_failures (forest nodes.now) j (with_item item.now nothing)) }
+    ensures node { result.node ≡ spec.node_or j (forest nodes.now) (spec.first_or (spec.labels (with_item item.now nothing))) }
+{
+    match item {
+        Item::SegFrom(made) => segment_target(worst, nodes, j, made.line, &made.label),
+        Item::SegAlways(made) => segment_target(worst, nodes, j, made.line, &made.label),
+        Item::EachAs(made) => group_target(worst, made, nodes, j),
+        Item::EachFlat(made) => flat_target(worst, made, nodes, j),
+    }
+}
+
+/// The failures of the target labels of items behind one of node j.
+#[cycle(targets)]
+pub(crate) fn target_failures(
+    worst: Option<Failure>,
+    items: &[Item],
+    nodes: &[Node],
+    j: usize,
+) -> Option<Failure>
+    ensures { failures result ≡ noted (failures worst) (spec.target_failures (forest nodes.now) j (all_items items.now)) }
+{
+    let mut reached = Reached { worst, node: j };
+    for (i, item) in items.iter().enumerate() {
+        reached = item_target(reached.worst, item, nodes, reached.node);
+    }
+    reached.worst
+}

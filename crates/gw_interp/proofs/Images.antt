@@ -1,0 +1,187 @@
+-- Each text that a map makes may stand at its place.
+use Rattle.std.proofs.Common.{◌≡◌, ℕ, zero, suc, ◌<◌, ◌≤◌, ◌⊎◌, inl, inr, Bool, true, false, List, [], ◌∷◌, Option, Some, None, refl, sym, ap, subst, arith, length}
+use Rattle.std.specs.Prelude.{◌==◌, ◌&&◌, unwrap_or, if◌then◌else◌}
+use Rattle.std.specs.List.{AllByRecursion}
+use Rattle.std.specs.FinMap as texts
+use Rattle.std.specs.Ordering.{nat_cmp}
+use Rattle.std.specs.Cmp.Lexicographic.{slice_cmp}
+use Rattle.std.proofs.lemmas.Bool.Decides.{Decides-eqb}
+use Rattle.gw_er7.specs.Names.{is_header}
+use Rattle.gw_er7.specs.Text.{IsCanonical}
+use Rattle.gw_er7.specs.Message.{Texts, text_of, SegmentValue, first_field, IsEntry, IsSegment, IsOther, IsMessage}
+use Rattle.gw_er7.specs.Presence.{RepAt}
+use Rattle.gw_er7.proofs.Builds.{entry_at, canonical_of}
+use Rattle.gw_er7.proofs.Once.{get_kept}
+use Rattle.gw_lines.specs.Values.{is_value}
+use Rattle.gw_validate.specs.Conforming.{segment_at}
+use Rattle.gw_check.specs.Places.{Place}
+use Rattle.gw_check.specs.Resolved.{Source, of_field, of_current, Leaf, const, copied, looked_up, At, leaf_at, Making, copy, first, repeat, build, Rule, rule_of}
+use Rattle.gw_check.specs.Lawful.{LawfulSource, LawfulLeaf, LawfulAt, LawfulLeaves, LawfulMaking, LawfulRule, LawfulRules}
+use Rattle.gw_interp.specs.Occurrences.{Occurrence, a_segment, nodes, at_place, texts_of_first, texts_at}
+use Rattle.gw_interp.specs.Meaning.{InFirst, Walked, walking, SourceMeans, LeafMeans, AtMeans, Where, MakingMeans, RuleMeans, IsImage}
+use Rattle.gw_interp.proofs.Lists.{found_test, found_all}
+use Rattle.gw_interp.proofs.Shaped.{text_there}
+use Rattle.gw_interp.proofs.Leaves.{given_value, LooksUp, of_none, of_null, of_value, looks_up}
+use Rattle.gw_interp.proofs.Made.{comp_is, sub_is}
+
+-- each text that isn't empty may stand at its place
+abbrev pub AreEntries : ℕ → Texts → Type 0
+AreEntries least m = (f r c k : ℕ) → 0 < length (text_of m f r c k) → IsEntry least (f ∷ r ∷ c ∷ k ∷ [], text_of m f r c k)
+
+-- ---- the texts of a message
+
+some_field : (name : List ℕ) → 1 ≤ first_field name
+some_field name = by (is_header name)
+  where
+    by : (b : Bool) → 1 ≤ (if b then 3 else 1)
+    by true = omega arith
+    by false = omega arith
+
+segment_entries : (s : SegmentValue) → IsSegment s → AreEntries 1 s.at
+segment_entries s is f r c k lt = by (texts.get s.at (f ∷ r ∷ c ∷ k ∷ [])) refl lt
+  where
+    weaker : (text : List ℕ) → IsEntry (first_field s.name) (f ∷ r ∷ c ∷ k ∷ [], text) → IsEntry 1 (f ∷ r ∷ c ∷ k ∷ [], text)
+    weaker text e = record { key = record { four = e.key.four; positive = e.key.positive; field = e.key.positive.0 }; text = e.text; some = e.some }
+
+    by : (o : Option (List ℕ)) → texts.get s.at (f ∷ r ∷ c ∷ k ∷ []) ≡ o → 0 < length (unwrap_or o []) → IsEntry 1 (f ∷ r ∷ c ∷ k ∷ [], unwrap_or o [])
+    by None e lt = absurd (omega arith)
+    by (Some text) e lt = weaker text (get_kept s (f ∷ r ∷ c ∷ k ∷ []) text is e)
+
+empty_entries : AreEntries 1 texts.empty
+empty_entries f r c k lt = absurd (text_there (text_of texts.empty f r c k) lt (ap (λ o. unwrap_or o []) (texts.get-empty (slice_cmp nat_cmp) (f ∷ r ∷ c ∷ k ∷ []))))
+
+each_segment : (m : List SegmentValue) → IsMessage m → AllByRecursion IsSegment m
+each_segment [] is = absurd is
+each_segment (s ∷ m) is = (is.0.segment, others m is.1)
+  where
+    others : (m : List SegmentValue) → AllByRecursion IsOther m → AllByRecursion IsSegment m
+    others [] a = tt
+    others (s ∷ m) a = (a.0.segment, others m a.1)
+
+at_number : (m : List SegmentValue) (i : ℕ) → AllByRecursion IsSegment m → AreEntries 1 (segment_at m i).at
+at_number [] i a = empty_entries
+at_number (s ∷ m) zero a = segment_entries s a.0
+at_number (s ∷ m) (suc i) a = at_number m i a.1
+
+-- the texts at a place are those of a segment of the message, or none
+pub place_entries : (m : List SegmentValue) → IsMessage m → (scope : List Occurrence) (place : Place) → AreEntries 1 (texts_at m scope place)
+place_entries m is scope place = by (at_place scope place)
+  where
+    by : (os : List Occurrence) → AreEntries 1 (texts_of_first m os)
+    by [] = empty_entries
+    by (a_segment number ∷ more) = at_number m number (each_segment m is)
+    by (nodes each ∷ more) = empty_entries
+
+-- ---- leaves
+
+none_canonical : IsCanonical []
+none_canonical = record { items = []; whole = refl; each = tt }
+
+text_canonical : (m : Texts) → AreEntries 1 m → (f r c k : ℕ) → IsCanonical (text_of m f r c k)
+text_canonical m are f r c k = by (text_of m f r c k) (are f r c k)
+  where
+    by : (text : List ℕ) → (0 < length text → IsEntry 1 (f ∷ r ∷ c ∷ k ∷ [], text)) → IsCanonical text
+    by [] e = none_canonical
+    by (b ∷ text) e = (e (omega arith)).text
+
+value_canonical : (text : List ℕ) → is_value text ≡ true → IsCanonical text
+value_canonical [] e = none_canonical
+value_canonical (b ∷ text) e = canonical_of (b ∷ text) e
+
+module _ (w : Walked) (places : (place : Place) → AreEntries 1 (texts_at w.message w.scope place)) where
+  first_canonical : (place : Place) (field comp sub : ℕ) (text : List ℕ) → InFirst (texts_at w.message w.scope place) field comp sub text → IsCanonical text
+  first_canonical place field comp sub text (inl h) = subst IsCanonical (sym h.2) (text_canonical (texts_at w.message w.scope place) (places place) field h.0 comp sub)
+  first_canonical place field comp sub text (inr h) = subst IsCanonical (sym h.1) none_canonical
+
+  module _ (repeated : Bool) (current : repeated ≡ true → (comp sub : ℕ) → IsCanonical (w.current comp sub)) where
+    source_canonical : (source : Source) → LawfulSource repeated source → (text : List ℕ) → SourceMeans w source text → IsCanonical text
+    source_canonical (of_field from comp sub) lawful text means = first_canonical from.place from.field comp sub text means
+    source_canonical (of_current comp sub) lawful text means = subst IsCanonical (sym means) (current lawful comp sub)
+
+    -- the text of a leaf is canonical
+    pub leaf_canonical : (leaf : Leaf) → LawfulLeaf repeated leaf → (text : List ℕ) → LeafMeans w leaf text → IsCanonical text
+    leaf_canonical (const value) lawful text means = subst IsCanonical (sym means) (value_canonical value lawful)
+    leaf_canonical (copied source) lawful text means = source_canonical source lawful text means
+    leaf_canonical (looked_up table source) lawful text means = by (looks_up table means.0 text means.2)
+      where
+        by : LooksUp table means.0 text → IsCanonical text
+        by (of_none a b) = subst IsCanonical (sym b) none_canonical
+        by (of_null a b) = subst IsCanonical (sym b) (source_canonical source lawful.1 means.0 means.1)
+        by (of_value a b c) = value_canonical text (given_value table means.0 text lawful.0 c)
+
+-- ---- rules
+
+-- a text that may stand at these places of a field
+pub record IsPlaced (r c k : ℕ) (text : List ℕ) : Type 0 where
+  pub rep : 0 < r
+  pub comp : 0 < c
+  pub sub : 0 < k
+  pub canonical : IsCanonical text
+
+leaf_placed : (w : Walked) → ((place : Place) → AreEntries 1 (texts_at w.message w.scope place)) → (repeated : Bool) → (repeated ≡ true → (comp sub : ℕ) → IsCanonical (w.current comp sub)) → (leaves : List At) → LawfulLeaves repeated leaves → (r c k : ℕ) → 0 < r → (text : List ℕ) → AtMeans w (leaf_at leaves c k) text → 0 < length text → IsPlaced r c k text
+leaf_placed w places repeated current leaves lawful r c k rep text means lt = by (leaf_at leaves c k) refl means
+  where
+    by : (o : Option At) → leaf_at leaves c k ≡ o → AtMeans w o text → IsPlaced r c k text
+    by None e h = absurd (text_there text lt h)
+    by (Some a) e h =
+        let is : LawfulAt repeated a = found_all (λ (b : At). b.comp == c && b.sub == k) (LawfulAt repeated) leaves a e lawful.each in
+        record {
+          rep = rep;
+          comp = omega (arith, is.comp, comp_is leaves c k a e);
+          sub = omega (arith, is.sub, sub_is leaves c k a e);
+          canonical = leaf_canonical w places repeated current a.leaf is.leaf text h;
+        }
+
+module _ (w : Walked) (places : (place : Place) → AreEntries 1 (texts_at w.message w.scope place)) where
+  -- a text of a rule may stand at its place
+  pub making_placed : (making : Making) → LawfulMaking making → (r c k : ℕ) (text : List ℕ) → MakingMeans w making r c k text → 0 < length text → IsPlaced r c k text
+  making_placed (copy from) lawful r c k text means lt =
+      let entry = places from.place from.field r c k (subst (λ t. 0 < length t) means lt) in
+      record { rep = entry.key.positive.1.0; comp = entry.key.positive.1.1.0; sub = entry.key.positive.1.1.1.0; canonical = subst IsCanonical (sym means) entry.text }
+  making_placed (first from) lawful r c k text means lt = by means
+    where
+      inner : r ≡ 1 → InFirst (texts_at w.message w.scope from.place) from.field c k text → IsPlaced r c k text
+      inner e (inl h) =
+          let entry = places from.place from.field h.0 c k (subst (λ t. 0 < length t) h.2 lt) in
+          record { rep = omega (arith, e); comp = entry.key.positive.1.1.0; sub = entry.key.positive.1.1.1.0; canonical = subst IsCanonical (sym h.2) entry.text }
+      inner e (inr h) = absurd (text_there text lt h.1)
+
+      by : Where (r ≡ 1) (InFirst (texts_at w.message w.scope from.place) from.field c k) text → IsPlaced r c k text
+      by (inl h) = inner h.0 h.1
+      by (inr h) = absurd (text_there text lt h.1)
+  making_placed (repeat from leaves) lawful r c k text means lt = by means
+    where
+      by : Where (RepAt (texts_at w.message w.scope from.place) from.field r) (AtMeans (walking w from r) (leaf_at leaves c k)) text → IsPlaced r c k text
+      by (inl h) =
+          let entry = places from.place from.field r h.0.0 h.0.1.0 h.0.1.1 in
+          leaf_placed (walking w from r) places true (λ e comp sub. text_canonical (texts_at w.message w.scope from.place) (places from.place) from.field r comp sub) leaves lawful r c k entry.key.positive.1.0 text h.1 lt
+      by (inr h) = absurd (text_there text lt h.1)
+  making_placed (build leaves) lawful r c k text means lt = by means
+    where
+      by : Where (r ≡ 1) (AtMeans w (leaf_at leaves c k)) text → IsPlaced r c k text
+      by (inl h) = leaf_placed w places false (λ e. absurd (cc)) leaves lawful r c k (omega (arith, h.0)) text h.1 lt
+      by (inr h) = absurd (text_there text lt h.1)
+
+  pub rule_entry : (name : List ℕ) (rule : Rule) → LawfulRule name rule → (r c k : ℕ) (text : List ℕ) → MakingMeans w rule.making r c k text → 0 < length text → IsEntry (first_field name) (rule.field ∷ r ∷ c ∷ k ∷ [], text)
+  rule_entry name rule lawful r c k text means lt =
+      let placed = making_placed rule.making lawful.making r c k text means lt in
+      entry_at (first_field name) rule.field r c k text lawful.field (omega (arith, some_field name, lawful.field)) placed.rep placed.comp placed.sub placed.canonical lt
+
+  -- each text of a segment that the rules give may stand at its place
+  pub image_entries : (name : List ℕ) (rules : List Rule) → LawfulRules name rules → (seg : SegmentValue) → IsImage w name rules seg → AreEntries (first_field name) seg.at
+  image_entries name rules lawful seg image f r c k lt = by (rule_of rules f) refl (image.texts f r c k)
+    where
+      by : (o : Option Rule) → rule_of rules f ≡ o → RuleMeans w o r c k (text_of seg.at f r c k) → IsEntry (first_field name) (f ∷ r ∷ c ∷ k ∷ [], text_of seg.at f r c k)
+      by None e means = absurd (text_there _ lt means)
+      by (Some rule) e means =
+          let is : LawfulRule name rule = found_all (λ (q : Rule). q.field == f) (LawfulRule name) rules rule e lawful.each in
+          let field : rule.field ≡ f = (Decides-eqb rule.field f).0 (found_test (λ (q : Rule). q.field == f) rules rule e) in
+          subst (λ n. IsEntry (first_field name) (n ∷ r ∷ c ∷ k ∷ [], text_of seg.at f r c k)) field (rule_entry name rule is r c k (text_of seg.at f r c k) means lt)
+
+  -- and is canonical, or empty
+  pub image_canonical : (name : List ℕ) (rules : List Rule) → LawfulRules name rules → (seg : SegmentValue) → IsImage w name rules seg → (f r c k : ℕ) → (text_of seg.at f r c k ≡ []) ⊎ IsCanonical (text_of seg.at f r c k)
+  image_canonical name rules lawful seg image f r c k = by (text_of seg.at f r c k) (image_entries name rules lawful seg image f r c k)
+    where
+      by : (text : List ℕ) → (0 < length text → IsEntry (first_field name) (f ∷ r ∷ c ∷ k ∷ [], text)) → (text ≡ []) ⊎ IsCanonical text
+      by [] e = inl refl
+      by (b ∷ text) e = inr (e (omega arith)).text

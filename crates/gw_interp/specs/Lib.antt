@@ -1,0 +1,3 @@
+pub mod Occurrences
+pub mod Meaning
+pub mod Sound

@@ -1,0 +1,112 @@
+-- What a map makes of a message: equations for the parts of the target and for the text at each of their places.
+use Rattle.std.specs.Prelude.{◌≡◌, ◌≢◌, ℕ, ◌<◌, ◌⊎◌, List, [], ◌∷◌, Option, Some, None, if◌then◌else◌}
+use Rattle.gw_er7.specs.Message.{Texts, text_of, SegmentValue}
+use Rattle.gw_er7.specs.Presence.{RepAt, FieldAt}
+use Rattle.gw_profile.specs.Shapes.{Forest, ProfileValue}
+use Rattle.gw_validate.specs.Breaches.{is_null}
+use Rattle.gw_validate.specs.Cuts.{Cut}
+use Rattle.gw_validate.specs.Trees.{Tree}
+use Rattle.gw_maplang.specs.Shapes.{Rows}
+use Rattle.gw_check.specs.Places.{Place, child, nodes_of_child, name_of}
+use Rattle.gw_check.specs.Resolved.{Reference, Source, of_field, of_current, Leaf, const, copied, looked_up, At, leaf_at, Making, copy, first, repeat, build, Rule, rule_of, Items, no_items, segment_item, group_item, flat_item, Resolved}
+use Rattle.gw_check.specs.Leaves.{given}
+use Rattle.gw_interp.specs.Occurrences as occurrences
+use Rattle.gw_interp.specs.Occurrences.{Occurrence, at_place, texts_at}
+
+-- ---- leaves
+
+-- the first number at which this holds
+pub record IsFirst (P : ℕ → Type 0) (n : ℕ) : Type 0 where
+  pub holds : P n
+  pub none_before : (k : ℕ) → k < n → P k → ⊥
+
+-- the text of a subcomponent in the first present repetition of a field; absent where none is present
+abbrev pub InFirst : Texts → ℕ → ℕ → ℕ → List ℕ → Type 0
+InFirst m field comp sub text =
+    ((rep : ℕ) × IsFirst (RepAt m field) rep × (text ≡ text_of m field rep comp sub)) ⊎ ((FieldAt m field → ⊥) × (text ≡ []))
+
+-- what is read: the message, the occurrences that are walked, and the texts of the repetition that is walked
+pub record Walked : Type 0 where
+  pub message : List SegmentValue
+  pub scope : List Occurrence
+  pub current : ℕ → ℕ → List ℕ
+
+abbrev pub SourceMeans : Walked → Source → List ℕ → Type 0
+SourceMeans w (of_field from comp sub) text = InFirst (texts_at w.message w.scope from.place) from.field comp sub text
+SourceMeans w (of_current comp sub) text = text ≡ w.current comp sub
+
+-- an absent text stays absent, "" stays "", and another is what the rows give; none where they give nothing
+abbrev pub look_up : Rows → List ℕ → Option (List ℕ)
+look_up table [] = Some []
+look_up table (b ∷ bytes) = if is_null (b ∷ bytes) then Some (b ∷ bytes) else given table (b ∷ bytes)
+
+abbrev pub LeafMeans : Walked → Leaf → List ℕ → Type 0
+LeafMeans w (const value) text = text ≡ value
+LeafMeans w (copied source) text = SourceMeans w source text
+LeafMeans w (looked_up table source) text = (from : List ℕ) × SourceMeans w source from × (look_up table from ≡ Some text)
+
+abbrev pub AtMeans : Walked → Option At → List ℕ → Type 0
+AtMeans w None text = text ≡ []
+AtMeans w (Some a) text = LeafMeans w a.leaf text
+
+-- ---- fields
+
+-- a text in some repetitions, absent in the others
+abbrev pub Where : Type 0 → (List ℕ → Type 0) → List ℕ → Type 0
+Where here means text = (here × means text) ⊎ ((here → ⊥) × (text ≡ []))
+
+-- with the texts of one repetition of a field
+abbrev pub walking : Walked → Reference → ℕ → Walked
+walking w from rep = record w { current = λ comp sub. text_of (texts_at w.message w.scope from.place) from.field rep comp sub }
+
+-- the text of a rule at a repetition, component and subcomponent
+abbrev pub MakingMeans : Walked → Making → ℕ → ℕ → ℕ → List ℕ → Type 0
+MakingMeans w (copy from) rep comp sub text = text ≡ text_of (texts_at w.message w.scope from.place) from.field rep comp sub
+MakingMeans w (first from) rep comp sub text = Where (rep ≡ 1) (InFirst (texts_at w.message w.scope from.place) from.field comp sub) text
+MakingMeans w (repeat from leaves) rep comp sub text =
+    Where (RepAt (texts_at w.message w.scope from.place) from.field rep) (AtMeans (walking w from rep) (leaf_at leaves comp sub)) text
+MakingMeans w (build leaves) rep comp sub text = Where (rep ≡ 1) (AtMeans w (leaf_at leaves comp sub)) text
+
+abbrev pub RuleMeans : Walked → Option Rule → ℕ → ℕ → ℕ → List ℕ → Type 0
+RuleMeans w None rep comp sub text = text ≡ []
+RuleMeans w (Some r) rep comp sub text = MakingMeans w r.making rep comp sub text
+
+-- ---- segments and groups
+
+-- a segment of this name whose texts are those of the rules
+pub record IsImage (w : Walked) (name : List ℕ) (rules : List Rule) (s : SegmentValue) : Type 0 where
+  pub named : s.name ≡ name
+  pub texts : (field rep comp sub : ℕ) → RuleMeans w (rule_of rules field) rep comp sub (text_of s.at field rep comp sub)
+
+-- for each occurrence a part, in their order
+abbrev pub ForEach : (Occurrence → List SegmentValue → Type 0) → List Occurrence → List SegmentValue → Type 0
+ForEach Part [] list = list ≡ []
+ForEach Part (o ∷ os) list = Cut (Part o) (ForEach Part os) list
+
+-- one segment
+pub record IsOne (P : SegmentValue → Type 0) (list : List SegmentValue) : Type 0 where
+  pub only : SegmentValue
+  pub list_is : list ≡ only ∷ []
+  pub holds : P only
+
+abbrev pub walked : List SegmentValue → List Occurrence → Walked
+walked m scope = record { message = m; scope = scope; current = λ comp sub. [] }
+
+-- a segment for each occurrence at the place, or one where no place is said
+abbrev pub Segments : List SegmentValue → List Occurrence → List ℕ → List Rule → Option Place → List SegmentValue → Type 0
+Segments m scope name rules None list = IsOne (IsImage (walked m scope) name rules) list
+Segments m scope name rules (Some place) list = ForEach (λ o. IsOne (IsImage (walked m (o ∷ scope)) name rules)) (at_place scope place) list
+
+-- what the items give, one after the other, where the target's nodes of their level are these
+abbrev pub Give : List SegmentValue → List Occurrence → Forest → Items → List SegmentValue → Type 0
+Give m scope target no_items list = list ≡ []
+Give m scope target (segment_item s rest) list =
+    Cut (Segments m scope (name_of (child target s.child)) s.rules s.place) (Give m scope target rest) list
+Give m scope target (group_item g items rest) list =
+    Cut (ForEach (λ o. Give m (o ∷ scope) (nodes_of_child target g.child) items) (at_place scope g.place)) (Give m scope target rest) list
+Give m scope target (flat_item f items rest) list =
+    Cut (ForEach (λ o. Give m (o ∷ scope) target items) (at_place scope f.place)) (Give m scope target rest) list
+
+-- the message that the map makes of a message with this tree
+abbrev pub Means : ProfileValue → Resolved → List SegmentValue → Tree → List SegmentValue → Type 0
+Means target map m tree list = Give m (occurrences.nodes tree ∷ []) target.nodes map.items list

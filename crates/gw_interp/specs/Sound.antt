@@ -1,0 +1,16 @@
+-- What a yes of the checker means.
+use Rattle.std.specs.Prelude.{List}
+use Rattle.gw_er7.specs.Message.{SegmentValue, IsMessage}
+use Rattle.gw_profile.specs.Shapes.{ProfileValue}
+use Rattle.gw_profile.specs.WellFormed.{WellFormed}
+use Rattle.gw_validate.specs.Trees.{Tree}
+use Rattle.gw_validate.specs.Broken.{IsTreeOf}
+use Rattle.gw_validate.specs.Conforming.{Conforms}
+use Rattle.gw_check.specs.Resolved.{Resolved}
+use Rattle.gw_interp.specs.Meaning.{Means}
+
+-- what the map makes of any message that conforms to the source conforms to the target
+abbrev pub MakesConforming : ProfileValue → ProfileValue → Resolved → Type 0
+MakesConforming source target map =
+    (m : List SegmentValue) (tree : Tree) → IsMessage m → Conforms source m → IsTreeOf source m tree →
+    (made : List SegmentValue) → Means target map m tree made → Conforms target made

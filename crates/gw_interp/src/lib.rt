@@ -1,0 +1,1 @@
+//! Translates messages by checked maps.
