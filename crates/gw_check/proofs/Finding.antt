@@ -79,10 +79,10 @@ out_of_scope es out steps h =
 pub found_walked : (es : List elements.Element) (out : ℕ) (steps : List ℕ) (e : elements.Element) → out < length es → e ≡ get_or es (length es - 1 - out) e → found_in (scope es) out steps ≡ found_below steps (element e)
 found_walked es out steps e h is =
     in_scope (scope es) out steps ∙ ap (λ x. at_element x steps) (
-      elim ((slice_get_cases (scope es) out).1) [
-        | inl x ↦ x.2 ∙ ap Some (sym x.3 ∙ get_or-reverse (map element es) out x.0 within ∙ there x.0)
-        | inr x ↦ absurd (omega (arith, x.0, within, length-reverse (map element es)))
-      ])
+    elim ((slice_get_cases (scope es) out).1) [
+      | inl x ↦ x.2 ∙ ap Some (sym x.3 ∙ get_or-reverse (map element es) out x.0 within ∙ there x.0)
+      | inr x ↦ absurd (omega (arith, x.0, within, length-reverse (map element es)))
+    ])
   where
     within : out < length (map element es)
     within = omega (arith, h, length-map es element)

@@ -16,12 +16,12 @@ least_product (suc a) b =
     elim (leb_tells b cap) [
       | inl k ↦ let h = k.1 in let same : min b cap ≡ b = omega (arith, h) in ap (λ n. min (suc a * n) cap) same
       | inr k ↦
-        let h = k.1 in
-        let top : min b cap ≡ cap = omega (arith, h) in
-        let one : 1 ≤ suc a = omega arith in
-        let more : 1 * b ≤ suc a * b = mul-le-mul_right b one in
-        let most : 1 * cap ≤ suc a * cap = mul-le-mul_right cap one in
-        ap (λ n. min (suc a * n) cap) top ∙ omega (arith, h, more, most)
+          let h = k.1 in
+          let top : min b cap ≡ cap = omega (arith, h) in
+          let one : 1 ≤ suc a = omega arith in
+          let more : 1 * b ≤ suc a * b = mul-le-mul_right b one in
+          let most : 1 * cap ≤ suc a * cap = mul-le-mul_right cap one in
+          ap (λ n. min (suc a * n) cap) top ∙ omega (arith, h, more, most)
     ]
 
 no_limit : (n : ℕ) → 0 < n → multiply None (Some n) ≡ None
@@ -46,7 +46,6 @@ multiply_comm (Some zero) (Some (suc b)) = let none : suc b * 0 ≡ 0 = omega ar
 multiply_comm (Some (suc a)) None = refl
 multiply_comm (Some (suc a)) (Some zero) = let none : suc a * 0 ≡ 0 = omega arith in ap Some none
 multiply_comm (Some (suc a)) (Some (suc b)) = ap Some (mul_comm (suc a) (suc b))
-
 
 abbrev interval_of : ℕ → Option ℕ → Interval
 interval_of least greatest = record { least = least; greatest = greatest }

@@ -175,7 +175,7 @@ first_or (label ∷ more) = label
 -- it is no segment, or no group, of these nodes, or comes behind one of a later node than its own
 abbrev pub label_failures : Forest → (Option Element → Bool) → ℕ → ℕ → List ℕ → List Failure
 label_failures nodes is_kind j line label =
-    fails 3 line (not (is_kind (option_and_then (child nodes) (labelled nodes label))) ) ++ fails 3 line (nat_lt (node_or j nodes label) j)
+    fails 3 line (not (is_kind (option_and_then (child nodes) (labelled nodes label)))) ++ fails 3 line (nat_lt (node_or j nodes label) j)
 
 -- items behind one of node j
 abbrev pub target_failures : Forest → ℕ → raw.Items → List Failure

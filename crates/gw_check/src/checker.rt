@@ -68,12 +68,7 @@ fn least_failure(
 }
 
 // What a map is by the rules.
-fn judge(
-    alloc: Global,
-    source: &Profile,
-    target: &Profile,
-    map: &Map,
-) -> Result<Judged, AllocError>
+fn judge(alloc: Global, source: &Profile, target: &Profile, map: &Map) -> Result<Judged, AllocError>
     ensures { IfOk result (Judges (profile_value source.now) (profile_value target.now) (map_value map.now)) }
 {
     match resolve(alloc, source, target, map)? {

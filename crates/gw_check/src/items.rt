@@ -12,11 +12,7 @@ use std::alloc::{AllocError, Global};
 
 // How often one item comes.
 #[cycle(count)]
-fn item_count(
-    alloc: Global,
-    scope: &[Element<'_>],
-    item: &Item,
-) -> Result<Interval, AllocError>
+fn item_count(alloc: Global, scope: &[Element<'_>], item: &Item) -> Result<Interval, AllocError>
     ensures { IfOk result (λ c. CountsOne (walked scope.now) item.now c) }
 {
     match item {

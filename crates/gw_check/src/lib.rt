@@ -1,8 +1,8 @@
 //! Checks maps before they run: the rules that keep a translation from failing, and from giving what its receiver refuses.
 #![tactic(auto)]
 
-mod checker;
 mod checked;
+mod checker;
 mod copied;
 mod count;
 mod element;
@@ -31,8 +31,8 @@ mod targets;
 mod texts;
 mod values;
 
-pub use checker::{CheckFault, check};
 pub use checked::CheckedMap;
+pub use checker::{CheckFault, check};
 pub use leaf::included;
 pub use resolved::{
     At, FlatItem, GroupItem, Item, Leaf, LeftOut, Making, Place, Reference, Rule, SegmentItem,

@@ -36,7 +36,11 @@ fn check_rows(
     }
 }
 
-fn check_lookup(worst: Option<Failure>, sources: Sources<'_, '_, '_, '_>, at: &At) -> Option<Failure>
+fn check_lookup(
+    worst: Option<Failure>,
+    sources: Sources<'_, '_, '_, '_>,
+    at: &At,
+) -> Option<Failure>
     ensures { failures result ≡ noted (failures worst) (spec.lookup_failures (sources_value sources.entry) (at_leaf (map_tables sources.entry) at.now)) }
 {
     match &at.leaf {
@@ -48,7 +52,11 @@ fn check_lookup(worst: Option<Failure>, sources: Sources<'_, '_, '_, '_>, at: &A
     }
 }
 
-fn check_lookups(mut worst: Option<Failure>, sources: Sources<'_, '_, '_, '_>, leaves: &[At]) -> Option<Failure>
+fn check_lookups(
+    mut worst: Option<Failure>,
+    sources: Sources<'_, '_, '_, '_>,
+    leaves: &[At],
+) -> Option<Failure>
     ensures { failures result ≡ noted (failures worst) (flat_map (spec.lookup_failures (sources_value sources.entry)) (map (at_leaf (map_tables sources.entry)) leaves.now)) }
 {
     for (i, at) in leaves.iter().enumerate() {
@@ -57,7 +65,11 @@ fn check_lookups(mut worst: Option<Failure>, sources: Sources<'_, '_, '_, '_>, l
     worst
 }
 
-fn check_rule(worst: Option<Failure>, sources: Sources<'_, '_, '_, '_>, rule: &Rule) -> Option<Failure>
+fn check_rule(
+    worst: Option<Failure>,
+    sources: Sources<'_, '_, '_, '_>,
+    rule: &Rule,
+) -> Option<Failure>
     ensures { failures result ≡ noted (failures worst) (spec.rule_lookups (sources_value sources.entry) (seen_rule (map_tables sources.entry) rule.now)) }
 {
     match &rule.making {

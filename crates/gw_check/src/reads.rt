@@ -23,11 +23,7 @@ pub(crate) struct Read {
 }
 
 /// The position of a place, seen from the positions that are walked, the innermost last.
-fn position(
-    alloc: Global,
-    scope: &[Vec<usize>],
-    place: &Place,
-) -> Result<Vec<usize>, AllocError>
+fn position(alloc: Global, scope: &[Vec<usize>], place: &Place) -> Result<Vec<usize>, AllocError>
     ensures { IfOk result (λ p. p.items ≡ spec.position (positions scope.now) (seen_place place.now)) }
 {
     if place.out >= scope.len() {
@@ -252,11 +248,7 @@ fn add_rules(
     Ok(())
 }
 
-fn inner(
-    alloc: Global,
-    scope: &[Vec<usize>],
-    place: &Place,
-) -> Result<Vec<Vec<usize>>, AllocError>
+fn inner(alloc: Global, scope: &[Vec<usize>], place: &Place) -> Result<Vec<Vec<usize>>, AllocError>
     ensures { IfOk result (λ inner. positions inner.items ≡ spec.inner (positions scope.now) (seen_place place.now)) }
 {
     let at = position(alloc, scope, place)?;

@@ -207,7 +207,7 @@ module _ (from to : List TableValue) (from_names names : List (List ℕ)) (m : L
         let level : level_failures (within es x.place) x.line 0 (nodes_of_child nodes x.child) items ≡ [] = nil_left _ (items_failures from to (within es x.place) (nodes_of_child nodes x.child) items) (nil_left _ _ f) in
         let part : (o : Occurrence) (list : List SegmentValue) → IsOccurrence from m (element_of (found es x.place)) o → Give m (o ∷ os) (nodes_of_child nodes x.child) items list → Part (child nodes x.child) list =
         λ o list is give. one_group (x.child) nodes l (subst (λ k. is_group (child nodes k) ≡ true) (sym same) t.1) list
-            (λ lawful. inner.0 (within es x.place) (o ∷ os) x.line (nodes_of_child nodes x.child) list (scoped_within es os x.place o h is) lawful li.0 (subst (λ k. are_placed (nodes_of_child nodes k) 0 items ≡ true) (sym same) t.2) level below give) in
+        (λ lawful. inner.0 (within es x.place) (o ∷ os) x.line (nodes_of_child nodes x.child) list (scoped_within es os x.place o h is) lawful li.0 (subst (λ k. are_placed (nodes_of_child nodes k) 0 items ≡ true) (sym same) t.2) level below give) in
         given_sum (Part (child nodes j)) (count_at es x.place) (items_count es rest) g.front g.back list g.joined
         (subst (λ k. Given (Part (child nodes k)) (count_at es x.place) g.front) same
         (for_each (Part (child nodes x.child)) from m (element_of (found es x.place)) _ part (count_at es x.place) (at_place os x.place) g.front (walked_there es os x.place h) g.here))

@@ -93,6 +93,6 @@ sound source target map ws wt li typed m tree conforms is made means =
       lawful = (record { segments = ws.segments; groups = ws.groups }, tt);
     } in
     let seq = items_sound source.tables target.tables (table_names source.tables) (table_names target.tables) m (fields_sound source.tables target.tables (table_names target.tables) m) map.items
-        (the_whole source.nodes ∷ []) (occurrences.nodes tree ∷ []) map.line target.nodes made scope (record { segments = wt.segments; groups = wt.groups }) li typed.placed level inner means in
+    (the_whole source.nodes ∷ []) (occurrences.nodes tree ∷ []) map.line target.nodes made scope (record { segments = wt.segments; groups = wt.groups }) li typed.placed level inner means in
     let same = all_listed target.nodes made (seq_stands _ target.nodes made seq) in
     subst (Seq (λ s. s.name) (λ shape s. Meets target.tables shape s.at) target.nodes) (sym same) seq

@@ -121,7 +121,6 @@ failures_join from to es nodes (flat_item f items rest) b h =
 
 -- what two lists of items give is a front and a back
 module _ (m : List SegmentValue) (os : List Occurrence) (target : Forest) where
-
   pub give_join : (a b : Items) (list : List SegmentValue) → Give m os target (join a b) list → Cut (Give m os target a) (Give m os target b) list
   unfolding join
   give_join no_items b list h = record { front = []; back = list; joined = refl; here = refl; there = h }
@@ -183,9 +182,9 @@ placed_its nodes j (flat_item f items rest) h = go (placed_its nodes j rest) (fi
         let t = three_true (nat_le j k) (all_for nodes k items) (are_placed nodes k rest) p in
         elim (eqb_tells k j) [
           | inl same ↦ rw same.0 (
-            let c : all_for nodes j items ≡ true = subst (λ i. all_for nodes i items ≡ true) same.1 t.1 in
-            let d : all_for nodes j (its j rest) ≡ true = more (subst (λ i. are_placed nodes i rest ≡ true) same.1 t.2) in
-            rw (c, d) refl)
+              let c : all_for nodes j items ≡ true = subst (λ i. all_for nodes i items ≡ true) same.1 t.1 in
+              let d : all_for nodes j (its j rest) ≡ true = more (subst (λ i. are_placed nodes i rest ≡ true) same.1 t.2) in
+              rw (c, d) refl)
           | inr other ↦ rw other.0 refl
         ]
 
@@ -196,18 +195,18 @@ placed_beyond nodes j (segment_item s rest) h =
     elim (eqb_tells s.child j) [
       | inl e ↦ rw e.0 (placed_beyond nodes j rest (subst (λ k. are_placed nodes k rest ≡ true) e.1 t.2))
       | inr e ↦ rw e.0 (
-        let low : nat_le (suc j) s.child ≡ true = to_nat_le (suc j) s.child (omega (arith, from_nat_le j s.child t.0, e.1)) in
-        let seg = t.1 in let more = t.2 in
-        rw (low, seg, more) refl)
+          let low : nat_le (suc j) s.child ≡ true = to_nat_le (suc j) s.child (omega (arith, from_nat_le j s.child t.0, e.1)) in
+          let seg = t.1 in let more = t.2 in
+          rw (low, seg, more) refl)
     ]
 placed_beyond nodes j (group_item g items rest) h =
     let t = four_true (nat_le j g.child) (is_group (child nodes g.child)) (are_placed (nodes_of_child nodes g.child) 0 items) (are_placed nodes g.child rest) h in
     elim (eqb_tells g.child j) [
       | inl e ↦ rw e.0 (placed_beyond nodes j rest (subst (λ k. are_placed nodes k rest ≡ true) e.1 t.3))
       | inr e ↦ rw e.0 (
-        let low : nat_le (suc j) g.child ≡ true = to_nat_le (suc j) g.child (omega (arith, from_nat_le j g.child t.0, e.1)) in
-        let kind = t.1 in let inner = t.2 in let more = t.3 in
-        rw (low, kind, inner, more) refl)
+          let low : nat_le (suc j) g.child ≡ true = to_nat_le (suc j) g.child (omega (arith, from_nat_le j g.child t.0, e.1)) in
+          let kind = t.1 in let inner = t.2 in let more = t.3 in
+          rw (low, kind, inner, more) refl)
     ]
 placed_beyond nodes j (flat_item f items rest) h = go (placed_beyond nodes j rest) (first_child items) refl h
   where
@@ -218,7 +217,7 @@ placed_beyond nodes j (flat_item f items rest) h = go (placed_beyond nodes j res
         elim (eqb_tells k j) [
           | inl same ↦ rw same.0 (more (subst (λ i. are_placed nodes i rest ≡ true) same.1 t.2))
           | inr other ↦ rw other.0 (
-            let low : nat_le (suc j) k ≡ true = to_nat_le (suc j) k (omega (arith, from_nat_le j k t.0, other.1)) in
-            let inner = t.1 in let more = t.2 in
-            rw (e, low, inner, more) refl)
+              let low : nat_le (suc j) k ≡ true = to_nat_le (suc j) k (omega (arith, from_nat_le j k t.0, other.1)) in
+              let inner = t.1 in let more = t.2 in
+              rw (e, low, inner, more) refl)
         ]

@@ -1,0 +1,5 @@
+use Rattle.gw_interp.proofs.Sound.{sound}
+use Rattle.gw_interp.proofs.laws.allowed_maps_are_sound.Goals as goal
+
+pub returns : goal.returns
+returns c = λ source target map ws wt lawful typed m tree is_message conforms is_tree made means. sound source target map ws wt lawful typed m tree conforms is_tree made means

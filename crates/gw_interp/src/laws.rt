@@ -1,0 +1,12 @@
+//! What holds of the definitions.
+ghost use Rattle.gw_profile.specs.Shapes.{ProfileValue};
+ghost use Rattle.gw_profile.specs.WellFormed.{WellFormed};
+ghost use Rattle.gw_check.specs.Resolved.{Resolved};
+ghost use Rattle.gw_check.specs.Lawful.{LawfulItems};
+ghost use Rattle.gw_check.specs.Typed.{IsTyped};
+ghost use Rattle.gw_interp.specs.Sound.{MakesConforming};
+
+/// Where the rules allow a map, what it makes of any message that conforms to the source conforms to the target.
+pub fn allowed_maps_are_sound()
+    ensures { (source target : ProfileValue) (map : Resolved) → WellFormed source → WellFormed target → LawfulItems target.nodes map.items → IsTyped source target map → MakesConforming source target map }
+{}
