@@ -1,11 +1,18 @@
--- What a table, and the tables of a map, find.
-use Rattle.std.proofs.Common.{◌≡◌, ℕ, List, [], ◌∷◌, map, Option, Some, Bool, true, false, refl, ap}
-use Rattle.std.specs.Prelude.{bytes_eq, if◌then◌else◌}
+-- What a table, and the tables of a map, find and hold.
+use Rattle.std.proofs.Common.{◌≡◌, ℕ, suc, ◌-◌, List, [], ◌∷◌, ◌++◌, length, map, Option, Some, None, Bor, Bool, true, false, refl, sym, ap, ◌∙◌, arith}
+use Rattle.std.specs.Prelude.{Result, Ok, Err, OnOk, bytes_eq, slice_get, is_some, ◌||◌, if◌then◌else◌}
+use Rattle.std.specs.List.{list_any}
 use Rattle.std.specs.Option.{option_map}
 use Rattle.std.specs.Global.{Vec}
-use Rattle.std.specs.Map.{lookup}
-use Rattle.gw_maplang.specs.Shapes.{Rows, second_of, table_of}
-use Rattle.gw_maplang.specs.Seen.{row, table}
+use Rattle.std.specs.Map.{lookup, keys_of}
+use Rattle.std.proofs.lemmas.Map.Made.{is_some-lookup}
+use Rattle.indexmap.specs.IndexMap.{insert_entry}
+use Rattle.indexmap.specs.Layout.{set_value_at}
+use Rattle.gw_profile.proofs.Kept.{map_push}
+use Rattle.gw_maplang.specs.Shapes.{Row, Rows, TableValue, second_of, table_of}
+use Rattle.gw_maplang.specs.Lawful.{firsts, table_names}
+use Rattle.gw_maplang.specs.Fault.{is_among, last_table, at_last, is_said}
+use Rattle.gw_maplang.specs.Seen.{row, table, now}
 
 pub row_found : (value : List ℕ) (es : List (Vec ℕ × Vec ℕ)) → option_map (λ (v : Vec ℕ). v.items) (lookup (λ k. bytes_eq value k.items) es) ≡ second_of value (map row es)
 row_found value [] = refl
@@ -18,3 +25,68 @@ row_found value (e ∷ es) = by (bytes_eq value e.0.items) (row_found value es)
 pub table_found : (name : List ℕ) (es : List (Vec ℕ × Rows)) → lookup (λ k. bytes_eq name k.items) es ≡ table_of name (map table es)
 table_found name [] = refl
 table_found name (e ∷ es) = ap (λ o. if bytes_eq name e.0.items then Some e.1 else o) (table_found name es)
+
+-- ---- keys
+
+rows_named : (value : List ℕ) (es : List (Vec ℕ × Vec ℕ)) → list_any (λ k. bytes_eq value k.items) (keys_of es) ≡ is_among value (firsts (map row es))
+rows_named value [] = refl
+rows_named value (e ∷ es) = ap (λ b. bytes_eq value e.0.items || b) (rows_named value es)
+
+pub row_known : (value : List ℕ) (es : List (Vec ℕ × Vec ℕ)) → is_some (lookup (λ k. bytes_eq value k.items) es) ≡ is_among value (firsts (map row es))
+row_known value es = is_some-lookup _ es ∙ rows_named value es
+
+tables_named : (name : List ℕ) (es : List (Vec ℕ × Rows)) → list_any (λ k. bytes_eq name k.items) (keys_of es) ≡ is_among name (table_names (map table es))
+tables_named name [] = refl
+tables_named name (e ∷ es) = ap (λ b. bytes_eq name e.0.items || b) (tables_named name es)
+
+pub table_known : (name : List ℕ) (es : List (Vec ℕ × Rows)) → is_some (lookup (λ k. bytes_eq name k.items) es) ≡ is_among name (table_names (map table es))
+table_known name es = is_some-lookup _ es ∙ tables_named name es
+
+-- a new key goes last
+put_last : {V : Type 0} (es : List (Vec ℕ × V)) (key : Vec ℕ) (value : V) → list_any (λ k. bytes_eq key.items k.items) (keys_of es) ≡ false → insert_entry (λ x y. bytes_eq x.items y.items) es key value ≡ es ++ (key, value) ∷ []
+put_last [] key value new = refl
+put_last {V} (e ∷ es) key value new = by (bytes_eq key.items e.0.items) new (put_last es key value)
+  where
+    by : (b : Bool) → b || list_any (λ k. bytes_eq key.items k.items) (keys_of es) ≡ false → (list_any (λ k. bytes_eq key.items k.items) (keys_of es) ≡ false → insert_entry (λ x y. bytes_eq x.items y.items) es key value ≡ es ++ (key, value) ∷ [])
+        → (if b then (e.0, value) ∷ es else e ∷ insert_entry (λ x y. bytes_eq x.items y.items) es key value) ≡ e ∷ (es ++ (key, value) ∷ [])
+    by true n h = absurd (cc)
+    by false n h = ap (λ l. e ∷ l) (h n)
+
+pub row_put : (es : List (Vec ℕ × Vec ℕ)) (first second : Vec ℕ) → is_among first.items (firsts (map row es)) ≡ false → map row (insert_entry (λ x y. bytes_eq x.items y.items) es first second) ≡ map row es ++ record { first = first.items; second = second.items } ∷ []
+row_put es first second new = ap (map row) (put_last es first second (rows_named first.items es ∙ new)) ∙ map_push row es (first, second)
+
+pub table_put : (es : List (Vec ℕ × Rows)) (name : Vec ℕ) (rows : Rows) → is_among name.items (table_names (map table es)) ≡ false → map table (insert_entry (λ x y. bytes_eq x.items y.items) es name rows) ≡ map table es ++ table (name, rows) ∷ []
+table_put es name rows new = ap (map table) (put_last es name rows (tables_named name.items es ∙ new)) ∙ map_push table es (name, rows)
+
+-- ---- the last table
+
+pub last_is : (es : List (Vec ℕ × Rows)) (t : Vec ℕ × Rows) → slice_get es (length es - 1) ≡ Some t → table t ≡ last_table (map table es)
+last_is [] t e = absurd (cc)
+last_is (x ∷ []) t e = let s : x ≡ t = cc in ap table (sym s)
+last_is (x ∷ y ∷ es) t e =
+    let n : length (x ∷ y ∷ es) - 1 ≡ suc (length (y ∷ es) - 1) = omega arith in
+    last_is (y ∷ es) t (ap (slice_get (x ∷ y ∷ es)) (sym n) ∙ e)
+
+pub last_value_is : (es : List (Vec ℕ × Rows)) (v : Rows) → slice_get (map (λ (e : Vec ℕ × Rows). e.1) es) (length es - 1) ≡ Some v → v.rows ≡ (last_table (map table es)).rows
+last_value_is [] v e = absurd (cc)
+last_value_is (x ∷ []) v e = let s : x.1 ≡ v = cc in ap (λ (r : Rows). r.rows) (sym s)
+last_value_is (x ∷ y ∷ es) v e =
+    let n : length (x ∷ y ∷ es) - 1 ≡ suc (length (y ∷ es) - 1) = omega arith in
+    last_value_is (y ∷ es) v (ap (slice_get (map (λ (e : Vec ℕ × Rows). e.1) (x ∷ y ∷ es))) (sym n) ∙ e)
+
+-- the last table changed
+pub last_set : (es : List (Vec ℕ × Rows)) (v w : Rows) (f : TableValue → TableValue) → slice_get (map (λ (e : Vec ℕ × Rows). e.1) es) (length es - 1) ≡ Some v → ((k : Vec ℕ) → table (k, w) ≡ f (table (k, v))) → map table (set_value_at es (length es - 1) w) ≡ at_last f (map table es)
+last_set [] v w f e h = refl
+last_set (x ∷ []) v w f e h = let s : x.1 ≡ v = cc in ap (λ t. t ∷ []) (h x.0 ∙ ap (λ (r : Rows). f (table (x.0, r))) (sym s))
+last_set (x ∷ y ∷ es) v w f e h =
+    let n : length (x ∷ y ∷ es) - 1 ≡ suc (length (y ∷ es) - 1) = omega arith in
+    ap (λ m. map table (set_value_at (x ∷ y ∷ es) m w)) n
+    ∙ ap (λ l. table x ∷ l) (last_set (y ∷ es) v w f (ap (slice_get (map (λ (e : Vec ℕ × Rows). e.1) (x ∷ y ∷ es))) (sym n) ∙ e) h)
+
+pub said_is : (o : Option (Bor (List ℕ))) → is_some o ≡ is_said (now o)
+said_is None = refl
+said_is (Some v) = refl
+
+pub last_set_where : {A E : Type 0} (es : List (Vec ℕ × Rows)) (v w : Rows) (f : TableValue → TableValue) (result : Result A E) → slice_get (map (λ (e : Vec ℕ × Rows). e.1) es) (length es - 1) ≡ Some v → (new : Rows) → OnOk result (w ≡ new) → (w ≡ new → (k : Vec ℕ) → table (k, w) ≡ f (table (k, v))) → OnOk result (map table (set_value_at es (length es - 1) w) ≡ at_last f (map table es))
+last_set_where es v w f (Ok x) e new h k = last_set es v w f e (k h)
+last_set_where es v w f (Err x) e new h k = tt

@@ -3,4 +3,9 @@ pub mod Shapes
 pub mod Among
 pub mod Lawful
 pub mod Line
+pub mod Fault
+pub mod Taken
+pub mod Value
+pub mod Whole
 pub mod Seen
+pub mod Building

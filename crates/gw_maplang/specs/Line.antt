@@ -1,6 +1,6 @@
 -- The lines of a map, and the words of each.
 use Rattle.std.specs.Prelude.{ℕ, Bool, ◌==◌, if◌then◌else◌, List, [], ◌∷◌, Option, Some, None, codes}
-use Rattle.std.specs.List.{list_all, list_any, slice_split, before_first, after_first}
+use Rattle.std.specs.List.{list_all, slice_split, before_first}
 use Rattle.std.specs.Option.{option_and_then, option_map}
 use Rattle.gw_lines.specs.Words.{Word}
 use Rattle.gw_lines.specs.Spelled.{plain_bytes, is_keyword, is_name, is_dot, number}
@@ -33,7 +33,8 @@ is_dash b = b == 45
 
 -- what stands behind the first such byte, where there is one
 abbrev pub behind_first : (ℕ → Bool) → List ℕ → Option (List ℕ)
-behind_first is_end bytes = if list_any is_end bytes then Some (after_first is_end bytes) else None
+behind_first is_end [] = None
+behind_first is_end (b ∷ bytes) = if is_end b then Some bytes else behind_first is_end bytes
 
 -- labels joined by slashes
 abbrev pub path_of : List ℕ → Option Path
@@ -103,12 +104,18 @@ constant (b ∷ bytes) = b ∷ bytes
 
 -- ---- parts of a line, each with the words behind it
 
+-- the bytes of a plain word
+abbrev pub plain_word : List Word → Option (List ℕ × List Word)
+plain_word words = do
+  w ← first_word words
+  bytes ← plain_bytes w.0
+  Some (bytes, w.1)
+
 -- a part that one plain word is
 abbrev pub plain_at : {A : Type 0} → (List ℕ → Option A) → List Word → Option (A × List Word)
 plain_at part words = do
-  w ← first_word words
-  bytes ← plain_bytes w.0
-  x ← part bytes
+  w ← plain_word words
+  x ← part w.0
   Some (x, w.1)
 
 -- VALUE, not yet tested
@@ -143,14 +150,17 @@ lookup_form words = do
   ref ← plain_at ref_of table.1
   with_all ref.1 (Lookup table.0 ref.0)
 
--- LEAF
-abbrev pub leaf_form : List Word → Option Leaf
-leaf_form [] = None
-leaf_form (keyword ∷ more) =
+-- LEAF, by its keyword
+abbrev pub leaf_of : Word → List Word → Option Leaf
+leaf_of keyword more =
     if is_keyword (codes "const") keyword then const_form more
     else if is_keyword (codes "copy") keyword then copy_form more
     else if is_keyword (codes "lookup") keyword then lookup_form more
     else None
+
+abbrev pub leaf_form : List Word → Option Leaf
+leaf_form [] = None
+leaf_form (keyword ∷ more) = leaf_of keyword more
 
 -- [LEAF], at place 1.1
 abbrev pub own_leaves : ℕ → List Word → Option (List LeafValue)
@@ -203,26 +213,24 @@ segment_form at words = do
   source ← source_at label.1
   with_all source.1 (Segment at label.0 source.0)
 
--- copy N from PATH-F
-abbrev pub copies_form : ℕ → List Word → Option Line
-copies_form at words = do
+-- N from PATH-F
+abbrev pub made_from : List Word → Option (ℕ × FieldPath)
+made_from words = do
   field ← number_at 999 words
   from ← from_at field.1
-  with_all from.1 (Makes (record { line = at; field = field.0; making = Copies from.0 }))
+  with_all from.1 (field.0, from.0)
+
+-- copy N from PATH-F
+abbrev pub copies_form : ℕ → List Word → Option Line
+copies_form at words = option_map (λ m. Makes (record { line = at; field = m.0; making = Copies m.1 })) (made_from words)
 
 -- first N from PATH-F
 abbrev pub firsts_form : ℕ → List Word → Option Line
-firsts_form at words = do
-  field ← number_at 999 words
-  from ← from_at field.1
-  with_all from.1 (Makes (record { line = at; field = field.0; making = Firsts from.0 }))
+firsts_form at words = option_map (λ m. Makes (record { line = at; field = m.0; making = Firsts m.1 })) (made_from words)
 
 -- repeat N from PATH-F
 abbrev pub repeats_form : ℕ → List Word → Option Line
-repeats_form at words = do
-  field ← number_at 999 words
-  from ← from_at field.1
-  with_all from.1 (Makes (record { line = at; field = field.0; making = Repeats from.0 [] }))
+repeats_form at words = option_map (λ m. Makes (record { line = at; field = m.0; making = Repeats m.1 [] })) (made_from words)
 
 -- build N [LEAF]
 abbrev pub builds_form : ℕ → List Word → Option Line
@@ -257,6 +265,16 @@ drop_form at words = do
   drop ← plain_at (drop_of at) words
   with_all drop.1 (Drops drop.0)
 
+-- a rule or leaf
+abbrev pub rule_form : ℕ → Word → List Word → Option Line
+rule_form at keyword more =
+    if is_keyword (codes "copy") keyword then copies_form at more
+    else if is_keyword (codes "first") keyword then firsts_form at more
+    else if is_keyword (codes "repeat") keyword then repeats_form at more
+    else if is_keyword (codes "build") keyword then builds_form at more
+    else if is_keyword (codes "at") keyword then at_form at more
+    else None
+
 -- the line of a keyword and the words behind it
 abbrev pub keyword_form : ℕ → Word → List Word → Option Line
 keyword_form at keyword more =
@@ -265,16 +283,11 @@ keyword_form at keyword more =
     else if is_keyword (codes "row") keyword then row_form more
     else if is_keyword (codes "else") keyword then else_form more
     else if is_keyword (codes "segment") keyword then segment_form at more
-    else if is_keyword (codes "copy") keyword then copies_form at more
-    else if is_keyword (codes "first") keyword then firsts_form at more
-    else if is_keyword (codes "repeat") keyword then repeats_form at more
-    else if is_keyword (codes "build") keyword then builds_form at more
-    else if is_keyword (codes "at") keyword then at_form at more
     else if is_keyword (codes "group") keyword then group_form at more
     else if is_keyword (codes "flat") keyword then each_form at None more
     else if is_keyword (codes "end") keyword then with_all more End
     else if is_keyword (codes "drop") keyword then drop_form at more
-    else None
+    else rule_form at keyword more
 
 -- the line that these words are
 abbrev pub form : ℕ → List Word → Option Line

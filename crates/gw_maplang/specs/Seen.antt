@@ -1,5 +1,5 @@
 -- Parts of the program, without where they lie in memory.
-use Rattle.std.specs.Prelude.{ℕ, List, [], ◌∷◌, map, Option, Some, None}
+use Rattle.std.specs.Prelude.{◌≡◌, ℕ, ◌<◌, false, List, [], ◌∷◌, map, reverse, Option, Some, None}
 use Rattle.std.specs.Option.{option_map}
 use Rattle.std.specs.Global.{Vec}
 use denote.Ref.{Bor}
@@ -10,6 +10,12 @@ use Rattle.gw_maplang.specs.declared.rule.LeafRule.{LeafRule}
 use Rattle.gw_maplang.specs.declared.rule.Rule as rules
 use Rattle.gw_maplang.specs.declared.rule.Dropped.{Dropped}
 use Rattle.gw_maplang.specs.declared.item.Item.{Item, SegFrom, SegAlways, EachAs', EachFlat', Row_of-Item, end_of-Item, more_of-Item}
+use Rattle.gw_maplang.specs.declared.form.Line as declared
+use Rattle.gw_maplang.specs.Line as Spec
+use Rattle.gw_maplang.specs.declared.context as Held
+use Rattle.gw_maplang.specs.Fault as Fault
+use Rattle.gw_maplang.specs.Taken.{AllTaken}
+use Rattle.gw_maplang.specs.Lawful.{table_names, firsts}
 use Rattle.gw_maplang.specs.Shapes.{Path, FieldPath, Ref, Field, Current, Leaf, Const, Copy, Lookup, LeafValue, Making, Copies, Firsts, Repeats, Builds, RuleValue, Items, nothing, segment, group, flat, Row, Rows, TableValue, DropValue, MapValue}
 
 abbrev pub now : Option (Bor (List ℕ)) → Option (List ℕ)
@@ -18,10 +24,16 @@ now found = option_map (λ bytes. bytes.now) found
 abbrev pub items_of : Option (Vec ℕ) → Option (List ℕ)
 items_of v = option_map (λ w. w.items) v
 
+abbrev pub now_all : List (Bor (List ℕ)) → List (List ℕ)
+now_all all = map (λ bytes. bytes.now) all
+
+abbrev pub items_all : List (Vec ℕ) → List (List ℕ)
+items_all all = map (λ v. v.items) all
+
 -- ---- rules
 
 abbrev pub path : Vec (Vec ℕ) → Path
-path p = map (λ label. label.items) p.items
+path p = items_all p.items
 
 abbrev pub field_path : field_paths.FieldPath → FieldPath
 field_path f = record { path = path f.path; field = f.field }
@@ -29,6 +41,9 @@ field_path f = record { path = path f.path; field = f.field }
 abbrev pub ref : refs.Ref → Ref
 ref (refs.TheVariants.Field from place) = Field (field_path from) place
 ref (refs.TheVariants.Current place) = Current place
+
+abbrev pub ref_some : Option refs.Ref → Option Ref
+ref_some r = option_map ref r
 
 abbrev pub leaf : leaves.Leaf → Leaf
 leaf (leaves.TheVariants.Const value) = Const value.items
@@ -86,3 +101,98 @@ pub record Contents : Type 0 where
 
 abbrev pub map_value : Contents → MapValue
 map_value m = record { name = m.name; source = m.source; target = m.target; line = m.line; tables = m.tables; items = all_items m.items; drops = m.drops }
+
+-- ---- lines
+
+abbrev pub path_some : Option (Vec (Vec ℕ)) → Option Path
+path_some p = option_map path p
+
+abbrev pub line : declared.Line → Spec.Line
+line (declared.TheVariants.Begins at name source target) = Spec.Begins at name.now source.now target.now
+line (declared.TheVariants.Table name) = Spec.Table name.now
+line (declared.TheVariants.Rows first second) = Spec.Rows (record { first = first.now; second = second.now })
+line (declared.TheVariants.Else value) = Spec.Else value.now
+line (declared.TheVariants.Segment at label source) = Spec.Segment at label.now (path_some source)
+line (declared.TheVariants.Makes r) = Spec.Makes (rule r)
+line (declared.TheVariants.At l) = Spec.At (leaf_value l)
+line (declared.TheVariants.Each at label p) = Spec.Each at (now label) (path p)
+line declared.TheVariants.End = Spec.End
+line (declared.TheVariants.Drops d) = Spec.Drops (dropped d)
+
+-- the lines, the last first
+abbrev pub above : List declared.Line → List Spec.Line
+above lines = reverse (map line lines)
+
+-- ---- what the lines above leave open
+
+abbrev pub open_segment : Option Held.OpenSegment.OpenSegment → Option Fault.OpenSegment
+open_segment s = option_map (λ o. record { least = o.least; fields = o.fields.keys }) s
+
+abbrev pub open_rule : Option Held.OpenRule.OpenRule → Option Fault.OpenRule
+open_rule r = option_map (λ o. record { repeated = o.repeated; places = o.places.keys }) r
+
+abbrev pub standing : List Spec.Line → Held.Standing.Standing
+standing above = record { in_table = Fault.in_table above; has_item = Fault.has_item above; depth = Fault.depth above; hollow = Fault.hollow above }
+
+abbrev pub StandingFollows : Held.Standing.Standing → Held.Standing.Standing → Spec.Line → Type 0
+StandingFollows old new l = (above : List Spec.Line) → old ≡ standing above → new ≡ standing (l ∷ above)
+
+-- few enough groups and flats are open
+abbrev pub HasRoom : ℕ → Spec.Line → Type 0
+HasRoom depth (Spec.Begins at name source target) = Unit {0}
+HasRoom depth (Spec.Table name) = Unit {0}
+HasRoom depth (Spec.Rows r) = Unit {0}
+HasRoom depth (Spec.Else value) = Unit {0}
+HasRoom depth (Spec.Segment at label source) = Unit {0}
+HasRoom depth (Spec.Makes r) = Unit {0}
+HasRoom depth (Spec.At l) = Unit {0}
+HasRoom depth (Spec.Each at label p) = depth < 16
+HasRoom depth Spec.End = Unit {0}
+HasRoom depth (Spec.Drops d) = Unit {0}
+
+-- a table or row is new
+abbrev pub IsNewTable : List TableValue → Spec.Line → Type 0
+IsNewTable tables (Spec.Begins at name source target) = Unit {0}
+IsNewTable tables (Spec.Table name) = Fault.is_among name (table_names tables) ≡ false
+IsNewTable tables (Spec.Rows r) = Fault.is_among r.first (firsts (Fault.last_table tables).rows) ≡ false
+IsNewTable tables (Spec.Else value) = Unit {0}
+IsNewTable tables (Spec.Segment at label source) = Unit {0}
+IsNewTable tables (Spec.Makes r) = Unit {0}
+IsNewTable tables (Spec.At l) = Unit {0}
+IsNewTable tables (Spec.Each at label p) = Unit {0}
+IsNewTable tables Spec.End = Unit {0}
+IsNewTable tables (Spec.Drops d) = Unit {0}
+
+-- a rule is for a field that has none
+abbrev pub IsNewField : Option Fault.OpenSegment → Spec.Line → Type 0
+IsNewField held (Spec.Begins at name source target) = Unit {0}
+IsNewField held (Spec.Table name) = Unit {0}
+IsNewField held (Spec.Rows r) = Unit {0}
+IsNewField held (Spec.Else value) = Unit {0}
+IsNewField held (Spec.Segment at label source) = Unit {0}
+IsNewField held (Spec.Makes r) = Fault.is_made r.field held ≡ false
+IsNewField held (Spec.At l) = Unit {0}
+IsNewField held (Spec.Each at label p) = Unit {0}
+IsNewField held Spec.End = Unit {0}
+IsNewField held (Spec.Drops d) = Unit {0}
+
+-- a leaf is for a place that has none
+abbrev pub IsNewPlace : Option Fault.OpenRule → Spec.Line → Type 0
+IsNewPlace held (Spec.Begins at name source target) = Unit {0}
+IsNewPlace held (Spec.Table name) = Unit {0}
+IsNewPlace held (Spec.Rows r) = Unit {0}
+IsNewPlace held (Spec.Else value) = Unit {0}
+IsNewPlace held (Spec.Segment at label source) = Unit {0}
+IsNewPlace held (Spec.Makes r) = Unit {0}
+IsNewPlace held (Spec.At l) = Fault.is_placed l.place held ≡ false
+IsNewPlace held (Spec.Each at label p) = Unit {0}
+IsNewPlace held Spec.End = Unit {0}
+IsNewPlace held (Spec.Drops d) = Unit {0}
+
+-- what is kept beside the lines agrees with them
+pub record Agrees (held : Held.Standing.Standing) (tables : List TableValue) (segment : Option Fault.OpenSegment) (rule : Option Fault.OpenRule) (lines : List Spec.Line) : Type 0 where
+  pub has_standing : held ≡ standing lines
+  pub has_tables : tables ≡ Fault.tables lines
+  pub has_segment : segment ≡ Fault.open_segment lines
+  pub has_rule : rule ≡ Fault.open_rule lines
+  pub taken : AllTaken lines

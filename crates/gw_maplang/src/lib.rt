@@ -1,16 +1,25 @@
 //! Maps from messages of one profile to messages of another.
 #![tactic(auto)]
 
+mod build;
+mod context;
 mod fault;
+mod form;
 mod item;
 mod map;
+mod parts;
+mod reader;
 mod rule;
 mod table;
+mod text;
+mod whole;
 
 pub use fault::MapFault;
 pub use item::{AlwaysItem, FlatItem, FromItem, GroupItem, Item};
 pub use map::Map;
+pub use reader::Reader;
 pub use rule::{
     BuildRule, CopyRule, Dropped, FieldPath, Leaf, LeafPlace, LeafRule, Ref, RepeatRule, Rule,
 };
 pub use table::Table;
+pub use text::parse;

@@ -8,7 +8,7 @@ pub struct FieldPath {
 }
 
 /// A component and a subcomponent.
-#[derive(Clone, Copy, PartialEq, Eq, Debug, Drop)]
+#[derive(Clone, Copy, PartialEq, Eq, Hash, Debug, Drop)]
 pub struct LeafPlace {
     pub comp: u32,
     pub sub: u32,
@@ -77,4 +77,33 @@ pub struct Dropped {
     pub line: u32,
     pub path: Vec<Vec<u8>>,
     pub field: Option<u32>,
+}
+
+impl Rule {
+    ghost use Rattle.std.specs.Prelude.{◌≡◌};
+    ghost use Rattle.gw_maplang.specs.Seen.{rule};
+
+    /// The line of the rule. It takes no memory.
+    pub fn line(&self) -> u32
+        ensures { result ≡ (rule self.now).line }
+    {
+        match self {
+            Rule::CopyField(made) => made.line,
+            Rule::FirstRep(made) => made.line,
+            Rule::RepeatField(made) => made.line,
+            Rule::Build(made) => made.line,
+        }
+    }
+
+    /// The number of the field that it makes. It takes no memory.
+    pub fn field(&self) -> u32
+        ensures { result ≡ (rule self.now).field }
+    {
+        match self {
+            Rule::CopyField(made) => made.field,
+            Rule::FirstRep(made) => made.field,
+            Rule::RepeatField(made) => made.field,
+            Rule::Build(made) => made.field,
+        }
+    }
 }

@@ -1,10 +1,11 @@
 //! Tables of a map.
-ghost use Rattle.std.specs.Prelude.{◌≡◌, map};
-ghost use Rattle.std.specs.Option.{option_map};
+ghost use Rattle.std.specs.Prelude.{◌≡◌, ◌++◌, ◌∷◌, [], map, OnOk, None, Some, false};
+ghost use Rattle.gw_maplang.specs.Fault.{is_among};
 ghost use Rattle.gw_maplang.specs.Shapes.{second_of};
 ghost use Rattle.gw_maplang.specs.Seen.{row, now, items_of};
 
 use indexmap::IndexMap;
+use std::alloc::{AllocError, Global};
 use std::marker::Model;
 
 /// The rows of a table, in order and each first value once, and what stands for every other. A value is looked up by its hash.
@@ -25,6 +26,48 @@ impl Model for Table {
 }
 
 impl Table {
+    /// A table without rows.
+    pub(crate) fn new(alloc: Global) -> Table
+        ensures { result ≡ record { rows = []; other = None } }
+    {
+        Table {
+            rows: IndexMap::new(alloc),
+            other: None,
+        }
+    }
+
+    /// Puts a new row behind the others.
+    pub(crate) fn put_row(
+        &mut self,
+        alloc: Global,
+        first: &[u8],
+        second: &[u8],
+    ) -> Result<(), AllocError>
+        requires { is_among first.now (map (λ r. r.first) self.old.rows) ≡ false }
+        ensures { OnOk result (self.new ≡ record { rows = self.old.rows ++ record { first = first.now; second = second.now } ∷ []; other = self.old.other }) }
+    {
+        let first = Vec::from_slice(alloc, first)?;
+        let second = Vec::from_slice(alloc, second)?;
+        self.rows.insert(first, second)?;
+        Ok(())
+    }
+
+    /// Says what stands for a value without a row.
+    pub(crate) fn put_other(&mut self, alloc: Global, value: &[u8]) -> Result<(), AllocError>
+        ensures { OnOk result (self.new ≡ record { rows = self.old.rows; other = Some value.now }) }
+    {
+        let value = Vec::from_slice(alloc, value)?;
+        self.other = Some(value);
+        Ok(())
+    }
+
+    /// Whether there is a row of this value. It takes no memory.
+    pub(crate) fn has_row(&self, value: &[u8]) -> bool
+        ensures { result ≡ is_among value.now (map (λ r. r.first) self.now.rows) }
+    {
+        self.rows.contains_key(value)
+    }
+
     /// The rows, in order. It takes no memory.
     pub fn rows(&self) -> &IndexMap<Vec<u8>, Vec<u8>>
         ensures { map row result.now.entries ≡ self.now.rows }

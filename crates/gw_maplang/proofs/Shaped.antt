@@ -1,0 +1,235 @@
+-- What the words of a line say of it.
+use Rattle.std.proofs.Common.{◌≡◌, ℕ, ◌≤◌, ◌+◌, Bool, true, false, List, [], ◌∷◌, length, Option, Some, None, refl, sym, ap, ◌∙◌, arith}
+use Rattle.std.specs.Prelude.{◌&&◌, if◌then◌else◌, IfSome, codes}
+use Rattle.std.specs.List.{AllByRecursion, list_all, slice_split, before_first, count_by}
+use Rattle.std.specs.Option.{option_map}
+use Rattle.std.proofs.lemmas.List.Splits.{length-slice_split}
+use Rattle.gw_lines.specs.Words.{Word}
+use Rattle.gw_lines.specs.Spelled.{plain_bytes, is_name, is_dot, number, is_keyword}
+use Rattle.gw_lines.specs.Values.{bytes_of}
+use Rattle.gw_lines.specs.Parts.{◌>>=◌, first_word, name_at, number_at, behind, with_all}
+use Rattle.gw_profile.proofs.Facts.{both}
+use Rattle.gw_profile.proofs.Shaped.{any, gives, map_gives, chosen, either_gives, with_all_is, number_is, name_at_is, number_at_is}
+use Rattle.gw_maplang.specs.declared.rule.LeafPlace.{LeafPlace}
+use Rattle.gw_maplang.specs.Among.{Distinct}
+use Rattle.gw_maplang.specs.Shapes.{Path, FieldPath, Ref, Field, Current, Leaf, Const, Copy, Lookup, LeafValue, Making, Copies, Firsts, Repeats, Builds, RuleValue, DropValue}
+use Rattle.gw_maplang.specs.Lawful.{LawfulPath, LawfulField, LawfulFieldPath, LawfulPlace, LawfulDrop, last_label, places}
+use Rattle.gw_maplang.specs.Line.{Line, Begins, Table, Rows, Else, Segment, Makes, At, Each, End, Drops, is_slash, is_dash, behind_first, path_of, field_of, field_path, sub_of, place_of, place_or_first, field_ref, ref_of, dropped_field, drop_of, some_bytes, constant, plain_word, plain_at, text_at, from_at, const_form, copy_form, lookup_form, leaf_of, leaf_form, own_leaves, map_form, table_form, row_form, else_form, source_behind, source_at, segment_form, made_from, copies_form, firsts_form, repeats_form, builds_form, at_form, each_form, group_form, drop_form, rule_form, keyword_form, form}
+
+abbrev pub ShapedRef : Ref → Type 0
+ShapedRef (Field from place) = LawfulFieldPath from × LawfulPlace place
+ShapedRef (Current place) = LawfulPlace place
+
+abbrev pub ShapedLeaf : Leaf → Type 0
+ShapedLeaf (Const value) = Unit {0}
+ShapedLeaf (Copy ref) = ShapedRef ref
+ShapedLeaf (Lookup table ref) = ShapedRef ref
+
+abbrev pub ShapedLeafValue : LeafValue → Type 0
+ShapedLeafValue l = LawfulPlace l.place × ShapedLeaf l.leaf
+
+abbrev pub ShapedLeaves : List LeafValue → Type 0
+ShapedLeaves leaves = AllByRecursion ShapedLeafValue leaves × Distinct (places leaves)
+
+abbrev pub ShapedMaking : Making → Type 0
+ShapedMaking (Copies from) = LawfulFieldPath from
+ShapedMaking (Firsts from) = LawfulFieldPath from
+ShapedMaking (Repeats from leaves) = LawfulFieldPath from × (leaves ≡ [])
+ShapedMaking (Builds leaves) = ShapedLeaves leaves
+
+abbrev pub Shaped : Line → Type 0
+Shaped (Begins at name source target) = (is_name name ≡ true) × (is_name source ≡ true) × (is_name target ≡ true)
+Shaped (Table name) = is_name name ≡ true
+Shaped (Rows row) = Unit {0}
+Shaped (Else value) = Unit {0}
+Shaped (Segment at label source) = (is_name label ≡ true) × IfSome source LawfulPath
+Shaped (Makes rule) = (rule.field ≤ 999) × ShapedMaking rule.making
+Shaped (At leaf) = ShapedLeafValue leaf
+Shaped (Each at label path) = IfSome label (λ name. is_name name ≡ true) × LawfulPath path
+Shaped End = Unit {0}
+Shaped (Drops drop) = LawfulDrop drop
+
+-- ---- parts of a word
+
+all_of : {A : Type 0} (test : A → Bool) (xs : List A) → list_all test xs ≡ true → AllByRecursion (λ x. test x ≡ true) xs
+all_of test [] e = tt
+all_of test (x ∷ xs) e = let p = both (test x) (list_all test xs) e in (p.0, all_of test xs p.1)
+
+some_part : (bytes : List ℕ) → slice_split is_slash bytes ≡ [] → ⊥
+some_part bytes e = let n : 0 ≡ count_by is_slash bytes + 1 = ap length (sym e) ∙ length-slice_split is_slash bytes in absurd (omega arith)
+
+path_of_is : (bytes : List ℕ) → IfSome (path_of bytes) LawfulPath
+path_of_is bytes =
+    chosen LawfulPath (list_all is_name (slice_split is_slash bytes)) (slice_split is_slash bytes)
+    (λ e. record { some = some_part bytes; each = all_of is_name (slice_split is_slash bytes) e })
+
+field_of_is : (path : Path) (bytes : List ℕ) → IfSome (field_of path bytes) (LawfulField (last_label path))
+field_of_is path bytes = number_is _ 999 bytes
+
+field_path_is : (bytes : List ℕ) → IfSome (field_path bytes) LawfulFieldPath
+field_path_is bytes =
+    gives LawfulPath LawfulFieldPath (path_of (before_first is_dash bytes)) _ (path_of_is (before_first is_dash bytes))
+    (λ path h. gives (λ _. Unit {0}) LawfulFieldPath (behind_first is_dash bytes) _ (any (behind_first is_dash bytes))
+    (λ more u. gives (LawfulField (last_label path)) LawfulFieldPath (field_of path more) _ (field_of_is path more) (λ field k. record { path = h; field = k })))
+
+abbrev PlaceNumber : ℕ → Type 0
+PlaceNumber n = (1 ≤ n) × (n ≤ 99)
+
+sub_of_is : (o : Option (List ℕ)) → IfSome (sub_of o) PlaceNumber
+sub_of_is None = (omega arith, omega arith)
+sub_of_is (Some bytes) = number_is 1 99 bytes
+
+place_of_is : (bytes : List ℕ) → IfSome (place_of bytes) LawfulPlace
+place_of_is bytes =
+    gives PlaceNumber LawfulPlace (number 1 99 (before_first is_dot bytes)) _ (number_is 1 99 (before_first is_dot bytes))
+    (λ comp h. gives PlaceNumber LawfulPlace (sub_of (behind_first is_dot bytes)) _ (sub_of_is (behind_first is_dot bytes)) (λ sub k. record { comp = h; sub = k }))
+
+first_place : LawfulPlace (record { comp = 1; sub = 1 })
+first_place = record { comp = (omega arith, omega arith); sub = (omega arith, omega arith) }
+
+place_or_first_is : (o : Option (List ℕ)) → IfSome (place_or_first o) LawfulPlace
+place_or_first_is None = first_place
+place_or_first_is (Some bytes) = place_of_is bytes
+
+field_ref_is : (bytes : List ℕ) → IfSome (field_ref bytes) ShapedRef
+field_ref_is bytes =
+    gives LawfulFieldPath ShapedRef (field_path (before_first is_dot bytes)) _ (field_path_is (before_first is_dot bytes))
+    (λ from h. gives LawfulPlace ShapedRef (place_or_first (behind_first is_dot bytes)) _ (place_or_first_is (behind_first is_dot bytes)) (λ place k. (h, k)))
+
+ref_of_is : (bytes : List ℕ) → IfSome (ref_of bytes) ShapedRef
+ref_of_is [] = tt
+ref_of_is (b ∷ bytes) =
+    either_gives ShapedRef (is_dot b) (option_map Current (place_of bytes)) (field_ref (b ∷ bytes))
+    (map_gives LawfulPlace ShapedRef (place_of bytes) Current (place_of_is bytes) (λ place h. h)) (field_ref_is (b ∷ bytes))
+
+dropped_field_is : (path : Path) (o : Option (List ℕ)) → IfSome (dropped_field path o) (λ f. IfSome f (LawfulField (last_label path)))
+dropped_field_is path None = tt
+dropped_field_is path (Some bytes) = map_gives (LawfulField (last_label path)) _ (field_of path bytes) Some (field_of_is path bytes) (λ field h. h)
+
+drop_of_is : (at : ℕ) (bytes : List ℕ) → IfSome (drop_of at bytes) LawfulDrop
+drop_of_is at bytes =
+    gives LawfulPath LawfulDrop (path_of (before_first is_dash bytes)) _ (path_of_is (before_first is_dash bytes))
+    (λ path h. gives (λ f. IfSome f (LawfulField (last_label path))) LawfulDrop (dropped_field path (behind_first is_dash bytes)) _ (dropped_field_is path (behind_first is_dash bytes)) (λ field k. record { path = h; field = k }))
+
+-- ---- parts of a line
+
+plain_at_is : {A : Type 0} (P : A → Type 0) (part : List ℕ → Option A) → ((bytes : List ℕ) → IfSome (part bytes) P) → (words : List Word) → IfSome (plain_at part words) (λ p. P p.0)
+plain_at_is P part h words =
+    gives (λ _. Unit {0}) _ (plain_word words) _ (any (plain_word words)) (λ w u. gives P _ (part w.0) _ (h w.0) (λ x k. k))
+
+from_at_is : (words : List Word) → IfSome (from_at words) (λ p. LawfulFieldPath p.0)
+from_at_is words =
+    gives (λ _. Unit {0}) _ (behind (codes "from") words) _ (any (behind (codes "from") words)) (λ more u. plain_at_is LawfulFieldPath field_path field_path_is more)
+
+const_form_is : (words : List Word) → IfSome (const_form words) ShapedLeaf
+const_form_is words = gives (λ _. Unit {0}) ShapedLeaf (first_word words) _ (any (first_word words)) (λ w u. with_all_is ShapedLeaf w.1 (Const (constant (bytes_of w.0))) tt)
+
+copy_form_is : (words : List Word) → IfSome (copy_form words) ShapedLeaf
+copy_form_is words = gives (λ p. ShapedRef p.0) ShapedLeaf (plain_at ref_of words) _ (plain_at_is ShapedRef ref_of ref_of_is words) (λ ref h. with_all_is ShapedLeaf ref.1 (Copy ref.0) h)
+
+lookup_form_is : (words : List Word) → IfSome (lookup_form words) ShapedLeaf
+lookup_form_is words =
+    gives (λ _. Unit {0}) ShapedLeaf (name_at words) _ (any (name_at words))
+    (λ table u. gives (λ p. ShapedRef p.0) ShapedLeaf (plain_at ref_of table.1) _ (plain_at_is ShapedRef ref_of ref_of_is table.1) (λ ref h. with_all_is ShapedLeaf ref.1 (Lookup table.0 ref.0) h))
+
+leaf_of_is : (keyword : Word) (more : List Word) → IfSome (leaf_of keyword more) ShapedLeaf
+leaf_of_is keyword more =
+    either_gives ShapedLeaf (is_keyword (codes "const") keyword) (const_form more) _ (const_form_is more)
+    (either_gives ShapedLeaf (is_keyword (codes "copy") keyword) (copy_form more) _ (copy_form_is more)
+    (either_gives ShapedLeaf (is_keyword (codes "lookup") keyword) (lookup_form more) None (lookup_form_is more) tt))
+
+leaf_form_is : (words : List Word) → IfSome (leaf_form words) ShapedLeaf
+leaf_form_is [] = tt
+leaf_form_is (keyword ∷ more) = leaf_of_is keyword more
+
+own_leaves_is : (at : ℕ) (words : List Word) → IfSome (own_leaves at words) ShapedLeaves
+own_leaves_is at [] = (tt, tt)
+own_leaves_is at (w ∷ words) = map_gives ShapedLeaf ShapedLeaves (leaf_form (w ∷ words)) _ (leaf_form_is (w ∷ words)) (λ leaf h. (((first_place, h), tt), ((λ k. k), tt)))
+
+-- ---- lines
+
+map_form_is : (at : ℕ) (words : List Word) → IfSome (map_form at words) Shaped
+map_form_is at words =
+    gives (λ p. is_name p.0 ≡ true) Shaped (name_at words) _ (name_at_is words)
+    (λ name h. gives (λ _. Unit {0}) Shaped (behind (codes "from") name.1) _ (any (behind (codes "from") name.1))
+    (λ first u. gives (λ p. is_name p.0 ≡ true) Shaped (name_at first) _ (name_at_is first)
+    (λ source k. gives (λ _. Unit {0}) Shaped (behind (codes "to") source.1) _ (any (behind (codes "to") source.1))
+    (λ second v. gives (λ p. is_name p.0 ≡ true) Shaped (name_at second) _ (name_at_is second)
+    (λ target l. with_all_is Shaped target.1 (Begins at name.0 source.0 target.0) (h, k, l))))))
+
+table_form_is : (words : List Word) → IfSome (table_form words) Shaped
+table_form_is words = gives (λ p. is_name p.0 ≡ true) Shaped (name_at words) _ (name_at_is words) (λ name h. with_all_is Shaped name.1 (Table name.0) h)
+
+row_form_is : (words : List Word) → IfSome (row_form words) Shaped
+row_form_is words =
+    gives (λ _. Unit {0}) Shaped (text_at words) _ (any (text_at words))
+    (λ first u. gives (λ _. Unit {0}) Shaped (text_at first.1) _ (any (text_at first.1)) (λ second v. with_all_is Shaped second.1 (Rows (record { first = first.0; second = second.0 })) tt))
+
+else_form_is : (words : List Word) → IfSome (else_form words) Shaped
+else_form_is words = gives (λ _. Unit {0}) Shaped (text_at words) _ (any (text_at words)) (λ value u. with_all_is Shaped value.1 (Else value.0) tt)
+
+abbrev SourceIs : Option Path × List Word → Type 0
+SourceIs p = IfSome p.0 LawfulPath
+
+source_behind_is : (o : Option (List Word)) (words : List Word) → IfSome (source_behind o words) SourceIs
+source_behind_is None words = map_gives (λ _. Unit {0}) SourceIs (behind (codes "always") words) _ (any (behind (codes "always") words)) (λ more u. tt)
+source_behind_is (Some more) words = map_gives (λ p. LawfulPath p.0) SourceIs (plain_at path_of more) _ (plain_at_is LawfulPath path_of path_of_is more) (λ p h. h)
+
+segment_form_is : (at : ℕ) (words : List Word) → IfSome (segment_form at words) Shaped
+segment_form_is at words =
+    gives (λ p. is_name p.0 ≡ true) Shaped (name_at words) _ (name_at_is words)
+    (λ label h. gives SourceIs Shaped (source_at label.1) _ (source_behind_is (behind (codes "from") label.1) label.1) (λ source k. with_all_is Shaped source.1 (Segment at label.0 source.0) (h, k)))
+
+abbrev MadeFrom : ℕ × FieldPath → Type 0
+MadeFrom m = (m.0 ≤ 999) × LawfulFieldPath m.1
+
+made_from_is : (words : List Word) → IfSome (made_from words) MadeFrom
+made_from_is words =
+    gives (λ p. (1 ≤ p.0) × (p.0 ≤ 999)) MadeFrom (number_at 999 words) _ (number_at_is 999 words)
+    (λ field h. gives (λ p. LawfulFieldPath p.0) MadeFrom (from_at field.1) _ (from_at_is field.1) (λ from k. with_all_is MadeFrom from.1 (field.0, from.0) (h.1, k)))
+
+builds_form_is : (at : ℕ) (words : List Word) → IfSome (builds_form at words) Shaped
+builds_form_is at words =
+    gives (λ p. (1 ≤ p.0) × (p.0 ≤ 999)) Shaped (number_at 999 words) _ (number_at_is 999 words)
+    (λ field h. gives ShapedLeaves Shaped (own_leaves at field.1) _ (own_leaves_is at field.1) (λ leaves k. (h.1, k)))
+
+at_form_is : (at : ℕ) (words : List Word) → IfSome (at_form at words) Shaped
+at_form_is at words =
+    gives (λ p. LawfulPlace p.0) Shaped (plain_at place_of words) _ (plain_at_is LawfulPlace place_of place_of_is words)
+    (λ place h. gives ShapedLeaf Shaped (leaf_form place.1) _ (leaf_form_is place.1) (λ leaf k. (h, k)))
+
+each_form_is : (at : ℕ) (label : Option (List ℕ)) (words : List Word) → IfSome label (λ name. is_name name ≡ true) → IfSome (each_form at label words) Shaped
+each_form_is at label words h =
+    gives (λ _. Unit {0}) Shaped (behind (codes "each") words) _ (any (behind (codes "each") words))
+    (λ more u. gives (λ p. LawfulPath p.0) Shaped (plain_at path_of more) _ (plain_at_is LawfulPath path_of path_of_is more) (λ path k. with_all_is Shaped path.1 (Each at label path.0) (h, k)))
+
+group_form_is : (at : ℕ) (words : List Word) → IfSome (group_form at words) Shaped
+group_form_is at words = gives (λ p. is_name p.0 ≡ true) Shaped (name_at words) _ (name_at_is words) (λ label h. each_form_is at (Some label.0) label.1 h)
+
+drop_form_is : (at : ℕ) (words : List Word) → IfSome (drop_form at words) Shaped
+drop_form_is at words =
+    gives (λ p. LawfulDrop p.0) Shaped (plain_at (drop_of at) words) _ (plain_at_is LawfulDrop (drop_of at) (drop_of_is at) words) (λ drop h. with_all_is Shaped drop.1 (Drops drop.0) h)
+
+rule_form_is : (at : ℕ) (keyword : Word) (more : List Word) → IfSome (rule_form at keyword more) Shaped
+rule_form_is at keyword more =
+    either_gives Shaped (is_keyword (codes "copy") keyword) (copies_form at more) _ (map_gives MadeFrom Shaped (made_from more) _ (made_from_is more) (λ m h. h))
+    (either_gives Shaped (is_keyword (codes "first") keyword) (firsts_form at more) _ (map_gives MadeFrom Shaped (made_from more) _ (made_from_is more) (λ m h. h))
+    (either_gives Shaped (is_keyword (codes "repeat") keyword) (repeats_form at more) _ (map_gives MadeFrom Shaped (made_from more) _ (made_from_is more) (λ m h. (h.0, (h.1, refl))))
+    (either_gives Shaped (is_keyword (codes "build") keyword) (builds_form at more) _ (builds_form_is at more)
+    (either_gives Shaped (is_keyword (codes "at") keyword) (at_form at more) None (at_form_is at more) tt))))
+
+keyword_form_is : (at : ℕ) (keyword : Word) (more : List Word) → IfSome (keyword_form at keyword more) Shaped
+keyword_form_is at keyword more =
+    either_gives Shaped (is_keyword (codes "map") keyword) (map_form at more) _ (map_form_is at more)
+    (either_gives Shaped (is_keyword (codes "table") keyword) (table_form more) _ (table_form_is more)
+    (either_gives Shaped (is_keyword (codes "row") keyword) (row_form more) _ (row_form_is more)
+    (either_gives Shaped (is_keyword (codes "else") keyword) (else_form more) _ (else_form_is more)
+    (either_gives Shaped (is_keyword (codes "segment") keyword) (segment_form at more) _ (segment_form_is at more)
+    (either_gives Shaped (is_keyword (codes "group") keyword) (group_form at more) _ (group_form_is at more)
+    (either_gives Shaped (is_keyword (codes "flat") keyword) (each_form at None more) _ (each_form_is at None more tt)
+    (either_gives Shaped (is_keyword (codes "end") keyword) (with_all more End) _ (with_all_is Shaped more End tt)
+    (either_gives Shaped (is_keyword (codes "drop") keyword) (drop_form at more) _ (drop_form_is at more) (rule_form_is at keyword more)))))))))
+
+pub form_is : (at : ℕ) (words : List Word) → IfSome (form at words) Shaped
+form_is at [] = tt
+form_is at (keyword ∷ more) = keyword_form_is at keyword more

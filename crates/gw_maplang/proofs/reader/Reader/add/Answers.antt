@@ -1,0 +1,26 @@
+use Rattle.std.proofs.Common.{ap, ◌∙◌, sym, subst, ℕ, List}
+use Rattle.gw_maplang.specs.declared.context as Held
+use Rattle.gw_maplang.specs.Shapes.{TableValue}
+use Rattle.gw_maplang.specs.Fault as Fault
+use Rattle.gw_maplang.specs.Line.{Line}
+use Rattle.gw_maplang.specs.Taken.{Taken}
+use Rattle.gw_maplang.specs.Seen.{line, HasRoom, IsNewTable, IsNewField, IsNewPlace}
+use Rattle.gw_maplang.proofs.Kept.{new_table, new_field, new_place, has_room}
+use Rattle.gw_maplang.proofs.reader.Reader.add.Goals as goal
+
+pub standing_below-standing-requires : goal.standing_below-standing-requires
+standing_below-standing-requires c =
+    subst (λ (d : ℕ). HasRoom d (line c.args.whole))
+    (sym (ap (λ (s : Held.Standing.Standing). s.depth) c.self.invariant.has_standing ∙ ap Fault.depth c.self.view_is)) (has_room _ (line c.args.whole) c.requires)
+
+pub tables_below-requires : goal.tables_below-requires
+tables_below-requires c =
+    subst (λ (ts : List TableValue). IsNewTable ts (line c.args.whole)) (sym (c.self.invariant.has_tables ∙ ap Fault.tables c.self.view_is)) (new_table _ (line c.args.whole) c.requires)
+
+pub segment_below-requires : goal.segment_below-requires
+segment_below-requires c =
+    subst (λ s. IsNewField s (line c.args.whole)) (sym (c.self.invariant.has_segment ∙ ap Fault.open_segment c.self.view_is)) (new_field _ (line c.args.whole) c.requires)
+
+pub rule_below-requires : goal.rule_below-requires
+rule_below-requires c =
+    subst (λ r. IsNewPlace r (line c.args.whole)) (sym (c.self.invariant.has_rule ∙ ap Fault.open_rule c.self.view_is)) (new_place _ (line c.args.whole) c.requires)

@@ -1,0 +1,9 @@
+use Rattle.std.proofs.Common.{◌≡◌, drop, map, false}
+use Rattle.std.specs.List.{list_any}
+use Rattle.gw_maplang.specs.Shapes.{LeafValue}
+use Rattle.gw_maplang.specs.Fault.{is_bad}
+use Rattle.gw_maplang.specs.Seen.{leaf_value}
+use Rattle.gw_maplang.proofs.reader.any_bad.Given as goal
+
+abbrev pub invariant-loop-i : goal.invariant-loop-i
+invariant-loop-i l = list_any (λ (o : LeafValue). is_bad o.leaf) (map leaf_value l.leaves) ≡ list_any (λ (o : LeafValue). is_bad o.leaf) (map leaf_value (drop l.i l.leaves))

@@ -1,0 +1,301 @@
+-- The faults of a line, by the lines above it, the nearest first.
+use Rattle.std.specs.Prelude.{ℕ, ◌+◌, ◌-◌, ◌==◌, Bool, true, false, not, ◌&&◌, ◌||◌, nat_le, List, [], ◌∷◌, ◌++◌, Option, Some, None, bytes_eq, Result, Err}
+use Rattle.std.specs.List.{list_any}
+use Rattle.gw_lines.specs.Words.{Word}
+use Rattle.gw_lines.specs.Values.{is_value}
+use Rattle.gw_lines.specs.Reading.{first_of, unless}
+use Rattle.gw_maplang.specs.declared.fault.MapFault.{MapFault}
+use Rattle.gw_maplang.specs.declared.fault.MapFault.TheVariants.{Syntax, UnknownTable, BadConstant, Duplicate, TooDeep}
+use Rattle.gw_maplang.specs.declared.rule.LeafPlace.{LeafPlace}
+use Rattle.gw_maplang.specs.Shapes.{Ref, Field, Current, Leaf, Const, Copy, Lookup, LeafValue, Making, Copies, Firsts, Repeats, Builds, RuleValue, Row, TableValue, DropValue}
+use Rattle.gw_maplang.specs.Lawful.{least_field, firsts, table_names}
+use Rattle.gw_maplang.specs.Line.{Line, Begins, Table, Rows, Else, Segment, Makes, At, Each, End, Drops, form}
+
+-- ---- what the lines above leave open
+
+-- the first line with words says what the text is
+abbrev pub begun : List Line → Bool
+begun [] = false
+begun (line ∷ above) = true
+
+-- the list with its last item changed
+abbrev pub at_last : {A : Type 0} → (A → A) → List A → List A
+at_last f [] = []
+at_last f (x ∷ []) = f x ∷ []
+at_last f (x ∷ y ∷ list) = x ∷ at_last f (y ∷ list)
+
+abbrev pub with_row : Row → TableValue → TableValue
+with_row r t = record t { rows = t.rows ++ r ∷ [] }
+
+abbrev pub with_other : List ℕ → TableValue → TableValue
+with_other value t = record t { other = Some value }
+
+-- the tables below a line; a row, and what stands for other values, belongs to the last
+abbrev pub tables_below : Line → List TableValue → List TableValue
+tables_below (Begins at name source target) tables = tables
+tables_below (Table name) tables = tables ++ record { name = name; rows = []; other = None } ∷ []
+tables_below (Rows row) tables = at_last (with_row row) tables
+tables_below (Else value) tables = at_last (with_other value) tables
+tables_below (Segment at label source) tables = tables
+tables_below (Makes rule) tables = tables
+tables_below (At leaf) tables = tables
+tables_below (Each at label path) tables = tables
+tables_below End tables = tables
+tables_below (Drops drop) tables = tables
+
+-- the tables, in order
+abbrev pub tables : List Line → List TableValue
+tables [] = []
+tables (line ∷ above) = tables_below line (tables above)
+
+-- a row would belong to a table
+abbrev pub in_table : List Line → Bool
+in_table [] = false
+in_table (Begins at name source target ∷ above) = false
+in_table (Table name ∷ above) = true
+in_table (Rows row ∷ above) = in_table above
+in_table (Else value ∷ above) = in_table above
+in_table (Segment at label source ∷ above) = false
+in_table (Makes rule ∷ above) = false
+in_table (At leaf ∷ above) = false
+in_table (Each at label path ∷ above) = false
+in_table (End ∷ above) = false
+in_table (Drops drop ∷ above) = false
+
+-- some item stands above
+abbrev pub has_item : List Line → Bool
+has_item [] = false
+has_item (Begins at name source target ∷ above) = has_item above
+has_item (Table name ∷ above) = has_item above
+has_item (Rows row ∷ above) = has_item above
+has_item (Else value ∷ above) = has_item above
+has_item (Segment at label source ∷ above) = true
+has_item (Makes rule ∷ above) = has_item above
+has_item (At leaf ∷ above) = has_item above
+has_item (Each at label path ∷ above) = true
+has_item (End ∷ above) = has_item above
+has_item (Drops drop ∷ above) = has_item above
+
+-- how many groups and flats are open
+abbrev pub depth : List Line → ℕ
+depth [] = 0
+depth (Begins at name source target ∷ above) = depth above
+depth (Table name ∷ above) = depth above
+depth (Rows row ∷ above) = depth above
+depth (Else value ∷ above) = depth above
+depth (Segment at label source ∷ above) = depth above
+depth (Makes rule ∷ above) = depth above
+depth (At leaf ∷ above) = depth above
+depth (Each at label path ∷ above) = depth above + 1
+depth (End ∷ above) = depth above - 1
+depth (Drops drop ∷ above) = depth above
+
+abbrev pub is_flat : Option (List ℕ) → Bool
+is_flat None = true
+is_flat (Some label) = false
+
+-- a flat is open that has no item so far
+abbrev pub hollow : List Line → Bool
+hollow [] = false
+hollow (Begins at name source target ∷ above) = hollow above
+hollow (Table name ∷ above) = hollow above
+hollow (Rows row ∷ above) = hollow above
+hollow (Else value ∷ above) = hollow above
+hollow (Segment at label source ∷ above) = false
+hollow (Makes rule ∷ above) = hollow above
+hollow (At leaf ∷ above) = hollow above
+hollow (Each at label path ∷ above) = is_flat label
+hollow (End ∷ above) = false
+hollow (Drops drop ∷ above) = hollow above
+
+-- a segment that may have rules below it: the least number of a field, and the fields that have one
+pub record OpenSegment : Type 0 where
+  pub least : ℕ
+  pub fields : List ℕ
+
+abbrev pub with_field : ℕ → Option OpenSegment → Option OpenSegment
+with_field field None = None
+with_field field (Some s) = Some (record s { fields = s.fields ++ field ∷ [] })
+
+-- the same below a line
+abbrev pub segment_below : Line → Option OpenSegment → Option OpenSegment
+segment_below (Begins at name source target) held = None
+segment_below (Table name) held = None
+segment_below (Rows row) held = None
+segment_below (Else value) held = None
+segment_below (Segment at label source) held = Some (record { least = least_field label; fields = [] })
+segment_below (Makes rule) held = with_field rule.field held
+segment_below (At leaf) held = held
+segment_below (Each at label path) held = None
+segment_below End held = None
+segment_below (Drops drop) held = None
+
+-- the segment to which a rule would belong
+abbrev pub open_segment : List Line → Option OpenSegment
+open_segment [] = None
+open_segment (line ∷ above) = segment_below line (open_segment above)
+
+-- a rule that may have leaves below it: whether it is one for each repetition, and the places that have one
+pub record OpenRule : Type 0 where
+  pub repeated : Bool
+  pub places : List LeafPlace
+
+-- `copy`, `first`, and `build` with its own leaf have none
+abbrev pub opened : Making → Option OpenRule
+opened (Copies from) = None
+opened (Firsts from) = None
+opened (Repeats from leaves) = Some (record { repeated = true; places = [] })
+opened (Builds []) = Some (record { repeated = false; places = [] })
+opened (Builds (leaf ∷ leaves)) = None
+
+abbrev pub with_place : LeafPlace → Option OpenRule → Option OpenRule
+with_place place None = None
+with_place place (Some r) = Some (record r { places = r.places ++ place ∷ [] })
+
+-- the same below a line
+abbrev pub rule_below : Line → Option OpenRule → Option OpenRule
+rule_below (Begins at name source target) held = None
+rule_below (Table name) held = None
+rule_below (Rows row) held = None
+rule_below (Else value) held = None
+rule_below (Segment at label source) held = None
+rule_below (Makes rule) held = opened rule.making
+rule_below (At leaf) held = with_place leaf.place held
+rule_below (Each at label path) held = None
+rule_below End held = None
+rule_below (Drops drop) held = None
+
+-- the rule to which a leaf would belong
+abbrev pub open_rule : List Line → Option OpenRule
+open_rule [] = None
+open_rule (line ∷ above) = rule_below line (open_rule above)
+
+-- ---- the tests of a line
+
+abbrev pub is_among : List ℕ → List (List ℕ) → Bool
+is_among bytes others = list_any (bytes_eq bytes) others
+
+abbrev pub is_number_among : ℕ → List ℕ → Bool
+is_number_among number others = list_any (λ other. number == other) others
+
+abbrev pub is_place : LeafPlace → LeafPlace → Bool
+is_place one other = (one.comp == other.comp) && (one.sub == other.sub)
+
+abbrev pub is_place_among : LeafPlace → List LeafPlace → Bool
+is_place_among place others = list_any (is_place place) others
+
+-- what the last table has
+abbrev pub last_table : List TableValue → TableValue
+last_table [] = record { name = []; rows = []; other = None }
+last_table (t ∷ []) = t
+last_table (t ∷ u ∷ tables) = last_table (u ∷ tables)
+
+abbrev pub is_said : Option (List ℕ) → Bool
+is_said None = false
+is_said (Some value) = true
+
+-- the current repetition, where nothing is repeated
+abbrev pub is_stray : Bool → Leaf → Bool
+is_stray repeated (Const value) = false
+is_stray repeated (Copy (Field from place)) = false
+is_stray repeated (Copy (Current place)) = not repeated
+is_stray repeated (Lookup table (Field from place)) = false
+is_stray repeated (Lookup table (Current place)) = not repeated
+
+-- a table that doesn't stand above
+abbrev pub is_unknown : List (List ℕ) → Leaf → Bool
+is_unknown names (Const value) = false
+is_unknown names (Copy ref) = false
+is_unknown names (Lookup table ref) = not (is_among table names)
+
+-- a constant that is no value
+abbrev pub is_bad : Leaf → Bool
+is_bad (Const value) = not (is_value value)
+is_bad (Copy ref) = false
+is_bad (Lookup table ref) = false
+
+-- the leaf of a rule's own line
+abbrev pub own_leaf : Making → List LeafValue
+own_leaf (Copies from) = []
+own_leaf (Firsts from) = []
+own_leaf (Repeats from leaves) = []
+own_leaf (Builds leaves) = leaves
+
+-- no segment above can hold a rule for this field
+abbrev pub is_misplaced : ℕ → Option OpenSegment → Bool
+is_misplaced field None = true
+is_misplaced field (Some s) = not (nat_le s.least field)
+
+abbrev pub is_made : ℕ → Option OpenSegment → Bool
+is_made field None = false
+is_made field (Some s) = is_number_among field s.fields
+
+-- no rule above can hold this leaf
+abbrev pub is_misplaced_leaf : Leaf → Option OpenRule → Bool
+is_misplaced_leaf leaf None = true
+is_misplaced_leaf leaf (Some r) = is_stray r.repeated leaf
+
+abbrev pub is_placed : LeafPlace → Option OpenRule → Bool
+is_placed place None = false
+is_placed place (Some r) = is_place_among place r.places
+
+abbrev pub begins_tests : List Line → ℕ → List (Bool × MapFault)
+begins_tests above at = (begun above, Syntax at) ∷ []
+
+abbrev pub table_tests : List Line → ℕ → List ℕ → List (Bool × MapFault)
+table_tests above at name =
+    (not (begun above) || has_item above, Syntax at) ∷ (is_among name (table_names (tables above)), Duplicate at) ∷ []
+
+abbrev pub row_tests : List Line → ℕ → Row → List (Bool × MapFault)
+row_tests above at row =
+    (not (in_table above), Syntax at) ∷ (not (is_value row.first && is_value row.second), BadConstant at)
+    ∷ (is_among row.first (firsts (last_table (tables above)).rows), Duplicate at) ∷ []
+
+abbrev pub else_tests : List Line → ℕ → List ℕ → List (Bool × MapFault)
+else_tests above at value =
+    (not (in_table above), Syntax at) ∷ (not (is_value value), BadConstant at) ∷ (is_said (last_table (tables above)).other, Duplicate at) ∷ []
+
+abbrev pub segment_tests : List Line → ℕ → List (Bool × MapFault)
+segment_tests above at = (not (begun above), Syntax at) ∷ []
+
+abbrev pub rule_tests : List Line → ℕ → RuleValue → List (Bool × MapFault)
+rule_tests above at rule =
+    (is_misplaced rule.field (open_segment above) || list_any (λ l. is_stray false l.leaf) (own_leaf rule.making), Syntax at)
+    ∷ (list_any (λ l. is_unknown (table_names (tables above)) l.leaf) (own_leaf rule.making), UnknownTable at)
+    ∷ (list_any (λ l. is_bad l.leaf) (own_leaf rule.making), BadConstant at)
+    ∷ (is_made rule.field (open_segment above), Duplicate at) ∷ []
+
+abbrev pub leaf_tests : List Line → ℕ → LeafValue → List (Bool × MapFault)
+leaf_tests above at l =
+    (is_misplaced_leaf l.leaf (open_rule above), Syntax at) ∷ (is_unknown (table_names (tables above)) l.leaf, UnknownTable at)
+    ∷ (is_bad l.leaf, BadConstant at) ∷ (is_placed l.place (open_rule above), Duplicate at) ∷ []
+
+abbrev pub each_tests : List Line → ℕ → List (Bool × MapFault)
+each_tests above at = (not (begun above), Syntax at) ∷ (nat_le 16 (depth above), TooDeep at) ∷ []
+
+abbrev pub end_tests : List Line → ℕ → List (Bool × MapFault)
+end_tests above at = ((depth above == 0) || hollow above, Syntax at) ∷ []
+
+abbrev pub drop_tests : List Line → ℕ → List (Bool × MapFault)
+drop_tests above at = (not (begun above) || not (depth above == 0), Syntax at) ∷ []
+
+-- the tests of a line, in the order of the faults
+abbrev pub tests : List Line → ℕ → Line → List (Bool × MapFault)
+tests above at (Begins line name source target) = begins_tests above at
+tests above at (Table name) = table_tests above at name
+tests above at (Rows row) = row_tests above at row
+tests above at (Else value) = else_tests above at value
+tests above at (Segment line label source) = segment_tests above at
+tests above at (Makes rule) = rule_tests above at rule
+tests above at (At leaf) = leaf_tests above at leaf
+tests above at (Each line label path) = each_tests above at
+tests above at End = end_tests above at
+tests above at (Drops drop) = drop_tests above at
+
+abbrev pub tested : List Line → ℕ → Option Line → Result Line MapFault
+tested above at None = Err (Syntax at)
+tested above at (Some line) = unless (first_of (tests above at line)) line
+
+-- the line that the words are below these lines, or its fault
+abbrev pub takes : List Line → ℕ → List Word → Result Line MapFault
+takes above at words = tested above at (form at words)

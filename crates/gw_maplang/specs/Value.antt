@@ -1,0 +1,114 @@
+-- The map that lines spell.
+use Rattle.std.specs.Prelude.{ℕ, List, [], ◌∷◌, Option, Some, None}
+use Rattle.gw_maplang.specs.Shapes.{Path, LeafValue, Making, Copies, Firsts, Repeats, Builds, RuleValue, SegmentItem, GroupItem, FlatItem, Items, nothing, segment, group, flat, DropValue}
+use Rattle.gw_maplang.specs.Line.{Line, Begins, Table, Rows, Else, Segment, Makes, At, Each, End, Drops}
+
+-- ---- what lines spell, from the first on
+
+-- the parts that the first of these lines may belong to: the leaves of a rule, the rules of a segment
+pub record Parts : Type 0 where
+  pub leaves : List LeafValue
+  pub rules : List RuleValue
+
+abbrev pub no_parts : Parts
+no_parts = record { leaves = []; rules = [] }
+
+-- the leaf of a rule's own line, or those below it
+abbrev pub own_or : List LeafValue → List LeafValue → List LeafValue
+own_or [] below = below
+own_or (leaf ∷ own) below = leaf ∷ own
+
+-- what a rule's line says of how its field is made, with the leaves below it
+abbrev pub with_leaves : Making → List LeafValue → Making
+with_leaves (Copies from) below = Copies from
+with_leaves (Firsts from) below = Firsts from
+with_leaves (Repeats from own) below = Repeats from (own_or own below)
+with_leaves (Builds own) below = Builds (own_or own below)
+
+abbrev pub rule_with : RuleValue → List LeafValue → RuleValue
+rule_with r below = record r { making = with_leaves r.making below }
+
+-- A line of another kind closes what is open.
+abbrev pub parts : List Line → Parts
+parts [] = no_parts
+parts (Begins at name source target ∷ below) = no_parts
+parts (Table name ∷ below) = no_parts
+parts (Rows row ∷ below) = no_parts
+parts (Else value ∷ below) = no_parts
+parts (Segment at label source ∷ below) = no_parts
+parts (Makes rule ∷ below) = record { leaves = []; rules = rule_with rule (parts below).leaves ∷ (parts below).rules }
+parts (At leaf ∷ below) = record { leaves = leaf ∷ (parts below).leaves; rules = (parts below).rules }
+parts (Each at label path ∷ below) = no_parts
+parts (End ∷ below) = no_parts
+parts (Drops drop ∷ below) = no_parts
+
+-- the items up to the end of the group or flat that is open above these lines, and behind that end, and so on
+pub record Levels : Type 0 where
+  pub here : Items
+  pub behind : List Items
+
+abbrev pub next : List Items → Items
+next [] = nothing
+next (items ∷ behind) = items
+
+abbrev pub past : List Items → List Items
+past [] = []
+past (items ∷ behind) = behind
+
+-- a group, or a flat where no label is said, with its items and those behind it
+abbrev pub each_item : ℕ → Option (List ℕ) → Path → Items → Items → Items
+each_item at None path inner rest = flat (record { line = at; path = path }) inner rest
+each_item at (Some label) path inner rest = group (record { line = at; label = label; path = path }) inner rest
+
+abbrev pub levels : List Line → Levels
+levels [] = record { here = nothing; behind = [] }
+levels (Begins at name source target ∷ below) = levels below
+levels (Table name ∷ below) = levels below
+levels (Rows row ∷ below) = levels below
+levels (Else value ∷ below) = levels below
+levels (Segment at label source ∷ below) =
+    record { here = segment (record { line = at; label = label; source = source; rules = (parts below).rules }) (levels below).here; behind = (levels below).behind }
+levels (Makes rule ∷ below) = levels below
+levels (At leaf ∷ below) = levels below
+levels (Each at label path ∷ below) = record { here = each_item at label path (levels below).here (next (levels below).behind); behind = past (levels below).behind }
+levels (End ∷ below) = record { here = nothing; behind = (levels below).here ∷ (levels below).behind }
+levels (Drops drop ∷ below) = levels below
+
+abbrev pub drops : List Line → List DropValue
+drops [] = []
+drops (Begins at name source target ∷ below) = drops below
+drops (Table name ∷ below) = drops below
+drops (Rows row ∷ below) = drops below
+drops (Else value ∷ below) = drops below
+drops (Segment at label source ∷ below) = drops below
+drops (Makes rule ∷ below) = drops below
+drops (At leaf ∷ below) = drops below
+drops (Each at label path ∷ below) = drops below
+drops (End ∷ below) = drops below
+drops (Drops drop ∷ below) = drop ∷ drops below
+
+-- what the first line says
+pub record Head : Type 0 where
+  pub line : ℕ
+  pub name : List ℕ
+  pub source : List ℕ
+  pub target : List ℕ
+
+abbrev pub no_head : Head
+no_head = record { line = 0; name = []; source = []; target = [] }
+
+abbrev pub head_of : Line → Head
+head_of (Begins at name source target) = record { line = at; name = name; source = source; target = target }
+head_of (Table name) = no_head
+head_of (Rows row) = no_head
+head_of (Else value) = no_head
+head_of (Segment at label source) = no_head
+head_of (Makes rule) = no_head
+head_of (At leaf) = no_head
+head_of (Each at label path) = no_head
+head_of End = no_head
+head_of (Drops drop) = no_head
+
+abbrev pub head : List Line → Head
+head [] = no_head
+head (line ∷ below) = head_of line

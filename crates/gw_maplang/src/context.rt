@@ -1,0 +1,274 @@
+//! What the lines above leave open.
+ghost use Rattle.std.specs.Prelude.{◌≡◌, ◌∷◌, [], ◌++◌, map, IfOk, OnOk, false};
+ghost use Rattle.gw_maplang.specs.Fault as spec;
+ghost use Rattle.gw_maplang.specs.Lawful.{table_names, firsts};
+ghost use Rattle.gw_maplang.specs.Seen.{line, now, rule, table, open_segment, open_rule, StandingFollows, HasRoom, IsNewTable, IsNewField, IsNewPlace};
+
+use crate::form::Line;
+use crate::parts::least_field;
+use crate::rule::{LeafPlace, Rule};
+use crate::table::Table;
+use indexmap::{IndexMap, IndexSet};
+use std::alloc::{AllocError, Global};
+
+/// Whether a row would belong to a table, whether some item stands, how many groups and flats are open, and whether a flat is open that has no item so far.
+#[derive(Clone, Copy, Drop)]
+pub struct Standing {
+    pub in_table: bool,
+    pub has_item: bool,
+    pub depth: u32,
+    pub hollow: bool,
+}
+
+pub const NOTHING_STANDS: Standing = Standing {
+    in_table: false,
+    has_item: false,
+    depth: 0,
+    hollow: false,
+};
+
+/// A segment that may have rules below it: the least number of a field, and the fields that have one.
+#[derive(Drop)]
+pub struct OpenSegment {
+    pub least: u32,
+    pub fields: IndexSet<u32>,
+}
+
+/// A rule that may have leaves below it: whether it is one for each repetition, and the places that have one.
+#[derive(Drop)]
+pub struct OpenRule {
+    pub repeated: bool,
+    pub places: IndexSet<LeafPlace>,
+}
+
+/// What stands below a line.
+pub fn standing_below(held: Standing, whole: &Line) -> Standing
+    requires { HasRoom held.depth (line whole.now) }
+    ensures { StandingFollows held result (line whole.now) }
+{
+    let held_in_table = held.in_table;
+    let held = Standing {
+        in_table: false,
+        ..held
+    };
+    match whole {
+        Line::Begins(_, _, _, _) => held,
+        Line::Table(_) => Standing {
+            in_table: true,
+            ..held
+        },
+        Line::Rows(_, _) => Standing {
+            in_table: held_in_table,
+            ..held
+        },
+        Line::Else(_) => Standing {
+            in_table: held_in_table,
+            ..held
+        },
+        Line::Segment(_, _, _) => Standing {
+            has_item: true,
+            hollow: false,
+            ..held
+        },
+        Line::Makes(_) => held,
+        Line::At(_) => held,
+        Line::Each(_, label, _) => Standing {
+            has_item: true,
+            depth: held.depth + 1,
+            hollow: label.is_none(),
+            ..held
+        },
+        Line::End => Standing {
+            depth: held.depth.saturating_sub(1),
+            hollow: false,
+            ..held
+        },
+        Line::Drops(_) => held,
+    }
+}
+
+fn with_field(field: u32, held: Option<OpenSegment>) -> Result<Option<OpenSegment>, AllocError>
+    requires { spec.is_made field (open_segment held) ≡ false }
+    ensures { IfOk result (λ new. open_segment new ≡ spec.with_field field (open_segment held)) }
+{
+    match held {
+        None => Ok(None),
+        Some(open) => {
+            let OpenSegment { least, mut fields } = open;
+            fields.insert(field)?;
+            Ok(Some(OpenSegment { least, fields }))
+        }
+    }
+}
+
+/// The segment to which a rule below this line would belong.
+pub fn segment_below(
+    alloc: Global,
+    held: Option<OpenSegment>,
+    whole: &Line,
+) -> Result<Option<OpenSegment>, AllocError>
+    requires { IsNewField (open_segment held) (line whole.now) }
+    ensures { IfOk result (λ new. open_segment new ≡ spec.segment_below (line whole.now) (open_segment held)) }
+{
+    match whole {
+        Line::Segment(_, label, _) => Ok(Some(OpenSegment {
+            least: least_field(label),
+            fields: IndexSet::new(alloc),
+        })),
+        Line::Makes(rule) => with_field(rule.field(), held),
+        Line::At(_) => Ok(held),
+        _ => Ok(None),
+    }
+}
+
+// The rule as it is open right below its line.
+fn opened(alloc: Global, made: &Rule) -> Option<OpenRule>
+    ensures { open_rule result ≡ spec.opened (rule made.now).making }
+{
+    match made {
+        Rule::RepeatField(_) => Some(OpenRule {
+            repeated: true,
+            places: IndexSet::new(alloc),
+        }),
+        Rule::Build(build) => {
+            if build.leaves.is_empty() {
+                return Some(OpenRule {
+                    repeated: false,
+                    places: IndexSet::new(alloc),
+                });
+            }
+            None
+        }
+        _ => None,
+    }
+}
+
+fn with_place(place: LeafPlace, held: Option<OpenRule>) -> Result<Option<OpenRule>, AllocError>
+    requires { spec.is_placed place (open_rule held) ≡ false }
+    ensures { IfOk result (λ new. open_rule new ≡ spec.with_place place (open_rule held)) }
+{
+    match held {
+        None => Ok(None),
+        Some(open) => {
+            let OpenRule {
+                repeated,
+                mut places,
+            } = open;
+            places.insert(place)?;
+            Ok(Some(OpenRule { repeated, places }))
+        }
+    }
+}
+
+/// The rule to which a leaf below this line would belong.
+pub fn rule_below(
+    alloc: Global,
+    held: Option<OpenRule>,
+    whole: &Line,
+) -> Result<Option<OpenRule>, AllocError>
+    requires { IsNewPlace (open_rule held) (line whole.now) }
+    ensures { IfOk result (λ new. open_rule new ≡ spec.rule_below (line whole.now) (open_rule held)) }
+{
+    match whole {
+        Line::Makes(rule) => Ok(opened(alloc, rule)),
+        Line::At(leaf) => with_place(leaf.place, held),
+        _ => Ok(None),
+    }
+}
+
+/// Whether there is a table of this name.
+pub fn knows(tables: &IndexMap<Vec<u8>, Table>, name: &[u8]) -> bool
+    ensures { result ≡ spec.is_among name.now (table_names (map table tables.now.entries)) }
+{
+    tables.contains_key(name)
+}
+
+/// Whether the last table has a row of this value.
+pub fn has_row(tables: &IndexMap<Vec<u8>, Table>, first: &[u8]) -> bool
+    ensures { result ≡ spec.is_among first.now (firsts (spec.last_table (map table tables.now.entries)).rows) }
+{
+    match tables.last() {
+        None => false,
+        Some((_, last)) => last.has_row(first),
+    }
+}
+
+/// Whether the last table says what stands for a value without a row.
+pub fn has_other(tables: &IndexMap<Vec<u8>, Table>) -> bool
+    ensures { result ≡ spec.is_said (spec.last_table (map table tables.now.entries)).other }
+{
+    match tables.last() {
+        None => false,
+        Some((_, last)) => last.other().is_some(),
+    }
+}
+
+// Puts a new table behind the others.
+fn put_table(
+    alloc: Global,
+    tables: &mut IndexMap<Vec<u8>, Table>,
+    name: &[u8],
+) -> Result<(), AllocError>
+    requires { spec.is_among name.now (table_names (map table tables.old.entries)) ≡ false }
+    ensures { OnOk result (map table tables.new.entries ≡ map table tables.old.entries ++ record { name = name.now; rows = []; other = None } ∷ []) }
+{
+    let name = Vec::from_slice(alloc, name)?;
+    tables.insert(name, Table::new(alloc))?;
+    Ok(())
+}
+
+// Puts a new row into the last table.
+fn put_row(
+    alloc: Global,
+    tables: &mut IndexMap<Vec<u8>, Table>,
+    first: &[u8],
+    second: &[u8],
+) -> Result<(), AllocError>
+    requires { spec.is_among first.now (firsts (spec.last_table (map table tables.old.entries)).rows) ≡ false }
+    ensures { OnOk result (map table tables.new.entries ≡ spec.at_last (spec.with_row (record { first = first.now; second = second.now })) (map table tables.old.entries)) }
+{
+    match tables.last_mut() {
+        None => Ok(()),
+        Some(last) => last.put_row(alloc, first, second),
+    }
+}
+
+// Puts into the last table what stands for a value without a row.
+fn put_other(
+    alloc: Global,
+    tables: &mut IndexMap<Vec<u8>, Table>,
+    value: &[u8],
+) -> Result<(), AllocError>
+    ensures { OnOk result (map table tables.new.entries ≡ spec.at_last (spec.with_other value.now) (map table tables.old.entries)) }
+{
+    match tables.last_mut() {
+        None => Ok(()),
+        Some(last) => last.put_other(alloc, value),
+    }
+}
+
+/// The tables below a line.
+pub fn tables_below(
+    alloc: Global,
+    mut tables: IndexMap<Vec<u8>, Table>,
+    whole: &Line,
+) -> Result<IndexMap<Vec<u8>, Table>, AllocError>
+    requires { IsNewTable (map table tables.entries) (line whole.now) }
+    ensures { IfOk result (λ new. map table new.entries ≡ spec.tables_below (line whole.now) (map table tables.entries)) }
+{
+    match whole {
+        Line::Table(name) => {
+            put_table(alloc, &mut tables, name)?;
+            Ok(tables)
+        }
+        Line::Rows(first, second) => {
+            put_row(alloc, &mut tables, first, second)?;
+            Ok(tables)
+        }
+        Line::Else(value) => {
+            put_other(alloc, &mut tables, value)?;
+            Ok(tables)
+        }
+        _ => Ok(tables),
+    }
+}

@@ -1,0 +1,505 @@
+//! The forms of a map's lines.
+ghost use Rattle.std.specs.Prelude.{◌≡◌, map, IfOk, Some, None};
+ghost use Rattle.std.specs.Option.{option_map};
+ghost use Rattle.gw_lines.specs.Seen.{word};
+ghost use Rattle.gw_lines.specs.Parts.{with_all};
+ghost use Rattle.gw_maplang.specs.Line as spec;
+ghost use Rattle.gw_maplang.specs.Seen.{line, now, path, path_some, field_path, ref, leaf, leaf_value, dropped};
+
+use crate::parts::{drop_of, field_path, path_of, place_of, ref_of};
+use crate::rule::{
+    BuildRule, CopyRule, Dropped, FieldPath, Leaf, LeafPlace, LeafRule, Ref, RepeatRule, Rule,
+};
+use gw_lines::{Word, behind, bytes_of, first_word, name_at, number_at};
+use std::alloc::{AllocError, Global};
+
+/// A line of a map. A rule has the leaf of its own line alone. No label stands for `flat`.
+#[derive(Debug, Drop)]
+pub enum Line<'a> {
+    Begins(u32, &'a [u8], &'a [u8], &'a [u8]),
+    Table(&'a [u8]),
+    Rows(&'a [u8], &'a [u8]),
+    Else(&'a [u8]),
+    Segment(u32, &'a [u8], Option<Vec<Vec<u8>>>),
+    Makes(Rule),
+    At(LeafRule),
+    Each(u32, Option<&'a [u8]>, Vec<Vec<u8>>),
+    End,
+    Drops(Dropped),
+}
+
+fn plain_word<'a, 'w>(words: &'w [Word<'a>]) -> Option<(&'a [u8], &'w [Word<'a>])>
+    ensures { option_map (λ w. (w.0.now, map word w.1.now)) result ≡ spec.plain_word (map word words.now) }
+{
+    let (first, more) = first_word(words)?;
+    let bytes = first.plain()?;
+    Some((bytes, more))
+}
+
+fn path_at<'a, 'w>(
+    alloc: Global,
+    words: &'w [Word<'a>],
+) -> Result<Option<(Vec<Vec<u8>>, &'w [Word<'a>])>, AllocError>
+    ensures { IfOk result (λ found. option_map (λ w. (path w.0, map word w.1.now)) found ≡ spec.plain_at spec.path_of (map word words.now)) }
+{
+    let Some((bytes, more)) = plain_word(words) else {
+        return Ok(None);
+    };
+    match path_of(alloc, bytes)? {
+        None => Ok(None),
+        Some(path) => Ok(Some((path, more))),
+    }
+}
+
+fn field_at<'a, 'w>(
+    alloc: Global,
+    words: &'w [Word<'a>],
+) -> Result<Option<(FieldPath, &'w [Word<'a>])>, AllocError>
+    ensures { IfOk result (λ found. option_map (λ w. (field_path w.0, map word w.1.now)) found ≡ spec.plain_at spec.field_path (map word words.now)) }
+{
+    let Some((bytes, more)) = plain_word(words) else {
+        return Ok(None);
+    };
+    match field_path(alloc, bytes)? {
+        None => Ok(None),
+        Some(from) => Ok(Some((from, more))),
+    }
+}
+
+fn ref_at<'a, 'w>(
+    alloc: Global,
+    words: &'w [Word<'a>],
+) -> Result<Option<(Ref, &'w [Word<'a>])>, AllocError>
+    ensures { IfOk result (λ found. option_map (λ w. (ref w.0, map word w.1.now)) found ≡ spec.plain_at spec.ref_of (map word words.now)) }
+{
+    let Some((bytes, more)) = plain_word(words) else {
+        return Ok(None);
+    };
+    match ref_of(alloc, bytes)? {
+        None => Ok(None),
+        Some(from) => Ok(Some((from, more))),
+    }
+}
+
+fn drop_at<'a, 'w>(
+    alloc: Global,
+    at: u32,
+    words: &'w [Word<'a>],
+) -> Result<Option<(Dropped, &'w [Word<'a>])>, AllocError>
+    ensures { IfOk result (λ found. option_map (λ w. (dropped w.0, map word w.1.now)) found ≡ spec.plain_at (spec.drop_of at) (map word words.now)) }
+{
+    let Some((bytes, more)) = plain_word(words) else {
+        return Ok(None);
+    };
+    match drop_of(alloc, at, bytes)? {
+        None => Ok(None),
+        Some(left) => Ok(Some((left, more))),
+    }
+}
+
+fn place_at<'a, 'w>(words: &'w [Word<'a>]) -> Option<(LeafPlace, &'w [Word<'a>])>
+    ensures { option_map (λ w. (w.0, map word w.1.now)) result ≡ spec.plain_at spec.place_of (map word words.now) }
+{
+    let (bytes, more) = plain_word(words)?;
+    let place = place_of(bytes)?;
+    Some((place, more))
+}
+
+fn some_bytes(bytes: &[u8]) -> Option<&[u8]>
+    ensures { now result ≡ spec.some_bytes bytes.now }
+{
+    match bytes {
+        [] => None,
+        [_, ..] => Some(bytes),
+    }
+}
+
+fn constant(bytes: &[u8]) -> &[u8]
+    ensures { result.now ≡ spec.constant bytes.now }
+{
+    match bytes {
+        [] => b"\"\"",
+        [_, ..] => bytes,
+    }
+}
+
+fn text_at<'a, 'w>(words: &'w [Word<'a>]) -> Option<(&'a [u8], &'w [Word<'a>])>
+    ensures { option_map (λ w. (w.0.now, map word w.1.now)) result ≡ spec.text_at (map word words.now) }
+{
+    let (first, more) = first_word(words)?;
+    let bytes = some_bytes(bytes_of(first))?;
+    Some((bytes, more))
+}
+
+fn from_at<'a, 'w>(
+    alloc: Global,
+    words: &'w [Word<'a>],
+) -> Result<Option<(FieldPath, &'w [Word<'a>])>, AllocError>
+    ensures { IfOk result (λ found. option_map (λ w. (field_path w.0, map word w.1.now)) found ≡ spec.from_at (map word words.now)) }
+{
+    match behind(b"from", words) {
+        None => Ok(None),
+        Some(more) => field_at(alloc, more),
+    }
+}
+
+fn const_form(alloc: Global, words: &[Word]) -> Result<Option<Leaf>, AllocError>
+    ensures { IfOk result (λ found. option_map leaf found ≡ spec.const_form (map word words.now)) }
+{
+    match words {
+        [first] => {
+            let value = Vec::from_slice(alloc, constant(bytes_of(*first)))?;
+            Ok(Some(Leaf::Const(value)))
+        }
+        _ => Ok(None),
+    }
+}
+
+fn copy_form(alloc: Global, words: &[Word]) -> Result<Option<Leaf>, AllocError>
+    ensures { IfOk result (λ found. option_map leaf found ≡ spec.copy_form (map word words.now)) }
+{
+    let Some((from, more)) = ref_at(alloc, words)? else {
+        return Ok(None);
+    };
+    if more.is_empty() {
+        return Ok(Some(Leaf::Copy(from)));
+    }
+    Ok(None)
+}
+
+fn lookup_form(alloc: Global, words: &[Word]) -> Result<Option<Leaf>, AllocError>
+    ensures { IfOk result (λ found. option_map leaf found ≡ spec.lookup_form (map word words.now)) }
+{
+    let Some((name, more)) = name_at(words) else {
+        return Ok(None);
+    };
+    let Some((from, more)) = ref_at(alloc, more)? else {
+        return Ok(None);
+    };
+    if more.is_empty() {
+        let name = Vec::from_slice(alloc, name)?;
+        return Ok(Some(Leaf::Lookup(name, from)));
+    }
+    Ok(None)
+}
+
+fn leaf_of(alloc: Global, keyword: Word, more: &[Word]) -> Result<Option<Leaf>, AllocError>
+    ensures { IfOk result (λ found. option_map leaf found ≡ spec.leaf_of (word keyword.entry) (map word more.now)) }
+{
+    if keyword.is(b"const") {
+        return const_form(alloc, more);
+    }
+    if keyword.is(b"copy") {
+        return copy_form(alloc, more);
+    }
+    if keyword.is(b"lookup") {
+        return lookup_form(alloc, more);
+    }
+    Ok(None)
+}
+
+fn leaf_form(alloc: Global, words: &[Word]) -> Result<Option<Leaf>, AllocError>
+    ensures { IfOk result (λ found. option_map leaf found ≡ spec.leaf_form (map word words.now)) }
+{
+    match words {
+        [] => Ok(None),
+        [keyword, more @ ..] => leaf_of(alloc, *keyword, more),
+    }
+}
+
+fn own_leaves(alloc: Global, at: u32, words: &[Word]) -> Result<Option<Vec<LeafRule>>, AllocError>
+    ensures { IfOk result (λ found. option_map (λ v. map leaf_value v.items) found ≡ spec.own_leaves at (map word words.now)) }
+{
+    let mut leaves = Vec::new(alloc);
+    if words.is_empty() {
+        return Ok(Some(leaves));
+    }
+    let Some(leaf) = leaf_form(alloc, words)? else {
+        return Ok(None);
+    };
+    let place = LeafPlace { comp: 1, sub: 1 };
+    leaves.push(LeafRule {
+        line: at,
+        place,
+        leaf,
+    })?;
+    Ok(Some(leaves))
+}
+
+// The line, where no word is left.
+fn with_all<'a>(words: &[Word<'a>], whole: Line<'a>) -> Option<Line<'a>>
+    ensures { option_map line result ≡ with_all (map word words.now) (line whole.entry) }
+{
+    match words {
+        [] => Some(whole),
+        [_, ..] => None,
+    }
+}
+
+fn map_form<'a>(at: u32, words: &[Word<'a>]) -> Option<Line<'a>>
+    ensures { option_map line result ≡ spec.map_form at (map word words.now) }
+{
+    let (name, more) = name_at(words)?;
+    let more = behind(b"from", more)?;
+    let (source, more) = name_at(more)?;
+    let more = behind(b"to", more)?;
+    let (target, more) = name_at(more)?;
+    with_all(more, Line::Begins(at, name, source, target))
+}
+
+fn table_form<'a>(words: &[Word<'a>]) -> Option<Line<'a>>
+    ensures { option_map line result ≡ spec.table_form (map word words.now) }
+{
+    let (name, more) = name_at(words)?;
+    with_all(more, Line::Table(name))
+}
+
+fn row_form<'a>(words: &[Word<'a>]) -> Option<Line<'a>>
+    ensures { option_map line result ≡ spec.row_form (map word words.now) }
+{
+    let (first, more) = text_at(words)?;
+    let (second, more) = text_at(more)?;
+    with_all(more, Line::Rows(first, second))
+}
+
+fn else_form<'a>(words: &[Word<'a>]) -> Option<Line<'a>>
+    ensures { option_map line result ≡ spec.else_form (map word words.now) }
+{
+    let (value, more) = text_at(words)?;
+    with_all(more, Line::Else(value))
+}
+
+fn source_at<'a, 'w>(
+    alloc: Global,
+    words: &'w [Word<'a>],
+) -> Result<Option<(Option<Vec<Vec<u8>>>, &'w [Word<'a>])>, AllocError>
+    ensures { IfOk result (λ found. option_map (λ w. (path_some w.0, map word w.1.now)) found ≡ spec.source_at (map word words.now)) }
+{
+    let Some(more) = behind(b"from", words) else {
+        return match behind(b"always", words) {
+            None => Ok(None),
+            Some(more) => Ok(Some((None, more))),
+        };
+    };
+    match path_at(alloc, more)? {
+        None => Ok(None),
+        Some((path, more)) => Ok(Some((Some(path), more))),
+    }
+}
+
+fn segment_form<'a>(
+    alloc: Global,
+    at: u32,
+    words: &[Word<'a>],
+) -> Result<Option<Line<'a>>, AllocError>
+    ensures { IfOk result (λ found. option_map line found ≡ spec.segment_form at (map word words.now)) }
+{
+    let Some((label, more)) = name_at(words) else {
+        return Ok(None);
+    };
+    match source_at(alloc, more)? {
+        None => Ok(None),
+        Some((source, more)) => Ok(with_all(more, Line::Segment(at, label, source))),
+    }
+}
+
+// A field of the target, and the field that it is made from.
+fn made_from(alloc: Global, words: &[Word]) -> Result<Option<(u32, FieldPath)>, AllocError>
+    ensures { IfOk result (λ found. option_map (λ m. (m.0, field_path m.1)) found ≡ spec.made_from (map word words.now)) }
+{
+    let Some((field, more)) = number_at(999, words) else {
+        return Ok(None);
+    };
+    let Some((from, more)) = from_at(alloc, more)? else {
+        return Ok(None);
+    };
+    if more.is_empty() {
+        return Ok(Some((field, from)));
+    }
+    Ok(None)
+}
+
+fn copies_form<'a>(alloc: Global, at: u32, words: &[Word]) -> Result<Option<Line<'a>>, AllocError>
+    ensures { IfOk result (λ found. option_map line found ≡ spec.copies_form at (map word words.now)) }
+{
+    match made_from(alloc, words)? {
+        None => Ok(None),
+        Some((field, from)) => Ok(Some(Line::Makes(Rule::CopyField(CopyRule {
+            line: at,
+            field,
+            from,
+        })))),
+    }
+}
+
+fn firsts_form<'a>(alloc: Global, at: u32, words: &[Word]) -> Result<Option<Line<'a>>, AllocError>
+    ensures { IfOk result (λ found. option_map line found ≡ spec.firsts_form at (map word words.now)) }
+{
+    match made_from(alloc, words)? {
+        None => Ok(None),
+        Some((field, from)) => Ok(Some(Line::Makes(Rule::FirstRep(CopyRule {
+            line: at,
+            field,
+            from,
+        })))),
+    }
+}
+
+fn repeats_form<'a>(alloc: Global, at: u32, words: &[Word]) -> Result<Option<Line<'a>>, AllocError>
+    ensures { IfOk result (λ found. option_map line found ≡ spec.repeats_form at (map word words.now)) }
+{
+    match made_from(alloc, words)? {
+        None => Ok(None),
+        Some((field, from)) => Ok(Some(Line::Makes(Rule::RepeatField(RepeatRule {
+            line: at,
+            field,
+            from,
+            leaves: Vec::new(alloc),
+        })))),
+    }
+}
+
+fn builds_form<'a>(alloc: Global, at: u32, words: &[Word]) -> Result<Option<Line<'a>>, AllocError>
+    ensures { IfOk result (λ found. option_map line found ≡ spec.builds_form at (map word words.now)) }
+{
+    let Some((field, more)) = number_at(999, words) else {
+        return Ok(None);
+    };
+    match own_leaves(alloc, at, more)? {
+        None => Ok(None),
+        Some(leaves) => Ok(Some(Line::Makes(Rule::Build(BuildRule {
+            line: at,
+            field,
+            leaves,
+        })))),
+    }
+}
+
+fn at_form<'a>(alloc: Global, at: u32, words: &[Word]) -> Result<Option<Line<'a>>, AllocError>
+    ensures { IfOk result (λ found. option_map line found ≡ spec.at_form at (map word words.now)) }
+{
+    let Some((place, more)) = place_at(words) else {
+        return Ok(None);
+    };
+    match leaf_form(alloc, more)? {
+        None => Ok(None),
+        Some(leaf) => Ok(Some(Line::At(LeafRule {
+            line: at,
+            place,
+            leaf,
+        }))),
+    }
+}
+
+fn each_form<'a>(
+    alloc: Global,
+    at: u32,
+    label: Option<&'a [u8]>,
+    words: &[Word<'a>],
+) -> Result<Option<Line<'a>>, AllocError>
+    ensures { IfOk result (λ found. option_map line found ≡ spec.each_form at (now label.entry) (map word words.now)) }
+{
+    let Some(more) = behind(b"each", words) else {
+        return Ok(None);
+    };
+    match path_at(alloc, more)? {
+        None => Ok(None),
+        Some((path, more)) => Ok(with_all(more, Line::Each(at, label, path))),
+    }
+}
+
+fn group_form<'a>(
+    alloc: Global,
+    at: u32,
+    words: &[Word<'a>],
+) -> Result<Option<Line<'a>>, AllocError>
+    ensures { IfOk result (λ found. option_map line found ≡ spec.group_form at (map word words.now)) }
+{
+    match name_at(words) {
+        None => Ok(None),
+        Some((label, more)) => each_form(alloc, at, Some(label), more),
+    }
+}
+
+fn drop_form<'a>(alloc: Global, at: u32, words: &[Word<'a>]) -> Result<Option<Line<'a>>, AllocError>
+    ensures { IfOk result (λ found. option_map line found ≡ spec.drop_form at (map word words.now)) }
+{
+    match drop_at(alloc, at, words)? {
+        None => Ok(None),
+        Some((left, more)) => Ok(with_all(more, Line::Drops(left))),
+    }
+}
+
+fn rule_form<'a>(
+    alloc: Global,
+    at: u32,
+    keyword: Word<'a>,
+    more: &[Word<'a>],
+) -> Result<Option<Line<'a>>, AllocError>
+    ensures { IfOk result (λ found. option_map line found ≡ spec.rule_form at (word keyword.entry) (map word more.now)) }
+{
+    if keyword.is(b"copy") {
+        return copies_form(alloc, at, more);
+    }
+    if keyword.is(b"first") {
+        return firsts_form(alloc, at, more);
+    }
+    if keyword.is(b"repeat") {
+        return repeats_form(alloc, at, more);
+    }
+    if keyword.is(b"build") {
+        return builds_form(alloc, at, more);
+    }
+    if keyword.is(b"at") {
+        return at_form(alloc, at, more);
+    }
+    Ok(None)
+}
+
+fn keyword_form<'a>(
+    alloc: Global,
+    at: u32,
+    keyword: Word<'a>,
+    more: &[Word<'a>],
+) -> Result<Option<Line<'a>>, AllocError>
+    ensures { IfOk result (λ found. option_map line found ≡ spec.keyword_form at (word keyword.entry) (map word more.now)) }
+{
+    if keyword.is(b"map") {
+        return Ok(map_form(at, more));
+    }
+    if keyword.is(b"table") {
+        return Ok(table_form(more));
+    }
+    if keyword.is(b"row") {
+        return Ok(row_form(more));
+    }
+    if keyword.is(b"else") {
+        return Ok(else_form(more));
+    }
+    if keyword.is(b"segment") {
+        return segment_form(alloc, at, more);
+    }
+    if keyword.is(b"group") {
+        return group_form(alloc, at, more);
+    }
+    if keyword.is(b"flat") {
+        return each_form(alloc, at, None, more);
+    }
+    if keyword.is(b"end") {
+        return Ok(with_all(more, Line::End));
+    }
+    if keyword.is(b"drop") {
+        return drop_form(alloc, at, more);
+    }
+    rule_form(alloc, at, keyword, more)
+}
+
+/// The line that these words are; `at` is its number.
+pub fn form<'a>(alloc: Global, at: u32, words: &[Word<'a>]) -> Result<Option<Line<'a>>, AllocError>
+    ensures { IfOk result (λ found. option_map line found ≡ spec.form at (map word words.now)) }
+{
+    match words {
+        [] => Ok(None),
+        [keyword, more @ ..] => keyword_form(alloc, at, *keyword, more),
+    }
+}

@@ -1,0 +1,215 @@
+//! Parts of a word: paths, fields, places and what they join to.
+ghost use Rattle.std.specs.Prelude.{◌≡◌, ◌≤◌, ◌==◌, map, IfOk};
+ghost use Rattle.std.specs.List.{list_all, slice_split, before_first, position};
+ghost use Rattle.std.specs.Option.{option_map};
+ghost use Rattle.gw_lines.specs.Spelled.{is_name};
+ghost use Rattle.gw_maplang.specs.Lawful as lawful;
+ghost use Rattle.gw_maplang.specs.Line as spec;
+ghost use Rattle.gw_maplang.specs.Shapes as shapes;
+ghost use Rattle.gw_maplang.specs.Seen.{now, now_all, items_all, path, path_some, field_path, ref_some, dropped};
+
+use crate::rule::{Dropped, FieldPath, LeafPlace, Ref};
+use gw_lines::{is_name, number};
+use std::alloc::{AllocError, Global};
+
+fn first_at(end: u8, bytes: &[u8]) -> Option<usize>
+    ensures { result ≡ position (λ b. b == end) bytes.now }
+{
+    bytes.iter().position(|byte| *byte == end)
+}
+
+// What stands before the first such byte.
+fn up_to(end: u8, bytes: &[u8]) -> &[u8]
+    ensures { result.now ≡ before_first (λ b. b == end) bytes.now }
+{
+    match first_at(end, bytes) {
+        None => bytes,
+        Some(at) => &bytes[..at],
+    }
+}
+
+// What stands behind the first such byte, where there is one.
+fn past(end: u8, bytes: &[u8]) -> Option<&[u8]>
+    ensures { now result ≡ spec.behind_first (λ b. b == end) bytes.now }
+{
+    for (i, byte) in bytes.iter().enumerate() {
+        if *byte == end {
+            return Some(&bytes[i + 1..]);
+        }
+    }
+    None
+}
+
+fn cut_labels(alloc: Global, bytes: &[u8]) -> Result<Vec<&[u8]>, AllocError>
+    ensures { IfOk result (λ v. now_all v.items ≡ slice_split spec.is_slash bytes.now) }
+{
+    bytes.split(|byte| *byte == b'/').collect(alloc)
+}
+
+fn are_names(labels: &[&[u8]]) -> bool
+    ensures { result ≡ list_all is_name (now_all labels.now) }
+{
+    for (i, label) in labels.iter().enumerate() {
+        if !is_name(label) {
+            return false;
+        }
+    }
+    true
+}
+
+fn copies(alloc: Global, labels: &[&[u8]]) -> Result<Vec<Vec<u8>>, AllocError>
+    ensures { IfOk result (λ v. path v ≡ now_all labels.now) }
+{
+    let mut all = Vec::new(alloc);
+    for (i, label) in labels.iter().enumerate() {
+        let copy = Vec::from_slice(alloc, label)?;
+        all.push(copy)?;
+    }
+    Ok(all)
+}
+
+/// Labels joined by slashes.
+pub fn path_of(alloc: Global, bytes: &[u8]) -> Result<Option<Vec<Vec<u8>>>, AllocError>
+    ensures { IfOk result (λ p. path_some p ≡ spec.path_of bytes.now) }
+{
+    let labels = cut_labels(alloc, bytes)?;
+    if !are_names(&labels) {
+        return Ok(None);
+    }
+    let path = copies(alloc, &labels)?;
+    Ok(Some(path))
+}
+
+fn is_msh(label: &[u8]) -> bool
+    ensures { result ≡ lawful.is_msh label.now }
+{
+    label == b"MSH".as_slice()
+}
+
+/// The least number of a field of a segment with this label.
+pub fn least_field(label: &[u8]) -> u32
+    ensures value { result ≡ lawful.least_field label.now }
+    ensures bound { result ≤ 3 }
+{
+    if is_msh(label) { 3 } else { 1 }
+}
+
+fn last_label(path: &[Vec<u8>]) -> &[u8]
+    ensures { result.now ≡ lawful.last_label (items_all path.now) }
+{
+    match path.last() {
+        None => &[],
+        Some(label) => label.as_slice(),
+    }
+}
+
+// A field of the segment to which the path leads.
+fn field_of(path: &[Vec<u8>], bytes: &[u8]) -> Option<u32>
+    ensures { result ≡ spec.field_of (items_all path.now) bytes.now }
+{
+    number(least_field(last_label(path)), 999, bytes)
+}
+
+/// A field, by the path to its segment.
+pub fn field_path(alloc: Global, bytes: &[u8]) -> Result<Option<FieldPath>, AllocError>
+    ensures { IfOk result (λ f. option_map field_path f ≡ spec.field_path bytes.now) }
+{
+    let Some(path) = path_of(alloc, up_to(b'-', bytes))? else {
+        return Ok(None);
+    };
+    let Some(more) = past(b'-', bytes) else {
+        return Ok(None);
+    };
+    let Some(field) = field_of(&path, more) else {
+        return Ok(None);
+    };
+    Ok(Some(FieldPath { path, field }))
+}
+
+fn sub_of(said: Option<&[u8]>) -> Option<u32>
+    ensures { result ≡ spec.sub_of (now said.entry) }
+{
+    match said {
+        None => Some(1),
+        Some(bytes) => number(1, 99, bytes),
+    }
+}
+
+/// A component, and a subcomponent where one is said.
+pub fn place_of(bytes: &[u8]) -> Option<LeafPlace>
+    ensures { result ≡ spec.place_of bytes.now }
+{
+    let comp = number(1, 99, up_to(b'.', bytes))?;
+    let sub = sub_of(past(b'.', bytes))?;
+    Some(LeafPlace { comp, sub })
+}
+
+fn place_or_first(said: Option<&[u8]>) -> Option<LeafPlace>
+    ensures { result ≡ spec.place_or_first (now said.entry) }
+{
+    match said {
+        None => Some(LeafPlace { comp: 1, sub: 1 }),
+        Some(bytes) => place_of(bytes),
+    }
+}
+
+fn field_ref(alloc: Global, bytes: &[u8]) -> Result<Option<Ref>, AllocError>
+    ensures { IfOk result (λ r. ref_some r ≡ spec.field_ref bytes.now) }
+{
+    let Some(from) = field_path(alloc, up_to(b'.', bytes))? else {
+        return Ok(None);
+    };
+    let Some(place) = place_or_first(past(b'.', bytes)) else {
+        return Ok(None);
+    };
+    Ok(Some(Ref::Field(from, place)))
+}
+
+fn current(place: Option<LeafPlace>) -> Option<Ref>
+    ensures { ref_some result ≡ option_map shapes.Current place }
+{
+    match place {
+        None => None,
+        Some(place) => Some(Ref::Current(place)),
+    }
+}
+
+/// Where a text is taken from.
+pub fn ref_of(alloc: Global, bytes: &[u8]) -> Result<Option<Ref>, AllocError>
+    ensures { IfOk result (λ r. ref_some r ≡ spec.ref_of bytes.now) }
+{
+    match bytes {
+        [] => Ok(None),
+        [first, more @ ..] => {
+            if *first == b'.' {
+                return Ok(current(place_of(more)));
+            }
+            field_ref(alloc, bytes)
+        }
+    }
+}
+
+fn dropped_field(path: &[Vec<u8>], said: Option<&[u8]>) -> Option<Option<u32>>
+    ensures { result ≡ spec.dropped_field (items_all path.now) (now said.entry) }
+{
+    match said {
+        None => Some(None),
+        Some(bytes) => {
+            let field = field_of(path, bytes)?;
+            Some(Some(field))
+        }
+    }
+}
+
+/// What is left out on purpose.
+pub fn drop_of(alloc: Global, line: u32, bytes: &[u8]) -> Result<Option<Dropped>, AllocError>
+    ensures { IfOk result (λ d. option_map dropped d ≡ spec.drop_of line bytes.now) }
+{
+    let Some(path) = path_of(alloc, up_to(b'-', bytes))? else {
+        return Ok(None);
+    };
+    let Some(field) = dropped_field(&path, past(b'-', bytes)) else {
+        return Ok(None);
+    };
+    Ok(Some(Dropped { line, path, field }))
+}

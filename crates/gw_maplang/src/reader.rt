@@ -1,0 +1,414 @@
+//! Reading of a map, line by line.
+ghost use Rattle.std.specs.Prelude.{◌≡◌, ◌∷◌, ◌||◌, ◌&&◌, [], not, map, IfOk, false};
+ghost use Rattle.std.specs.List.{list_any};
+ghost use Rattle.gw_lines.specs.Seen.{word};
+ghost use Rattle.gw_lines.specs.Reading.{Gives, first_of, added};
+ghost use Rattle.gw_lines.specs.Values.{is_value};
+ghost use Rattle.gw_maplang.specs.declared.fault.MapFault.TheVariants as fault;
+ghost use Rattle.gw_maplang.specs.Fault as spec;
+ghost use Rattle.gw_maplang.specs.Lawful.{table_names};
+ghost use Rattle.gw_maplang.specs.Line as form;
+ghost use Rattle.gw_maplang.specs.Taken.{Taken};
+ghost use Rattle.gw_maplang.specs.Seen.{line, rule, leaf, leaf_value, table, open_segment, open_rule, map_value};
+ghost use Rattle.gw_maplang.specs.Whole.{whole, is_unclosed};
+
+use crate::context::{
+    NOTHING_STANDS, OpenRule, OpenSegment, Standing, has_other, has_row, knows, rule_below,
+    segment_below, standing_below, tables_below,
+};
+use crate::fault::MapFault;
+use crate::form::{Line, form};
+use crate::map::Map;
+use crate::rule::{Leaf, LeafPlace, LeafRule, Ref, Rule};
+use crate::table::Table;
+use crate::whole::map_of;
+use gw_er7::is_canonical;
+use gw_lines::{Form, Word};
+use indexmap::IndexMap;
+use std::alloc::{AllocError, Global};
+use std::marker::Model;
+
+const MOST_NESTED: u32 = 16;
+
+/// The lines of a map so far.
+#[derive(Drop)]
+pub struct Reader<'a> {
+    alloc: Global,
+    lines: Vec<Line<'a>>,
+    standing: Standing,
+    tables: IndexMap<Vec<u8>, Table>,
+    segment: Option<OpenSegment>,
+    rule: Option<OpenRule>,
+}
+
+impl<'a> Model for Reader<'a> {
+    ghost use Rattle.std.specs.Prelude.{List, map};
+    ghost use Rattle.gw_maplang.specs.Line.{Line};
+    ghost use Rattle.gw_maplang.specs.Seen.{above, table, open_segment, open_rule, Agrees};
+
+    ghost Value = { List Line };
+
+    ghost view = { λ r. above r.lines.items };
+
+    ghost invariant = { λ r. Agrees r.standing (map table r.tables.entries) (open_segment r.segment) (open_rule r.rule) (above r.lines.items) };
+}
+
+fn is_value(bytes: &[u8]) -> bool
+    ensures { result ≡ is_value bytes.now }
+{
+    !bytes.is_empty() && is_canonical(bytes)
+}
+
+fn is_stray(repeated: bool, made: &Leaf) -> bool
+    ensures { result ≡ spec.is_stray repeated (leaf made.now) }
+{
+    match made {
+        Leaf::Const(_) => false,
+        Leaf::Copy(Ref::Field(_, _)) => false,
+        Leaf::Copy(Ref::Current(_)) => !repeated,
+        Leaf::Lookup(_, Ref::Field(_, _)) => false,
+        Leaf::Lookup(_, Ref::Current(_)) => !repeated,
+    }
+}
+
+fn is_unknown(tables: &IndexMap<Vec<u8>, Table>, made: &Leaf) -> bool
+    ensures { result ≡ spec.is_unknown (table_names (map table tables.now.entries)) (leaf made.now) }
+{
+    match made {
+        Leaf::Const(_) => false,
+        Leaf::Copy(_) => false,
+        Leaf::Lookup(name, _) => !knows(tables, name),
+    }
+}
+
+fn is_bad(made: &Leaf) -> bool
+    ensures { result ≡ spec.is_bad (leaf made.now) }
+{
+    match made {
+        Leaf::Const(value) => !is_value(value),
+        Leaf::Copy(_) => false,
+        Leaf::Lookup(_, _) => false,
+    }
+}
+
+fn own_leaf(made: &Rule) -> &[LeafRule]
+    ensures { map leaf_value result.now ≡ spec.own_leaf (rule made.now).making }
+{
+    match made {
+        Rule::CopyField(_) => &[],
+        Rule::FirstRep(_) => &[],
+        Rule::RepeatField(_) => &[],
+        Rule::Build(build) => build.leaves.as_slice(),
+    }
+}
+
+fn any_stray(leaves: &[LeafRule]) -> bool
+    ensures { result ≡ list_any (λ l. spec.is_stray false l.leaf) (map leaf_value leaves.now) }
+{
+    for (i, own) in leaves.iter().enumerate() {
+        if is_stray(false, &own.leaf) {
+            return true;
+        }
+    }
+    false
+}
+
+fn any_unknown(tables: &IndexMap<Vec<u8>, Table>, leaves: &[LeafRule]) -> bool
+    ensures { result ≡ list_any (λ l. spec.is_unknown (table_names (map table tables.now.entries)) l.leaf) (map leaf_value leaves.now) }
+{
+    for (i, own) in leaves.iter().enumerate() {
+        if is_unknown(tables, &own.leaf) {
+            return true;
+        }
+    }
+    false
+}
+
+fn any_bad(leaves: &[LeafRule]) -> bool
+    ensures { result ≡ list_any (λ l. spec.is_bad l.leaf) (map leaf_value leaves.now) }
+{
+    for (i, own) in leaves.iter().enumerate() {
+        if is_bad(&own.leaf) {
+            return true;
+        }
+    }
+    false
+}
+
+fn is_misplaced(field: u32, open: &Option<OpenSegment>) -> bool
+    ensures { result ≡ spec.is_misplaced field (open_segment open.now) }
+{
+    match open {
+        None => true,
+        Some(segment) => field < segment.least,
+    }
+}
+
+fn is_made(field: u32, open: &Option<OpenSegment>) -> bool
+    ensures { result ≡ spec.is_made field (open_segment open.now) }
+{
+    match open {
+        None => false,
+        Some(segment) => segment.fields.contains(&field),
+    }
+}
+
+fn is_misplaced_leaf(made: &Leaf, open: &Option<OpenRule>) -> bool
+    ensures { result ≡ spec.is_misplaced_leaf (leaf made.now) (open_rule open.now) }
+{
+    match open {
+        None => true,
+        Some(rule) => is_stray(rule.repeated, made),
+    }
+}
+
+fn is_placed(place: LeafPlace, open: &Option<OpenRule>) -> bool
+    ensures { result ≡ spec.is_placed place (open_rule open.now) }
+{
+    match open {
+        None => false,
+        Some(rule) => rule.places.contains(&place),
+    }
+}
+
+impl<'a> Reader<'a> {
+    /// A reader with no line.
+    pub fn new(alloc: Global) -> Reader<'a>
+        ensures { result ≡ [] }
+    {
+        Reader {
+            alloc,
+            lines: Vec::new(alloc),
+            standing: NOTHING_STANDS,
+            tables: IndexMap::new(alloc),
+            segment: None,
+            rule: None,
+        }
+    }
+
+    fn begins_fault(&self, at: u32) -> Option<MapFault>
+        ensures { result ≡ first_of (spec.begins_tests self.now at) }
+    {
+        if self.lines.is_empty() {
+            None
+        } else {
+            Some(MapFault::Syntax(at))
+        }
+    }
+
+    fn table_fault(&self, at: u32, name: &[u8]) -> Option<MapFault>
+        ensures { result ≡ first_of (spec.table_tests self.now at name.now) }
+    {
+        if self.lines.is_empty() || self.standing.has_item {
+            return Some(MapFault::Syntax(at));
+        }
+        if knows(&self.tables, name) {
+            return Some(MapFault::Duplicate(at));
+        }
+        None
+    }
+
+    fn row_fault(&self, at: u32, first: &[u8], second: &[u8]) -> Option<MapFault>
+        ensures { result ≡ first_of (spec.row_tests self.now at (record { first = first.now; second = second.now })) }
+    {
+        if !self.standing.in_table {
+            return Some(MapFault::Syntax(at));
+        }
+        if !(is_value(first) && is_value(second)) {
+            return Some(MapFault::BadConstant(at));
+        }
+        if has_row(&self.tables, first) {
+            return Some(MapFault::Duplicate(at));
+        }
+        None
+    }
+
+    fn else_fault(&self, at: u32, value: &[u8]) -> Option<MapFault>
+        ensures { result ≡ first_of (spec.else_tests self.now at value.now) }
+    {
+        if !self.standing.in_table {
+            return Some(MapFault::Syntax(at));
+        }
+        if !is_value(value) {
+            return Some(MapFault::BadConstant(at));
+        }
+        if has_other(&self.tables) {
+            return Some(MapFault::Duplicate(at));
+        }
+        None
+    }
+
+    fn segment_fault(&self, at: u32) -> Option<MapFault>
+        ensures { result ≡ first_of (spec.segment_tests self.now at) }
+    {
+        if self.lines.is_empty() {
+            Some(MapFault::Syntax(at))
+        } else {
+            None
+        }
+    }
+
+    fn rule_fault(&self, at: u32, made: &Rule) -> Option<MapFault>
+        ensures { result ≡ first_of (spec.rule_tests self.now at (rule made.now)) }
+    {
+        let own = own_leaf(made);
+        if is_misplaced(made.field(), &self.segment) || any_stray(own) {
+            return Some(MapFault::Syntax(at));
+        }
+        if any_unknown(&self.tables, own) {
+            return Some(MapFault::UnknownTable(at));
+        }
+        if any_bad(own) {
+            return Some(MapFault::BadConstant(at));
+        }
+        if is_made(made.field(), &self.segment) {
+            return Some(MapFault::Duplicate(at));
+        }
+        None
+    }
+
+    fn leaf_fault(&self, at: u32, made: &LeafRule) -> Option<MapFault>
+        ensures { result ≡ first_of (spec.leaf_tests self.now at (leaf_value made.now)) }
+    {
+        if is_misplaced_leaf(&made.leaf, &self.rule) {
+            return Some(MapFault::Syntax(at));
+        }
+        if is_unknown(&self.tables, &made.leaf) {
+            return Some(MapFault::UnknownTable(at));
+        }
+        if is_bad(&made.leaf) {
+            return Some(MapFault::BadConstant(at));
+        }
+        if is_placed(made.place, &self.rule) {
+            return Some(MapFault::Duplicate(at));
+        }
+        None
+    }
+
+    fn each_fault(&self, at: u32) -> Option<MapFault>
+        ensures { result ≡ first_of (spec.each_tests self.now at) }
+    {
+        if self.lines.is_empty() {
+            return Some(MapFault::Syntax(at));
+        }
+        if self.standing.depth >= MOST_NESTED {
+            return Some(MapFault::TooDeep(at));
+        }
+        None
+    }
+
+    fn end_fault(&self, at: u32) -> Option<MapFault>
+        ensures { result ≡ first_of (spec.end_tests self.now at) }
+    {
+        if self.standing.depth == 0 || self.standing.hollow {
+            Some(MapFault::Syntax(at))
+        } else {
+            None
+        }
+    }
+
+    fn drop_fault(&self, at: u32) -> Option<MapFault>
+        ensures { result ≡ first_of (spec.drop_tests self.now at) }
+    {
+        if self.lines.is_empty() || self.standing.depth != 0 {
+            Some(MapFault::Syntax(at))
+        } else {
+            None
+        }
+    }
+
+    // The fault of a line below these.
+    fn fault_of(&self, at: u32, whole: &Line<'a>) -> Option<MapFault>
+        ensures { result ≡ first_of (spec.tests self.now at (line whole.now)) }
+    {
+        match whole {
+            Line::Begins(_, _, _, _) => self.begins_fault(at),
+            Line::Table(name) => self.table_fault(at, name),
+            Line::Rows(first, second) => self.row_fault(at, first, second),
+            Line::Else(value) => self.else_fault(at, value),
+            Line::Segment(_, _, _) => self.segment_fault(at),
+            Line::Makes(rule) => self.rule_fault(at, rule),
+            Line::At(leaf) => self.leaf_fault(at, leaf),
+            Line::Each(_, _, _) => self.each_fault(at),
+            Line::End => self.end_fault(at),
+            Line::Drops(_) => self.drop_fault(at),
+        }
+    }
+
+    // Whether some group or flat is open, or nothing was said.
+    fn is_unclosed(&self) -> bool
+        ensures { result ≡ is_unclosed self.now }
+    {
+        self.lines.is_empty() || self.standing.depth != 0
+    }
+
+    // Takes a line in.
+    fn add(self, whole: Line<'a>) -> Result<Reader<'a>, AllocError>
+        requires { Taken self (line whole) }
+        ensures { IfOk result (λ new. new ≡ line whole.entry ∷ self.entry) }
+    {
+        let Reader {
+            alloc,
+            mut lines,
+            standing,
+            tables,
+            segment,
+            rule,
+        } = self;
+        let standing = standing_below(standing, &whole);
+        let tables = tables_below(alloc, tables, &whole)?;
+        let segment = segment_below(alloc, segment, &whole)?;
+        let rule = rule_below(alloc, rule, &whole)?;
+        lines.push(whole)?;
+        Ok(Reader {
+            alloc,
+            lines,
+            standing,
+            tables,
+            segment,
+            rule,
+        })
+    }
+}
+
+impl<'a> Form<'a> for Reader<'a> {
+    ghost use Rattle.std.specs.Prelude.{◌≡◌};
+    ghost use Rattle.gw_lines.specs.Reading.{Gives, adding};
+    ghost use Rattle.gw_maplang.specs.declared.fault.MapFault.TheVariants as fault;
+    ghost use Rattle.gw_maplang.specs.Fault.{takes};
+    ghost use Rattle.gw_maplang.specs.Seen.{map_value};
+    ghost use Rattle.gw_maplang.specs.Whole.{whole};
+
+    type Value = Map;
+
+    type Fault = MapFault;
+
+    ghost step = { adding takes };
+
+    ghost gives = { λ above at result. Gives fault.Memory map_value result (whole above at) };
+
+    fn take(self, at: u32, words: &[Word<'a>]) -> Result<Reader<'a>, MapFault> {
+        let Some(whole) = form(self.alloc, at, words)? else {
+            return Err(MapFault::Syntax(at));
+        };
+        if let Some(fault) = self.fault_of(at, &whole) {
+            return Err(fault);
+        }
+        let reader = self.add(whole)?;
+        Ok(reader)
+    }
+
+    fn finish(self, at: u32) -> Result<Map, MapFault> {
+        if self.is_unclosed() {
+            return Err(MapFault::Syntax(at));
+        }
+        let Reader {
+            alloc,
+            lines,
+            tables,
+            ..
+        } = self;
+        let made = map_of(alloc, lines, tables)?;
+        Ok(made)
+    }
+}
