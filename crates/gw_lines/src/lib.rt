@@ -13,5 +13,6 @@ pub use lines::lines_of;
 pub use parts::{
     behind, first_word, name_at, number_at, range_at, segment_at, some_values, value_at,
 };
-pub use values::value_bytes;
+pub use spelled::{is_name, number};
+pub use values::{bytes_of, value_bytes};
 pub use words::{Word, words_of};

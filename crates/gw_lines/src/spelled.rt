@@ -19,8 +19,8 @@ fn are_name_bytes(bytes: &[u8]) -> bool
     bytes.iter().all(|byte| is_name_byte(*byte))
 }
 
-// Whether this is a name: 1 to 40 letters, digits or `_`.
-fn is_name(bytes: &[u8]) -> bool
+/// Whether this is a name: 1 to 40 letters, digits or `_`. It takes no memory.
+pub fn is_name(bytes: &[u8]) -> bool
     ensures { result ≡ is_name bytes.now }
 {
     1 <= bytes.len() && bytes.len() <= 40 && are_name_bytes(bytes)
@@ -73,8 +73,8 @@ fn value_of(digits: &[u8]) -> Option<u32>
     Some(value)
 }
 
-// The number, from `low` to `high`, that these bytes spell without needless zeros.
-fn number(low: u32, high: u32, bytes: &[u8]) -> Option<u32>
+/// The number, from `low` to `high`, that these bytes spell without needless zeros. It takes no memory.
+pub fn number(low: u32, high: u32, bytes: &[u8]) -> Option<u32>
     requires { high ≤ 999999 }
     ensures { result ≡ number low high bytes.now }
 {

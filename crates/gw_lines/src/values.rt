@@ -13,7 +13,8 @@ fn is_value(bytes: &[u8]) -> bool
     !bytes.is_empty() && is_canonical(bytes)
 }
 
-fn bytes_of<'a>(from: Word<'a>) -> &'a [u8]
+/// The bytes of a word, between its quotes where it has some. It takes no memory.
+pub fn bytes_of<'a>(from: Word<'a>) -> &'a [u8]
     ensures { result.now ≡ bytes_of (word from.entry) }
 {
     match from {

@@ -62,10 +62,10 @@ either_gives P false x y h k = k
 
 -- ---- words
 
-name_is : (w : Word) → IfSome (name w) (λ t. is_name t ≡ true)
+pub name_is : (w : Word) → IfSome (name w) (λ t. is_name t ≡ true)
 name_is w = then_gives (λ _. Unit {0}) (λ t. is_name t ≡ true) (plain_bytes w) _ (any (plain_bytes w)) (λ bytes h. chosen _ (is_name bytes) bytes (λ e. e))
 
-number_is : (low high : ℕ) (bytes : List ℕ) → IfSome (number low high bytes) (λ n. (low ≤ n) × (n ≤ high))
+pub number_is : (low high : ℕ) (bytes : List ℕ) → IfSome (number low high bytes) (λ n. (low ≤ n) × (n ≤ high))
 number_is low high bytes =
     chosen _ (is_decimal bytes && nat_le low (decimal 0 bytes) && nat_le (decimal 0 bytes) high) (decimal 0 bytes)
     (λ e. let p = both _ _ e in let q = both _ _ p.0 in (le_is _ _ q.1, le_is _ _ p.1))
@@ -92,12 +92,12 @@ card_word_is w =
     map_gives InRange Counted (range_word w) _
     (then_gives (λ _. Unit {0}) InRange (plain_bytes w) _ (any (plain_bytes w)) (λ bytes h. range_is bytes)) (λ r h. h)
 
-name_at_is : (words : List Word) → IfSome (name_at words) (λ p. is_name p.0 ≡ true)
+pub name_at_is : (words : List Word) → IfSome (name_at words) (λ p. is_name p.0 ≡ true)
 name_at_is words =
     gives (λ _. Unit {0}) _ (first_word words) _ (any (first_word words))
     (λ w h. gives (λ t. is_name t ≡ true) _ (name w.0) _ (name_is w.0) (λ t e. e))
 
-number_at_is : (high : ℕ) (words : List Word) → IfSome (number_at high words) (λ p. Numbered high p.0)
+pub number_at_is : (high : ℕ) (words : List Word) → IfSome (number_at high words) (λ p. Numbered high p.0)
 number_at_is high words =
     gives (λ _. Unit {0}) _ (first_word words) _ (any (first_word words))
     (λ w h. gives (Numbered high) _ (number_word 1 high w.0) _ (then_gives (λ _. Unit {0}) _ (plain_bytes w.0) _ (any (plain_bytes w.0)) (λ bytes h. number_is 1 high bytes)) (λ t e. e))
