@@ -18,3 +18,4 @@ pub mod Contents
 pub mod Made
 pub mod FieldSound
 pub mod Images
+mod Lending

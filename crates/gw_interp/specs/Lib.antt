@@ -1,3 +1,4 @@
 pub mod Occurrences
 pub mod Meaning
 pub mod Sound
+pub mod Lent

@@ -1,1 +1,4 @@
 //! Translates messages by checked maps.
+#![tactic(auto)]
+
+mod places;
