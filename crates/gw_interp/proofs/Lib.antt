@@ -19,3 +19,4 @@ pub mod Made
 pub mod FieldSound
 pub mod Images
 mod Lending
+mod Sourcing

@@ -2,3 +2,4 @@ pub mod Occurrences
 pub mod Meaning
 pub mod Sound
 pub mod Lent
+pub mod Sourced
