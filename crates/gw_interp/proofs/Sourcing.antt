@@ -1,5 +1,5 @@
 -- The texts that are read at sources.
-use Rattle.std.proofs.Common.{◌≡◌, ◌⊎◌, inl, inr, ℕ, zero, suc, ◌+◌, ◌≤◌, ◌<◌, List, [], ◌∷◌, Option, Some, None, refl, sym, ap, ◌∙◌, arith, length, map, slice_get, subst}
+use Rattle.std.proofs.Common.{◌≡◌, ◌⊎◌, inl, inr, ℕ, ◌+◌, ◌≤◌, ◌<◌, List, [], ◌∷◌, Option, Some, None, refl, sym, ap, ◌∙◌, arith, map, slice_get, subst}
 use Rattle.std.specs.Prelude.{unwrap_or}
 use Rattle.std.proofs.lemmas.Bool.Decides.{leb_tells}
 use Rattle.std.specs.FinMap as texts
@@ -10,8 +10,8 @@ use Rattle.gw_er7.specs.Presence.{CompAt, RepAt, FieldAt, IsLast}
 use Rattle.gw_validate.specs.Fitting.{OccValue, numbered, segment_of}
 use Rattle.gw_validate.specs.Occurring.{tree_of}
 use Rattle.gw_validate.specs.Conforming as conforming
-use Rattle.gw_interp.specs.Occurrences.{Occurrence, a_segment, nodes, texts_of_first}
-use Rattle.gw_interp.specs.Meaning.{IsFirst, InFirst}
+use Rattle.gw_interp.specs.Occurrences.{Occurrence, texts_of_first}
+use Rattle.gw_interp.specs.Meaning.{InFirst}
 use Rattle.gw_interp.specs.Lent as lent
 use Rattle.gw_interp.specs.Lent.{occurrence, AreOf}
 use Rattle.gw_interp.proofs.Shaped.{text_there}

@@ -1,5 +1,6 @@
 //! Translates messages by checked maps.
 #![tactic(auto)]
 
+mod lookup;
 mod places;
 mod reading;

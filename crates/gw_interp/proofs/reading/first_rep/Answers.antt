@@ -1,4 +1,3 @@
-use Rattle.std.proofs.Common.{arith}
 use Rattle.gw_interp.proofs.Sourcing.{none_yet, none_more, first_there, none_there}
 use Rattle.gw_interp.proofs.reading.first_rep.Goals as goal
 

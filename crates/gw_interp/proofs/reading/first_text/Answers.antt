@@ -1,6 +1,6 @@
-use Rattle.std.proofs.Common.{sym, ap, subst, ◌∙◌, []}
+use Rattle.std.proofs.Common.{sym, subst, []}
 use Rattle.gw_interp.specs.Meaning.{InFirst}
-use Rattle.gw_interp.specs.Sourced.{texts_of, IsFirstRep}
+use Rattle.gw_interp.specs.Sourced.{texts_of}
 use Rattle.gw_interp.proofs.Sourcing.{in_none, in_some}
 use Rattle.gw_interp.proofs.reading.first_text.Goals as goal
 

@@ -1,4 +1,4 @@
-use Rattle.std.proofs.Common.{sym, ap, subst, ◌∙◌}
+use Rattle.std.proofs.Common.{sym, subst}
 use Rattle.gw_check.specs.Seen.{source as seen_source}
 use Rattle.gw_interp.specs.Meaning.{InFirst, SourceMeans}
 use Rattle.gw_interp.specs.Sourced.{walks}
