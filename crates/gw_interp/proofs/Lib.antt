@@ -20,3 +20,4 @@ pub mod FieldSound
 pub mod Images
 mod Lending
 mod Sourcing
+mod Fills

@@ -3,3 +3,4 @@ pub mod Meaning
 pub mod Sound
 pub mod Lent
 pub mod Sourced
+pub mod Putting

@@ -3,4 +3,5 @@
 
 mod lookup;
 mod places;
+mod putting;
 mod reading;
