@@ -1,5 +1,5 @@
 -- What putting a text changes.
-use Rattle.std.proofs.Common.{◌≡◌, ℕ, zero, suc, ◌<◌, true, false, cond, List, [], ◌∷◌, Option, Some, None, refl, sym, ap, ◌∙◌, arith, length, Result, Ok, Err, OnOk}
+use Rattle.std.proofs.Common.{◌≡◌, ℕ, zero, suc, ◌<◌, true, false, cond, List, [], ◌∷◌, Some, None, refl, sym, ap, ◌∙◌, arith, length, Result, Ok, Err, OnOk}
 use Rattle.std.specs.Prelude.{◌==◌, unwrap_or}
 use Rattle.std.proofs.lemmas.Bool.Decides.{Decides-eqb}
 use Rattle.std.specs.Cmp.Lexicographic.{nat_list_cmp_total}
@@ -45,7 +45,7 @@ put_is key text old new may e =
         ∙ get-insert nat_list_cmp_total (last_texts old) key text k ∙ ap (λ b. cond b (Some text) (texts.get (last_texts old) k)) (no_tie k key apart);
     }
 
-same_last : (old : List SegmentValue) → old ≡ with_last (λ s. record s { at = last_texts old }) old
+pub same_last : (old : List SegmentValue) → old ≡ with_last (λ s. record s { at = last_texts old }) old
 same_last [] = refl
 same_last (s ∷ []) = refl
 same_last (s ∷ t ∷ ss) = ap (λ l. s ∷ l) (same_last (t ∷ ss))

@@ -21,3 +21,4 @@ pub mod Images
 mod Lending
 mod Sourcing
 mod Fills
+mod Filled

@@ -4,3 +4,4 @@ pub mod Sound
 pub mod Lent
 pub mod Sourced
 pub mod Putting
+pub mod Filling

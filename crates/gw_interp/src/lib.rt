@@ -1,6 +1,7 @@
 //! Translates messages by checked maps.
 #![tactic(auto)]
 
+mod filling;
 mod lookup;
 mod places;
 mod putting;
