@@ -56,7 +56,7 @@ module _ (w : Walked) (field rep : ℕ) where
   pub more_filled : (a : At) (leaves : List At) (old mid new : List SegmentValue) → MayFill w field rep (a ∷ leaves) old → IsHeld w field rep a old mid → AreFilled w field rep leaves mid new → AreFilled w field rep (a ∷ leaves) old new
   more_filled a leaves old mid new may held filled =
       let text : unwrap_or (texts.get (last_texts new) (key_of field rep a)) [] ≡ held.text =
-        ap (λ o. unwrap_or o []) (filled.elsewhere (key_of field rep a) may.distinct.0) ∙ held.put.here in
+      ap (λ o. unwrap_or o []) (filled.elsewhere (key_of field rep a) may.distinct.0) ∙ held.put.here in
       record {
         others = filled.others ∙ ap (with_last (at_last (last_texts new))) held.put.others ∙ twice (last_texts mid) (last_texts new) old;
         each = (subst (LeafMeans w a.leaf) (sym text) held.means, filled.each);

@@ -38,11 +38,11 @@ put_is key text old new may e =
     record {
       others = e ∙ put_others key text old (last_texts new) last;
       here =
-        ap (λ m. unwrap_or (texts.get m key) []) last
-        ∙ ap (λ o. unwrap_or o []) (get-insert nat_list_cmp_total (last_texts old) key text key ∙ ap (λ b. cond b (Some text) (texts.get (last_texts old) key)) (tie key key refl));
+          ap (λ m. unwrap_or (texts.get m key) []) last
+          ∙ ap (λ o. unwrap_or o []) (get-insert nat_list_cmp_total (last_texts old) key text key ∙ ap (λ b. cond b (Some text) (texts.get (last_texts old) key)) (tie key key refl));
       elsewhere = λ k apart.
-        ap (λ m. texts.get m k) last
-        ∙ get-insert nat_list_cmp_total (last_texts old) key text k ∙ ap (λ b. cond b (Some text) (texts.get (last_texts old) k)) (no_tie k key apart);
+          ap (λ m. texts.get m k) last
+          ∙ get-insert nat_list_cmp_total (last_texts old) key text k ∙ ap (λ b. cond b (Some text) (texts.get (last_texts old) k)) (no_tie k key apart);
     }
 
 pub same_last : (old : List SegmentValue) → old ≡ with_last (λ s. record s { at = last_texts old }) old

@@ -81,12 +81,12 @@ child_added old found above o i k so e =
     map-append occurrence found (o ∷ []) ∙ ap (λ l. l ++ occurrence o ∷ []) so
     ∙ append_assoc (map occurrence old) (take k (level_at (tree_of above.each) i)) (occurrence o ∷ [])
     ∙ ap (λ l. map occurrence old ++ l)
-      (ap (λ p. take k (level_at (tree_of above.each) i) ++ p ∷ []) (sym (shown_is o)) ∙ sym (take_level (tree_of above.each) i k (occurrence_of o) e))
+    (ap (λ p. take k (level_at (tree_of above.each) i) ++ p ∷ []) (sym (shown_is o)) ∙ sym (take_level (tree_of above.each) i k (occurrence_of o) e))
 
 pub all_added : (old found : List OccValue) (above : OccValue) (i k : ℕ) → IsLent above → i < length above.each → count_at (tree_of above.each) i ≤ k → map occurrence found ≡ map occurrence old ++ take k (level_at (tree_of above.each) i) → map occurrence found ≡ map occurrence old ++ children (occurrence above) i
 all_added old found above i k lent h le so =
     so ∙ ap (λ l. map occurrence old ++ l)
-      (take_all k (level_at (tree_of above.each) i) (omega (arith, le, length_level (tree_of above.each) i)) ∙ sym (level_children above i lent h))
+    (take_all k (level_at (tree_of above.each) i) (omega (arith, le, length_level (tree_of above.each) i)) ∙ sym (level_children above i lent h))
 
 -- the first children stand behind the others
 pub record IsAdding (old : List OccValue) (above : OccValue) (i k : ℕ) (found : List OccValue) : Type 0 where
@@ -122,9 +122,9 @@ pub gathered : (above : List OccValue) (i n : ℕ) (found : List OccValue) (o : 
 gathered above i n found o more h is so seen message =
     record {
       shown =
-        seen ∙ ap (λ l. l ++ children (occurrence o) i) so.shown
-        ∙ flat_map_more (λ p. children p i) [] (map occurrence (take n above)) (occurrence o)
-        ∙ ap (flat_map (λ p. children p i))
+          seen ∙ ap (λ l. l ++ children (occurrence o) i) so.shown
+          ∙ flat_map_more (λ p. children p i) [] (map occurrence (take n above)) (occurrence o)
+          ∙ ap (flat_map (λ p. children p i))
           (sym (map-append occurrence (take n above) (o ∷ [])) ∙ ap (map occurrence) (ap (λ p. take n above ++ p ∷ []) is ∙ sym (take_more above n o h)));
       message = λ m a. message m (walked_of m above n o h is a) (so.message m a);
     }
@@ -157,8 +157,8 @@ pub stepped : (from : OccValue) (steps : List ℕ) (n : ℕ) (found : List OccVa
 stepped from steps n found i more h is so seen message =
     record {
       shown =
-        ap (flat_map (below (drop (n + 1) steps))) seen ∙ sym (next_level i (drop (n + 1) steps) (map occurrence found))
-        ∙ ap (λ l. flat_map (below l) (map occurrence found)) (ap (λ j. j ∷ drop (n + 1) steps) is ∙ sym (drop_more steps n i h)) ∙ so.shown;
+          ap (flat_map (below (drop (n + 1) steps))) seen ∙ sym (next_level i (drop (n + 1) steps) (map occurrence found))
+          ∙ ap (λ l. flat_map (below l) (map occurrence found)) (ap (λ j. j ∷ drop (n + 1) steps) is ∙ sym (drop_more steps n i h)) ∙ so.shown;
       message = λ m e. message m (so.message m e);
     }
 
@@ -185,10 +185,10 @@ none_walked os out h =
 pub one_walked : (os : List OccValue) (out : ℕ) (o : OccValue) → out < length os → o ≡ get_or os (length os - 1 - out) o → in_scope (scope os) out ≡ occurrence o ∷ []
 one_walked os out o h is =
     in_scope_is (scope os) out ∙ ap some_one (
-      elim ((slice_get_cases (scope os) out).1) [
-        | inl x ↦ x.2 ∙ ap Some (sym x.3 ∙ get_or-reverse (map occurrence os) out x.0 within ∙ there x.0)
-        | inr x ↦ absurd (omega (arith, x.0, within, length-reverse (map occurrence os)))
-      ])
+    elim ((slice_get_cases (scope os) out).1) [
+      | inl x ↦ x.2 ∙ ap Some (sym x.3 ∙ get_or-reverse (map occurrence os) out x.0 within ∙ there x.0)
+      | inr x ↦ absurd (omega (arith, x.0, within, length-reverse (map occurrence os)))
+    ])
   where
     within : out < length (map occurrence os)
     within = omega (arith, h, length-map os occurrence)

@@ -14,13 +14,12 @@ returns-in_default t c =
 pub put_leaves-requires : goal.put_leaves-requires
 put_leaves-requires t c =
     let f = at_leaf c.args.rows.now.tables in
-    let split = head_first c.args.leaves.now c.first-item.result c.in-len1-up.len_at_least c.first-item.is in
-    (
+    let split = head_first c.args.leaves.now c.first-item.result c.in-len1-up.len_at_least c.first-item.is in (
       search rules,
       (
         c.requires.of,
         may_go_on (read_by c.args.reading.now) c.args.field c.args.rep (f c.first-item.result) (map f (take (length c.args.leaves.now - 1) (drop 1 c.args.leaves.now))) c.args.builder.now c.put_leaf.new.builder
-        (subst (λ l. MayFill (read_by c.args.reading.now) c.args.field c.args.rep (map f l) c.args.builder.now) split c.requires.fill) c.in_ok-put_leaf.ensures,
+            (subst (λ l. MayFill (read_by c.args.reading.now) c.args.field c.args.rep (map f l) c.args.builder.now) split c.requires.fill) c.in_ok-put_leaf.ensures,
       ),
     )
 
@@ -30,6 +29,6 @@ returns t c =
     let split = head_first c.args.leaves.now c.first-item.result c.in-len1-up.len_at_least c.first-item.is in
     on_ok _ _ c.put_leaves.result
     (λ filled. subst (λ l. AreFilled (read_by c.args.reading.now) c.args.field c.args.rep (map f l) c.args.builder.now c.put_leaves.new.builder) (sym split)
-      (more_filled (read_by c.args.reading.now) c.args.field c.args.rep (f c.first-item.result) (map f (take (length c.args.leaves.now - 1) (drop 1 c.args.leaves.now))) c.args.builder.now c.put_leaf.new.builder c.put_leaves.new.builder
-      (subst (λ l. MayFill (read_by c.args.reading.now) c.args.field c.args.rep (map f l) c.args.builder.now) split c.requires.fill) c.in_ok-put_leaf.ensures filled))
+    (more_filled (read_by c.args.reading.now) c.args.field c.args.rep (f c.first-item.result) (map f (take (length c.args.leaves.now - 1) (drop 1 c.args.leaves.now))) c.args.builder.now c.put_leaf.new.builder c.put_leaves.new.builder
+    (subst (λ l. MayFill (read_by c.args.reading.now) c.args.field c.args.rep (map f l) c.args.builder.now) split c.requires.fill) c.in_ok-put_leaf.ensures filled))
     c.put_leaves.ensures

@@ -14,8 +14,8 @@ pub returns-clause-places : goal.returns-clause-places
 returns-clause-places c =
     ok_as _ _ c.below.result
     (λ found e. e ∙ ap (λ l. below l (occurrence c.index-scope-scope.result)) c.deref.ensures.value
-      ∙ sym (ap (flat_map (below c.args.place.now.steps.items)) (one_walked c.args.scope.now c.args.place.now.out c.index-scope-scope.result c.if-place-scope.false c.index-scope-scope.is)
-        ∙ append-nil (below c.args.place.now.steps.items (occurrence c.index-scope-scope.result))))
+    ∙ sym (ap (flat_map (below c.args.place.now.steps.items)) (one_walked c.args.scope.now c.args.place.now.out c.index-scope-scope.result c.if-place-scope.false c.index-scope-scope.is)
+    ∙ append-nil (below c.args.place.now.steps.items (occurrence c.index-scope-scope.result))))
     c.below.ensures.below
 
 pub returns-clause-message : goal.returns-clause-message
