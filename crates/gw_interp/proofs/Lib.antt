@@ -18,3 +18,7 @@ pub mod Contents
 pub mod Made
 pub mod FieldSound
 pub mod Images
+mod Lending
+mod Sourcing
+mod Fills
+mod Filled

@@ -1,5 +1,5 @@
 -- A message with the tree of a profile that it conforms to, and its occurrences as they are lent.
-use Rattle.std.specs.Prelude.{ℕ, ◌<◌, List, length, Option, Some, None, slice_get}
+use Rattle.std.specs.Prelude.{◌≡◌, ℕ, ◌<◌, List, [], length, Option, Some, None, slice_get}
 use Rattle.std.specs.List.{AllByRecursion}
 use Rattle.gw_er7.specs.Message.{SegmentValue}
 use Rattle.gw_profile.specs.Seen.{Contents, profile_value}
@@ -30,9 +30,14 @@ abbrev pub IsBelow : ℕ → Option ℕ → Type 0
 IsBelow n None = Unit {0}
 IsBelow n (Some i) = i < n
 
--- its segments are those of the message
+abbrev pub IsAlone : Option ℕ → List Occurrences → Type 0
+IsAlone None each = Unit {0}
+IsAlone (Some i) each = each ≡ []
+
+-- its segments are those of the message, and a segment has no children
 pub record IsLent (o : OccValue) : Type 0 where
   pub number : IsBelow (length o.message) o.number
+  pub alone : IsAlone o.number o.each
   pub each : AllByRecursion (λ i. i < length o.message) (flatten (tree_of o.each))
 
 -- the segment that an occurrence is, none for a group

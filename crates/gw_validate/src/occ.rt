@@ -70,7 +70,7 @@ impl<'a> Occ<'a> {
     ghost use Rattle.gw_validate.specs.Trees.{flatten};
     ghost use Rattle.gw_validate.specs.Occurring.{tree_of};
     ghost use Rattle.gw_validate.specs.Viewing.{count_at, occurrence_at, occurrence_of};
-    ghost use Rattle.gw_validate.specs.Fitting.{segment_of};
+    ghost use Rattle.gw_validate.specs.Fitting.{IsLent, segment_of};
 
     /// The occurrence of a group, or of the whole profile.
     pub(crate) fn of(message: &'a Message, each: &'a [Occurrences]) -> Occ<'a>
@@ -84,9 +84,21 @@ impl<'a> Occ<'a> {
         }
     }
 
+    /// The same occurrence, lent once more. It takes no memory.
+    pub fn again(&self) -> Occ<'a>
+        ensures { result ≡ self.now }
+    {
+        Occ {
+            message: self.message,
+            number: self.number,
+            each: self.each,
+        }
+    }
+
     /// How many children it has: as many as its node has, none for a segment. It takes no memory.
     pub fn children(&self) -> usize
-        ensures { result ≡ length self.now.each }
+        ensures count { result ≡ length self.now.each }
+        ensures lent { IsLent self.now }
     {
         self.each.len()
     }
@@ -113,7 +125,8 @@ impl<'a> Occ<'a> {
 
     /// The segment, None for a group. It takes no memory.
     pub fn segment(&self) -> Option<Segment<'a>>
-        ensures { result ≡ segment_of self.now }
+        ensures segment { result ≡ segment_of self.now }
+        ensures lent { IsLent self.now }
     {
         let number = self.number?;
         Some(self.message.segment(number))

@@ -14,6 +14,7 @@ invariant_of-result c =
     let lt : c.args.k < length c.in-Groups.found.items = omega (arith, c.requires.k, count_groups c.args.occurrences.now c.in-Groups.found c.in-Groups.is) in
     record {
       number = tt;
+      alone = tt;
       each = group_within (λ i. i < length c.args.message.now) c.args.occurrences.now c.in-Groups.found c.args.k c.index-in-Groups.result.now c.deref.result.now c.in-Groups.is lt c.index-in-Groups.ensures c.deref.ensures.value c.requires.within;
     }
 

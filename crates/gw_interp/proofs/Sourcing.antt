@@ -1,0 +1,98 @@
+-- The texts that are read at sources.
+use Rattle.std.proofs.Common.{◌≡◌, ◌⊎◌, inl, inr, ℕ, ◌+◌, ◌≤◌, ◌<◌, List, [], ◌∷◌, Option, Some, None, refl, sym, ap, ◌∙◌, arith, map, slice_get, subst}
+use Rattle.std.specs.Prelude.{unwrap_or}
+use Rattle.std.proofs.lemmas.Bool.Decides.{leb_tells}
+use Rattle.std.specs.FinMap as texts
+use Rattle.std.specs.Ordering.{nat_cmp}
+use Rattle.std.specs.Cmp.Lexicographic.{slice_cmp}
+use Rattle.gw_er7.specs.Message.{Texts, text_of, SegmentValue}
+use Rattle.gw_er7.specs.Presence.{CompAt, RepAt, FieldAt, IsLast}
+use Rattle.gw_validate.specs.Fitting.{OccValue, numbered, segment_of}
+use Rattle.gw_validate.specs.Occurring.{tree_of}
+use Rattle.gw_validate.specs.Conforming as conforming
+use Rattle.gw_interp.specs.Occurrences.{Occurrence, texts_of_first}
+use Rattle.gw_interp.specs.Meaning.{InFirst}
+use Rattle.gw_interp.specs.Lent as lent
+use Rattle.gw_interp.specs.Lent.{occurrence, AreOf}
+use Rattle.gw_interp.proofs.Shaped.{text_there}
+use Rattle.gw_interp.specs.Sourced.{texts_of, IsFirstRep}
+
+-- ---- the first that is present
+
+nat_cases : (k n : ℕ) → k ≤ n + 1 → (k ≤ n) ⊎ (k ≡ n + 1)
+nat_cases k n h =
+    elim (leb_tells k n) [
+      | inl x ↦ inl x.1
+      | inr x ↦ inr (omega (arith, x.1, h))
+    ]
+
+pub record NoneUpTo (P : ℕ → Type 0) (n : ℕ) : Type 0 where
+  pub none : (k : ℕ) → k ≤ n → P k → ⊥
+
+module _ (m : Texts) (field : ℕ) where
+  pub none_yet : (last : ℕ) → IsLast (RepAt m field) last → NoneUpTo (RepAt m field) 0
+  none_yet last is = record { none = λ k le p. let w = is.within k p in absurd (omega (arith, le, w.0)) }
+
+  pub none_more : (n comp : ℕ) → IsLast (CompAt m field (n + 1)) comp → comp ≤ 0 → NoneUpTo (RepAt m field) n → NoneUpTo (RepAt m field) (n + 1)
+  none_more n comp is le so = record { none = go }
+    where
+      absent : RepAt m field (n + 1) → ⊥
+      absent p = let w = is.within p.0 p.1 in absurd (omega (arith, le, w.0, w.1))
+
+      go : (k : ℕ) → k ≤ n + 1 → RepAt m field k → ⊥
+      go k h p = by (nat_cases k n h)
+        where
+          by : (k ≤ n) ⊎ (k ≡ n + 1) → ⊥
+          by (inl less) = so.none k less p
+          by (inr same) = absent (subst (RepAt m field) same p)
+
+  pub first_there : (n comp : ℕ) → IsLast (CompAt m field (n + 1)) comp → 0 < comp → NoneUpTo (RepAt m field) n → IsFirstRep m field (Some (n + 1))
+  first_there n comp is lt so =
+      record {
+        holds = (comp, is.there lt);
+        none_before = λ k less p. so.none k (omega (arith, less)) p;
+      }
+
+  pub none_there : (n last : ℕ) → IsLast (RepAt m field) last → last ≤ n → NoneUpTo (RepAt m field) n → IsFirstRep m field None
+  none_there n last is le so = λ p. so.none p.0 (let w = is.within p.0 p.1 in omega (arith, le, w.1)) p.1
+
+-- ---- the segment of the first occurrence
+
+numbered_texts : (m : List SegmentValue) (i : ℕ) → texts_of (slice_get m i) ≡ (conforming.segment_at m i).at
+numbered_texts m i = by (slice_get m i)
+  where
+    by : (o : Option SegmentValue) → texts_of o ≡ (unwrap_or o (record { name = 0 ∷ 0 ∷ 0 ∷ []; at = texts.empty })).at
+    by None = refl
+    by (Some s) = refl
+
+first_is : (m : List SegmentValue) (o : OccValue) (more : List Occurrence) → texts_of (numbered m o.number) ≡ texts_of_first m (occurrence o ∷ more)
+first_is m o more = by o.number
+  where
+    by : (n : Option ℕ) → texts_of (numbered m n) ≡ texts_of_first m (lent.numbered n (tree_of o.each) ∷ more)
+    by None = refl
+    by (Some i) = numbered_texts m i
+
+pub no_first : (m : List SegmentValue) (found : List OccValue) (os : List Occurrence) → slice_get found 0 ≡ None → map occurrence found ≡ os → texts_of None ≡ texts_of_first m os
+no_first m [] os e same = ap (texts_of_first m) same
+no_first m (o ∷ found) os e same = absurd (cc)
+
+pub some_first : (m : List SegmentValue) (found : List OccValue) (o : OccValue) (os : List Occurrence) → slice_get found 0 ≡ Some o → map occurrence found ≡ os → AreOf m found → texts_of (segment_of o) ≡ texts_of_first m os
+some_first m [] o os e same a = absurd (cc)
+some_first m (x ∷ found) o os e same a =
+    let is : x ≡ o = cc in
+    ap (λ (p : OccValue). texts_of (segment_of p)) (sym is) ∙ ap (λ l. texts_of (numbered l x.number)) a.0
+    ∙ first_is m x (map occurrence found) ∙ ap (texts_of_first m) same
+
+-- ---- the text of the first repetition
+
+pub in_none : (field comp sub : ℕ) → InFirst (texts_of None) field comp sub []
+in_none field comp sub = inr ((λ p. empty_text p), refl)
+  where
+    empty_text : FieldAt texts.empty field → ⊥
+    empty_text p = absurd (text_there (text_of texts.empty field p.0 p.1.0 p.1.1.0) p.1.1.1 (ap (λ o. unwrap_or o []) (texts.get-empty (slice_cmp nat_cmp) (field ∷ p.0 ∷ p.1.0 ∷ p.1.1.0 ∷ []))))
+
+pub in_absent : (m : Texts) (field comp sub : ℕ) → IsFirstRep m field None → InFirst m field comp sub []
+in_absent m field comp sub none = inr (none, refl)
+
+pub in_some : (m : Texts) (field comp sub rep : ℕ) (text : List ℕ) → IsFirstRep m field (Some rep) → text ≡ text_of m field rep comp sub → InFirst m field comp sub text
+in_some m field comp sub rep text is same = inl (rep, is, same)

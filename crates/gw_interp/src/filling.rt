@@ -1,0 +1,66 @@
+//! Leaves put at a repetition of a field.
+ghost use Rattle.std.specs.Prelude.{◌≡◌, ◌<◌, length, None, OnOk, map};
+ghost use Rattle.std.specs.FinMap as texts;
+ghost use Rattle.gw_check.specs.Seen.{at_leaf};
+ghost use Rattle.gw_interp.specs.Lent.{AreOf};
+ghost use Rattle.gw_interp.specs.Putting.{last_name, last_texts};
+ghost use Rattle.gw_interp.specs.Filling.{message_of, read_by, key_of, MayHold, IsHeld, MayFill, AreFilled};
+
+use crate::lookup::leaf_text;
+use crate::putting::put_text;
+use crate::reading::Reading;
+use gw_check::At;
+use gw_er7::{Builder, Place};
+use gw_maplang::Map;
+use std::alloc::{AllocError, Global};
+
+// Puts the text of a leaf at its place.
+fn put_leaf<'a>(
+    alloc: Global,
+    rows: &'a Map,
+    reading: &Reading<'_, 'a>,
+    builder: &mut Builder,
+    leaf: &'a At,
+    field: usize,
+    rep: usize,
+) -> Result<(), AllocError>
+    requires of { AreOf (message_of reading.now.scope.now) reading.now.scope.now }
+    requires begun { 0 < length builder.old }
+    requires free { texts.get (last_texts builder.old) (key_of field rep (at_leaf rows.now.tables leaf.now)) ≡ None }
+    requires holds { MayHold (read_by reading.now) field rep (last_name builder.old) (at_leaf rows.now.tables leaf.now) }
+    ensures { OnOk result (IsHeld (read_by reading.now) field rep (at_leaf rows.now.tables leaf.now) builder.old builder.new) }
+{
+    match leaf_text(alloc, rows, reading, &leaf.leaf)? {
+        None => Ok(()),
+        Some(text) => {
+            let place = Place {
+                field,
+                rep,
+                comp: leaf.place.comp as usize,
+                sub: leaf.place.sub as usize,
+            };
+            put_text(builder, place, text)
+        }
+    }
+}
+
+/// Puts the texts of leaves at a repetition of a field of the last segment.
+pub(crate) fn put_leaves<'a>(
+    alloc: Global,
+    rows: &'a Map,
+    reading: &Reading<'_, 'a>,
+    builder: &mut Builder,
+    leaves: &'a [At],
+    field: usize,
+    rep: usize,
+) -> Result<(), AllocError>
+    requires of { AreOf (message_of reading.now.scope.now) reading.now.scope.now }
+    requires fill { MayFill (read_by reading.now) field rep (map (at_leaf rows.now.tables) leaves.now) builder.old }
+    ensures { OnOk result (AreFilled (read_by reading.now) field rep (map (at_leaf rows.now.tables) leaves.now) builder.old builder.new) }
+{
+    let [first, rest @ ..] = leaves else {
+        return Ok(());
+    };
+    put_leaf(alloc, rows, reading, builder, first, field, rep)?;
+    put_leaves(alloc, rows, reading, builder, rest, field, rep)
+}

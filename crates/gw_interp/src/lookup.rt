@@ -1,0 +1,65 @@
+//! The texts of leaves.
+ghost use Rattle.std.specs.Prelude.{◌≡◌, List, unwrap_or, IfOk};
+ghost use Rattle.gw_er7.specs.Message.{SegmentValue};
+ghost use Rattle.gw_maplang.specs.Shapes.{table_of};
+ghost use Rattle.gw_maplang.specs.Seen.{now};
+ghost use Rattle.gw_check.specs.Naming.{no_rows};
+ghost use Rattle.gw_check.specs.Leaves.{given};
+ghost use Rattle.gw_check.specs.Seen.{leaf as seen_leaf};
+ghost use Rattle.gw_validate.specs.Breaches.{is_null};
+ghost use Rattle.gw_interp.specs.Lent.{AreOf};
+ghost use Rattle.gw_interp.specs.Meaning.{look_up};
+ghost use Rattle.gw_interp.specs.Sourced.{walks, LeafGives};
+
+use crate::reading::{Reading, source_text};
+use gw_check::Leaf;
+use gw_maplang::{Map, Table};
+use std::alloc::{AllocError, Global};
+
+fn is_null(text: &[u8]) -> bool
+    ensures { result ≡ is_null text.now }
+{
+    text == b"\"\"".as_slice()
+}
+
+// What the rows of a table give for a text.
+fn given<'a>(table: &'a Table, text: &[u8]) -> Option<&'a [u8]>
+    ensures { now result ≡ given table.now text.now }
+{
+    match table.second(text) {
+        None => table.other(),
+        Some(second) => Some(second),
+    }
+}
+
+// What the table of this name gives for a text: an absent one stays absent, and "" stays "".
+fn look_up<'a>(map: &'a Map, name: &[u8], text: &'a [u8]) -> Option<&'a [u8]>
+    ensures { now result ≡ look_up (unwrap_or (table_of name.now map.now.tables) no_rows) text.now }
+{
+    if text.is_empty() || is_null(text) {
+        return Some(text);
+    }
+    match map.table(name) {
+        None => None,
+        Some(table) => given(table, text),
+    }
+}
+
+/// The text of a leaf, empty where it is absent; none where the rows of its table give nothing for what is read.
+pub(crate) fn leaf_text<'a>(
+    alloc: Global,
+    map: &'a Map,
+    reading: &Reading<'_, 'a>,
+    leaf: &'a Leaf,
+) -> Result<Option<&'a [u8]>, AllocError>
+    ensures { IfOk result (λ text. (m : List SegmentValue) → AreOf m reading.now.scope.now → LeafGives (walks m reading.now) (seen_leaf map.now.tables leaf.now) (now text)) }
+{
+    match leaf {
+        Leaf::Const(text) => Ok(Some(text.as_slice())),
+        Leaf::Copied(source) => Ok(Some(source_text(alloc, reading, source)?)),
+        Leaf::LookedUp(name, source) => {
+            let from = source_text(alloc, reading, source)?;
+            Ok(look_up(map, name, from))
+        }
+    }
+}

@@ -1,0 +1,110 @@
+//! The texts at the sources of a map.
+ghost use Rattle.std.specs.Prelude.{◌≡◌, List, IfOk};
+ghost use Rattle.gw_er7.specs.Message.{SegmentValue, text_of};
+ghost use Rattle.gw_check.specs.Seen.{place as seen_place, source as seen_source};
+ghost use Rattle.gw_interp.specs.Occurrences.{texts_at};
+ghost use Rattle.gw_interp.specs.Lent.{scope as walked, AreOf};
+ghost use Rattle.gw_interp.specs.Meaning.{InFirst, SourceMeans};
+ghost use Rattle.gw_interp.specs.Sourced.{texts_of, IsFirstRep, current_texts, walks};
+
+use crate::places::at_place;
+use gw_check::{Place, Source};
+use gw_er7::Segment;
+use gw_maplang::LeafPlace;
+use gw_validate::Occ;
+use std::alloc::{AllocError, Global};
+
+/// A repetition of a field.
+#[derive(Drop)]
+pub(crate) struct Repetition<'a> {
+    pub(crate) segment: Segment<'a>,
+    pub(crate) field: usize,
+    pub(crate) rep: usize,
+}
+
+/// What is read: the occurrences that are walked, the innermost last, and the repetition that is walked.
+#[derive(Drop)]
+pub(crate) struct Reading<'s, 'a> {
+    pub(crate) scope: &'s [Occ<'a>],
+    pub(crate) current: Option<Repetition<'a>>,
+}
+
+/// The segment at a place, where one is there.
+pub(crate) fn segment_at<'a>(
+    alloc: Global,
+    scope: &[Occ<'a>],
+    place: &Place,
+) -> Result<Option<Segment<'a>>, AllocError>
+    ensures { IfOk result (λ found. (m : List SegmentValue) → AreOf m scope.now → texts_of found ≡ texts_at m (walked scope.now) (seen_place place.now)) }
+{
+    let found = at_place(alloc, scope, place)?;
+    match found.first() {
+        None => Ok(None),
+        Some(first) => Ok(first.segment()),
+    }
+}
+
+/// The first repetition of a field that is present.
+pub(crate) fn first_rep(segment: &Segment<'_>, field: usize) -> Option<usize>
+    ensures { IsFirstRep segment.now.at field result }
+{
+    let last = segment.reps(field);
+    for before in 0..last {
+        if segment.comps(field, before + 1) > 0 {
+            return Some(before + 1);
+        }
+    }
+    None
+}
+
+// The text of a subcomponent of a repetition.
+fn text_at<'a>(segment: &Segment<'a>, field: usize, rep: usize, at: LeafPlace) -> &'a [u8]
+    ensures { result.now ≡ text_of segment.now.at field rep at.comp at.sub }
+{
+    segment.text(gw_er7::Place {
+        field,
+        rep,
+        comp: at.comp as usize,
+        sub: at.sub as usize,
+    })
+}
+
+// The text of a subcomponent in the first present repetition of a field, empty where there is none.
+fn first_text<'a>(segment: &Option<Segment<'a>>, field: u32, at: LeafPlace) -> &'a [u8]
+    ensures { InFirst (texts_of segment.now) field at.comp at.sub result.now }
+{
+    let Some(segment) = segment else {
+        return &[];
+    };
+    let Some(rep) = first_rep(segment, field as usize) else {
+        return &[];
+    };
+    text_at(segment, field as usize, rep, at)
+}
+
+// The text of a subcomponent in the repetition that is walked.
+fn current_text<'a>(current: &Option<Repetition<'a>>, at: LeafPlace) -> &'a [u8]
+    ensures { result.now ≡ current_texts current.now at.comp at.sub }
+{
+    match current {
+        None => &[],
+        Some(repetition) => text_at(&repetition.segment, repetition.field, repetition.rep, at),
+    }
+}
+
+/// The text of a source, empty where it is absent.
+pub(crate) fn source_text<'a>(
+    alloc: Global,
+    reading: &Reading<'_, 'a>,
+    source: &Source,
+) -> Result<&'a [u8], AllocError>
+    ensures { IfOk result (λ text. (m : List SegmentValue) → AreOf m reading.now.scope.now → SourceMeans (walks m reading.now) (seen_source source.now) text.now) }
+{
+    match source {
+        Source::OfField(from, at) => {
+            let segment = segment_at(alloc, reading.scope, &from.place)?;
+            Ok(first_text(&segment, from.field, *at))
+        }
+        Source::OfCurrent(at) => Ok(current_text(&reading.current, *at)),
+    }
+}
