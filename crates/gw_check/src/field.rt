@@ -25,7 +25,7 @@ use gw_profile::{Card, FieldShape, Profile, Usage};
 
 // ---- how often the field comes
 
-fn is_expected(usage: Usage) -> bool
+pub(crate) fn is_expected(usage: Usage) -> bool
     ensures { result ≡ spec.is_expected usage }
 {
     match usage {

@@ -5,7 +5,7 @@ ghost use Rattle.gw_check.specs.Places as places;
 ghost use Rattle.gw_check.specs.Checking.{CountedNodes, NotesSegment, NotesItem, NotesItems};
 ghost use Rattle.gw_check.specs.Seen.{scope as walked, place as seen_place};
 
-use crate::element::{Element, child, nodes_of};
+use crate::element::{Element, child, nodes_of_child};
 use crate::failure::Failure;
 use crate::field::check_segment;
 use crate::level::{check_level, within};
@@ -21,16 +21,6 @@ pub(crate) struct Sides<'s, 't, 'm> {
     pub(crate) source: &'s Profile,
     pub(crate) target: &'t Profile,
     pub(crate) map: &'m Map,
-}
-
-/// The nodes within the node of this number.
-pub(crate) fn nodes_at(nodes: &[Node], number: usize) -> &[Node]
-    ensures { forest result.now ≡ places.nodes_of_child (forest nodes.now) number }
-{
-    match child(nodes, number) {
-        None => &[],
-        Some(element) => nodes_of(element),
-    }
 }
 
 /// The fields of the segment of this number.
@@ -101,7 +91,7 @@ fn check_item(
         Item::Segment(segment) => check_given(alloc, worst, sides, scope, nodes, segment),
         Item::Group(group) => {
             let inner = within(alloc, scope, &group.place)?;
-            let below = nodes_at(nodes, group.child);
+            let below = nodes_of_child(nodes, group.child);
             let worst = check_level(alloc, worst, &inner, group.line, below, &group.items)?;
             check_items(alloc, worst, sides, &inner, below, &group.items)
         }

@@ -14,10 +14,12 @@ ghost use Rattle.gw_maplang.specs.Shapes.{TableValue};
 
 use crate::element::Element;
 use crate::failure::{Failure, note};
+use crate::field::is_expected;
 use crate::interval::{Interval, never, once};
 use crate::items::{items_count, leading};
 use crate::place::find;
 use crate::resolved::{Item, Place};
+use crate::values::is_forbidden;
 use gw_profile::{Card, Node, Usage};
 use std::alloc::{AllocError, Global};
 
@@ -76,26 +78,6 @@ fn first_line(holder: u32, items: &[Item]) -> u32
         return holder;
     };
     line_of(item)
-}
-
-/// Forbidden.
-pub(crate) fn is_forbidden(usage: Usage) -> bool
-    ensures { result ≡ is_forbidden usage }
-{
-    match usage {
-        Usage::X => true,
-        _ => false,
-    }
-}
-
-/// Required, but it may be empty.
-pub(crate) fn is_expected(usage: Usage) -> bool
-    ensures { result ≡ is_expected usage }
-{
-    match usage {
-        Usage::RE => true,
-        _ => false,
-    }
 }
 
 fn is_too_often(usage: Usage, count: Interval, most: Option<u32>) -> bool

@@ -8,10 +8,10 @@ ghost use Rattle.gw_check.specs.Seen.{place as seen_place, reference, source, le
 ghost use Rattle.gw_maplang.specs.Shapes.{TableValue};
 ghost use Rattle.gw_check.specs.Resolved.{no_items};
 
-use crate::level::is_forbidden;
 use crate::resolved::{
     At, Item, Leaf, LeftOut, Making, Place, Reference, Rule, SegmentItem, Source,
 };
+use crate::values::is_forbidden;
 use gw_profile::{FieldShape, Node, Usage};
 use std::alloc::{AllocError, Global};
 

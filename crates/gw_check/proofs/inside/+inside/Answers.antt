@@ -30,10 +30,10 @@ check_item-returns-in_ok-worst-in-Group t c =
     let inner = scope c.deref-in-Group-2.result.now in
     where_ok _ _ c.check_items.result
     (λ new inside counted.
-    let below = subst CountedNodes (sym c.nodes_at-below.ensures) (counted_child (forest c.args.nodes.now) c.in-Group.group.child counted) in
-    group_noted c.args.sides.map.now.tables c.args.sides.source.now.tables c.args.sides.target.now.tables (scope c.args.scope.now) inner (forest c.args.nodes.now) (forest c.nodes_at-below.result.now) c.args.item.now c.in-Group.group c.deref-in-Group-3.result.now
-    c.args.worst c.in_ok-worst-in-Group.worst new c.in-Group.is c.deref-in-Group-3.ensures.value (ap scope c.deref-in-Group-2.ensures.value ∙ c.in_ok-inner-in-Group.ensures) c.nodes_at-below.ensures
-    (level_same c.deref.result.now c.deref-in-Group-2.result.now c.deref-in-Group.result.now c.deref-in-Group-3.result.now (c.deref.ensures.value ∙ sym c.deref-in-Group-2.ensures.value) (c.deref-in-Group.ensures.value ∙ sym c.deref-in-Group-3.ensures.value) c.in-Group.group.line (forest c.nodes_at-below.result.now) c.args.worst c.in_ok-worst-in-Group.worst (c.in_ok-worst-in-Group.ensures below)) (inside below))
+    let below = subst CountedNodes (sym c.nodes_of_child-below.ensures) (counted_child (forest c.args.nodes.now) c.in-Group.group.child counted) in
+    group_noted c.args.sides.map.now.tables c.args.sides.source.now.tables c.args.sides.target.now.tables (scope c.args.scope.now) inner (forest c.args.nodes.now) (forest c.nodes_of_child-below.result.now) c.args.item.now c.in-Group.group c.deref-in-Group-3.result.now
+    c.args.worst c.in_ok-worst-in-Group.worst new c.in-Group.is c.deref-in-Group-3.ensures.value (ap scope c.deref-in-Group-2.ensures.value ∙ c.in_ok-inner-in-Group.ensures) c.nodes_of_child-below.ensures
+    (level_same c.deref.result.now c.deref-in-Group-2.result.now c.deref-in-Group.result.now c.deref-in-Group-3.result.now (c.deref.ensures.value ∙ sym c.deref-in-Group-2.ensures.value) (c.deref-in-Group.ensures.value ∙ sym c.deref-in-Group-3.ensures.value) c.in-Group.group.line (forest c.nodes_of_child-below.result.now) c.args.worst c.in_ok-worst-in-Group.worst (c.in_ok-worst-in-Group.ensures below)) (inside below))
     c.check_items.ensures
 
 pub check_item-returns-in_ok-inner-in-Flat : goal.check_item-returns-in_ok-inner-in-Flat
