@@ -5,3 +5,4 @@ pub mod Lent
 pub mod Sourced
 pub mod Putting
 pub mod Filling
+pub mod Ready
