@@ -66,8 +66,8 @@ module _ (names : List (List ℕ)) (tables : List TableValue) (m : List SegmentV
       go (elements.a_group g inner) same l h = nothing_known (texts_of_first m os) (no_segment (elements.a_group g inner) os (λ i k. k) h.each)
       go (elements.the_whole inner) same l h = nothing_known (texts_of_first m os) (no_segment (elements.the_whole inner) os (λ i k. k) h.each)
 
-pub walked_known : (from to : List TableValue) (from_names names : List (List ℕ)) (m : List SegmentValue) (es : List Element) (os : List Occurrence) → Scoped from to from_names names m es os → IsWalked from_names (sources from es) (walked m os)
-walked_known from to from_names names m es os h =
+pub walked_known : (from : List TableValue) (from_names : List (List ℕ)) (m : List SegmentValue) (es : List Element) (os : List Occurrence) → Scoped from from_names m es os → IsWalked from_names (sources from es) (walked m os)
+walked_known from from_names m es os h =
     record {
       places = λ place. found_known from_names from m (found es place) (at_place os place) (lawful_found from_names es place h.lawful) (place_finds from m es os place h.walks);
       current = tt;

@@ -25,7 +25,7 @@ use Rattle.gw_check.specs.Levels.{sources, its, beyond, first_line, has_no_item,
 use Rattle.gw_check.specs.Placed.{is_segment, is_group, all_for, are_placed}
 use Rattle.gw_check.specs.Lawful.{LawfulRules, LawfulItems}
 use Rattle.gw_interp.specs.Occurrences.{Occurrence, at_place}
-use Rattle.gw_interp.specs.Meaning.{IsImage, IsOne, ForEach, Segments, walked, Give}
+use Rattle.gw_interp.specs.Meaning.{Walked, IsOne, ForEach, walked, SegmentsBy, GiveBy}
 use Rattle.gw_interp.proofs.Walks.{IsOccurrence, InScope}
 use Rattle.gw_interp.proofs.Paths.{Several, Finds, place_finds}
 use Rattle.gw_interp.proofs.Parts.{Given, given_none, given_one, given_sum, for_each, for_each_given}
@@ -98,24 +98,29 @@ nodes_there (segment s rest) (suc k) e h = nodes_there rest k e h
 nodes_there (group g inner rest) zero e h = let same : a_group g inner ≡ e = cc in ap nodes_of same
 nodes_there (group g inner rest) (suc k) e h = nodes_there rest k e h
 
-module _ (from to : List TableValue) (from_names names : List (List ℕ)) (m : List SegmentValue) where
+module _ (from : List TableValue) (from_names : List (List ℕ)) (m : List SegmentValue) where
   -- what is walked are occurrences of elements that keep what profiles keep
   pub record Scoped (es : List Element) (os : List Occurrence) : Type 0 where
     pub walks : InScope from m es os
     pub lawful : AllByRecursion (LawfulElement from_names) es
 
-  scoped_within : (es : List Element) (os : List Occurrence) (place : Place) (o : Occurrence) → Scoped es os → IsOccurrence from m (element_of (found es place)) o → Scoped (within es place) (o ∷ os)
+  pub scoped_within : (es : List Element) (os : List Occurrence) (place : Place) (o : Occurrence) → Scoped es os → IsOccurrence from m (element_of (found es place)) o → Scoped (within es place) (o ∷ os)
   scoped_within es os place o h is = record { walks = (is, h.walks); lawful = (lawful_found from_names es place h.lawful, h.lawful) }
 
-  -- a segment that rules give meets the shape, where none of the rules on fields fails
+  element_found : (f : Option Found) (os : List Occurrence) → Finds from m f os → Several from m (element_of f) (count_of f) os
+  element_found None os h = subst (Several from m (the_whole nothing) never) (sym h) (record { enough = omega arith; few = omega arith; each = tt })
+  element_found (Some f) os h = h
+
+  pub walked_there : (es : List Element) (os : List Occurrence) (place : Place) → Scoped es os → Several from m (element_of (found es place)) (count_at es place) (at_place os place)
+  walked_there es os place h = element_found (found es place) (at_place os place) (place_finds from m es os place h.walks)
+
+module _ (from to : List TableValue) (from_names names : List (List ℕ)) (m : List SegmentValue) (Image : Walked → List ℕ → List Rule → SegmentValue → Type 0) (meets : List FieldValue → SegmentValue → Type 0) where
+  -- a segment that rules give has the name and meets the shape, where none of the rules on fields fails
   abbrev pub FieldsSound : Type 0
   FieldsSound =
       (es : List Element) (os : List Occurrence) (holder low : ℕ) (name : List ℕ) (rules : List Rule) (fields : List FieldValue) (s : SegmentValue) →
-      Scoped es os → Rising low 999 (field_numbers fields) → AllByRecursion (LawfulField names) fields → LawfulRules name rules →
-      segment_failures (sources from es) to holder rules fields ≡ [] → IsImage (walked m os) name rules s → Meets to fields s.at
-
-  abbrev pub meets : List FieldValue → SegmentValue → Type 0
-  meets shape s = Meets to shape s.at
+      Scoped from from_names m es os → Rising low 999 (field_numbers fields) → AllByRecursion (LawfulField names) fields → LawfulRules name rules →
+      segment_failures (sources from es) to holder rules fields ≡ [] → Image (walked m os) name rules s → (s.name ≡ name) × meets fields s
 
   -- a list is one occurrence of the node
   abbrev pub Part : Option Element → List SegmentValue → Type 0
@@ -128,8 +133,8 @@ module _ (from to : List TableValue) (from_names names : List (List ℕ)) (m : L
   abbrev pub LevelSound : Items → Type 0
   LevelSound items =
       (es : List Element) (os : List Occurrence) (holder : ℕ) (nodes : Forest) (list : List SegmentValue) →
-      Scoped es os → LawfulNodes names nodes → LawfulItems nodes items → are_placed nodes 0 items ≡ true →
-      level_failures es holder 0 nodes items ≡ [] → items_failures from to es nodes items ≡ [] → Give m os nodes items list →
+      Scoped from from_names m es os → LawfulNodes names nodes → LawfulItems nodes items → are_placed nodes 0 items ≡ true →
+      level_failures es holder 0 nodes items ≡ [] → items_failures from to es nodes items ≡ [] → GiveBy Image m os nodes items list →
       Seq (λ x. x.name) meets nodes list
 
   lawful_segment : (nodes : Forest) (j : ℕ) (s : shapes.SegmentValue) → LawfulNodes names nodes → child nodes j ≡ Some (a_segment s) → LawfulSegment names s
@@ -146,28 +151,19 @@ module _ (from to : List TableValue) (from_names names : List (List ℕ)) (m : L
   lawful_group (group x below rest) zero g inner l e = subst (LawfulNodes names) (cc) (record { segments = l.segments.0; groups = l.groups.1 })
   lawful_group (group x below rest) (suc j) g inner l e = lawful_group rest j g inner (record { segments = l.segments.1; groups = l.groups.2 }) e
 
-  -- ---- what is walked at a place
-
-  element_found : (f : Option Found) (os : List Occurrence) → Finds from m f os → Several from m (element_of f) (count_of f) os
-  element_found None os h = subst (Several from m (the_whole nothing) never) (sym h) (record { enough = omega arith; few = omega arith; each = tt })
-  element_found (Some f) os h = h
-
-  walked_there : (es : List Element) (os : List Occurrence) (place : Place) → Scoped es os → Several from m (element_of (found es place)) (count_at es place) (at_place os place)
-  walked_there es os place h = element_found (found es place) (at_place os place) (place_finds from m es os place h.walks)
-
   module _ (sound : FieldsSound) where
     -- a segment for the node of this number
-    one_segment : (es : List Element) (os : List Occurrence) (line j : ℕ) (nodes : Forest) (rules : List Rule) (list : List SegmentValue) → Scoped es os → LawfulNodes names nodes → LawfulRules (name_of (child nodes j)) rules → is_segment (child nodes j) ≡ true → segment_failures (sources from es) to line rules (fields_of (child nodes j)) ≡ [] → IsOne (IsImage (walked m os) (name_of (child nodes j)) rules) list → Part (child nodes j) list
+    one_segment : (es : List Element) (os : List Occurrence) (line j : ℕ) (nodes : Forest) (rules : List Rule) (list : List SegmentValue) → Scoped from from_names m es os → LawfulNodes names nodes → LawfulRules (name_of (child nodes j)) rules → is_segment (child nodes j) ≡ true → segment_failures (sources from es) to line rules (fields_of (child nodes j)) ≡ [] → IsOne (Image (walked m os) (name_of (child nodes j)) rules) list → Part (child nodes j) list
     one_segment es os line j nodes rules list h l r k f o = go (child nodes j) refl r k f o
       where
-        go : (c : Option Element) → child nodes j ≡ c → LawfulRules (name_of c) rules → is_segment c ≡ true → segment_failures (sources from es) to line rules (fields_of c) ≡ [] → IsOne (IsImage (walked m os) (name_of c) rules) list → Part c list
+        go : (c : Option Element) → child nodes j ≡ c → LawfulRules (name_of c) rules → is_segment c ≡ true → segment_failures (sources from es) to line rules (fields_of c) ≡ [] → IsOne (Image (walked m os) (name_of c) rules) list → Part c list
         go None e r k f o = absurd (cc)
         go (Some (a_group g inner)) e r k f o = absurd (cc)
         go (Some (the_whole inner)) e r k f o = absurd (cc)
         go (Some (a_segment s)) e r k f o =
             let lawful = lawful_segment nodes j s l e in
             subst (One (λ x. x.name) meets s.name s.fields) (sym o.list_is)
-            (o.holds.named, sound es os line (least_field s.name) s.name rules s.fields o.only h lawful.rising lawful.each r f o.holds)
+            (sound es os line (least_field s.name) s.name rules s.fields o.only h lawful.rising lawful.each r f o.holds)
 
     -- an occurrence of the group of this number
     one_group : (k : ℕ) (nodes : Forest) → LawfulNodes names nodes → is_group (child nodes k) ≡ true → (list : List SegmentValue) → (LawfulNodes names (nodes_of_child nodes k) → Seq (λ x. x.name) meets (nodes_of_child nodes k) list) → Part (child nodes k) list
@@ -182,16 +178,16 @@ module _ (from to : List TableValue) (from_names names : List (List ℕ)) (m : L
             subst (λ f. Seq (λ x. x.name) meets f list) there (seq (subst (LawfulNodes names) (sym there) (lawful_group nodes k g inner l same)))
 
     -- the segments of one item
-    segments_given : (es : List Element) (os : List Occurrence) (line j : ℕ) (place : Option Place) (nodes : Forest) (rules : List Rule) (list : List SegmentValue) → Scoped es os → LawfulNodes names nodes → LawfulRules (name_of (child nodes j)) rules → is_segment (child nodes j) ≡ true → segment_failures (sources from (within_if es place)) to line rules (fields_of (child nodes j)) ≡ [] → Segments m os (name_of (child nodes j)) rules place list → Given (Part (child nodes j)) (count_if es place) list
+    segments_given : (es : List Element) (os : List Occurrence) (line j : ℕ) (place : Option Place) (nodes : Forest) (rules : List Rule) (list : List SegmentValue) → Scoped from from_names m es os → LawfulNodes names nodes → LawfulRules (name_of (child nodes j)) rules → is_segment (child nodes j) ≡ true → segment_failures (sources from (within_if es place)) to line rules (fields_of (child nodes j)) ≡ [] → SegmentsBy Image m os (name_of (child nodes j)) rules place list → Given (Part (child nodes j)) (count_if es place) list
     segments_given es os line j None nodes rules list h l r k f o =
         given_one (Part (child nodes j)) list (one_segment es os line j nodes rules list h l r k f o)
     segments_given es os line j (Some place) nodes rules list h l r k f o =
         for_each (Part (child nodes j)) from m (element_of (found es place)) _
-        (λ x part is one. one_segment (within es place) (x ∷ os) line j nodes rules part (scoped_within es os place x h is) l r k f one)
-        (count_at es place) (at_place os place) list (walked_there es os place h) o
+        (λ x part is one. one_segment (within es place) (x ∷ os) line j nodes rules part (scoped_within from from_names m es os place x h is) l r k f one)
+        (count_at es place) (at_place os place) list (walked_there from from_names m es os place h) o
 
     -- the items of one node
-    pub items_given : (items : Items) → splits.EachGroup LevelSound items → (es : List Element) (os : List Occurrence) (j : ℕ) (nodes : Forest) (list : List SegmentValue) → Scoped es os → LawfulNodes names nodes → LawfulItems nodes items → all_for nodes j items ≡ true → items_failures from to es nodes items ≡ [] → Give m os nodes items list → Given (Part (child nodes j)) (items_count es items) list
+    pub items_given : (items : Items) → splits.EachGroup LevelSound items → (es : List Element) (os : List Occurrence) (j : ℕ) (nodes : Forest) (list : List SegmentValue) → Scoped from from_names m es os → LawfulNodes names nodes → LawfulItems nodes items → all_for nodes j items ≡ true → items_failures from to es nodes items ≡ [] → GiveBy Image m os nodes items list → Given (Part (child nodes j)) (items_count es items) list
     items_given no_items inner es os j nodes list h l li p f g = given_none (Part (child nodes j)) list g
     items_given (segment_item s rest) inner es os j nodes list h l li p f g =
         let t = three_true (s.child == j) (is_segment (child nodes j)) (all_for nodes j rest) p in
@@ -205,17 +201,17 @@ module _ (from to : List TableValue) (from_names names : List (List ℕ)) (m : L
         let same : x.child ≡ j = from_eq x.child j t.0 in
         let below : items_failures from to (within es x.place) (nodes_of_child nodes x.child) items ≡ [] = nil_right (level_failures (within es x.place) x.line 0 (nodes_of_child nodes x.child) items) _ (nil_left _ _ f) in
         let level : level_failures (within es x.place) x.line 0 (nodes_of_child nodes x.child) items ≡ [] = nil_left _ (items_failures from to (within es x.place) (nodes_of_child nodes x.child) items) (nil_left _ _ f) in
-        let part : (o : Occurrence) (list : List SegmentValue) → IsOccurrence from m (element_of (found es x.place)) o → Give m (o ∷ os) (nodes_of_child nodes x.child) items list → Part (child nodes x.child) list =
+        let part : (o : Occurrence) (list : List SegmentValue) → IsOccurrence from m (element_of (found es x.place)) o → GiveBy Image m (o ∷ os) (nodes_of_child nodes x.child) items list → Part (child nodes x.child) list =
         λ o list is give. one_group (x.child) nodes l (subst (λ k. is_group (child nodes k) ≡ true) (sym same) t.1) list
-        (λ lawful. inner.0 (within es x.place) (o ∷ os) x.line (nodes_of_child nodes x.child) list (scoped_within es os x.place o h is) lawful li.0 (subst (λ k. are_placed (nodes_of_child nodes k) 0 items ≡ true) (sym same) t.2) level below give) in
+        (λ lawful. inner.0 (within es x.place) (o ∷ os) x.line (nodes_of_child nodes x.child) list (scoped_within from from_names m es os x.place o h is) lawful li.0 (subst (λ k. are_placed (nodes_of_child nodes k) 0 items ≡ true) (sym same) t.2) level below give) in
         given_sum (Part (child nodes j)) (count_at es x.place) (items_count es rest) g.front g.back list g.joined
         (subst (λ k. Given (Part (child nodes k)) (count_at es x.place) g.front) same
-        (for_each (Part (child nodes x.child)) from m (element_of (found es x.place)) _ part (count_at es x.place) (at_place os x.place) g.front (walked_there es os x.place h) g.here))
+        (for_each (Part (child nodes x.child)) from m (element_of (found es x.place)) _ part (count_at es x.place) (at_place os x.place) g.front (walked_there from from_names m es os x.place h) g.here))
         (items_given rest inner.1 es os j nodes g.back h l li.1 t.3 (nil_right _ _ f) g.there)
     items_given (flat_item x items rest) inner es os j nodes list h l li p f g =
         let t = both_true (all_for nodes j items) (all_for nodes j rest) p in
         given_sum (Part (child nodes j)) (product (count_at es x.place) (items_count (within es x.place) items)) (items_count es rest) g.front g.back list g.joined
         (for_each_given (Part (child nodes j)) from m (element_of (found es x.place)) _ (items_count (within es x.place) items)
-        (λ o part is give. items_given items inner.0 (within es x.place) (o ∷ os) j nodes part (scoped_within es os x.place o h is) l li.0 t.0 (nil_left _ _ f) give)
-        (count_at es x.place) (at_place os x.place) g.front (walked_there es os x.place h) g.here)
+        (λ o part is give. items_given items inner.0 (within es x.place) (o ∷ os) j nodes part (scoped_within from from_names m es os x.place o h is) l li.0 t.0 (nil_left _ _ f) give)
+        (count_at es x.place) (at_place os x.place) g.front (walked_there from from_names m es os x.place h) g.here)
         (items_given rest inner.1 es os j nodes g.back h l li.1 t.1 (nil_right _ _ f) g.there)

@@ -6,6 +6,8 @@ pub mod LevelsSound
 pub mod Whole
 pub mod Known
 pub mod Trees
+pub mod Named
+pub mod Typed
 pub mod Sound
 pub mod Lists
 pub mod Shaped

@@ -7,12 +7,12 @@ use Rattle.gw_er7.specs.Message.{SegmentValue}
 use Rattle.gw_profile.specs.Shapes.{Forest, TableValue}
 use Rattle.gw_validate.specs.Cuts.{Cut}
 use Rattle.gw_check.specs.Places.{Element, child, nodes_of_child}
-use Rattle.gw_check.specs.Resolved.{Items, no_items, segment_item, group_item, flat_item, first_child}
+use Rattle.gw_check.specs.Resolved.{Rule, Items, no_items, segment_item, group_item, flat_item, first_child}
 use Rattle.gw_check.specs.Levels.{is_of, its, beyond, items_failures}
 use Rattle.gw_check.specs.Placed.{is_segment, is_group, follows, number_or, all_for, are_placed}
 use Rattle.gw_check.specs.Lawful.{LawfulItems}
 use Rattle.gw_interp.specs.Occurrences.{Occurrence}
-use Rattle.gw_interp.specs.Meaning.{Give}
+use Rattle.gw_interp.specs.Meaning.{Walked, GiveBy}
 
 -- ---- truth values
 
@@ -120,8 +120,8 @@ failures_join from to es nodes (flat_item f items rest) b h =
     let more = failures_join from to es nodes rest b (nil_right _ _ h) in (nil_both _ _ (nil_left _ _ h) more.0, more.1)
 
 -- what two lists of items give is a front and a back
-module _ (m : List SegmentValue) (os : List Occurrence) (target : Forest) where
-  pub give_join : (a b : Items) (list : List SegmentValue) → Give m os target (join a b) list → Cut (Give m os target a) (Give m os target b) list
+module _ (Image : Walked → List ℕ → List Rule → SegmentValue → Type 0) (m : List SegmentValue) (os : List Occurrence) (target : Forest) where
+  pub give_join : (a b : Items) (list : List SegmentValue) → GiveBy Image m os target (join a b) list → Cut (GiveBy Image m os target a) (GiveBy Image m os target b) list
   unfolding join
   give_join no_items b list h = record { front = []; back = list; joined = refl; here = refl; there = h }
   give_join (segment_item s rest) b list h =

@@ -7,7 +7,7 @@ use Rattle.gw_er7.specs.Message.{SegmentValue}
 use Rattle.gw_profile.specs.declared.shape.Usage.{Usage}
 use Rattle.gw_profile.specs.declared.shape.Usage.TheVariants.{R, RE, O, X}
 use Rattle.gw_profile.specs.declared.shape.Card.{Card}
-use Rattle.gw_profile.specs.Shapes.{Forest, TableValue, nothing, segment, group}
+use Rattle.gw_profile.specs.Shapes.{FieldValue, Forest, TableValue, nothing, segment, group}
 use Rattle.gw_profile.specs.Deterministic.{AtMost}
 use Rattle.gw_profile.specs.WellFormed.{Agrees}
 use Rattle.gw_validate.specs.Breaches.{is_forbidden}
@@ -15,7 +15,7 @@ use Rattle.gw_validate.specs.Cuts.{Cut, Many, Times}
 use Rattle.gw_validate.specs.Conforming.{One, Seq}
 use Rattle.gw_check.specs.Intervals.{Interval, is_never, is_within}
 use Rattle.gw_check.specs.Places.{Element, a_segment, a_group, child, nodes_of_child}
-use Rattle.gw_check.specs.Resolved.{Items, no_items, segment_item, group_item, flat_item, first_child}
+use Rattle.gw_check.specs.Resolved.{Rule, Items, no_items, segment_item, group_item, flat_item, first_child}
 use Rattle.gw_check.specs.Counts.{items_count}
 use Rattle.gw_check.specs.Failures.{fails}
 use Rattle.gw_check.specs.Fields.{is_expected}
@@ -23,11 +23,11 @@ use Rattle.gw_check.specs.Levels.{its, beyond, first_line, has_no_item, node_fai
 use Rattle.gw_check.specs.Placed.{is_segment, is_group, follows, number_or, all_for, are_placed}
 use Rattle.gw_check.specs.Lawful.{LawfulItems}
 use Rattle.gw_interp.specs.Occurrences.{Occurrence}
-use Rattle.gw_interp.specs.Meaning.{Give}
+use Rattle.gw_interp.specs.Meaning.{Walked, GiveBy}
 use Rattle.gw_interp.proofs.Parts.{Given}
 use Rattle.gw_interp.proofs.Splits as splits
 use Rattle.gw_interp.proofs.Splits.{both_true, three_true, four_true, from_nat_le, nil_left, nil_right, join, joined, lawful_join, groups_join, failures_join, give_join, placed_its, placed_beyond}
-use Rattle.gw_interp.proofs.LevelsSound.{none_broken, from_eq, LawfulNodes, Scoped, FieldsSound, meets, Part, LevelSound, items_given}
+use Rattle.gw_interp.proofs.LevelsSound.{none_broken, from_eq, LawfulNodes, Scoped, FieldsSound, Part, LevelSound, items_given}
 
 -- ---- counts
 
@@ -127,54 +127,54 @@ next nodes j i {c} h = let same : j + suc i ≡ suc j + i = omega arith in subst
 from_zero : (nodes : Forest) (i : ℕ) → child nodes (0 + i) ≡ child nodes i
 from_zero nodes i = let same : 0 + i ≡ i = omega arith in ap (child nodes) same
 
-module _ (from to : List TableValue) (from_names names : List (List ℕ)) (m : List SegmentValue) (sound : FieldsSound from to from_names names m) where
+module _ (from to : List TableValue) (from_names names : List (List ℕ)) (m : List SegmentValue) (Image : Walked → List ℕ → List Rule → SegmentValue → Type 0) (meets : List FieldValue → SegmentValue → Type 0) (sound : FieldsSound from to from_names names m Image meets) where
   -- from node j on
-  level_from : (f : Forest) (j : ℕ) (items : Items) → splits.EachGroup (LevelSound from to from_names names m) items → (es : List Element) (os : List Occurrence) (holder : ℕ) (nodes : Forest) (list : List SegmentValue) →
-      Scoped from to from_names names m es os → LawfulNodes names nodes → LawfulNodes names f → ((i : ℕ) → child nodes (j + i) ≡ child f i) → LawfulItems nodes items → are_placed nodes j items ≡ true →
-      level_failures es holder j f items ≡ [] → items_failures from to es nodes items ≡ [] → Give m os nodes items list → Seq (λ x. x.name) (meets from to from_names names m) f list
+  level_from : (f : Forest) (j : ℕ) (items : Items) → splits.EachGroup (LevelSound from to from_names names m Image meets) items → (es : List Element) (os : List Occurrence) (holder : ℕ) (nodes : Forest) (list : List SegmentValue) →
+      Scoped from from_names m es os → LawfulNodes names nodes → LawfulNodes names f → ((i : ℕ) → child nodes (j + i) ≡ child f i) → LawfulItems nodes items → are_placed nodes j items ≡ true →
+      level_failures es holder j f items ≡ [] → items_failures from to es nodes items ≡ [] → GiveBy Image m os nodes items list → Seq (λ x. x.name) meets f list
   level_from nothing j items inner es os holder nodes list h l lf rest_is li p lev f g =
-      let none = none_left nodes j items rest_is p in subst (λ i. Give m os nodes i list) none g
+      let none = none_left nodes j items rest_is p in subst (λ i. GiveBy Image m os nodes i list) none g
   level_from (segment s rest) j items inner es os holder nodes list h l lf rest_is li p lev f g =
       let whole = joined j items in
-      let cut = give_join m os nodes (its j items) (beyond j items) list (subst (λ i. Give m os nodes i list) (sym whole) g) in
+      let cut = give_join Image m os nodes (its j items) (beyond j items) list (subst (λ i. GiveBy Image m os nodes i list) (sym whole) g) in
       let laws = lawful_join nodes (its j items) (beyond j items) (subst (LawfulItems nodes) (sym whole) li) in
-      let groups = groups_join _ (its j items) (beyond j items) (subst (splits.EachGroup (LevelSound from to from_names names m)) (sym whole) inner) in
+      let groups = groups_join _ (its j items) (beyond j items) (subst (splits.EachGroup (LevelSound from to from_names names m Image meets)) (sym whole) inner) in
       let fails = failures_join from to es nodes (its j items) (beyond j items) (subst (λ i. items_failures from to es nodes i ≡ []) (sym whole) f) in
-      let given = items_given from to from_names names m sound (its j items) groups.0 es os j nodes cut.front h l laws.0 (placed_its nodes j items p) fails.0 cut.here in
+      let given = items_given from to from_names names m Image meets sound (its j items) groups.0 es os j nodes cut.front h l laws.0 (placed_its nodes j items p) fails.0 cut.here in
       let here : child nodes j ≡ Some (a_segment s) = at_first nodes j (a_segment s) (rest_is 0) in
       record {
         front = cut.front;
         back = cut.back;
         joined = cut.joined;
-        here = times_given _ s.card (items_count es (its j items)) cut.front holder (its j items) s.usage lf.segments.0.agrees (nil_left _ _ lev) (subst (λ c. Given (Part from to from_names names m c) (items_count es (its j items)) cut.front) here given);
+        here = times_given _ s.card (items_count es (its j items)) cut.front holder (its j items) s.usage lf.segments.0.agrees (nil_left _ _ lev) (subst (λ c. Given (Part from to from_names names m Image meets c) (items_count es (its j items)) cut.front) here given);
         there = level_from rest (suc j) (beyond j items) groups.1 es os holder nodes cut.back h l (record { segments = lf.segments.1; groups = lf.groups }) (λ i. next nodes j i (rest_is (suc i))) laws.1 (placed_beyond nodes j items p) (nil_right _ _ lev) fails.1 cut.there;
       }
   level_from (group x below rest) j items inner es os holder nodes list h l lf rest_is li p lev f g =
       let whole = joined j items in
-      let cut = give_join m os nodes (its j items) (beyond j items) list (subst (λ i. Give m os nodes i list) (sym whole) g) in
+      let cut = give_join Image m os nodes (its j items) (beyond j items) list (subst (λ i. GiveBy Image m os nodes i list) (sym whole) g) in
       let laws = lawful_join nodes (its j items) (beyond j items) (subst (LawfulItems nodes) (sym whole) li) in
-      let groups = groups_join _ (its j items) (beyond j items) (subst (splits.EachGroup (LevelSound from to from_names names m)) (sym whole) inner) in
+      let groups = groups_join _ (its j items) (beyond j items) (subst (splits.EachGroup (LevelSound from to from_names names m Image meets)) (sym whole) inner) in
       let fails = failures_join from to es nodes (its j items) (beyond j items) (subst (λ i. items_failures from to es nodes i ≡ []) (sym whole) f) in
-      let given = items_given from to from_names names m sound (its j items) groups.0 es os j nodes cut.front h l laws.0 (placed_its nodes j items p) fails.0 cut.here in
+      let given = items_given from to from_names names m Image meets sound (its j items) groups.0 es os j nodes cut.front h l laws.0 (placed_its nodes j items p) fails.0 cut.here in
       let here : child nodes j ≡ Some (a_group x below) = at_first nodes j (a_group x below) (rest_is 0) in
       record {
         front = cut.front;
         back = cut.back;
         joined = cut.joined;
-        here = times_given _ x.card (items_count es (its j items)) cut.front holder (its j items) x.usage lf.groups.0.agrees (nil_left _ _ lev) (subst (λ c. Given (Part from to from_names names m c) (items_count es (its j items)) cut.front) here given);
+        here = times_given _ x.card (items_count es (its j items)) cut.front holder (its j items) x.usage lf.groups.0.agrees (nil_left _ _ lev) (subst (λ c. Given (Part from to from_names names m Image meets c) (items_count es (its j items)) cut.front) here given);
         there = level_from rest (suc j) (beyond j items) groups.1 es os holder nodes cut.back h l (record { segments = lf.segments.1; groups = lf.groups.2 }) (λ i. next nodes j i (rest_is (suc i))) laws.1 (placed_beyond nodes j items p) (nil_right _ _ lev) fails.1 cut.there;
       }
 
-  level_sound : (items : Items) → splits.EachGroup (LevelSound from to from_names names m) items → LevelSound from to from_names names m items
+  level_sound : (items : Items) → splits.EachGroup (LevelSound from to from_names names m Image meets) items → LevelSound from to from_names names m Image meets items
   level_sound items inner es os holder nodes list h l li p lev f g =
       level_from nodes 0 items inner es os holder nodes list h l l (λ i. from_zero nodes i) li p lev f g
 
   -- whatever the items
-  groups_sound : (items : Items) → splits.EachGroup (LevelSound from to from_names names m) items
+  groups_sound : (items : Items) → splits.EachGroup (LevelSound from to from_names names m Image meets) items
   groups_sound no_items = tt
   groups_sound (segment_item s rest) = groups_sound rest
   groups_sound (group_item x items rest) = (level_sound items (groups_sound items), groups_sound rest)
   groups_sound (flat_item x items rest) = (groups_sound items, groups_sound rest)
 
-  pub items_sound : (items : Items) → LevelSound from to from_names names m items
+  pub items_sound : (items : Items) → LevelSound from to from_names names m Image meets items
   items_sound items = level_sound items (groups_sound items)

@@ -92,20 +92,29 @@ pub record IsOne (P : SegmentValue → Type 0) (list : List SegmentValue) : Type
 abbrev pub walked : List SegmentValue → List Occurrence → Walked
 walked m scope = record { message = m; scope = scope; current = λ comp sub. [] }
 
--- a segment for each occurrence at the place, or one where no place is said
-abbrev pub Segments : List SegmentValue → List Occurrence → List ℕ → List Rule → Option Place → List SegmentValue → Type 0
-Segments m scope name rules None list = IsOne (IsImage (walked m scope) name rules) list
-Segments m scope name rules (Some place) list = ForEach (λ o. IsOne (IsImage (walked m (o ∷ scope)) name rules)) (at_place scope place) list
+-- Image says which segments the rules of a name can give
+module _ (Image : Walked → List ℕ → List Rule → SegmentValue → Type 0) where
+  -- a segment for each occurrence at the place, or one where no place is said
+  abbrev pub SegmentsBy : List SegmentValue → List Occurrence → List ℕ → List Rule → Option Place → List SegmentValue → Type 0
+  SegmentsBy m scope name rules None list = IsOne (Image (walked m scope) name rules) list
+  SegmentsBy m scope name rules (Some place) list = ForEach (λ o. IsOne (Image (walked m (o ∷ scope)) name rules)) (at_place scope place) list
 
--- what the items give, one after the other, where the target's nodes of their level are these
+  -- what the items give, one after the other, where the target's nodes of their level are these
+  abbrev pub GiveBy : List SegmentValue → List Occurrence → Forest → Items → List SegmentValue → Type 0
+  GiveBy m scope target no_items list = list ≡ []
+  GiveBy m scope target (segment_item s rest) list =
+      Cut (SegmentsBy m scope (name_of (child target s.child)) s.rules s.place) (GiveBy m scope target rest) list
+  GiveBy m scope target (group_item g items rest) list =
+      Cut (ForEach (λ o. GiveBy m (o ∷ scope) (nodes_of_child target g.child) items) (at_place scope g.place)) (GiveBy m scope target rest) list
+  GiveBy m scope target (flat_item f items rest) list =
+      Cut (ForEach (λ o. GiveBy m (o ∷ scope) target items) (at_place scope f.place)) (GiveBy m scope target rest) list
+
+-- with the texts of the rules
+abbrev pub Segments : List SegmentValue → List Occurrence → List ℕ → List Rule → Option Place → List SegmentValue → Type 0
+Segments = SegmentsBy IsImage
+
 abbrev pub Give : List SegmentValue → List Occurrence → Forest → Items → List SegmentValue → Type 0
-Give m scope target no_items list = list ≡ []
-Give m scope target (segment_item s rest) list =
-    Cut (Segments m scope (name_of (child target s.child)) s.rules s.place) (Give m scope target rest) list
-Give m scope target (group_item g items rest) list =
-    Cut (ForEach (λ o. Give m (o ∷ scope) (nodes_of_child target g.child) items) (at_place scope g.place)) (Give m scope target rest) list
-Give m scope target (flat_item f items rest) list =
-    Cut (ForEach (λ o. Give m (o ∷ scope) target items) (at_place scope f.place)) (Give m scope target rest) list
+Give = GiveBy IsImage
 
 -- the message that the map makes of a message with this tree
 abbrev pub Means : ProfileValue → Resolved → List SegmentValue → Tree → List SegmentValue → Type 0
