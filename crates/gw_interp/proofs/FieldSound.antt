@@ -23,12 +23,13 @@ use Rattle.gw_check.specs.Fields.{is_expected, has_no_rule, line_of_rule, making
 use Rattle.gw_check.specs.Lawful.{LawfulMaking, LawfulRule, LawfulRules}
 use Rattle.gw_interp.specs.Occurrences.{texts_at}
 use Rattle.gw_interp.specs.Meaning.{Walked, walking, MakingMeans, RuleMeans, IsImage}
+use Rattle.gw_interp.specs.Ready.{NoFaultIn}
 use Rattle.gw_interp.proofs.Walks.{IsWalked}
 use Rattle.gw_interp.proofs.Lists.{all_as, all_with, found_all, none_fails, both_empty, four_empty, each_empty}
 use Rattle.gw_interp.proofs.Shaped.{text_there}
 use Rattle.gw_interp.proofs.Held.{HasTables}
 use Rattle.gw_interp.proofs.Sources.{known_held}
-use Rattle.gw_interp.proofs.Leaves.{walked_on, HasNoFault, no_fault_of_rule}
+use Rattle.gw_interp.proofs.Leaves.{walked_on, no_fault_of_rule}
 use Rattle.gw_interp.proofs.Repetitions.{IsCounted, never_counted, counted_never, single}
 use Rattle.gw_interp.proofs.Copied.{source_counted, copy_counted, first_counted}
 use Rattle.gw_interp.proofs.Contents.{none_broken, demanded, copied_whole, copied_first, comps_kept}
@@ -153,7 +154,7 @@ module _ (s : Sources) (w : Walked) (is : IsWalked (table_names s.tables) s w) (
           (rule_kept (table_names s.tables) s w has is seg.at f.number names to f l (rule_of rules f.number) lawful_making (image.texts f.number) parts.1)
 
   -- and none of their leaves is a fault
-  pub no_faults : AllByRecursion (λ (r : Rule). HasNoFault w r.making) rules
+  pub no_faults : AllByRecursion (λ (r : Rule). NoFaultIn w r.making) rules
   no_faults =
-      all_as (λ (r : Rule). rule_lookups s r ≡ []) (λ (r : Rule). HasNoFault w r.making) (λ r e. no_fault_of_rule (table_names s.tables) s w (has_tables s.tables) is r e) rules
+      all_as (λ (r : Rule). rule_lookups s r ≡ []) (λ (r : Rule). NoFaultIn w r.making) (λ r e. no_fault_of_rule (table_names s.tables) s w (has_tables s.tables) is r e) rules
       (each_empty (rule_lookups s) rules (both_empty (flat_map (field_failures s to holder rules) fields) (flat_map (rule_lookups s) rules) none).1)

@@ -50,7 +50,7 @@ segment_entries s is f r c k lt = by (texts.get s.at (f ∷ r ∷ c ∷ k ∷ []
 empty_entries : AreEntries 1 texts.empty
 empty_entries f r c k lt = absurd (text_there (text_of texts.empty f r c k) lt (ap (λ o. unwrap_or o []) (texts.get-empty (slice_cmp nat_cmp) (f ∷ r ∷ c ∷ k ∷ []))))
 
-each_segment : (m : List SegmentValue) → IsMessage m → AllByRecursion IsSegment m
+pub each_segment : (m : List SegmentValue) → IsMessage m → AllByRecursion IsSegment m
 each_segment [] is = absurd is
 each_segment (s ∷ m) is = (is.0.segment, others m is.1)
   where
@@ -167,16 +167,19 @@ module _ (w : Walked) (places : (place : Place) → AreEntries 1 (texts_at w.mes
       let placed = making_placed rule.making lawful.making r c k text means lt in
       entry_at (first_field name) rule.field r c k text lawful.field (omega (arith, some_field name, lawful.field)) placed.rep placed.comp placed.sub placed.canonical lt
 
-  -- each text of a segment that the rules give may stand at its place
-  pub image_entries : (name : List ℕ) (rules : List Rule) → LawfulRules name rules → (seg : SegmentValue) → IsImage w name rules seg → AreEntries (first_field name) seg.at
-  image_entries name rules lawful seg image f r c k lt = by (rule_of rules f) refl (image.texts f r c k)
+  -- each text that the rules give may stand at its place
+  pub rules_entry : (name : List ℕ) (rules : List Rule) → LawfulRules name rules → (f r c k : ℕ) (text : List ℕ) → RuleMeans w (rule_of rules f) r c k text → 0 < length text → IsEntry (first_field name) (f ∷ r ∷ c ∷ k ∷ [], text)
+  rules_entry name rules lawful f r c k text means lt = by (rule_of rules f) refl means
     where
-      by : (o : Option Rule) → rule_of rules f ≡ o → RuleMeans w o r c k (text_of seg.at f r c k) → IsEntry (first_field name) (f ∷ r ∷ c ∷ k ∷ [], text_of seg.at f r c k)
+      by : (o : Option Rule) → rule_of rules f ≡ o → RuleMeans w o r c k text → IsEntry (first_field name) (f ∷ r ∷ c ∷ k ∷ [], text)
       by None e means = absurd (text_there _ lt means)
       by (Some rule) e means =
           let is : LawfulRule name rule = found_all (λ (q : Rule). q.field == f) (LawfulRule name) rules rule e lawful.each in
           let field : rule.field ≡ f = (Decides-eqb rule.field f).0 (found_test (λ (q : Rule). q.field == f) rules rule e) in
-          subst (λ n. IsEntry (first_field name) (n ∷ r ∷ c ∷ k ∷ [], text_of seg.at f r c k)) field (rule_entry name rule is r c k (text_of seg.at f r c k) means lt)
+          subst (λ n. IsEntry (first_field name) (n ∷ r ∷ c ∷ k ∷ [], text)) field (rule_entry name rule is r c k text means lt)
+
+  pub image_entries : (name : List ℕ) (rules : List Rule) → LawfulRules name rules → (seg : SegmentValue) → IsImage w name rules seg → AreEntries (first_field name) seg.at
+  image_entries name rules lawful seg image f r c k lt = rules_entry name rules lawful f r c k (text_of seg.at f r c k) (image.texts f r c k) lt
 
   -- and is canonical, or empty
   pub image_canonical : (name : List ℕ) (rules : List Rule) → LawfulRules name rules → (seg : SegmentValue) → IsImage w name rules seg → (f r c k : ℕ) → (text_of seg.at f r c k ≡ []) ⊎ IsCanonical (text_of seg.at f r c k)

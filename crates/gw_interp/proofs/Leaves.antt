@@ -20,6 +20,8 @@ use Rattle.gw_check.specs.Fields.{lookup_failures, rule_lookups}
 use Rattle.gw_check.specs.Lawful.{LawfulRows, LawfulLeaf}
 use Rattle.gw_interp.specs.Occurrences.{texts_at}
 use Rattle.gw_interp.specs.Meaning.{Walked, SourceMeans, LeafMeans, look_up, walking}
+use Rattle.gw_interp.specs.Sourced.{IsFault}
+use Rattle.gw_interp.specs.Ready.{NoFaultIn}
 use Rattle.gw_interp.proofs.Walks.{IsCurrent, IsWalked}
 use Rattle.gw_interp.proofs.Lists.{all_as, none_fails, each_empty}
 use Rattle.gw_interp.proofs.Shaped.{IsOf, IsShaped}
@@ -163,20 +165,6 @@ module _ (names : List (List ℕ)) (s : Sources) (w : Walked) (has : HasTables n
 
 -- ---- no leaf is a fault
 
--- for each text of its source a leaf gives one
-abbrev pub IsNoFault : Walked → Leaf → Type 0
-IsNoFault w (const value) = Unit {0}
-IsNoFault w (copied source) = Unit {0}
-IsNoFault w (looked_up table source) = (from : List ℕ) → SourceMeans w source from → (text : List ℕ) × (look_up table from ≡ Some text)
-
--- no leaf of a field is a fault, in any repetition
-abbrev pub HasNoFault : Walked → Making → Type 0
-HasNoFault w (copy from) = Unit {0}
-HasNoFault w (first from) = Unit {0}
-HasNoFault w (repeat from leaves) =
-    (rep : ℕ) → RepAt (texts_at w.message w.scope from.place) from.field rep → AllByRecursion (λ (a : At). IsNoFault (walking w from rep) a.leaf) leaves
-HasNoFault w (build leaves) = AllByRecursion (λ (a : At). IsNoFault w a.leaf) leaves
-
 one_row : (table : Rows) (text : List ℕ) (texts : List (List ℕ)) → Among text texts → has_no_row table (listed texts) ≡ false → has_no_row table (listed (text ∷ [])) ≡ false
 one_row table text [] a e = absurd a
 one_row table text (x ∷ texts) (inl same) e = subst (λ t. has_no_row table (listed (t ∷ [])) ≡ false) (sym same) (both_false _ false (neither _ _ e).0 refl)
@@ -213,31 +201,32 @@ look_found table v (b ∷ bytes) rowed is = by (is_null (b ∷ bytes)) refl
     by false f = let found = found_by table v (b ∷ bytes) rowed (is (λ e. cc) f) in (found.0, ap (λ n. if n then Some (b ∷ bytes) else given table (b ∷ bytes)) f ∙ found.1)
 
 module _ (names : List (List ℕ)) (s : Sources) (w : Walked) (has : HasTables names s.tables) (is : IsWalked names s w) where
-  pub no_fault : (a : At) → lookup_failures s a ≡ [] → IsNoFault w a.leaf
+  pub no_fault : (a : At) → lookup_failures s a ≡ [] → IsFault w a.leaf → ⊥
   no_fault a none = by a.leaf none
     where
       rowed : (table : Rows) (source : Source) (o : Option (List ℕ)) → lookup_failures s (record a { leaf = looked_up (record { rows = table.rows; other = o }) source }) ≡ [] → o ≡ None → has_no_row table (source_shape s source).values ≡ false
       rowed table source None none e = none_fails 10 a.line (has_no_row table (source_shape s source).values) none
       rowed table source (Some value) none e = absurd (cc)
 
-      by : (leaf : Leaf) → lookup_failures s (record a { leaf = leaf }) ≡ [] → IsNoFault w leaf
-      by (const value) none = tt
-      by (copied source) none = tt
-      by (looked_up table source) none = λ from means.
-          let shaped = source_shaped names s w has is source from means in
-          look_found table (source_shape s source).values from (rowed table source table.other none) shaped.values
+      by : (leaf : Leaf) → lookup_failures s (record a { leaf = leaf }) ≡ [] → IsFault w leaf → ⊥
+      by (const value) none fault = absurd fault
+      by (copied source) none fault = absurd fault
+      by (looked_up table source) none fault =
+          let shaped = source_shaped names s w has is source fault.0 fault.1 in
+          let found = look_found table (source_shape s source).values fault.0 (rowed table source table.other none) shaped.values in
+          absurd (let clash = sym found.1 ∙ fault.2 in cc)
 
 module _ (names : List (List ℕ)) (s : Sources) (w : Walked) (has : HasTables names s.tables) (is : IsWalked names s w) where
   -- where each lookup has its rows, no leaf of the rule is a fault
-  pub no_fault_of_rule : (r : Rule) → rule_lookups s r ≡ [] → HasNoFault w r.making
+  pub no_fault_of_rule : (r : Rule) → rule_lookups s r ≡ [] → NoFaultIn w r.making
   no_fault_of_rule r none = by r.making none
     where
-      by : (making : Making) → rule_lookups s (record r { making = making }) ≡ [] → HasNoFault w making
+      by : (making : Making) → rule_lookups s (record r { making = making }) ≡ [] → NoFaultIn w making
       by (copy from) none = tt
       by (first from) none = tt
       by (repeat from leaves) none = λ rep at.
-          all_as (λ (a : At). lookup_failures (counts.walking s from) a ≡ []) (λ (a : At). IsNoFault (walking w from rep) a.leaf)
+          all_as (λ (a : At). lookup_failures (counts.walking s from) a ≡ []) (λ (a : At). IsFault (walking w from rep) a.leaf → ⊥)
           (λ a e. no_fault names (counts.walking s from) (walking w from rep) has (walked_on names s w has is from rep at) a e) leaves (each_empty (lookup_failures (counts.walking s from)) leaves none)
       by (build leaves) none =
-          all_as (λ (a : At). lookup_failures s a ≡ []) (λ (a : At). IsNoFault w a.leaf)
+          all_as (λ (a : At). lookup_failures s a ≡ []) (λ (a : At). IsFault w a.leaf → ⊥)
           (λ a e. no_fault names s w has is a e) leaves (each_empty (lookup_failures s) leaves none)

@@ -20,6 +20,7 @@ pub mod Contents
 pub mod Made
 pub mod FieldSound
 pub mod Images
+pub mod Readiness
 mod Lending
 mod Sourcing
 mod Fills
