@@ -21,6 +21,7 @@ pub mod Made
 pub mod FieldSound
 pub mod Images
 pub mod Readiness
+pub mod Naming
 mod Lending
 mod Sourcing
 mod Fills
