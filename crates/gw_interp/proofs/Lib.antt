@@ -22,6 +22,7 @@ pub mod FieldSound
 pub mod Images
 pub mod Readiness
 pub mod Naming
+pub mod Once
 mod Lending
 mod Sourcing
 mod Fills

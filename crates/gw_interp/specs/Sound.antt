@@ -1,5 +1,5 @@
--- What a yes of the checker means.
-use Rattle.std.specs.Prelude.{List}
+-- What a yes of the checker means, and what a map makes of a message.
+use Rattle.std.specs.Prelude.{◌≡◌, List}
 use Rattle.gw_er7.specs.Message.{SegmentValue, IsMessage}
 use Rattle.gw_profile.specs.Shapes.{ProfileValue}
 use Rattle.gw_profile.specs.WellFormed.{WellFormed}
@@ -14,3 +14,9 @@ abbrev pub MakesConforming : ProfileValue → ProfileValue → Resolved → Type
 MakesConforming source target map =
     (m : List SegmentValue) (tree : Tree) → IsMessage m → Conforms source m → IsTreeOf source m tree →
     (made : List SegmentValue) → Means target map m tree made → Conforms target made
+
+-- the map makes at most one message of a message
+abbrev pub MakesOne : ProfileValue → Resolved → Type 0
+MakesOne target map =
+    (m : List SegmentValue) (tree : Tree) (made other : List SegmentValue) → IsMessage made → IsMessage other →
+    Means target map m tree made → Means target map m tree other → made ≡ other
