@@ -23,6 +23,10 @@ pub mod Images
 pub mod Readiness
 pub mod Naming
 pub mod Once
+pub mod Bounded
+pub mod Tabled
+pub mod Existing
+pub mod Makes
 mod Lending
 mod Sourcing
 mod Fills

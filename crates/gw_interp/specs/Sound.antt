@@ -20,3 +20,15 @@ abbrev pub MakesOne : ProfileValue → Resolved → Type 0
 MakesOne target map =
     (m : List SegmentValue) (tree : Tree) (made other : List SegmentValue) → IsMessage made → IsMessage other →
     Means target map m tree made → Means target map m tree other → made ≡ other
+
+-- a message that the map makes of the message, and that conforms
+pub record IsMade (target : ProfileValue) (map : Resolved) (m : List SegmentValue) (tree : Tree) (made : List SegmentValue) : Type 0 where
+  pub is_message : IsMessage made
+  pub means : Means target map m tree made
+  pub conforms : Conforms target made
+
+-- there is one of each message that conforms to the source
+abbrev pub MakesSome : ProfileValue → ProfileValue → Resolved → Type 0
+MakesSome source target map =
+    (m : List SegmentValue) (tree : Tree) → IsMessage m → Conforms source m → IsTreeOf source m tree →
+    (made : List SegmentValue) × IsMade target map m tree made

@@ -4,7 +4,7 @@ ghost use Rattle.gw_profile.specs.WellFormed.{WellFormed};
 ghost use Rattle.gw_check.specs.Resolved.{Resolved};
 ghost use Rattle.gw_check.specs.Lawful.{LawfulItems};
 ghost use Rattle.gw_check.specs.Typed.{IsTyped};
-ghost use Rattle.gw_interp.specs.Sound.{MakesConforming, MakesOne};
+ghost use Rattle.gw_interp.specs.Sound.{MakesConforming, MakesOne, MakesSome};
 
 /// Where the rules allow a map, what it makes of any message that conforms to the source conforms to the target.
 pub fn allowed_maps_are_sound()
@@ -14,4 +14,9 @@ pub fn allowed_maps_are_sound()
 /// Whatever the map, at most one message is what it makes of a message.
 pub fn a_map_makes_one_message()
     ensures { (target : ProfileValue) (map : Resolved) → MakesOne target map }
+{}
+
+/// Where the rules allow a map, it makes a message of any message that conforms to the source.
+pub fn allowed_maps_make_a_message()
+    ensures { (source target : ProfileValue) (map : Resolved) → WellFormed source → WellFormed target → LawfulItems target.nodes map.items → IsTyped source target map → MakesSome source target map }
 {}
