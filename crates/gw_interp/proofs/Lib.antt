@@ -23,6 +23,7 @@ pub mod Images
 pub mod Readiness
 pub mod Naming
 pub mod Once
+pub mod Checked
 pub mod Bounded
 pub mod Tabled
 pub mod Existing
