@@ -19,3 +19,9 @@ pub mod Lists
 pub mod Tested
 pub mod Counting
 pub mod Judging
+pub mod IdentityItems
+pub mod IdentityNamed
+pub mod IdentityFields
+pub mod IdentityLevels
+pub mod IdentityReads
+pub mod IdentityAllowed

@@ -1,5 +1,8 @@
 //! What holds of the definitions.
-ghost use Rattle.std.specs.Prelude.{◌≡◌, None};
+ghost use Rattle.std.specs.Prelude.{◌≡◌, [], None};
+ghost use Rattle.gw_profile.specs.Shapes.{ProfileValue};
+ghost use Rattle.gw_profile.specs.WellFormed.{WellFormed};
+ghost use Rattle.gw_maplang.specs.Identity.{identity};
 ghost use Rattle.gw_check.specs.Checked.{all_failures, least};
 ghost use Rattle.gw_check.specs.Worked.{p1, p2, t1, m1, m4, kin, contacts, both_kinds, oru, any_orders, two_orders, m3, failure};
 
@@ -12,4 +15,9 @@ pub fn worked_maps()
     ensures enough_room { least (all_failures kin (contacts 4) both_kinds) ≡ None }
     ensures flattened { least (all_failures oru any_orders m3) ≡ None }
     ensures flattened_too_many { least (all_failures oru two_orders m3) ≡ failure 4 3 }
+{}
+
+/// The map that makes of each message of a profile the message itself is allowed from the profile to itself.
+pub fn identity_is_allowed()
+    ensures { (p : ProfileValue) → WellFormed p → all_failures p p (identity p) ≡ [] }
 {}

@@ -1,0 +1,296 @@
+-- The fields of a segment are copied as its own profile asks for them.
+use Rattle.std.proofs.Common.{◌≡◌, ℕ, suc, ◌≤◌, ◌<◌, inl, inr, Bool, true, false, List, [], ◌∷◌, ◌++◌, map, length, Option, Some, None, refl, sym, ap, ap₂, ◌∙◌, subst, arith}
+use Rattle.std.specs.Prelude.{if◌then◌else◌, cond, ◌==◌, ◌&&◌, ◌||◌, not, nat_lt, nat_le, find, filter, flat_map, unwrap_or}
+use Rattle.std.specs.List.{AllByRecursion, list_any}
+use Rattle.std.proofs.lemmas.Bool.{le-ltb, eq-eqb, ne_eqb}
+use Rattle.std.proofs.lemmas.Bool.Decides.{leb_tells}
+use Rattle.gw_profile.specs.declared.shape.Usage.{Usage}
+use Rattle.gw_profile.specs.declared.shape.Usage.TheVariants.{R, RE, O, X}
+use Rattle.gw_profile.specs.Fault.{is_among, least_field}
+use Rattle.gw_profile.specs.Line as line
+use Rattle.gw_profile.specs.Shapes.{SubValue, CompValue, FieldValue, SegmentValue, TableValue}
+use Rattle.gw_profile.specs.Value.{table_of}
+use Rattle.gw_profile.specs.WellFormed.{Agrees, Rising, field_numbers, LawfulComp, LawfulField, LawfulSegment}
+use Rattle.gw_profile.specs.Among as lists
+use Rattle.gw_profile.proofs.Among.{among_is}
+use Rattle.gw_profile.proofs.Facts.{tells}
+use Rattle.gw_validate.specs.Breaches.{is_required, is_forbidden}
+use Rattle.gw_check.specs.declared.shape.Presence.{Presence}
+use Rattle.gw_check.specs.declared.shape.Presence.TheVariants.{Never}
+use Rattle.gw_check.specs.Failures.{Failure}
+use Rattle.gw_check.specs.Intervals.{never, once, of_card, is_never, is_within}
+use Rattle.gw_check.specs.Places.{Element, a_segment}
+use Rattle.gw_check.specs.Resolved.{Rule, rule_of}
+use Rattle.gw_check.specs.Naming.{itself}
+use Rattle.gw_check.specs.Leaves.{Sources, listed, field_of, comp_of, sub_of, by_usage, comp_presence, sub_usage, sub_presence, is_always, is_absent, is_short, sub_values, may_be_unlisted, may_be_long}
+use Rattle.gw_check.specs.Counts.{rule_count, reference_count}
+use Rattle.gw_check.specs.Fields.{is_expected, table_values, value_failures, copied_sub, copied_comp, copied_field, content_failures, count_failures, field_failures, rule_lookups, segment_failures}
+use Rattle.gw_check.specs.Levels.{sources}
+use Rattle.gw_check.proofs.IdentityItems.{same_rule, same_rules}
+use Rattle.gw_check.proofs.IdentityNamed.{no_more, holds}
+
+-- ---- lists
+
+pub none_of_each : {A B : Type 0} (f : A → List B) (xs : List A) → AllByRecursion (λ x. f x ≡ []) xs → flat_map f xs ≡ []
+none_of_each f [] h = refl
+none_of_each f (x ∷ xs) h = no_more (f x) (flat_map f xs) h.0 (none_of_each f xs h.1)
+
+module _ {A : Type 0} (P Q R : A → Type 0) where
+  each_of_both : ((x : A) → P x → Q x → R x) → (xs : List A) → AllByRecursion P xs → AllByRecursion Q xs → AllByRecursion R xs
+  each_of_both so [] p q = tt
+  each_of_both so (x ∷ xs) p q = (so x p.0 q.0, each_of_both so xs p.1 q.1)
+
+-- ---- numbers that rise
+
+module _ {A : Type 0} (number : A → ℕ) where
+  abbrev Found : List A → A → Type 0
+  Found whole x = find (λ y. number y == number x) whole ≡ Some x
+
+  -- one of a lower number stands before them
+  passed_by : (y : A) (low high : ℕ) (xs whole : List A) → number y < low → Rising low high (map number xs) → AllByRecursion (Found whole) xs → AllByRecursion (Found (y ∷ whole)) xs
+  passed_by y low high [] whole less r h = tt
+  passed_by y low high (x ∷ xs) whole less r h =
+      let other : (number y == number x) ≡ false = ne_eqb (number y) (number x) (λ e. omega (arith, less, r.0, e)) in
+      (ap (λ b. cond b (Some y) (find (λ z. number z == number x) whole)) other ∙ h.0, passed_by y (suc (number x)) high xs whole (omega (arith, less, r.0)) r.2 h.1)
+
+  -- each is found by its number
+  pub each_found : (low high : ℕ) (xs : List A) → Rising low high (map number xs) → AllByRecursion (Found xs) xs
+  each_found low high [] r = tt
+  each_found low high (x ∷ xs) r =
+      (ap (λ b. cond b (Some x) (find (λ y. number y == number x) xs)) (eq-eqb (number x) (number x) refl), passed_by x (suc (number x)) high xs xs (omega arith) r.2 (each_found (suc (number x)) high xs r.2))
+
+-- ---- rules
+
+pub forbidden_is : (u : Usage) → line.is_forbidden (Some u) ≡ is_forbidden u
+forbidden_is R = refl
+forbidden_is RE = refl
+forbidden_is O = refl
+forbidden_is X = refl
+
+abbrev rule_or : Bool → ℕ → Option Rule
+rule_or forbidden number = if forbidden then None else Some (same_rule number)
+
+-- none below the least number
+none_below : (n low high : ℕ) (fields : List FieldValue) → n < low → Rising low high (field_numbers fields) → rule_of (same_rules fields) n ≡ None
+none_below n low high [] less r = refl
+none_below n low high (f ∷ fields) less r = by (line.is_forbidden (Some f.usage)) (none_below n (suc f.number) high fields (omega (arith, less, r.0)) r.2)
+  where
+    other : (f.number == n) ≡ false
+    other = ne_eqb f.number n (λ e. omega (arith, less, r.0, e))
+
+    by : (b : Bool) → rule_of (same_rules fields) n ≡ None → rule_of (if b then same_rules fields else same_rule f.number ∷ same_rules fields) n ≡ None
+    by true later = later
+    by false later = ap (λ b. cond b (Some (same_rule f.number)) (rule_of (same_rules fields) n)) other ∙ later
+
+abbrev Ruled : List Rule → FieldValue → Type 0
+Ruled rules f = rule_of rules f.number ≡ rule_or (line.is_forbidden (Some f.usage)) f.number
+
+-- a field of a lower number stands before them
+ruled_behind : (y : FieldValue) (low high : ℕ) (xs : List FieldValue) (rules : List Rule) → y.number < low → Rising low high (field_numbers xs) → AllByRecursion (Ruled rules) xs →
+    AllByRecursion (Ruled (if line.is_forbidden (Some y.usage) then rules else same_rule y.number ∷ rules)) xs
+ruled_behind y low high [] rules less r h = tt
+ruled_behind y low high (x ∷ xs) rules less r h = (by (line.is_forbidden (Some y.usage)), ruled_behind y (suc x.number) high xs rules (omega (arith, less, r.0)) r.2 h.1)
+  where
+    other : (y.number == x.number) ≡ false
+    other = ne_eqb y.number x.number (λ e. omega (arith, less, r.0, e))
+
+    by : (b : Bool) → Ruled (if b then rules else same_rule y.number ∷ rules) x
+    by true = h.0
+    by false = ap (λ b. cond b (Some (same_rule y.number)) (rule_of rules x.number)) other ∙ h.0
+
+-- each field that isn't X has a copy of it, no other has a rule
+pub each_ruled : (low high : ℕ) (fields : List FieldValue) → Rising low high (field_numbers fields) → AllByRecursion (Ruled (same_rules fields)) fields
+each_ruled low high [] r = tt
+each_ruled low high (f ∷ fields) r = (by (line.is_forbidden (Some f.usage)), ruled_behind f (suc f.number) high fields (same_rules fields) (omega arith) r.2 (each_ruled (suc f.number) high fields r.2))
+  where
+    by : (b : Bool) → rule_of (if b then same_rules fields else same_rule f.number ∷ same_rules fields) f.number ≡ rule_or b f.number
+    by true = none_below f.number (suc f.number) high fields (omega arith) r.2
+    by false = ap (λ b. cond b (Some (same_rule f.number)) (rule_of (same_rules fields) f.number)) (eq-eqb f.number f.number refl)
+
+-- ---- values
+
+pub not_and : (a b : Bool) → b ≡ false → a && b ≡ false
+not_and true b e = e
+not_and false b e = refl
+
+-- each value that is short enough stands in the table
+none_unlisted : (len : Option ℕ) (table texts : List (List ℕ)) → ((x : List ℕ) → lists.Among x texts → is_among x table ≡ true) → list_any (λ text. not (is_among text table)) (filter (is_short len) texts) ≡ false
+none_unlisted len table [] h = refl
+none_unlisted len table (x ∷ texts) h = by (is_short len x) (none_unlisted len table texts (λ y a. h y (inr a)))
+  where
+    by : (b : Bool) → list_any (λ text. not (is_among text table)) (filter (is_short len) texts) ≡ false → list_any (λ text. not (is_among text table)) (cond b (x ∷ filter (is_short len) texts) (filter (is_short len) texts)) ≡ false
+    by true later = ap₂ (λ s t. not s || t) (h x (inl refl)) later
+    by false later = later
+
+none_long : (most : ℕ) (texts : List (List ℕ)) → list_any (λ text. nat_lt most (length text)) (filter (is_short (Some most)) texts) ≡ false
+none_long most [] = refl
+none_long most (x ∷ texts) = by (is_short (Some most) x) refl (none_long most texts)
+  where
+    by : (b : Bool) → is_short (Some most) x ≡ b → list_any (λ text. nat_lt most (length text)) (filter (is_short (Some most)) texts) ≡ false → list_any (λ text. nat_lt most (length text)) (cond b (x ∷ filter (is_short (Some most)) texts) (filter (is_short (Some most)) texts)) ≡ false
+    by true is later = ap₂ (λ s t. s || t) (le-ltb most (length x) (short is)) later
+      where
+        short : nat_le (length x) most ≡ true → length x ≤ most
+        short e = elim (leb_tells (length x) most) [ inl h ↦ h.1 | inr h ↦ absurd (cc) ]
+    by false is later = later
+
+module _ (tables : List TableValue) where
+  abbrev sub_with : ℕ → Usage → Option ℕ → Option (List ℕ) → SubValue
+  sub_with number usage len table = record { number = number; usage = usage; len = len; table = table }
+
+  listed_or : (len : Option ℕ) (o : Option (List (List ℕ))) → may_be_unlisted (listed (filter (is_short len) (unwrap_or o []))) o ≡ false
+  listed_or len None = refl
+  listed_or len (Some values) = none_unlisted len values values (λ x a. (among_is x values).1 a)
+
+  always_listed : (number : ℕ) (usage : Usage) (len : Option ℕ) (table : Option (List ℕ)) → may_be_unlisted (sub_values tables (Some (sub_with number usage len table))) (table_values tables (sub_with number usage len table)) ≡ false
+  always_listed number usage len None = refl
+  always_listed number usage len (Some name) = listed_or len (table_of name tables)
+
+  always_short : (number : ℕ) (usage : Usage) (len : Option ℕ) (table : Option (List ℕ)) → may_be_long (sub_values tables (Some (sub_with number usage len table))) len ≡ false
+  always_short number usage None None = refl
+  always_short number usage None (Some name) = refl
+  always_short number usage (Some most) None = le-ltb most most (omega arith)
+  always_short number usage (Some most) (Some name) = none_long most (unwrap_or (table_of name tables) [])
+
+  -- ---- components and subcomponents
+
+  is_there : (u : Usage) → is_required u && not (is_always (by_usage (Some u))) ≡ false
+  is_there R = refl
+  is_there RE = refl
+  is_there O = refl
+  is_there X = refl
+
+  is_never_there : (u : Usage) → is_forbidden u && not (is_absent (by_usage (Some u))) ≡ false
+  is_never_there R = refl
+  is_never_there RE = refl
+  is_never_there O = refl
+  is_never_there X = refl
+
+  values_hold : (line : ℕ) (presence : Presence) (s : SubValue) → value_failures tables line (record { presence = presence; values = sub_values tables (Some s) }) s ≡ []
+  values_hold line presence s =
+      no_more _ _ (holds 6 line _ (not_and (not (is_absent presence)) _ (always_listed s.number s.usage s.len s.table)))
+      (holds 7 line _ (not_and (not (is_absent presence)) _ (always_short s.number s.usage s.len s.table)))
+
+  -- below a component that may be there a subcomponent is there as its usage says
+  sub_holds : (line : ℕ) (c : CompValue) (s : SubValue) → is_absent (comp_presence (Some c)) ≡ false → sub_of (Some c) s.number ≡ Some s → copied_sub tables tables line (Some c) s ≡ []
+  sub_holds line c s there found =
+      let presence : sub_presence (Some c) (sub_of (Some c) s.number) ≡ by_usage (Some s.usage) = ap₂ (λ b o. if b then Never else sub_usage o) there found in
+      no_more _ _
+      (no_more _ _ (holds 5 line _ (ap (λ p. is_required s.usage && not (is_always p)) presence ∙ is_there s.usage))
+      (holds 11 line _ (ap (λ p. is_forbidden s.usage && not (is_absent p)) presence ∙ is_never_there s.usage)))
+      (ap (λ o. value_failures tables line (record { presence = sub_presence (Some c) (sub_of (Some c) s.number); values = sub_values tables o }) s) found
+      ∙ values_hold line (sub_presence (Some c) (sub_of (Some c) s.number)) s)
+
+  x_is_absent : (u : Usage) → is_absent (by_usage (Some u)) ≡ true → u ≡ X
+  x_is_absent R e = absurd (cc)
+  x_is_absent RE e = absurd (cc)
+  x_is_absent O e = absurd (cc)
+  x_is_absent X e = refl
+
+  subs_hold : (names : List (List ℕ)) (line : ℕ) (c : CompValue) → LawfulComp names c → flat_map (copied_sub tables tables line (Some c)) c.subs ≡ []
+  subs_hold names line c l = elim (tells (is_absent (comp_presence (Some c)))) [
+    | inl h ↦ ap (flat_map (copied_sub tables tables line (Some c))) (l.bare (x_is_absent c.usage h))
+    | inr h ↦ none_of_each (copied_sub tables tables line (Some c)) c.subs (each h c.subs (each_found (λ (s : SubValue). s.number) 1 99 c.subs l.rising))
+  ]
+    where
+      each : is_absent (comp_presence (Some c)) ≡ false → (subs : List SubValue) → AllByRecursion (λ s. sub_of (Some c) s.number ≡ Some s) subs → AllByRecursion (λ s. copied_sub tables tables line (Some c) s ≡ []) subs
+      each there [] h = tt
+      each there (s ∷ subs) h = (sub_holds line c s there h.0, each there subs h.1)
+
+  comp_holds : (names : List (List ℕ)) (line : ℕ) (f : FieldValue) (c : CompValue) → LawfulComp names c → comp_of (Some f) c.number ≡ Some c → copied_comp tables tables line (Some f) c ≡ []
+  comp_holds names line f c l found =
+      no_more _ _
+      (no_more _ _ (holds 5 line _ (ap (λ o. is_required c.usage && not (is_always (comp_presence o))) found ∙ is_there c.usage))
+      (holds 11 line _ (ap (λ o. is_forbidden c.usage && not (is_absent (comp_presence o))) found ∙ is_never_there c.usage)))
+      (ap (λ o. flat_map (copied_sub tables tables line o) c.subs) found ∙ subs_hold names line c l)
+
+  comps_hold : (names : List (List ℕ)) (line : ℕ) (f : FieldValue) → LawfulField names f → flat_map (copied_comp tables tables line (Some f)) f.comps ≡ []
+  comps_hold names line f l =
+      none_of_each (copied_comp tables tables line (Some f)) f.comps
+      (each_of_both (LawfulComp names) (λ c. comp_of (Some f) c.number ≡ Some c) (λ c. copied_comp tables tables line (Some f) c ≡ []) (λ c lawful found. comp_holds names line f c lawful found) f.comps l.each (each_found (λ (c : CompValue). c.number) 1 99 f.comps l.rising))
+
+-- ---- a field
+
+pub within_itself : (most : Option ℕ) → is_within most most ≡ true
+within_itself None = refl
+within_itself (Some most) = elim (leb_tells most most) [ inl h ↦ h.0 | inr h ↦ absurd (omega (arith, h.1)) ]
+
+-- with a rule that gives it as often as it comes
+counts_hold : (holder : ℕ) (f : FieldValue) (r : Rule) → line.is_forbidden (Some f.usage) ≡ false → count_failures holder (of_card f.card) f (Some r) ≡ []
+counts_hold holder f r other =
+    let allowed : is_forbidden f.usage ≡ false = sym (forbidden_is f.usage) ∙ other in
+    no_more _ _ (no_more _ _ (no_more _ _
+    (holds 4 r.line _ (not_and (not (is_forbidden f.usage)) _ (ap not (within_itself f.card.max))))
+    (holds 5 r.line _ (le-ltb f.card.min f.card.min (omega arith))))
+    (holds 8 holder _ (not_and _ false refl)))
+    (holds 11 r.line _ (ap (λ b. b && not (is_never f.card.max)) allowed))
+
+-- X, without a rule
+none_expected : (holder : ℕ) (f : FieldValue) → f.usage ≡ X → f.card.min ≡ 0 → count_failures holder never f None ≡ []
+none_expected holder f is low =
+    no_more _ _ (no_more _ _ (no_more _ _
+    (holds 4 holder _ (ap (λ u. not (is_forbidden u) && not (is_within (Some 0) f.card.max)) is))
+    (holds 5 holder _ (ap (nat_lt 0) low)))
+    (holds 8 holder _ (ap (λ u. is_expected u && true) is)))
+    (holds 11 holder _ (not_and (is_forbidden f.usage) false refl))
+
+pub x_is : (u : Usage) → line.is_forbidden (Some u) ≡ true → u ≡ X
+x_is R e = absurd (cc)
+x_is RE e = absurd (cc)
+x_is O e = absurd (cc)
+x_is X e = refl
+
+-- ---- a segment that is walked
+
+module _ (tables : List TableValue) (names : List (List ℕ)) (s : SegmentValue) (scope : List Element) where
+  abbrev walked : Sources
+  walked = sources tables (a_segment s ∷ scope)
+
+  abbrev failures_of : FieldValue → Option Rule → List Failure
+  failures_of f o = count_failures 0 (rule_count walked o) f o ++ content_failures walked tables f o
+
+  copy_holds : (f : FieldValue) → LawfulField names f → field_of s.fields f.number ≡ Some f → copied_field walked tables 0 (record { place = itself; field = f.number }) f ≡ []
+  copy_holds f l found = ap (λ o. flat_map (copied_comp tables tables 0 o) f.comps) found ∙ comps_hold tables names 0 f l
+
+  contents_hold : (f : FieldValue) → LawfulField names f → field_of s.fields f.number ≡ Some f → content_failures walked tables f (Some (same_rule f.number)) ≡ []
+  contents_hold f l found = by (is_never (rule_count walked (Some (same_rule f.number))).greatest)
+    where
+      by : (b : Bool) → (if b then [] else copied_field walked tables 0 (record { place = itself; field = f.number }) f) ≡ []
+      by true = refl
+      by false = copy_holds f l found
+
+  -- as often as the field comes
+  count_is : (f : FieldValue) → field_of s.fields f.number ≡ Some f → rule_count walked (Some (same_rule f.number)) ≡ of_card f.card
+  count_is f found = ap (reference_count (record { count = once; fields = s.fields })) found
+
+  field_holds : (f : FieldValue) → LawfulField names f → Ruled (same_rules s.fields) f → field_of s.fields f.number ≡ Some f → field_failures walked tables 0 (same_rules s.fields) f ≡ []
+  field_holds f l ruled found =
+      elim (tells (line.is_forbidden (Some f.usage))) [
+        | inl h ↦
+            let is = x_is f.usage h in
+            let none : rule_of (same_rules s.fields) f.number ≡ None = ruled ∙ ap (λ b. rule_or b f.number) h in
+            ap (failures_of f) none ∙ no_more _ _ (none_expected 0 f is (subst (λ u. Agrees u f.card) is l.agrees).0) refl
+        | inr h ↦
+            let some : rule_of (same_rules s.fields) f.number ≡ Some (same_rule f.number) = ruled ∙ ap (λ b. rule_or b f.number) h in
+            ap (failures_of f) some
+            ∙ no_more _ _ (ap (λ c. count_failures 0 c f (Some (same_rule f.number))) (count_is f found) ∙ counts_hold 0 f (same_rule f.number) h) (contents_hold f l found)
+      ]
+
+  no_lookups : (fields : List FieldValue) → flat_map (rule_lookups walked) (same_rules fields) ≡ []
+  no_lookups [] = refl
+  no_lookups (f ∷ fields) = by (line.is_forbidden (Some f.usage)) (no_lookups fields)
+    where
+      by : (b : Bool) → flat_map (rule_lookups walked) (same_rules fields) ≡ [] → flat_map (rule_lookups walked) (if b then same_rules fields else same_rule f.number ∷ same_rules fields) ≡ []
+      by true later = later
+      by false later = later
+
+  pub segment_holds : LawfulSegment names s → segment_failures walked tables 0 (same_rules s.fields) s.fields ≡ []
+  segment_holds l =
+      no_more _ _
+      (none_of_each (field_failures walked tables 0 (same_rules s.fields)) s.fields
+      (each s.fields l.each (each_ruled (least_field s.name) 999 s.fields l.rising) (each_found (λ (f : FieldValue). f.number) (least_field s.name) 999 s.fields l.rising)))
+      (no_lookups s.fields)
+    where
+      each : (fields : List FieldValue) → AllByRecursion (LawfulField names) fields → AllByRecursion (Ruled (same_rules s.fields)) fields → AllByRecursion (λ f. field_of s.fields f.number ≡ Some f) fields →
+          AllByRecursion (λ f. field_failures walked tables 0 (same_rules s.fields) f ≡ []) fields
+      each [] l r h = tt
+      each (f ∷ fields) l r h = (field_holds f l.0 r.0 h.0, each fields l.1 r.1 h.1)
