@@ -10,7 +10,6 @@ use Rattle.std.proofs.lemmas.Bool.Decides.{eqb_tells, leb_tells}
 use Rattle.gw_er7.specs.Message.{Texts, text_of}
 use Rattle.gw_er7.specs.Presence.{SubAt, CompAt, RepAt, FieldAt}
 use Rattle.gw_interp.specs.Meaning.{IsFirst}
-use Rattle.gw_interp.proofs.Shaped.{text_there}
 
 abbrev pub Decided : Type 0 → Type 0
 Decided P = P ⊎ (P → ⊥)

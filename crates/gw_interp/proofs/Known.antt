@@ -1,23 +1,22 @@
 -- What is known of the texts at a place, from what is walked.
-use Rattle.std.proofs.Common.{◌⊎◌, inl, inr, ◌≡◌, ℕ, zero, suc, ◌≤◌, Bool, true, false, List, [], ◌∷◌, Option, Some, None, refl, sym, ap, ◌∙◌, subst, arith, true≢false, length}
+use Rattle.std.proofs.Common.{inl, inr, ◌≡◌, ℕ, zero, ◌≤◌, true, false, List, [], ◌∷◌, Option, Some, None, refl, sym, ap, subst, arith, true≢false, length}
 use Rattle.std.specs.List.{AllByRecursion}
 use Rattle.std.specs.Prelude.{unwrap_or}
 use Rattle.std.specs.Ordering.{nat_cmp}
 use Rattle.std.specs.Cmp.Lexicographic.{slice_cmp}
 use Rattle.std.specs.FinMap as texts
-use Rattle.gw_er7.specs.Message.{Texts, text_of, SegmentValue}
+use Rattle.gw_er7.specs.Message.{Texts, SegmentValue}
 use Rattle.gw_profile.specs.Shapes as shapes
-use Rattle.gw_profile.specs.Shapes.{Forest, TableValue, nothing, segment, group}
+use Rattle.gw_profile.specs.Shapes.{TableValue}
 use Rattle.gw_profile.specs.Deterministic.{AtMost}
 use Rattle.gw_profile.specs.WellFormed.{LawfulField}
-use Rattle.gw_validate.specs.Breaches.{Meets}
-use Rattle.gw_check.specs.Intervals.{Interval, never, is_sure, is_never}
+use Rattle.gw_check.specs.Intervals.{Interval, never, is_never}
 use Rattle.gw_check.specs.Places as elements
-use Rattle.gw_check.specs.Places.{Element, Place, Found, found, Known, known, known_of, element_of}
-use Rattle.gw_interp.specs.Occurrences.{Occurrence, a_segment, nodes, at_place, texts_of_first, texts_at}
+use Rattle.gw_check.specs.Places.{Element, Found, found, known_of, element_of}
+use Rattle.gw_interp.specs.Occurrences.{Occurrence, a_segment, nodes, at_place, texts_of_first}
 use Rattle.gw_interp.specs.Meaning.{walked}
 use Rattle.gw_check.specs.Levels.{sources}
-use Rattle.gw_interp.proofs.Walks.{IsSegmentOf, IsOccurrence, NoText, IsKnown, IsWalked}
+use Rattle.gw_interp.proofs.Walks.{IsOccurrence, NoText, IsKnown, IsWalked}
 use Rattle.gw_interp.proofs.Paths.{Several, Finds, place_finds}
 use Rattle.gw_interp.proofs.Splits.{from_nat_le}
 use Rattle.gw_interp.proofs.LevelsSound.{from_eq, LawfulElement, lawful_found, Scoped}

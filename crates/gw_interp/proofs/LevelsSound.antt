@@ -1,36 +1,30 @@
 -- Where no rule fails, the items of a level give what the nodes of the level ask for.
-use Rattle.std.proofs.Common.{◌⊎◌, inl, inr, ◌≡◌, ℕ, zero, suc, ◌+◌, ◌-◌, ◌≤◌, Bool, true, false, ◌&&◌, ◌==◌, not, List, [], ◌∷◌, ◌++◌, Option, Some, None, refl, sym, ap, ◌∙◌, subst, arith, true≢false}
-use Rattle.std.specs.Prelude.{if◌then◌else◌, nat_le, nat_lt}
-use Rattle.std.proofs.lemmas.Bool.Decides.{eqb_tells, leb_tells}
+use Rattle.std.proofs.Common.{inl, inr, ◌≡◌, ℕ, zero, suc, Bool, true, false, ◌==◌, List, [], ◌∷◌, Option, Some, None, refl, sym, ap, ◌∙◌, subst, arith, true≢false}
+use Rattle.std.proofs.lemmas.Bool.Decides.{eqb_tells}
 use Rattle.std.specs.List.{AllByRecursion}
 use Rattle.gw_er7.specs.Message.{SegmentValue}
-use Rattle.gw_profile.specs.declared.shape.Usage.{Usage}
-use Rattle.gw_profile.specs.declared.shape.Usage.TheVariants.{R, RE, O, X}
 use Rattle.gw_profile.specs.declared.shape.Card.{Card}
 use Rattle.gw_profile.specs.Shapes as shapes
 use Rattle.gw_profile.specs.Shapes.{FieldValue, GroupValue, Forest, TableValue, nothing, segment, group}
-use Rattle.gw_profile.specs.Deterministic.{AtMost}
-use Rattle.gw_profile.specs.WellFormed.{Agrees, Rising, field_numbers, LawfulField, LawfulSegment, LawfulGroup, EachSegment, EachGroup}
+use Rattle.gw_profile.specs.WellFormed.{Rising, field_numbers, LawfulField, LawfulSegment, LawfulGroup, EachSegment, EachGroup}
 use Rattle.gw_profile.specs.Fault.{least_field}
-use Rattle.gw_validate.specs.Breaches.{is_forbidden, Meets}
-use Rattle.gw_validate.specs.Cuts.{Cut, Many, Times}
 use Rattle.gw_validate.specs.Conforming.{One, Seq}
-use Rattle.gw_check.specs.Intervals.{Interval, never, once, sum, product, is_never, is_within}
+use Rattle.gw_check.specs.Intervals.{never, product}
 use Rattle.gw_check.specs.Places.{Element, a_segment, a_group, the_whole, Place, Found, times, child_found, found_below, found_in, found, child, nodes_of, nodes_of_child, fields_of, name_of, count_of, count_at, count_if, element_of, within, within_if}
-use Rattle.gw_check.specs.Resolved.{Rule, Items, no_items, segment_item, group_item, flat_item, first_child}
+use Rattle.gw_check.specs.Resolved.{Rule, Items, no_items, segment_item, group_item, flat_item}
 use Rattle.gw_check.specs.Counts.{items_count}
-use Rattle.gw_check.specs.Failures.{Failure, fails}
-use Rattle.gw_check.specs.Fields.{is_expected, segment_failures}
-use Rattle.gw_check.specs.Levels.{sources, its, beyond, first_line, has_no_item, node_failures, level_failures, items_failures}
+use Rattle.gw_check.specs.Failures.{fails}
+use Rattle.gw_check.specs.Fields.{segment_failures}
+use Rattle.gw_check.specs.Levels.{sources, level_failures, items_failures}
 use Rattle.gw_check.specs.Placed.{is_segment, is_group, all_for, are_placed}
 use Rattle.gw_check.specs.Lawful.{LawfulRules, LawfulItems}
 use Rattle.gw_interp.specs.Occurrences.{Occurrence, at_place}
-use Rattle.gw_interp.specs.Meaning.{Walked, IsOne, ForEach, walked, SegmentsBy, GiveBy}
+use Rattle.gw_interp.specs.Meaning.{Walked, IsOne, walked, SegmentsBy, GiveBy}
 use Rattle.gw_interp.proofs.Walks.{IsOccurrence, InScope}
 use Rattle.gw_interp.proofs.Paths.{Several, Finds, place_finds}
 use Rattle.gw_interp.proofs.Parts.{Given, given_none, given_one, given_sum, for_each, for_each_given}
 use Rattle.gw_interp.proofs.Splits as splits
-use Rattle.gw_interp.proofs.Splits.{both_true, three_true, four_true, from_nat_le, nil_left, nil_right, join, joined, lawful_join, groups_join, failures_join, give_join, placed_its, placed_beyond}
+use Rattle.gw_interp.proofs.Splits.{both_true, three_true, four_true, nil_left, nil_right, joined}
 
 -- ---- failures that there are none of
 

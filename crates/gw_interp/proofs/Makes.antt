@@ -12,7 +12,7 @@ use Rattle.gw_check.specs.Places.{Place, child, nodes_of_child, name_of}
 use Rattle.gw_check.specs.Resolved.{Rule, Items, no_items, segment_item, group_item, flat_item, Resolved}
 use Rattle.gw_interp.specs.Occurrences as occurrences
 use Rattle.gw_interp.specs.Occurrences.{Occurrence, at_place}
-use Rattle.gw_interp.specs.Meaning.{Walked, IsImage, IsOne, ForEach, walked, Segments, Give, Means}
+use Rattle.gw_interp.specs.Meaning.{Walked, IsImage, IsOne, ForEach, walked, Segments, Give}
 use Rattle.gw_interp.specs.Ready.{MayImage, MaySegments, MayGive, IsOtherName, AreNames}
 use Rattle.gw_interp.specs.Sound.{IsMade}
 use Rattle.gw_interp.proofs.Paths.{all_append}

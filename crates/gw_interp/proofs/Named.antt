@@ -1,12 +1,12 @@
 -- What holds of each name of a profile holds of each name of a list that can be cut for it.
-use Rattle.std.proofs.Common.{◌≡◌, ℕ, zero, suc, Bool, true, false, ◌||◌, List, [], ◌∷◌, refl, sym, subst}
+use Rattle.std.proofs.Common.{◌≡◌, ℕ, zero, suc, true, List, [], ◌∷◌, refl, sym, subst}
 use Rattle.std.specs.List.{AllByRecursion}
 use Rattle.gw_er7.specs.Message.{SegmentValue}
 use Rattle.gw_profile.specs.Shapes as shapes
 use Rattle.gw_profile.specs.Shapes.{FieldValue, Forest, nothing, segment, group}
 use Rattle.gw_profile.specs.WellFormed.{EachSegment}
 use Rattle.gw_profile.proofs.Facts.{or_left, or_right}
-use Rattle.gw_validate.specs.Cuts.{Cut, Many, Times}
+use Rattle.gw_validate.specs.Cuts.{Cut, Many}
 use Rattle.gw_validate.specs.Conforming.{One, Seq, stands}
 use Rattle.gw_validate.proofs.Names.{equal_names}
 use Rattle.gw_interp.proofs.Paths.{all_append}

@@ -1,14 +1,14 @@
 -- The names of the segments that a map gives.
-use Rattle.std.proofs.Common.{◌≡◌, ℕ, zero, suc, ◌<◌, ◌≤◌, true, List, [], ◌∷◌, ◌++◌, map, Option, Some, None, refl, sym, ap, ◌∙◌, subst, arith, length}
-use Rattle.std.specs.Prelude.{◌==◌, flat_map, codes}
+use Rattle.std.proofs.Common.{◌≡◌, ℕ, zero, suc, ◌<◌, ◌≤◌, List, [], ◌∷◌, ◌++◌, map, Option, Some, None, refl, sym, ap, ◌∙◌, subst, arith, length}
+use Rattle.std.specs.Prelude.{◌==◌, flat_map}
 use Rattle.std.specs.List.{AllByRecursion}
 use Rattle.std.proofs.lemmas.List.{map-append}
-use Rattle.gw_er7.specs.Names.{IsName, is_name, is_named, header_name}
+use Rattle.gw_er7.specs.Names.{is_named, header_name}
 use Rattle.gw_er7.specs.Message.{SegmentValue}
 use Rattle.gw_er7.proofs.Builds.{begun}
 use Rattle.gw_profile.specs.Shapes as shapes
 use Rattle.gw_profile.specs.Shapes.{FieldValue, Forest, nothing, segment, group, ProfileValue}
-use Rattle.gw_profile.specs.WellFormed.{LawfulSegment, IsOther, IsHeader, Headed, EachSegment, WellFormed, once, table_names}
+use Rattle.gw_profile.specs.WellFormed.{LawfulSegment, IsOther, Headed, EachSegment, table_names}
 use Rattle.gw_profile.specs.Deterministic.{AtMost}
 use Rattle.gw_profile.proofs.Facts.{both}
 use Rattle.gw_validate.specs.Cuts.{Cut, Many}

@@ -1,7 +1,6 @@
 -- Where the rules allow a map and the message conforms, each text that the map gives may stand at its place, and no leaf is a fault.
-use Rattle.std.proofs.Common.{◌≡◌, ℕ, ◌<◌, List, [], ◌∷◌, Option, Some, None, length}
-use Rattle.std.specs.List.{AllByRecursion}
-use Rattle.gw_er7.specs.Message.{SegmentValue, IsMessage, first_field, IsEntry}
+use Rattle.std.proofs.Common.{◌≡◌, ℕ, List, [], ◌∷◌, Option, Some, None}
+use Rattle.gw_er7.specs.Message.{SegmentValue, IsMessage}
 use Rattle.gw_profile.specs.Shapes.{FieldValue, Forest, TableValue, ProfileValue}
 use Rattle.gw_profile.specs.WellFormed.{table_names}
 use Rattle.gw_validate.specs.Conforming.{Conforms}

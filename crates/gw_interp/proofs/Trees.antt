@@ -1,5 +1,5 @@
 -- The tree of a message that conforms, as occurrences.
-use Rattle.std.proofs.Common.{◌≡◌, ℕ, suc, ◌≤◌, List, [], ◌∷◌, ◌++◌, refl, map}
+use Rattle.std.proofs.Common.{◌≡◌, ℕ, List, [], ◌∷◌, ◌++◌, map}
 use Rattle.std.specs.List.{AllByRecursion}
 use Rattle.gw_er7.specs.Message.{SegmentValue}
 use Rattle.gw_profile.specs.Shapes as shapes

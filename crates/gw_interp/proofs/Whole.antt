@@ -1,8 +1,7 @@
 -- Where no rule fails, what a map gives conforms to the target.
-use Rattle.std.proofs.Common.{◌⊎◌, inl, inr, ◌≡◌, ℕ, zero, suc, ◌+◌, ◌-◌, ◌≤◌, Bool, true, false, ◌&&◌, ◌||◌, ◌==◌, not, List, [], ◌∷◌, ◌++◌, Option, Some, None, refl, sym, ap, ◌∙◌, subst, arith, true≢false}
-use Rattle.std.specs.Prelude.{if◌then◌else◌, nat_le, nat_lt, filter, bytes_eq}
+use Rattle.std.proofs.Common.{inl, inr, ◌≡◌, ℕ, zero, suc, ◌+◌, ◌-◌, ◌≤◌, Bool, true, false, ◌&&◌, ◌==◌, not, List, [], ◌++◌, Option, Some, None, refl, sym, ap, ◌∙◌, subst, arith, true≢false}
+use Rattle.std.specs.Prelude.{nat_le, nat_lt}
 use Rattle.std.proofs.lemmas.Bool.Decides.{leb_tells}
-use Rattle.std.specs.List.{AllByRecursion}
 use Rattle.gw_er7.specs.Message.{SegmentValue}
 use Rattle.gw_profile.specs.declared.shape.Usage.{Usage}
 use Rattle.gw_profile.specs.declared.shape.Usage.TheVariants.{R, RE, O, X}
@@ -11,8 +10,8 @@ use Rattle.gw_profile.specs.Shapes.{FieldValue, Forest, TableValue, nothing, seg
 use Rattle.gw_profile.specs.Deterministic.{AtMost}
 use Rattle.gw_profile.specs.WellFormed.{Agrees}
 use Rattle.gw_validate.specs.Breaches.{is_forbidden}
-use Rattle.gw_validate.specs.Cuts.{Cut, Many, Times}
-use Rattle.gw_validate.specs.Conforming.{One, Seq}
+use Rattle.gw_validate.specs.Cuts.{Times}
+use Rattle.gw_validate.specs.Conforming.{Seq}
 use Rattle.gw_check.specs.Intervals.{Interval, is_never, is_within}
 use Rattle.gw_check.specs.Places.{Element, a_segment, a_group, child, nodes_of_child}
 use Rattle.gw_check.specs.Resolved.{Rule, Items, no_items, segment_item, group_item, flat_item, first_child}
@@ -26,7 +25,7 @@ use Rattle.gw_interp.specs.Occurrences.{Occurrence}
 use Rattle.gw_interp.specs.Meaning.{Walked, GiveBy}
 use Rattle.gw_interp.proofs.Parts.{Given}
 use Rattle.gw_interp.proofs.Splits as splits
-use Rattle.gw_interp.proofs.Splits.{both_true, three_true, four_true, from_nat_le, nil_left, nil_right, join, joined, lawful_join, groups_join, failures_join, give_join, placed_its, placed_beyond}
+use Rattle.gw_interp.proofs.Splits.{both_true, three_true, four_true, from_nat_le, nil_left, nil_right, joined, lawful_join, groups_join, failures_join, give_join, placed_its, placed_beyond}
 use Rattle.gw_interp.proofs.LevelsSound.{none_broken, from_eq, LawfulNodes, Scoped, FieldsSound, Part, LevelSound, items_given}
 
 -- ---- counts

@@ -2,7 +2,6 @@
 use Rattle.std.specs.Prelude.{◌≡◌, List}
 use Rattle.gw_er7.specs.Message.{SegmentValue, IsMessage}
 use Rattle.gw_profile.specs.Shapes.{ProfileValue}
-use Rattle.gw_profile.specs.WellFormed.{WellFormed}
 use Rattle.gw_validate.specs.Trees.{Tree}
 use Rattle.gw_validate.specs.Broken.{IsTreeOf}
 use Rattle.gw_validate.specs.Conforming.{Conforms}
