@@ -25,7 +25,7 @@ pub fn worked_maps()
     ensures flattened_too_many { least (all_failures oru two_orders m3) ≡ failure 4 3 }
 {}
 
-/// The map that makes of each message of a profile the message itself is allowed from the profile to itself.
+/// The map that makes of each message of a profile the message itself, as far as the profile lists it, is allowed from the profile to itself.
 pub fn identity_is_allowed()
     ensures { (p : ProfileValue) → WellFormed p → all_failures p p (identity p) ≡ [] }
 {}
