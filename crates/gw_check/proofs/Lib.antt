@@ -25,3 +25,5 @@ pub mod IdentityFields
 pub mod IdentityLevels
 pub mod IdentityReads
 pub mod IdentityAllowed
+pub mod Presences
+pub mod Fitting

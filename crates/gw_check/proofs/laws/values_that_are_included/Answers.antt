@@ -1,0 +1,8 @@
+use Rattle.gw_check.proofs.Fitting.{all_listed, all_short}
+use Rattle.gw_check.proofs.laws.values_that_are_included.Goals as goal
+
+pub returns-clause-values : goal.returns-clause-values
+returns-clause-values c = all_listed
+
+pub returns-clause-lengths : goal.returns-clause-lengths
+returns-clause-lengths c = all_short
