@@ -503,6 +503,72 @@ const BY_LINES: [Case<'static>; 27] = [
     ),
 ];
 
+// The profiles and the map of the manual, and its maps that are refused.
+const CLINIC: &str =
+    "profile CLINIC\ntable SEX M F U\nsegment MSH R 1..1\n  field 10 R 1..1 len 20\nsegment PID R 1..1\n  field 3 R 1..2\n    comp 1 R len 20\n  field 5 RE 0..1 len 60\n  field 8 RE 0..1 len 1 table SEX\nsegment NK1 O 0..2\ngroup VISIT O 0..9\n  segment PV1 R 1..1\n    field 2 R 1..1 len 1\nend\n";
+
+const LEDGER: &str =
+    "profile LEDGER\ntable ISO 1 2 9\nsegment MSH R 1..1\n  field 10 R 1..1 len 20\nsegment PID R 1..1\n  field 3 R 1..1\n    comp 1 R len 20\n  field 5 RE 0..1 len 60\n  field 8 RE 0..1 len 1 table ISO\n  field 13 X 0..0\nsegment NK1 RE 0..2\nsegment ZAR O 0..1\n  field 1 R 1..1 len 4\n";
+
+const OF_THE_MANUAL: [(&str, Option<(u8, u32)>); 14] = [
+    (
+        "map CLINIC_TO_LEDGER from CLINIC to LEDGER\ntable SEX\n  row M 1\n  row F 2\n  else 9\nsegment MSH from MSH\n  copy 10 from MSH-10\nsegment PID from PID\n  first 3 from PID-3\n  copy 5 from PID-5\n  build 8 lookup SEX PID-8\nsegment NK1 from NK1\nsegment ZAR always\n  build 1 const WEST\ndrop VISIT\n",
+        None,
+    ),
+    (
+        "map CLINIC_TO_LEDGER from CLINIC to LEDGER\ntable SEX\n  row M 1\n  row F 2\n  else 9\nsegment MSH from MSH\n  copy 10 from MSH-10\nsegment PID from PATIENT\n  first 3 from PID-3\n  copy 5 from PID-5\n  build 8 lookup SEX PID-8\nsegment NK1 from NK1\nsegment ZAR always\n  build 1 const WEST\ndrop VISIT\n",
+        Some((1, 8)),
+    ),
+    (
+        "map CLINIC_TO_LEDGER from CLINIC to LEDGER\ntable SEX\n  row M 1\n  row F 2\n  else 9\nsegment MSH from MSH\n  copy 10 from MSH-10\nsegment PID from PID\n  first 3 from NK1-33\n  copy 5 from PID-5\n  build 8 lookup SEX PID-8\nsegment NK1 from NK1\nsegment ZAR always\n  build 1 const WEST\ndrop VISIT\n",
+        Some((2, 9)),
+    ),
+    (
+        "map CLINIC_TO_LEDGER from CLINIC to LEDGER\ntable SEX\n  row M 1\n  row F 2\n  else 9\nsegment MSH from MSH\n  copy 10 from MSH-10\nsegment PID from PID\n  first 3 from PID-3\n  copy 5 from PID-5\n  build 8 lookup SEX PID-8\nsegment GT1 from NK1\nsegment ZAR always\n  build 1 const WEST\ndrop VISIT\n",
+        Some((3, 12)),
+    ),
+    (
+        "map CLINIC_TO_LEDGER from CLINIC to LEDGER\ntable SEX\n  row M 1\n  row F 2\n  else 9\nsegment MSH from MSH\n  copy 10 from MSH-10\nsegment PID from PID\n  copy 3 from PID-3\n  copy 5 from PID-5\n  build 8 lookup SEX PID-8\nsegment NK1 from NK1\nsegment ZAR always\n  build 1 const WEST\ndrop VISIT\n",
+        Some((4, 9)),
+    ),
+    (
+        "map CLINIC_TO_LEDGER from CLINIC to LEDGER\ntable SEX\n  row M 1\n  row F 2\n  else 9\nsegment MSH from MSH\n  copy 10 from MSH-10\nsegment PID from PID\n  build 3 copy PID-5\n  copy 5 from PID-5\n  build 8 lookup SEX PID-8\nsegment NK1 from NK1\nsegment ZAR always\n  build 1 const WEST\ndrop VISIT\n",
+        Some((5, 9)),
+    ),
+    (
+        "map CLINIC_TO_LEDGER from CLINIC to LEDGER\ntable SEX\n  row M 1\n  row F 2\n  else 9\nsegment MSH from MSH\n  copy 10 from MSH-10\nsegment PID from PID\n  first 3 from PID-3\n  copy 5 from PID-5\n  build 8 copy PID-8\nsegment NK1 from NK1\nsegment ZAR always\n  build 1 const WEST\ndrop VISIT\n",
+        Some((6, 11)),
+    ),
+    (
+        "map CLINIC_TO_LEDGER from CLINIC to LEDGER\ntable SEX\n  row M 1\n  row F 2\n  else 9\nsegment MSH from MSH\n  copy 10 from MSH-10\nsegment PID from PID\n  first 3 from PID-3\n  build 5 copy PID-3.2\n  build 8 lookup SEX PID-8\nsegment NK1 from NK1\nsegment ZAR always\n  build 1 const WEST\ndrop VISIT\n",
+        Some((7, 10)),
+    ),
+    (
+        "map CLINIC_TO_LEDGER from CLINIC to LEDGER\ntable SEX\n  row M 1\n  row F 2\n  else 9\nsegment MSH from MSH\n  copy 10 from MSH-10\nsegment PID from PID\n  first 3 from PID-3\n  copy 5 from PID-5\nsegment NK1 from NK1\nsegment ZAR always\n  build 1 const WEST\ndrop VISIT\n",
+        Some((8, 8)),
+    ),
+    (
+        "map CLINIC_TO_LEDGER from CLINIC to LEDGER\ntable SEX\n  row M 1\n  row F 2\n  else 9\nsegment MSH from MSH\n  copy 10 from MSH-10\nsegment PID from PID\n  first 3 from PID-3\n  copy 5 from PID-5\n  build 8 lookup SEX PID-8\nsegment ZAR always\n  build 1 const WEST\ndrop VISIT\n",
+        Some((8, 1)),
+    ),
+    (
+        "map CLINIC_TO_LEDGER from CLINIC to LEDGER\ntable SEX\n  row M 1\n  row F 2\n  else 9\nsegment MSH from MSH\n  copy 10 from MSH-10\nsegment PID from PID\n  first 3 from PID-3\n  copy 5 from PID-5\n  build 8 lookup SEX PID-8\nsegment NK1 from NK1\nsegment ZAR always\n  build 1 const WEST\n",
+        Some((9, 1)),
+    ),
+    (
+        "map CLINIC_TO_LEDGER from CLINIC to LEDGER\ntable SEX\n  row M 1\n  row F 2\nsegment MSH from MSH\n  copy 10 from MSH-10\nsegment PID from PID\n  first 3 from PID-3\n  copy 5 from PID-5\n  build 8 lookup SEX PID-8\nsegment NK1 from NK1\nsegment ZAR always\n  build 1 const WEST\ndrop VISIT\n",
+        Some((10, 10)),
+    ),
+    (
+        "map CLINIC_TO_LEDGER from CLINIC to LEDGER\ntable SEX\n  row M 1\n  row F 2\n  else 9\nsegment MSH from MSH\n  copy 10 from MSH-10\nsegment PID from PID\n  first 3 from PID-3\n  copy 5 from PID-5\n  build 8 lookup SEX PID-8\n  copy 13 from PID-5\nsegment NK1 from NK1\nsegment ZAR always\n  build 1 const WEST\ndrop VISIT\n",
+        Some((11, 12)),
+    ),
+    (
+        "map CLINIC_TO_LEDGER from CLINIC to LEDGER\ntable SEX\n  row M 1\n  row F 2\n  else 9\nsegment MSH from MSH\n  copy 10 from MSH-10\nsegment PID from PID\n  first 3 from PID-3\n  copy 5 from PID-5\n  build 8 lookup SEX PID-8\nsegment NK1 from NK1\nsegment ZAR always\n  build 1 const WESTWING\ndrop VISIT\n",
+        Some((12, 14)),
+    ),
+];
+
 fn profile(alloc: Global, text: &str) -> Result<Arc<Profile>, Fail> {
     let Ok(profile) = gw_profile::parse(alloc, text.as_bytes()) else {
         return Err("no profile".into());
@@ -548,6 +614,9 @@ fn failures(rt: HostRuntime) -> Result<(), Fail> {
             let found = failure(alloc, source, target, map)?;
             assert_eq!(rt; found, *expected, "{map}");
         }
+    }
+    for (map, expected) in &OF_THE_MANUAL {
+        assert_eq!(rt; failure(alloc, CLINIC, LEDGER, map)?, *expected, "{map}");
     }
     Ok(())
 }
