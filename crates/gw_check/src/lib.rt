@@ -41,6 +41,8 @@ pub use resolved::{
 pub use shape::{Presence, Shape, Values};
 
 #[cfg(test)]
+mod checker_tests;
+#[cfg(test)]
 mod included_tests;
 #[cfg(test)]
 mod resolve_tests;
