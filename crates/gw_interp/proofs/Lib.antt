@@ -32,3 +32,8 @@ mod Lending
 mod Sourcing
 mod Fills
 mod Filled
+mod Makings
+mod Copies
+mod Placed
+mod Ruled
+mod Imaged

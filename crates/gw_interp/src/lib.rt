@@ -1,9 +1,12 @@
 //! What a map makes of a message, and what the checker's yes says of it.
 #![tactic(auto)]
 
+mod copying;
 mod filling;
 pub mod laws;
 mod lookup;
+mod making;
 mod places;
 mod putting;
 mod reading;
+mod segments;
