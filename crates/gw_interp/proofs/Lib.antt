@@ -37,3 +37,8 @@ mod Copies
 mod Placed
 mod Ruled
 mod Imaged
+mod Nodes
+mod Inner
+mod Giving
+mod Levels
+mod Ones

@@ -3,6 +3,7 @@
 
 mod copying;
 mod filling;
+mod items;
 pub mod laws;
 mod lookup;
 mod making;
