@@ -42,3 +42,4 @@ mod Inner
 mod Giving
 mod Levels
 mod Ones
+mod Translated

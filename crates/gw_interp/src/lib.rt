@@ -11,3 +11,6 @@ mod places;
 mod putting;
 mod reading;
 mod segments;
+mod translating;
+
+pub use translating::translate;
