@@ -13,21 +13,21 @@ use Rattle.gw_interp.specs.Putting.{last_name, last_texts}
 use Rattle.gw_interp.specs.Filling.{key_of, MayHold, IsHeld, MayFill, AreFilled}
 use Rattle.gw_interp.proofs.Fills.{same_last}
 
-abbrev at_last : Texts → SegmentValue → SegmentValue
+abbrev pub at_last : Texts → SegmentValue → SegmentValue
 at_last t s = record s { at = t }
 
-same_name : (t : Texts) (old : List SegmentValue) → last_name (with_last (at_last t) old) ≡ last_name old
+pub same_name : (t : Texts) (old : List SegmentValue) → last_name (with_last (at_last t) old) ≡ last_name old
 same_name t [] = refl
 same_name t (s ∷ []) = refl
 same_name t (s ∷ u ∷ []) = refl
 same_name t (s ∷ u ∷ v ∷ ss) = same_name t (u ∷ v ∷ ss)
 
-same_length : (t : Texts) (old : List SegmentValue) → length (with_last (at_last t) old) ≡ length old
+pub same_length : (t : Texts) (old : List SegmentValue) → length (with_last (at_last t) old) ≡ length old
 same_length t [] = refl
 same_length t (s ∷ []) = refl
 same_length t (s ∷ u ∷ ss) = ap suc (same_length t (u ∷ ss))
 
-twice : (t r : Texts) (old : List SegmentValue) → with_last (at_last r) (with_last (at_last t) old) ≡ with_last (at_last r) old
+pub twice : (t r : Texts) (old : List SegmentValue) → with_last (at_last r) (with_last (at_last t) old) ≡ with_last (at_last r) old
 twice t r [] = refl
 twice t r (s ∷ []) = refl
 twice t r (s ∷ u ∷ []) = refl
@@ -35,7 +35,7 @@ twice t r (s ∷ u ∷ v ∷ ss) = ap (λ l. s ∷ l) (twice t r (u ∷ v ∷ ss
 
 module _ (w : Walked) (field rep : ℕ) where
   pub none_filled : (old : List SegmentValue) → AreFilled w field rep [] old old
-  none_filled old = record { others = same_last old; each = tt; elsewhere = λ key apart. refl }
+  none_filled old = record { others = same_last old; each = tt; elsewhere = λ key apart. refl; keeps = λ h. h }
 
   free_on : (a : At) (old new : List SegmentValue) → IsHeld w field rep a old new → (leaves : List At) → (Among (key_of field rep a) (map (key_of field rep) leaves) → ⊥) → AllByRecursion (λ b. texts.get (last_texts old) (key_of field rep b) ≡ None) leaves → AllByRecursion (λ b. texts.get (last_texts new) (key_of field rep b) ≡ None) leaves
   free_on a old new held [] apart free = tt
@@ -61,6 +61,7 @@ module _ (w : Walked) (field rep : ℕ) where
         others = filled.others ∙ ap (with_last (at_last (last_texts new))) held.put.others ∙ twice (last_texts mid) (last_texts new) old;
         each = (subst (LeafMeans w a.leaf) (sym text) held.means, filled.each);
         elsewhere = λ key apart. filled.elsewhere key (λ h. apart (inr h)) ∙ held.put.elsewhere key (λ e. apart (inl e));
+        keeps = λ h. filled.keeps (held.put.keeps h);
       }
 
 pub head_first : {X : Type 0} → (xs : List X) (x : X) → 1 ≤ length xs → x ≡ get_or xs 0 x → xs ≡ x ∷ take (length xs - 1) (drop 1 xs)

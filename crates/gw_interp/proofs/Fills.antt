@@ -1,13 +1,15 @@
 -- What putting a text changes.
-use Rattle.std.proofs.Common.{◌≡◌, ℕ, zero, suc, ◌<◌, true, false, cond, List, [], ◌∷◌, Some, None, refl, sym, ap, ◌∙◌, arith, length, Result, Ok, Err, OnOk}
+use Rattle.std.proofs.Common.{◌≡◌, ℕ, zero, suc, ◌<◌, true, false, cond, subst, List, [], ◌∷◌, Some, None, refl, sym, ap, ◌∙◌, arith, length, Result, Ok, Err, OnOk}
 use Rattle.std.specs.Prelude.{◌==◌, unwrap_or}
 use Rattle.std.proofs.lemmas.Bool.Decides.{Decides-eqb}
 use Rattle.std.specs.Cmp.Lexicographic.{nat_list_cmp_total}
 use Rattle.std.specs.FinMap as texts
 use Rattle.std.specs.FinMap.{get-insert}
-use Rattle.gw_er7.specs.Message.{Texts, SegmentValue, first_field, IsEntry}
-use Rattle.gw_er7.specs.Building.{with_last, MayPut}
+use Rattle.std.specs.List.{AllByRecursion}
+use Rattle.gw_er7.specs.Message.{Texts, SegmentValue, first_field, IsEntry, IsOther}
+use Rattle.gw_er7.specs.Building.{IsBegun, with_last, MayPut}
 use Rattle.gw_er7.proofs.Keys.{tie, no_tie}
+use Rattle.gw_er7.proofs.Lasts.{kept_put}
 use Rattle.gw_interp.specs.Putting.{last_name, last_texts, MayStand, IsPut}
 
 pub may_put : (key text : List ℕ) (old : List SegmentValue) → 0 < length text → MayStand key text old → MayPut key text old
@@ -32,8 +34,18 @@ put_others key text [] at e = refl
 put_others key text (s ∷ []) at e = ap (λ m. record s { at = m } ∷ []) (sym e)
 put_others key text (s ∷ t ∷ ss) at e = ap (λ l. s ∷ l) (put_others key text (t ∷ ss) at e)
 
-pub put_is : (key text : List ℕ) (old new : List SegmentValue) → MayStand key text old → new ≡ with_last (putting key text) old → IsPut key text old new
-put_is key text old new may e =
+others_put : (key text : List ℕ) (ss : List SegmentValue) → MayPut key text ss → AllByRecursion IsOther ss → AllByRecursion IsOther (with_last (putting key text) ss)
+others_put key text [] may h = absurd may
+others_put key text (s ∷ []) may h = (record { segment = kept_put s key text h.0.segment may.1; name = h.0.name }, tt)
+others_put key text (s ∷ t ∷ ss) may h = (h.0, others_put key text (t ∷ ss) may h.1)
+
+begun_put : (key text : List ℕ) (ss : List SegmentValue) → MayPut key text ss → IsBegun ss → IsBegun (with_last (putting key text) ss)
+begun_put key text [] may h = absurd may
+begun_put key text (s ∷ []) may h = (record { segment = kept_put s key text h.0.segment may.1; name = h.0.name }, tt)
+begun_put key text (s ∷ t ∷ ss) may h = (h.0, others_put key text (t ∷ ss) may h.1)
+
+pub put_is : (key text : List ℕ) (old new : List SegmentValue) → 0 < length text → MayStand key text old → new ≡ with_last (putting key text) old → IsPut key text old new
+put_is key text old new lt may e =
     let last : last_texts new ≡ texts.insert (last_texts old) key text = ap last_texts e ∙ put_last key text old may.begun in
     record {
       others = e ∙ put_others key text old (last_texts new) last;
@@ -43,6 +55,7 @@ put_is key text old new may e =
       elsewhere = λ k apart.
           ap (λ m. texts.get m k) last
           ∙ get-insert nat_list_cmp_total (last_texts old) key text k ∙ ap (λ b. cond b (Some text) (texts.get (last_texts old) k)) (no_tie k key apart);
+      keeps = λ h. subst IsBegun (sym e) (begun_put key text old (may_put key text old lt may) h);
     }
 
 pub same_last : (old : List SegmentValue) → old ≡ with_last (λ s. record s { at = last_texts old }) old
@@ -56,6 +69,7 @@ nothing_put key text old may e =
       others = same_last old;
       here = ap (λ o. unwrap_or o []) may.free ∙ sym (empty text e);
       elsewhere = λ k apart. refl;
+      keeps = λ h. h;
     }
   where
     empty : (text : List ℕ) → length text ≡ 0 → text ≡ []

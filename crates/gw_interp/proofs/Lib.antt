@@ -32,3 +32,14 @@ mod Lending
 mod Sourcing
 mod Fills
 mod Filled
+mod Makings
+mod Copies
+mod Placed
+mod Ruled
+mod Imaged
+mod Nodes
+mod Inner
+mod Giving
+mod Levels
+mod Ones
+mod Translated

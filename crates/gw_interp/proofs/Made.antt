@@ -30,14 +30,14 @@ use Rattle.gw_interp.proofs.Contents.{none_broken, demanded, sub_unbroken}
 
 -- ---- elements found by their numbers
 
-own_number : (n : ℕ) → n == n ≡ true
+pub own_number : (n : ℕ) → n == n ≡ true
 own_number n = (Decides-eqb n n).1 refl
 
 pub found_by_number : {A : Type 0} (number : A → ℕ) (low high : ℕ) (xs : List A) → Rising low high (map number xs) → AllByRecursion (λ x. find (λ y. number y == number x) xs ≡ Some x) xs
 found_by_number number low high xs rising =
     found_each number (λ n y. number y == n) (λ x. own_number (number x)) (λ x y e. sym ((Decides-eqb (number y) (number x)).0 e)) xs (rising_distinct low high (map number xs) rising)
 
-same_place : (a b : At) → b.comp == a.comp && b.sub == a.sub ≡ true → place a ≡ place b
+pub same_place : (a b : At) → b.comp == a.comp && b.sub == a.sub ≡ true → place a ≡ place b
 same_place a b e =
     let p = facts.both (b.comp == a.comp) (b.sub == a.sub) e in
     let comp : a.comp ≡ b.comp = sym ((Decides-eqb b.comp a.comp).0 p.0) in

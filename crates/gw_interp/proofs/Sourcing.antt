@@ -19,42 +19,16 @@ use Rattle.gw_interp.specs.Sourced.{texts_of, IsFirstRep}
 
 -- ---- the first that is present
 
-nat_cases : (k n : ℕ) → k ≤ n + 1 → (k ≤ n) ⊎ (k ≡ n + 1)
-nat_cases k n h =
-    elim (leb_tells k n) [
-      | inl x ↦ inl x.1
-      | inr x ↦ inr (omega (arith, x.1, h))
-    ]
-
-pub record NoneUpTo (P : ℕ → Type 0) (n : ℕ) : Type 0 where
-  pub none : (k : ℕ) → k ≤ n → P k → ⊥
-
 module _ (m : Texts) (field : ℕ) where
-  pub none_yet : (last : ℕ) → IsLast (RepAt m field) last → NoneUpTo (RepAt m field) 0
-  none_yet last is = record { none = λ k le p. let w = is.within k p in absurd (omega (arith, le, w.0)) }
+  pub none_present : (last : ℕ) → IsLast (RepAt m field) last → last ≡ 0 → IsFirstRep m field None
+  none_present last is e = λ p. let w = is.within p.0 p.1 in omega (arith, e, w.0, w.1)
 
-  pub none_more : (n comp : ℕ) → IsLast (CompAt m field (n + 1)) comp → comp ≤ 0 → NoneUpTo (RepAt m field) n → NoneUpTo (RepAt m field) (n + 1)
-  none_more n comp is le so = record { none = go }
-    where
-      absent : RepAt m field (n + 1) → ⊥
-      absent p = let w = is.within p.0 p.1 in absurd (omega (arith, le, w.0, w.1))
-
-      go : (k : ℕ) → k ≤ n + 1 → RepAt m field k → ⊥
-      go k h p = by (nat_cases k n h)
-        where
-          by : (k ≤ n) ⊎ (k ≡ n + 1) → ⊥
-          by (inl less) = so.none k less p
-          by (inr same) = absent (subst (RepAt m field) same p)
-
-  pub first_there : (n comp : ℕ) → IsLast (CompAt m field (n + 1)) comp → 0 < comp → NoneUpTo (RepAt m field) n → IsFirstRep m field (Some (n + 1))
-  first_there n comp is lt so =
+  pub first_present : (last n : ℕ) → IsLast (RepAt m field) last → RepAt m field n → ((rep : ℕ) → 0 < rep → RepAt m field rep → n ≤ rep) → IsFirstRep m field (Some n)
+  first_present last n is there first =
       record {
-        holds = (comp, is.there lt);
-        none_before = λ k less p. so.none k (omega (arith, less)) p;
+        holds = there;
+        none_before = λ k less p. let w = is.within k p in let le : n ≤ k = first k w.0 p in omega (arith, less, le);
       }
-
-  pub none_there : (n last : ℕ) → IsLast (RepAt m field) last → last ≤ n → NoneUpTo (RepAt m field) n → IsFirstRep m field None
-  none_there n last is le so = λ p. so.none p.0 (let w = is.within p.0 p.1 in omega (arith, le, w.1)) p.1
 
 -- ---- the segment of the first occurrence
 

@@ -3,7 +3,7 @@ use Rattle.std.specs.Prelude.{◌≡◌, ℕ, ◌<◌, List, [], ◌∷◌, leng
 use Rattle.std.specs.List.{AllByRecursion}
 use Rattle.std.specs.FinMap as texts
 use Rattle.gw_er7.specs.Message.{SegmentValue, first_field, IsEntry}
-use Rattle.gw_er7.specs.Building.{with_last}
+use Rattle.gw_er7.specs.Building.{IsBegun, with_last}
 use Rattle.gw_validate.specs.Fitting.{OccValue}
 use Rattle.gw_maplang.specs.Among.{Among, Distinct}
 use Rattle.gw_check.specs.Resolved.{At}
@@ -46,3 +46,4 @@ pub record AreFilled (w : Walked) (field rep : ℕ) (leaves : List At) (old new 
   pub others : new ≡ with_last (λ s. record s { at = last_texts new }) old
   pub each : AllByRecursion (λ a. LeafMeans w a.leaf (unwrap_or (texts.get (last_texts new) (key_of field rep a)) [])) leaves
   pub elsewhere : (key : List ℕ) → (Among key (map (key_of field rep) leaves) → ⊥) → texts.get (last_texts new) key ≡ texts.get (last_texts old) key
+  pub keeps : IsBegun old → IsBegun new

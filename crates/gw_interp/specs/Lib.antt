@@ -6,3 +6,5 @@ pub mod Sourced
 pub mod Putting
 pub mod Filling
 pub mod Ready
+pub mod Making
+pub mod Within

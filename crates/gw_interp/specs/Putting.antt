@@ -2,7 +2,7 @@
 use Rattle.std.specs.Prelude.{◌≡◌, ℕ, ◌<◌, List, [], ◌∷◌, length, None, unwrap_or}
 use Rattle.std.specs.FinMap as texts
 use Rattle.gw_er7.specs.Message.{Texts, SegmentValue, first_field, IsEntry}
-use Rattle.gw_er7.specs.Building.{with_last}
+use Rattle.gw_er7.specs.Building.{IsBegun, with_last}
 
 abbrev pub last_name : List SegmentValue → List ℕ
 last_name [] = []
@@ -25,3 +25,4 @@ pub record IsPut (key text : List ℕ) (old new : List SegmentValue) : Type 0 wh
   pub others : new ≡ with_last (λ s. record s { at = last_texts new }) old
   pub here : unwrap_or (texts.get (last_texts new) key) [] ≡ text
   pub elsewhere : (k : List ℕ) → (k ≡ key → ⊥) → texts.get (last_texts new) k ≡ texts.get (last_texts old) k
+  pub keeps : IsBegun old → IsBegun new

@@ -5,6 +5,7 @@ ghost use Rattle.gw_check.specs.Seen.{at_leaf};
 ghost use Rattle.gw_interp.specs.Lent.{AreOf};
 ghost use Rattle.gw_interp.specs.Putting.{last_name, last_texts};
 ghost use Rattle.gw_interp.specs.Filling.{message_of, read_by, key_of, MayHold, IsHeld, MayFill, AreFilled};
+ghost use Rattle.gw_interp.specs.Making.{MayFillRep, IsRepFilled};
 
 use crate::lookup::leaf_text;
 use crate::putting::put_text;
@@ -44,8 +45,8 @@ fn put_leaf<'a>(
     }
 }
 
-/// Puts the texts of leaves at a repetition of a field of the last segment.
-pub(crate) fn put_leaves<'a>(
+// Puts the texts of leaves at a repetition of a field of the last segment.
+fn put_leaves<'a>(
     alloc: Global,
     rows: &'a Map,
     reading: &Reading<'_, 'a>,
@@ -63,4 +64,21 @@ pub(crate) fn put_leaves<'a>(
     };
     put_leaf(alloc, rows, reading, builder, first, field, rep)?;
     put_leaves(alloc, rows, reading, builder, rest, field, rep)
+}
+
+/// Puts the texts of leaves at all places of a repetition, where none is.
+pub(crate) fn fill_rep<'a>(
+    alloc: Global,
+    rows: &'a Map,
+    reading: &Reading<'_, 'a>,
+    builder: &mut Builder,
+    leaves: &'a [At],
+    field: usize,
+    rep: usize,
+) -> Result<(), AllocError>
+    requires of { AreOf (message_of reading.now.scope.now) reading.now.scope.now }
+    requires fill { MayFillRep (read_by reading.now) field rep (map (at_leaf rows.now.tables) leaves.now) builder.old }
+    ensures { OnOk result (IsRepFilled (read_by reading.now) field rep (map (at_leaf rows.now.tables) leaves.now) builder.old builder.new) }
+{
+    put_leaves(alloc, rows, reading, builder, leaves, field, rep)
 }

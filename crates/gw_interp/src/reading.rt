@@ -1,6 +1,7 @@
 //! The texts at the sources of a map.
-ghost use Rattle.std.specs.Prelude.{◌≡◌, List, IfOk};
+ghost use Rattle.std.specs.Prelude.{◌≡◌, ℕ, ◌<◌, ◌≤◌, List, IfOk};
 ghost use Rattle.gw_er7.specs.Message.{SegmentValue, text_of};
+ghost use Rattle.gw_er7.specs.Presence.{RepAt, IsLast};
 ghost use Rattle.gw_check.specs.Seen.{place as seen_place, source as seen_source};
 ghost use Rattle.gw_interp.specs.Occurrences.{texts_at};
 ghost use Rattle.gw_interp.specs.Lent.{scope as walked, AreOf};
@@ -44,17 +45,35 @@ pub(crate) fn segment_at<'a>(
     }
 }
 
+/// The first repetition of a field that is present behind this one, up to the last. It takes time by the logarithm of the segment's values.
+pub(crate) fn next_rep(segment: &Segment<'_>, field: usize, after: usize, last: usize) -> usize
+    requires last { IsLast (RepAt segment.now.at field) last }
+    requires after { after < last }
+    ensures there { RepAt segment.now.at field result }
+    ensures after { after < result }
+    ensures first { (rep : ℕ) → after < rep → RepAt segment.now.at field rep → result ≤ rep }
+{
+    let place = gw_er7::Place {
+        field,
+        rep: after + 1,
+        comp: 0,
+        sub: 0,
+    };
+    let at = segment.values_before(0, place);
+    let holds = at < segment.value_count();
+    prove!(holds);
+    segment.value(at).place.rep
+}
+
 /// The first repetition of a field that is present.
 pub(crate) fn first_rep(segment: &Segment<'_>, field: usize) -> Option<usize>
     ensures { IsFirstRep segment.now.at field result }
 {
     let last = segment.reps(field);
-    for before in 0..last {
-        if segment.comps(field, before + 1) > 0 {
-            return Some(before + 1);
-        }
+    if last == 0 {
+        return None;
     }
-    None
+    Some(next_rep(segment, field, 0, last))
 }
 
 // The text of a subcomponent of a repetition.

@@ -10,4 +10,4 @@ pub put-requires : goal.put-requires
 put-requires c = may_put (numbers c.args.place) c.args.text.now c.args.builder.now (some_long (length c.args.text.now) (sym c.is_empty.ensures ∙ c.if-is_empty.false)) c.requires
 
 pub returns-clause-ok : goal.returns-clause-ok
-returns-clause-ok c = on_ok _ _ c.put.result (put_is (numbers c.args.place) c.args.text.now c.args.builder.now c.put.new.self c.requires) c.put.ensures.ok
+returns-clause-ok c = on_ok _ _ c.put.result (put_is (numbers c.args.place) c.args.text.now c.args.builder.now c.put.new.self (some_long (length c.args.text.now) (sym c.is_empty.ensures ∙ c.if-is_empty.false)) c.requires) c.put.ensures.ok

@@ -1,0 +1,169 @@
+//! Fields of the last segment, made by their rules.
+ghost use Rattle.std.specs.Prelude.{◌≡◌, ℕ, OnOk, IfOk, map};
+ghost use Rattle.gw_check.specs.Resolved.{copy, first, repeat, build};
+ghost use Rattle.gw_check.specs.Seen.{reference, at_leaf, rule as seen_rule};
+ghost use Rattle.gw_interp.specs.Lent.{AreOf};
+ghost use Rattle.gw_interp.specs.Meaning.{walking as walking_in};
+ghost use Rattle.gw_interp.specs.Sourced.{current_texts};
+ghost use Rattle.gw_interp.specs.Filling.{message_of};
+ghost use Rattle.gw_interp.specs.Making.{seen_from, MayFillRep, IsRepFilled, MayMakeBy, IsMadeBy, MayMakeRule, IsRuleMade};
+
+use crate::copying::{Spot, copy_rep, copy_reps};
+use crate::filling::fill_rep;
+use crate::reading::{Reading, Repetition, first_rep, next_rep, segment_at};
+use gw_check::{At, Making, Reference, Rule};
+use gw_er7::Builder;
+use gw_maplang::Map;
+use gw_validate::Occ;
+use std::alloc::{AllocError, Global};
+
+// The repetition of this number of a field, where its segment is there.
+fn repetition_at<'a>(
+    alloc: Global,
+    scope: &[Occ<'a>],
+    from: &Reference,
+    rep: usize,
+) -> Result<Option<Repetition<'a>>, AllocError>
+    requires of { AreOf (message_of scope.now) scope.now }
+    ensures { IfOk result (λ current. (comp sub : ℕ) → current_texts current comp sub ≡ (walking_in (seen_from scope.now) (reference from.now) rep).current comp sub) }
+{
+    match segment_at(alloc, scope, &from.place)? {
+        None => Ok(None),
+        Some(segment) => Ok(Some(Repetition {
+            segment,
+            field: from.field as usize,
+            rep,
+        })),
+    }
+}
+
+// Makes a field as another.
+fn make_copy(
+    alloc: Global,
+    scope: &[Occ<'_>],
+    builder: &mut Builder,
+    from: &Reference,
+    field: usize,
+) -> Result<(), AllocError>
+    requires of { AreOf (message_of scope.now) scope.now }
+    requires may { MayMakeBy (seen_from scope.now) (copy (reference from.now)) field builder.old }
+    ensures { OnOk result (IsMadeBy (seen_from scope.now) (copy (reference from.now)) field builder.old builder.new) }
+{
+    let Some(segment) = segment_at(alloc, scope, &from.place)? else {
+        return Ok(());
+    };
+    copy_reps(builder, &segment, from.field as usize, field)
+}
+
+// Makes a field as the first repetition of another.
+fn make_first(
+    alloc: Global,
+    scope: &[Occ<'_>],
+    builder: &mut Builder,
+    from: &Reference,
+    field: usize,
+) -> Result<(), AllocError>
+    requires of { AreOf (message_of scope.now) scope.now }
+    requires may { MayMakeBy (seen_from scope.now) (first (reference from.now)) field builder.old }
+    ensures { OnOk result (IsMadeBy (seen_from scope.now) (first (reference from.now)) field builder.old builder.new) }
+{
+    let Some(segment) = segment_at(alloc, scope, &from.place)? else {
+        return Ok(());
+    };
+    let source = from.field as usize;
+    let Some(rep) = first_rep(&segment, source) else {
+        return Ok(());
+    };
+    let spot = Spot { field: source, rep };
+    copy_rep(builder, &segment, spot, Spot { field, rep: 1 })
+}
+
+// Makes one repetition of leaves.
+fn make_build<'a>(
+    alloc: Global,
+    rows: &'a Map,
+    scope: &[Occ<'a>],
+    builder: &mut Builder,
+    leaves: &'a [At],
+    field: usize,
+) -> Result<(), AllocError>
+    requires of { AreOf (message_of scope.now) scope.now }
+    requires may { MayMakeBy (seen_from scope.now) (build (map (at_leaf rows.now.tables) leaves.now)) field builder.old }
+    ensures { OnOk result (IsMadeBy (seen_from scope.now) (build (map (at_leaf rows.now.tables) leaves.now)) field builder.old builder.new) }
+{
+    let reading = Reading {
+        scope,
+        current: None,
+    };
+    fill_rep(alloc, rows, &reading, builder, leaves, field, 1)
+}
+
+// Makes a repetition of leaves for that of the same number of another field.
+fn make_rep<'a>(
+    alloc: Global,
+    rows: &'a Map,
+    scope: &[Occ<'a>],
+    builder: &mut Builder,
+    from: &Reference,
+    leaves: &'a [At],
+    field: usize,
+    rep: usize,
+) -> Result<(), AllocError>
+    requires of { AreOf (message_of scope.now) scope.now }
+    requires fill { MayFillRep (walking_in (seen_from scope.now) (reference from.now) rep) field rep (map (at_leaf rows.now.tables) leaves.now) builder.old }
+    ensures { OnOk result (IsRepFilled (walking_in (seen_from scope.now) (reference from.now) rep) field rep (map (at_leaf rows.now.tables) leaves.now) builder.old builder.new) }
+{
+    let current = repetition_at(alloc, scope, from, rep)?;
+    let reading = Reading { scope, current };
+    fill_rep(alloc, rows, &reading, builder, leaves, field, rep)
+}
+
+// Makes a repetition of leaves for each repetition of another field that is there.
+fn make_repeat<'a>(
+    alloc: Global,
+    rows: &'a Map,
+    scope: &[Occ<'a>],
+    builder: &mut Builder,
+    from: &Reference,
+    leaves: &'a [At],
+    field: usize,
+) -> Result<(), AllocError>
+    requires of { AreOf (message_of scope.now) scope.now }
+    requires may { MayMakeBy (seen_from scope.now) (repeat (reference from.now) (map (at_leaf rows.now.tables) leaves.now)) field builder.old }
+    ensures { OnOk result (IsMadeBy (seen_from scope.now) (repeat (reference from.now) (map (at_leaf rows.now.tables) leaves.now)) field builder.old builder.new) }
+{
+    let Some(segment) = segment_at(alloc, scope, &from.place)? else {
+        return Ok(());
+    };
+    let source = from.field as usize;
+    let last = segment.reps(source);
+    let mut rep = 0;
+    while rep < last {
+        rep = next_rep(&segment, source, rep, last);
+        make_rep(alloc, rows, scope, builder, from, leaves, field, rep)?;
+    }
+    Ok(())
+}
+
+/// Makes the field of a rule.
+pub(crate) fn make_rule<'a>(
+    alloc: Global,
+    rows: &'a Map,
+    scope: &[Occ<'a>],
+    builder: &mut Builder,
+    rule: &'a Rule,
+) -> Result<(), AllocError>
+    requires of { AreOf (message_of scope.now) scope.now }
+    requires may { MayMakeRule (seen_from scope.now) (seen_rule rows.now.tables rule.now) builder.old }
+    ensures { OnOk result (IsRuleMade (seen_from scope.now) (seen_rule rows.now.tables rule.now) builder.old builder.new) }
+{
+    let field = rule.field as usize;
+    match &rule.making {
+        Making::Copy(from) => make_copy(alloc, scope, builder, from, field),
+        Making::First(from) => make_first(alloc, scope, builder, from, field),
+        Making::Repeat(from, leaves) => {
+            make_repeat(alloc, rows, scope, builder, from, leaves, field)
+        }
+        Making::Build(leaves) => make_build(alloc, rows, scope, builder, leaves, field),
+    }
+}

@@ -1,0 +1,56 @@
+//! Translation: what a checked map makes of a message.
+ghost use Rattle.std.specs.Prelude.{◌≡◌, IfOk, None};
+ghost use Rattle.gw_er7.specs.Message.{IsMessage};
+ghost use Rattle.gw_profile.specs.Seen.{profile_value};
+ghost use Rattle.gw_validate.specs.Conforming.{Conforms};
+ghost use Rattle.gw_validate.specs.Occurring.{tree_of};
+ghost use Rattle.gw_validate.specs.Broken.{IsTreeOf};
+ghost use Rattle.gw_maplang.specs.Lawful.{Lawful};
+ghost use Rattle.gw_maplang.specs.Seen.{map_value};
+ghost use Rattle.gw_check.specs.CheckedMap.{resolved_map};
+ghost use Rattle.gw_interp.specs.Meaning.{Means};
+
+use crate::items::put_items;
+use gw_check::CheckedMap;
+use gw_er7::{Builder, Message};
+use gw_maplang::Map;
+use gw_validate::{Occ, Tree};
+use std::alloc::{AllocError, Global};
+
+// The whole message as an occurrence, and what its tree keeps.
+fn root_of(tree: &Tree) -> Occ<'_>
+    ensures root { result ≡ record { message = tree.now.message; number = None; each = tree.now.each } }
+    ensures tree { IsTreeOf (profile_value tree.now.profile) tree.now.message (tree_of tree.now.each) }
+    ensures conforms { Conforms (profile_value tree.now.profile) tree.now.message }
+    ensures message { IsMessage tree.now.message }
+{
+    let _segments = tree.message().segment_count();
+    tree.root()
+}
+
+// The map, and what each map keeps.
+fn rows_of(map: &CheckedMap) -> &Map
+    ensures map { result.now ≡ map.now.map }
+    ensures lawful { Lawful (map_value map.now.map) }
+{
+    let rows = map.map();
+    let _items = rows.items();
+    rows
+}
+
+/// The one message that the map makes of the tree's message. It conforms to the map's target.
+///
+/// It takes time by the sizes of the message, of the map and of the result, times the logarithm of the values in a segment. The one error is want of memory.
+pub fn translate(alloc: Global, map: &CheckedMap, tree: &Tree) -> Result<Message, AllocError>
+    requires takes { profile_value tree.now.profile ≡ profile_value map.now.source }
+    ensures means { IfOk result (λ made. Means (profile_value map.now.target) (resolved_map map.now) tree.now.message (tree_of tree.now.each) made) }
+    ensures conforms { IfOk result (λ made. Conforms (profile_value map.now.target) made) }
+{
+    let mut scope = Vec::new(alloc);
+    scope.push(root_of(tree))?;
+    let mut builder = Builder::new(alloc);
+    let rows = rows_of(map);
+    let nodes = map.target().nodes();
+    put_items(alloc, rows, &scope, &mut builder, nodes, map.items())?;
+    Ok(builder.finish())
+}
