@@ -12,10 +12,7 @@ pub(crate) fn process_words<R: Env + AllocGlobal>(rt: &R) -> io::Result<Vec<Stri
 
 /// `validate PROFILE [--stamp DIGITS]`.
 fn validate<'a>(alloc: Global) -> Result<Command<'a>, AllocError> {
-    let profile = Arg::new(alloc, "PROFILE")
-        .help("The file of the message profile")
-        .required(true)
-        .action(ArgAction::Set);
+    let profile = file(alloc, "PROFILE", "The file of the message profile");
     let stamp = Arg::new(alloc, "stamp")
         .long("stamp")
         .value_name("DIGITS")
@@ -25,6 +22,27 @@ fn validate<'a>(alloc: Global) -> Result<Command<'a>, AllocError> {
         .about("Answers each message of a stream on standard input (MLLP) by a profile")
         .arg(profile)?
         .arg(stamp)
+}
+
+/// A file that a command reads.
+fn file<'a>(alloc: Global, name: &'a str, help: &'a str) -> Arg<'a> {
+    Arg::new(alloc, name)
+        .help(help)
+        .required(true)
+        .action(ArgAction::Set)
+}
+
+/// `check SOURCE TARGET MAP` or `translate SOURCE TARGET MAP`.
+fn on_map<'a>(alloc: Global, name: &'a str, about: &'a str) -> Result<Command<'a>, AllocError> {
+    Command::new(alloc, name)
+        .about(about)
+        .arg(file(alloc, "SOURCE", "The file of the sender's message profile"))?
+        .arg(file(
+            alloc,
+            "TARGET",
+            "The file of the receiver's message profile",
+        ))?
+        .arg(file(alloc, "MAP", "The file of the map"))
 }
 
 /// All commands.
@@ -37,7 +55,17 @@ fn grammar<'a>(alloc: Global) -> Result<Command<'a>, AllocError> {
             "Statuses: 0 done, 1 refused, 2 usage, 3 read, write or frame fault, 4 out of memory\nThe numbers on standard error are explained in docs/PROGRAM.md",
         )
         .subcommand_required(true)
-        .subcommand(validate(alloc)?)
+        .subcommand(validate(alloc)?)?
+        .subcommand(on_map(
+            alloc,
+            "check",
+            "Tells whether the rules allow a map: whether each message that conforms to SOURCE has a translation that conforms to TARGET",
+        )?)?
+        .subcommand(on_map(
+            alloc,
+            "translate",
+            "Translates the message on standard input, which has no frame, by a map that the rules allow",
+        )?)
 }
 
 /// The command that the words ask for.

@@ -1,4 +1,4 @@
-//! The texts that a command reads from files.
+//! The texts that a command reads.
 use gw_run::RunFault;
 use std::fs::File;
 use std::io::{ErrorKind, Read};
@@ -12,8 +12,16 @@ pub(crate) fn read_text<R: Files + AllocGlobal>(rt: &R, path: &str) -> Result<Ve
     let Ok(file) = File::open(rt, path) else {
         return Err(RunFault::Read);
     };
+    read_all(rt, file.take(MOST))
+}
+
+/// All bytes of a reader.
+pub(crate) fn read_all<R: AllocGlobal, I: Read + Drop>(
+    rt: &R,
+    mut reader: I,
+) -> Result<Vec<u8>, RunFault> {
     let mut text = Vec::new(rt.alloc());
-    match file.take(MOST).read_to_end(&mut text) {
+    match reader.read_to_end(&mut text) {
         Ok(_) => Ok(text),
         Err(error) if error.kind() == ErrorKind::OutOfMemory => Err(RunFault::Memory),
         Err(_) => Err(RunFault::Read),

@@ -5,6 +5,7 @@
 
 mod arguments;
 mod files;
+mod maps;
 mod program;
 mod report;
 mod stamps;

@@ -1,13 +1,12 @@
 //! The commands, over any reader and two writers.
 use crate::arguments::parse;
-use crate::files::read_text;
-use crate::report::{Ended, USAGE, status_of, tell, tell_words};
+use crate::maps::{check, read_profile, translate};
+use crate::report::{DONE, Ended, USAGE, status_if, status_of, tell, tell_words};
 use crate::stamps::stamp_of;
 use clap::ArgMatches;
 use gw_run::{Counts, Reads, Writes, answer_stream};
 use std::io::{Read, Write};
 use std::rt::Files;
-use std::sync::Arc;
 use std::time::Clock;
 
 /// Answers each message of a stream by a profile.
@@ -20,10 +19,7 @@ fn validate<R: Files + Clock + AllocGlobal, I: Read + Drop, O: Write + Drop>(
     let Some(stamp) = stamp_of(rt, words.get_str("stamp")) else {
         return Err(Ended::Stamp);
     };
-    let path = words.get_str("PROFILE").unwrap_or("");
-    let text = read_text(rt, path)?;
-    let profile = gw_profile::parse(rt.alloc(), &text)?;
-    let profile = Arc::new(rt.alloc(), profile)?;
+    let profile = read_profile(rt, words, "PROFILE")?;
     let mut reader = Reads::new(input);
     let mut writer = Writes::new(output);
     let counts = answer_stream(rt.alloc(), profile, stamp, &mut reader, &mut writer)?;
@@ -42,11 +38,11 @@ pub fn command<R: Files + Clock + AllocGlobal, I: Read + Drop, O: Write + Drop, 
         Ok(matches) => matches,
         Err(error) => return tell_words(&mut output, &mut errors, &error),
     };
-    let Some(("validate", words)) = matches.subcommand() else {
-        return USAGE;
+    let ended = match matches.subcommand() {
+        Some(("validate", words)) => validate(rt, words, input, output).map(status_of),
+        Some(("check", words)) => check(rt, words, &mut output).map(status_if),
+        Some(("translate", words)) => translate(rt, words, input, &mut output).map(|_| DONE),
+        _ => return USAGE,
     };
-    match validate(rt, words, input, output) {
-        Ok(counts) => status_of(counts),
-        Err(ended) => tell(&mut errors, ended),
-    }
+    ended.unwrap_or_else(|ended| tell(&mut errors, ended))
 }

@@ -1,9 +1,12 @@
 //! What is told of a command that wasn't done, and its status.
 use clap::Error;
 use clap::error::ErrorKind;
+use gw_er7::ReadFault;
+use gw_maplang::MapFault;
 use gw_profile::ProfileFault;
 use gw_run::{Counts, RunFault};
-use std::alloc::AllocFailed;
+use gw_validate::Breach;
+use std::alloc::{AllocError, AllocFailed};
 use std::io;
 use std::io::Write;
 
@@ -29,6 +32,14 @@ pub(crate) enum Ended {
     Stamp,
     /// The text isn't a profile.
     Profile(ProfileFault),
+    /// The text isn't a map.
+    Map(MapFault),
+    /// A rule of the checker fails at this line of the map.
+    Rule { rule: u8, line: u32 },
+    /// The content isn't a message.
+    Message(ReadFault),
+    /// The message breaks its profile.
+    Breaks(Breach),
     /// The run ended early.
     Run(RunFault),
 }
@@ -39,6 +50,30 @@ impl From<ProfileFault> for Ended {
             ProfileFault::Memory => Ended::Run(RunFault::Memory),
             _ => Ended::Profile(fault),
         }
+    }
+}
+
+impl From<MapFault> for Ended {
+    fn from(fault: MapFault) -> Ended {
+        match fault {
+            MapFault::Memory => Ended::Run(RunFault::Memory),
+            _ => Ended::Map(fault),
+        }
+    }
+}
+
+impl From<ReadFault> for Ended {
+    fn from(fault: ReadFault) -> Ended {
+        match fault {
+            ReadFault::Memory => Ended::Run(RunFault::Memory),
+            _ => Ended::Message(fault),
+        }
+    }
+}
+
+impl From<AllocError> for Ended {
+    fn from(_error: AllocError) -> Ended {
+        Ended::Run(RunFault::Memory)
     }
 }
 
@@ -61,6 +96,11 @@ pub(crate) fn status_of(counts: Counts) -> u8 {
     } else {
         REFUSED
     }
+}
+
+/// The status of a map that was checked.
+pub(crate) fn status_if(accepted: bool) -> u8 {
+    if accepted { DONE } else { REFUSED }
 }
 
 /// Tells a fault by its number.
@@ -104,6 +144,67 @@ fn tell_profile<E: Write>(errors: &mut E, fault: ProfileFault) -> u8 {
     REFUSED
 }
 
+/// The line that a fault of a map speaks of.
+fn line_of_map(fault: MapFault) -> Option<u32> {
+    match fault {
+        MapFault::Syntax(line) => Some(line),
+        MapFault::UnknownTable(line) => Some(line),
+        MapFault::BadConstant(line) => Some(line),
+        MapFault::Duplicate(line) => Some(line),
+        MapFault::TooDeep(line) => Some(line),
+        _ => None,
+    }
+}
+
+/// Tells why a text is no map: the fault's number, and its line.
+fn tell_map<E: Write>(errors: &mut E, fault: MapFault) -> u8 {
+    let number = fault.number();
+    let _ = match line_of_map(fault) {
+        Some(line) => writeln!(errors, "map refused {number} line {line}"),
+        None => writeln!(errors, "map refused {number}"),
+    };
+    REFUSED
+}
+
+/// The number of a fault of a content.
+fn number_of(fault: ReadFault) -> u8 {
+    match fault {
+        ReadFault::Memory => 1,
+        ReadFault::Empty => 2,
+        ReadFault::Control { at: _ } => 3,
+        ReadFault::NoHeader => 4,
+        ReadFault::BadDelimiters => 5,
+        ReadFault::BadSegment { at: _ } => 6,
+        ReadFault::TooManySegments => 7,
+    }
+}
+
+/// Tells what a message breaks: the code, and the place up to its last number.
+fn tell_breach<E: Write>(errors: &mut E, breach: Breach) -> u8 {
+    let code = breach.code();
+    let [first, second, third] = breach.segment.map(char::from);
+    let _ = write!(errors, "breaks {code} {first}{second}{third}");
+    for number in [
+        breach.sequence,
+        breach.field,
+        breach.rep,
+        breach.comp,
+        breach.sub,
+    ] {
+        if number > 0 {
+            let _ = write!(errors, "^{number}");
+        }
+    }
+    let _ = writeln!(errors);
+    REFUSED
+}
+
+/// Writes all the bytes, and what the writer holds back.
+pub(crate) fn write_all<O: Write>(output: &mut O, bytes: &[u8]) -> Result<(), Ended> {
+    let written = output.write_all(bytes).and_then(|_| output.flush());
+    written.map_err(|_| Ended::Run(RunFault::Write))
+}
+
 /// Tells why a command wasn't done.
 pub(crate) fn tell<E: Write>(errors: &mut E, ended: Ended) -> u8 {
     match ended {
@@ -112,6 +213,17 @@ pub(crate) fn tell<E: Write>(errors: &mut E, ended: Ended) -> u8 {
             USAGE
         }
         Ended::Profile(fault) => tell_profile(errors, fault),
+        Ended::Map(fault) => tell_map(errors, fault),
+        Ended::Rule { rule, line } => {
+            let _ = writeln!(errors, "refused K{rule} line {line}");
+            REFUSED
+        }
+        Ended::Message(fault) => {
+            let number = number_of(fault);
+            let _ = writeln!(errors, "message refused {number}");
+            REFUSED
+        }
+        Ended::Breaks(breach) => tell_breach(errors, breach),
         Ended::Run(fault) => tell_fault(errors, fault),
     }
 }

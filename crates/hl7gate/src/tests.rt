@@ -8,6 +8,7 @@ use std::time::Clock;
 use std::{fs, io};
 
 mod groups;
+mod maps;
 mod refusals;
 
 const PROFILE: &[u8] =

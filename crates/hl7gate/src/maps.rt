@@ -1,0 +1,95 @@
+//! The commands on maps.
+use crate::files::{read_all, read_text};
+use crate::report::{Ended, write_all};
+use clap::ArgMatches;
+use gw_check::{CheckFault, CheckedMap};
+use gw_maplang::Map;
+use gw_profile::Profile;
+use gw_run::RunFault;
+use gw_validate::{Tree, Verdict};
+use std::io::{Read, Write};
+use std::rt::Files;
+use std::sync::Arc;
+
+/// The profile in the file that a word names.
+pub(crate) fn read_profile<R: Files + AllocGlobal>(
+    rt: &R,
+    words: &ArgMatches<'_>,
+    word: &str,
+) -> Result<Arc<Profile>, Ended> {
+    let text = read_text(rt, words.get_str(word).unwrap_or(""))?;
+    let profile = gw_profile::parse(rt.alloc(), &text)?;
+    let profile = Arc::new(rt.alloc(), profile)?;
+    Ok(profile)
+}
+
+/// The map in the file that a word names.
+fn read_map<R: Files + AllocGlobal>(
+    rt: &R,
+    words: &ArgMatches<'_>,
+    word: &str,
+) -> Result<Map, Ended> {
+    let text = read_text(rt, words.get_str(word).unwrap_or(""))?;
+    let map = gw_maplang::parse(rt.alloc(), &text)?;
+    Ok(map)
+}
+
+/// The checked map of the files SOURCE, TARGET and MAP, each read and parsed before the next.
+fn read_checked<R: Files + AllocGlobal>(
+    rt: &R,
+    words: &ArgMatches<'_>,
+) -> Result<CheckedMap, Ended> {
+    let source = read_profile(rt, words, "SOURCE")?;
+    let target = read_profile(rt, words, "TARGET")?;
+    let map = read_map(rt, words, "MAP")?;
+    match gw_check::check(rt.alloc(), source, target, map) {
+        Ok(checked) => Ok(checked),
+        Err(CheckFault::Memory(_)) => Err(Ended::Run(RunFault::Memory)),
+        Err(CheckFault::Rule { rule, line, map: _ }) => Err(Ended::Rule { rule, line }),
+    }
+}
+
+/// Prints whether the rules allow a map, and else the rule that refuses it. False where it is refused.
+pub(crate) fn check<R: Files + AllocGlobal, O: Write>(
+    rt: &R,
+    words: &ArgMatches<'_>,
+    output: &mut O,
+) -> Result<bool, Ended> {
+    match read_checked(rt, words) {
+        Ok(_) => {
+            write_all(output, b"accepted\n")?;
+            Ok(true)
+        }
+        Err(Ended::Rule { rule, line }) => {
+            let said = format!(in rt.alloc(); "refused K{rule} line {line}\n")?;
+            write_all(output, said.as_bytes())?;
+            Ok(false)
+        }
+        Err(ended) => Err(ended),
+    }
+}
+
+/// The tree of a content that conforms to a profile.
+fn tree_of<R: AllocGlobal>(rt: &R, profile: Arc<Profile>, content: &[u8]) -> Result<Tree, Ended> {
+    let message = gw_er7::read(rt.alloc(), content)?;
+    match gw_validate::validate(rt.alloc(), profile, message) {
+        Ok(Verdict::Fits(tree)) => Ok(tree),
+        Ok(Verdict::Breaks(breach, _)) => Err(Ended::Breaks(breach)),
+        Err(_) => Err(Ended::Run(RunFault::Memory)),
+    }
+}
+
+/// Prints the translation of the content on standard input, which has no frame.
+pub(crate) fn translate<R: Files + AllocGlobal, I: Read + Drop, O: Write>(
+    rt: &R,
+    words: &ArgMatches<'_>,
+    input: I,
+    output: &mut O,
+) -> Result<(), Ended> {
+    let map = read_checked(rt, words)?;
+    let content = read_all(rt, input)?;
+    let tree = tree_of(rt, map.source().clone()?, &content)?;
+    let message = gw_interp::translate(rt.alloc(), &map, &tree)?;
+    let written = gw_er7::write(rt.alloc(), &message)?;
+    write_all(output, &written)
+}
