@@ -2,6 +2,7 @@ pub mod Children
 pub mod Rows
 pub mod Saturation
 pub mod Finding
+pub mod Firsts
 pub mod Counted
 pub mod Noting
 pub mod Nodes

@@ -1,14 +1,14 @@
 -- Tests of the texts that a leaf can give, without a list of them.
-use Rattle.std.proofs.Common.{◌≡◌, ℕ, Bool, true, false, List, [], ◌∷◌, ◌++◌, Option, Some, None, refl, sym, ap, ◌∙◌, map, nat_lt, length}
-use Rattle.std.specs.Prelude.{filter, filter_map, option_to_list, not, if◌then◌else◌, ◌||◌, ◌&&◌}
+use Rattle.std.proofs.Common.{◌≡◌, ℕ, Bool, true, false, List, [], ◌∷◌, ◌++◌, Option, Some, None, refl, sym, ap, ◌∙◌, map, nat_lt, length, get_or, ◌<◌}
+use Rattle.std.specs.Prelude.{filter, filter_map, option_to_list, not, bytes_eq, if◌then◌else◌, ◌||◌, ◌&&◌}
 use Rattle.std.specs.List.{list_any}
 use Rattle.std.specs.Global.{Vec}
-use Rattle.std.proofs.lemmas.List.Folds.{list_any-append}
+use Rattle.std.proofs.lemmas.List.Folds.{list_any-append, list_any_at}
 use Rattle.gw_profile.specs.Fault.{is_among}
 use Rattle.gw_maplang.specs.Shapes.{Rows, Row, second_of}
 use Rattle.gw_maplang.specs.Seen.{row}
 use Rattle.gw_check.specs.Leaves.{Values, any, listed, is_short, has_no_row, may_be_unlisted, may_be_long}
-use Rattle.gw_check.specs.Texts.{fails_some, some_fails, is_any, is_any_long, is_there}
+use Rattle.gw_check.specs.Texts.{items_all, fails_some, some_fails, is_any, is_any_long, is_there}
 use Rattle.gw_check.proofs.Lists.{any_map}
 
 pub or_false : (b : Bool) → (b || false) ≡ b
@@ -73,3 +73,9 @@ no_row_is table (x ∷ xs) = with (second_of x table.rows) refl (no_row_is table
 pub all_kept : (texts : List (List ℕ)) → filter (is_short None) texts ≡ texts
 all_kept [] = refl
 all_kept (x ∷ xs) = ap (λ ts. x ∷ ts) (all_kept xs)
+
+-- a text that stands at a place is among them
+pub placed_among : (values : List (Vec ℕ)) (i : ℕ) (v : Vec ℕ) (text : List ℕ) → i < length values → v ≡ get_or values i v → bytes_eq text v.items ≡ true → is_among text (items_all values) ≡ true
+placed_among values i v text h is same =
+    any_map (λ (w : Vec ℕ). w.items) (bytes_eq text) values
+    ∙ list_any_at (λ (w : Vec ℕ). bytes_eq text w.items) values i v h (ap (λ (w : Vec ℕ). bytes_eq text w.items) (sym is) ∙ same)

@@ -1,5 +1,5 @@
 //! The rules on fields that are made of leaves.
-ghost use Rattle.std.specs.Prelude.{◌≡◌, ◌==◌, ◌&&◌, ◌||◌, not, map, flat_map, Some, ◌∷◌, []};
+ghost use Rattle.std.specs.Prelude.{◌≡◌, ◌==◌, ◌&&◌, ◌||◌, not, map, flat_map, Some, ◌∷◌, [], option_copied};
 ghost use Rattle.std.specs.List.{list_any, list_all};
 ghost use Rattle.gw_profile.specs.Seen.{sub as sub_value, comp as comp_value, field as field_value};
 ghost use Rattle.gw_validate.specs.Breaches.{is_null, is_required};
@@ -7,7 +7,7 @@ ghost use Rattle.gw_check.specs.Failures.{fails};
 ghost use Rattle.gw_check.specs.Fields as spec;
 ghost use Rattle.gw_check.specs.Leaves as leaves_spec;
 ghost use Rattle.gw_check.specs.Noted.{noted};
-ghost use Rattle.gw_check.specs.Reading.{sources_value, map_tables, some_comp, some_sub};
+ghost use Rattle.gw_check.specs.Reading.{sources_value, map_tables, some_comp, some_sub, first_there, first_within};
 ghost use Rattle.gw_check.specs.Seen.{failures, at_leaf, leaf as seen_leaf};
 ghost use Rattle.gw_check.specs.Texts.{texts_value};
 
@@ -50,10 +50,49 @@ fn has_only_comp(sources: Sources<'_, '_, '_, '_>, leaves: &[At], comp: u32) -> 
     has_only_comp_among(sources, leaves, comp)
 }
 
-fn is_comp_sure(sources: Sources<'_, '_, '_, '_>, leaves: &[At], comp: u32) -> bool
-    ensures { result ≡ spec.is_comp_sure (sources_value sources.entry) (map (at_leaf (map_tables sources.entry)) leaves.now) comp }
+// The first leaf that can have a text.
+fn first_there<'l>(sources: Sources<'_, '_, '_, '_>, leaves: &'l [At]) -> Option<&'l At>
+    ensures { option_copied result ≡ first_there sources.entry leaves.now }
 {
-    has_comp(sources, leaves, comp) || has_only_comp(sources, leaves, comp)
+    leaves
+        .iter()
+        .find(|at| !is_absent(leaf_presence(sources, &at.leaf)))
+}
+
+// No text can stand but in the component, where this leaf is the first that can have one.
+fn has_only_comp_from(sources: Sources<'_, '_, '_, '_>, leaves: &[At], at: &At, comp: u32) -> bool
+    ensures { Some at.now ≡ first_there sources.entry leaves.now → result ≡ list_all (λ a. a.comp == comp || leaves_spec.is_absent (leaves_spec.leaf_shape (sources_value sources.entry) a.leaf).presence) (map (at_leaf (map_tables sources.entry)) leaves.now) }
+{
+    if at.place.comp != comp {
+        return false;
+    }
+    has_only_comp(sources, leaves, comp)
+}
+
+// No text can stand but in the component, where the first leaf that can have one is known.
+fn has_only_comp_by(
+    sources: Sources<'_, '_, '_, '_>,
+    leaves: &[At],
+    found: Option<&At>,
+    comp: u32,
+) -> bool
+    ensures { option_copied found.entry ≡ first_there sources.entry leaves.now → result ≡ list_all (λ a. a.comp == comp || leaves_spec.is_absent (leaves_spec.leaf_shape (sources_value sources.entry) a.leaf).presence) (map (at_leaf (map_tables sources.entry)) leaves.now) }
+{
+    match found {
+        None => true,
+        Some(at) => has_only_comp_from(sources, leaves, at, comp),
+    }
+}
+
+fn is_comp_sure(
+    sources: Sources<'_, '_, '_, '_>,
+    leaves: &[At],
+    found: Option<&At>,
+    comp: u32,
+) -> bool
+    ensures { option_copied found.entry ≡ first_there sources.entry leaves.now → result ≡ spec.is_comp_sure (sources_value sources.entry) (map (at_leaf (map_tables sources.entry)) leaves.now) comp }
+{
+    has_comp(sources, leaves, comp) || has_only_comp_by(sources, leaves, found, comp)
 }
 
 fn has_sub_among(sources: Sources<'_, '_, '_, '_>, leaves: &[At], comp: u32, sub: u32) -> bool
@@ -86,10 +125,55 @@ fn has_only_sub(sources: Sources<'_, '_, '_, '_>, leaves: &[At], comp: u32, sub:
     has_only_sub_among(sources, leaves, comp, sub)
 }
 
-fn is_sub_sure(sources: Sources<'_, '_, '_, '_>, leaves: &[At], comp: u32, sub: u32) -> bool
-    ensures { result ≡ spec.is_sub_sure (sources_value sources.entry) (map (at_leaf (map_tables sources.entry)) leaves.now) comp sub }
+// The first leaf of the component that can have a text.
+fn first_within<'l>(sources: Sources<'_, '_, '_, '_>, leaves: &'l [At], comp: u32) -> Option<&'l At>
+    ensures { option_copied result ≡ first_within sources.entry comp leaves.now }
 {
-    has_sub(sources, leaves, comp, sub) || has_only_sub(sources, leaves, comp, sub)
+    leaves.iter().find(|at| at.place.comp == comp && !is_absent(leaf_presence(sources, &at.leaf)))
+}
+
+// The component can have no text but in the subcomponent, where this leaf is its first that can have one.
+fn has_only_sub_from(
+    sources: Sources<'_, '_, '_, '_>,
+    leaves: &[At],
+    at: &At,
+    comp: u32,
+    sub: u32,
+) -> bool
+    ensures { Some at.now ≡ first_within sources.entry comp leaves.now → result ≡ list_all (λ a. not (a.comp == comp) || a.sub == sub || leaves_spec.is_absent (leaves_spec.leaf_shape (sources_value sources.entry) a.leaf).presence) (map (at_leaf (map_tables sources.entry)) leaves.now) }
+{
+    if at.place.sub != sub {
+        return false;
+    }
+    has_only_sub(sources, leaves, comp, sub)
+}
+
+// The component can have no text but in the subcomponent, where its first leaf that can have one is known.
+fn has_only_sub_by(
+    sources: Sources<'_, '_, '_, '_>,
+    leaves: &[At],
+    found: Option<&At>,
+    comp: u32,
+    sub: u32,
+) -> bool
+    ensures { option_copied found.entry ≡ first_within sources.entry comp leaves.now → result ≡ list_all (λ a. not (a.comp == comp) || a.sub == sub || leaves_spec.is_absent (leaves_spec.leaf_shape (sources_value sources.entry) a.leaf).presence) (map (at_leaf (map_tables sources.entry)) leaves.now) }
+{
+    match found {
+        None => true,
+        Some(at) => has_only_sub_from(sources, leaves, at, comp, sub),
+    }
+}
+
+fn is_sub_sure(
+    sources: Sources<'_, '_, '_, '_>,
+    leaves: &[At],
+    found: Option<&At>,
+    comp: u32,
+    sub: u32,
+) -> bool
+    ensures { option_copied found.entry ≡ first_within sources.entry comp leaves.now → result ≡ spec.is_sub_sure (sources_value sources.entry) (map (at_leaf (map_tables sources.entry)) leaves.now) comp sub }
+{
+    has_sub(sources, leaves, comp, sub) || has_only_sub_by(sources, leaves, found, comp, sub)
 }
 
 // ---- what is made
@@ -99,10 +183,11 @@ fn check_sub(
     sources: Sources<'_, '_, '_, '_>,
     line: u32,
     leaves: &[At],
+    found: Option<&At>,
     comp: u32,
     sub: &SubShape,
 ) -> Option<Failure>
-    ensures { failures result ≡ noted (failures worst) (spec.made_sub (sources_value sources.entry) line (map (at_leaf (map_tables sources.entry)) leaves.now) comp (sub_value sub.now)) }
+    ensures { option_copied found.entry ≡ first_within sources.entry comp leaves.now → failures result ≡ noted (failures worst) (spec.made_sub (sources_value sources.entry) line (map (at_leaf (map_tables sources.entry)) leaves.now) comp (sub_value sub.now)) }
 {
     if !is_required(sub.usage) {
         return worst;
@@ -111,7 +196,7 @@ fn check_sub(
         worst,
         5,
         line,
-        !is_sub_sure(sources, leaves, comp, sub.number),
+        !is_sub_sure(sources, leaves, found, comp, sub.number),
     )
 }
 
@@ -125,8 +210,9 @@ fn check_subs(
 ) -> Option<Failure>
     ensures { failures result ≡ noted (failures worst) (flat_map (spec.made_sub (sources_value sources.entry) line (map (at_leaf (map_tables sources.entry)) leaves.now) comp) (map sub_value subs.now)) }
 {
+    let found = first_within(sources, leaves, comp);
     for (i, sub) in subs.iter().enumerate() {
-        worst = check_sub(worst, sources, line, leaves, comp, sub);
+        worst = check_sub(worst, sources, line, leaves, found, comp, sub);
     }
     worst
 }
@@ -137,14 +223,20 @@ fn check_required_comp(
     sources: Sources<'_, '_, '_, '_>,
     line: u32,
     leaves: &[At],
+    found: Option<&At>,
     comp: &CompShape,
 ) -> Option<Failure>
-    ensures { failures result ≡ noted (failures worst) (fails 5 line (is_required comp.now.usage && not (spec.is_comp_sure (sources_value sources.entry) (map (at_leaf (map_tables sources.entry)) leaves.now) comp.now.number))) }
+    ensures { option_copied found.entry ≡ first_there sources.entry leaves.now → failures result ≡ noted (failures worst) (fails 5 line (is_required comp.now.usage && not (spec.is_comp_sure (sources_value sources.entry) (map (at_leaf (map_tables sources.entry)) leaves.now) comp.now.number))) }
 {
     if !is_required(comp.usage) {
         return worst;
     }
-    note(worst, 5, line, !is_comp_sure(sources, leaves, comp.number))
+    note(
+        worst,
+        5,
+        line,
+        !is_comp_sure(sources, leaves, found, comp.number),
+    )
 }
 
 #[tactic(auto, using(crate::proofs::Noting::noted_both))]
@@ -153,11 +245,12 @@ fn check_comp(
     sources: Sources<'_, '_, '_, '_>,
     line: u32,
     leaves: &[At],
+    found: Option<&At>,
     comp: &CompShape,
 ) -> Option<Failure>
-    ensures { failures result ≡ noted (failures worst) (spec.made_comp (sources_value sources.entry) line (map (at_leaf (map_tables sources.entry)) leaves.now) (comp_value comp.now)) }
+    ensures { option_copied found.entry ≡ first_there sources.entry leaves.now → failures result ≡ noted (failures worst) (spec.made_comp (sources_value sources.entry) line (map (at_leaf (map_tables sources.entry)) leaves.now) (comp_value comp.now)) }
 {
-    let worst = check_required_comp(worst, sources, line, leaves, comp);
+    let worst = check_required_comp(worst, sources, line, leaves, found, comp);
     check_subs(worst, sources, line, leaves, comp.number, &comp.subs)
 }
 
@@ -170,8 +263,9 @@ fn check_comps(
 ) -> Option<Failure>
     ensures { failures result ≡ noted (failures worst) (flat_map (spec.made_comp (sources_value sources.entry) line (map (at_leaf (map_tables sources.entry)) leaves.now)) (map comp_value comps.now)) }
 {
+    let found = first_there(sources, leaves);
     for (i, comp) in comps.iter().enumerate() {
-        worst = check_comp(worst, sources, line, leaves, comp);
+        worst = check_comp(worst, sources, line, leaves, found, comp);
     }
     worst
 }

@@ -1,10 +1,11 @@
 //! Which texts a leaf can give, looked at one by one and without a list of them.
-ghost use Rattle.std.specs.Prelude.{◌≡◌, ◌&&◌, ◌||◌, not, map, length, nat_lt, bytes_eq, option_copied};
+ghost use Rattle.std.specs.Prelude.{◌≡◌, ◌&&◌, ◌||◌, not, map, length, nat_lt, bytes_eq, option_copied, IsTrue};
+ghost use Rattle.gw_profile.specs.Fault.{is_among};
 ghost use Rattle.std.specs.List.{list_any};
 ghost use Rattle.gw_maplang.specs.Seen.{now};
 ghost use Rattle.gw_maplang.specs.Shapes.{second_of};
 ghost use Rattle.gw_check.specs.Leaves as spec;
-ghost use Rattle.gw_check.specs.Texts.{read_value, texts_value, rows_value, test_value, fails_some, some_fails, some_items, is_any, is_any_long, is_there};
+ghost use Rattle.gw_check.specs.Texts.{read_value, texts_value, rows_value, test_value, fails_some, some_fails, some_items, items_all, is_any, is_any_long, is_there};
 
 use gw_maplang::Table as Rows;
 use gw_profile::Table;
@@ -65,6 +66,23 @@ fn fails(test: Test<'_>, text: &[u8]) -> bool
     }
 }
 
+// Whether the text is one of the values. It is looked for at this number first, since most often two tables are alike.
+fn is_listed(table: &Table, i: usize, text: &[u8]) -> bool
+    ensures { result ≡ is_among text.now table.now }
+{
+    stands_at(table.values(), i, text) || table.contains(text)
+}
+
+// Whether the value of this number is there, and is the text.
+fn stands_at(values: &[Vec<u8>], i: usize, text: &[u8]) -> bool
+    ensures { IsTrue result → IsTrue (is_among text.now (items_all values.now)) }
+{
+    match values.get(i) {
+        None => false,
+        Some(value) => text == value.as_slice(),
+    }
+}
+
 fn fails_some(test: Test<'_>, text: Option<&[u8]>) -> bool
     ensures { result ≡ fails_some (test_value test.entry) (now text.entry) }
 {
@@ -85,12 +103,35 @@ fn given<'a>(table: Option<&'a Rows>, text: &[u8]) -> Option<&'a [u8]>
     }
 }
 
-// Whether one of the texts that aren't longer fails the test.
-fn some_short_fails(test: Test<'_>, len: Option<u32>, all: &[Vec<u8>]) -> bool
+// Whether one of the texts that aren't longer is missing from the table.
+fn some_short_unlisted(table: &Table, len: Option<u32>, all: &[Vec<u8>]) -> bool
+    ensures { result ≡ list_any (λ v. spec.is_short len v.items && not (is_among v.items table.now)) all.now }
+{
+    for (i, text) in all.iter().enumerate() {
+        if is_short(len, text) && !is_listed(table, i, text) {
+            return true;
+        }
+    }
+    false
+}
+
+// Whether one of the texts that aren't longer fails the test, looked at one by one.
+fn some_short_fails_alone(test: Test<'_>, len: Option<u32>, all: &[Vec<u8>]) -> bool
     ensures { result ≡ list_any (λ v. spec.is_short len v.items && test_value test.entry v.items) all.now }
 {
     all.iter()
         .any(|text| is_short(len, text) && fails(test, text))
+}
+
+// Whether one of the texts that aren't longer fails the test.
+fn some_short_fails(test: Test<'_>, len: Option<u32>, all: &[Vec<u8>]) -> bool
+    ensures { result ≡ list_any (λ v. spec.is_short len v.items && test_value test.entry v.items) all.now }
+{
+    match test {
+        Test::Unlisted(table) => some_short_unlisted(table, len, all),
+        Test::Outside(_) => some_short_fails_alone(test, len, all),
+        Test::Long(_) => some_short_fails_alone(test, len, all),
+    }
 }
 
 // Whether what the rows give for one of the texts that aren't longer fails the test.
