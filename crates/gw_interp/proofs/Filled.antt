@@ -1,7 +1,6 @@
 -- Leaves that are put one after the other.
-use Rattle.std.proofs.Common.{◌≡◌, ℕ, suc, ◌<◌, ◌≤◌, get_or, ◌-◌, take, drop, inl, inr, List, [], ◌∷◌, None, refl, sym, ap, ◌∙◌, subst, arith, length, map}
+use Rattle.std.proofs.Common.{◌≡◌, ℕ, suc, ◌<◌, inl, inr, List, [], ◌∷◌, None, refl, sym, ap, ◌∙◌, subst, arith, length, map}
 use Rattle.std.specs.Prelude.{unwrap_or}
-use Rattle.std.proofs.lemmas.List.{take_rest}
 use Rattle.std.specs.List.{AllByRecursion}
 use Rattle.std.specs.FinMap as texts
 use Rattle.gw_er7.specs.Message.{Texts, SegmentValue}
@@ -63,14 +62,3 @@ module _ (w : Walked) (field rep : ℕ) where
         elsewhere = λ key apart. filled.elsewhere key (λ h. apart (inr h)) ∙ held.put.elsewhere key (λ e. apart (inl e));
         keeps = λ h. filled.keeps (held.put.keeps h);
       }
-
-pub head_first : {X : Type 0} → (xs : List X) (x : X) → 1 ≤ length xs → x ≡ get_or xs 0 x → xs ≡ x ∷ take (length xs - 1) (drop 1 xs)
-head_first {X} xs x h e = by xs h e ∙ ap (λ l. x ∷ l) (sym (take_rest xs 1))
-  where
-    by : (ys : List X) → 1 ≤ length ys → x ≡ get_or ys 0 x → ys ≡ x ∷ drop 1 ys
-    by [] h e = absurd (omega (arith, h))
-    by (y ∷ ys) h e = ap (λ z. z ∷ ys) (sym e)
-
-pub nothing_left : {X : Type 0} (xs : List X) → length xs < 1 → xs ≡ []
-nothing_left [] h = refl
-nothing_left (x ∷ xs) h = absurd (omega (arith, h))

@@ -92,8 +92,8 @@ module _ (m : List SegmentValue) (os : List Occurrence) (target : Forest) (table
   item_more is n i old now new h e d a lawful =
       record {
         done = more_done (Gives is) (Gives (drop n is)) (Gives (drop (n + 1) is)) (Give m os target (with_item tables i no_items)) (names_at is) (names_at (drop n is)) (names_given os target (with_item tables i no_items)) (names_at (drop (n + 1) is)) old now new d.done
-        (λ list back here there. subst (λ f. Give m os target f (list ++ back)) (sym (next_items is n i h e)) (give_then i (all_items tables (drop (n + 1) is)) list back here there))
-        (λ list here. given_names m os target (with_item tables i no_items) list here) (next_named is n i h e) a lawful;
+            (λ list back here there. subst (λ f. Give m os target f (list ++ back)) (sym (next_items is n i h e)) (give_then i (all_items tables (drop (n + 1) is)) list back here there))
+            (λ list here. given_names m os target (with_item tables i no_items) list here) (next_named is n i h e) a lawful;
         may = may_rest i (all_items tables (drop (n + 1) is)) (subst (MayGive m os target) (next_items is n i h e) d.may);
       }
 

@@ -42,4 +42,5 @@ mod Inner
 mod Giving
 mod Levels
 mod Ones
+mod Turns
 mod Translated

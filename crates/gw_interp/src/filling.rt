@@ -59,11 +59,10 @@ fn put_leaves<'a>(
     requires fill { MayFill (read_by reading.now) field rep (map (at_leaf rows.now.tables) leaves.now) builder.old }
     ensures { OnOk result (AreFilled (read_by reading.now) field rep (map (at_leaf rows.now.tables) leaves.now) builder.old builder.new) }
 {
-    let [first, rest @ ..] = leaves else {
-        return Ok(());
-    };
-    put_leaf(alloc, rows, reading, builder, first, field, rep)?;
-    put_leaves(alloc, rows, reading, builder, rest, field, rep)
+    for leaf in leaves {
+        put_leaf(alloc, rows, reading, builder, leaf, field, rep)?;
+    }
+    Ok(())
 }
 
 /// Puts the texts of leaves at all places of a repetition, where none is.

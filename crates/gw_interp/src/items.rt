@@ -24,11 +24,7 @@ use gw_validate::Occ;
 use std::alloc::{AllocError, Global};
 
 // What is walked within an occurrence.
-fn within<'a>(
-    alloc: Global,
-    scope: &[Occ<'a>],
-    each: &Occ<'a>,
-) -> Result<Vec<Occ<'a>>, AllocError>
+fn within<'a>(alloc: Global, scope: &[Occ<'a>], each: &Occ<'a>) -> Result<Vec<Occ<'a>>, AllocError>
     requires of { AreOf (message_of scope.now) scope.now }
     requires each { each.now.message ≡ message_of scope.now }
     ensures { IfOk result (λ inner. IsWithin scope.now each.now inner.items) }

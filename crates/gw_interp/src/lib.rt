@@ -14,3 +14,6 @@ mod segments;
 mod translating;
 
 pub use translating::translate;
+
+#[cfg(test)]
+mod tests;

@@ -27,11 +27,10 @@ fn make_rules<'a>(
     requires may { MayMakeRules (seen_from scope.now) (map (seen_rule rows.now.tables) rules.now) builder.old }
     ensures { OnOk result (AreRulesMade (seen_from scope.now) (map (seen_rule rows.now.tables) rules.now) builder.old builder.new) }
 {
-    let [rule, rest @ ..] = rules else {
-        return Ok(());
-    };
-    make_rule(alloc, rows, scope, builder, rule)?;
-    make_rules(alloc, rows, scope, builder, rest)
+    for rule in rules {
+        make_rule(alloc, rows, scope, builder, rule)?;
+    }
+    Ok(())
 }
 
 /// Puts a segment of this name behind the others, made by rules.

@@ -24,9 +24,18 @@ put_each-put_items-requires t c =
     let items = all_items c.args.rows.now.tables c.args.items.now in
     let is = subst (IsWithin c.args.scope.now c.each-item.result) (sym c.deref.ensures.value) c.in_ok-inner.ensures in (
       search rules,
-      (is.of, (c.loop-each.invariant.lawful, (inwards (λ n ps. MayBegin c.loop-each.builder (names_given ps nodes items)) c.args.scope.now c.each-item.result c.deref.result.now is
-      (part_begins m os nodes items c.args.found.now c.loop-each.each-index c.each-item.result c.args.builder.now c.loop-each.builder c.loop-each-test.true c.each-item.is c.loop-each.invariant c.requires.begin), inwards (λ n ps. MayGive n ps nodes items) c.args.scope.now c.each-item.result c.deref.result.now is
-      (each_is (λ o. MayGive m (o ∷ os) nodes items) c.args.found.now c.loop-each.each-index c.each-item.result c.loop-each-test.true c.each-item.is c.requires.may)))),
+      (
+        is.of,
+        (
+          c.loop-each.invariant.lawful,
+          (
+            inwards (λ n ps. MayBegin c.loop-each.builder (names_given ps nodes items)) c.args.scope.now c.each-item.result c.deref.result.now is
+                (part_begins m os nodes items c.args.found.now c.loop-each.each-index c.each-item.result c.args.builder.now c.loop-each.builder c.loop-each-test.true c.each-item.is c.loop-each.invariant c.requires.begin),
+            inwards (λ n ps. MayGive n ps nodes items) c.args.scope.now c.each-item.result c.deref.result.now is
+                (each_is (λ o. MayGive m (o ∷ os) nodes items) c.args.found.now c.loop-each.each-index c.each-item.result c.loop-each-test.true c.each-item.is c.requires.may),
+          ),
+        ),
+      ),
     )
 
 pub put_each-loop-each-preserved : goal.put_each-loop-each-preserved
