@@ -1,10 +1,10 @@
 -- Components and repetitions that are copied.
-use Rattle.std.proofs.Common.{◌≡◌, ℕ, ◌+◌, ◌<◌, ◌≤◌, List, [], ◌∷◌, None, refl, sym, ap, ◌∙◌, subst, arith, length}
+use Rattle.std.proofs.Common.{◌≡◌, ℕ, ◌+◌, ◌<◌, ◌≤◌, List, [], sym, ◌∙◌, arith}
 use Rattle.gw_er7.specs.Message.{Texts, text_of, SegmentValue}
 use Rattle.gw_er7.specs.Presence.{SubAt, CompAt, RepAt, IsLast}
 use Rattle.gw_interp.specs.declared.copying.Spot.{Spot}
 use Rattle.gw_interp.specs.Putting.{MayStand, IsPut}
-use Rattle.gw_interp.specs.Making.{MayMake, AreMade, sub_key, comp_key, field_key, CompMeans, RepMeans, FieldMeans, Copies, MayCopyComp, IsCompCopied, MayCopyRep, IsRepCopied, MayMakeField, IsFieldMade, rep_key}
+use Rattle.gw_interp.specs.Making.{MayMake, AreMade, sub_key, CompMeans, Copies, MayCopyComp, IsCompCopied, MayCopyRep, IsRepCopied, MayMakeField, IsFieldMade, rep_key}
 use Rattle.gw_interp.proofs.Shaped.{no_text}
 use Rattle.gw_interp.proofs.Makings.{UpTo, none_made, may_next, next_made, all_made}
 

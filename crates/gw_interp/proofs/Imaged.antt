@@ -1,17 +1,17 @@
 -- Segments that are made rule by rule.
-use Rattle.std.proofs.Common.{◌≡◌, ℕ, ◌<◌, ◌⊎◌, inl, inr, true, false, List, [], ◌∷◌, ◌++◌, map, Option, Some, None, refl, sym, ap, ◌∙◌, subst, arith, length}
+use Rattle.std.proofs.Common.{◌≡◌, ℕ, ◌<◌, inl, inr, List, [], ◌∷◌, ◌++◌, map, Option, Some, None, refl, sym, ap, ◌∙◌, subst, arith, length}
 use Rattle.std.specs.Prelude.{◌==◌, unwrap_or}
 use Rattle.std.specs.List.{AllByRecursion}
 use Rattle.std.proofs.lemmas.Bool.Decides.{Decides-eqb}
 use Rattle.std.specs.Ordering.{nat_cmp}
 use Rattle.std.specs.Cmp.Lexicographic.{slice_cmp}
 use Rattle.std.specs.FinMap as texts
-use Rattle.gw_er7.specs.Names.{IsName, header_name}
+use Rattle.gw_er7.specs.Names.{IsName}
 use Rattle.gw_er7.specs.Message.{text_of, SegmentValue, first_field, IsEntry, IsOther}
 use Rattle.gw_er7.specs.Building.{IsBegun, with_last}
 use Rattle.gw_er7.proofs.Builds.{begun_segment}
 use Rattle.gw_maplang.specs.Among.{Among}
-use Rattle.gw_check.specs.Lawful.{LawfulRule, LawfulMaking}
+use Rattle.gw_check.specs.Lawful.{LawfulRule}
 use Rattle.gw_check.specs.Resolved.{Rule, rule_of}
 use Rattle.gw_interp.specs.Meaning.{Walked, MakingMeans, RuleMeans, IsImage, IsOne}
 use Rattle.gw_interp.specs.Putting.{last_name, last_texts}

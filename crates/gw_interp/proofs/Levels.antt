@@ -13,16 +13,16 @@ use Rattle.gw_check.specs.declared.resolved.GroupItem.{GroupItem}
 use Rattle.gw_check.specs.declared.resolved.FlatItem.{FlatItem}
 use Rattle.gw_check.specs.Places.{nodes_of_child}
 use Rattle.gw_check.specs.Resolved.{Items, no_items, group_item, flat_item}
-use Rattle.gw_check.specs.Seen.{place, with_item, row_items, all_items}
+use Rattle.gw_check.specs.Seen.{place, with_item, all_items}
 use Rattle.gw_check.proofs.Rows.{group_items, flat_items}
 use Rattle.gw_interp.specs.Occurrences.{Occurrence, at_place}
-use Rattle.gw_interp.specs.Lent.{occurrence, scope, AreOf}
+use Rattle.gw_interp.specs.Lent.{occurrence, scope}
 use Rattle.gw_interp.specs.Filling.{message_of}
 use Rattle.gw_interp.specs.Meaning.{ForEach, Give}
 use Rattle.gw_interp.specs.Ready.{MayGive, names_given, MayBegin, Adds}
 use Rattle.gw_interp.specs.Within.{IsWithin}
 use Rattle.gw_interp.proofs.Naming.{given_names}
-use Rattle.gw_interp.proofs.Giving.{names_of, IsPartDone, none_done, more_done, all_done, begins_next, next_drop}
+use Rattle.gw_interp.proofs.Giving.{IsPartDone, none_done, more_done, all_done, begins_next, next_drop}
 
 pub adds_as : (P Q : List SegmentValue → Type 0) (old new : List SegmentValue) → ((list : List SegmentValue) → P list → Q list) → Adds P old new → Adds Q old new
 adds_as P Q old new so a = record { list = a.list; joined = a.joined; holds = so a.list a.holds }

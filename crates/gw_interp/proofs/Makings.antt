@@ -1,11 +1,11 @@
 -- Texts that are put number by number: of components, of repetitions.
-use Rattle.std.proofs.Common.{◌≡◌, ◌⊎◌, inl, inr, ℕ, suc, ◌<◌, ◌≤◌, List, [], ◌∷◌, None, refl, sym, ap, ◌∙◌, subst, arith, length}
+use Rattle.std.proofs.Common.{◌≡◌, ◌⊎◌, inl, inr, ℕ, ◌<◌, ◌≤◌, List, [], None, refl, sym, ap, ◌∙◌, subst, arith, length}
 use Rattle.std.specs.Prelude.{unwrap_or}
 use Rattle.std.proofs.lemmas.Bool.Decides.{leb_tells}
 use Rattle.std.specs.FinMap as texts
 use Rattle.gw_er7.specs.Message.{SegmentValue, first_field, IsEntry}
 use Rattle.gw_er7.specs.Building.{IsBegun, with_last}
-use Rattle.gw_interp.specs.Putting.{last_name, last_texts, MayStand, IsPut}
+use Rattle.gw_interp.specs.Putting.{last_name, last_texts}
 use Rattle.gw_interp.specs.Making.{MayMake, AreMade}
 use Rattle.gw_interp.proofs.Fills.{same_last}
 use Rattle.gw_interp.proofs.Filled.{at_last, same_name, same_length, twice}

@@ -1,10 +1,7 @@
 -- The target's nodes by their numbers.
-use Rattle.std.proofs.Common.{get_or, ◌≡◌, ℕ, false, ◌<◌, List, length, Option, Some, None, refl, sym, ap, ◌∙◌, nat_lt}
-use Rattle.gw_profile.specs.declared.node.Node.{Node}
+use Rattle.std.proofs.Common.{◌≡◌, ℕ, Option, Some, None, refl, sym, ap, ◌∙◌}
 use Rattle.gw_profile.specs.Shapes.{nothing, Forest}
-use Rattle.gw_profile.specs.Seen.{forest, node_forest}
 use Rattle.gw_check.specs.Places.{Element, nodes_of, child, nodes_of_child}
-use Rattle.gw_check.proofs.Children.{child_at, child_past}
 
 abbrev within_of : (o : Option Element) → Forest
 within_of None = nothing

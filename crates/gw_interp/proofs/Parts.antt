@@ -6,7 +6,7 @@ use Rattle.std.specs.List.{AllByRecursion}
 use Rattle.gw_er7.specs.Message.{SegmentValue}
 use Rattle.gw_profile.specs.Shapes.{TableValue}
 use Rattle.gw_profile.specs.Deterministic.{AtMost}
-use Rattle.gw_validate.specs.Cuts.{Cut, Many}
+use Rattle.gw_validate.specs.Cuts.{Many}
 use Rattle.gw_check.specs.Intervals.{Interval, never, once, add, multiply, sum, product}
 use Rattle.gw_check.specs.Places.{Element}
 use Rattle.gw_interp.specs.Occurrences.{Occurrence}

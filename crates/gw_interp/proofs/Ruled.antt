@@ -1,15 +1,15 @@
 -- Fields that are made by a rule.
-use Rattle.std.proofs.Common.{◌≡◌, ℕ, ◌⊎◌, inl, inr, ◌≤◌, ◌<◌, List, [], ◌∷◌, Option, Some, None, refl, sym, ap, ◌∙◌, subst, arith, length}
+use Rattle.std.proofs.Common.{◌≡◌, ℕ, ◌⊎◌, inl, inr, ◌≤◌, ◌<◌, List, [], ◌∷◌, Some, None, refl, sym, ap, ◌∙◌, subst, arith}
 use Rattle.std.specs.Prelude.{unwrap_or}
 use Rattle.std.specs.Ordering.{nat_cmp}
 use Rattle.std.specs.Cmp.Lexicographic.{slice_cmp}
 use Rattle.std.specs.FinMap as texts
 use Rattle.gw_er7.specs.Message.{Texts, text_of, SegmentValue}
 use Rattle.gw_er7.specs.Presence.{RepAt, IsLast}
-use Rattle.gw_check.specs.Resolved.{Reference, At, leaf_at, Making, copy, first, repeat, build}
+use Rattle.gw_check.specs.Resolved.{Reference, At, leaf_at, copy, first, repeat, build}
 use Rattle.gw_interp.specs.Occurrences.{texts_at}
 use Rattle.gw_interp.specs.Meaning.{Walked, walking, AtMeans, InFirst, Where, MakingMeans}
-use Rattle.gw_interp.specs.Sourced.{texts_of, IsFirstRep}
+use Rattle.gw_interp.specs.Sourced.{IsFirstRep}
 use Rattle.gw_interp.specs.Putting.{last_texts}
 use Rattle.gw_interp.specs.Making.{MayMake, AreMade, rep_key, field_key, LeavesMean, MayMakeField, IsFieldMade, Copies, MayCopyRep, IsRepCopied, MayFillRep, IsRepFilled, MayMakeBy, IsMadeBy}
 use Rattle.gw_interp.proofs.Fills.{same_last}

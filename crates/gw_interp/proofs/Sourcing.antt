@@ -1,12 +1,11 @@
 -- The texts that are read at sources.
-use Rattle.std.proofs.Common.{◌≡◌, ◌⊎◌, inl, inr, ℕ, ◌+◌, ◌≤◌, ◌<◌, List, [], ◌∷◌, Option, Some, None, refl, sym, ap, ◌∙◌, arith, map, slice_get, subst}
+use Rattle.std.proofs.Common.{◌≡◌, inl, inr, ℕ, ◌≤◌, ◌<◌, List, [], ◌∷◌, Option, Some, None, refl, sym, ap, ◌∙◌, arith, map, slice_get}
 use Rattle.std.specs.Prelude.{unwrap_or}
-use Rattle.std.proofs.lemmas.Bool.Decides.{leb_tells}
 use Rattle.std.specs.FinMap as texts
 use Rattle.std.specs.Ordering.{nat_cmp}
 use Rattle.std.specs.Cmp.Lexicographic.{slice_cmp}
 use Rattle.gw_er7.specs.Message.{Texts, text_of, SegmentValue}
-use Rattle.gw_er7.specs.Presence.{CompAt, RepAt, FieldAt, IsLast}
+use Rattle.gw_er7.specs.Presence.{RepAt, FieldAt, IsLast}
 use Rattle.gw_validate.specs.Fitting.{OccValue, numbered, segment_of}
 use Rattle.gw_validate.specs.Occurring.{tree_of}
 use Rattle.gw_validate.specs.Conforming as conforming

@@ -1,5 +1,5 @@
 -- The occurrences of a profile's elements in a message, and those at the places that a map reads.
-use Rattle.std.specs.Prelude.{ℕ, zero, suc, List, [], ◌∷◌, map, flat_map, Option, Some, None}
+use Rattle.std.specs.Prelude.{ℕ, zero, suc, List, [], ◌∷◌, map, flat_map}
 use Rattle.std.specs.FinMap as texts
 use Rattle.gw_er7.specs.Message.{Texts, SegmentValue}
 use Rattle.gw_validate.specs.Trees.{Tree, leaf, segments, groups, Trees, no_trees, trees}

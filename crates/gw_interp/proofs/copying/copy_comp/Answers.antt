@@ -1,5 +1,4 @@
 use Rattle.gw_interp.proofs.Copies.{no_subs, may_sub, next_sub, all_subs}
-use Rattle.gw_interp.proofs.Fills.{on_ok}
 use Rattle.gw_interp.proofs.copying.copy_comp.Goals as goal
 
 pub loop-before-init : goal.loop-before-init

@@ -1,6 +1,5 @@
 use Rattle.std.proofs.Common.{sym, ap, ◌∙◌, subst, map, option_map, ◌∷◌}
 use Rattle.std.specs.List.{AllByRecursion}
-use Rattle.gw_validate.specs.Fitting.{OccValue}
 use Rattle.gw_profile.specs.Seen.{forest}
 use Rattle.gw_check.specs.Places.{child, name_of}
 use Rattle.gw_check.specs.Seen.{place, rule}

@@ -1,10 +1,10 @@
-use Rattle.std.proofs.Common.{map, subst, sym, List, ◌∷◌, [], ◌++◌}
+use Rattle.std.proofs.Common.{map, subst, sym, List}
 use Rattle.gw_er7.specs.Message.{SegmentValue}
 use Rattle.gw_er7.specs.Building.{IsBegun}
 use Rattle.gw_check.specs.Seen.{rule}
 use Rattle.gw_interp.specs.Making.{seen_from, MayMakeRules, AreRulesMade}
 use Rattle.gw_interp.proofs.Fills.{on_ok}
-use Rattle.gw_interp.proofs.Imaged.{begun, may_begin, may_rules, imaged}
+use Rattle.gw_interp.proofs.Imaged.{may_begin, may_rules, imaged}
 use Rattle.gw_interp.proofs.segments.put_segment.Goals as goal
 
 pub begin-requires : goal.begin-requires
