@@ -1,8 +1,8 @@
 -- The nodes of a profile by their numbers.
-use Rattle.std.proofs.Common.{◌≡◌, ◌⊎◌, inl, inr, ℕ, zero, suc, true, false, List, [], ◌∷◌, Option, Some, None, refl, sym, ap, ◌∙◌, slice_get, arith, length, true≢false, nat_lt, get_or, ◌<◌}
+use Rattle.std.proofs.Common.{◌≡◌, inl, inr, ℕ, zero, suc, false, List, [], ◌∷◌, Some, None, refl, sym, ap, ◌∙◌, slice_get, arith, length, true≢false, nat_lt, get_or, ◌<◌}
 use Rattle.std.proofs.lemmas.Bool.Decides.{leb_tells}
 use Rattle.std.proofs.lemmas.Option.{slice_get_past, slice_get_cases}
-use Rattle.gw_profile.specs.declared.node.Node.{Node, Seg, Group, Group'}
+use Rattle.gw_profile.specs.declared.node.Node.{Node, Seg, Group'}
 use Rattle.gw_profile.specs.Shapes.{nothing}
 use Rattle.gw_profile.specs.Seen.{forest, node_forest}
 use Rattle.gw_check.specs.Places.{child}

@@ -1,12 +1,12 @@
 -- How often the items of a level come, and for which node.
 use Rattle.std.proofs.lemmas.List.{take_more, drop_all}
-use Rattle.std.proofs.Common.{◌≡◌, ◌⊎◌, inl, inr, ◌==◌, ℕ, ◌+◌, ◌++◌, take, Bool, true, false, List, [], ◌∷◌, Option, Some, None, refl, sym, ap, ◌∙◌, drop, length, ◌<◌, ◌≤◌, suc, ◌-◌, get_or, subst, arith, drop-cons}
+use Rattle.std.proofs.Common.{◌≡◌, inl, inr, ◌==◌, ℕ, ◌+◌, ◌++◌, take, true, false, List, [], ◌∷◌, Option, Some, refl, sym, ap, ◌∙◌, drop, length, ◌<◌, ◌≤◌, suc, ◌-◌, get_or, subst, arith, drop-cons}
 use Rattle.gw_maplang.specs.Shapes.{TableValue}
 use Rattle.gw_check.specs.declared.resolved.GroupItem.{GroupItem}
 use Rattle.gw_check.specs.declared.resolved.FlatItem.{FlatItem}
 use Rattle.gw_check.specs.declared.resolved.Item.{Item, Segment, Group, Flat, Group', Flat'}
 use Rattle.gw_check.specs.declared.interval.Interval as declared
-use Rattle.gw_check.specs.Intervals.{Interval, sum, product}
+use Rattle.gw_check.specs.Intervals.{sum, product}
 use Rattle.gw_check.specs.Places.{Element, count_at, within}
 use Rattle.gw_check.specs.Resolved.{Items, no_items, first_child}
 use Rattle.gw_check.specs.Counts.{items_count}

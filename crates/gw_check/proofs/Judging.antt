@@ -1,12 +1,12 @@
 -- The failures of a map, joined.
-use Rattle.std.proofs.Common.{◌≡◌, ℕ, Bool, List, [], ◌∷◌, ◌++◌, map, Option, Some, None, refl, sym, ap, ap₂, ◌∙◌, subst}
-use Rattle.gw_profile.specs.Shapes.{Forest, ProfileValue, TableValue, nothing, segment, group}
+use Rattle.std.proofs.Common.{◌≡◌, ℕ, Bool, List, [], ◌∷◌, ◌++◌, map, Option, Some, None, sym, ap, ap₂, ◌∙◌}
+use Rattle.gw_profile.specs.Shapes.{Forest, ProfileValue, nothing, segment, group}
 use Rattle.gw_profile.specs.WellFormed.{EachSegment, EachGroup, LawfulSegment, LawfulGroup, WellFormed, table_names}
 use Rattle.gw_maplang.specs.Shapes.{MapValue}
 use Rattle.gw_check.specs.declared.resolved.Item.{Item}
 use Rattle.gw_check.specs.declared.resolved.LeftOut.{LeftOut}
 use Rattle.gw_check.specs.Failures.{Failure, fails}
-use Rattle.gw_check.specs.Places.{Element, the_whole}
+use Rattle.gw_check.specs.Places.{the_whole}
 use Rattle.gw_check.specs.Resolved.{Items, Drop, Resolved}
 use Rattle.gw_check.specs.Levels.{level_failures, items_failures}
 use Rattle.gw_check.specs.Reads.{items_read, some_passed_over}

@@ -1,13 +1,12 @@
 -- What a map keeps is kept where its labels are looked up.
-use Rattle.std.proofs.Common.{◌≡◌, ℕ, zero, suc, ◌≤◌, ◌⊎◌, inl, inr, Bool, true, false, List, [], ◌∷◌, map, length, Option, Some, None, refl, sym, ap, ap₂, ◌∙◌, subst, arith}
-use Rattle.std.specs.Prelude.{if◌then◌else◌, bytes_eq, codes, ◌==◌, ◌&&◌, IfSome, unwrap_or, option_map}
+use Rattle.std.proofs.Common.{◌≡◌, ℕ, zero, suc, ◌≤◌, inl, inr, Bool, true, false, List, [], ◌∷◌, map, length, Option, Some, None, refl, sym, ap, ◌∙◌, subst, arith}
+use Rattle.std.specs.Prelude.{if◌then◌else◌, bytes_eq, codes, ◌==◌, unwrap_or, option_map}
 use Rattle.std.specs.List.{AllByRecursion}
 use Rattle.std.proofs.lemmas.Bool.Decides.{eqb_tells}
 use Rattle.std.proofs.lemmas.Slice.Eq.{bytes_eq-Decides}
 use Rattle.gw_er7.specs.Names as Names
 use Rattle.gw_er7.specs.Message.{first_field}
 use Rattle.gw_er7.proofs.Messages.{header_is}
-use Rattle.gw_lines.specs.Values.{is_value}
 use Rattle.gw_profile.proofs.Facts.{both, tells}
 use Rattle.gw_profile.specs.Shapes.{SegmentValue, GroupValue, Forest, nothing, segment, group, ProfileValue}
 use Rattle.gw_profile.specs.WellFormed as profiles
@@ -16,12 +15,11 @@ use Rattle.gw_maplang.specs.Among.{Distinct}
 use Rattle.gw_maplang.specs.Shapes as raw
 use Rattle.gw_maplang.specs.Shapes.{TableValue, Rows, table_of, MapValue}
 use Rattle.gw_maplang.specs.Lawful as theirs
-use Rattle.gw_check.specs.Failures.{Failure}
-use Rattle.gw_check.specs.Places.{Element, a_segment, a_group, the_whole, child, nodes_of_child, name_of, within}
-use Rattle.gw_check.specs.Resolved.{Items, At, Rule}
+use Rattle.gw_check.specs.Places.{Element, the_whole, child, nodes_of_child, name_of, within}
+use Rattle.gw_check.specs.Resolved.{Rule}
 use Rattle.gw_check.specs.Placed.{is_segment, is_group, are_placed}
-use Rattle.gw_check.specs.Lawful.{LawfulRows, LawfulSource, LawfulLeaf, LawfulAt, LawfulLeaves, LawfulMaking, LawfulRule, LawfulRules, LawfulItems, places}
-use Rattle.gw_check.specs.Naming.{labelled, node_or, walked_if, place_or, target_failures, naming_failures, path_failures, drop_failures, no_rows, source, leaf, at_leaf, making, rule, resolved_items, resolved}
+use Rattle.gw_check.specs.Lawful.{LawfulRows, LawfulSource, LawfulLeaf, LawfulAt, LawfulLeaves, LawfulMaking, LawfulRule, LawfulItems, places}
+use Rattle.gw_check.specs.Naming.{labelled, node_or, walked_if, place_or, target_failures, naming_failures, no_rows, source, leaf, at_leaf, making, rule, resolved_items, resolved}
 use Rattle.gw_check.proofs.Placing.{nil_both, named, number_is, segment_parts, group_parts, flat_parts, placed_where_named}
 
 -- ---- fields of target segments

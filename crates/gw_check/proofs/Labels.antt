@@ -1,6 +1,6 @@
 -- The labels of items.
-use Rattle.std.proofs.Common.{◌≡◌, ℕ, ◌+◌, ◌<◌, Bool, true, false, List, [], ◌∷◌, ◌++◌, drop, get_or, length, slice_get, Option, Some, None, Bor, refl, sym, ap, ap₂, ◌∙◌}
-use Rattle.std.specs.Prelude.{◌&&◌, is_some, bytes_eq}
+use Rattle.std.proofs.Common.{◌≡◌, ℕ, ◌+◌, ◌<◌, Bool, true, false, List, [], ◌∷◌, ◌++◌, drop, get_or, length, slice_get, Option, Some, None, Bor, refl, sym, ap, ◌∙◌}
+use Rattle.std.specs.Prelude.{◌&&◌, is_some}
 use Rattle.std.specs.List.{list_all}
 use Rattle.std.proofs.lemmas.List.{append-nil}
 use Rattle.gw_maplang.specs.declared.item.FlatItem.{FlatItem}
@@ -8,7 +8,7 @@ use Rattle.gw_maplang.specs.declared.item.Item.{Item, SegFrom, SegAlways, EachFl
 use Rattle.gw_maplang.specs.Shapes.{Items, nothing}
 use Rattle.gw_maplang.specs.Seen.{now, with_item, row_items, all_items}
 use Rattle.gw_maplang.proofs.Rows.{flat_items}
-use Rattle.gw_check.specs.Naming.{labels, are_one, first_or}
+use Rattle.gw_check.specs.Naming.{labels}
 use Rattle.gw_check.proofs.Noting.{front}
 
 pub item_labels : (x : Item) (rest : Items) → labels (with_item x rest) ≡ labels (with_item x nothing) ++ labels rest

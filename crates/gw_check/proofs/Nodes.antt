@@ -1,5 +1,5 @@
 -- The failures on the count of a node.
-use Rattle.std.proofs.Common.{◌≡◌, ℕ, ◌≤◌, Bool, ◌&&◌, not, List, [], ◌∷◌, ◌++◌, Option, refl, sym, ap, ◌∙◌}
+use Rattle.std.proofs.Common.{◌≡◌, ℕ, Bool, ◌&&◌, not, List, ◌++◌, Option, sym, ap, ◌∙◌}
 use Rattle.std.specs.Prelude.{nat_lt}
 use Rattle.gw_profile.specs.declared.shape.Usage.{Usage}
 use Rattle.gw_profile.specs.declared.shape.Card.{Card}
@@ -11,9 +11,9 @@ use Rattle.gw_check.specs.declared.failure.Failure as declared
 use Rattle.gw_check.specs.declared.interval.Interval as intervals
 use Rattle.gw_check.specs.Intervals.{Interval, is_never, is_within}
 use Rattle.gw_check.specs.Places.{Element}
-use Rattle.gw_check.specs.Failures.{Failure, fails}
+use Rattle.gw_check.specs.Failures.{fails}
 use Rattle.gw_check.specs.Fields.{is_expected}
-use Rattle.gw_check.specs.Levels.{first_line, has_no_item, node_failures}
+use Rattle.gw_check.specs.Levels.{first_line, has_no_item}
 use Rattle.gw_check.specs.Counts.{items_count}
 use Rattle.gw_check.specs.Noted.{noted}
 use Rattle.gw_check.specs.Counted.{CountsAll}

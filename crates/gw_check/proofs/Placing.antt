@@ -1,17 +1,17 @@
 -- Where the rules on labels hold, items stand in the order of their nodes, and keep what every map keeps.
-use Rattle.std.proofs.Common.{◌≡◌, ℕ, zero, suc, ◌<◌, ◌≤◌, ◌⊎◌, inl, inr, Bool, true, false, List, [], ◌∷◌, ◌++◌, map, Option, Some, None, refl, sym, ap, ap₂, ◌∙◌, subst, arith}
-use Rattle.std.specs.Prelude.{nat_lt, nat_le, ◌==◌, ◌&&◌, not, if◌then◌else◌, bytes_eq, IfSome, unwrap_or, option_map, option_and_then}
-use Rattle.std.specs.List.{list_all, AllByRecursion}
+use Rattle.std.proofs.Common.{◌≡◌, ℕ, suc, ◌≤◌, inl, inr, Bool, true, false, List, [], ◌∷◌, ◌++◌, Option, Some, None, refl, sym, ap, ap₂, ◌∙◌, subst, arith}
+use Rattle.std.specs.Prelude.{nat_lt, nat_le, ◌==◌, ◌&&◌, not, bytes_eq, unwrap_or, option_and_then}
+use Rattle.std.specs.List.{list_all}
 use Rattle.std.proofs.lemmas.Bool.{le-leb}
 use Rattle.std.proofs.lemmas.Bool.Decides.{leb_tells, eqb_tells}
 use Rattle.std.proofs.lemmas.Slice.Eq.{bytes_eq-Decides}
-use Rattle.gw_profile.proofs.Facts.{both, tells, not_false}
-use Rattle.gw_profile.specs.Shapes.{Forest, nothing, segment, group}
+use Rattle.gw_profile.proofs.Facts.{both, not_false}
+use Rattle.gw_profile.specs.Shapes.{Forest}
 use Rattle.gw_maplang.specs.Shapes as raw
 use Rattle.gw_maplang.specs.Shapes.{TableValue}
 use Rattle.gw_maplang.specs.Lawful as theirs
 use Rattle.gw_check.specs.Failures.{Failure, fails}
-use Rattle.gw_check.specs.Places.{Element, a_segment, a_group, the_whole, child, nodes_of_child, within}
+use Rattle.gw_check.specs.Places.{Element, child, nodes_of_child, within}
 use Rattle.gw_check.specs.Resolved.{Items, first_child}
 use Rattle.gw_check.specs.Placed.{is_segment, is_group, all_for, are_placed, follows, number_or}
 use Rattle.gw_check.specs.Naming.{labelled, node_or, first_or, labels, are_one, label_failures, target_failures, resolved_items, place_or}

@@ -1,5 +1,5 @@
 -- The failures of target labels, one item after the other.
-use Rattle.std.proofs.Common.{◌≡◌, ℕ, ◌+◌, ◌<◌, Bool, List, [], ◌∷◌, ◌++◌, drop, get_or, length, Option, refl, sym, ap, ap₂, ◌∙◌}
+use Rattle.std.proofs.Common.{◌≡◌, ℕ, ◌+◌, ◌<◌, Bool, List, [], ◌++◌, drop, get_or, length, Option, refl, sym, ap, ap₂, ◌∙◌}
 use Rattle.std.specs.Prelude.{not, nat_lt, option_and_then}
 use Rattle.std.proofs.lemmas.List.{append-nil}
 use Rattle.gw_profile.specs.Shapes.{Forest}

@@ -1,6 +1,6 @@
 -- The failures within items, one after the other.
-use Rattle.std.proofs.Common.{◌≡◌, ℕ, zero, suc, ◌+◌, ◌<◌, ◌≤◌, List, [], ◌∷◌, ◌++◌, Option, Some, None, length, drop, drop-cons, get_or, refl, sym, ap, ◌∙◌, subst, arith, IfOk, Result, Ok, Err}
-use Rattle.std.proofs.lemmas.List.{append-nil, append_assoc}
+use Rattle.std.proofs.Common.{◌≡◌, ℕ, zero, suc, ◌+◌, ◌<◌, ◌≤◌, List, [], ◌∷◌, ◌++◌, Option, length, drop, drop-cons, get_or, sym, ap, ◌∙◌, subst, arith, IfOk, Result, Ok, Err}
+use Rattle.std.proofs.lemmas.List.{append-nil}
 use Rattle.gw_profile.specs.Shapes as profiles
 use Rattle.gw_profile.specs.Shapes.{Forest, nothing, segment, group}
 use Rattle.gw_maplang.specs.Shapes.{TableValue}
@@ -8,8 +8,7 @@ use Rattle.gw_check.specs.declared.resolved.GroupItem.{GroupItem}
 use Rattle.gw_check.specs.declared.resolved.FlatItem.{FlatItem}
 use Rattle.gw_check.specs.declared.resolved.Item.{Item, Segment, Group, Flat, Group', Flat'}
 use Rattle.gw_check.specs.declared.failure.Failure as declared
-use Rattle.gw_check.specs.Failures.{Failure}
-use Rattle.gw_check.specs.Places.{Element, child, nodes_of_child, within}
+use Rattle.gw_check.specs.Places.{Element, nodes_of_child, within}
 use Rattle.gw_check.specs.Resolved.{Items, no_items}
 use Rattle.gw_check.specs.Levels.{level_failures, items_failures}
 use Rattle.gw_check.specs.Noted.{noted}

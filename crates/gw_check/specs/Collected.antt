@@ -1,7 +1,6 @@
 -- The source fields that are read, as the program collects them.
-use Rattle.std.specs.Prelude.{◌≡◌, ◌++◌, ◌∷◌, ◌&&◌, [], not, Bool, ℕ, List, map, reverse, Result, OnOk}
+use Rattle.std.specs.Prelude.{◌≡◌, ◌++◌, ◌∷◌, ◌&&◌, [], not, Bool, ℕ, List, map, reverse}
 use Rattle.std.specs.Global.{Vec}
-use Rattle.gw_maplang.specs.Shapes.{TableValue}
 use Rattle.gw_check.specs.declared.reads.Read.{Read}
 use Rattle.std.specs.List.{list_any}
 use Rattle.gw_profile.specs.declared.node.Node.{Node, Seg, Group'}

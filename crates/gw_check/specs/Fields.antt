@@ -1,5 +1,5 @@
 -- The rules on target fields: cardinality (4), usage R and RE (5, 8) and X (11), tables (6, 12), lengths (7, 12), lookups (10).
-use Rattle.std.specs.Prelude.{ℕ, Bool, true, false, ◌==◌, ◌&&◌, ◌||◌, not, nat_lt, if◌then◌else◌, List, [], ◌∷◌, ◌++◌, flat_map, Option, Some, None, option_and_then}
+use Rattle.std.specs.Prelude.{ℕ, Bool, true, false, ◌==◌, ◌&&◌, ◌||◌, not, nat_lt, if◌then◌else◌, List, [], ◌++◌, flat_map, Option, Some, None, option_and_then}
 use Rattle.std.specs.List.{list_any, list_all}
 use Rattle.gw_profile.specs.declared.shape.Usage.{Usage}
 use Rattle.gw_profile.specs.declared.shape.Usage.TheVariants.{R, RE, O, X}
@@ -9,7 +9,7 @@ use Rattle.gw_validate.specs.Breaches.{is_required, is_forbidden, is_null}
 use Rattle.gw_check.specs.Intervals.{Interval, is_never, is_within}
 use Rattle.gw_maplang.specs.Shapes.{Rows}
 use Rattle.gw_check.specs.Resolved.{Reference, Source, Leaf, const, copied, looked_up, At, Making, copy, first, repeat, build, Rule, rule_of}
-use Rattle.gw_check.specs.Leaves.{Sources, Shape, Values, at_field, comp_of, sub_of, comp_presence, sub_presence, sub_values, source_shape, leaf_shape, is_always, is_absent, has_no_row, may_be_unlisted, may_be_long}
+use Rattle.gw_check.specs.Leaves.{Sources, Shape, at_field, comp_of, sub_of, comp_presence, sub_presence, sub_values, source_shape, leaf_shape, is_always, is_absent, has_no_row, may_be_unlisted, may_be_long}
 use Rattle.gw_check.specs.Counts.{walking, rule_count}
 use Rattle.gw_check.specs.Failures.{Failure, fails}
 

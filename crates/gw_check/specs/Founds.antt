@@ -1,5 +1,5 @@
 -- What stands at a place, as the program finds it.
-use Rattle.std.specs.Prelude.{List, Option, Some, None}
+use Rattle.std.specs.Prelude.{Option, Some, None}
 use Rattle.gw_check.specs.declared.place.Found.{Found as TheFound}
 use Rattle.gw_check.specs.Intervals.{Interval, once, of_card, product}
 use Rattle.gw_check.specs.Places.{Element, a_segment, a_group, the_whole, Found}

@@ -1,5 +1,5 @@
 -- What every map keeps, told of a map whose labels were looked up.
-use Rattle.std.specs.Prelude.{◌≡◌, ℕ, ◌≤◌, Bool, true, false, List, [], map, IfSome, Option, Some, None}
+use Rattle.std.specs.Prelude.{◌≡◌, ℕ, ◌≤◌, Bool, true, false, List, map, IfSome}
 use Rattle.std.specs.List.{AllByRecursion}
 use Rattle.gw_er7.specs.Message.{first_field}
 use Rattle.gw_lines.specs.Values.{is_value}
@@ -9,7 +9,7 @@ use Rattle.gw_maplang.specs.Among.{Distinct}
 use Rattle.gw_maplang.specs.Shapes.{Rows}
 use Rattle.gw_maplang.specs.Lawful.{LawfulRow}
 use Rattle.gw_check.specs.Places.{child, nodes_of_child, name_of}
-use Rattle.gw_check.specs.Resolved.{Source, of_field, of_current, Reference, Leaf, const, copied, looked_up, At, Making, copy, first, repeat, build, Rule, Items, no_items, segment_item, group_item, flat_item}
+use Rattle.gw_check.specs.Resolved.{Source, of_field, of_current, Leaf, const, copied, looked_up, At, Making, copy, first, repeat, build, Rule, Items, no_items, segment_item, group_item, flat_item}
 
 -- what rows give is canonical and not empty
 pub record LawfulRows (table : Rows) : Type 0 where

@@ -1,6 +1,6 @@
 -- What is known of the texts that a leaf gives: whether one is there, and which it can be (HL7 v2.5.1 chapter 2, 2.12: usage, length, table).
-use Rattle.std.specs.Prelude.{ℕ, suc, Bool, true, false, ◌==◌, ◌&&◌, ◌||◌, not, nat_lt, nat_le, if◌then◌else◌, List, [], ◌∷◌, ◌++◌, map, filter, filter_map, length, Option, Some, None, find, option_map, option_and_then, option_to_list, unwrap_or, bytes_eq}
-use Rattle.std.specs.List.{list_any, list_all}
+use Rattle.std.specs.Prelude.{ℕ, Bool, true, false, ◌==◌, ◌&&◌, ◌||◌, not, nat_lt, nat_le, if◌then◌else◌, List, [], ◌∷◌, ◌++◌, map, filter, filter_map, length, Option, Some, None, find, option_map, option_to_list, unwrap_or}
+use Rattle.std.specs.List.{list_any}
 use Rattle.gw_profile.specs.declared.shape.Usage.{Usage}
 use Rattle.gw_profile.specs.declared.shape.Usage.TheVariants.{R, RE, O, X}
 use Rattle.gw_profile.specs.Shapes.{SubValue, CompValue, FieldValue, TableValue}

@@ -1,12 +1,12 @@
 -- The rules on target segments and groups: cardinality (4), usage R (5), RE (8) and X (11).
-use Rattle.std.specs.Prelude.{ℕ, suc, Bool, true, false, ◌==◌, ◌&&◌, not, nat_lt, if◌then◌else◌, List, [], ◌∷◌, ◌++◌, Option, Some, None}
+use Rattle.std.specs.Prelude.{ℕ, suc, Bool, true, false, ◌==◌, ◌&&◌, not, nat_lt, if◌then◌else◌, List, [], ◌++◌, Option, Some, None}
 use Rattle.gw_profile.specs.declared.shape.Usage.{Usage}
 use Rattle.gw_profile.specs.declared.shape.Card.{Card}
-use Rattle.gw_profile.specs.Shapes.{FieldValue, TableValue, Forest, nothing, segment, group}
+use Rattle.gw_profile.specs.Shapes.{TableValue, Forest, nothing, segment, group}
 use Rattle.gw_validate.specs.Breaches.{is_forbidden}
 use Rattle.gw_check.specs.Intervals.{Interval, is_never, is_within}
-use Rattle.gw_check.specs.Places.{Element, Place, child, nodes_of_child, fields_of, within, within_if}
-use Rattle.gw_check.specs.Resolved.{SegmentItem, Items, no_items, segment_item, group_item, flat_item, first_child}
+use Rattle.gw_check.specs.Places.{Element, child, nodes_of_child, fields_of, within, within_if}
+use Rattle.gw_check.specs.Resolved.{Items, no_items, segment_item, group_item, flat_item, first_child}
 use Rattle.gw_check.specs.Leaves.{Sources}
 use Rattle.gw_check.specs.Counts.{items_count}
 use Rattle.gw_check.specs.Failures.{Failure, fails}

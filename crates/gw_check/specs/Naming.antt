@@ -1,12 +1,12 @@
 -- What the labels of a map name: source paths (rules 1 and 2), target labels (rule 3), and the map without labels.
-use Rattle.std.specs.Prelude.{ℕ, zero, suc, Bool, true, false, ◌&&◌, not, nat_lt, max, if◌then◌else◌, List, [], ◌∷◌, ◌++◌, map, flat_map, unwrap_or, slice_get, Option, Some, None, option_map, option_and_then, bytes_eq}
+use Rattle.std.specs.Prelude.{ℕ, suc, Bool, true, false, ◌&&◌, not, nat_lt, if◌then◌else◌, List, [], ◌∷◌, ◌++◌, map, flat_map, unwrap_or, slice_get, Option, Some, None, option_map, option_and_then, bytes_eq}
 use Rattle.std.specs.List.{list_all}
 use Rattle.gw_profile.specs.Shapes.{Forest, nothing, segment, group, ProfileValue}
 use Rattle.gw_profile.specs.Line.{allows}
 use Rattle.gw_maplang.specs.Shapes as raw
 use Rattle.gw_maplang.specs.Shapes.{MapValue, TableValue, Rows, table_of}
 use Rattle.gw_check.specs.Places.{Element, a_segment, a_group, the_whole, nodes_of, child, nodes_of_child, Place, found, element_of, within}
-use Rattle.gw_check.specs.Resolved.{Reference, Source, of_field, of_current, Leaf, const, copied, looked_up, At, Making, copy, first, repeat, build, Rule, SegmentItem, GroupItem, FlatItem, Items, no_items, segment_item, group_item, flat_item, Drop, Resolved}
+use Rattle.gw_check.specs.Resolved.{Reference, Source, of_field, of_current, Leaf, const, copied, looked_up, At, Making, copy, first, repeat, build, Rule, Items, no_items, segment_item, group_item, flat_item, Drop, Resolved}
 use Rattle.gw_check.specs.Placed.{is_segment, is_group}
 use Rattle.gw_check.specs.Failures.{Failure, fails}
 

@@ -1,5 +1,5 @@
 -- What looking up the labels of a map gives.
-use Rattle.std.specs.Prelude.{◌≡◌, List, [], map, Some}
+use Rattle.std.specs.Prelude.{◌≡◌, [], map, Some}
 use Rattle.gw_profile.specs.Shapes.{ProfileValue}
 use Rattle.gw_maplang.specs.Shapes.{MapValue}
 use Rattle.gw_check.specs.declared.resolve.Named.{Named}

@@ -1,5 +1,5 @@
 -- Parts of the program, without where they lie in memory.
-use Rattle.std.specs.Prelude.{◌≡◌, ℕ, min, List, [], ◌∷◌, map, reverse, Option, Some, None, option_map, unwrap_or}
+use Rattle.std.specs.Prelude.{ℕ, min, List, [], ◌∷◌, map, reverse, Option, option_map, unwrap_or}
 use Rattle.gw_profile.specs.Seen.{segment_value, forest}
 use Rattle.gw_check.specs.declared.failure.Failure as failures_of
 use Rattle.gw_check.specs.declared.interval.Interval as intervals

@@ -1,5 +1,5 @@
 -- Which maps the rules allow.
-use Rattle.std.specs.Prelude.{◌≡◌, ℕ, true, List, [], ◌∷◌, ◌++◌}
+use Rattle.std.specs.Prelude.{◌≡◌, true, List, [], ◌∷◌, ◌++◌}
 use Rattle.gw_profile.specs.Shapes.{ProfileValue}
 use Rattle.gw_check.specs.Places.{the_whole}
 use Rattle.gw_check.specs.Resolved.{Resolved}

@@ -1,4 +1,4 @@
-use Rattle.std.proofs.Common.{◌≡◌, sym, ap, ap₂, subst, ◌∙◌, None}
+use Rattle.std.proofs.Common.{sym, ap, ap₂, subst, ◌∙◌, None}
 use Rattle.gw_profile.specs.Seen.{profile_value}
 use Rattle.gw_maplang.specs.Seen.{map_value}
 use Rattle.gw_check.specs.Typed as typed
@@ -8,7 +8,7 @@ use Rattle.gw_check.specs.Checked.{all_failures}
 use Rattle.gw_check.specs.Seen.{failures}
 use Rattle.gw_check.specs.Answers.{unlabelled}
 use Rattle.gw_check.proofs.Least.{none_least}
-use Rattle.gw_check.proofs.Judging.{judged_least, named_least}
+use Rattle.gw_check.proofs.Judging.{judged_least}
 use Rattle.gw_check.proofs.checker.judge.Goals as goal
 
 pub returns-in-Some : goal.returns-in-Some

@@ -1,6 +1,5 @@
 use Rattle.std.proofs.Common.{◌≡◌, sym, ap, ap₂, subst, ◌∙◌, ◌∷◌, [], None, map}
 use Rattle.gw_profile.specs.Seen.{profile_value, forest}
-use Rattle.gw_maplang.specs.Seen.{map_value}
 use Rattle.gw_check.specs.Places.{the_whole}
 use Rattle.gw_check.specs.Levels.{level_failures, items_failures}
 use Rattle.gw_check.specs.Reads.{items_read, some_passed_over}

@@ -1,4 +1,4 @@
-use Rattle.std.proofs.Common.{rules, ◌<◌, ◌≤◌, sym, ap, subst, ◌∙◌, IfOk}
+use Rattle.std.proofs.Common.{rules, ◌<◌, ◌≤◌, sym, ap, subst, ◌∙◌}
 use Rattle.gw_profile.specs.Seen.{forest}
 use Rattle.gw_check.specs.Seen.{scope}
 use Rattle.gw_check.specs.Checking.{CountedNodes, weight_one, weight_all}

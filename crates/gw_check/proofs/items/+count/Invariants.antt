@@ -1,4 +1,4 @@
-use Rattle.std.proofs.Common.{◌≡◌, ◌≤◌, ◌+◌, ◌*◌, drop, length}
+use Rattle.std.proofs.Common.{◌≤◌, ◌+◌, ◌*◌, drop, length}
 use Rattle.gw_check.specs.declared.resolved.Item.{size-Item}
 use Rattle.gw_check.specs.Counted.{CountsAll}
 use Rattle.gw_check.specs.Seen.{scope}

@@ -1,4 +1,4 @@
-use Rattle.std.proofs.Common.{refl, sym, ◌∙◌}
+use Rattle.std.proofs.Common.{sym}
 use Rattle.gw_check.proofs.Counted.{leads_none, leads_here, leads_more, leads_to_end}
 use Rattle.gw_check.proofs.items.leading.Goals as goal
 

@@ -1,4 +1,4 @@
-use Rattle.std.proofs.Common.{sym, ap, subst, ◌∙◌, take, drop, ◌≤◌, length}
+use Rattle.std.proofs.Common.{sym, subst, take, drop, ◌≤◌, length}
 use Rattle.gw_profile.specs.WellFormed.{Counted}
 use Rattle.gw_check.specs.Seen.{scope}
 use Rattle.gw_check.specs.Counted.{Leads}

@@ -1,4 +1,4 @@
-use Rattle.std.proofs.Common.{sym, ap, ◌∙◌, arith}
+use Rattle.std.proofs.Common.{sym, ◌∙◌, arith}
 use Rattle.std.specs.Prelude.{◌==◌, ◌||◌}
 use Rattle.gw_check.specs.Leaves.{is_absent, leaf_shape}
 use Rattle.gw_check.specs.Reading.{sources_value, map_tables, is_there}

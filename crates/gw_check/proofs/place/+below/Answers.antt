@@ -1,4 +1,4 @@
-use Rattle.std.proofs.Common.{sym, ap, ◌∙◌, ◌∷◌, option_map}
+use Rattle.std.proofs.Common.{sym, ap, ◌∙◌, option_map}
 use Rattle.gw_check.specs.Places as spec
 use Rattle.gw_check.specs.Seen.{element as seen}
 use Rattle.gw_check.specs.Founds.{saturated_found}

@@ -1,4 +1,4 @@
-use Rattle.std.proofs.Common.{sym, ap, ◌∙◌, subst, map, length, ◌≤◌}
+use Rattle.std.proofs.Common.{sym, ap, ◌∙◌, subst, map, ◌≤◌}
 use Rattle.std.proofs.lemmas.List.{length-map}
 use Rattle.gw_check.specs.Places as spec
 use Rattle.gw_check.specs.Seen.{element as seen}
