@@ -1,4 +1,8 @@
 //! The commands on maps.
+ghost use Rattle.std.specs.Prelude.{◌≡◌, IfOk};
+ghost use Rattle.std.specs.Arc.{arc_value};
+ghost use Rattle.gw_profile.specs.Seen.{profile_value};
+
 use crate::files::{read_all, read_text};
 use crate::report::{Ended, write_all};
 use clap::ArgMatches;
@@ -70,7 +74,9 @@ pub(crate) fn check<R: Files + AllocGlobal, O: Write>(
 }
 
 /// The tree of a content that conforms to a profile.
-fn tree_of<R: AllocGlobal>(rt: &R, profile: Arc<Profile>, content: &[u8]) -> Result<Tree, Ended> {
+fn tree_of<R: AllocGlobal>(rt: &R, profile: Arc<Profile>, content: &[u8]) -> Result<Tree, Ended>
+    ensures { IfOk result (λ tree. profile_value tree.profile ≡ profile_value (arc_value profile)) }
+{
     let message = gw_er7::read(rt.alloc(), content)?;
     match gw_validate::validate(rt.alloc(), profile, message) {
         Ok(Verdict::Fits(tree)) => Ok(tree),
