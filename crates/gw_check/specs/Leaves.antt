@@ -84,9 +84,13 @@ pub record Shape : Type 0 where
   pub presence : Presence
   pub values : Values
 
+-- how long a text is: the rules on lengths measure every text by this number of its octets
+abbrev pub measure : List ℕ → ℕ
+measure = length
+
 abbrev pub is_short : Option ℕ → List ℕ → Bool
 is_short None text = true
-is_short (Some most) text = nat_le (length text) most
+is_short (Some most) text = nat_le (measure text) most
 
 -- with a table its texts that aren't too long, else any
 abbrev pub sub_values : List TableValue → Option SubValue → Values
@@ -157,7 +161,7 @@ abbrev pub may_be_long : Values → Option ℕ → Bool
 may_be_long values None = false
 may_be_long (any None) (Some most) = true
 may_be_long (any (Some len)) (Some most) = nat_lt most len
-may_be_long (listed texts) (Some most) = list_any (λ text. nat_lt most (length text)) texts
+may_be_long (listed texts) (Some most) = list_any (λ text. nat_lt most (measure text)) texts
 
 -- what stands there always meets the subcomponent, with these values of its table
 abbrev pub is_included : Shape → SubValue → Option (List (List ℕ)) → Bool

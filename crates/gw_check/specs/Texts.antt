@@ -1,5 +1,5 @@
 -- The texts that a leaf can give, as the program holds them: without a list of their own.
-use Rattle.std.specs.Prelude.{ℕ, Bool, true, false, not, nat_lt, List, [], ◌∷◌, map, filter, length, Option, Some, None, option_copied, option_map, unwrap_or}
+use Rattle.std.specs.Prelude.{ℕ, Bool, true, false, not, nat_lt, List, [], ◌∷◌, map, filter, Option, Some, None, option_copied, option_map, unwrap_or}
 use Rattle.std.specs.List.{list_any}
 use Rattle.std.specs.Global.{Vec}
 use denote.Ref.{Bor}
@@ -14,7 +14,7 @@ use Rattle.gw_check.specs.declared.shape.Presence.{Presence}
 use Rattle.gw_check.specs.declared.shape.Values as values_of
 use Rattle.gw_check.specs.declared.shape.Shape as shapes
 use Rattle.gw_check.specs.Naming.{no_rows}
-use Rattle.gw_check.specs.Leaves.{Values, Shape, any, listed, is_short, is_always, is_absent, given_values}
+use Rattle.gw_check.specs.Leaves.{Values, Shape, any, listed, is_short, is_always, is_absent, given_values, measure}
 
 abbrev pub items_all : List (Vec ℕ) → List (List ℕ)
 items_all all = map (λ v. v.items) all
@@ -37,7 +37,7 @@ texts_value (declared.TheVariants.LookedUp table read) = listed (given_values (r
 abbrev pub test_value : tests.Test → List ℕ → Bool
 test_value (tests.TheVariants.Unlisted table) text = not (is_among text table.now)
 test_value (tests.TheVariants.Outside all) text = not (is_among text (items_all all.now))
-test_value (tests.TheVariants.Long most) text = nat_lt most (length text)
+test_value (tests.TheVariants.Long most) text = nat_lt most (measure text)
 
 abbrev pub fails_some : (List ℕ → Bool) → Option (List ℕ) → Bool
 fails_some test None = false
