@@ -39,10 +39,3 @@ pub use resolved::{
     Source,
 };
 pub use shape::{Presence, Shape, Values};
-
-#[cfg(test)]
-mod checker_tests;
-#[cfg(test)]
-mod included_tests;
-#[cfg(test)]
-mod resolve_tests;

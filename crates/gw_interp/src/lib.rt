@@ -14,6 +14,3 @@ mod segments;
 mod translating;
 
 pub use translating::translate;
-
-#[cfg(test)]
-mod tests;

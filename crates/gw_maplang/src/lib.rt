@@ -25,8 +25,3 @@ pub use rule::{
 };
 pub use table::Table;
 pub use text::parse;
-
-#[cfg(test)]
-mod texts;
-#[cfg(test)]
-mod values;

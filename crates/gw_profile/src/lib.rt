@@ -23,8 +23,3 @@ pub use reader::Reader;
 pub use shape::{Card, CompShape, FieldShape, SubShape, Usage};
 pub use table::Table;
 pub use text::parse;
-
-#[cfg(test)]
-mod samples;
-#[cfg(test)]
-mod tests;

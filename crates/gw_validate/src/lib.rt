@@ -17,6 +17,3 @@ pub use breach::{Breach, Kind};
 pub use occ::Occ;
 pub use tree::Tree;
 pub use verdict::{Verdict, validate};
-
-#[cfg(test)]
-mod tests;

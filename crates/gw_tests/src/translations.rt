@@ -1,35 +1,19 @@
 //! Worked maps, and what they make of messages.
-use crate::translating::translate;
+use crate::worked::{FLAT, M2, M3, ORU, P2, T1, profile};
 use gw_check::{CheckedMap, check};
 use gw_er7::{Message, read, write};
+use gw_interp::translate;
 use gw_profile::Profile;
 use gw_validate::{Tree, Verdict, validate};
 use std::alloc::Global;
 use std::sync::Arc;
 use std::test::Fail;
 
-const P2: &str =
-    "profile P2\ntable SEX M F U\nsegment MSH R 1..1\n  field 10 R 1..1\nsegment PID R 1..1\n  field 3 R 1..2\n  field 5 RE 0..1\n  field 8 R 1..1 len 1 table SEX\nsegment NK1 O 0..2\n";
-
-const T1: &str =
-    "profile T1\ntable ISO 1 2 9\nsegment MSH R 1..1\n  field 10 R 1..1\nsegment PID R 1..1\n  field 8 R 1..1 len 1 table ISO\n";
-
-const ORU: &str =
-    "profile ORU\nsegment MSH R 1..1\ngroup PATIENT_RESULT R 1..*\n  group PATIENT R 1..1\n    segment PID R 1..1\n  end\n  group ORDER R 1..*\n    segment OBR R 1..1\n      field 1 RE 0..1\n  end\nend\n";
-
-const FLAT: &str = "profile FLAT\nsegment MSH R 1..1\nsegment OBR R 1..*\n  field 1 RE 0..1\n";
-
 const VISITS: &str =
     "profile VISITS\nsegment MSH R 1..1\n  field 10 R 1..1\nsegment PID R 1..1\n  field 3 R 1..*\n  field 5 RE 0..1\ngroup VISIT O 0..9\n  segment PV1 R 1..1\n    field 3 RE 0..1\n    field 7 RE 0..*\n  segment NTE O 0..1\n    field 3 RE 0..*\nend\n";
 
 const STAYS: &str =
     "profile STAYS\nsegment MSH R 1..1\n  field 10 R 1..1\nsegment PID R 1..1\n  field 2 R 1..1\n  field 3 R 1..*\n  field 5 RE 0..1\nsegment ZAR R 1..1\n  field 1 R 1..1 len 4\ngroup STAY O 0..9\n  segment PV1 R 1..1\n    field 3 RE 0..1\n    field 7 RE 0..*\n  segment NTE RE 0..1\n    field 3 RE 0..*\nend\n";
-
-const M2: &str =
-    "map M2 from P2 to T1\ntable SEXMAP\n  row M 1\n  row F 2\n  else 9\nsegment MSH from MSH\n  copy 10 from MSH-10\nsegment PID from PID\n  build 8 lookup SEXMAP PID-8\ndrop PID-3\ndrop PID-5\n";
-
-const M3: &str =
-    "map M3 from ORU to FLAT\nsegment MSH from MSH\nflat each PATIENT_RESULT\n  flat each ORDER\n    segment OBR from OBR\n      copy 1 from OBR-1\n  end\nend\n";
 
 // Two items in a flat within a flat.
 const ENDED: &str =
@@ -112,14 +96,6 @@ const STAYED: [Row<'static>; 3] = [
         b"MSH|^~\\&||||||||7\rPID||^B|^B\rZAR|WEST\rPV1\rNTE\r",
     ),
 ];
-
-fn profile(alloc: Global, text: &str) -> Result<Arc<Profile>, Fail> {
-    let Ok(profile) = gw_profile::parse(alloc, text.as_bytes()) else {
-        return Err("no profile".into());
-    };
-    let shared = Arc::new(alloc, profile)?;
-    Ok(shared)
-}
 
 fn checked(alloc: Global, source: &str, target: &str, map: &str) -> Result<CheckedMap, Fail> {
     let source = profile(alloc, source)?;

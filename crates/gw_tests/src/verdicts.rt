@@ -1,9 +1,7 @@
 //! Worked messages and their verdicts.
-use crate::breach::{Breach, Kind};
-use crate::occ::Occ;
-use crate::verdict::{Verdict, validate};
 use gw_er7::read;
 use gw_profile::parse;
+use gw_validate::{Breach, Kind, Occ, Verdict, validate};
 use std::alloc::Global;
 use std::sync::Arc;
 use std::test::Fail;

@@ -1,6 +1,5 @@
 //! Shapes, and the subcomponents that they always meet (HL7 table 0001: F, M, O, U, A, N).
-use crate::leaf::included;
-use crate::shape::{Presence, Shape, Values};
+use gw_check::{Presence, Shape, Values, included};
 use gw_profile::{SubShape, Usage};
 use std::alloc::{AllocError, Global};
 use std::test::Fail;

@@ -1,8 +1,8 @@
 //! Texts, and what the format says of them.
 
 use crate::samples::{ADT_A01, ORU_R01};
-use crate::{ProfileFault, parse};
-use std::alloc::{AllocError, Global};
+use crate::worked::padded;
+use gw_profile::{ProfileFault, parse};
 use std::test::Fail;
 
 const P1: &[u8] =
@@ -271,18 +271,6 @@ fn samples(rt: HostRuntime) -> Result<(), Fail> {
     Ok(())
 }
 
-// A profile in a text of so many bytes and lines, filled up with comments.
-fn padded(alloc: Global, bytes: usize, lines: usize) -> Result<Vec<u8>, AllocError> {
-    let mut text = Vec::from_slice(alloc, b"profile A\nsegment MSH R 1..1\n")?;
-    for _ in 2..lines {
-        text.extend_from_slice(b"#\n")?;
-    }
-    for _ in text.len()..bytes {
-        text.push(b' ')?;
-    }
-    Ok(text)
-}
-
 #[test]
 fn limits(rt: HostRuntime) -> Result<(), Fail> {
     let alloc = rt.alloc();
@@ -292,7 +280,7 @@ fn limits(rt: HostRuntime) -> Result<(), Fail> {
         (0, 10_000, None),
         (0, 10_001, Some(ProfileFault::TooLarge)),
     ] {
-        let text = padded(alloc, bytes, lines)?;
+        let text = padded(alloc, b"profile A\nsegment MSH R 1..1\n", bytes, lines - 2)?;
         assert_eq!(rt; parse(alloc, &text).err(), fault, "{bytes} {lines}");
     }
     Ok(())

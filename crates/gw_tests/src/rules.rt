@@ -1,29 +1,10 @@
 //! Worked maps, and the least rule that fails with its line.
-use crate::checker::{CheckFault, check};
-use gw_profile::Profile;
-use std::alloc::Global;
-use std::sync::Arc;
+use crate::worked::{FLAT, M2, M3, ORDERS_AND_NOTES, ORU, P1, P2, T1, failure, profile};
+use gw_check::check;
 use std::test::Fail;
-
-const P1: &str =
-    "profile P1\ntable SEX M F U\nsegment MSH R 1..1\n  field 10 R 1..1\nsegment PID R 1..1\n  field 3 R 1..2\n  field 5 RE 0..1\n  field 8 RE 0..1 len 1 table SEX\nsegment NK1 O 0..2\n";
-
-const P2: &str =
-    "profile P2\ntable SEX M F U\nsegment MSH R 1..1\n  field 10 R 1..1\nsegment PID R 1..1\n  field 3 R 1..2\n  field 5 RE 0..1\n  field 8 R 1..1 len 1 table SEX\nsegment NK1 O 0..2\n";
-
-const T1: &str =
-    "profile T1\ntable ISO 1 2 9\nsegment MSH R 1..1\n  field 10 R 1..1\nsegment PID R 1..1\n  field 8 R 1..1 len 1 table ISO\n";
-
-const ORU: &str =
-    "profile ORU\nsegment MSH R 1..1\ngroup PATIENT_RESULT R 1..*\n  group PATIENT R 1..1\n    segment PID R 1..1\n  end\n  group ORDER R 1..*\n    segment OBR R 1..1\n      field 1 RE 0..1\n  end\nend\n";
-
-const FLAT: &str = "profile FLAT\nsegment MSH R 1..1\nsegment OBR R 1..*\n  field 1 RE 0..1\n";
 
 const TWO_ORDERS: &str =
     "profile FLAT\nsegment MSH R 1..1\nsegment OBR R 1..2\n  field 1 RE 0..1\n";
-
-const ORDERS_AND_NOTES: &str =
-    "profile FLAT\nsegment MSH R 1..1\nsegment OBR R 1..*\nsegment NTE O 0..*\n";
 
 const KIN: &str = "profile KIN\nsegment MSH R 1..1\nsegment NK1 O 0..2\nsegment GT1 O 0..2\n";
 
@@ -76,14 +57,8 @@ const NO_MODE: &str = "profile MODE\nsegment MSH R 1..1\n  field 11 X 0..0\n";
 
 const WARDS: &str = "profile WARDS\nsegment MSH R 1..1\nsegment ZAR R 1..1\n  field 1 R 1..1\n";
 
-const VISITS: &str =
-    "profile VISITS\nsegment MSH R 1..1\nsegment NTE O 0..1\n  field 3 RE 0..1\ngroup VISIT O 0..9\n  segment PV1 R 1..1\n  segment NTE O 0..1\n    field 3 RE 0..1\nend\n";
-
 const LONG_VISITS: &str =
     "profile VISITS\nsegment MSH R 1..1\nsegment NTE O 0..1\n  field 3 RE 0..1\ngroup VISIT O 0..9\n  segment PV1 R 1..1\n  segment NTE O 0..2\n    field 3 RE 0..1\nend\n";
-
-const STAYS: &str =
-    "profile STAYS\nsegment MSH R 1..1\ngroup STAY O 0..*\n  segment PV1 R 1..1\n  segment NTE RE 0..1\n    field 3 RE 0..1\nend\n";
 
 const BEDS: &str = "profile BEDS\nsegment MSH R 1..1\nsegment PV1 O 0..*\n";
 
@@ -103,12 +78,6 @@ const VALUES: &str = "profile VALUES\nsegment MSH R 1..1\nsegment OBX O 0..9999\
 const M1: &str =
     "map M1 from P1 to T1\ntable SEXMAP\n  row M 1\n  row F 2\n  else 9\nsegment MSH from MSH\n  copy 10 from MSH-10\nsegment PID from PID\n  build 8 lookup SEXMAP PID-8\ndrop PID-3\ndrop PID-5\n";
 
-const M2: &str =
-    "map M2 from P2 to T1\ntable SEXMAP\n  row M 1\n  row F 2\n  else 9\nsegment MSH from MSH\n  copy 10 from MSH-10\nsegment PID from PID\n  build 8 lookup SEXMAP PID-8\ndrop PID-3\ndrop PID-5\n";
-
-const M3: &str =
-    "map M3 from ORU to FLAT\nsegment MSH from MSH\nflat each PATIENT_RESULT\n  flat each ORDER\n    segment OBR from OBR\n      copy 1 from OBR-1\n  end\nend\n";
-
 const M4: &str =
     "map M4 from P2 to T1\ntable SEXMAP\n  row M 1\nsegment MSH from MSH\n  copy 10 from MSH-10\nsegment PID from PID\n  build 8 lookup SEXMAP PID-8\ndrop PID-3\ndrop PID-5\n";
 
@@ -117,6 +86,12 @@ const TWO_ITEMS: &str =
 
 const BY_DAYS: &str =
     "map M from MANY to VALUES\nsegment MSH from MSH\nflat each DAY\n  flat each SERIES\n    segment OBX from OBX\n  end\nend\n";
+
+const VISITS: &str =
+    "profile VISITS\nsegment MSH R 1..1\nsegment NTE O 0..1\n  field 3 RE 0..1\ngroup VISIT O 0..9\n  segment PV1 R 1..1\n  segment NTE O 0..1\n    field 3 RE 0..1\nend\n";
+
+const STAYS: &str =
+    "profile STAYS\nsegment MSH R 1..1\ngroup STAY O 0..*\n  segment PV1 R 1..1\n  segment NTE RE 0..1\n    field 3 RE 0..1\nend\n";
 
 // Source, target and map, and the rule that fails with its line.
 type Case<'a> = (&'a str, &'a str, &'a str, Option<(u8, u32)>);
@@ -568,43 +543,6 @@ const OF_THE_MANUAL: [(&str, Option<(u8, u32)>); 14] = [
         Some((12, 14)),
     ),
 ];
-
-fn profile(alloc: Global, text: &str) -> Result<Arc<Profile>, Fail> {
-    let Ok(profile) = gw_profile::parse(alloc, text.as_bytes()) else {
-        return Err("no profile".into());
-    };
-    let shared = Arc::new(alloc, profile)?;
-    Ok(shared)
-}
-
-// The least rule that fails with its line; whatever is answered has the map in it.
-fn failure(
-    alloc: Global,
-    source: &str,
-    target: &str,
-    map: &str,
-) -> Result<Option<(u8, u32)>, Fail> {
-    let source = profile(alloc, source)?;
-    let target = profile(alloc, target)?;
-    let Ok(given) = gw_maplang::parse(alloc, map.as_bytes()) else {
-        return Err("no map".into());
-    };
-    let Ok(again) = gw_maplang::parse(alloc, map.as_bytes()) else {
-        return Err("no map".into());
-    };
-    let (found, back) = match check(alloc, source, target, given) {
-        Ok(checked) => (None, checked.map().name() == again.name()),
-        Err(CheckFault::Rule { rule, line, map }) => (
-            Some((rule, line)),
-            map.name() == again.name(),
-        ),
-        Err(CheckFault::Memory(_)) => return Err("no memory".into()),
-    };
-    if !back {
-        return Err("another map".into());
-    }
-    Ok(found)
-}
 
 #[test]
 fn failures(rt: HostRuntime) -> Result<(), Fail> {

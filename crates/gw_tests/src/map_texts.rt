@@ -1,6 +1,6 @@
 //! Texts, and what the language says of them.
 
-use crate::{MapFault, parse};
+use gw_maplang::{MapFault, parse};
 use std::test::Fail;
 
 /// Each text with the fault that the language gives it, if any.

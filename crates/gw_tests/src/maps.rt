@@ -1,6 +1,7 @@
 //! Maps and what they spell, written by hand.
 
-use crate::{
+use crate::worked::padded;
+use gw_maplang::{
     Dropped, FieldPath, Item, Leaf, LeafPlace, LeafRule, Map, MapFault, Ref, Rule, identity, parse,
 };
 use std::alloc::{AllocError, Global};
@@ -259,18 +260,6 @@ fn table(rt: HostRuntime) -> Result<(), Fail> {
     Ok(())
 }
 
-// A map in a text of so many bytes and lines, filled up with comments.
-fn padded(alloc: Global, bytes: usize, lines: usize) -> Result<Vec<u8>, AllocError> {
-    let mut text = Vec::from_slice(alloc, b"map A from B to C\n")?;
-    for _ in 1..lines {
-        text.extend_from_slice(b"#\n")?;
-    }
-    for _ in text.len()..bytes {
-        text.push(b' ')?;
-    }
-    Ok(text)
-}
-
 #[test]
 fn limits(rt: HostRuntime) -> Result<(), Fail> {
     let alloc = rt.alloc();
@@ -280,7 +269,7 @@ fn limits(rt: HostRuntime) -> Result<(), Fail> {
         (0, 10_000, None),
         (0, 10_001, Some(MapFault::TooLarge)),
     ] {
-        let text = padded(alloc, bytes, lines)?;
+        let text = padded(alloc, b"map A from B to C\n", bytes, lines - 1)?;
         assert_eq!(rt; parse(alloc, &text).err(), fault, "{bytes} {lines}");
     }
     Ok(())
