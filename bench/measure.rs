@@ -2,59 +2,16 @@
 //!
 //! It reads no file whole: a child's peak counts what its parent had when it began.
 //! Times are processor seconds (user and system) of the best of so many rounds, which other work on the machine disturbs less than the clock's.
+mod taken;
+
 use std::fs::File;
 use std::io::{self, BufRead, BufReader};
 use std::path::{Path, PathBuf};
-use std::process::{Command, ExitCode, Stdio};
+use std::process::{Command, ExitCode};
 use std::{env, fs};
+use taken::{best, run, Taken};
 
 const STAMP: &str = "20240102030406";
-
-/// `struct rusage` of Linux on 64 bits, up to the peak of resident memory; the rest isn't looked at.
-#[repr(C)]
-#[derive(Default)]
-struct Usage {
-    user: [i64; 2],
-    system: [i64; 2],
-    peak_kilobytes: i64,
-    rest: [i64; 13],
-}
-
-extern "C" {
-    fn wait4(pid: i32, status: *mut i32, options: i32, usage: *mut Usage) -> i32;
-}
-
-/// What a run took.
-#[derive(Clone, Copy)]
-struct Taken {
-    seconds: f64,
-    kilobytes: i64,
-    status: i32,
-}
-
-fn seconds(time: [i64; 2]) -> f64 {
-    time[0] as f64 + time[1] as f64 / 1e6
-}
-
-fn run(command: &mut Command, input: &Path, output: &Path) -> io::Result<Taken> {
-    let child = command
-        .stdin(File::open(input)?)
-        .stdout(File::create(output)?)
-        .stderr(Stdio::null())
-        .spawn()?;
-    let mut usage = Usage::default();
-    let mut status = 0;
-    let pid = child.id() as i32;
-    // SAFETY: both pointers are to values of the types that the call fills, which live as long as it.
-    if unsafe { wait4(pid, &mut status, 0, &mut usage) } != pid {
-        return Err(io::Error::last_os_error());
-    }
-    Ok(Taken {
-        seconds: seconds(usage.user) + seconds(usage.system),
-        kilobytes: usage.peak_kilobytes,
-        status: status >> 8,
-    })
-}
 
 /// The two programs, and where their files are.
 struct Bench {
@@ -98,16 +55,6 @@ fn same_answers(one: &Path, other: &Path) -> io::Result<Option<usize>> {
         one.consume(both);
         other.consume(both);
     }
-}
-
-fn best(rounds: usize, mut once: impl FnMut() -> io::Result<Taken>) -> io::Result<Taken> {
-    let mut best = once()?;
-    for _ in 1..rounds {
-        let taken = once()?;
-        best.seconds = best.seconds.min(taken.seconds);
-        best.kilobytes = best.kilobytes.min(taken.kilobytes);
-    }
-    Ok(best)
 }
 
 impl Bench {

@@ -1,0 +1,63 @@
+//! What a child process takes: processor seconds (user and system), which other work on the machine disturbs less than the clock's, and the peak of resident memory.
+use std::fs::File;
+use std::io;
+use std::path::Path;
+use std::process::{Command, Stdio};
+
+/// `struct rusage` of Linux on 64 bits, up to the peak of resident memory; the rest isn't looked at.
+#[repr(C)]
+#[derive(Default)]
+struct Usage {
+    user: [i64; 2],
+    system: [i64; 2],
+    peak_kilobytes: i64,
+    rest: [i64; 13],
+}
+
+extern "C" {
+    fn wait4(pid: i32, status: *mut i32, options: i32, usage: *mut Usage) -> i32;
+}
+
+/// What a run took.
+#[derive(Clone, Copy)]
+pub struct Taken {
+    pub seconds: f64,
+    pub kilobytes: i64,
+    pub status: i32,
+}
+
+fn seconds(time: [i64; 2]) -> f64 {
+    time[0] as f64 + time[1] as f64 / 1e6
+}
+
+/// Runs a command to its end.
+pub fn run(command: &mut Command, input: &Path, output: &Path) -> io::Result<Taken> {
+    let child = command
+        .stdin(File::open(input)?)
+        .stdout(File::create(output)?)
+        .stderr(Stdio::null())
+        .spawn()?;
+    let mut usage = Usage::default();
+    let mut status = 0;
+    let pid = child.id() as i32;
+    // SAFETY: both pointers are to values of the types that the call fills, which live as long as it.
+    if unsafe { wait4(pid, &mut status, 0, &mut usage) } != pid {
+        return Err(io::Error::last_os_error());
+    }
+    Ok(Taken {
+        seconds: seconds(usage.user) + seconds(usage.system),
+        kilobytes: usage.peak_kilobytes,
+        status: status >> 8,
+    })
+}
+
+/// The least that so many runs took.
+pub fn best(rounds: usize, mut once: impl FnMut() -> io::Result<Taken>) -> io::Result<Taken> {
+    let mut best = once()?;
+    for _ in 1..rounds {
+        let taken = once()?;
+        best.seconds = best.seconds.min(taken.seconds);
+        best.kilobytes = best.kilobytes.min(taken.kilobytes);
+    }
+    Ok(best)
+}
