@@ -27,7 +27,7 @@ module _ (p : ProfileValue) (w : WellFormed p) where
   typed =
       no_more _ _
       (no_more _ _ (levels_hold (table_names p.tables) (the_whole p.nodes) [] 0 0 p.nodes (from_the_first p.nodes) w.distinct w.segments w.groups)
-      (items_hold p.tables (table_names p.tables) (the_whole p.nodes) [] 0 p.nodes (from_the_first p.nodes) w.distinct w.segments w.groups))
+      (items_hold p (table_names p.tables) (the_whole p.nodes) [] 0 p.nodes (from_the_first p.nodes) w.distinct w.segments w.groups))
       (holds 9 0 _ (reads_hold (items_read ([] ∷ []) (same 0 p.nodes)) [] [] 0 p.nodes (λ at field e. e)))
 
   pub identity_allowed : all_failures p p (identity p) ≡ []

@@ -1,5 +1,5 @@
 -- The fields of a segment are copied as its own profile asks for them.
-use Rattle.std.proofs.Common.{◌≡◌, ℕ, suc, ◌≤◌, ◌<◌, inl, inr, Bool, true, false, List, [], ◌∷◌, ◌++◌, map, length, Option, Some, None, refl, sym, ap, ap₂, ◌∙◌, subst, arith}
+use Rattle.std.proofs.Common.{◌≡◌, ℕ, suc, ◌≤◌, ◌<◌, inl, inr, Bool, true, false, List, [], ◌∷◌, ◌++◌, map, Option, Some, None, refl, sym, ap, ap₂, ◌∙◌, subst, arith}
 use Rattle.std.specs.Prelude.{if◌then◌else◌, cond, ◌==◌, ◌&&◌, ◌||◌, not, nat_lt, nat_le, find, filter, flat_map, unwrap_or}
 use Rattle.std.specs.List.{AllByRecursion, list_any}
 use Rattle.std.proofs.lemmas.Bool.{le-ltb, eq-eqb, ne_eqb}
@@ -8,7 +8,8 @@ use Rattle.gw_profile.specs.declared.shape.Usage.{Usage}
 use Rattle.gw_profile.specs.declared.shape.Usage.TheVariants.{R, RE, O, X}
 use Rattle.gw_profile.specs.Fault.{is_among, least_field}
 use Rattle.gw_profile.specs.Line as line
-use Rattle.gw_profile.specs.Shapes.{SubValue, CompValue, FieldValue, SegmentValue, TableValue}
+use Rattle.gw_profile.specs.Shapes.{SubValue, CompValue, FieldValue, SegmentValue, ProfileValue}
+use Rattle.gw_profile.specs.Lengths.{Count, octets, measure, len_count}
 use Rattle.gw_profile.specs.Value.{table_of}
 use Rattle.gw_profile.specs.WellFormed.{Agrees, Rising, field_numbers, LawfulComp, LawfulField, LawfulSegment}
 use Rattle.gw_profile.specs.Among as lists
@@ -22,7 +23,7 @@ use Rattle.gw_check.specs.Intervals.{never, once, of_card, is_never, is_within}
 use Rattle.gw_check.specs.Places.{Element, a_segment}
 use Rattle.gw_check.specs.Resolved.{Rule, rule_of}
 use Rattle.gw_check.specs.Naming.{itself}
-use Rattle.gw_check.specs.Leaves.{Sources, listed, field_of, comp_of, sub_of, by_usage, comp_presence, sub_usage, sub_presence, is_always, is_absent, is_short, sub_values, may_be_unlisted, may_be_long}
+use Rattle.gw_check.specs.Leaves.{Sources, listed, field_of, comp_of, sub_of, by_usage, comp_presence, sub_usage, sub_presence, is_always, is_absent, is_short, sub_values, may_be_unlisted, may_exceed, may_be_long}
 use Rattle.gw_check.specs.Counts.{rule_count, reference_count}
 use Rattle.gw_check.specs.Fields.{is_expected, table_values, value_failures, copied_sub, copied_comp, copied_field, content_failures, count_failures, field_failures, rule_lookups, segment_failures}
 use Rattle.gw_check.specs.Levels.{sources}
@@ -114,42 +115,47 @@ not_and true b e = e
 not_and false b e = refl
 
 -- each value that is short enough stands in the table
-none_unlisted : (len : Option ℕ) (table texts : List (List ℕ)) → ((x : List ℕ) → lists.Among x texts → is_among x table ≡ true) → list_any (λ text. not (is_among text table)) (filter (is_short len) texts) ≡ false
-none_unlisted len table [] h = refl
-none_unlisted len table (x ∷ texts) h = by (is_short len x) (none_unlisted len table texts (λ y a. h y (inr a)))
+none_unlisted : (count : Count) (len : Option ℕ) (table texts : List (List ℕ)) → ((x : List ℕ) → lists.Among x texts → is_among x table ≡ true) → list_any (λ text. not (is_among text table)) (filter (is_short count len) texts) ≡ false
+none_unlisted count len table [] h = refl
+none_unlisted count len table (x ∷ texts) h = by (is_short count len x) (none_unlisted count len table texts (λ y a. h y (inr a)))
   where
-    by : (b : Bool) → list_any (λ text. not (is_among text table)) (filter (is_short len) texts) ≡ false → list_any (λ text. not (is_among text table)) (cond b (x ∷ filter (is_short len) texts) (filter (is_short len) texts)) ≡ false
+    by : (b : Bool) → list_any (λ text. not (is_among text table)) (filter (is_short count len) texts) ≡ false → list_any (λ text. not (is_among text table)) (cond b (x ∷ filter (is_short count len) texts) (filter (is_short count len) texts)) ≡ false
     by true later = ap₂ (λ s t. not s || t) (h x (inl refl)) later
     by false later = later
 
-none_long : (most : ℕ) (texts : List (List ℕ)) → list_any (λ text. nat_lt most (length text)) (filter (is_short (Some most)) texts) ≡ false
-none_long most [] = refl
-none_long most (x ∷ texts) = by (is_short (Some most) x) refl (none_long most texts)
+none_long : (count : Count) (most : ℕ) (texts : List (List ℕ)) → list_any (λ text. nat_lt most (measure count text)) (filter (is_short count (Some most)) texts) ≡ false
+none_long count most [] = refl
+none_long count most (x ∷ texts) = by (is_short count (Some most) x) refl (none_long count most texts)
   where
-    by : (b : Bool) → is_short (Some most) x ≡ b → list_any (λ text. nat_lt most (length text)) (filter (is_short (Some most)) texts) ≡ false → list_any (λ text. nat_lt most (length text)) (cond b (x ∷ filter (is_short (Some most)) texts) (filter (is_short (Some most)) texts)) ≡ false
-    by true is later = ap₂ (λ s t. s || t) (le-ltb most (length x) (short is)) later
+    by : (b : Bool) → is_short count (Some most) x ≡ b → list_any (λ text. nat_lt most (measure count text)) (filter (is_short count (Some most)) texts) ≡ false →
+        list_any (λ text. nat_lt most (measure count text)) (cond b (x ∷ filter (is_short count (Some most)) texts) (filter (is_short count (Some most)) texts)) ≡ false
+    by true is later = ap₂ (λ s t. s || t) (le-ltb most (measure count x) (short is)) later
       where
-        short : nat_le (length x) most ≡ true → length x ≤ most
-        short e = elim (leb_tells (length x) most) [ inl h ↦ h.1 | inr h ↦ absurd (cc) ]
+        short : nat_le (measure count x) most ≡ true → measure count x ≤ most
+        short e = elim (leb_tells (measure count x) most) [ inl h ↦ h.1 | inr h ↦ absurd (cc) ]
     by false is later = later
 
-module _ (tables : List TableValue) where
+-- lengths of one count
+not_exceeded : (count : Count) (most : ℕ) → may_exceed count most count most ≡ false
+not_exceeded octets most = le-ltb most most (omega arith)
+
+module _ (profile : ProfileValue) where
   abbrev sub_with : ℕ → Usage → Option ℕ → Option (List ℕ) → SubValue
   sub_with number usage len table = record { number = number; usage = usage; len = len; table = table }
 
-  listed_or : (len : Option ℕ) (o : Option (List (List ℕ))) → may_be_unlisted (listed (filter (is_short len) (unwrap_or o []))) o ≡ false
+  listed_or : (len : Option ℕ) (o : Option (List (List ℕ))) → may_be_unlisted (listed (filter (is_short (len_count profile) len) (unwrap_or o []))) o ≡ false
   listed_or len None = refl
-  listed_or len (Some values) = none_unlisted len values values (λ x a. (among_is x values).1 a)
+  listed_or len (Some values) = none_unlisted (len_count profile) len values values (λ x a. (among_is x values).1 a)
 
-  always_listed : (number : ℕ) (usage : Usage) (len : Option ℕ) (table : Option (List ℕ)) → may_be_unlisted (sub_values tables (Some (sub_with number usage len table))) (table_values tables (sub_with number usage len table)) ≡ false
+  always_listed : (number : ℕ) (usage : Usage) (len : Option ℕ) (table : Option (List ℕ)) → may_be_unlisted (sub_values profile (Some (sub_with number usage len table))) (table_values profile.tables (sub_with number usage len table)) ≡ false
   always_listed number usage len None = refl
-  always_listed number usage len (Some name) = listed_or len (table_of name tables)
+  always_listed number usage len (Some name) = listed_or len (table_of name profile.tables)
 
-  always_short : (number : ℕ) (usage : Usage) (len : Option ℕ) (table : Option (List ℕ)) → may_be_long (sub_values tables (Some (sub_with number usage len table))) len ≡ false
+  always_short : (number : ℕ) (usage : Usage) (len : Option ℕ) (table : Option (List ℕ)) → may_be_long (len_count profile) (sub_values profile (Some (sub_with number usage len table))) len ≡ false
   always_short number usage None None = refl
   always_short number usage None (Some name) = refl
-  always_short number usage (Some most) None = le-ltb most most (omega arith)
-  always_short number usage (Some most) (Some name) = none_long most (unwrap_or (table_of name tables) [])
+  always_short number usage (Some most) None = not_exceeded (len_count profile) most
+  always_short number usage (Some most) (Some name) = none_long (len_count profile) most (unwrap_or (table_of name profile.tables) [])
 
   -- ---- components and subcomponents
 
@@ -165,19 +171,19 @@ module _ (tables : List TableValue) where
   is_never_there O = refl
   is_never_there X = refl
 
-  values_hold : (line : ℕ) (presence : Presence) (s : SubValue) → value_failures tables line (record { presence = presence; values = sub_values tables (Some s) }) s ≡ []
+  values_hold : (line : ℕ) (presence : Presence) (s : SubValue) → value_failures profile line (record { presence = presence; values = sub_values profile (Some s) }) s ≡ []
   values_hold line presence s =
       no_more _ _ (holds 6 line _ (not_and (not (is_absent presence)) _ (always_listed s.number s.usage s.len s.table)))
       (holds 7 line _ (not_and (not (is_absent presence)) _ (always_short s.number s.usage s.len s.table)))
 
   -- below a component that may be there a subcomponent is there as its usage says
-  sub_holds : (line : ℕ) (c : CompValue) (s : SubValue) → is_absent (comp_presence (Some c)) ≡ false → sub_of (Some c) s.number ≡ Some s → copied_sub tables tables line (Some c) s ≡ []
+  sub_holds : (line : ℕ) (c : CompValue) (s : SubValue) → is_absent (comp_presence (Some c)) ≡ false → sub_of (Some c) s.number ≡ Some s → copied_sub profile profile line (Some c) s ≡ []
   sub_holds line c s there found =
       let presence : sub_presence (Some c) (sub_of (Some c) s.number) ≡ by_usage (Some s.usage) = ap₂ (λ b o. if b then Never else sub_usage o) there found in
       no_more _ _
       (no_more _ _ (holds 5 line _ (ap (λ p. is_required s.usage && not (is_always p)) presence ∙ is_there s.usage))
       (holds 11 line _ (ap (λ p. is_forbidden s.usage && not (is_absent p)) presence ∙ is_never_there s.usage)))
-      (ap (λ o. value_failures tables line (record { presence = sub_presence (Some c) (sub_of (Some c) s.number); values = sub_values tables o }) s) found
+      (ap (λ o. value_failures profile line (record { presence = sub_presence (Some c) (sub_of (Some c) s.number); values = sub_values profile o }) s) found
       ∙ values_hold line (sub_presence (Some c) (sub_of (Some c) s.number)) s)
 
   x_is_absent : (u : Usage) → is_absent (by_usage (Some u)) ≡ true → u ≡ X
@@ -186,27 +192,27 @@ module _ (tables : List TableValue) where
   x_is_absent O e = absurd (cc)
   x_is_absent X e = refl
 
-  subs_hold : (names : List (List ℕ)) (line : ℕ) (c : CompValue) → LawfulComp names c → flat_map (copied_sub tables tables line (Some c)) c.subs ≡ []
+  subs_hold : (names : List (List ℕ)) (line : ℕ) (c : CompValue) → LawfulComp names c → flat_map (copied_sub profile profile line (Some c)) c.subs ≡ []
   subs_hold names line c l = elim (tells (is_absent (comp_presence (Some c)))) [
-    | inl h ↦ ap (flat_map (copied_sub tables tables line (Some c))) (l.bare (x_is_absent c.usage h))
-    | inr h ↦ none_of_each (copied_sub tables tables line (Some c)) c.subs (each h c.subs (each_found (λ (s : SubValue). s.number) 1 99 c.subs l.rising))
+    | inl h ↦ ap (flat_map (copied_sub profile profile line (Some c))) (l.bare (x_is_absent c.usage h))
+    | inr h ↦ none_of_each (copied_sub profile profile line (Some c)) c.subs (each h c.subs (each_found (λ (s : SubValue). s.number) 1 99 c.subs l.rising))
   ]
     where
-      each : is_absent (comp_presence (Some c)) ≡ false → (subs : List SubValue) → AllByRecursion (λ s. sub_of (Some c) s.number ≡ Some s) subs → AllByRecursion (λ s. copied_sub tables tables line (Some c) s ≡ []) subs
+      each : is_absent (comp_presence (Some c)) ≡ false → (subs : List SubValue) → AllByRecursion (λ s. sub_of (Some c) s.number ≡ Some s) subs → AllByRecursion (λ s. copied_sub profile profile line (Some c) s ≡ []) subs
       each there [] h = tt
       each there (s ∷ subs) h = (sub_holds line c s there h.0, each there subs h.1)
 
-  comp_holds : (names : List (List ℕ)) (line : ℕ) (f : FieldValue) (c : CompValue) → LawfulComp names c → comp_of (Some f) c.number ≡ Some c → copied_comp tables tables line (Some f) c ≡ []
+  comp_holds : (names : List (List ℕ)) (line : ℕ) (f : FieldValue) (c : CompValue) → LawfulComp names c → comp_of (Some f) c.number ≡ Some c → copied_comp profile profile line (Some f) c ≡ []
   comp_holds names line f c l found =
       no_more _ _
       (no_more _ _ (holds 5 line _ (ap (λ o. is_required c.usage && not (is_always (comp_presence o))) found ∙ is_there c.usage))
       (holds 11 line _ (ap (λ o. is_forbidden c.usage && not (is_absent (comp_presence o))) found ∙ is_never_there c.usage)))
-      (ap (λ o. flat_map (copied_sub tables tables line o) c.subs) found ∙ subs_hold names line c l)
+      (ap (λ o. flat_map (copied_sub profile profile line o) c.subs) found ∙ subs_hold names line c l)
 
-  comps_hold : (names : List (List ℕ)) (line : ℕ) (f : FieldValue) → LawfulField names f → flat_map (copied_comp tables tables line (Some f)) f.comps ≡ []
+  comps_hold : (names : List (List ℕ)) (line : ℕ) (f : FieldValue) → LawfulField names f → flat_map (copied_comp profile profile line (Some f)) f.comps ≡ []
   comps_hold names line f l =
-      none_of_each (copied_comp tables tables line (Some f)) f.comps
-      (each_of_both (LawfulComp names) (λ c. comp_of (Some f) c.number ≡ Some c) (λ c. copied_comp tables tables line (Some f) c ≡ []) (λ c lawful found. comp_holds names line f c lawful found) f.comps l.each (each_found (λ (c : CompValue). c.number) 1 99 f.comps l.rising))
+      none_of_each (copied_comp profile profile line (Some f)) f.comps
+      (each_of_both (LawfulComp names) (λ c. comp_of (Some f) c.number ≡ Some c) (λ c. copied_comp profile profile line (Some f) c ≡ []) (λ c lawful found. comp_holds names line f c lawful found) f.comps l.each (each_found (λ (c : CompValue). c.number) 1 99 f.comps l.rising))
 
 -- ---- a field
 
@@ -241,20 +247,20 @@ x_is X e = refl
 
 -- ---- a segment that is walked
 
-module _ (tables : List TableValue) (names : List (List ℕ)) (s : SegmentValue) (scope : List Element) where
+module _ (profile : ProfileValue) (names : List (List ℕ)) (s : SegmentValue) (scope : List Element) where
   abbrev walked : Sources
-  walked = sources tables (a_segment s ∷ scope)
+  walked = sources profile (a_segment s ∷ scope)
 
   abbrev failures_of : FieldValue → Option Rule → List Failure
-  failures_of f o = count_failures 0 (rule_count walked o) f o ++ content_failures walked tables f o
+  failures_of f o = count_failures 0 (rule_count walked o) f o ++ content_failures walked profile f o
 
-  copy_holds : (f : FieldValue) → LawfulField names f → field_of s.fields f.number ≡ Some f → copied_field walked tables 0 (record { place = itself; field = f.number }) f ≡ []
-  copy_holds f l found = ap (λ o. flat_map (copied_comp tables tables 0 o) f.comps) found ∙ comps_hold tables names 0 f l
+  copy_holds : (f : FieldValue) → LawfulField names f → field_of s.fields f.number ≡ Some f → copied_field walked profile 0 (record { place = itself; field = f.number }) f ≡ []
+  copy_holds f l found = ap (λ o. flat_map (copied_comp profile profile 0 o) f.comps) found ∙ comps_hold profile names 0 f l
 
-  contents_hold : (f : FieldValue) → LawfulField names f → field_of s.fields f.number ≡ Some f → content_failures walked tables f (Some (same_rule f.number)) ≡ []
+  contents_hold : (f : FieldValue) → LawfulField names f → field_of s.fields f.number ≡ Some f → content_failures walked profile f (Some (same_rule f.number)) ≡ []
   contents_hold f l found = by (is_never (rule_count walked (Some (same_rule f.number))).greatest)
     where
-      by : (b : Bool) → (if b then [] else copied_field walked tables 0 (record { place = itself; field = f.number }) f) ≡ []
+      by : (b : Bool) → (if b then [] else copied_field walked profile 0 (record { place = itself; field = f.number }) f) ≡ []
       by true = refl
       by false = copy_holds f l found
 
@@ -262,7 +268,7 @@ module _ (tables : List TableValue) (names : List (List ℕ)) (s : SegmentValue)
   count_is : (f : FieldValue) → field_of s.fields f.number ≡ Some f → rule_count walked (Some (same_rule f.number)) ≡ of_card f.card
   count_is f found = ap (reference_count (record { count = once; fields = s.fields })) found
 
-  field_holds : (f : FieldValue) → LawfulField names f → Ruled (same_rules s.fields) f → field_of s.fields f.number ≡ Some f → field_failures walked tables 0 (same_rules s.fields) f ≡ []
+  field_holds : (f : FieldValue) → LawfulField names f → Ruled (same_rules s.fields) f → field_of s.fields f.number ≡ Some f → field_failures walked profile 0 (same_rules s.fields) f ≡ []
   field_holds f l ruled found =
       elim (tells (line.is_forbidden (Some f.usage))) [
         | inl h ↦
@@ -283,14 +289,14 @@ module _ (tables : List TableValue) (names : List (List ℕ)) (s : SegmentValue)
       by true later = later
       by false later = later
 
-  pub segment_holds : LawfulSegment names s → segment_failures walked tables 0 (same_rules s.fields) s.fields ≡ []
+  pub segment_holds : LawfulSegment names s → segment_failures walked profile 0 (same_rules s.fields) s.fields ≡ []
   segment_holds l =
       no_more _ _
-      (none_of_each (field_failures walked tables 0 (same_rules s.fields)) s.fields
+      (none_of_each (field_failures walked profile 0 (same_rules s.fields)) s.fields
       (each s.fields l.each (each_ruled (least_field s.name) 999 s.fields l.rising) (each_found (λ (f : FieldValue). f.number) (least_field s.name) 999 s.fields l.rising)))
       (no_lookups s.fields)
     where
       each : (fields : List FieldValue) → AllByRecursion (LawfulField names) fields → AllByRecursion (Ruled (same_rules s.fields)) fields → AllByRecursion (λ f. field_of s.fields f.number ≡ Some f) fields →
-          AllByRecursion (λ f. field_failures walked tables 0 (same_rules s.fields) f ≡ []) fields
+          AllByRecursion (λ f. field_failures walked profile 0 (same_rules s.fields) f ≡ []) fields
       each [] l r h = tt
       each (f ∷ fields) l r h = (field_holds f l.0 r.0 h.0, each fields l.1 r.1 h.1)

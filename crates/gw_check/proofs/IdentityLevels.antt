@@ -7,7 +7,7 @@ use Rattle.gw_profile.specs.declared.shape.Usage.TheVariants.{X}
 use Rattle.gw_profile.specs.declared.shape.Card.{Card}
 use Rattle.gw_profile.specs.Among.{Distinct}
 use Rattle.gw_profile.specs.Line as line
-use Rattle.gw_profile.specs.Shapes.{GroupValue, Forest, TableValue, nothing, segment, group}
+use Rattle.gw_profile.specs.Shapes.{GroupValue, Forest, ProfileValue, nothing, segment, group}
 use Rattle.gw_profile.specs.WellFormed.{Agrees, LawfulSegment, LawfulGroup, EachSegment, EachGroup}
 use Rattle.gw_profile.specs.WellFormed as formed
 use Rattle.gw_profile.proofs.Facts.{tells}
@@ -145,10 +145,10 @@ levels_hold names e scope holder j (group x nodes rest) h d l g =
 
 -- ---- what the items give
 
-pub items_hold : (tables : List TableValue) (names : List (List ℕ)) (e : Element) (scope : List Element) (j : ℕ) (nodes : Forest) → Standing (nodes_of e) j nodes → Distinct (formed.labels nodes) → EachSegment (LawfulSegment names) nodes → EachGroup LawfulGroup nodes → items_failures tables tables (e ∷ scope) (nodes_of e) (same j nodes) ≡ []
-items_hold tables names e scope j nothing h d l g = refl
-items_hold tables names e scope j (segment s rest) h d l g =
-    by (line.is_forbidden (Some s.usage)) (items_hold tables names e scope (suc j) rest (behind_segment (nodes_of e) j s rest h d) d.1 l.1 g)
+pub items_hold : (profile : ProfileValue) (names : List (List ℕ)) (e : Element) (scope : List Element) (j : ℕ) (nodes : Forest) → Standing (nodes_of e) j nodes → Distinct (formed.labels nodes) → EachSegment (LawfulSegment names) nodes → EachGroup LawfulGroup nodes → items_failures profile profile (e ∷ scope) (nodes_of e) (same j nodes) ≡ []
+items_hold profile names e scope j nothing h d l g = refl
+items_hold profile names e scope j (segment s rest) h d l g =
+    by (line.is_forbidden (Some s.usage)) (items_hold profile names e scope (suc j) rest (behind_segment (nodes_of e) j s rest h d) d.1 l.1 g)
   where
     item : SegmentItem
     item = record { line = 0; child = j; place = Some (at_node j); rules = same_rules s.fields }
@@ -156,20 +156,20 @@ items_hold tables names e scope j (segment s rest) h d l g =
     here : Stands (nodes_of e) j s.label (a_segment s)
     here = segment_stands (nodes_of e) j s rest h
 
-    fields : segment_failures (sources tables (within_if (e ∷ scope) (Some (at_node j)))) tables 0 (same_rules s.fields) (fields_of (child (nodes_of e) j)) ≡ []
+    fields : segment_failures (sources profile (within_if (e ∷ scope) (Some (at_node j)))) profile 0 (same_rules s.fields) (fields_of (child (nodes_of e) j)) ≡ []
     fields =
-        ap₂ (λ w c. segment_failures (sources tables w) tables 0 (same_rules s.fields) (fields_of c)) (within_there e scope j s.label (a_segment s) here) here.child_is
-        ∙ segment_holds tables names s (e ∷ scope) l.0
+        ap₂ (λ w c. segment_failures (sources profile w) profile 0 (same_rules s.fields) (fields_of c)) (within_there e scope j s.label (a_segment s) here) here.child_is
+        ∙ segment_holds profile names s (e ∷ scope) l.0
 
-    by : (b : Bool) → items_failures tables tables (e ∷ scope) (nodes_of e) (same (suc j) rest) ≡ [] → items_failures tables tables (e ∷ scope) (nodes_of e) (if b then same (suc j) rest else segment_item item (same (suc j) rest)) ≡ []
+    by : (b : Bool) → items_failures profile profile (e ∷ scope) (nodes_of e) (same (suc j) rest) ≡ [] → items_failures profile profile (e ∷ scope) (nodes_of e) (if b then same (suc j) rest else segment_item item (same (suc j) rest)) ≡ []
     by true behind = behind
     by false behind = no_more _ _ fields behind
-items_hold tables names e scope j (group x nodes rest) h d l g =
+items_hold profile names e scope j (group x nodes rest) h d l g =
     let here = group_stands (nodes_of e) j x nodes rest h in
     let walks = within_there e scope j x.label (a_group x nodes) here in
     let below = nodes_there (nodes_of e) j (a_group x nodes) here.child_is in
     no_more _ _
     (no_more _ _
     (ap₂ (λ w f. level_failures w 0 0 f (same 0 nodes)) walks below ∙ levels_hold names (a_group x nodes) (e ∷ scope) 0 0 nodes (from_the_first nodes) g.0.distinct l.0 g.1)
-    (ap₂ (λ w f. items_failures tables tables w f (same 0 nodes)) walks below ∙ items_hold tables names (a_group x nodes) (e ∷ scope) 0 nodes (from_the_first nodes) g.0.distinct l.0 g.1))
-    (items_hold tables names e scope (suc j) rest (behind_group (nodes_of e) j x nodes rest h d) d.1 l.1 g.2)
+    (ap₂ (λ w f. items_failures profile profile w f (same 0 nodes)) walks below ∙ items_hold profile names (a_group x nodes) (e ∷ scope) 0 nodes (from_the_first nodes) g.0.distinct l.0 g.1))
+    (items_hold profile names e scope (suc j) rest (behind_group (nodes_of e) j x nodes rest h d) d.1 l.1 g.2)

@@ -29,13 +29,13 @@ pub counted_nodes : (p : ProfileValue) → WellFormed p → CountedNodes p.nodes
 counted_nodes p w = counted (table_names p.tables) p.nodes w.segments w.groups
 
 pub failures_noted : (from to : ProfileValue) (line : ℕ) (is : Items) (drops : List Drop) (passed : Bool) (one two all : Option Failure) →
-    one ≡ noted None (level_failures (the_whole from.nodes ∷ []) line 0 to.nodes is) → two ≡ noted one (items_failures from.tables to.tables (the_whole from.nodes ∷ []) to.nodes is) →
+    one ≡ noted None (level_failures (the_whole from.nodes ∷ []) line 0 to.nodes is) → two ≡ noted one (items_failures from to (the_whole from.nodes ∷ []) to.nodes is) →
     passed ≡ some_passed_over (items_read ([] ∷ []) is) drops [] 0 from.nodes → all ≡ noted two (fails 9 line passed) → all ≡ noted None (failures from to (record { line = line; items = is; drops = drops }))
 failures_noted from to line is drops passed one two all e f p g =
     g ∙ ap (λ b. noted two (fails 9 line b)) p
-    ∙ ap (λ w. noted w (fails 9 line (some_passed_over (items_read ([] ∷ []) is) drops [] 0 from.nodes))) (f ∙ ap (λ w. noted w (items_failures from.tables to.tables (the_whole from.nodes ∷ []) to.nodes is)) e)
-    ∙ sym (noted_append None (level_failures (the_whole from.nodes ∷ []) line 0 to.nodes is ++ items_failures from.tables to.tables (the_whole from.nodes ∷ []) to.nodes is) (fails 9 line (some_passed_over (items_read ([] ∷ []) is) drops [] 0 from.nodes))
-    ∙ ap (λ w. noted w (fails 9 line (some_passed_over (items_read ([] ∷ []) is) drops [] 0 from.nodes))) (noted_append None (level_failures (the_whole from.nodes ∷ []) line 0 to.nodes is) (items_failures from.tables to.tables (the_whole from.nodes ∷ []) to.nodes is)))
+    ∙ ap (λ w. noted w (fails 9 line (some_passed_over (items_read ([] ∷ []) is) drops [] 0 from.nodes))) (f ∙ ap (λ w. noted w (items_failures from to (the_whole from.nodes ∷ []) to.nodes is)) e)
+    ∙ sym (noted_append None (level_failures (the_whole from.nodes ∷ []) line 0 to.nodes is ++ items_failures from to (the_whole from.nodes ∷ []) to.nodes is) (fails 9 line (some_passed_over (items_read ([] ∷ []) is) drops [] 0 from.nodes))
+    ∙ ap (λ w. noted w (fails 9 line (some_passed_over (items_read ([] ∷ []) is) drops [] 0 from.nodes))) (noted_append None (level_failures (the_whole from.nodes ∷ []) line 0 to.nodes is) (items_failures from to (the_whole from.nodes ∷ []) to.nodes is)))
 
 abbrev parts : ℕ → Items → List Drop → Resolved
 parts line items drops = record { line = line; items = items; drops = drops }

@@ -5,9 +5,10 @@ use Rattle.std.specs.List.{list_any}
 use Rattle.std.specs.Global.{Vec}
 use Rattle.std.proofs.lemmas.List.Folds.{list_any-append, list_any_at}
 use Rattle.gw_profile.specs.Fault.{is_among}
+use Rattle.gw_profile.specs.Lengths.{octets, measure}
 use Rattle.gw_maplang.specs.Shapes.{Rows, Row, second_of}
 use Rattle.gw_maplang.specs.Seen.{row}
-use Rattle.gw_check.specs.Leaves.{Values, any, listed, is_short, has_no_row, may_be_unlisted, may_be_long}
+use Rattle.gw_check.specs.Leaves.{Values, any, listed, is_short, has_no_row, may_be_unlisted, may_exceed, may_be_long}
 use Rattle.gw_check.specs.Texts.{items_all, fails_some, some_fails, is_any, is_any_long, is_there}
 use Rattle.gw_check.proofs.Lists.{any_map}
 
@@ -53,12 +54,12 @@ any_row p entries = any_map (λ (r : Row). r.second) p (map row entries) ∙ any
 -- ---- what is asked of them
 
 pub unlisted_is : (v : Values) (table : List (List ℕ)) → may_be_unlisted v (Some table) ≡ (is_any v || some_fails (λ text. not (is_among text table)) v)
-unlisted_is (any len) table = refl
+unlisted_is (any count len) table = refl
 unlisted_is (listed texts) table = refl
 
-pub long_is : (v : Values) (most : ℕ) → may_be_long v (Some most) ≡ (is_any_long most v || some_fails (λ text. nat_lt most (length text)) v)
-long_is (any None) most = refl
-long_is (any (Some len)) most = sym (or_false (nat_lt most len))
+pub long_is : (v : Values) (most : ℕ) → may_be_long octets v (Some most) ≡ (is_any_long most v || some_fails (λ text. nat_lt most (measure octets text)) v)
+long_is (any count None) most = refl
+long_is (any count (Some len)) most = sym (or_false (may_exceed count len octets most))
 long_is (listed texts) most = refl
 
 pub no_row_is : (table : Rows) (texts : List (List ℕ)) → has_no_row table (listed texts) ≡ list_any (λ text. not (is_there (second_of text table.rows))) texts
@@ -70,7 +71,7 @@ no_row_is table (x ∷ xs) = with (second_of x table.rows) refl (no_row_is table
     with None e more = rw e refl
     with (Some t) e more = rw e more
 
-pub all_kept : (texts : List (List ℕ)) → filter (is_short None) texts ≡ texts
+pub all_kept : (texts : List (List ℕ)) → filter (is_short octets None) texts ≡ texts
 all_kept [] = refl
 all_kept (x ∷ xs) = ap (λ ts. x ∷ ts) (all_kept xs)
 

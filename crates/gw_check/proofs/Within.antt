@@ -59,7 +59,7 @@ not_heavier [] k i low at = absurd (omega (arith, low))
 not_heavier (x ∷ items) zero i low at = let e = weight_more x (all_items [] items) in let f : weight_one i ≡ weight_one x = ap weight_one at in omega (arith, e, f)
 not_heavier (x ∷ items) (suc k) i low at = let e = weight_more x (all_items [] items) in omega (arith, e, not_heavier items k i (omega (arith, low)) at)
 
-module _ (tables : List TableValue) (from to : List profiles.TableValue) where
+module _ (tables : List TableValue) (from to : profiles.ProfileValue) where
   -- ---- one item, and those behind it
 
   first_and_rest : (scope : List Element) (nodes : Forest) (i : Item) (rest : Items) → items_failures from to scope nodes (with_item tables i rest) ≡ items_failures from to scope nodes (with_item tables i no_items) ++ items_failures from to scope nodes rest

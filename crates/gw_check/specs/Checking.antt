@@ -2,8 +2,7 @@
 use Rattle.std.specs.Prelude.{◌≡◌, ℕ, ◌+◌, List, [], map, option_map, Option}
 use Rattle.gw_profile.specs.declared.shape.Usage.{Usage}
 use Rattle.gw_profile.specs.declared.shape.Card.{Card}
-use Rattle.gw_profile.specs.Shapes as profiles
-use Rattle.gw_profile.specs.Shapes.{Forest, nothing, segment, group}
+use Rattle.gw_profile.specs.Shapes.{Forest, nothing, segment, group, ProfileValue}
 use Rattle.gw_profile.specs.declared.node.Node.{Node, Seg, Group'}
 use Rattle.gw_profile.specs.WellFormed.{Counted}
 use Rattle.gw_maplang.specs.Shapes.{TableValue}
@@ -39,10 +38,10 @@ usage_of (Seg s) = s.usage
 usage_of (Group' label usage card shape nodes) = usage
 
 -- with those of what the items give; the map has these tables
-abbrev pub NotesItems : List TableValue → List profiles.TableValue → List profiles.TableValue → List Element → Forest → List Item → Option declared.Failure → Option declared.Failure → Type 0
+abbrev pub NotesItems : List TableValue → ProfileValue → ProfileValue → List Element → Forest → List Item → Option declared.Failure → Option declared.Failure → Type 0
 NotesItems tables from to scope nodes is old new = failures new ≡ noted (failures old) (items_failures from to scope nodes (all_items tables is))
 
-abbrev pub NotesItem : List TableValue → List profiles.TableValue → List profiles.TableValue → List Element → Forest → Item → Option declared.Failure → Option declared.Failure → Type 0
+abbrev pub NotesItem : List TableValue → ProfileValue → ProfileValue → List Element → Forest → Item → Option declared.Failure → Option declared.Failure → Type 0
 NotesItem tables from to scope nodes i old new = failures new ≡ noted (failures old) (items_failures from to scope nodes (with_item tables i no_items))
 
 -- how many items there are, at any depth
@@ -59,6 +58,6 @@ abbrev pub weight_all : List Item → ℕ
 weight_all is = weight (all_items [] is)
 
 -- with those of the segments that an item gives
-abbrev pub NotesSegment : List TableValue → List profiles.TableValue → List profiles.TableValue → List Element → Forest → SegmentItem → Option declared.Failure → Option declared.Failure → Type 0
+abbrev pub NotesSegment : List TableValue → ProfileValue → ProfileValue → List Element → Forest → SegmentItem → Option declared.Failure → Option declared.Failure → Type 0
 NotesSegment tables from to scope nodes s old new =
     failures new ≡ noted (failures old) (segment_failures (sources from (within_if scope (option_map place s.place))) to s.line (map (rule tables) s.rules.items) (fields_of (child nodes s.child)))

@@ -3,7 +3,8 @@ use Rattle.std.specs.Prelude.{ℕ, Bool, true, false, ◌==◌, ◌&&◌, ◌||�
 use Rattle.std.specs.List.{list_any, list_all}
 use Rattle.gw_profile.specs.declared.shape.Usage.{Usage}
 use Rattle.gw_profile.specs.declared.shape.Usage.TheVariants.{R, RE, O, X}
-use Rattle.gw_profile.specs.Shapes.{SubValue, CompValue, FieldValue, TableValue}
+use Rattle.gw_profile.specs.Shapes.{SubValue, CompValue, FieldValue, TableValue, ProfileValue}
+use Rattle.gw_profile.specs.Lengths.{len_count}
 use Rattle.gw_profile.specs.Value.{table_of}
 use Rattle.gw_validate.specs.Breaches.{is_required, is_forbidden, is_null}
 use Rattle.gw_check.specs.Intervals.{Interval, is_never, is_within}
@@ -20,28 +21,28 @@ abbrev pub table_values : List TableValue → SubValue → Option (List (List �
 table_values tables s = option_and_then (λ name. table_of name tables) s.table
 
 -- what can stand there has another value than its table's, or is too long
-abbrev pub value_failures : List TableValue → ℕ → Shape → SubValue → List Failure
-value_failures tables line shape s =
-    fails 6 line (not (is_absent shape.presence) && may_be_unlisted shape.values (table_values tables s))
-    ++ fails 7 line (not (is_absent shape.presence) && may_be_long shape.values s.len)
+abbrev pub value_failures : ProfileValue → ℕ → Shape → SubValue → List Failure
+value_failures to line shape s =
+    fails 6 line (not (is_absent shape.presence) && may_be_unlisted shape.values (table_values to.tables s))
+    ++ fails 7 line (not (is_absent shape.presence) && may_be_long (len_count to) shape.values s.len)
 
 -- ---- copied fields
 
 -- a component or subcomponent stands for that of the same number
-abbrev pub copied_sub : List TableValue → List TableValue → ℕ → Option CompValue → SubValue → List Failure
-copied_sub sources tables line c s =
+abbrev pub copied_sub : ProfileValue → ProfileValue → ℕ → Option CompValue → SubValue → List Failure
+copied_sub source to line c s =
     fails 5 line (is_required s.usage && not (is_always (sub_presence c (sub_of c s.number))))
     ++ fails 11 line (is_forbidden s.usage && not (is_absent (sub_presence c (sub_of c s.number))))
-    ++ value_failures tables line (record { presence = sub_presence c (sub_of c s.number); values = sub_values sources (sub_of c s.number) }) s
+    ++ value_failures to line (record { presence = sub_presence c (sub_of c s.number); values = sub_values source (sub_of c s.number) }) s
 
-abbrev pub copied_comp : List TableValue → List TableValue → ℕ → Option FieldValue → CompValue → List Failure
-copied_comp sources tables line f c =
+abbrev pub copied_comp : ProfileValue → ProfileValue → ℕ → Option FieldValue → CompValue → List Failure
+copied_comp source to line f c =
     fails 5 line (is_required c.usage && not (is_always (comp_presence (comp_of f c.number))))
     ++ fails 11 line (is_forbidden c.usage && not (is_absent (comp_presence (comp_of f c.number))))
-    ++ flat_map (copied_sub sources tables line (comp_of f c.number)) c.subs
+    ++ flat_map (copied_sub source to line (comp_of f c.number)) c.subs
 
-abbrev pub copied_field : Sources → List TableValue → ℕ → Reference → FieldValue → List Failure
-copied_field s tables line from target = flat_map (copied_comp s.tables tables line (at_field s from)) target.comps
+abbrev pub copied_field : Sources → ProfileValue → ℕ → Reference → FieldValue → List Failure
+copied_field s to line from target = flat_map (copied_comp s.profile to line (at_field s from)) target.comps
 
 -- ---- fields made of leaves
 
@@ -73,39 +74,39 @@ is_forbidden_sub None = false
 is_forbidden_sub (Some s) = is_forbidden s.usage
 
 -- a constant has another value than the table's, or is too long; "" is exempt
-abbrev pub leaf_failures : Sources → List TableValue → ℕ → Leaf → SubValue → List Failure
-leaf_failures s tables line (const text) sub =
-    fails 12 line (not (is_null text) && (may_be_unlisted (leaf_shape s (const text)).values (table_values tables sub) || may_be_long (leaf_shape s (const text)).values sub.len))
-leaf_failures s tables line (copied source) sub = value_failures tables line (leaf_shape s (copied source)) sub
-leaf_failures s tables line (looked_up table source) sub = value_failures tables line (leaf_shape s (looked_up table source)) sub
+abbrev pub leaf_failures : Sources → ProfileValue → ℕ → Leaf → SubValue → List Failure
+leaf_failures s to line (const text) sub =
+    fails 12 line (not (is_null text) && (may_be_unlisted (leaf_shape s (const text)).values (table_values to.tables sub) || may_be_long (len_count to) (leaf_shape s (const text)).values sub.len))
+leaf_failures s to line (copied source) sub = value_failures to line (leaf_shape s (copied source)) sub
+leaf_failures s to line (looked_up table source) sub = value_failures to line (leaf_shape s (looked_up table source)) sub
 
 -- a leaf at a place that the target lists
-abbrev pub placed : Sources → List TableValue → ℕ → Leaf → Option SubValue → List Failure
-placed s tables line leaf None = []
-placed s tables line leaf (Some sub) = leaf_failures s tables line leaf sub
+abbrev pub placed : Sources → ProfileValue → ℕ → Leaf → Option SubValue → List Failure
+placed s to line leaf None = []
+placed s to line leaf (Some sub) = leaf_failures s to line leaf sub
 
-abbrev pub made_leaf : Sources → List TableValue → FieldValue → At → List Failure
-made_leaf s tables target a =
+abbrev pub made_leaf : Sources → ProfileValue → FieldValue → At → List Failure
+made_leaf s to target a =
     fails 11 a.line ((is_forbidden_comp (comp_of (Some target) a.comp) || is_forbidden_sub (sub_of (comp_of (Some target) a.comp) a.sub)) && not (is_absent (leaf_shape s a.leaf).presence))
-    ++ placed s tables a.line a.leaf (sub_of (comp_of (Some target) a.comp) a.sub)
+    ++ placed s to a.line a.leaf (sub_of (comp_of (Some target) a.comp) a.sub)
 
-abbrev pub made_field : Sources → List TableValue → ℕ → List At → FieldValue → List Failure
-made_field s tables line leaves target =
-    flat_map (made_comp s line leaves) target.comps ++ flat_map (made_leaf s tables target) leaves
+abbrev pub made_field : Sources → ProfileValue → ℕ → List At → FieldValue → List Failure
+made_field s to line leaves target =
+    flat_map (made_comp s line leaves) target.comps ++ flat_map (made_leaf s to target) leaves
 
 -- ---- a field
 
 -- what its rule gives, where it gives something
-abbrev pub making_failures : Sources → List TableValue → ℕ → Making → FieldValue → List Failure
-making_failures s tables line (copy from) target = copied_field s tables line from target
-making_failures s tables line (first from) target = copied_field s tables line from target
-making_failures s tables line (repeat from leaves) target = made_field (walking s from) tables line leaves target
-making_failures s tables line (build leaves) target = made_field s tables line leaves target
+abbrev pub making_failures : Sources → ProfileValue → ℕ → Making → FieldValue → List Failure
+making_failures s to line (copy from) target = copied_field s to line from target
+making_failures s to line (first from) target = copied_field s to line from target
+making_failures s to line (repeat from leaves) target = made_field (walking s from) to line leaves target
+making_failures s to line (build leaves) target = made_field s to line leaves target
 
-abbrev pub content_failures : Sources → List TableValue → FieldValue → Option Rule → List Failure
-content_failures s tables target None = []
-content_failures s tables target (Some r) =
-    if is_never (rule_count s (Some r)).greatest then [] else making_failures s tables r.line r.making target
+abbrev pub content_failures : Sources → ProfileValue → FieldValue → Option Rule → List Failure
+content_failures s to target None = []
+content_failures s to target (Some r) =
+    if is_never (rule_count s (Some r)).greatest then [] else making_failures s to r.line r.making target
 
 -- the line of the rule, or of the segment that should hold one
 abbrev pub line_of_rule : ℕ → Option Rule → ℕ
@@ -130,10 +131,10 @@ count_failures holder count target rule =
     ++ fails 11 (line_of_rule holder rule) (is_forbidden target.usage && not (is_never count.greatest))
 
 -- of a target field, in a segment that an item at this line gives by these rules
-abbrev pub field_failures : Sources → List TableValue → ℕ → List Rule → FieldValue → List Failure
-field_failures s tables holder rules target =
+abbrev pub field_failures : Sources → ProfileValue → ℕ → List Rule → FieldValue → List Failure
+field_failures s to holder rules target =
     count_failures holder (rule_count s (rule_of rules target.number)) target (rule_of rules target.number)
-    ++ content_failures s tables target (rule_of rules target.number)
+    ++ content_failures s to target (rule_of rules target.number)
 
 -- ---- lookups
 
@@ -162,6 +163,6 @@ rule_lookups s r = go r.making
 -- ---- a segment
 
 -- of a target segment with these fields, which an item at this line gives by these rules
-abbrev pub segment_failures : Sources → List TableValue → ℕ → List Rule → List FieldValue → List Failure
-segment_failures s tables holder rules fields =
-    flat_map (field_failures s tables holder rules) fields ++ flat_map (rule_lookups s) rules
+abbrev pub segment_failures : Sources → ProfileValue → ℕ → List Rule → List FieldValue → List Failure
+segment_failures s to holder rules fields =
+    flat_map (field_failures s to holder rules) fields ++ flat_map (rule_lookups s) rules

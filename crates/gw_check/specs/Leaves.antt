@@ -1,9 +1,11 @@
 -- What is known of the texts that a leaf gives: whether one is there, and which it can be (HL7 v2.5.1 chapter 2, 2.12: usage, length, table).
-use Rattle.std.specs.Prelude.{ℕ, Bool, true, false, ◌==◌, ◌&&◌, ◌||◌, not, nat_lt, nat_le, if◌then◌else◌, List, [], ◌∷◌, ◌++◌, map, filter, filter_map, length, Option, Some, None, find, option_map, option_to_list, unwrap_or}
+use Rattle.std.specs.Prelude.{◌≡◌, ℕ, Bool, true, false, ◌==◌, ◌&&◌, ◌||◌, not, nat_lt, nat_le, if◌then◌else◌, List, [], ◌∷◌, ◌++◌, map, filter, filter_map, Option, Some, None, find, option_map, option_to_list, unwrap_or}
 use Rattle.std.specs.List.{list_any}
 use Rattle.gw_profile.specs.declared.shape.Usage.{Usage}
 use Rattle.gw_profile.specs.declared.shape.Usage.TheVariants.{R, RE, O, X}
-use Rattle.gw_profile.specs.Shapes.{SubValue, CompValue, FieldValue, TableValue}
+use Rattle.gw_profile.specs.Among.{Among}
+use Rattle.gw_profile.specs.Shapes.{SubValue, CompValue, FieldValue, ProfileValue}
+use Rattle.gw_profile.specs.Lengths.{Count, octets, measure, len_count}
 use Rattle.gw_profile.specs.Fault.{is_among}
 use Rattle.gw_profile.specs.Value.{table_of}
 use Rattle.gw_check.specs.declared.shape.Presence.{Presence}
@@ -76,30 +78,32 @@ field_presence k (Some f) =
 
 -- ---- values
 
+-- any texts, no longer than the length in its count, or those of a list
 pub data Values : Type 0 where
-  any : (len : Option ℕ) → Values
+  any : (count : Count) (len : Option ℕ) → Values
   listed : (texts : List (List ℕ)) → Values
 
 pub record Shape : Type 0 where
   pub presence : Presence
   pub values : Values
 
--- how long a text is: the rules on lengths measure every text by this number of its octets
-abbrev pub measure : List ℕ → ℕ
-measure = length
+abbrev pub is_short : Count → Option ℕ → List ℕ → Bool
+is_short count None text = true
+is_short count (Some most) text = nat_le (measure count text) most
 
-abbrev pub is_short : Option ℕ → List ℕ → Bool
-is_short None text = true
-is_short (Some most) text = nat_le (measure text) most
+-- the text is one of the values
+abbrev pub IsOf : Values → List ℕ → Type 0
+IsOf (any count len) text = is_short count len text ≡ true
+IsOf (listed texts) text = Among text texts
 
 -- with a table its texts that aren't too long, else any
-abbrev pub sub_values : List TableValue → Option SubValue → Values
-sub_values tables None = any None
-sub_values tables (Some s) = go s.table
+abbrev pub sub_values : ProfileValue → Option SubValue → Values
+sub_values profile None = any (len_count profile) None
+sub_values profile (Some s) = go s.table
   where
     go : Option (List ℕ) → Values
-    go None = any s.len
-    go (Some name) = listed (filter (is_short s.len) (unwrap_or (table_of name tables) []))
+    go None = any (len_count profile) s.len
+    go (Some name) = listed (filter (is_short (len_count profile) s.len) (unwrap_or (table_of name profile.tables) []))
 
 abbrev pub or_otherwise : Option (List ℕ) → Option (List ℕ) → Option (List ℕ)
 or_otherwise None otherwise = otherwise
@@ -110,12 +114,12 @@ abbrev pub given : Rows → List ℕ → Option (List ℕ)
 given table text = or_otherwise (second_of text table.rows) table.other
 
 abbrev pub given_values : Rows → Values → List (List ℕ)
-given_values table (any len) = map (λ (r : Row). r.second) table.rows ++ option_to_list table.other
+given_values table (any count len) = map (λ (r : Row). r.second) table.rows ++ option_to_list table.other
 given_values table (listed texts) = filter_map (given table) texts
 
 -- a text of the source has no row, as far as is known
 abbrev pub has_no_row : Rows → Values → Bool
-has_no_row table (any len) = true
+has_no_row table (any count len) = true
 has_no_row table (listed texts) = list_any (λ text. not (is_given (second_of text table.rows))) texts
   where
     is_given : Option (List ℕ) → Bool
@@ -124,9 +128,9 @@ has_no_row table (listed texts) = list_any (λ text. not (is_given (second_of te
 
 -- ---- the shape of a leaf
 
--- what can be read: the source's tables, what is walked, and the field whose repetition is walked
+-- what can be read: the source profile, what is walked, and the field whose repetition is walked
 pub record Sources : Type 0 where
-  pub tables : List TableValue
+  pub profile : ProfileValue
   pub scope : List Element
   pub current : Option FieldValue
 
@@ -137,10 +141,10 @@ abbrev pub source_shape : Sources → Source → Shape
 source_shape s (of_field from comp sub) =
     record {
       presence = both (field_presence (known s.scope from.place) (at_field s from)) (rep_presence (at_field s from) comp sub);
-      values = sub_values s.tables (sub_of (comp_of (at_field s from) comp) sub);
+      values = sub_values s.profile (sub_of (comp_of (at_field s from) comp) sub);
     }
 source_shape s (of_current comp sub) =
-    record { presence = rep_presence s.current comp sub; values = sub_values s.tables (sub_of (comp_of s.current comp) sub) }
+    record { presence = rep_presence s.current comp sub; values = sub_values s.profile (sub_of (comp_of s.current comp) sub) }
 
 abbrev pub leaf_shape : Sources → Leaf → Shape
 leaf_shape s (const text) = record { presence = Always; values = listed (text ∷ []) }
@@ -153,20 +157,24 @@ leaf_shape s (looked_up table source) =
 -- a value may be missing from the table
 abbrev pub may_be_unlisted : Values → Option (List (List ℕ)) → Bool
 may_be_unlisted values None = false
-may_be_unlisted (any len) (Some table) = true
+may_be_unlisted (any count len) (Some table) = true
 may_be_unlisted (listed texts) (Some table) = list_any (λ text. not (is_among text table)) texts
 
--- a value may be longer than the length
-abbrev pub may_be_long : Values → Option ℕ → Bool
-may_be_long values None = false
-may_be_long (any None) (Some most) = true
-may_be_long (any (Some len)) (Some most) = nat_lt most len
-may_be_long (listed texts) (Some most) = list_any (λ text. nat_lt most (measure text)) texts
+-- of the texts that are at most so long in the one count, one may be longer than the most in the other
+abbrev pub may_exceed : Count → ℕ → Count → ℕ → Bool
+may_exceed octets len octets most = nat_lt most len
 
--- what stands there always meets the subcomponent, with these values of its table
-abbrev pub is_included : Shape → SubValue → Option (List (List ℕ)) → Bool
-is_included shape s table =
-    meets_usage s.usage && (is_absent shape.presence || (not (may_be_unlisted shape.values table) && not (may_be_long shape.values s.len)))
+-- a value may be longer than the length, in the count of the target
+abbrev pub may_be_long : Count → Values → Option ℕ → Bool
+may_be_long to values None = false
+may_be_long to (any count None) (Some most) = true
+may_be_long to (any count (Some len)) (Some most) = may_exceed count len to most
+may_be_long to (listed texts) (Some most) = list_any (λ text. nat_lt most (measure to text)) texts
+
+-- what stands there always meets the subcomponent, with these values of its table and the count of its profile
+abbrev pub is_included : Count → Shape → SubValue → Option (List (List ℕ)) → Bool
+is_included to shape s table =
+    meets_usage s.usage && (is_absent shape.presence || (not (may_be_unlisted shape.values table) && not (may_be_long to shape.values s.len)))
   where
     meets_usage : Usage → Bool
     meets_usage R = is_always shape.presence

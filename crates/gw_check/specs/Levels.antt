@@ -2,7 +2,7 @@
 use Rattle.std.specs.Prelude.{ℕ, suc, Bool, true, false, ◌==◌, ◌&&◌, not, nat_lt, if◌then◌else◌, List, [], ◌++◌, Option, Some, None}
 use Rattle.gw_profile.specs.declared.shape.Usage.{Usage}
 use Rattle.gw_profile.specs.declared.shape.Card.{Card}
-use Rattle.gw_profile.specs.Shapes.{TableValue, Forest, nothing, segment, group}
+use Rattle.gw_profile.specs.Shapes.{ProfileValue, Forest, nothing, segment, group}
 use Rattle.gw_validate.specs.Breaches.{is_forbidden}
 use Rattle.gw_check.specs.Intervals.{Interval, is_never, is_within}
 use Rattle.gw_check.specs.Places.{Element, child, nodes_of_child, fields_of, within, within_if}
@@ -66,11 +66,11 @@ level_failures scope holder j (group g nodes rest) items =
 
 -- ---- within the items
 
-abbrev pub sources : List TableValue → List Element → Sources
-sources tables scope = record { tables = tables; scope = scope; current = None }
+abbrev pub sources : ProfileValue → List Element → Sources
+sources profile scope = record { profile = profile; scope = scope; current = None }
 
 -- of what the items give, where the target's nodes of their level are these
-abbrev pub items_failures : List TableValue → List TableValue → List Element → Forest → Items → List Failure
+abbrev pub items_failures : ProfileValue → ProfileValue → List Element → Forest → Items → List Failure
 items_failures from to scope nodes no_items = []
 items_failures from to scope nodes (segment_item s rest) =
     segment_failures (sources from (within_if scope s.place)) to s.line s.rules (fields_of (child nodes s.child))

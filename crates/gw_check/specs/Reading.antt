@@ -8,7 +8,7 @@ use Rattle.gw_profile.specs.declared.shape.SubShape.{SubShape}
 use Rattle.gw_profile.specs.declared.shape.CompShape.{CompShape}
 use Rattle.gw_profile.specs.declared.shape.FieldShape.{FieldShape}
 use Rattle.gw_profile.specs.Shapes.{SubValue, CompValue, FieldValue}
-use Rattle.gw_profile.specs.Seen.{field, comp, sub}
+use Rattle.gw_profile.specs.Seen.{field, comp, sub, profile_value}
 use Rattle.gw_maplang.specs.Shapes.{TableValue}
 use Rattle.gw_check.specs.declared.resolved.Rule as rules_of
 use Rattle.gw_check.specs.declared.resolved.At as ats
@@ -24,7 +24,7 @@ use Rattle.gw_check.specs.Leaves.{Sources, leaf_shape, is_absent}
 use Rattle.gw_check.specs.Seen.{scope, interval, saturated, rule, leaf}
 
 abbrev pub sources_value : declared.Sources → Sources
-sources_value s = record { tables = s.profile.now.tables; scope = scope s.scope.now; current = option_map (λ f. field f.now) s.current }
+sources_value s = record { profile = profile_value s.profile.now; scope = scope s.scope.now; current = option_map (λ f. field f.now) s.current }
 
 -- the tables of the map
 abbrev pub map_tables : declared.Sources → List TableValue

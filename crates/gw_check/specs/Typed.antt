@@ -12,7 +12,7 @@ use Rattle.gw_check.specs.Placed.{are_placed}
 abbrev pub failures : ProfileValue → ProfileValue → Resolved → List Failure
 failures source target map =
     level_failures (the_whole source.nodes ∷ []) map.line 0 target.nodes map.items
-    ++ items_failures source.tables target.tables (the_whole source.nodes ∷ []) target.nodes map.items
+    ++ items_failures source target (the_whole source.nodes ∷ []) target.nodes map.items
     ++ fails 9 map.line (some_passed_over (items_read ([] ∷ []) map.items) map.drops [] 0 source.nodes)
 
 -- the items stand in order, and no rule fails

@@ -1,6 +1,6 @@
 //! The rules on fields that are copied: a component or subcomponent stands for that of the same number.
 ghost use Rattle.std.specs.Prelude.{◌≡◌, map, flat_map};
-ghost use Rattle.gw_profile.specs.Seen.{sub as sub_value, comp as comp_value, field as field_value};
+ghost use Rattle.gw_profile.specs.Seen.{sub as sub_value, comp as comp_value, field as field_value, profile_value};
 ghost use Rattle.gw_check.specs.Fields as spec;
 ghost use Rattle.gw_check.specs.Noted.{noted};
 ghost use Rattle.gw_check.specs.Reading.{sources_value, some_field, some_comp};
@@ -24,7 +24,7 @@ fn check_sub(
     from: Option<&CompShape>,
     sub: &SubShape,
 ) -> Option<Failure>
-    ensures { failures result ≡ noted (failures worst) (spec.copied_sub source.now.tables target.now.tables line (some_comp from.entry) (sub_value sub.now)) }
+    ensures { failures result ≡ noted (failures worst) (spec.copied_sub (profile_value source.now) (profile_value target.now) line (some_comp from.entry) (sub_value sub.now)) }
 {
     let same = sub_of(from, sub.number);
     let presence = sub_presence(from, same);
@@ -48,7 +48,7 @@ fn check_subs(
     from: Option<&CompShape>,
     subs: &[SubShape],
 ) -> Option<Failure>
-    ensures { failures result ≡ noted (failures worst) (flat_map (spec.copied_sub source.now.tables target.now.tables line (some_comp from.entry)) (map sub_value subs.now)) }
+    ensures { failures result ≡ noted (failures worst) (flat_map (spec.copied_sub (profile_value source.now) (profile_value target.now) line (some_comp from.entry)) (map sub_value subs.now)) }
 {
     for (i, sub) in subs.iter().enumerate() {
         worst = check_sub(worst, source, target, line, from, sub);
@@ -64,7 +64,7 @@ fn check_comp(
     from: Option<&FieldShape>,
     comp: &CompShape,
 ) -> Option<Failure>
-    ensures { failures result ≡ noted (failures worst) (spec.copied_comp source.now.tables target.now.tables line (some_field from.entry) (comp_value comp.now)) }
+    ensures { failures result ≡ noted (failures worst) (spec.copied_comp (profile_value source.now) (profile_value target.now) line (some_field from.entry) (comp_value comp.now)) }
 {
     let same = comp_of(from, comp.number);
     let presence = comp_presence(same);
@@ -81,7 +81,7 @@ fn check_comps(
     from: Option<&FieldShape>,
     comps: &[CompShape],
 ) -> Option<Failure>
-    ensures { failures result ≡ noted (failures worst) (flat_map (spec.copied_comp source.now.tables target.now.tables line (some_field from.entry)) (map comp_value comps.now)) }
+    ensures { failures result ≡ noted (failures worst) (flat_map (spec.copied_comp (profile_value source.now) (profile_value target.now) line (some_field from.entry)) (map comp_value comps.now)) }
 {
     for (i, comp) in comps.iter().enumerate() {
         worst = check_comp(worst, source, target, line, from, comp);
@@ -98,7 +98,7 @@ pub(crate) fn check_copied(
     from: &Reference,
     field: &FieldShape,
 ) -> Option<Failure>
-    ensures { failures result ≡ noted (failures worst) (spec.copied_field (sources_value sources.entry) target.now.tables line (reference from.now) (field_value field.now)) }
+    ensures { failures result ≡ noted (failures worst) (spec.copied_field (sources_value sources.entry) (profile_value target.now) line (reference from.now) (field_value field.now)) }
 {
     check_comps(
         worst,

@@ -1,6 +1,6 @@
 //! The rules on target fields.
 ghost use Rattle.std.specs.Prelude.{◌≡◌, ◌&&◌, ◌++◌, List, not, nat_lt, map, flat_map, Some};
-ghost use Rattle.gw_profile.specs.Seen.{field as field_value};
+ghost use Rattle.gw_profile.specs.Seen.{field as field_value, profile_value};
 ghost use Rattle.gw_validate.specs.Breaches.{is_forbidden};
 ghost use Rattle.gw_maplang.specs.Shapes.{TableValue};
 ghost use Rattle.gw_check.specs.Counts as counts;
@@ -125,7 +125,7 @@ fn check_making(
     making: &Making,
     field: &FieldShape,
 ) -> Option<Failure>
-    ensures { failures result ≡ noted (failures worst) (spec.making_failures (sources_value sources.entry) target.now.tables line (seen_making (map_tables sources.entry) making.now) (field_value field.now)) }
+    ensures { failures result ≡ noted (failures worst) (spec.making_failures (sources_value sources.entry) (profile_value target.now) line (seen_making (map_tables sources.entry) making.now) (field_value field.now)) }
 {
     match making {
         Making::Copy(from) => check_copied(worst, sources, target, line, from, field),
@@ -149,7 +149,7 @@ fn check_made_by(
     field: &FieldShape,
     rule: &Rule,
 ) -> Option<Failure>
-    ensures { failures result ≡ noted (failures worst) (spec.content_failures (sources_value sources.entry) target.now.tables (field_value field.now) (Some (seen_rule (map_tables sources.entry) rule.now))) }
+    ensures { failures result ≡ noted (failures worst) (spec.content_failures (sources_value sources.entry) (profile_value target.now) (field_value field.now) (Some (seen_rule (map_tables sources.entry) rule.now))) }
 {
     if rule_count(sources, Some(rule)).is_never() {
         return worst;
@@ -164,7 +164,7 @@ fn check_content(
     field: &FieldShape,
     rule: Option<&Rule>,
 ) -> Option<Failure>
-    ensures { failures result ≡ noted (failures worst) (spec.content_failures (sources_value sources.entry) target.now.tables (field_value field.now) (some_rule (map_tables sources.entry) rule.entry)) }
+    ensures { failures result ≡ noted (failures worst) (spec.content_failures (sources_value sources.entry) (profile_value target.now) (field_value field.now) (some_rule (map_tables sources.entry) rule.entry)) }
 {
     match rule {
         None => worst,
@@ -223,7 +223,7 @@ fn check_by(
     rule: Option<&Rule>,
     field: &FieldShape,
 ) -> Option<Failure>
-    ensures { failures result ≡ noted (failures worst) (spec.count_failures holder (counts.rule_count (sources_value sources.entry) (some_rule (map_tables sources.entry) rule.entry)) (field_value field.now) (some_rule (map_tables sources.entry) rule.entry) ++ spec.content_failures (sources_value sources.entry) target.now.tables (field_value field.now) (some_rule (map_tables sources.entry) rule.entry)) }
+    ensures { failures result ≡ noted (failures worst) (spec.count_failures holder (counts.rule_count (sources_value sources.entry) (some_rule (map_tables sources.entry) rule.entry)) (field_value field.now) (some_rule (map_tables sources.entry) rule.entry) ++ spec.content_failures (sources_value sources.entry) (profile_value target.now) (field_value field.now) (some_rule (map_tables sources.entry) rule.entry)) }
 {
     let worst = check_rule_count(worst, sources, holder, rule, field);
     check_content(worst, sources, target, field, rule)
@@ -237,7 +237,7 @@ fn check_field(
     rules: &[Rule],
     field: &FieldShape,
 ) -> Option<Failure>
-    ensures { failures result ≡ noted (failures worst) (spec.field_failures (sources_value sources.entry) target.now.tables holder (map (seen_rule (map_tables sources.entry)) rules.now) (field_value field.now)) }
+    ensures { failures result ≡ noted (failures worst) (spec.field_failures (sources_value sources.entry) (profile_value target.now) holder (map (seen_rule (map_tables sources.entry)) rules.now) (field_value field.now)) }
 {
     check_by(
         worst,
@@ -257,7 +257,7 @@ fn check_fields(
     rules: &[Rule],
     fields: &[FieldShape],
 ) -> Option<Failure>
-    ensures { failures result ≡ noted (failures worst) (flat_map (spec.field_failures (sources_value sources.entry) target.now.tables holder (map (seen_rule (map_tables sources.entry)) rules.now)) (map field_value fields.now)) }
+    ensures { failures result ≡ noted (failures worst) (flat_map (spec.field_failures (sources_value sources.entry) (profile_value target.now) holder (map (seen_rule (map_tables sources.entry)) rules.now)) (map field_value fields.now)) }
 {
     for (i, field) in fields.iter().enumerate() {
         worst = check_field(worst, sources, target, holder, rules, field);
@@ -275,7 +275,7 @@ pub(crate) fn check_segment(
     rules: &[Rule],
     fields: &[FieldShape],
 ) -> Option<Failure>
-    ensures { failures result ≡ noted (failures worst) (spec.segment_failures (sources_value sources.entry) target.now.tables holder (map (seen_rule (map_tables sources.entry)) rules.now) (map field_value fields.now)) }
+    ensures { failures result ≡ noted (failures worst) (spec.segment_failures (sources_value sources.entry) (profile_value target.now) holder (map (seen_rule (map_tables sources.entry)) rules.now) (map field_value fields.now)) }
 {
     let worst = check_fields(worst, sources, target, holder, rules, fields);
     check_rules(worst, sources, rules)

@@ -1,6 +1,6 @@
 //! The rules within the items of a map.
 ghost use Rattle.std.specs.Prelude.{◌≡◌, map, IfOk, option_map};
-ghost use Rattle.gw_profile.specs.Seen.{forest, field};
+ghost use Rattle.gw_profile.specs.Seen.{forest, field, profile_value};
 ghost use Rattle.gw_check.specs.Places as places;
 ghost use Rattle.gw_check.specs.Checking.{CountedNodes, NotesSegment, NotesItem, NotesItems};
 ghost use Rattle.gw_check.specs.Seen.{scope as walked, place as seen_place};
@@ -56,7 +56,7 @@ fn check_given(
     nodes: &[Node],
     segment: &SegmentItem,
 ) -> Result<Option<Failure>, AllocError>
-    ensures { IfOk result (λ new. NotesSegment sides.entry.map.now.tables sides.entry.source.now.tables sides.entry.target.now.tables (walked scope.now) (forest nodes.now) segment.now worst new) }
+    ensures { IfOk result (λ new. NotesSegment sides.entry.map.now.tables (profile_value sides.entry.source.now) (profile_value sides.entry.target.now) (walked scope.now) (forest nodes.now) segment.now worst new) }
 {
     let inner = within_if(alloc, scope, &segment.place)?;
     let sources = Sources {
@@ -85,7 +85,7 @@ fn check_item(
     nodes: &[Node],
     item: &Item,
 ) -> Result<Option<Failure>, AllocError>
-    ensures { IfOk result (λ new. CountedNodes (forest nodes.now) → NotesItem sides.entry.map.now.tables sides.entry.source.now.tables sides.entry.target.now.tables (walked scope.now) (forest nodes.now) item.now worst new) }
+    ensures { IfOk result (λ new. CountedNodes (forest nodes.now) → NotesItem sides.entry.map.now.tables (profile_value sides.entry.source.now) (profile_value sides.entry.target.now) (walked scope.now) (forest nodes.now) item.now worst new) }
 {
     match item {
         Item::Segment(segment) => check_given(alloc, worst, sides, scope, nodes, segment),
@@ -112,7 +112,7 @@ pub(crate) fn check_items(
     nodes: &[Node],
     items: &[Item],
 ) -> Result<Option<Failure>, AllocError>
-    ensures { IfOk result (λ new. CountedNodes (forest nodes.now) → NotesItems sides.entry.map.now.tables sides.entry.source.now.tables sides.entry.target.now.tables (walked scope.now) (forest nodes.now) items.now worst new) }
+    ensures { IfOk result (λ new. CountedNodes (forest nodes.now) → NotesItems sides.entry.map.now.tables (profile_value sides.entry.source.now) (profile_value sides.entry.target.now) (walked scope.now) (forest nodes.now) items.now worst new) }
 {
     let mut worst = worst;
     for (i, item) in items.iter().enumerate() {

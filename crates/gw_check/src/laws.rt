@@ -1,15 +1,16 @@
 //! What holds of the definitions.
-ghost use Rattle.std.specs.Prelude.{◌≡◌, ◌↔◌, ◌⊎◌, ◌≤◌, ℕ, true, false, nat_lt, List, [], length, Option, Some, None, IfSome, IsSomeAnd};
+ghost use Rattle.std.specs.Prelude.{◌≡◌, ◌↔◌, ◌⊎◌, ◌≤◌, ℕ, true, false, nat_lt, List, [], Option, Some, None, IfSome, IsSomeAnd};
 ghost use Rattle.gw_profile.specs.declared.shape.Usage.TheVariants.{R, X};
 ghost use Rattle.gw_profile.specs.Among.{Among};
 ghost use Rattle.gw_profile.specs.Shapes.{SubValue, ProfileValue};
+ghost use Rattle.gw_profile.specs.Lengths.{Count, measure};
 ghost use Rattle.gw_profile.specs.WellFormed.{WellFormed};
 ghost use Rattle.gw_maplang.specs.Identity.{identity};
 ghost use Rattle.gw_check.specs.declared.shape.Presence.TheVariants.{Always, Never};
 ghost use Rattle.gw_check.specs.Intervals.{Interval, sum, product, is_sure, is_never, is_within};
 ghost use Rattle.gw_check.specs.Places.{known};
 ghost use Rattle.gw_check.specs.Resolved.{Reference, of_field};
-ghost use Rattle.gw_check.specs.Leaves.{Sources, Shape, any, listed, at_field, comp_of, sub_of, source_shape, may_be_unlisted, may_be_long, is_included};
+ghost use Rattle.gw_check.specs.Leaves.{Sources, Values, IsOf, Shape, listed, at_field, comp_of, sub_of, source_shape, may_be_unlisted, may_be_long, is_included};
 ghost use Rattle.gw_check.specs.Seen.{saturated};
 ghost use Rattle.gw_check.specs.Checked.{all_failures, least};
 ghost use Rattle.gw_check.specs.Worked.{p1, p2, t1, m1, m4, kin, contacts, both_kinds, oru, any_orders, two_orders, m3, failure};
@@ -46,10 +47,10 @@ pub fn counts_at_the_cap()
     ensures none { (i : Interval) → is_never (saturated i).greatest ≡ is_never i.greatest }
 {}
 
-/// What can stand at a place is included exactly where it meets the usage, and is never there or has only values of the table that aren't too long.
+/// What can stand at a place is included exactly where it meets the usage, and is never there or has only values of the table that aren't too long. Values that aren't missing from a table stand in it, and listed values are missing only where one doesn't. Values aren't too long exactly where each is, in the count of the target, at most so long.
 pub fn values_that_are_included()
-    ensures included { (shape : Shape) (s : SubValue) (table : Option (List (List ℕ))) → (is_included shape s table ≡ true) ↔ ((s.usage ≡ R → shape.presence ≡ Always) × (s.usage ≡ X → shape.presence ≡ Never) × ((shape.presence ≡ Never) ⊎ ((may_be_unlisted shape.values table ≡ false) × (may_be_long shape.values s.len ≡ false)))) }
+    ensures included { (to : Count) (shape : Shape) (s : SubValue) (table : Option (List (List ℕ))) → (is_included to shape s table ≡ true) ↔ ((s.usage ≡ R → shape.presence ≡ Always) × (s.usage ≡ X → shape.presence ≡ Never) × ((shape.presence ≡ Never) ⊎ ((may_be_unlisted shape.values table ≡ false) × (may_be_long to shape.values s.len ≡ false)))) }
+    ensures tabled { (v : Values) (table : List (List ℕ)) → may_be_unlisted v (Some table) ≡ false → (x : List ℕ) → IsOf v x → Among x table }
     ensures values { (texts table : List (List ℕ)) → (may_be_unlisted (listed texts) (Some table) ≡ false) ↔ ((x : List ℕ) → Among x texts → Among x table) }
-    ensures lengths { (texts : List (List ℕ)) (most : ℕ) → (may_be_long (listed texts) (Some most) ≡ false) ↔ ((x : List ℕ) → Among x texts → length x ≤ most) }
-    ensures measured { (len most : ℕ) → (may_be_long (any (Some len)) (Some most) ≡ false) ↔ (len ≤ most) }
+    ensures lengths { (to : Count) (v : Values) (most : ℕ) → (may_be_long to v (Some most) ≡ false) ↔ ((x : List ℕ) → IsOf v x → measure to x ≤ most) }
 {}

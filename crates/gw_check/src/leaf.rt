@@ -1,7 +1,8 @@
 //! Which texts leaves give, and what a target subcomponent asks of them.
 ghost use Rattle.std.specs.Prelude.{◌≡◌, [], Some, unwrap_or, option_copied};
-ghost use Rattle.gw_profile.specs.Seen.{sub as sub_value};
+ghost use Rattle.gw_profile.specs.Seen.{sub as sub_value, profile_value};
 ghost use Rattle.gw_profile.specs.Value.{table_of};
+ghost use Rattle.gw_profile.specs.Lengths.{octets};
 ghost use Rattle.gw_check.specs.Fields.{table_values};
 ghost use Rattle.gw_check.specs.Leaves as spec;
 ghost use Rattle.gw_check.specs.Reading.{sources_value, map_tables, some_sub};
@@ -38,7 +39,7 @@ fn values_of<'a>(profile: &'a Profile, name: &[u8]) -> &'a [Vec<u8>]
 
 /// The texts of a source subcomponent.
 pub(crate) fn sub_texts<'a>(profile: &'a Profile, sub: Option<&SubShape>) -> Read<'a>
-    ensures { read_value result ≡ spec.sub_values profile.now.tables (some_sub sub.entry) }
+    ensures { read_value result ≡ spec.sub_values (profile_value profile.now) (some_sub sub.entry) }
 {
     match sub {
         None => Read::Any(None),
@@ -47,7 +48,7 @@ pub(crate) fn sub_texts<'a>(profile: &'a Profile, sub: Option<&SubShape>) -> Rea
 }
 
 fn listed_texts<'a>(profile: &'a Profile, sub: &SubShape) -> Read<'a>
-    ensures { read_value result ≡ spec.sub_values profile.now.tables (Some (sub_value sub.now)) }
+    ensures { read_value result ≡ spec.sub_values (profile_value profile.now) (Some (sub_value sub.now)) }
 {
     match &sub.table {
         None => Read::Any(sub.len),
@@ -108,7 +109,7 @@ fn meets_usage(usage: Usage, presence: Presence) -> bool
 
 /// Whether what can stand there always meets the subcomponent, with these values of its table. It takes no memory.
 pub fn included(shape: &Shape, sub: &SubShape, table: Option<&[Vec<u8>]>) -> bool
-    ensures { result ≡ spec.is_included (shape_value shape.now) (sub_value sub.now) (some_items table.entry) }
+    ensures { result ≡ spec.is_included octets (shape_value shape.now) (sub_value sub.now) (some_items table.entry) }
 {
     if !meets_usage(sub.usage, shape.presence) {
         return false;

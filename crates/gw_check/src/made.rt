@@ -1,7 +1,8 @@
 //! The rules on fields that are made of leaves.
 ghost use Rattle.std.specs.Prelude.{◌≡◌, ◌==◌, ◌&&◌, ◌||◌, not, map, flat_map, Some, ◌∷◌, [], option_copied};
 ghost use Rattle.std.specs.List.{list_any, list_all};
-ghost use Rattle.gw_profile.specs.Seen.{sub as sub_value, comp as comp_value, field as field_value};
+ghost use Rattle.gw_profile.specs.Seen.{sub as sub_value, comp as comp_value, field as field_value, profile_value};
+ghost use Rattle.gw_profile.specs.Lengths.{octets};
 ghost use Rattle.gw_validate.specs.Breaches.{is_null, is_required};
 ghost use Rattle.gw_check.specs.Failures.{fails};
 ghost use Rattle.gw_check.specs.Fields as spec;
@@ -280,7 +281,7 @@ fn is_null(text: &[u8]) -> bool
 
 // Another value than the table's, or too long.
 fn breaks(target: &Profile, texts: Texts<'_>, sub: &SubShape) -> bool
-    ensures { result ≡ (leaves_spec.may_be_unlisted (texts_value texts.entry) (spec.table_values target.now.tables (sub_value sub.now)) || leaves_spec.may_be_long (texts_value texts.entry) sub.now.len) }
+    ensures { result ≡ (leaves_spec.may_be_unlisted (texts_value texts.entry) (spec.table_values target.now.tables (sub_value sub.now)) || leaves_spec.may_be_long octets (texts_value texts.entry) sub.now.len) }
 {
     may_be_unlisted(texts, table_of(target, sub)) || may_be_long(texts, sub.len)
 }
@@ -292,7 +293,7 @@ fn check_const(
     text: &[u8],
     sub: &SubShape,
 ) -> Option<Failure>
-    ensures { failures result ≡ noted (failures worst) (fails 12 line (not (is_null text.now) && (leaves_spec.may_be_unlisted (leaves_spec.listed (text.now ∷ [])) (spec.table_values target.now.tables (sub_value sub.now)) || leaves_spec.may_be_long (leaves_spec.listed (text.now ∷ [])) sub.now.len))) }
+    ensures { failures result ≡ noted (failures worst) (fails 12 line (not (is_null text.now) && (leaves_spec.may_be_unlisted (leaves_spec.listed (text.now ∷ [])) (spec.table_values target.now.tables (sub_value sub.now)) || leaves_spec.may_be_long octets (leaves_spec.listed (text.now ∷ [])) sub.now.len))) }
 {
     if is_null(text) {
         return worst;
@@ -308,7 +309,7 @@ fn check_source(
     leaf: &Leaf,
     sub: &SubShape,
 ) -> Option<Failure>
-    ensures { failures result ≡ noted (failures worst) (spec.value_failures target.now.tables line (leaves_spec.leaf_shape (sources_value sources.entry) (seen_leaf (map_tables sources.entry) leaf.now)) (sub_value sub.now)) }
+    ensures { failures result ≡ noted (failures worst) (spec.value_failures (profile_value target.now) line (leaves_spec.leaf_shape (sources_value sources.entry) (seen_leaf (map_tables sources.entry) leaf.now)) (sub_value sub.now)) }
 {
     check_values(
         worst,
@@ -328,7 +329,7 @@ fn check_leaf(
     leaf: &Leaf,
     sub: &SubShape,
 ) -> Option<Failure>
-    ensures { failures result ≡ noted (failures worst) (spec.leaf_failures (sources_value sources.entry) target.now.tables line (seen_leaf (map_tables sources.entry) leaf.now) (sub_value sub.now)) }
+    ensures { failures result ≡ noted (failures worst) (spec.leaf_failures (sources_value sources.entry) (profile_value target.now) line (seen_leaf (map_tables sources.entry) leaf.now) (sub_value sub.now)) }
 {
     match leaf {
         Leaf::Const(text) => check_const(worst, target, line, text, sub),
@@ -345,7 +346,7 @@ fn check_placed(
     at: &At,
     sub: Option<&SubShape>,
 ) -> Option<Failure>
-    ensures { failures result ≡ noted (failures worst) (spec.placed (sources_value sources.entry) target.now.tables at.now.line (seen_leaf (map_tables sources.entry) at.now.leaf) (some_sub sub.entry)) }
+    ensures { failures result ≡ noted (failures worst) (spec.placed (sources_value sources.entry) (profile_value target.now) at.now.line (seen_leaf (map_tables sources.entry) at.now.leaf) (some_sub sub.entry)) }
 {
     match sub {
         None => worst,
@@ -399,7 +400,7 @@ fn check_at(
     field: &FieldShape,
     at: &At,
 ) -> Option<Failure>
-    ensures { failures result ≡ noted (failures worst) (spec.made_leaf (sources_value sources.entry) target.now.tables (field_value field.now) (at_leaf (map_tables sources.entry) at.now)) }
+    ensures { failures result ≡ noted (failures worst) (spec.made_leaf (sources_value sources.entry) (profile_value target.now) (field_value field.now) (at_leaf (map_tables sources.entry) at.now)) }
 {
     let comp = comp_of(Some(field), at.place.comp);
     let sub = sub_of(comp, at.place.sub);
@@ -415,7 +416,7 @@ fn check_leaves(
     field: &FieldShape,
     leaves: &[At],
 ) -> Option<Failure>
-    ensures { failures result ≡ noted (failures worst) (flat_map (spec.made_leaf (sources_value sources.entry) target.now.tables (field_value field.now)) (map (at_leaf (map_tables sources.entry)) leaves.now)) }
+    ensures { failures result ≡ noted (failures worst) (flat_map (spec.made_leaf (sources_value sources.entry) (profile_value target.now) (field_value field.now)) (map (at_leaf (map_tables sources.entry)) leaves.now)) }
 {
     for (i, at) in leaves.iter().enumerate() {
         worst = check_at(worst, sources, target, field, at);
@@ -433,7 +434,7 @@ pub(crate) fn check_made(
     leaves: &[At],
     field: &FieldShape,
 ) -> Option<Failure>
-    ensures { failures result ≡ noted (failures worst) (spec.made_field (sources_value sources.entry) target.now.tables line (map (at_leaf (map_tables sources.entry)) leaves.now) (field_value field.now)) }
+    ensures { failures result ≡ noted (failures worst) (spec.made_field (sources_value sources.entry) (profile_value target.now) line (map (at_leaf (map_tables sources.entry)) leaves.now) (field_value field.now)) }
 {
     let worst = check_comps(worst, sources, line, leaves, &field.comps);
     check_leaves(worst, sources, target, field, leaves)

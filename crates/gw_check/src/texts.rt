@@ -1,6 +1,7 @@
 //! Which texts a leaf can give, looked at one by one and without a list of them.
 ghost use Rattle.std.specs.Prelude.{◌≡◌, ◌&&◌, ◌||◌, not, map, length, nat_lt, bytes_eq, option_copied, IsTrue};
 ghost use Rattle.gw_profile.specs.Fault.{is_among};
+ghost use Rattle.gw_profile.specs.Lengths.{octets};
 ghost use Rattle.std.specs.List.{list_any};
 ghost use Rattle.gw_maplang.specs.Seen.{now};
 ghost use Rattle.gw_maplang.specs.Shapes.{second_of};
@@ -41,7 +42,7 @@ fn is_long(most: u32, text: &[u8]) -> bool
 }
 
 fn is_short(len: Option<u32>, text: &[u8]) -> bool
-    ensures { result ≡ spec.is_short len text.now }
+    ensures { result ≡ spec.is_short octets len text.now }
 {
     match len {
         None => true,
@@ -105,7 +106,7 @@ fn given<'a>(table: Option<&'a Rows>, text: &[u8]) -> Option<&'a [u8]>
 
 // Whether one of the texts that aren't longer is missing from the table.
 fn some_short_unlisted(table: &Table, len: Option<u32>, all: &[Vec<u8>]) -> bool
-    ensures { result ≡ list_any (λ v. spec.is_short len v.items && not (is_among v.items table.now)) all.now }
+    ensures { result ≡ list_any (λ v. spec.is_short octets len v.items && not (is_among v.items table.now)) all.now }
 {
     for (i, text) in all.iter().enumerate() {
         if is_short(len, text) && !is_listed(table, i, text) {
@@ -117,7 +118,7 @@ fn some_short_unlisted(table: &Table, len: Option<u32>, all: &[Vec<u8>]) -> bool
 
 // Whether one of the texts that aren't longer fails the test, looked at one by one.
 fn some_short_fails_alone(test: Test<'_>, len: Option<u32>, all: &[Vec<u8>]) -> bool
-    ensures { result ≡ list_any (λ v. spec.is_short len v.items && test_value test.entry v.items) all.now }
+    ensures { result ≡ list_any (λ v. spec.is_short octets len v.items && test_value test.entry v.items) all.now }
 {
     all.iter()
         .any(|text| is_short(len, text) && fails(test, text))
@@ -125,7 +126,7 @@ fn some_short_fails_alone(test: Test<'_>, len: Option<u32>, all: &[Vec<u8>]) -> 
 
 // Whether one of the texts that aren't longer fails the test.
 fn some_short_fails(test: Test<'_>, len: Option<u32>, all: &[Vec<u8>]) -> bool
-    ensures { result ≡ list_any (λ v. spec.is_short len v.items && test_value test.entry v.items) all.now }
+    ensures { result ≡ list_any (λ v. spec.is_short octets len v.items && test_value test.entry v.items) all.now }
 {
     match test {
         Test::Unlisted(table) => some_short_unlisted(table, len, all),
@@ -136,7 +137,7 @@ fn some_short_fails(test: Test<'_>, len: Option<u32>, all: &[Vec<u8>]) -> bool
 
 // Whether what the rows give for one of the texts that aren't longer fails the test.
 fn some_given_fails(test: Test<'_>, table: Option<&Rows>, len: Option<u32>, all: &[Vec<u8>]) -> bool
-    ensures { result ≡ list_any (λ v. spec.is_short len v.items && fails_some (test_value test.entry) (spec.given (rows_value table.entry) v.items)) all.now }
+    ensures { result ≡ list_any (λ v. spec.is_short octets len v.items && fails_some (test_value test.entry) (spec.given (rows_value table.entry) v.items)) all.now }
 {
     all.iter().any(|text| is_short(len, text) && fails_some(test, given(table, text)))
 }
@@ -250,7 +251,7 @@ pub(crate) fn may_be_outside(texts: Texts<'_>, table: Option<&[Vec<u8>]>) -> boo
 
 /// Whether a text may be longer than this.
 pub(crate) fn may_be_long(texts: Texts<'_>, len: Option<u32>) -> bool
-    ensures { result ≡ spec.may_be_long (texts_value texts.entry) len }
+    ensures { result ≡ spec.may_be_long octets (texts_value texts.entry) len }
 {
     match len {
         None => false,
@@ -278,7 +279,7 @@ fn is_there(text: Option<&[u8]>) -> bool
 }
 
 fn some_unrowed(table: Option<&Rows>, len: Option<u32>, all: &[Vec<u8>]) -> bool
-    ensures { result ≡ list_any (λ v. spec.is_short len v.items && not (is_there (second_of v.items (rows_value table.entry).rows))) all.now }
+    ensures { result ≡ list_any (λ v. spec.is_short octets len v.items && not (is_there (second_of v.items (rows_value table.entry).rows))) all.now }
 {
     all.iter()
         .any(|text| is_short(len, text) && !has_row(table, text))

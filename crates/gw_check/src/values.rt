@@ -1,6 +1,7 @@
 //! The rules on what can stand at one place: usage, table and length.
 ghost use Rattle.std.specs.Prelude.{◌≡◌, ◌&&◌, not};
-ghost use Rattle.gw_profile.specs.Seen.{sub as sub_value};
+ghost use Rattle.gw_profile.specs.Seen.{sub as sub_value, profile_value};
+ghost use Rattle.gw_profile.specs.Lengths.{octets};
 ghost use Rattle.gw_validate.specs.Breaches.{is_required, is_forbidden};
 ghost use Rattle.gw_check.specs.Failures.{fails};
 ghost use Rattle.gw_check.specs.Fields as spec;
@@ -92,7 +93,7 @@ fn check_length(
     texts: Texts<'_>,
     sub: &SubShape,
 ) -> Option<Failure>
-    ensures { failures result ≡ noted (failures worst) (fails 7 line (not (leaves_spec.is_absent presence) && leaves_spec.may_be_long (texts_value texts.entry) sub.now.len)) }
+    ensures { failures result ≡ noted (failures worst) (fails 7 line (not (leaves_spec.is_absent presence) && leaves_spec.may_be_long octets (texts_value texts.entry) sub.now.len)) }
 {
     if is_absent(presence) {
         return worst;
@@ -110,7 +111,7 @@ pub(crate) fn check_values(
     texts: Texts<'_>,
     sub: &SubShape,
 ) -> Option<Failure>
-    ensures { failures result ≡ noted (failures worst) (spec.value_failures target.now.tables line (record { presence = presence; values = texts_value texts.entry }) (sub_value sub.now)) }
+    ensures { failures result ≡ noted (failures worst) (spec.value_failures (profile_value target.now) line (record { presence = presence; values = texts_value texts.entry }) (sub_value sub.now)) }
 {
     let worst = check_table(worst, target, line, presence, texts, sub);
     check_length(worst, line, presence, texts, sub)

@@ -1,5 +1,6 @@
 pub mod Numbers
 pub mod Shapes
+pub mod Lengths
 pub mod Among
 pub mod Line
 pub mod Fault

@@ -5,7 +5,8 @@ use Rattle.std.specs.List.{AllByRecursion}
 use Rattle.std.proofs.lemmas.List.{take_more, map-append}
 use Rattle.std.proofs.lemmas.Grind.{common_steps}
 use Rattle.std.proofs.lemmas.Bool.Decides.{eqb_tells}
-use Rattle.gw_profile.specs.Shapes.{SubValue, CompValue, FieldValue, TableValue}
+use Rattle.gw_profile.specs.Shapes.{SubValue, CompValue, FieldValue, ProfileValue}
+use Rattle.gw_profile.specs.Lengths.{len_count}
 use Rattle.gw_validate.specs.declared.fields.Spot.{Spot}
 use Rattle.gw_er7.specs.Message.{Texts, text_of}
 use Rattle.gw_er7.specs.Presence.{SubAt, CompAt, RepAt, IsLast}
@@ -24,60 +25,60 @@ not_after_self (a ∷ p) = inr (refl, not_after_self p)
 
 -- ---- leaves
 
-module _ (tables : List TableValue) (shape : SubValue) (text : List ℕ) where
-  pub absent_least : (o : Option Kind) → length text ≡ 0 → o ≡ (if is_required shape.usage then Some MissingValue else None) → Least (SubBreach tables shape text) (option_map (λ kind. number_of kind ∷ []) o)
+module _ (profile : ProfileValue) (shape : SubValue) (text : List ℕ) where
+  pub absent_least : (o : Option Kind) → length text ≡ 0 → o ≡ (if is_required shape.usage then Some MissingValue else None) → Least (SubBreach profile shape text) (option_map (λ kind. number_of kind ∷ []) o)
   absent_least o none e = by (is_required shape.usage) refl o e
     where
-      only : (q : List ℕ) → SubBreach tables shape text q → NotAfter (3 ∷ []) q
+      only : (q : List ℕ) → SubBreach profile shape text q → NotAfter (3 ∷ []) q
       only q (sub_absent a b) = inr (refl, tt)
       only q (sub_forbidden a b) = inl (omega arith)
       only q (too_long a b c) = inl (omega arith)
       only q (not_listed a b c) = inl (omega arith)
 
-      never : is_required shape.usage ≡ false → (q : List ℕ) → SubBreach tables shape text q → ⊥
+      never : is_required shape.usage ≡ false → (q : List ℕ) → SubBreach profile shape text q → ⊥
       never f q (sub_absent a b) = true_false (sym a ∙ f)
       never f q (sub_forbidden a b) = omega (arith, b, none)
       never f q (too_long a b c) = omega (arith, a, none)
       never f q (not_listed a b c) = omega (arith, a, none)
 
-      by : (r : Bool) → is_required shape.usage ≡ r → (o : Option Kind) → o ≡ (if is_required shape.usage then Some MissingValue else None) → Least (SubBreach tables shape text) (option_map (λ kind. number_of kind ∷ []) o)
-      by true r o e = subst (λ p. Least (SubBreach tables shape text) (option_map (λ kind. number_of kind ∷ []) p)) (sym (e ∙ ap (λ b. if b then Some MissingValue else None) r)) (sub_absent r none, only)
-      by false r o e = subst (λ p. Least (SubBreach tables shape text) (option_map (λ kind. number_of kind ∷ []) p)) (sym (e ∙ ap (λ b. if b then Some MissingValue else None) r)) (never r)
+      by : (r : Bool) → is_required shape.usage ≡ r → (o : Option Kind) → o ≡ (if is_required shape.usage then Some MissingValue else None) → Least (SubBreach profile shape text) (option_map (λ kind. number_of kind ∷ []) o)
+      by true r o e = subst (λ p. Least (SubBreach profile shape text) (option_map (λ kind. number_of kind ∷ []) p)) (sym (e ∙ ap (λ b. if b then Some MissingValue else None) r)) (sub_absent r none, only)
+      by false r o e = subst (λ p. Least (SubBreach profile shape text) (option_map (λ kind. number_of kind ∷ []) p)) (sym (e ∙ ap (λ b. if b then Some MissingValue else None) r)) (never r)
 
-  pub forbidden_least : (length text ≡ 0 → ⊥) → is_forbidden shape.usage ≡ true → Least (SubBreach tables shape text) (Some (4 ∷ []))
+  pub forbidden_least : (length text ≡ 0 → ⊥) → is_forbidden shape.usage ≡ true → Least (SubBreach profile shape text) (Some (4 ∷ []))
   forbidden_least some f = (sub_forbidden f (omega arith), only)
     where
-      only : (q : List ℕ) → SubBreach tables shape text q → NotAfter (4 ∷ []) q
+      only : (q : List ℕ) → SubBreach profile shape text q → NotAfter (4 ∷ []) q
       only q (sub_absent a b) = absurd (some b)
       only q (sub_forbidden a b) = inr (refl, tt)
       only q (too_long a b c) = inl (omega arith)
       only q (not_listed a b c) = inl (omega arith)
 
-  pub delete_least : (length text ≡ 0 → ⊥) → is_forbidden shape.usage ≡ false → is_null text ≡ true → Least (SubBreach tables shape text) None
+  pub delete_least : (length text ≡ 0 → ⊥) → is_forbidden shape.usage ≡ false → is_null text ≡ true → Least (SubBreach profile shape text) None
   delete_least some f d q (sub_absent a b) = some b
   delete_least some f d q (sub_forbidden a b) = true_false (sym a ∙ f)
   delete_least some f d q (too_long a b c) = true_false (sym d ∙ b)
   delete_least some f d q (not_listed a b c) = true_false (sym d ∙ b)
 
-  pub long_least : (length text ≡ 0 → ⊥) → is_forbidden shape.usage ≡ false → is_null text ≡ false → is_long shape.len text ≡ true → Least (SubBreach tables shape text) (Some (6 ∷ []))
+  pub long_least : (length text ≡ 0 → ⊥) → is_forbidden shape.usage ≡ false → is_null text ≡ false → is_long (len_count profile) shape.len text ≡ true → Least (SubBreach profile shape text) (Some (6 ∷ []))
   long_least some f d l = (too_long (omega arith) d l, only)
     where
-      only : (q : List ℕ) → SubBreach tables shape text q → NotAfter (6 ∷ []) q
+      only : (q : List ℕ) → SubBreach profile shape text q → NotAfter (6 ∷ []) q
       only q (sub_absent a b) = absurd (some b)
       only q (sub_forbidden a b) = absurd (true_false (sym a ∙ f))
       only q (too_long a b c) = inr (refl, tt)
       only q (not_listed a b c) = inl (omega arith)
 
-  pub unlisted_least : (length text ≡ 0 → ⊥) → is_forbidden shape.usage ≡ false → is_null text ≡ false → is_long shape.len text ≡ false → is_unlisted tables shape.table text ≡ true → Least (SubBreach tables shape text) (Some (7 ∷ []))
+  pub unlisted_least : (length text ≡ 0 → ⊥) → is_forbidden shape.usage ≡ false → is_null text ≡ false → is_long (len_count profile) shape.len text ≡ false → is_unlisted profile.tables shape.table text ≡ true → Least (SubBreach profile shape text) (Some (7 ∷ []))
   unlisted_least some f d l u = (not_listed (omega arith) d u, only)
     where
-      only : (q : List ℕ) → SubBreach tables shape text q → NotAfter (7 ∷ []) q
+      only : (q : List ℕ) → SubBreach profile shape text q → NotAfter (7 ∷ []) q
       only q (sub_absent a b) = absurd (some b)
       only q (sub_forbidden a b) = absurd (true_false (sym a ∙ f))
       only q (too_long a b c) = absurd (true_false (sym c ∙ l))
       only q (not_listed a b c) = inr (refl, tt)
 
-  pub clean_least : (length text ≡ 0 → ⊥) → is_forbidden shape.usage ≡ false → is_long shape.len text ≡ false → is_unlisted tables shape.table text ≡ false → Least (SubBreach tables shape text) None
+  pub clean_least : (length text ≡ 0 → ⊥) → is_forbidden shape.usage ≡ false → is_long (len_count profile) shape.len text ≡ false → is_unlisted profile.tables shape.table text ≡ false → Least (SubBreach profile shape text) None
   clean_least some f l u q (sub_absent a b) = some b
   clean_least some f l u q (sub_forbidden a b) = true_false (sym a ∙ f)
   clean_least some f l u q (too_long a b c) = true_false (sym c ∙ l)
@@ -141,42 +142,42 @@ all_at f P (z ∷ ys) (suc i) y lt at a = all_at f P ys i y (omega arith) at a.1
 
 -- ---- components
 
-module _ (tables : List TableValue) (m : Texts) (f r : ℕ) (shape : CompValue) where
-  pub absent_comp_least : (o : Option Spot) → (CompAt m f r shape.number → ⊥) → option_map comp_key o ≡ (if is_required shape.usage then Some (0 ∷ 3 ∷ []) else None) → Least (CompBreach tables m f r shape) (option_map comp_key o)
-  absent_comp_least o z e = subst (Least (CompBreach tables m f r shape)) (sym e) (by (is_required shape.usage) refl)
+module _ (profile : ProfileValue) (m : Texts) (f r : ℕ) (shape : CompValue) where
+  pub absent_comp_least : (o : Option Spot) → (CompAt m f r shape.number → ⊥) → option_map comp_key o ≡ (if is_required shape.usage then Some (0 ∷ 3 ∷ []) else None) → Least (CompBreach profile m f r shape) (option_map comp_key o)
+  absent_comp_least o z e = subst (Least (CompBreach profile m f r shape)) (sym e) (by (is_required shape.usage) refl)
     where
-      only : (q : List ℕ) → CompBreach tables m f r shape q → NotAfter (0 ∷ 3 ∷ []) q
+      only : (q : List ℕ) → CompBreach profile m f r shape q → NotAfter (0 ∷ 3 ∷ []) q
       only q (comp_absent a b) = not_after_self (0 ∷ 3 ∷ [])
       only q (comp_forbidden a b) = absurd (z b)
       only q (in_sub a b) = absurd (z a)
 
-      never : is_required shape.usage ≡ false → (q : List ℕ) → CompBreach tables m f r shape q → ⊥
+      never : is_required shape.usage ≡ false → (q : List ℕ) → CompBreach profile m f r shape q → ⊥
       never u q (comp_absent a b) = true_false (sym a ∙ u)
       never u q (comp_forbidden a b) = z b
       never u q (in_sub a b) = z a
 
-      by : (b : Bool) → is_required shape.usage ≡ b → Least (CompBreach tables m f r shape) (if is_required shape.usage then Some (0 ∷ 3 ∷ []) else None)
-      by true u = subst (λ b. Least (CompBreach tables m f r shape) (if b then Some (0 ∷ 3 ∷ []) else None)) (sym u) (comp_absent u z, only)
-      by false u = subst (λ b. Least (CompBreach tables m f r shape) (if b then Some (0 ∷ 3 ∷ []) else None)) (sym u) (never u)
+      by : (b : Bool) → is_required shape.usage ≡ b → Least (CompBreach profile m f r shape) (if is_required shape.usage then Some (0 ∷ 3 ∷ []) else None)
+      by true u = subst (λ b. Least (CompBreach profile m f r shape) (if b then Some (0 ∷ 3 ∷ []) else None)) (sym u) (comp_absent u z, only)
+      by false u = subst (λ b. Least (CompBreach profile m f r shape) (if b then Some (0 ∷ 3 ∷ []) else None)) (sym u) (never u)
 
-  pub forbidden_comp_least : CompRises shape → CompAt m f r shape.number → is_forbidden shape.usage ≡ true → Least (CompBreach tables m f r shape) (Some (0 ∷ 4 ∷ []))
+  pub forbidden_comp_least : CompRises shape → CompAt m f r shape.number → is_forbidden shape.usage ≡ true → Least (CompBreach profile m f r shape) (Some (0 ∷ 4 ∷ []))
   forbidden_comp_least rises some u = (comp_forbidden u some, only)
     where
-      only : (q : List ℕ) → CompBreach tables m f r shape q → NotAfter (0 ∷ 4 ∷ []) q
+      only : (q : List ℕ) → CompBreach profile m f r shape q → NotAfter (0 ∷ 4 ∷ []) q
       only q (comp_absent a b) = absurd (b some)
       only q (comp_forbidden a b) = not_after_self (0 ∷ 4 ∷ [])
-      only q (in_sub a b) = later_above (λ s. s.number) (λ s. SubBreach tables s (text_of m f r shape.number s.number)) 0 shape.subs rises 0 (4 ∷ []) q (omega arith) b
+      only q (in_sub a b) = later_above (λ s. s.number) (λ s. SubBreach profile s (text_of m f r shape.number s.number)) 0 shape.subs rises 0 (4 ∷ []) q (omega arith) b
 
-  pub subs_comp_least : (o : Option (List ℕ)) → CompAt m f r shape.number → is_forbidden shape.usage ≡ false → Least (SubsBreach tables m f r shape.number shape.subs) o → Least (CompBreach tables m f r shape) o
+  pub subs_comp_least : (o : Option (List ℕ)) → CompAt m f r shape.number → is_forbidden shape.usage ≡ false → Least (SubsBreach profile m f r shape.number shape.subs) o → Least (CompBreach profile m f r shape) o
   subs_comp_least None some u l = none
     where
-      none : (q : List ℕ) → CompBreach tables m f r shape q → ⊥
+      none : (q : List ℕ) → CompBreach profile m f r shape q → ⊥
       none q (comp_absent a b) = b some
       none q (comp_forbidden a b) = true_false (sym a ∙ u)
       none q (in_sub a b) = l q b
   subs_comp_least (Some p) some u l = (in_sub some l.0, only)
     where
-      only : (q : List ℕ) → CompBreach tables m f r shape q → NotAfter p q
+      only : (q : List ℕ) → CompBreach profile m f r shape q → NotAfter p q
       only q (comp_absent a b) = absurd (b some)
       only q (comp_forbidden a b) = absurd (true_false (sym a ∙ u))
       only q (in_sub a b) = l.1 q b
@@ -190,32 +191,32 @@ counted_once P (suc n) j k (inl a) (inr b) = absurd (b.0 a.0)
 counted_once P (suc n) j k (inr a) (inl b) = absurd (a.0 b.0)
 counted_once P (suc n) j k (inr a) (inr b) = counted_once P n j k a.1 b.1
 
-module _ (tables : List TableValue) (m : Texts) (shape : FieldValue) (r before : ℕ) (u : is_forbidden shape.usage ≡ false) (c : Counted (RepAt m shape.number) (r - 1) before) where
-  pub full_least : FieldRises shape → is_full shape.card.max before ≡ true → Least (RepBreach tables m shape r) (Some (0 ∷ 0 ∷ 5 ∷ []))
+module _ (profile : ProfileValue) (m : Texts) (shape : FieldValue) (r before : ℕ) (u : is_forbidden shape.usage ≡ false) (c : Counted (RepAt m shape.number) (r - 1) before) where
+  pub full_least : FieldRises shape → is_full shape.card.max before ≡ true → Least (RepBreach profile m shape r) (Some (0 ∷ 0 ∷ 5 ∷ []))
   full_least rises full = (one_too_many u (most shape.card.max full) c, only)
     where
       most : (o : Option ℕ) → is_full o before ≡ true → o ≡ Some before
       most None e = absurd (cc)
       most (Some k) e = ap Some (elim (eqb_tells k before) [ inl h ↦ h.1 | inr h ↦ absurd (true_false (sym e ∙ h.0)) ])
 
-      only : (q : List ℕ) → RepBreach tables m shape r q → NotAfter (0 ∷ 0 ∷ 5 ∷ []) q
+      only : (q : List ℕ) → RepBreach profile m shape r q → NotAfter (0 ∷ 0 ∷ 5 ∷ []) q
       only q (one_too_many a b d) = not_after_self (0 ∷ 0 ∷ 5 ∷ [])
-      only q (in_comp b) = later_above (λ c. c.number) (CompBreach tables m shape.number r) 0 shape.comps rises.comps 0 (0 ∷ 5 ∷ []) q (omega arith) b
+      only q (in_comp b) = later_above (λ c. c.number) (CompBreach profile m shape.number r) 0 shape.comps rises.comps 0 (0 ∷ 5 ∷ []) q (omega arith) b
 
   not_full : (k : ℕ) → is_full shape.card.max before ≡ false → shape.card.max ≡ Some k → Counted (RepAt m shape.number) (r - 1) k → ⊥
   not_full k full e d =
       let same : k ≡ before = counted_once (RepAt m shape.number) (r - 1) k before d c in
       true_false (sym (elim (eqb_tells k before) [ inl h ↦ h.0 | inr h ↦ absurd (h.1 same) ]) ∙ ap (λ o. is_full o before) (sym e) ∙ full)
 
-  pub comps_rep_least : (o : Option (List ℕ)) → is_full shape.card.max before ≡ false → Least (CompsBreach tables m shape.number r shape.comps) o → Least (RepBreach tables m shape r) o
+  pub comps_rep_least : (o : Option (List ℕ)) → is_full shape.card.max before ≡ false → Least (CompsBreach profile m shape.number r shape.comps) o → Least (RepBreach profile m shape r) o
   comps_rep_least None full l = none
     where
-      none : (q : List ℕ) → RepBreach tables m shape r q → ⊥
+      none : (q : List ℕ) → RepBreach profile m shape r q → ⊥
       none q (one_too_many {most = k} a b d) = not_full k full b d
       none q (in_comp b) = l q b
   comps_rep_least (Some p) full l = (in_comp l.0, only)
     where
-      only : (q : List ℕ) → RepBreach tables m shape r q → NotAfter p q
+      only : (q : List ℕ) → RepBreach profile m shape r q → NotAfter p q
       only q (one_too_many {most = k} a b d) = absurd (not_full k full b d)
       only q (in_comp b) = l.1 q b
 
@@ -226,17 +227,17 @@ get_or_any [] i d e lt = absurd (omega arith)
 get_or_any (x ∷ xs) zero d e lt = refl
 get_or_any (x ∷ xs) (suc i) d e lt = get_or_any xs i d e (omega arith)
 
-module _ {Y : Type 0} (value : Y → SubValue) (tables : List TableValue) (m : Texts) (f r c : ℕ) (subs : List Y) (i : ℕ) (y : Y) (text : List ℕ) (lt : i < length subs) (at : y ≡ get_or subs i y) (is : text ≡ text_of m f r c (value y).number) where
+module _ {Y : Type 0} (value : Y → SubValue) (profile : ProfileValue) (m : Texts) (f r c : ℕ) (subs : List Y) (i : ℕ) (y : Y) (text : List ℕ) (lt : i < length subs) (at : y ≡ get_or subs i y) (is : text ≡ text_of m f r c (value y).number) where
   abbrev At : SubValue → List ℕ → Type 0
-  At s = SubBreach tables s (text_of m f r c s.number)
+  At s = SubBreach profile s (text_of m f r c s.number)
 
-  pub sub_found : (kind said : Kind) → said ≡ kind → NoneYet At (map value (take i subs)) → Rises (λ s. s.number) 0 (map value subs) → Least (SubBreach tables (value y) text) (Some (number_of kind ∷ [])) → Least (SubsBreach tables m f r c (map value subs)) (Some ((value y).number ∷ number_of said ∷ []))
+  pub sub_found : (kind said : Kind) → said ≡ kind → NoneYet At (map value (take i subs)) → Rises (λ s. s.number) 0 (map value subs) → Least (SubBreach profile (value y) text) (Some (number_of kind ∷ [])) → Least (SubsBreach profile m f r c (map value subs)) (Some ((value y).number ∷ number_of said ∷ []))
   sub_found kind said e n rises l =
-      subst (λ k. Least (SubsBreach tables m f r c (map value subs)) (Some ((value y).number ∷ number_of k ∷ []))) (sym e)
-      (any_least value (λ s. s.number) At subs i y (number_of kind ∷ []) lt at n rises (subst (λ t. Least (SubBreach tables (value y) t) (Some (number_of kind ∷ []))) is l))
+      subst (λ k. Least (SubsBreach profile m f r c (map value subs)) (Some ((value y).number ∷ number_of k ∷ []))) (sym e)
+      (any_least value (λ s. s.number) At subs i y (number_of kind ∷ []) lt at n rises (subst (λ t. Least (SubBreach profile (value y) t) (Some (number_of kind ∷ []))) is l))
 
-  pub sub_more : NoneYet At (map value (take i subs)) → Least (SubBreach tables (value y) text) None → NoneYet At (map value (take (i + 1) subs))
-  sub_more n l = any_more value (λ s. s.number) At subs i y lt at n (subst (λ t. Least (SubBreach tables (value y) t) None) is l)
+  pub sub_more : NoneYet At (map value (take i subs)) → Least (SubBreach profile (value y) text) None → NoneYet At (map value (take (i + 1) subs))
+  sub_more n l = any_more value (λ s. s.number) At subs i y lt at n (subst (λ t. Least (SubBreach profile (value y) t) None) is l)
 
 module _ (m : Texts) (f r : ℕ) (last : ℕ) (is : IsLast (CompAt m f r) last) where
   pub no_rep : last ≡ 0 → RepAt m f r → ⊥
@@ -256,8 +257,8 @@ counted_yes P (suc r) k lt c p = inl (p, k, (let e : k + 1 ≡ suc k = omega ari
 pub counted_before : (P : ℕ → Type 0) (i k : ℕ) → Counted P i k → Counted P (i + 1 - 1) k
 counted_before P i k c = subst (λ j. Counted P j k) (let e : i ≡ i + 1 - 1 = omega arith in e) c
 
-module _ (tables : List TableValue) (m : Texts) (shape : FieldValue) where
-  module _ (n r before : ℕ) (g : RepsGoing tables m shape n before) (lt : n < r) (there : RepAt m shape.number r) (first : (j : ℕ) → n < j → RepAt m shape.number j → r ≤ j) where
+module _ (profile : ProfileValue) (m : Texts) (shape : FieldValue) where
+  module _ (n r before : ℕ) (g : RepsGoing profile m shape n before) (lt : n < r) (there : RepAt m shape.number r) (first : (j : ℕ) → n < j → RepAt m shape.number j → r ≤ j) where
     compare : (a r : ℕ) → (r < a) ⊎ ((a ≡ r) ⊎ (a < r))
     compare zero zero = inr (inl refl)
     compare zero (suc r) = inr (inr (omega arith))
@@ -265,7 +266,7 @@ module _ (tables : List TableValue) (m : Texts) (shape : FieldValue) where
     compare (suc a) (suc r) = elim (compare a r) [ inl h ↦ inl (omega arith) | inr h ↦ inr (elim h [ inl e ↦ inl (ap suc e) | inr l ↦ inr (omega arith) ]) ]
 
     -- no breach in an earlier repetition
-    earlier : (j : ℕ) (q : List ℕ) → j < r → RepAt m shape.number j → RepBreach tables m shape j q → ⊥
+    earlier : (j : ℕ) (q : List ℕ) → j < r → RepAt m shape.number j → RepBreach profile m shape j q → ⊥
     earlier j q less p b = by (compare n j)
       where
         by : (j < n) ⊎ ((n ≡ j) ⊎ (n < j)) → ⊥
@@ -273,46 +274,46 @@ module _ (tables : List TableValue) (m : Texts) (shape : FieldValue) where
         by (inr (inl e)) = g.none j q (omega arith) p b
         by (inr (inr h)) = let w = first j h p in omega arith
 
-    pub reps_more : Counted (RepAt m shape.number) r (before + 1) → Least (RepBreach tables m shape r) None → RepsGoing tables m shape r (before + 1)
+    pub reps_more : Counted (RepAt m shape.number) r (before + 1) → Least (RepBreach profile m shape r) None → RepsGoing profile m shape r (before + 1)
     reps_more c l = record { counted = c; small = omega (arith, g.small); none = λ j q le p b. by j q le p b (compare r j) }
       where
-        by : (j : ℕ) (q : List ℕ) → j ≤ r → RepAt m shape.number j → RepBreach tables m shape j q → (j < r) ⊎ ((r ≡ j) ⊎ (r < j)) → ⊥
+        by : (j : ℕ) (q : List ℕ) → j ≤ r → RepAt m shape.number j → RepBreach profile m shape j q → (j < r) ⊎ ((r ≡ j) ⊎ (r < j)) → ⊥
         by j q le p b (inl h) = earlier j q h p b
-        by j q le p b (inr (inl e)) = l q (subst (λ k. RepBreach tables m shape k q) (sym e) b)
+        by j q le p b (inr (inl e)) = l q (subst (λ k. RepBreach profile m shape k q) (sym e) b)
         by j q le p b (inr (inr h)) = omega arith
 
-    pub reps_found : (p : List ℕ) → Least (RepBreach tables m shape r) (Some p) → Least (RepsBreach tables m shape) (Some (r ∷ p))
+    pub reps_found : (p : List ℕ) → Least (RepBreach profile m shape r) (Some p) → Least (RepsBreach profile m shape) (Some (r ∷ p))
     reps_found p l = (in_rep there l.0, only)
       where
-        by : (j : ℕ) (q : List ℕ) → RepAt m shape.number j → RepBreach tables m shape j q → (j < r) ⊎ ((r ≡ j) ⊎ (r < j)) → NotAfter (r ∷ p) (j ∷ q)
+        by : (j : ℕ) (q : List ℕ) → RepAt m shape.number j → RepBreach profile m shape j q → (j < r) ⊎ ((r ≡ j) ⊎ (r < j)) → NotAfter (r ∷ p) (j ∷ q)
         by j q at b (inl h) = absurd (earlier j q h at b)
-        by j q at b (inr (inl e)) = inr (e, l.1 q (subst (λ k. RepBreach tables m shape k q) (sym e) b))
+        by j q at b (inr (inl e)) = inr (e, l.1 q (subst (λ k. RepBreach profile m shape k q) (sym e) b))
         by j q at b (inr (inr h)) = inl h
 
-        only : (q : List ℕ) → RepsBreach tables m shape q → NotAfter (r ∷ p) q
+        only : (q : List ℕ) → RepsBreach profile m shape q → NotAfter (r ∷ p) q
         only q (in_rep {r = j} {spot = k} at b) = by j k at b (compare r j)
 
-  pub reps_none : (i before last : ℕ) → RepsGoing tables m shape i before → IsLast (RepAt m shape.number) last → last ≤ i → Least (RepsBreach tables m shape) None
+  pub reps_none : (i before last : ℕ) → RepsGoing profile m shape i before → IsLast (RepAt m shape.number) last → last ≤ i → Least (RepsBreach profile m shape) None
   reps_none i before last g is le q (in_rep {r = r} {spot = p} there b) = let w = is.within r there in g.none r p (omega (arith, w.1, le)) there b
 
   module _ (last : ℕ) (is : IsLast (RepAt m shape.number) last) where
-    pub forbidden_absent : is_forbidden shape.usage ≡ true → last ≡ 0 → Least (FieldBreach tables m shape) None
+    pub forbidden_absent : is_forbidden shape.usage ≡ true → last ≡ 0 → Least (FieldBreach profile m shape) None
     forbidden_absent u z q (too_few a b c d) = true_false (sym u ∙ a)
     forbidden_absent u z q (field_forbidden a b) = let w = is.within b.0 b.1 in omega (arith, w.0, w.1, z)
     forbidden_absent u z q (in_reps (in_rep {r = r} there b)) = let w = is.within r there in omega (arith, w.0, w.1, z)
 
-    pub forbidden_present : is_forbidden shape.usage ≡ true → (last ≡ 0 → ⊥) → Least (FieldBreach tables m shape) (Some (0 ∷ 0 ∷ 0 ∷ 4 ∷ []))
+    pub forbidden_present : is_forbidden shape.usage ≡ true → (last ≡ 0 → ⊥) → Least (FieldBreach profile m shape) (Some (0 ∷ 0 ∷ 0 ∷ 4 ∷ []))
     forbidden_present u some = (field_forbidden u (last, is.there (omega arith)), only)
       where
-        only : (q : List ℕ) → FieldBreach tables m shape q → NotAfter (0 ∷ 0 ∷ 0 ∷ 4 ∷ []) q
+        only : (q : List ℕ) → FieldBreach profile m shape q → NotAfter (0 ∷ 0 ∷ 0 ∷ 4 ∷ []) q
         only q (too_few a b c d) = absurd (true_false (sym u ∙ a))
         only q (field_forbidden a b) = not_after_self (0 ∷ 0 ∷ 0 ∷ 4 ∷ [])
         only q (in_reps (in_rep {r = r} there b)) = let w = is.within r there in inl w.0
 
-    pub few_least : (count : ℕ) → is_forbidden shape.usage ≡ false → Counted (RepAt m shape.number) last count → count < shape.card.min → Least (FieldBreach tables m shape) (Some (0 ∷ 0 ∷ 0 ∷ 3 ∷ []))
+    pub few_least : (count : ℕ) → is_forbidden shape.usage ≡ false → Counted (RepAt m shape.number) last count → count < shape.card.min → Least (FieldBreach profile m shape) (Some (0 ∷ 0 ∷ 0 ∷ 3 ∷ []))
     few_least count u c lt = (too_few u is c lt, only)
       where
-        only : (q : List ℕ) → FieldBreach tables m shape q → NotAfter (0 ∷ 0 ∷ 0 ∷ 3 ∷ []) q
+        only : (q : List ℕ) → FieldBreach profile m shape q → NotAfter (0 ∷ 0 ∷ 0 ∷ 3 ∷ []) q
         only q (too_few a b c d) = not_after_self (0 ∷ 0 ∷ 0 ∷ 3 ∷ [])
         only q (field_forbidden a b) = absurd (true_false (sym a ∙ u))
         only q (in_reps (in_rep {r = r} there b)) = let w = is.within r there in inl w.0
@@ -330,19 +331,19 @@ module _ (tables : List TableValue) (m : Texts) (shape : FieldValue) where
         let w = le k (subst (λ n. Counted (RepAt m shape.number) n k) e d) in
         omega (arith, w, lt)
 
-    pub reps_field_least : (o : Option (List ℕ)) → is_forbidden shape.usage ≡ false → ((count : ℕ) → Counted (RepAt m shape.number) last count → shape.card.min ≤ count) → Least (RepsBreach tables m shape) o → Least (FieldBreach tables m shape) o
+    pub reps_field_least : (o : Option (List ℕ)) → is_forbidden shape.usage ≡ false → ((count : ℕ) → Counted (RepAt m shape.number) last count → shape.card.min ≤ count) → Least (RepsBreach profile m shape) o → Least (FieldBreach profile m shape) o
     reps_field_least None u le l = none
       where
-        none : (q : List ℕ) → FieldBreach tables m shape q → ⊥
+        none : (q : List ℕ) → FieldBreach profile m shape q → ⊥
         none q (too_few {last = k} {count = j} a b d e) = enough k j le b d e
         none q (field_forbidden a b) = true_false (sym a ∙ u)
         none q (in_reps b) = l q b
     reps_field_least (Some p) u le l = (in_reps l.0, only)
       where
-        only : (q : List ℕ) → FieldBreach tables m shape q → NotAfter p q
+        only : (q : List ℕ) → FieldBreach profile m shape q → NotAfter p q
         only q (too_few {last = k} {count = j} a b d e) = absurd (enough k j le b d e)
         only q (field_forbidden a b) = absurd (true_false (sym a ∙ u))
         only q (in_reps b) = l.1 q b
 
-pub reps_start : (tables : List TableValue) (m : Texts) (shape : FieldValue) (last : ℕ) → IsLast (RepAt m shape.number) last → RepsGoing tables m shape 0 0
-reps_start tables m shape last is = record { counted = refl; small = omega arith; none = λ r q le there b. let w = is.within r there in omega (arith, w.0, le) }
+pub reps_start : (profile : ProfileValue) (m : Texts) (shape : FieldValue) (last : ℕ) → IsLast (RepAt m shape.number) last → RepsGoing profile m shape 0 0
+reps_start profile m shape last is = record { counted = refl; small = omega arith; none = λ r q le there b. let w = is.within r there in omega (arith, w.0, le) }

@@ -94,19 +94,19 @@ module _ (p : ProfileValue) (m : List SegmentValue) (wf : Determined p.nodes NoN
     pub all_within : AllByRecursion (λ i. i < length m) (flatten t)
     all_within = subst (AllByRecursion (λ i. i < length m)) (sym (tree_flat (named m) t p.nodes (numbers p.nodes m) tree_is)) (numbers_below p.nodes 0 (length m) m (omega arith))
 
-    pub fits_judged : Searched (BreachAt p.tables m) (assigned t p.nodes) None → Conforms p m × IsTreeOf p m t
+    pub fits_judged : Searched (BreachAt p m) (assigned t p.nodes) None → Conforms p m × IsTreeOf p m t
     fits_judged s = (tree_message p m wf t tree_is (meets_all p m wf t tree_is s), tree_is)
 
-    pub segment_judged : (n : ℕ) (q : List ℕ) (b : Breach) → Searched (BreachAt p.tables m) (assigned t p.nodes) (Some (n, q)) → b.segment ≡ named m n → b.sequence ≡ sequence m n (named m n) → spot_of b ≡ q → IsLeast p m b
+    pub segment_judged : (n : ℕ) (q : List ℕ) (b : Breach) → Searched (BreachAt p m) (assigned t p.nodes) (Some (n, q)) → b.segment ≡ named m n → b.sequence ≡ sequence m n (named m n) → spot_of b ≡ q → IsLeast p m b
     segment_judged n q b s es eq ek =
         let lt : n < length m = inside n q s in
         least_of n (named m n) q b es eq ek
         (segment_breaks p m wf t tree_is n q (segment_at m n) (get_segment m n lt) s) (segment_least p m wf t tree_is n q (segment_at m n) (get_segment m n lt) s)
       where
-        inside : (n : ℕ) (q : List ℕ) → Searched (BreachAt p.tables m) (assigned t p.nodes) (Some (n, q)) → n < length m
+        inside : (n : ℕ) (q : List ℕ) → Searched (BreachAt p m) (assigned t p.nodes) (Some (n, q)) → n < length m
         inside n q s = in_search (assigned t p.nodes) n q (subst (AllByRecursion (λ i. i < length m)) (sym (assigned_flat (named m) t p.nodes (numbers p.nodes m) tree_is)) all_within) s
           where
-            in_search : (ps : List (ℕ × List FieldValue)) (n : ℕ) (q : List ℕ) → AllByRecursion (λ i. i < length m) (map (λ (p : ℕ × List FieldValue). p.0) ps) → Searched (BreachAt p.tables m) ps (Some (n, q)) → n < length m
+            in_search : (ps : List (ℕ × List FieldValue)) (n : ℕ) (q : List ℕ) → AllByRecursion (λ i. i < length m) (map (λ (p : ℕ × List FieldValue). p.0) ps) → Searched (BreachAt p m) ps (Some (n, q)) → n < length m
             in_search [] n q a s = absurd s
             in_search (x ∷ ps) n q a (inl s) = subst (λ k. k < length m) (sym s.0) a.0
             in_search (x ∷ ps) n q a (inr s) = in_search ps n q a.1 s.1

@@ -181,14 +181,14 @@ module _ (p : ProfileValue) (m : List SegmentValue) (wf : Determined p.nodes NoN
         subst (RisesFrom p.nodes 0) (sym (assigned_flat (named m) t p.nodes (numbers p.nodes m) is ∙ tree_flat (named m) t p.nodes (numbers p.nodes m) is))
         (numbers_rise p.nodes 0 m)
 
-    module _ (n : ℕ) (q : List ℕ) (s : SegmentValue) (here : slice_get m n ≡ Some s) (search : Searched (BreachAt p.tables m) (assigned t p.nodes) (Some (n, q))) where
-      what : Found (BreachAt p.tables m) (assigned t p.nodes) n q
-      what = found (BreachAt p.tables m) p.nodes 0 (assigned t p.nodes) rising n q search
+    module _ (n : ℕ) (q : List ℕ) (s : SegmentValue) (here : slice_get m n ≡ Some s) (search : Searched (BreachAt p m) (assigned t p.nodes) (Some (n, q))) where
+      what : Found (BreachAt p m) (assigned t p.nodes) n q
+      what = found (BreachAt p m) p.nodes 0 (assigned t p.nodes) rising n q search
 
       pub segment_breaks : Breaks p m n s.name q
       segment_breaks =
           in_segment t what.shape s is what.there here
-          (subst (λ (x : SegmentValue). SegmentBreach p.tables what.shape x.at q) (segment_is m n s here) what.breaks)
+          (subst (λ (x : SegmentValue). SegmentBreach p what.shape x.at q) (segment_is m n s here) what.breaks)
 
       pub segment_least : NoneBefore n q
       segment_least i name spot (out_of_order r there first stop) =
@@ -197,38 +197,38 @@ module _ (p : ProfileValue) (m : List SegmentValue) (wf : Determined p.nodes NoN
       segment_least i name spot (in_segment u shape r isu a there b) =
           what.least i shape spot
           (subst (λ v. Assigns (assigned v p.nodes) i shape) (one_tree (named m) p.nodes NoName wf u t (numbers p.nodes m) isu is) a)
-          (subst (λ (x : SegmentValue). SegmentBreach p.tables shape x.at spot) (sym (segment_is m i r there)) b)
+          (subst (λ (x : SegmentValue). SegmentBreach p shape x.at spot) (sym (segment_is m i r there)) b)
 
     -- all segments meet their shapes
-    pub meets_all : Searched (BreachAt p.tables m) (assigned t p.nodes) None → AllMeet (λ shape i. Meets p.tables shape (segment_at m i).at) (assigned t p.nodes)
+    pub meets_all : Searched (BreachAt p m) (assigned t p.nodes) None → AllMeet (λ shape i. Meets p shape (segment_at m i).at) (assigned t p.nodes)
     meets_all h = by (assigned t p.nodes) h
       where
-        by : (ps : List (ℕ × List FieldValue)) → Searched (BreachAt p.tables m) ps None → AllMeet (λ shape i. Meets p.tables shape (segment_at m i).at) ps
+        by : (ps : List (ℕ × List FieldValue)) → Searched (BreachAt p m) ps None → AllMeet (λ shape i. Meets p shape (segment_at m i).at) ps
         by [] h = tt
         by (x ∷ ps) h = (h.0, by ps h.1)
 
-    pub tree_message : AllMeet (λ shape i. Meets p.tables shape (segment_at m i).at) (assigned t p.nodes) → Conforms p m
+    pub tree_message : AllMeet (λ shape i. Meets p shape (segment_at m i).at) (assigned t p.nodes) → Conforms p m
     tree_message h =
-        subst (Seq (λ (s : SegmentValue). s.name) (λ shape (s : SegmentValue). Meets p.tables shape s.at) p.nodes) (of_numbers p.nodes m)
-        (seq_forth (segment_at m) (λ (s : SegmentValue). s.name) (λ shape (s : SegmentValue). Meets p.tables shape s.at) p.nodes (numbers p.nodes m)
-        (tree_conforms (named m) (λ shape i. Meets p.tables shape (segment_at m i).at) t p.nodes (numbers p.nodes m) is h))
+        subst (Seq (λ (s : SegmentValue). s.name) (λ shape (s : SegmentValue). Meets p shape s.at) p.nodes) (of_numbers p.nodes m)
+        (seq_forth (segment_at m) (λ (s : SegmentValue). s.name) (λ shape (s : SegmentValue). Meets p shape s.at) p.nodes (numbers p.nodes m)
+        (tree_conforms (named m) (λ shape i. Meets p shape (segment_at m i).at) t p.nodes (numbers p.nodes m) is h))
 
   -- what conforms has a tree whose segments meet their shapes
-  pub message_tree : Conforms p m → MeetingTree (named m) (λ shape i. Meets p.tables shape (segment_at m i).at) p.nodes (numbers p.nodes m)
+  pub message_tree : Conforms p m → MeetingTree (named m) (λ shape i. Meets p shape (segment_at m i).at) p.nodes (numbers p.nodes m)
   message_tree h =
-      meeting_tree (named m) (λ shape i. Meets p.tables shape (segment_at m i).at) p.nodes (numbers p.nodes m)
-      (seq_back (segment_at m) (λ (s : SegmentValue). s.name) (λ shape (s : SegmentValue). Meets p.tables shape s.at) p.nodes (numbers p.nodes m)
-      (subst (Seq (λ (s : SegmentValue). s.name) (λ shape (s : SegmentValue). Meets p.tables shape s.at) p.nodes) (sym (of_numbers p.nodes m)) h))
+      meeting_tree (named m) (λ shape i. Meets p shape (segment_at m i).at) p.nodes (numbers p.nodes m)
+      (seq_back (segment_at m) (λ (s : SegmentValue). s.name) (λ shape (s : SegmentValue). Meets p shape s.at) p.nodes (numbers p.nodes m)
+      (subst (Seq (λ (s : SegmentValue). s.name) (λ shape (s : SegmentValue). Meets p shape s.at) p.nodes) (sym (of_numbers p.nodes m)) h))
 
   meet_at : (B : List FieldValue → ℕ → Type 0) (ps : List (ℕ × List FieldValue)) (i : ℕ) (shape : List FieldValue) → AllMeet B ps → Assigns ps i shape → B shape i
   meet_at B [] i shape a h = absurd h
   meet_at B (x ∷ ps) i shape a (inl e) = subst (λ (y : ℕ × List FieldValue). B y.1 y.0) e a.0
   meet_at B (x ∷ ps) i shape a (inr h) = meet_at B ps i shape a.1 h
 
-  pub message_decided : (t : Tree) → IsTreeOf p m t → Conforms p m → AllMeet (λ shape i. Meets p.tables shape (segment_at m i).at) (assigned t p.nodes)
+  pub message_decided : (t : Tree) → IsTreeOf p m t → Conforms p m → AllMeet (λ shape i. Meets p shape (segment_at m i).at) (assigned t p.nodes)
   message_decided t is h =
       let c = message_tree h in
-      subst (λ u. AllMeet (λ shape i. Meets p.tables shape (segment_at m i).at) (assigned u p.nodes)) (one_tree (named m) p.nodes NoName wf c.tree t (numbers p.nodes m) c.is is) c.met
+      subst (λ u. AllMeet (λ shape i. Meets p shape (segment_at m i).at) (assigned u p.nodes)) (one_tree (named m) p.nodes NoName wf c.tree t (numbers p.nodes m) c.is is) c.met
 
   -- a message that conforms breaks nothing
   pub breaks_nothing : Conforms p m → (i : ℕ) (name : Name) (spot : List ℕ) → Breaks p m i name spot → ⊥
@@ -236,5 +236,5 @@ module _ (p : ProfileValue) (m : List SegmentValue) (wf : Determined p.nodes NoN
       stop (begins_whole p.nodes (suc i) m (fit_begins p.nodes m (tree_names_fit (message_tree h).tree (message_tree h).is)))
   breaks_nothing h i name spot (missing rest none short) = none (tree_names_fit (message_tree h).tree (message_tree h).is)
   breaks_nothing h i name spot (in_segment t shape s is a there b) =
-      meet_at (λ shape i. Meets p.tables shape (segment_at m i).at) (assigned t p.nodes) i shape (message_decided t is h) a spot
-      (subst (λ (x : SegmentValue). SegmentBreach p.tables shape x.at spot) (sym (segment_is m i s there)) b)
+      meet_at (λ shape i. Meets p shape (segment_at m i).at) (assigned t p.nodes) i shape (message_decided t is h) a spot
+      (subst (λ (x : SegmentValue). SegmentBreach p shape x.at spot) (sym (segment_is m i s there)) b)

@@ -6,7 +6,7 @@ use Rattle.gw_er7.specs.Message.{SegmentValue}
 use Rattle.gw_profile.specs.declared.node.Node.{Node, Seg, Group, Group'}
 use Rattle.gw_profile.specs.declared.node.SegNode as declared_segment
 use Rattle.gw_profile.specs.declared.node.GroupNode as declared_group
-use Rattle.gw_profile.specs.Shapes.{Forest, nothing, group, FieldValue, TableValue}
+use Rattle.gw_profile.specs.Shapes.{Forest, nothing, group, FieldValue, ProfileValue}
 use Rattle.gw_profile.specs.Seen.{field, forest, node_forest, row_forest, segment_value}
 use Rattle.gw_validate.specs.declared.occurrences.Occurrences.{Occurrences, Segments, Groups, Groups'}
 use Rattle.gw_validate.specs.declared.occurrences.Found.{Found}
@@ -40,20 +40,20 @@ any_default (x ∷ xs) (suc i) d e lt = any_default xs i d e (omega arith)
 
 -- ---- segments
 
-module _ (tables : List TableValue) (m : List SegmentValue) (shape : List FieldValue) where
+module _ (profile : ProfileValue) (m : List SegmentValue) (shape : List FieldValue) where
   abbrev Pairs : List ℕ → List (ℕ × List FieldValue)
   Pairs ns = map (λ i. (i, shape)) ns
 
-  at_number : (n : ℕ) (s : SegmentValue) → slice_get m n ≡ Some s → (o : Option (List ℕ)) → Least (SegmentBreach tables shape s.at) o → Least (BreachAt tables m shape n) o
-  at_number n s here o l = subst (λ (x : SegmentValue). Least (SegmentBreach tables shape x.at) o) (sym (segment_is m n s here)) l
+  at_number : (n : ℕ) (s : SegmentValue) → slice_get m n ≡ Some s → (o : Option (List ℕ)) → Least (SegmentBreach profile shape s.at) o → Least (BreachAt profile m shape n) o
+  at_number n s here o l = subst (λ (x : SegmentValue). Least (SegmentBreach profile shape x.at) o) (sym (segment_is m n s here)) l
 
-  pub segments_some : (ns : List ℕ) (i n : ℕ) (s : SegmentValue) (spot : List ℕ) → i < length ns → n ≡ get_or ns i n → slice_get m n ≡ Some s → Least (SegmentBreach tables shape s.at) (Some spot) → ((r : Option (ℕ × List ℕ)) → Searched (BreachAt tables m) (Pairs (drop i ns)) r → Searched (BreachAt tables m) (Pairs ns) r) → Searched (BreachAt tables m) (Pairs ns) (Some (n, spot))
+  pub segments_some : (ns : List ℕ) (i n : ℕ) (s : SegmentValue) (spot : List ℕ) → i < length ns → n ≡ get_or ns i n → slice_get m n ≡ Some s → Least (SegmentBreach profile shape s.at) (Some spot) → ((r : Option (ℕ × List ℕ)) → Searched (BreachAt profile m) (Pairs (drop i ns)) r → Searched (BreachAt profile m) (Pairs ns) r) → Searched (BreachAt profile m) (Pairs ns) (Some (n, spot))
   segments_some ns i n s spot lt at here l on =
-      on (Some (n, spot)) (subst (λ w. Searched (BreachAt tables m) (Pairs w) (Some (n, spot))) (sym (cons_at ns i n lt at)) (inl (refl, at_number n s here (Some spot) l)))
+      on (Some (n, spot)) (subst (λ w. Searched (BreachAt profile m) (Pairs w) (Some (n, spot))) (sym (cons_at ns i n lt at)) (inl (refl, at_number n s here (Some spot) l)))
 
-  pub segments_none : (ns : List ℕ) (i n : ℕ) (s : SegmentValue) → i < length ns → n ≡ get_or ns i n → slice_get m n ≡ Some s → Least (SegmentBreach tables shape s.at) None → ((r : Option (ℕ × List ℕ)) → Searched (BreachAt tables m) (Pairs (drop i ns)) r → Searched (BreachAt tables m) (Pairs ns) r) → (r : Option (ℕ × List ℕ)) → Searched (BreachAt tables m) (Pairs (drop (i + 1) ns)) r → Searched (BreachAt tables m) (Pairs ns) r
+  pub segments_none : (ns : List ℕ) (i n : ℕ) (s : SegmentValue) → i < length ns → n ≡ get_or ns i n → slice_get m n ≡ Some s → Least (SegmentBreach profile shape s.at) None → ((r : Option (ℕ × List ℕ)) → Searched (BreachAt profile m) (Pairs (drop i ns)) r → Searched (BreachAt profile m) (Pairs ns) r) → (r : Option (ℕ × List ℕ)) → Searched (BreachAt profile m) (Pairs (drop (i + 1) ns)) r → Searched (BreachAt profile m) (Pairs ns) r
   segments_none ns i n s lt at here l on r h =
-      on r (subst (λ w. Searched (BreachAt tables m) (Pairs w) r) (sym (cons_at ns i n lt at)) (searched_none (BreachAt tables m) (Pairs (n ∷ [])) (Pairs (drop (i + 1) ns)) r (at_number n s here None l, tt) h))
+      on r (subst (λ w. Searched (BreachAt profile m) (Pairs w) r) (sym (cons_at ns i n lt at)) (searched_none (BreachAt profile m) (Pairs (n ∷ [])) (Pairs (drop (i + 1) ns)) r (at_number n s here None l, tt) h))
 
 pub within_at : (k : ℕ) (ns : List ℕ) (i n : ℕ) → i < length ns → n ≡ get_or ns i n → AllByRecursion (λ j. j < k) (drop i ns) → (n < k) × AllByRecursion (λ j. j < k) (drop (i + 1) ns)
 within_at k ns i n lt at a =

@@ -4,7 +4,8 @@ use Rattle.gw_er7.specs.Message.{Texts, text_of}
 use Rattle.gw_er7.specs.Presence.{CompAt, RepAt, FieldAt, IsLast}
 use Rattle.gw_profile.specs.declared.shape.Usage.{Usage}
 use Rattle.gw_profile.specs.declared.shape.Usage.TheVariants.{R, X}
-use Rattle.gw_profile.specs.Shapes.{SubValue, CompValue, FieldValue, TableValue}
+use Rattle.gw_profile.specs.Shapes.{SubValue, CompValue, FieldValue, TableValue, ProfileValue}
+use Rattle.gw_profile.specs.Lengths.{Count, measure, len_count}
 use Rattle.gw_profile.specs.Fault.{is_among}
 use Rattle.gw_profile.specs.Value.{table_of}
 
@@ -21,10 +22,10 @@ abbrev pub Counted : (ℕ → Type 0) → ℕ → ℕ → Type 0
 Counted P zero k = k ≡ 0
 Counted P (suc n) k = (P (suc n) × (j : ℕ) × (k ≡ suc j) × Counted P n j) ⊎ ((P (suc n) → ⊥) × Counted P n k)
 
--- more octets than the length allows
-abbrev pub is_long : Option ℕ → List ℕ → Bool
-is_long None text = false
-is_long (Some most) text = nat_lt most (length text)
+-- longer than the length allows
+abbrev pub is_long : Count → Option ℕ → List ℕ → Bool
+is_long count None text = false
+is_long count (Some most) text = nat_lt most (measure count text)
 
 abbrev pub lacks : Option (List (List ℕ)) → List ℕ → Bool
 lacks None text = false
@@ -42,11 +43,11 @@ is_null text = bytes_eq text (34 ∷ 34 ∷ [])
 -- A spot is what is still to be said of field, repetition, component and subcomponent, and the number of the kind.
 
 -- of a subcomponent: required and absent, forbidden and present, too long, not in its table
-pub data SubBreach (tables : List TableValue) (shape : SubValue) (text : List ℕ) : List ℕ → Type 0 where
-  sub_absent : is_required shape.usage ≡ true → length text ≡ 0 → SubBreach tables shape text (3 ∷ [])
-  sub_forbidden : is_forbidden shape.usage ≡ true → 0 < length text → SubBreach tables shape text (4 ∷ [])
-  too_long : 0 < length text → is_null text ≡ false → is_long shape.len text ≡ true → SubBreach tables shape text (6 ∷ [])
-  not_listed : 0 < length text → is_null text ≡ false → is_unlisted tables shape.table text ≡ true → SubBreach tables shape text (7 ∷ [])
+pub data SubBreach (profile : ProfileValue) (shape : SubValue) (text : List ℕ) : List ℕ → Type 0 where
+  sub_absent : is_required shape.usage ≡ true → length text ≡ 0 → SubBreach profile shape text (3 ∷ [])
+  sub_forbidden : is_forbidden shape.usage ≡ true → 0 < length text → SubBreach profile shape text (4 ∷ [])
+  too_long : 0 < length text → is_null text ≡ false → is_long (len_count profile) shape.len text ≡ true → SubBreach profile shape text (6 ∷ [])
+  not_listed : 0 < length text → is_null text ≡ false → is_unlisted profile.tables shape.table text ≡ true → SubBreach profile shape text (7 ∷ [])
 
 -- a breach of one of the shapes, at its number
 pub data InAny {A : Type 0} (number : A → ℕ) (B : A → List ℕ → Type 0) : List A → List ℕ → Type 0 where
@@ -54,32 +55,32 @@ pub data InAny {A : Type 0} (number : A → ℕ) (B : A → List ℕ → Type 0)
   in_later : {x : A} {xs : List A} {spot : List ℕ} → InAny number B xs spot → InAny number B (x ∷ xs) spot
 
 -- of a component: required and absent, forbidden and present; where it is present, of a subcomponent
-pub data CompBreach (tables : List TableValue) (m : Texts) (f r : ℕ) (shape : CompValue) : List ℕ → Type 0 where
-  comp_absent : is_required shape.usage ≡ true → (CompAt m f r shape.number → ⊥) → CompBreach tables m f r shape (0 ∷ 3 ∷ [])
-  comp_forbidden : is_forbidden shape.usage ≡ true → CompAt m f r shape.number → CompBreach tables m f r shape (0 ∷ 4 ∷ [])
-  in_sub : {spot : List ℕ} → CompAt m f r shape.number → InAny (λ s. s.number) (λ s. SubBreach tables s (text_of m f r shape.number s.number)) shape.subs spot → CompBreach tables m f r shape spot
+pub data CompBreach (profile : ProfileValue) (m : Texts) (f r : ℕ) (shape : CompValue) : List ℕ → Type 0 where
+  comp_absent : is_required shape.usage ≡ true → (CompAt m f r shape.number → ⊥) → CompBreach profile m f r shape (0 ∷ 3 ∷ [])
+  comp_forbidden : is_forbidden shape.usage ≡ true → CompAt m f r shape.number → CompBreach profile m f r shape (0 ∷ 4 ∷ [])
+  in_sub : {spot : List ℕ} → CompAt m f r shape.number → InAny (λ s. s.number) (λ s. SubBreach profile s (text_of m f r shape.number s.number)) shape.subs spot → CompBreach profile m f r shape spot
 
 -- of a repetition that is present: exactly max are present before it; of a component
-pub data RepBreach (tables : List TableValue) (m : Texts) (shape : FieldValue) (r : ℕ) : List ℕ → Type 0 where
-  one_too_many : {most : ℕ} → is_forbidden shape.usage ≡ false → shape.card.max ≡ Some most → Counted (RepAt m shape.number) (r - 1) most → RepBreach tables m shape r (0 ∷ 0 ∷ 5 ∷ [])
-  in_comp : {spot : List ℕ} → InAny (λ c. c.number) (CompBreach tables m shape.number r) shape.comps spot → RepBreach tables m shape r spot
+pub data RepBreach (profile : ProfileValue) (m : Texts) (shape : FieldValue) (r : ℕ) : List ℕ → Type 0 where
+  one_too_many : {most : ℕ} → is_forbidden shape.usage ≡ false → shape.card.max ≡ Some most → Counted (RepAt m shape.number) (r - 1) most → RepBreach profile m shape r (0 ∷ 0 ∷ 5 ∷ [])
+  in_comp : {spot : List ℕ} → InAny (λ c. c.number) (CompBreach profile m shape.number r) shape.comps spot → RepBreach profile m shape r spot
 
-pub data RepsBreach (tables : List TableValue) (m : Texts) (shape : FieldValue) : List ℕ → Type 0 where
-  in_rep : {r : ℕ} {spot : List ℕ} → RepAt m shape.number r → RepBreach tables m shape r spot → RepsBreach tables m shape (r ∷ spot)
+pub data RepsBreach (profile : ProfileValue) (m : Texts) (shape : FieldValue) : List ℕ → Type 0 where
+  in_rep : {r : ℕ} {spot : List ℕ} → RepAt m shape.number r → RepBreach profile m shape r spot → RepsBreach profile m shape (r ∷ spot)
 
 -- of a field: fewer repetitions than min are present, forbidden and present, of a repetition
-pub data FieldBreach (tables : List TableValue) (m : Texts) (shape : FieldValue) : List ℕ → Type 0 where
-  too_few : {last count : ℕ} → is_forbidden shape.usage ≡ false → IsLast (RepAt m shape.number) last → Counted (RepAt m shape.number) last count → count < shape.card.min → FieldBreach tables m shape (0 ∷ 0 ∷ 0 ∷ 3 ∷ [])
-  field_forbidden : is_forbidden shape.usage ≡ true → FieldAt m shape.number → FieldBreach tables m shape (0 ∷ 0 ∷ 0 ∷ 4 ∷ [])
-  in_reps : {spot : List ℕ} → RepsBreach tables m shape spot → FieldBreach tables m shape spot
+pub data FieldBreach (profile : ProfileValue) (m : Texts) (shape : FieldValue) : List ℕ → Type 0 where
+  too_few : {last count : ℕ} → is_forbidden shape.usage ≡ false → IsLast (RepAt m shape.number) last → Counted (RepAt m shape.number) last count → count < shape.card.min → FieldBreach profile m shape (0 ∷ 0 ∷ 0 ∷ 3 ∷ [])
+  field_forbidden : is_forbidden shape.usage ≡ true → FieldAt m shape.number → FieldBreach profile m shape (0 ∷ 0 ∷ 0 ∷ 4 ∷ [])
+  in_reps : {spot : List ℕ} → RepsBreach profile m shape spot → FieldBreach profile m shape spot
 
 -- of a segment: of one of its listed fields
-abbrev pub SegmentBreach : List TableValue → List FieldValue → Texts → List ℕ → Type 0
-SegmentBreach tables fields m spot = InAny (λ f. f.number) (FieldBreach tables m) fields spot
+abbrev pub SegmentBreach : ProfileValue → List FieldValue → Texts → List ℕ → Type 0
+SegmentBreach profile fields m spot = InAny (λ f. f.number) (FieldBreach profile m) fields spot
 
 -- the segment meets the shape
-abbrev pub Meets : List TableValue → List FieldValue → Texts → Type 0
-Meets tables fields m = (spot : List ℕ) → SegmentBreach tables fields m spot → ⊥
+abbrev pub Meets : ProfileValue → List FieldValue → Texts → Type 0
+Meets profile fields m = (spot : List ℕ) → SegmentBreach profile fields m spot → ⊥
 
 -- spots are in the order of their numbers, the first that differs deciding
 abbrev pub NotAfter : List ℕ → List ℕ → Type 0

@@ -28,7 +28,7 @@ pub data Breaks (p : ProfileValue) (m : List SegmentValue) : ℕ → Name → Li
   -- the message ends and its names begin a list that fits but are none: the first segment of the shortest completion, behind the last
   missing : {name : Name} (rest : List Name) → (NamesFit p.nodes m → ⊥) → IsShortest p.nodes (names p.nodes m) (name ∷ rest) → Breaks p m (length m) name (0 ∷ 0 ∷ 0 ∷ 0 ∷ 2 ∷ [])
   -- the names fit, and a segment breaks the shape of its node
-  in_segment : (t : Tree) (shape : List FieldValue) {i : ℕ} (s : SegmentValue) {spot : List ℕ} → IsTreeOf p m t → Assigns (assigned t p.nodes) i shape → slice_get m i ≡ Some s → SegmentBreach p.tables shape s.at spot → Breaks p m i s.name spot
+  in_segment : (t : Tree) (shape : List FieldValue) {i : ℕ} (s : SegmentValue) {spot : List ℕ} → IsTreeOf p m t → Assigns (assigned t p.nodes) i shape → slice_get m i ≡ Some s → SegmentBreach p shape s.at spot → Breaks p m i s.name spot
 
 -- how many segments of that name stand before the one of this number, and one more
 abbrev pub sequence : List SegmentValue → ℕ → Name → ℕ

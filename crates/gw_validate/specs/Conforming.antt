@@ -45,7 +45,7 @@ Seq named meets (group g nodes rest) list =
 
 -- the segments that aren't passed over can be cut so
 abbrev pub Conforms : ProfileValue → List SegmentValue → Type 0
-Conforms p m = Seq (λ s. s.name) (λ shape s. Meets p.tables shape s.at) p.nodes (listed p.nodes m)
+Conforms p m = Seq (λ s. s.name) (λ shape s. Meets p shape s.at) p.nodes (listed p.nodes m)
 
 -- ---- the same by the numbers of the segments
 

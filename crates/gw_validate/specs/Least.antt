@@ -3,7 +3,7 @@ use Rattle.std.specs.Prelude.{◌≡◌, ℕ, ◌<◌, ◌≤◌, ◌⊎◌, Boo
 use Rattle.std.specs.List.{AllByRecursion}
 use Rattle.gw_er7.specs.Message.{Texts, text_of, SegmentValue}
 use Rattle.gw_er7.specs.Presence.{RepAt}
-use Rattle.gw_profile.specs.Shapes.{SubValue, CompValue, FieldValue, TableValue, Forest, nothing, segment, group}
+use Rattle.gw_profile.specs.Shapes.{SubValue, CompValue, FieldValue, ProfileValue, Forest, nothing, segment, group}
 use Rattle.gw_validate.specs.declared.fields.Spot.{Spot}
 use Rattle.gw_validate.specs.Kinds.{number_of}
 use Rattle.gw_validate.specs.Breaches.{NotAfter, SubBreach, InAny, CompBreach, RepBreach, SegmentBreach, Counted}
@@ -47,11 +47,11 @@ abbrev pub is_full : Option ℕ → ℕ → Bool
 is_full None count = false
 is_full (Some most) count = nat_eq most count
 
-abbrev pub SubsBreach : List TableValue → Texts → ℕ → ℕ → ℕ → List SubValue → List ℕ → Type 0
-SubsBreach tables m f r c subs spot = InAny (λ s. s.number) (λ s. SubBreach tables s (text_of m f r c s.number)) subs spot
+abbrev pub SubsBreach : ProfileValue → Texts → ℕ → ℕ → ℕ → List SubValue → List ℕ → Type 0
+SubsBreach profile m f r c subs spot = InAny (λ s. s.number) (λ s. SubBreach profile s (text_of m f r c s.number)) subs spot
 
-abbrev pub CompsBreach : List TableValue → Texts → ℕ → ℕ → List CompValue → List ℕ → Type 0
-CompsBreach tables m f r comps spot = InAny (λ c. c.number) (CompBreach tables m f r) comps spot
+abbrev pub CompsBreach : ProfileValue → Texts → ℕ → ℕ → List CompValue → List ℕ → Type 0
+CompsBreach profile m f r comps spot = InAny (λ c. c.number) (CompBreach profile m f r) comps spot
 
 -- no breach at the first of the shapes
 abbrev pub NoneYet : {A : Type 0} → (A → List ℕ → Type 0) → List A → Type 0
@@ -59,14 +59,14 @@ NoneYet B [] = Unit {0}
 NoneYet B (x ∷ xs) = ((q : List ℕ) → B x q → ⊥) × NoneYet B xs
 
 -- no breach in a repetition up to this number
-abbrev pub NoneUpTo : List TableValue → Texts → FieldValue → ℕ → Type 0
-NoneUpTo tables m shape n = (r : ℕ) (q : List ℕ) → r ≤ n → RepAt m shape.number r → RepBreach tables m shape r q → ⊥
+abbrev pub NoneUpTo : ProfileValue → Texts → FieldValue → ℕ → Type 0
+NoneUpTo profile m shape n = (r : ℕ) (q : List ℕ) → r ≤ n → RepAt m shape.number r → RepBreach profile m shape r q → ⊥
 
 -- where a walk over the repetitions stands
-pub record RepsGoing (tables : List TableValue) (m : Texts) (shape : FieldValue) (n count : ℕ) : Type 0 where
+pub record RepsGoing (profile : ProfileValue) (m : Texts) (shape : FieldValue) (n count : ℕ) : Type 0 where
   pub counted : Counted (RepAt m shape.number) n count
   pub small : count ≤ n
-  pub none : NoneUpTo tables m shape n
+  pub none : NoneUpTo profile m shape n
 
 -- the first of the pairs that has a breach, with its least one, or none where no pair has any
 abbrev pub Searched : (List FieldValue → ℕ → List ℕ → Type 0) → List (ℕ × List FieldValue) → Option (ℕ × List ℕ) → Type 0
@@ -83,8 +83,8 @@ EachRises (segment s rest) = ShapeRises s.fields × EachRises rest
 EachRises (group g nodes rest) = EachRises nodes × EachRises rest
 
 -- the breaches of a message's segments, by their numbers
-abbrev pub BreachAt : List TableValue → List SegmentValue → List FieldValue → ℕ → List ℕ → Type 0
-BreachAt tables m shape i spot = SegmentBreach tables shape (segment_at m i).at spot
+abbrev pub BreachAt : ProfileValue → List SegmentValue → List FieldValue → ℕ → List ℕ → Type 0
+BreachAt profile m shape i spot = SegmentBreach profile shape (segment_at m i).at spot
 
 -- what a search found: the number of a segment, and a spot in it
 abbrev pub found_at : ℕ × Spot → ℕ × List ℕ

@@ -2,7 +2,8 @@
 ghost use Rattle.std.specs.Prelude.{◌≡◌, ℕ, ◌<◌, ◌∷◌, [], option_map, IfOk, IfErr, false, true, length, ◌-◌, ◌+◌, ◌≤◌, Some, None, if◌then◌else◌, map};
 ghost use Rattle.std.specs.List.{AllByRecursion};
 ghost use Rattle.gw_er7.specs.Presence.{RepAt, CompAt, IsLast};
-ghost use Rattle.gw_profile.specs.Seen.{sub, comp as comp_value, field as field_value, items_of};
+ghost use Rattle.gw_profile.specs.Lengths.{octets};
+ghost use Rattle.gw_profile.specs.Seen.{sub, comp as comp_value, field as field_value, items_of, profile_value};
 ghost use Rattle.gw_validate.specs.declared.breach.Kind.TheVariants.{MissingValue};
 ghost use Rattle.gw_validate.specs.Kinds.{number_of};
 ghost use Rattle.gw_validate.specs.Breaches.{is_required, is_forbidden, is_long, is_unlisted, is_null, SubBreach, CompBreach, RepBreach, RepsBreach, FieldBreach, SegmentBreach, Counted};
@@ -60,7 +61,7 @@ fn is_null(text: &[u8]) -> bool
 }
 
 fn is_long(len: Option<u32>, text: &[u8]) -> bool
-    ensures { result ≡ is_long len text.now }
+    ensures { result ≡ is_long octets len text.now }
 {
     match len {
         None => false,
@@ -82,7 +83,7 @@ fn is_unlisted(profile: &Profile, table: &Option<Vec<u8>>, text: &[u8]) -> bool
 
 // The least kind of breach at a leaf.
 fn sub_breach(profile: &Profile, shape: &SubShape, text: &[u8]) -> Option<Kind>
-    ensures { Least (SubBreach profile.now.tables (sub shape.now) text.now) (option_map (λ kind. number_of kind ∷ []) result) }
+    ensures { Least (SubBreach (profile_value profile.now) (sub shape.now) text.now) (option_map (λ kind. number_of kind ∷ []) result) }
 {
     if text.len() == 0 {
         return absent_sub(shape);
@@ -124,7 +125,7 @@ fn subs_breach(
     subs: &[SubShape],
 ) -> Option<Spot>
     requires { Rises (λ s. s.number) 0 (map sub subs.now) }
-    ensures { Least (SubsBreach profile.now.tables segment.now.at field rep comp (map sub subs.now)) (option_map comp_key result) }
+    ensures { Least (SubsBreach (profile_value profile.now) segment.now.at field rep comp (map sub subs.now)) (option_map comp_key result) }
 {
     for (i, sub) in subs.iter().enumerate() {
         let place = Place {
@@ -183,7 +184,7 @@ fn comp_breach(
     shape: &CompShape,
 ) -> Option<Spot>
     requires { CompRises (comp_value shape.now) }
-    ensures { Least (CompBreach profile.now.tables segment.now.at field rep (comp_value shape.now)) (option_map comp_key result) }
+    ensures { Least (CompBreach (profile_value profile.now) segment.now.at field rep (comp_value shape.now)) (option_map comp_key result) }
 {
     if !has_comp(segment, near, field, rep, shape.number as usize) {
         return absent_comp(shape);
@@ -213,7 +214,7 @@ fn comps_breach(
 ) -> Option<Spot>
     requires rises { Rises (λ c. c.number) 0 (map comp_value comps.now) }
     requires each { AllByRecursion CompRises (map comp_value comps.now) }
-    ensures { Least (CompsBreach profile.now.tables segment.now.at field rep (map comp_value comps.now)) (option_map rep_key result) }
+    ensures { Least (CompsBreach (profile_value profile.now) segment.now.at field rep (map comp_value comps.now)) (option_map rep_key result) }
 {
     for (i, comp) in comps.iter().enumerate() {
         if let Some(found) = comp_breach(profile, segment, near, field, rep, comp) {
@@ -248,7 +249,7 @@ fn rep_breach(
     requires rises { FieldRises (field_value shape.now) }
     requires before { Counted (RepAt segment.now.at shape.now.number) (rep - 1) before }
     requires usage { is_forbidden shape.now.usage ≡ false }
-    ensures { Least (RepBreach profile.now.tables segment.now.at (field_value shape.now) rep) (option_map rep_key result) }
+    ensures { Least (RepBreach (profile_value profile.now) segment.now.at (field_value shape.now) rep) (option_map rep_key result) }
 {
     if is_full(shape.card.max, before) {
         return Some(of_kind(Kind::TooManyReps));
@@ -301,7 +302,7 @@ fn reps_breach(
     requires rises { FieldRises (field_value shape.now) }
     requires last { IsLast (RepAt segment.now.at shape.now.number) last }
     requires usage { is_forbidden shape.now.usage ≡ false }
-    ensures { Least (RepsBreach profile.now.tables segment.now.at (field_value shape.now)) (option_map field_key result) }
+    ensures { Least (RepsBreach (profile_value profile.now) segment.now.at (field_value shape.now)) (option_map field_key result) }
 {
     let mut before = 0;
     let mut found = Present { rep: 0, at: 0 };
@@ -348,7 +349,7 @@ fn comes_short(segment: &Segment<'_>, shape: &FieldShape, last: usize) -> bool
 // The least breach of a field.
 fn field_breach(profile: &Profile, segment: &Segment<'_>, shape: &FieldShape) -> Option<Spot>
     requires { FieldRises (field_value shape.now) }
-    ensures { Least (FieldBreach profile.now.tables segment.now.at (field_value shape.now)) (option_map field_key result) }
+    ensures { Least (FieldBreach (profile_value profile.now) segment.now.at (field_value shape.now)) (option_map field_key result) }
 {
     let last = segment.reps(shape.number as usize);
     if is_forbidden(shape.usage) {
@@ -370,7 +371,7 @@ pub(crate) fn least_breach(
     fields: &[FieldShape],
 ) -> Option<Spot>
     requires { ShapeRises (map field_value fields.now) }
-    ensures { Least (SegmentBreach profile.now.tables (map field_value fields.now) segment.now.at) (option_map segment_key result) }
+    ensures { Least (SegmentBreach (profile_value profile.now) (map field_value fields.now) segment.now.at) (option_map segment_key result) }
 {
     for (i, field) in fields.iter().enumerate() {
         if let Some(found) = field_breach(profile, segment, field) {

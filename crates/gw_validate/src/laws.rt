@@ -33,12 +33,12 @@ pub fn conforming_breaks_nothing()
 
 /// A message conforms exactly where it has a tree in which each segment meets the shape of its node.
 pub fn conforms_by_tree()
-    ensures { (p : ProfileValue) (m : List SegmentValue) → WellFormed p → (Conforms p m ↔ MeetingTree (named m) (λ shape i. Meets p.tables shape (segment_at m i).at) p.nodes (numbers p.nodes m)) }
+    ensures { (p : ProfileValue) (m : List SegmentValue) → WellFormed p → (Conforms p m ↔ MeetingTree (named m) (λ shape i. Meets p shape (segment_at m i).at) p.nodes (numbers p.nodes m)) }
 {}
 
 /// The one tree decides whether a message conforms.
 pub fn tree_decides()
-    ensures { (p : ProfileValue) (m : List SegmentValue) (t : Tree) → WellFormed p → IsTreeOf p m t → (Conforms p m ↔ AllMeet (λ shape i. Meets p.tables shape (segment_at m i).at) (assigned t p.nodes)) }
+    ensures { (p : ProfileValue) (m : List SegmentValue) (t : Tree) → WellFormed p → IsTreeOf p m t → (Conforms p m ↔ AllMeet (λ shape i. Meets p shape (segment_at m i).at) (assigned t p.nodes)) }
 {}
 
 /// The names of a message that has a tree fit.

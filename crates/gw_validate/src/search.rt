@@ -2,7 +2,7 @@
 ghost use Rattle.std.specs.Prelude.{◌≡◌, ◌<◌, length, map, option_map};
 ghost use Rattle.std.specs.List.{AllByRecursion};
 ghost use Rattle.gw_profile.specs.Shapes.{nothing};
-ghost use Rattle.gw_profile.specs.Seen.{field, forest, node_forest};
+ghost use Rattle.gw_profile.specs.Seen.{field, forest, node_forest, profile_value};
 ghost use Rattle.gw_validate.specs.Trees.{leaf, flatten, flatten_all, assigned, assigned_all};
 ghost use Rattle.gw_validate.specs.Occurring.{tree_of, trees_of, occurrences_tree};
 ghost use Rattle.gw_validate.specs.Least.{ShapeRises, EachRises, Searched, BreachAt, found_at};
@@ -21,7 +21,7 @@ fn search_segments(
 ) -> Option<(usize, Spot)>
     requires rises { ShapeRises (map field fields.now) }
     requires within { AllByRecursion (λ i. i < length message.now) numbers.now }
-    ensures { Searched (BreachAt profile.now.tables message.now) (map (λ i. (i, map field fields.now)) numbers.now) (option_map found_at result) }
+    ensures { Searched (BreachAt (profile_value profile.now) message.now) (map (λ i. (i, map field fields.now)) numbers.now) (option_map found_at result) }
 {
     for (i, number) in numbers.iter().enumerate() {
         let segment = message.segment(*number);
@@ -41,7 +41,7 @@ fn search_groups(
 ) -> Option<(usize, Spot)>
     requires rises { EachRises (forest nodes.now) }
     requires within { AllByRecursion (λ i. i < length message.now) (flatten_all (trees_of groups.now)) }
-    ensures { Searched (BreachAt profile.now.tables message.now) (assigned_all (trees_of groups.now) (forest nodes.now)) (option_map found_at result) }
+    ensures { Searched (BreachAt (profile_value profile.now) message.now) (assigned_all (trees_of groups.now) (forest nodes.now)) (option_map found_at result) }
 {
     for (i, group) in groups.iter().enumerate() {
         if let Some(found) = search_nodes(profile, message, &group.each, nodes) {
@@ -60,7 +60,7 @@ fn search_node(
 ) -> Option<(usize, Spot)>
     requires rises { EachRises (node_forest node.now nothing) }
     requires within { AllByRecursion (λ i. i < length message.now) (flatten (occurrences_tree occurrences.now leaf)) }
-    ensures { Searched (BreachAt profile.now.tables message.now) (assigned (occurrences_tree occurrences.now leaf) (node_forest node.now nothing)) (option_map found_at result) }
+    ensures { Searched (BreachAt (profile_value profile.now) message.now) (assigned (occurrences_tree occurrences.now leaf) (node_forest node.now nothing)) (option_map found_at result) }
 {
     match node {
         Node::Seg(segment) => {
@@ -88,7 +88,7 @@ pub(crate) fn search_nodes(
 ) -> Option<(usize, Spot)>
     requires rises { EachRises (forest nodes.now) }
     requires within { AllByRecursion (λ i. i < length message.now) (flatten (tree_of each.now)) }
-    ensures { Searched (BreachAt profile.now.tables message.now) (assigned (tree_of each.now) (forest nodes.now)) (option_map found_at result) }
+    ensures { Searched (BreachAt (profile_value profile.now) message.now) (assigned (tree_of each.now) (forest nodes.now)) (option_map found_at result) }
 {
     for (i, node) in nodes.iter().enumerate() {
         let Some(occurrences) = each.get(i) else {

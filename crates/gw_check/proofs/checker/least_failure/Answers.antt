@@ -27,7 +27,7 @@ returns c =
           ∙ ap (λ l. noted None (level_failures (the_whole (forest c.nodes-whole.result.now) ∷ []) l 0 (forest c.nodes-nodes.result.now) is)) c.line.ensures
           ∙ ap₂ (λ s t. noted None (level_failures (the_whole s ∷ []) c.args.map.now.line 0 t is)) whole same)
           (c.in_ok-worst-2.ensures counted
-          ∙ ap₂ (λ s t. noted (failures c.in_ok-worst.worst) (items_failures from.tables to.tables (the_whole s ∷ []) t is)) whole same)
+          ∙ ap₂ (λ s t. noted (failures c.in_ok-worst.worst) (items_failures from to (the_whole s ∷ []) t is)) whole same)
           (c.in_ok-passed.ensures tables ∙ ap (some_passed_over (items_read ([] ∷ []) is) (map left_out c.args.drops.now) [] 0) whole)
           (c.note.ensures ∙ ap (λ l. noted (failures c.in_ok-worst-2.worst) (fails 9 l c.in_ok-passed.passed)) c.line-2.ensures);
     }

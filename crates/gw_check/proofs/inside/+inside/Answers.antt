@@ -1,5 +1,5 @@
 use Rattle.std.proofs.Common.{rules, ◌<◌, ◌≤◌, sym, ap, subst, ◌∙◌}
-use Rattle.gw_profile.specs.Seen.{forest}
+use Rattle.gw_profile.specs.Seen.{forest, profile_value}
 use Rattle.gw_check.specs.Seen.{scope}
 use Rattle.gw_check.specs.Checking.{CountedNodes, weight_one, weight_all}
 use Rattle.gw_check.proofs.Within.{counted_child, items_more, group_noted, flat_noted, lighter_group, lighter_flat, not_heavier, where_ok, level_same}
@@ -7,7 +7,7 @@ use Rattle.gw_check.proofs.inside.+inside.Goals as goal
 
 pub check_items-loop-i-preserved : goal.check_items-loop-i-preserved
 check_items-loop-i-preserved t c = λ counted.
-    items_more c.args.sides.map.now.tables c.args.sides.source.now.tables c.args.sides.target.now.tables (scope c.args.scope.now) (forest c.args.nodes.now) c.args.items.now c.loop-i.i c.index-items-i.result
+    items_more c.args.sides.map.now.tables (profile_value c.args.sides.source.now) (profile_value c.args.sides.target.now) (scope c.args.scope.now) (forest c.args.nodes.now) c.args.items.now c.loop-i.i c.index-items-i.result
     c.args.worst c.loop-i.worst c.in_ok-worst.worst c.loop-i-test.true c.index-items-i.is (c.in_ok-worst.ensures counted) (c.loop-i.invariant counted)
 
 pub check_item-check_items-requires : goal.check_item-check_items-requires
@@ -31,7 +31,7 @@ check_item-returns-in_ok-worst-in-Group t c =
     where_ok _ _ c.check_items.result
     (λ new inside counted.
     let below = subst CountedNodes (sym c.nodes_of_child-below.ensures) (counted_child (forest c.args.nodes.now) c.in-Group.group.child counted) in
-    group_noted c.args.sides.map.now.tables c.args.sides.source.now.tables c.args.sides.target.now.tables (scope c.args.scope.now) inner (forest c.args.nodes.now) (forest c.nodes_of_child-below.result.now) c.args.item.now c.in-Group.group c.deref-in-Group-3.result.now
+    group_noted c.args.sides.map.now.tables (profile_value c.args.sides.source.now) (profile_value c.args.sides.target.now) (scope c.args.scope.now) inner (forest c.args.nodes.now) (forest c.nodes_of_child-below.result.now) c.args.item.now c.in-Group.group c.deref-in-Group-3.result.now
     c.args.worst c.in_ok-worst-in-Group.worst new c.in-Group.is c.deref-in-Group-3.ensures.value (ap scope c.deref-in-Group-2.ensures.value ∙ c.in_ok-inner-in-Group.ensures) c.nodes_of_child-below.ensures
     (level_same c.deref.result.now c.deref-in-Group-2.result.now c.deref-in-Group.result.now c.deref-in-Group-3.result.now (c.deref.ensures.value ∙ sym c.deref-in-Group-2.ensures.value) (c.deref-in-Group.ensures.value ∙ sym c.deref-in-Group-3.ensures.value) c.in-Group.group.line (forest c.nodes_of_child-below.result.now) c.args.worst c.in_ok-worst-in-Group.worst (c.in_ok-worst-in-Group.ensures below)) (inside below))
     c.check_items.ensures
@@ -40,6 +40,6 @@ pub check_item-returns-in_ok-inner-in-Flat : goal.check_item-returns-in_ok-inner
 check_item-returns-in_ok-inner-in-Flat t c =
     where_ok _ _ c.check_items-in-Flat.result
     (λ new inside counted.
-    flat_noted c.args.sides.map.now.tables c.args.sides.source.now.tables c.args.sides.target.now.tables (scope c.args.scope.now) (scope c.deref-in-Flat.result.now) (forest c.args.nodes.now) c.args.item.now c.in-Flat.flat c.deref-in-Flat-2.result.now
+    flat_noted c.args.sides.map.now.tables (profile_value c.args.sides.source.now) (profile_value c.args.sides.target.now) (scope c.args.scope.now) (scope c.deref-in-Flat.result.now) (forest c.args.nodes.now) c.args.item.now c.in-Flat.flat c.deref-in-Flat-2.result.now
     c.args.worst new c.in-Flat.is c.deref-in-Flat-2.ensures.value (ap scope c.deref-in-Flat.ensures.value ∙ c.in_ok-inner-in-Flat.ensures) (inside counted))
     c.check_items-in-Flat.ensures

@@ -1,5 +1,5 @@
 use Rattle.std.proofs.Common.{◌≡◌, ◌+◌, ◌*◌, drop}
-use Rattle.gw_profile.specs.Seen.{forest}
+use Rattle.gw_profile.specs.Seen.{forest, profile_value}
 use Rattle.gw_check.specs.Levels.{items_failures}
 use Rattle.gw_check.specs.Noted.{noted}
 use Rattle.gw_check.specs.Checking.{CountedNodes, weight_one, weight_all}
@@ -14,5 +14,5 @@ decreases-check_items l = 2 * weight_all l.items.now + 1
 
 abbrev pub invariant-check_items-loop-i : goal.invariant-check_items-loop-i
 invariant-check_items-loop-i l =
-    CountedNodes (forest l.nodes) → noted (failures l.initial.worst) (items_failures l.sides.source.now.tables l.sides.target.now.tables (scope l.scope) (forest l.nodes) (all_items l.sides.map.now.tables l.items))
-    ≡ noted (failures l.worst) (items_failures l.sides.source.now.tables l.sides.target.now.tables (scope l.scope) (forest l.nodes) (all_items l.sides.map.now.tables (drop l.i l.items)))
+    CountedNodes (forest l.nodes) → noted (failures l.initial.worst) (items_failures (profile_value l.sides.source.now) (profile_value l.sides.target.now) (scope l.scope) (forest l.nodes) (all_items l.sides.map.now.tables l.items))
+    ≡ noted (failures l.worst) (items_failures (profile_value l.sides.source.now) (profile_value l.sides.target.now) (scope l.scope) (forest l.nodes) (all_items l.sides.map.now.tables (drop l.i l.items)))

@@ -1,8 +1,8 @@
-use Rattle.gw_profile.specs.Seen.{comp}
+use Rattle.gw_profile.specs.Seen.{comp, profile_value}
 use Rattle.std.proofs.Common.{take, map}
 use Rattle.gw_validate.specs.Least.{NoneYet}
 use Rattle.gw_validate.specs.Breaches.{CompBreach}
 use Rattle.gw_validate.proofs.fields.comps_breach.Given as goal
 
 abbrev pub invariant-loop-i : goal.invariant-loop-i
-invariant-loop-i l = NoneYet (CompBreach l.profile.tables l.segment.at l.field l.rep) (map comp (take l.i l.comps))
+invariant-loop-i l = NoneYet (CompBreach (profile_value l.profile) l.segment.at l.field l.rep) (map comp (take l.i l.comps))

@@ -1,8 +1,8 @@
-use Rattle.gw_profile.specs.Seen.{field}
+use Rattle.gw_profile.specs.Seen.{field, profile_value}
 use Rattle.std.proofs.Common.{take, map}
 use Rattle.gw_validate.specs.Least.{NoneYet}
 use Rattle.gw_validate.specs.Breaches.{FieldBreach}
 use Rattle.gw_validate.proofs.fields.least_breach.Given as goal
 
 abbrev pub invariant-loop-i : goal.invariant-loop-i
-invariant-loop-i l = NoneYet (FieldBreach l.profile.tables l.segment.at) (map field (take l.i l.fields))
+invariant-loop-i l = NoneYet (FieldBreach (profile_value l.profile) l.segment.at) (map field (take l.i l.fields))

@@ -1,4 +1,4 @@
-use Rattle.gw_profile.specs.Seen.{field}
+use Rattle.gw_profile.specs.Seen.{field, profile_value}
 use Rattle.std.proofs.Common.{sym, subst, Some}
 use Rattle.gw_validate.specs.declared.fields.Spot.{Spot}
 use Rattle.gw_validate.specs.Least.{Least, rep_key}
@@ -8,9 +8,9 @@ use Rattle.gw_validate.proofs.fields.rep_breach.Goals as goal
 
 pub returns-then-is_full : goal.returns-then-is_full
 returns-then-is_full c =
-    subst (λ (s : Spot). Least (RepBreach c.args.profile.now.tables c.args.segment.now.at (field c.args.shape.now) c.args.rep) (Some (rep_key s))) (sym c.of_kind.ensures)
-    (full_least c.args.profile.now.tables c.args.segment.now.at (field c.args.shape.now) c.args.rep c.args.before c.requires.usage c.requires.before c.requires.rises (sym c.if-is_full.ensures))
+    subst (λ (s : Spot). Least (RepBreach (profile_value c.args.profile.now) c.args.segment.now.at (field c.args.shape.now) c.args.rep) (Some (rep_key s))) (sym c.of_kind.ensures)
+    (full_least (profile_value c.args.profile.now) c.args.segment.now.at (field c.args.shape.now) c.args.rep c.args.before c.requires.usage c.requires.before c.requires.rises (sym c.if-is_full.ensures))
 
 pub returns : goal.returns
 returns c =
-    comps_rep_least c.args.profile.now.tables c.args.segment.now.at (field c.args.shape.now) c.args.rep c.args.before c.requires.usage c.requires.before _ (sym c.if-is_full.ensures) (rw c.deref.ensures.value at c.comps_breach.ensures)
+    comps_rep_least (profile_value c.args.profile.now) c.args.segment.now.at (field c.args.shape.now) c.args.rep c.args.before c.requires.usage c.requires.before _ (sym c.if-is_full.ensures) (rw c.deref.ensures.value at c.comps_breach.ensures)

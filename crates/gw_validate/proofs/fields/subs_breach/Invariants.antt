@@ -1,4 +1,4 @@
-use Rattle.gw_profile.specs.Seen.{sub}
+use Rattle.gw_profile.specs.Seen.{sub, profile_value}
 use Rattle.std.proofs.Common.{take, map}
 use Rattle.gw_er7.specs.Message.{text_of}
 use Rattle.gw_validate.specs.Least.{NoneYet}
@@ -6,4 +6,4 @@ use Rattle.gw_validate.specs.Breaches.{SubBreach}
 use Rattle.gw_validate.proofs.fields.subs_breach.Given as goal
 
 abbrev pub invariant-loop-i : goal.invariant-loop-i
-invariant-loop-i l = NoneYet (λ s. SubBreach l.profile.tables s (text_of l.segment.at l.field l.rep l.comp s.number)) (map sub (take l.i l.subs))
+invariant-loop-i l = NoneYet (λ s. SubBreach (profile_value l.profile) s (text_of l.segment.at l.field l.rep l.comp s.number)) (map sub (take l.i l.subs))

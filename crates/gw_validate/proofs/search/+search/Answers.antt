@@ -1,6 +1,6 @@
 use Rattle.std.proofs.Common.{rules, length, sym, subst, List, ◌<◌, ◌≤◌}
 use Rattle.std.specs.List.{AllByRecursion}
-use Rattle.gw_profile.specs.Seen.{forest}
+use Rattle.gw_profile.specs.Seen.{forest, profile_value}
 use Rattle.gw_validate.specs.declared.occurrences.Occurrences.{Occurrences}
 use Rattle.gw_validate.specs.Trees.{leaf, flatten}
 use Rattle.gw_validate.specs.Occurring.{tree_of, trees_of, occurrences_tree}
@@ -24,12 +24,12 @@ search_groups-search_nodes-requires t c =
 
 pub search_groups-returns-in-Some : goal.search_groups-returns-in-Some
 search_groups-returns-in-Some t c =
-    groups_some (length c.args.message.now) c.args.groups.now c.loop-i.i c.index-groups-i.result c.loop-i-test.true c.index-groups-i.is (BreachAt c.args.profile.now.tables c.args.message.now) (forest c.args.nodes.now) c.loop-i.invariant.on (found_at c.in-Some.found) (rw c.deref.ensures.value at c.in-Some.ensures)
+    groups_some (length c.args.message.now) c.args.groups.now c.loop-i.i c.index-groups-i.result c.loop-i-test.true c.index-groups-i.is (BreachAt (profile_value c.args.profile.now) c.args.message.now) (forest c.args.nodes.now) c.loop-i.invariant.on (found_at c.in-Some.found) (rw c.deref.ensures.value at c.in-Some.ensures)
 
 pub search_groups-loop-i-preserved : goal.search_groups-loop-i-preserved
 search_groups-loop-i-preserved t c = record {
   within = (groups_within (length c.args.message.now) c.args.groups.now c.loop-i.i c.index-groups-i.result c.loop-i-test.true c.index-groups-i.is c.loop-i.invariant.within).1;
-  on = groups_none (length c.args.message.now) c.args.groups.now c.loop-i.i c.index-groups-i.result c.loop-i-test.true c.index-groups-i.is (BreachAt c.args.profile.now.tables c.args.message.now) (forest c.args.nodes.now) c.loop-i.invariant.on (rw c.deref.ensures.value at c.in_default.ensures);
+  on = groups_none (length c.args.message.now) c.args.groups.now c.loop-i.i c.index-groups-i.result c.loop-i-test.true c.index-groups-i.is (BreachAt (profile_value c.args.profile.now) c.args.message.now) (forest c.args.nodes.now) c.loop-i.invariant.on (rw c.deref.ensures.value at c.in_default.ensures);
 }
 
 pub search_node-search_groups-requires : goal.search_node-search_groups-requires
@@ -45,7 +45,7 @@ search_node-search_groups-requires t c =
 
 pub search_node-returns-in-Groups : goal.search_node-returns-in-Groups
 search_node-returns-in-Groups t c =
-    group_node (BreachAt c.args.profile.now.tables c.args.message.now) c.args.node.now c.args.occurrences.now c.in-Group.group c.in-Groups.groups c.deref-in-Group-2.result.now c.deref-in-Group.result.now _ c.in-Group.is c.in-Groups.is c.deref-in-Group-2.ensures.value c.deref-in-Group.ensures.value c.search_groups.ensures
+    group_node (BreachAt (profile_value c.args.profile.now) c.args.message.now) c.args.node.now c.args.occurrences.now c.in-Group.group c.in-Groups.groups c.deref-in-Group-2.result.now c.deref-in-Group.result.now _ c.in-Group.is c.in-Groups.is c.deref-in-Group-2.ensures.value c.deref-in-Group.ensures.value c.search_groups.ensures
 
 pub search_nodes-search_node-requires : goal.search_nodes-search_node-requires
 search_nodes-search_node-requires t c =
@@ -60,15 +60,15 @@ search_nodes-search_node-requires t c =
 
 pub search_nodes-returns-in-Some-search_node : goal.search_nodes-returns-in-Some-search_node
 search_nodes-returns-in-Some-search_node t c =
-    nodes_some (length c.args.message.now) c.args.nodes.now c.args.each.now c.loop-i.i c.index-nodes-i.result c.in-Some.occurrences.now c.loop-i-test.true c.index-nodes-i.is c.in-Some.ensures.lookup.3.0 c.in-Some.ensures.lookup.1 (BreachAt c.args.profile.now.tables c.args.message.now) c.loop-i.invariant.on (found_at c.in-Some-search_node.found) c.in-Some-search_node.ensures
+    nodes_some (length c.args.message.now) c.args.nodes.now c.args.each.now c.loop-i.i c.index-nodes-i.result c.in-Some.occurrences.now c.loop-i-test.true c.index-nodes-i.is c.in-Some.ensures.lookup.3.0 c.in-Some.ensures.lookup.1 (BreachAt (profile_value c.args.profile.now) c.args.message.now) c.loop-i.invariant.on (found_at c.in-Some-search_node.found) c.in-Some-search_node.ensures
 
 pub search_nodes-loop-i-preserved : goal.search_nodes-loop-i-preserved
 search_nodes-loop-i-preserved t c = record {
   rises = (nodes_rise (length c.args.message.now) c.args.nodes.now c.args.each.now c.loop-i.i c.index-nodes-i.result c.in-Some.occurrences.now c.loop-i-test.true c.index-nodes-i.is c.in-Some.ensures.lookup.3.0 c.in-Some.ensures.lookup.1 c.loop-i.invariant.rises).1;
   within = (nodes_within (length c.args.message.now) c.args.nodes.now c.args.each.now c.loop-i.i c.index-nodes-i.result c.in-Some.occurrences.now c.loop-i-test.true c.index-nodes-i.is c.in-Some.ensures.lookup.3.0 c.in-Some.ensures.lookup.1 c.loop-i.invariant.within).1;
-  on = nodes_none (length c.args.message.now) c.args.nodes.now c.args.each.now c.loop-i.i c.index-nodes-i.result c.in-Some.occurrences.now c.loop-i-test.true c.index-nodes-i.is c.in-Some.ensures.lookup.3.0 c.in-Some.ensures.lookup.1 (BreachAt c.args.profile.now.tables c.args.message.now) c.loop-i.invariant.on c.in_default-search_node.ensures;
+  on = nodes_none (length c.args.message.now) c.args.nodes.now c.args.each.now c.loop-i.i c.index-nodes-i.result c.in-Some.occurrences.now c.loop-i-test.true c.index-nodes-i.is c.in-Some.ensures.lookup.3.0 c.in-Some.ensures.lookup.1 (BreachAt (profile_value c.args.profile.now) c.args.message.now) c.loop-i.invariant.on c.in_default-search_node.ensures;
 }
 
 pub search_nodes-returns : goal.search_nodes-returns
 search_nodes-returns t c =
-    nodes_over (BreachAt c.args.profile.now.tables c.args.message.now) c.args.nodes.now c.args.each.now c.loop-i.i c.loop-i-test.false c.loop-i.invariant.on
+    nodes_over (BreachAt (profile_value c.args.profile.now) c.args.message.now) c.args.nodes.now c.args.each.now c.loop-i.i c.loop-i-test.false c.loop-i.invariant.on
