@@ -4,7 +4,7 @@ use Rattle.std.specs.Prelude.{◌&&◌, not, flat_map}
 use Rattle.std.specs.List.{AllByRecursion}
 use Rattle.gw_er7.specs.Message.{Texts, text_of}
 use Rattle.gw_er7.specs.Presence.{CompAt, RepAt}
-use Rattle.gw_profile.specs.Shapes.{SubValue, CompValue, FieldValue, TableValue}
+use Rattle.gw_profile.specs.Shapes.{SubValue, CompValue, FieldValue, ProfileValue}
 use Rattle.gw_profile.proofs.Facts.{no_clash}
 use Rattle.gw_validate.specs.Breaches.{is_required, is_forbidden, is_null, SubBreach, sub_absent, sub_forbidden, too_long, not_listed, InAny, in_first, in_later, CompBreach, comp_absent, comp_forbidden, in_sub}
 use Rattle.gw_check.specs.Failures.{fails}
@@ -34,11 +34,11 @@ empty_text : (text : List ℕ) → length text ≡ 0 → text ≡ []
 empty_text text e = no_text text (λ lt. omega arith)
 
 -- what is needed is there, what is forbidden isn't, and what is there fits
-pub sub_unbroken : (tables : List TableValue) (s : SubValue) (text : List ℕ) → (is_required s.usage ≡ true → text ≡ [] → ⊥) → (is_forbidden s.usage ≡ true → text ≡ []) → ((text ≡ [] → ⊥) → is_null text ≡ false → IsFit tables s text) → (spot : List ℕ) → SubBreach tables s text spot → ⊥
-sub_unbroken tables s text need gone fit spot (sub_absent u z) = need u (empty_text text z)
-sub_unbroken tables s text need gone fit spot (sub_forbidden u lt) = text_there text lt (gone u)
-sub_unbroken tables s text need gone fit spot (too_long lt n l) = no_clash (sym l ∙ (fit (text_there text lt) n).short)
-sub_unbroken tables s text need gone fit spot (not_listed lt n l) = no_clash (sym l ∙ (fit (text_there text lt) n).in_its_table)
+pub sub_unbroken : (profile : ProfileValue) (s : SubValue) (text : List ℕ) → (is_required s.usage ≡ true → text ≡ [] → ⊥) → (is_forbidden s.usage ≡ true → text ≡ []) → ((text ≡ [] → ⊥) → is_null text ≡ false → IsFit profile s text) → (spot : List ℕ) → SubBreach profile s text spot → ⊥
+sub_unbroken profile s text need gone fit spot (sub_absent u z) = need u (empty_text text z)
+sub_unbroken profile s text need gone fit spot (sub_forbidden u lt) = text_there text lt (gone u)
+sub_unbroken profile s text need gone fit spot (too_long lt n l) = no_clash (sym l ∙ (fit (text_there text lt) n).short)
+sub_unbroken profile s text need gone fit spot (not_listed lt n l) = no_clash (sym l ∙ (fit (text_there text lt) n).in_its_table)
 
 -- ---- copies
 
@@ -60,7 +60,7 @@ copied_first m number source field means r at =
       texts = λ c k. ap (λ i. text_of m number i c k) (first_only m number source field means r at) ∙ first_text m number source field means taken.0 taken.1 c k;
     }
 
-module _ (names : List (List ℕ)) (from to : List TableValue) (has : HasTables names from) (m : Texts) (number : ℕ) (source : Texts) (field : ℕ) (o : Option FieldValue) (held : IsHeld names from source field o) (r : ℕ) (is : IsCopied m number source field r) (line : ℕ) where
+module _ (names : List (List ℕ)) (from to : ProfileValue) (has : HasTables names from.tables) (m : Texts) (number : ℕ) (source : Texts) (field : ℕ) (o : Option FieldValue) (held : IsHeld names from source field o) (r : ℕ) (is : IsCopied m number source field r) (line : ℕ) where
   sub_kept : (n : ℕ) (s : SubValue) → CompAt source field is.rep n → copied_sub from to line (comp_of o n) s ≡ [] → (spot : List ℕ) → SubBreach to s (text_of m number r n s.number) spot → ⊥
   sub_kept n s at none =
       let shape : Shape = record { presence = sub_presence (comp_of o n) (sub_of (comp_of o n) s.number); values = sub_values from (sub_of (comp_of o n) s.number) } in

@@ -6,7 +6,7 @@ use Rattle.gw_er7.specs.Presence.{CompAt, RepAt, IsLast}
 use Rattle.gw_profile.specs.declared.shape.Usage.{Usage}
 use Rattle.gw_profile.specs.declared.shape.Usage.TheVariants.{R, RE, O, X}
 use Rattle.gw_profile.specs.declared.shape.Card.{Card}
-use Rattle.gw_profile.specs.Shapes.{FieldValue, TableValue}
+use Rattle.gw_profile.specs.Shapes.{FieldValue, ProfileValue}
 use Rattle.gw_profile.specs.WellFormed.{Agrees}
 use Rattle.gw_profile.proofs.Facts.{tells}
 use Rattle.gw_validate.specs.Breaches.{Counted, is_forbidden, too_few, field_forbidden, in_reps, in_rep, one_too_many}
@@ -30,8 +30,8 @@ none_least RE card a e = absurd (cc)
 none_least O card a e = absurd (cc)
 none_least X card a e = a.0
 
-module _ (names : List (List ℕ)) (tables : List TableValue) (m : Texts) (number : ℕ) where
-  held_limited : (o : Option FieldValue) → IsHeld names tables m number o → (most r k : ℕ) → (repetitions o).greatest ≡ Some most → RepAt m number r → Counted (RepAt m number) (r - 1) k → most ≤ k → ⊥
+module _ (names : List (List ℕ)) (profile : ProfileValue) (m : Texts) (number : ℕ) where
+  held_limited : (o : Option FieldValue) → IsHeld names profile m number o → (most r k : ℕ) → (repetitions o).greatest ≡ Some most → RepAt m number r → Counted (RepAt m number) (r - 1) k → most ≤ k → ⊥
   held_limited None held most r k e at c le = cc
   held_limited (Some f) held most r k e at c le =
       by (tells (is_forbidden f.usage)) (subst (λ i. RepAt m i r) (sym held.numbered) at) (subst (λ i. Counted (RepAt m i) (r - 1) k) (sym held.numbered) c)
@@ -47,7 +47,7 @@ module _ (names : List (List ℕ)) (tables : List TableValue) (m : Texts) (numbe
       by (inl u) at c = held.unbroken (0 ∷ 0 ∷ 0 ∷ 4 ∷ []) (field_forbidden u (r, at))
       by (inr u) at c = over u at c (cases_lt most k)
 
-  held_counted : (o : Option FieldValue) → IsHeld names tables m number o → IsCounted (RepAt m number) (repetitions o)
+  held_counted : (o : Option FieldValue) → IsHeld names profile m number o → IsCounted (RepAt m number) (repetitions o)
   held_counted None held = record { enough = λ last count l c lt. omega arith; limited = held_limited None held }
   held_counted (Some f) held = record {
     enough = λ last count l c lt. by (tells (is_forbidden f.usage)) last count (subst (λ i. IsLast (RepAt m i) last) (sym held.numbered) l) (subst (λ i. Counted (RepAt m i) last count) (sym held.numbered) c) lt;
@@ -59,15 +59,15 @@ module _ (names : List (List ℕ)) (tables : List TableValue) (m : Texts) (numbe
       by (inr u) last count l c lt = held.unbroken (0 ∷ 0 ∷ 0 ∷ 3 ∷ []) (too_few u l c lt)
 
 -- the field of a reference is there as often as is said
-pub source_counted : (names : List (List ℕ)) (tables : List TableValue) (has : HasTables names tables) (k : Known) (m : Texts) → IsKnown names tables k m → (number : ℕ) → IsCounted (RepAt m number) (reference_count k (field_of k.fields number))
-source_counted names tables has k m is number = by (is_never k.count.greatest) refl (is_sure k.count) refl
+pub source_counted : (names : List (List ℕ)) (profile : ProfileValue) (has : HasTables names profile.tables) (k : Known) (m : Texts) → IsKnown names profile k m → (number : ℕ) → IsCounted (RepAt m number) (reference_count k (field_of k.fields number))
+source_counted names profile has k m is number = by (is_never k.count.greatest) refl (is_sure k.count) refl
   where
     by : (n : Bool) → is_never k.count.greatest ≡ n → (c : Bool) → is_sure k.count ≡ c → IsCounted (RepAt m number) (if n then never else if c then repetitions (field_of k.fields number) else record { least = 0; greatest = (repetitions (field_of k.fields number)).greatest })
     by true e c f = never_counted (RepAt m number) (λ r at. no_rep m number r (is.never e) at)
-    by false e true f = held_counted names tables m number (field_of k.fields number) (sure_held names tables has k m is number f)
+    by false e true f = held_counted names profile m number (field_of k.fields number) (sure_held names profile has k m is number f)
     by false e false f = record {
       enough = λ last count l c lt. omega arith;
-      limited = λ most r j e at c le. held_limited names tables m number (field_of k.fields number) (known_held names tables has k m is number r at) most r j e at c le;
+      limited = λ most r j e at c le. held_limited names profile m number (field_of k.fields number) (known_held names profile has k m is number r at) most r j e at c le;
     }
 
 -- ---- a copy

@@ -6,7 +6,7 @@ use Rattle.std.proofs.lemmas.Bool.Decides.{nat_tests, Decides-eqb}
 use Rattle.gw_er7.specs.Message.{Texts, text_of, SegmentValue}
 use Rattle.gw_er7.specs.Presence.{RepAt}
 use Rattle.gw_profile.specs.Among.{Among}
-use Rattle.gw_profile.specs.Shapes.{FieldValue, TableValue}
+use Rattle.gw_profile.specs.Shapes.{FieldValue, TableValue, ProfileValue}
 use Rattle.gw_profile.specs.Value.{table_of}
 use Rattle.gw_profile.specs.WellFormed.{LawfulField, table_names}
 use Rattle.gw_profile.proofs.Facts.{le_is, no_clash}
@@ -55,17 +55,17 @@ never_is i e = by i.greatest e
     by None e = absurd (cc)
     by (Some most) e = ap Some ((Decides-eqb most 0).0 e)
 
-module _ (names : List (List ℕ)) (s : Sources) (w : Walked) (has : HasTables names s.tables) (is : IsWalked names s w) (m : Texts) (number : ℕ) where
+module _ (names : List (List ℕ)) (s : Sources) (w : Walked) (has : HasTables names s.profile.tables) (is : IsWalked names s w) (m : Texts) (number : ℕ) where
   -- ---- how often
 
   making_counted : (making : Making) → LawfulMaking making → ((r c k : ℕ) → MakingMeans w making r c k (text_of m number r c k)) → IsCounted (RepAt m number) (making_count s making)
   making_counted (copy from) lawful means =
-      copy_counted m number (texts_at w.message w.scope from.place) from.field means (counts.field_count s from) (source_counted names s.tables has (known s.scope from.place) (texts_at w.message w.scope from.place) (is.places from.place) from.field)
+      copy_counted m number (texts_at w.message w.scope from.place) from.field means (counts.field_count s from) (source_counted names s.profile has (known s.scope from.place) (texts_at w.message w.scope from.place) (is.places from.place) from.field)
   making_counted (first from) lawful means =
-      first_counted m number (texts_at w.message w.scope from.place) from.field means (counts.field_count s from) (source_counted names s.tables has (known s.scope from.place) (texts_at w.message w.scope from.place) (is.places from.place) from.field)
+      first_counted m number (texts_at w.message w.scope from.place) from.field means (counts.field_count s from) (source_counted names s.profile has (known s.scope from.place) (texts_at w.message w.scope from.place) (is.places from.place) from.field)
   making_counted (repeat from leaves) lawful means =
       made_counted names (counts.walking s from) has (RepAt (texts_at w.message w.scope from.place) from.field) (walking w from) (walked_on names s w has is from) true leaves lawful m number means (counts.field_count s from)
-      (source_counted names s.tables has (known s.scope from.place) (texts_at w.message w.scope from.place) (is.places from.place) from.field)
+      (source_counted names s.profile has (known s.scope from.place) (texts_at w.message w.scope from.place) (is.places from.place) from.field)
   making_counted (build leaves) lawful means = made_counted names s has (λ r. r ≡ 1) (λ r. w) (λ r e. is) false leaves lawful m number means once one_once
 
   rule_counted : (o : Option Rule) → IfSome o (λ r. LawfulMaking r.making) → ((r c k : ℕ) → RuleMeans w o r c k (text_of m number r c k)) → IsCounted (RepAt m number) (rule_count s o)
@@ -74,23 +74,23 @@ module _ (names : List (List ℕ)) (s : Sources) (w : Walked) (has : HasTables n
 
   -- ---- what it holds
 
-  module _ (target_names : List (List ℕ)) (to : List TableValue) (target : FieldValue) (lawful_field : LawfulField target_names target) (line : ℕ) (r : ℕ) (at : RepAt m number r) where
+  module _ (target_names : List (List ℕ)) (to : ProfileValue) (target : FieldValue) (lawful_field : LawfulField target_names target) (line : ℕ) (r : ℕ) (at : RepAt m number r) where
     making_kept : (making : Making) → LawfulMaking making → ((r c k : ℕ) → MakingMeans w making r c k (text_of m number r c k)) → making_failures s to line making target ≡ [] → (spot : List ℕ) → InAny (λ c. c.number) (CompBreach to m number r) target.comps spot → ⊥
     making_kept (copy from) lawful means none =
         let source = texts_at w.message w.scope from.place in
         let is_copy = copied_whole m number source from.field means r at in
-        comps_kept names s.tables to has m number source from.field (at_field s from) (known_held names s.tables has (known s.scope from.place) source (is.places from.place) from.field is_copy.rep is_copy.there) r is_copy line target.comps none
+        comps_kept names s.profile to has m number source from.field (at_field s from) (known_held names s.profile has (known s.scope from.place) source (is.places from.place) from.field is_copy.rep is_copy.there) r is_copy line target.comps none
     making_kept (first from) lawful means none =
         let source = texts_at w.message w.scope from.place in
         let is_copy = copied_first m number source from.field means r at in
-        comps_kept names s.tables to has m number source from.field (at_field s from) (known_held names s.tables has (known s.scope from.place) source (is.places from.place) from.field is_copy.rep is_copy.there) r is_copy line target.comps none
+        comps_kept names s.profile to has m number source from.field (at_field s from) (known_held names s.profile has (known s.scope from.place) source (is.places from.place) from.field is_copy.rep is_copy.there) r is_copy line target.comps none
     making_kept (repeat from leaves) lawful means none =
         comps_made names (counts.walking s from) has (RepAt (texts_at w.message w.scope from.place) from.field) (walking w from) (walked_on names s w has is from) true leaves lawful m number means target_names to line target lawful_field none r at
     making_kept (build leaves) lawful means none =
         comps_made names s has (λ r. r ≡ 1) (λ r. w) (λ r e. is) false leaves lawful m number means target_names to line target lawful_field none r at
 
   -- where nothing may come nothing is demanded, and nothing comes
-  rule_kept : (target_names : List (List ℕ)) (to : List TableValue) (target : FieldValue) → LawfulField target_names target → (o : Option Rule) → IfSome o (λ r. LawfulMaking r.making) → ((r c k : ℕ) → RuleMeans w o r c k (text_of m number r c k)) → content_failures s to target o ≡ [] → (r : ℕ) → RepAt m number r → (spot : List ℕ) → InAny (λ c. c.number) (CompBreach to m number r) target.comps spot → ⊥
+  rule_kept : (target_names : List (List ℕ)) (to : ProfileValue) (target : FieldValue) → LawfulField target_names target → (o : Option Rule) → IfSome o (λ r. LawfulMaking r.making) → ((r c k : ℕ) → RuleMeans w o r c k (text_of m number r c k)) → content_failures s to target o ≡ [] → (r : ℕ) → RepAt m number r → (spot : List ℕ) → InAny (λ c. c.number) (CompBreach to m number r) target.comps spot → ⊥
   rule_kept target_names to target lawful_field None lawful means none r at spot b = text_there _ at.1.1 (means r at.0 at.1.0)
   rule_kept target_names to target lawful_field (Some rule) lawful means none r at spot b = by (is_never (making_count s rule.making).greatest) refl none
     where
@@ -107,7 +107,7 @@ within_most : (o : Option ℕ) (most : ℕ) → is_within o (Some most) ≡ true
 within_most None most e = absurd (cc)
 within_most (Some top) most e = (top, refl, le_is top most e)
 
-module _ (to : List TableValue) (m : Texts) (holder : ℕ) (i : Interval) (o : Option Rule) (target : FieldValue) (is : IsCounted (RepAt m target.number) i) (none : count_failures holder i target o ≡ []) (kept : (r : ℕ) → RepAt m target.number r → (spot : List ℕ) → InAny (λ c. c.number) (CompBreach to m target.number r) target.comps spot → ⊥) where
+module _ (to : ProfileValue) (m : Texts) (holder : ℕ) (i : Interval) (o : Option Rule) (target : FieldValue) (is : IsCounted (RepAt m target.number) i) (none : count_failures holder i target o ≡ []) (kept : (r : ℕ) → RepAt m target.number r → (spot : List ℕ) → InAny (λ c. c.number) (CompBreach to m target.number r) target.comps spot → ⊥) where
   field_unbroken : (spot : List ℕ) → FieldBreach to m target spot → ⊥
   field_unbroken spot b = by (four_empty _ _ (fails 8 holder (is_expected target.usage && has_no_rule o)) (fails 11 (line_of_rule holder o) (is_forbidden target.usage && not (is_never i.greatest))) none) spot b
     where
@@ -130,7 +130,7 @@ module _ (to : List TableValue) (m : Texts) (holder : ℕ) (i : Interval) (o : O
 
 -- ---- a segment
 
-module _ (s : Sources) (w : Walked) (is : IsWalked (table_names s.tables) s w) (to : List TableValue) (holder : ℕ) (rules : List Rule) (fields : List FieldValue) (none : segment_failures s to holder rules fields ≡ []) where
+module _ (s : Sources) (w : Walked) (is : IsWalked (table_names s.profile.tables) s w) (to : ProfileValue) (holder : ℕ) (rules : List Rule) (fields : List FieldValue) (none : segment_failures s to holder rules fields ≡ []) where
   -- a segment that the rules give breaks none of the target's fields
   pub field_sound : (names : List (List ℕ)) (name : List ℕ) → AllByRecursion (LawfulField names) fields → LawfulRules name rules → (seg : SegmentValue) → IsImage w name rules seg → Meets to fields seg.at
   field_sound names name lawful_fields lawful seg image =
@@ -139,8 +139,8 @@ module _ (s : Sources) (w : Walked) (is : IsWalked (table_names s.tables) s w) (
       (λ f l e. each f l (both_empty (count_failures holder (rule_count s (rule_of rules f.number)) f (rule_of rules f.number)) (content_failures s to f (rule_of rules f.number)) e)) fields lawful_fields
       (each_empty (field_failures s to holder rules) fields (both_empty (flat_map (field_failures s to holder rules) fields) (flat_map (rule_lookups s) rules) none).0))
     where
-      has : HasTables (table_names s.tables) s.tables
-      has = has_tables s.tables
+      has : HasTables (table_names s.profile.tables) s.profile.tables
+      has = has_tables s.profile.tables
 
       lawful_rule : (field : ℕ) (o : Option Rule) → rule_of rules field ≡ o → IfSome o (λ r. LawfulMaking r.making)
       lawful_rule field None e = tt
@@ -150,11 +150,11 @@ module _ (s : Sources) (w : Walked) (is : IsWalked (table_names s.tables) s w) (
       each f l parts =
           let lawful_making = lawful_rule f.number (rule_of rules f.number) refl in
           field_unbroken to seg.at holder (rule_count s (rule_of rules f.number)) (rule_of rules f.number) f
-          (rule_counted (table_names s.tables) s w has is seg.at f.number (rule_of rules f.number) lawful_making (image.texts f.number)) parts.0
-          (rule_kept (table_names s.tables) s w has is seg.at f.number names to f l (rule_of rules f.number) lawful_making (image.texts f.number) parts.1)
+          (rule_counted (table_names s.profile.tables) s w has is seg.at f.number (rule_of rules f.number) lawful_making (image.texts f.number)) parts.0
+          (rule_kept (table_names s.profile.tables) s w has is seg.at f.number names to f l (rule_of rules f.number) lawful_making (image.texts f.number) parts.1)
 
   -- and none of their leaves is a fault
   pub no_faults : AllByRecursion (λ (r : Rule). NoFaultIn w r.making) rules
   no_faults =
-      all_as (λ (r : Rule). rule_lookups s r ≡ []) (λ (r : Rule). NoFaultIn w r.making) (λ r e. no_fault_of_rule (table_names s.tables) s w (has_tables s.tables) is r e) rules
+      all_as (λ (r : Rule). rule_lookups s r ≡ []) (λ (r : Rule). NoFaultIn w r.making) (λ r e. no_fault_of_rule (table_names s.profile.tables) s w (has_tables s.profile.tables) is r e) rules
       (each_empty (rule_lookups s) rules (both_empty (flat_map (field_failures s to holder rules) fields) (flat_map (rule_lookups s) rules) none).1)

@@ -7,7 +7,7 @@ use Rattle.std.specs.Cmp.Lexicographic.{slice_cmp}
 use Rattle.std.specs.FinMap as texts
 use Rattle.gw_er7.specs.Message.{Texts, SegmentValue}
 use Rattle.gw_profile.specs.Shapes as shapes
-use Rattle.gw_profile.specs.Shapes.{TableValue}
+use Rattle.gw_profile.specs.Shapes.{ProfileValue}
 use Rattle.gw_profile.specs.Deterministic.{AtMost}
 use Rattle.gw_profile.specs.WellFormed.{LawfulField}
 use Rattle.gw_check.specs.Intervals.{Interval, never, is_never}
@@ -24,12 +24,12 @@ use Rattle.gw_interp.proofs.LevelsSound.{from_eq, LawfulElement, lawful_found, S
 no_text : NoText texts.empty
 no_text f r c s = ap (λ o. unwrap_or o []) (texts.get-empty (slice_cmp nat_cmp) (f ∷ r ∷ c ∷ s ∷ []))
 
-module _ (names : List (List ℕ)) (tables : List TableValue) (m : List SegmentValue) where
-  nothing_known : (t : Texts) → NoText t → IsKnown names tables (record { count = never; fields = [] }) t
+module _ (names : List (List ℕ)) (profile : ProfileValue) (m : List SegmentValue) where
+  nothing_known : (t : Texts) → NoText t → IsKnown names profile (record { count = never; fields = [] }) t
   nothing_known t none = record { lawful = tt; meets = inr none; sure = λ e. absurd (true≢false (sym e)); never = λ e. none }
 
   -- at a segment's place
-  segment_known : (s : shapes.SegmentValue) (c : Interval) (os : List Occurrence) → AllByRecursion (LawfulField names) s.fields → Several tables m (elements.a_segment s) c os → IsKnown names tables (record { count = c; fields = s.fields }) (texts_of_first m os)
+  segment_known : (s : shapes.SegmentValue) (c : Interval) (os : List Occurrence) → AllByRecursion (LawfulField names) s.fields → Several profile m (elements.a_segment s) c os → IsKnown names profile (record { count = c; fields = s.fields }) (texts_of_first m os)
   segment_known s c [] l h =
       record {
         lawful = l;
@@ -51,21 +51,21 @@ module _ (names : List (List ℕ)) (tables : List TableValue) (m : List SegmentV
   segment_known s c (nodes t ∷ os) l h = absurd h.each.0
 
   -- at a group's place there is no text
-  no_segment : (e : Element) (os : List Occurrence) → ((i : ℕ) → IsOccurrence tables m e (a_segment i) → ⊥) → AllByRecursion (IsOccurrence tables m e) os → NoText (texts_of_first m os)
+  no_segment : (e : Element) (os : List Occurrence) → ((i : ℕ) → IsOccurrence profile m e (a_segment i) → ⊥) → AllByRecursion (IsOccurrence profile m e) os → NoText (texts_of_first m os)
   no_segment e [] none h = no_text
   no_segment e (a_segment i ∷ os) none h = absurd (none i h.0)
   no_segment e (nodes t ∷ os) none h = no_text
 
-  found_known : (f : Option Found) (os : List Occurrence) → LawfulElement names (element_of f) → Finds tables m f os → IsKnown names tables (known_of f) (texts_of_first m os)
+  found_known : (f : Option Found) (os : List Occurrence) → LawfulElement names (element_of f) → Finds profile m f os → IsKnown names profile (known_of f) (texts_of_first m os)
   found_known None os l h = nothing_known (texts_of_first m os) (subst (λ o. NoText (texts_of_first m o)) (sym h) no_text)
   found_known (Some f) os l h = go f.element refl l h
     where
-      go : (e : Element) → f.element ≡ e → LawfulElement names e → Several tables m e f.count os → IsKnown names tables (known_of (Some (record { element = e; count = f.count }))) (texts_of_first m os)
+      go : (e : Element) → f.element ≡ e → LawfulElement names e → Several profile m e f.count os → IsKnown names profile (known_of (Some (record { element = e; count = f.count }))) (texts_of_first m os)
       go (elements.a_segment s) same l h = segment_known s f.count os l.each h
       go (elements.a_group g inner) same l h = nothing_known (texts_of_first m os) (no_segment (elements.a_group g inner) os (λ i k. k) h.each)
       go (elements.the_whole inner) same l h = nothing_known (texts_of_first m os) (no_segment (elements.the_whole inner) os (λ i k. k) h.each)
 
-pub walked_known : (from : List TableValue) (from_names : List (List ℕ)) (m : List SegmentValue) (es : List Element) (os : List Occurrence) → Scoped from from_names m es os → IsWalked from_names (sources from es) (walked m os)
+pub walked_known : (from : ProfileValue) (from_names : List (List ℕ)) (m : List SegmentValue) (es : List Element) (os : List Occurrence) → Scoped from from_names m es os → IsWalked from_names (sources from es) (walked m os)
 walked_known from from_names m es os h =
     record {
       places = λ place. found_known from_names from m (found es place) (at_place os place) (lawful_found from_names es place h.lawful) (place_finds from m es os place h.walks);

@@ -14,7 +14,7 @@ use Rattle.gw_maplang.specs.Shapes.{Row, Rows, second_of}
 use Rattle.gw_maplang.specs.Lawful.{LawfulRow}
 use Rattle.gw_check.specs.Places.{known}
 use Rattle.gw_check.specs.Resolved.{Reference, Source, Leaf, const, copied, looked_up, At, Making, copy, first, repeat, build, Rule}
-use Rattle.gw_check.specs.Leaves.{Values, any, listed, Sources, at_field, or_otherwise, given, given_values, has_no_row, source_shape, leaf_shape}
+use Rattle.gw_check.specs.Leaves.{Values, any, listed, IsOf, Sources, at_field, or_otherwise, given, given_values, has_no_row, source_shape, leaf_shape}
 use Rattle.gw_check.specs.Counts as counts
 use Rattle.gw_check.specs.Fields.{lookup_failures, rule_lookups}
 use Rattle.gw_check.specs.Lawful.{LawfulRows, LawfulLeaf}
@@ -24,7 +24,7 @@ use Rattle.gw_interp.specs.Sourced.{IsFault}
 use Rattle.gw_interp.specs.Ready.{NoFaultIn}
 use Rattle.gw_interp.proofs.Walks.{IsCurrent, IsWalked}
 use Rattle.gw_interp.proofs.Lists.{all_as, none_fails, each_empty}
-use Rattle.gw_interp.proofs.Shaped.{IsOf, IsShaped}
+use Rattle.gw_interp.proofs.Shaped.{IsShaped}
 use Rattle.gw_interp.proofs.Held.{HasTables}
 use Rattle.gw_interp.proofs.Sources.{IsHeld, known_held, source_shaped}
 
@@ -83,7 +83,7 @@ filtered h text value (x ∷ texts) (inr a) e = by (h x) (filtered h text value 
     by (Some v) later = inr later
 
 given_among : (table : Rows) (v : Values) (text value : List ℕ) → IsOf v text → given table text ≡ Some value → Among value (given_values table v)
-given_among table (any len) text value is e = (among_append (map (λ (r : Row). r.second) table.rows) (option_to_list table.other) value).1 (by (gives table text value e))
+given_among table (any count len) text value is e = (among_append (map (λ (r : Row). r.second) table.rows) (option_to_list table.other) value).1 (by (gives table text value e))
   where
     other : (o : Option (List ℕ)) → o ≡ Some value → Among value (option_to_list o)
     other None e = absurd (cc)
@@ -110,7 +110,7 @@ looks_up table (b ∷ bytes) text e = by (is_null (b ∷ bytes)) refl e
 
 -- ---- leaves
 
-module _ (names : List (List ℕ)) (s : Sources) (w : Walked) (has : HasTables names s.tables) (is : IsWalked names s w) where
+module _ (names : List (List ℕ)) (s : Sources) (w : Walked) (has : HasTables names s.profile.tables) (is : IsWalked names s w) where
   looked_shaped : (table : Rows) (source : Source) (text from : List ℕ) → LawfulRows table → SourceMeans w source from → look_up table from ≡ Some text → IsShaped (leaf_shape s (looked_up table source)) text
   looked_shaped table source text from lawful means e =
       let shaped = source_shaped names s w has is source from means in
@@ -149,10 +149,10 @@ module _ (names : List (List ℕ)) (s : Sources) (w : Walked) (has : HasTables n
   pub walked_on : (from : Reference) (rep : ℕ) → RepAt (texts_at w.message w.scope from.place) from.field rep → IsWalked names (counts.walking s from) (walking w from rep)
   walked_on from rep at = record {
     places = is.places;
-    current = current (at_field s from) (known_held names s.tables has (known s.scope from.place) (texts_at w.message w.scope from.place) (is.places from.place) from.field rep at);
+    current = current (at_field s from) (known_held names s.profile has (known s.scope from.place) (texts_at w.message w.scope from.place) (is.places from.place) from.field rep at);
   }
     where
-      current : (o : Option FieldValue) → IsHeld names s.tables (texts_at w.message w.scope from.place) from.field o → IsCurrent names s.tables o (walking w from rep).current
+      current : (o : Option FieldValue) → IsHeld names s.profile (texts_at w.message w.scope from.place) from.field o → IsCurrent names s.profile o (walking w from rep).current
       current None held = tt
       current (Some f) held = record {
         texts = texts_at w.message w.scope from.place;
@@ -185,7 +185,7 @@ found_by table v from rowed is = by table.other refl
     or_else value (Some u) = (u, refl)
 
     row : (v : Values) → IsOf v from → has_no_row table v ≡ false → (value : List ℕ) × (second_of from table.rows ≡ Some value)
-    row (any len) is e = absurd (cc)
+    row (any count len) is e = absurd (cc)
     row (listed texts) is e = row_of table from (one_row table from texts is e)
 
     by : (o : Option (List ℕ)) → table.other ≡ o → (text : List ℕ) × (given table from ≡ Some text)
@@ -200,7 +200,7 @@ look_found table v (b ∷ bytes) rowed is = by (is_null (b ∷ bytes)) refl
     by true f = (b ∷ bytes, ap (λ n. if n then Some (b ∷ bytes) else given table (b ∷ bytes)) f)
     by false f = let found = found_by table v (b ∷ bytes) rowed (is (λ e. cc) f) in (found.0, ap (λ n. if n then Some (b ∷ bytes) else given table (b ∷ bytes)) f ∙ found.1)
 
-module _ (names : List (List ℕ)) (s : Sources) (w : Walked) (has : HasTables names s.tables) (is : IsWalked names s w) where
+module _ (names : List (List ℕ)) (s : Sources) (w : Walked) (has : HasTables names s.profile.tables) (is : IsWalked names s w) where
   pub no_fault : (a : At) → lookup_failures s a ≡ [] → IsFault w a.leaf → ⊥
   no_fault a none = by a.leaf none
     where
@@ -216,7 +216,7 @@ module _ (names : List (List ℕ)) (s : Sources) (w : Walked) (has : HasTables n
           let found = look_found table (source_shape s source).values fault.0 (rowed table source table.other none) shaped.values in
           absurd (let clash = sym found.1 ∙ fault.2 in cc)
 
-module _ (names : List (List ℕ)) (s : Sources) (w : Walked) (has : HasTables names s.tables) (is : IsWalked names s w) where
+module _ (names : List (List ℕ)) (s : Sources) (w : Walked) (has : HasTables names s.profile.tables) (is : IsWalked names s w) where
   -- where each lookup has its rows, no leaf of the rule is a fault
   pub no_fault_of_rule : (r : Rule) → rule_lookups s r ≡ [] → NoFaultIn w r.making
   no_fault_of_rule r none = by r.making none

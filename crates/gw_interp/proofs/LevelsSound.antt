@@ -5,7 +5,7 @@ use Rattle.std.specs.List.{AllByRecursion}
 use Rattle.gw_er7.specs.Message.{SegmentValue}
 use Rattle.gw_profile.specs.declared.shape.Card.{Card}
 use Rattle.gw_profile.specs.Shapes as shapes
-use Rattle.gw_profile.specs.Shapes.{FieldValue, GroupValue, Forest, TableValue, nothing, segment, group}
+use Rattle.gw_profile.specs.Shapes.{FieldValue, GroupValue, Forest, ProfileValue, nothing, segment, group}
 use Rattle.gw_profile.specs.WellFormed.{Rising, field_numbers, LawfulField, LawfulSegment, LawfulGroup, EachSegment, EachGroup}
 use Rattle.gw_profile.specs.Fault.{least_field}
 use Rattle.gw_validate.specs.Conforming.{One, Seq}
@@ -92,7 +92,7 @@ nodes_there (segment s rest) (suc k) e h = nodes_there rest k e h
 nodes_there (group g inner rest) zero e h = let same : a_group g inner ≡ e = cc in ap nodes_of same
 nodes_there (group g inner rest) (suc k) e h = nodes_there rest k e h
 
-module _ (from : List TableValue) (from_names : List (List ℕ)) (m : List SegmentValue) where
+module _ (from : ProfileValue) (from_names : List (List ℕ)) (m : List SegmentValue) where
   -- what is walked are occurrences of elements that keep what profiles keep
   pub record Scoped (es : List Element) (os : List Occurrence) : Type 0 where
     pub walks : InScope from m es os
@@ -108,7 +108,7 @@ module _ (from : List TableValue) (from_names : List (List ℕ)) (m : List Segme
   pub walked_there : (es : List Element) (os : List Occurrence) (place : Place) → Scoped es os → Several from m (element_of (found es place)) (count_at es place) (at_place os place)
   walked_there es os place h = element_found (found es place) (at_place os place) (place_finds from m es os place h.walks)
 
-module _ (from to : List TableValue) (from_names names : List (List ℕ)) (m : List SegmentValue) (Image : Walked → List ℕ → List Rule → SegmentValue → Type 0) (meets : List FieldValue → SegmentValue → Type 0) where
+module _ (from to : ProfileValue) (from_names names : List (List ℕ)) (m : List SegmentValue) (Image : Walked → List ℕ → List Rule → SegmentValue → Type 0) (meets : List FieldValue → SegmentValue → Type 0) where
   -- a segment that rules give has the name and meets the shape, where none of the rules on fields fails
   abbrev pub FieldsSound : Type 0
   FieldsSound =

@@ -6,10 +6,11 @@ use Rattle.std.proofs.lemmas.Bool.Decides.{Decides-eqb}
 use Rattle.gw_er7.specs.Message.{Texts, text_of}
 use Rattle.gw_er7.specs.Presence.{CompAt, RepAt}
 use Rattle.gw_profile.specs.Among.{Among}
-use Rattle.gw_profile.specs.Shapes.{SubValue, CompValue, FieldValue, TableValue}
+use Rattle.gw_profile.specs.Shapes.{SubValue, CompValue, FieldValue, ProfileValue}
 use Rattle.gw_profile.specs.WellFormed.{Rising, LawfulComp, LawfulField}
 use Rattle.gw_profile.proofs.Facts as facts
 use Rattle.gw_profile.proofs.Facts.{either, neither, and_of, no_clash, not_true}
+use Rattle.gw_profile.specs.Lengths.{len_count}
 use Rattle.gw_validate.specs.Breaches.{is_required, is_null, SubBreach, InAny, CompBreach, comp_absent, comp_forbidden, in_sub}
 use Rattle.gw_maplang.specs.declared.rule.LeafPlace.{LeafPlace}
 use Rattle.gw_check.specs.Intervals.{Interval, never}
@@ -60,22 +61,22 @@ pub sub_is : (leaves : List At) (c k : ℕ) (a : At) → leaf_at leaves c k ≡ 
 sub_is leaves c k a e = (Decides-eqb a.sub k).0 (facts.both (a.comp == c) (a.sub == k) (found_test (λ (b : At). b.comp == c && b.sub == k) leaves a e)).1
 
 -- a leaf that fits its subcomponent
-leaf_fit : (s : Sources) (tables : List TableValue) (line : ℕ) (leaf : Leaf) (sub : SubValue) (text : List ℕ) → leaf_failures s tables line leaf sub ≡ [] → IsShaped (leaf_shape s leaf) text → (text ≡ [] → ⊥) → is_null text ≡ false → IsFit tables sub text
-leaf_fit s tables line (copied source) sub text none shaped some other = fit_values tables line (leaf_shape s (copied source)) sub text none shaped some other
-leaf_fit s tables line (looked_up table source) sub text none shaped some other = fit_values tables line (leaf_shape s (looked_up table source)) sub text none shaped some other
-leaf_fit s tables line (const value) sub text none shaped some other = by (shaped.values some other)
+leaf_fit : (s : Sources) (profile : ProfileValue) (line : ℕ) (leaf : Leaf) (sub : SubValue) (text : List ℕ) → leaf_failures s profile line leaf sub ≡ [] → IsShaped (leaf_shape s leaf) text → (text ≡ [] → ⊥) → is_null text ≡ false → IsFit profile sub text
+leaf_fit s profile line (copied source) sub text none shaped some other = fit_values profile line (leaf_shape s (copied source)) sub text none shaped some other
+leaf_fit s profile line (looked_up table source) sub text none shaped some other = fit_values profile line (leaf_shape s (looked_up table source)) sub text none shaped some other
+leaf_fit s profile line (const value) sub text none shaped some other = by (shaped.values some other)
   where
     allowed : (b : Bool) → is_null value ≡ false → not (is_null value) && b ≡ false → b ≡ false
     allowed b e f = subst (λ n. not n && b ≡ false) e f
 
-    by : Among text (value ∷ []) → IsFit tables sub text
+    by : Among text (value ∷ []) → IsFit profile sub text
     by (inr h) = absurd h
     by (inl same) =
         let values = (leaf_shape s (const value)).values in
-        let p = neither (may_be_unlisted values (table_values tables sub)) (may_be_long values sub.len) (allowed _ (sym (ap is_null same) ∙ other) (none_fails 12 line _ none)) in
-        fit_of tables values sub text p.0 p.1 (shaped.values some other)
+        let p = neither (may_be_unlisted values (table_values profile.tables sub)) (may_be_long (len_count profile) values sub.len) (allowed _ (sym (ap is_null same) ∙ other) (none_fails 12 line _ none)) in
+        fit_of profile values sub text p.0 p.1 (shaped.values some other)
 
-module _ (names : List (List ℕ)) (s : Sources) (has : HasTables names s.tables) (Here : ℕ → Type 0) (W : ℕ → Walked) (walked : (r : ℕ) → Here r → IsWalked names s (W r)) (repeated : Bool) (leaves : List At) (lawful : LawfulLeaves repeated leaves) (m : Texts) (number : ℕ) (means : (r c k : ℕ) → Where (Here r) (AtMeans (W r) (leaf_at leaves c k)) (text_of m number r c k)) where
+module _ (names : List (List ℕ)) (s : Sources) (has : HasTables names s.profile.tables) (Here : ℕ → Type 0) (W : ℕ → Walked) (walked : (r : ℕ) → Here r → IsWalked names s (W r)) (repeated : Bool) (leaves : List At) (lawful : LawfulLeaves repeated leaves) (m : Texts) (number : ℕ) (means : (r c k : ℕ) → Where (Here r) (AtMeans (W r) (leaf_at leaves c k)) (text_of m number r c k)) where
   leaf_means : (r c k : ℕ) (a : At) → Here r → leaf_at leaves c k ≡ Some a → LeafMeans (W r) a.leaf (text_of m number r c k) → IsShaped (leaf_shape s a.leaf) (text_of m number r c k)
   leaf_means r c k a here e h = leaf_shaped names s (W r) has (walked r here) repeated a.leaf (text_of m number r c k) (found_all (λ (b : At). b.comp == c && b.sub == k) (LawfulAt repeated) leaves a e lawful.each).leaf h
 
@@ -131,9 +132,9 @@ module _ (names : List (List ℕ)) (s : Sources) (has : HasTables names s.tables
 
   -- ---- what it holds
 
-  module _ (tables : List TableValue) (line : ℕ) (target : FieldValue) (unfailed : AllByRecursion (λ (a : At). made_leaf s tables target a ≡ []) leaves) (r : ℕ) where
-    parts_of : (c k : ℕ) (at : IsMade s Here leaves m number r c k) → (fails 11 at.at.line ((is_forbidden_comp (comp_of (Some target) at.at.comp) || is_forbidden_sub (sub_of (comp_of (Some target) at.at.comp) at.at.sub)) && not (is_absent (leaf_shape s at.at.leaf).presence)) ≡ []) × (placed s tables at.at.line at.at.leaf (sub_of (comp_of (Some target) at.at.comp) at.at.sub) ≡ [])
-    parts_of c k at = both_empty _ (placed s tables at.at.line at.at.leaf (sub_of (comp_of (Some target) at.at.comp) at.at.sub)) (found_all (λ (b : At). b.comp == c && b.sub == k) (λ (a : At). made_leaf s tables target a ≡ []) leaves at.at at.found unfailed)
+  module _ (profile : ProfileValue) (line : ℕ) (target : FieldValue) (unfailed : AllByRecursion (λ (a : At). made_leaf s profile target a ≡ []) leaves) (r : ℕ) where
+    parts_of : (c k : ℕ) (at : IsMade s Here leaves m number r c k) → (fails 11 at.at.line ((is_forbidden_comp (comp_of (Some target) at.at.comp) || is_forbidden_sub (sub_of (comp_of (Some target) at.at.comp) at.at.sub)) && not (is_absent (leaf_shape s at.at.leaf).presence)) ≡ []) × (placed s profile at.at.line at.at.leaf (sub_of (comp_of (Some target) at.at.comp) at.at.sub) ≡ [])
+    parts_of c k at = both_empty _ (placed s profile at.at.line at.at.leaf (sub_of (comp_of (Some target) at.at.comp) at.at.sub)) (found_all (λ (b : At). b.comp == c && b.sub == k) (λ (a : At). made_leaf s profile target a ≡ []) leaves at.at at.found unfailed)
 
     -- where the component or subcomponent of a leaf is forbidden, the leaf is never there
     kept_out : (c k : ℕ) → 0 < length (text_of m number r c k) → is_forbidden_comp (comp_of (Some target) c) || is_forbidden_sub (sub_of (comp_of (Some target) c) k) ≡ true → ⊥
@@ -144,11 +145,11 @@ module _ (names : List (List ℕ)) (s : Sources) (has : HasTables names s.tables
         let asked : is_forbidden_comp (comp_of (Some target) at.at.comp) || is_forbidden_sub (sub_of (comp_of (Some target) at.at.comp) at.at.sub) ≡ true = ap (λ n. is_forbidden_comp (comp_of (Some target) n) || is_forbidden_sub (sub_of (comp_of (Some target) n) at.at.sub)) comp ∙ ap (λ n. is_forbidden_comp (comp_of (Some target) c) || is_forbidden_sub (sub_of (comp_of (Some target) c) n)) sub ∙ e in
         gone_text r c k at.at at.shaped lt (demanded _ (is_absent (leaf_shape s at.at.leaf).presence) (none_fails 11 at.at.line _ (parts_of c k at).0) asked)
 
-    fit_leaf : (c k : ℕ) (sub : SubValue) → sub_of (comp_of (Some target) c) k ≡ Some sub → (text_of m number r c k ≡ [] → ⊥) → is_null (text_of m number r c k) ≡ false → IsFit tables sub (text_of m number r c k)
+    fit_leaf : (c k : ℕ) (sub : SubValue) → sub_of (comp_of (Some target) c) k ≡ Some sub → (text_of m number r c k ≡ [] → ⊥) → is_null (text_of m number r c k) ≡ false → IsFit profile sub (text_of m number r c k)
     fit_leaf c k sub e some other =
         let at = made r c k (some_text _ some) in
         let here : sub_of (comp_of (Some target) at.at.comp) at.at.sub ≡ Some sub = ap (λ n. sub_of (comp_of (Some target) n) at.at.sub) (comp_is leaves c k at.at at.found) ∙ ap (sub_of (comp_of (Some target) c)) (sub_is leaves c k at.at at.found) ∙ e in
-        leaf_fit s tables at.at.line at.at.leaf sub (text_of m number r c k) (subst (λ o. placed s tables at.at.line at.at.leaf o ≡ []) here (parts_of c k at).1) at.shaped some other
+        leaf_fit s profile at.at.line at.at.leaf sub (text_of m number r c k) (subst (λ o. placed s profile at.at.line at.at.leaf o ≡ []) here (parts_of c k at).1) at.shaped some other
 
     -- a required component is there
     comp_sure : (c : ℕ) → RepAt m number r → is_comp_sure s leaves c ≡ true → CompAt m number r c
@@ -205,31 +206,31 @@ module _ (names : List (List ℕ)) (s : Sources) (has : HasTables names s.tables
             (either (not (is_made.at.comp == c) || is_made.at.sub == k) _
             (found_all (λ (b : At). b.comp == c && b.sub == there.0) (λ (a : At). not (a.comp == c) || a.sub == k || is_absent (leaf_shape s a.leaf).presence ≡ true) leaves is_made.at is_made.found (all_pass (λ (a : At). not (a.comp == c) || a.sub == k || is_absent (leaf_shape s a.leaf).presence) leaves all)))
 
-    sub_made : (c : CompValue) → comp_of (Some target) c.number ≡ Some c → CompAt m number r c.number → (sub : SubValue) → made_sub s line leaves c.number sub ≡ [] → sub_of (Some c) sub.number ≡ Some sub → (spot : List ℕ) → SubBreach tables sub (text_of m number r c.number sub.number) spot → ⊥
+    sub_made : (c : CompValue) → comp_of (Some target) c.number ≡ Some c → CompAt m number r c.number → (sub : SubValue) → made_sub s line leaves c.number sub ≡ [] → sub_of (Some c) sub.number ≡ Some sub → (spot : List ℕ) → SubBreach profile sub (text_of m number r c.number sub.number) spot → ⊥
     sub_made c ec there sub none es =
         let found : sub_of (comp_of (Some target) c.number) sub.number ≡ Some sub = ap (λ o. sub_of o sub.number) ec ∙ es in
-        sub_unbroken tables sub (text_of m number r c.number sub.number)
+        sub_unbroken profile sub (text_of m number r c.number sub.number)
         (λ u. text_there _ (sub_sure c.number sub.number there (demanded (is_required sub.usage) _ (none_fails 5 line _ none) u)))
         (λ u. no_text _ (λ lt. kept_out c.number sub.number lt (facts.or_right (is_forbidden_comp (comp_of (Some target) c.number)) _ (ap is_forbidden_sub found ∙ u))))
         (fit_leaf c.number sub.number sub found)
 
-    comp_made : (target_names : List (List ℕ)) (c : CompValue) → RepAt m number r → LawfulComp target_names c → made_comp s line leaves c ≡ [] → comp_of (Some target) c.number ≡ Some c → (spot : List ℕ) → CompBreach tables m number r c spot → ⊥
+    comp_made : (target_names : List (List ℕ)) (c : CompValue) → RepAt m number r → LawfulComp target_names c → made_comp s line leaves c ≡ [] → comp_of (Some target) c.number ≡ Some c → (spot : List ℕ) → CompBreach profile m number r c spot → ⊥
     comp_made target_names c rep lawful none ec = by (both_empty _ (flat_map (made_sub s line leaves c.number) c.subs) none)
       where
-        by : (fails 5 line (is_required c.usage && not (is_comp_sure s leaves c.number)) ≡ []) × (flat_map (made_sub s line leaves c.number) c.subs ≡ []) → (spot : List ℕ) → CompBreach tables m number r c spot → ⊥
+        by : (fails 5 line (is_required c.usage && not (is_comp_sure s leaves c.number)) ≡ []) × (flat_map (made_sub s line leaves c.number) c.subs ≡ []) → (spot : List ℕ) → CompBreach profile m number r c spot → ⊥
         by parts spot (comp_absent u gone) = gone (comp_sure c.number rep (demanded (is_required c.usage) _ (none_fails 5 line _ parts.0) u))
         by parts spot (comp_forbidden u at) = kept_out c.number at.0 at.1 (facts.or_left (is_forbidden_comp (comp_of (Some target) c.number)) _ (ap is_forbidden_comp ec ∙ u))
         by parts spot (in_sub at b) =
-            none_broken (λ (t : SubValue). t.number) (λ (t : SubValue). SubBreach tables t (text_of m number r c.number t.number)) c.subs
-            (all_with (λ (t : SubValue). made_sub s line leaves c.number t ≡ []) (λ (t : SubValue). sub_of (Some c) t.number ≡ Some t) (λ (t : SubValue). (spot : List ℕ) → SubBreach tables t (text_of m number r c.number t.number) spot → ⊥)
+            none_broken (λ (t : SubValue). t.number) (λ (t : SubValue). SubBreach profile t (text_of m number r c.number t.number)) c.subs
+            (all_with (λ (t : SubValue). made_sub s line leaves c.number t ≡ []) (λ (t : SubValue). sub_of (Some c) t.number ≡ Some t) (λ (t : SubValue). (spot : List ℕ) → SubBreach profile t (text_of m number r c.number t.number) spot → ⊥)
             (λ t e f. sub_made c ec at t e f) c.subs (each_empty (made_sub s line leaves c.number) c.subs parts.1) (found_by_number (λ (t : SubValue). t.number) 1 99 c.subs lawful.rising)) spot b
 
   -- a repetition that is made breaks no component
-  pub comps_made : (target_names : List (List ℕ)) (tables : List TableValue) (line : ℕ) (target : FieldValue) → LawfulField target_names target → made_field s tables line leaves target ≡ [] → (r : ℕ) → RepAt m number r → (spot : List ℕ) → InAny (λ c. c.number) (CompBreach tables m number r) target.comps spot → ⊥
-  comps_made target_names tables line target lawful none r rep =
-      let parts = both_empty (flat_map (made_comp s line leaves) target.comps) (flat_map (made_leaf s tables target) leaves) none in
-      let unfailed = each_empty (made_leaf s tables target) leaves parts.1 in
-      none_broken (λ (c : CompValue). c.number) (CompBreach tables m number r) target.comps
-      (all_with (λ (c : CompValue). made_comp s line leaves c ≡ []) (λ (c : CompValue). LawfulComp target_names c × (comp_of (Some target) c.number ≡ Some c)) (λ (c : CompValue). (spot : List ℕ) → CompBreach tables m number r c spot → ⊥)
-      (λ c e f. comp_made tables line target unfailed r target_names c rep f.0 e f.1) target.comps (each_empty (made_comp s line leaves) target.comps parts.0)
+  pub comps_made : (target_names : List (List ℕ)) (profile : ProfileValue) (line : ℕ) (target : FieldValue) → LawfulField target_names target → made_field s profile line leaves target ≡ [] → (r : ℕ) → RepAt m number r → (spot : List ℕ) → InAny (λ c. c.number) (CompBreach profile m number r) target.comps spot → ⊥
+  comps_made target_names profile line target lawful none r rep =
+      let parts = both_empty (flat_map (made_comp s line leaves) target.comps) (flat_map (made_leaf s profile target) leaves) none in
+      let unfailed = each_empty (made_leaf s profile target) leaves parts.1 in
+      none_broken (λ (c : CompValue). c.number) (CompBreach profile m number r) target.comps
+      (all_with (λ (c : CompValue). made_comp s line leaves c ≡ []) (λ (c : CompValue). LawfulComp target_names c × (comp_of (Some target) c.number ≡ Some c)) (λ (c : CompValue). (spot : List ℕ) → CompBreach profile m number r c spot → ⊥)
+      (λ c e f. comp_made profile line target unfailed r target_names c rep f.0 e f.1) target.comps (each_empty (made_comp s line leaves) target.comps parts.0)
       (all_with (LawfulComp target_names) (λ (c : CompValue). comp_of (Some target) c.number ≡ Some c) (λ (c : CompValue). LawfulComp target_names c × (comp_of (Some target) c.number ≡ Some c)) (λ c a b. (a, b)) target.comps lawful.each (found_by_number (λ (c : CompValue). c.number) 1 99 target.comps lawful.rising)))

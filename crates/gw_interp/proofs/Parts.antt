@@ -4,7 +4,7 @@ use Rattle.std.proofs.lemmas.List.{append-nil, append_assoc}
 use Rattle.std.proofs.Math.Nat.{mul-le-mul_right}
 use Rattle.std.specs.List.{AllByRecursion}
 use Rattle.gw_er7.specs.Message.{SegmentValue}
-use Rattle.gw_profile.specs.Shapes.{TableValue}
+use Rattle.gw_profile.specs.Shapes.{ProfileValue}
 use Rattle.gw_profile.specs.Deterministic.{AtMost}
 use Rattle.gw_validate.specs.Cuts.{Many}
 use Rattle.gw_check.specs.Intervals.{Interval, never, once, add, multiply, sum, product}
@@ -65,13 +65,13 @@ module _ (P : List SegmentValue → Type 0) where
 
   -- ---- a part for each occurrence
 
-  module _ (tables : List TableValue) (m : List SegmentValue) (e : Element) (R : Occurrence → List SegmentValue → Type 0) where
-    each_part : ((o : Occurrence) (list : List SegmentValue) → IsOccurrence tables m e o → R o list → P list) → (os : List Occurrence) (list : List SegmentValue) → AllByRecursion (IsOccurrence tables m e) os → ForEach R os list → Many P (length os) list
+  module _ (profile : ProfileValue) (m : List SegmentValue) (e : Element) (R : Occurrence → List SegmentValue → Type 0) where
+    each_part : ((o : Occurrence) (list : List SegmentValue) → IsOccurrence profile m e o → R o list → P list) → (os : List Occurrence) (list : List SegmentValue) → AllByRecursion (IsOccurrence profile m e) os → ForEach R os list → Many P (length os) list
     each_part part [] list h k = k
     each_part part (o ∷ os) list h k =
         record { front = k.front; back = k.back; joined = k.joined; here = part o k.front h.0 k.here; there = each_part part os k.back h.1 k.there }
 
-    pub for_each : ((o : Occurrence) (list : List SegmentValue) → IsOccurrence tables m e o → R o list → P list) → (c : Interval) (os : List Occurrence) (list : List SegmentValue) → Several tables m e c os → ForEach R os list → Given P c list
+    pub for_each : ((o : Occurrence) (list : List SegmentValue) → IsOccurrence profile m e o → R o list → P list) → (c : Interval) (os : List Occurrence) (list : List SegmentValue) → Several profile m e c os → ForEach R os list → Given P c list
     for_each part c os list s k =
         record { count = length os; enough = s.enough; few = s.few; parts = each_part part os list s.each k }
 
@@ -83,8 +83,8 @@ module _ (P : List SegmentValue → Type 0) where
       none : n ≡ 0 → count ≡ 0
       parts : Many P count list
 
-    module _ (c : Interval) (part : (o : Occurrence) (list : List SegmentValue) → IsOccurrence tables m e o → R o list → Given P c list) where
-      multiplied : (os : List Occurrence) (list : List SegmentValue) → AllByRecursion (IsOccurrence tables m e) os → ForEach R os list → Multiplied c (length os) list
+    module _ (c : Interval) (part : (o : Occurrence) (list : List SegmentValue) → IsOccurrence profile m e o → R o list → Given P c list) where
+      multiplied : (os : List Occurrence) (list : List SegmentValue) → AllByRecursion (IsOccurrence profile m e) os → ForEach R os list → Multiplied c (length os) list
       multiplied [] list h k = record { count = 0; enough = omega arith; few = λ b e. omega arith; none = λ e. refl; parts = k }
       multiplied (o ∷ os) list h k =
           let one = part o k.front h.0 k.here in
@@ -106,7 +106,7 @@ module _ (P : List SegmentValue → Type 0) where
       few_times (Some (suc a)) (Some b) n count few each none =
           let less : n * b ≤ suc a * b = mul-le-mul_right b few in omega (arith, each b refl, less)
 
-      pub for_each_given : (d : Interval) (os : List Occurrence) (list : List SegmentValue) → Several tables m e d os → ForEach R os list → Given P (product d c) list
+      pub for_each_given : (d : Interval) (os : List Occurrence) (list : List SegmentValue) → Several profile m e d os → ForEach R os list → Given P (product d c) list
       for_each_given d os list s k =
           let made = multiplied os list s.each k in
           let less : d.least * c.least ≤ length os * c.least = mul-le-mul_right c.least s.enough in

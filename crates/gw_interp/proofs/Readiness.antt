@@ -1,7 +1,7 @@
 -- Where the rules allow a map and the message conforms, each text that the map gives may stand at its place, and no leaf is a fault.
 use Rattle.std.proofs.Common.{◌≡◌, ℕ, List, [], ◌∷◌, Option, Some, None}
 use Rattle.gw_er7.specs.Message.{SegmentValue, IsMessage}
-use Rattle.gw_profile.specs.Shapes.{FieldValue, Forest, TableValue, ProfileValue}
+use Rattle.gw_profile.specs.Shapes.{FieldValue, Forest, ProfileValue}
 use Rattle.gw_profile.specs.WellFormed.{table_names}
 use Rattle.gw_validate.specs.Conforming.{Conforms}
 use Rattle.gw_validate.specs.Trees.{Tree}
@@ -24,24 +24,24 @@ use Rattle.gw_interp.proofs.LevelsSound.{Scoped, scoped_within, walked_there}
 use Rattle.gw_interp.proofs.Known.{walked_known}
 use Rattle.gw_interp.proofs.Typed.{Allows, whole_scope, items_pass}
 
-module _ (from to : List TableValue) (m : List SegmentValue) (is_message : IsMessage m) where
+module _ (from to : ProfileValue) (m : List SegmentValue) (is_message : IsMessage m) where
   abbrev Walks : List Element → List Occurrence → Type 0
-  Walks = Scoped from (table_names from) m
+  Walks = Scoped from (table_names from.tables) m
 
   image_ready : (es : List Element) (os : List Occurrence) (holder : ℕ) (name : List ℕ) (rules : List Rule) (fields : List FieldValue) → Walks es os → LawfulRules name rules → segment_failures (sources from es) to holder rules fields ≡ [] → MayImage (walked m os) name rules
   image_ready es os holder name rules fields h lawful none =
       record {
         lawful = lawful;
         entries = λ field rep comp sub text means some. rules_entry (walked m os) (place_entries m is_message os) name rules lawful field rep comp sub text means some;
-        no_faults = no_faults (sources from es) (walked m os) (walked_known from (table_names from) m es os h) to holder rules fields none;
+        no_faults = no_faults (sources from es) (walked m os) (walked_known from (table_names from.tables) m es os h) to holder rules fields none;
       }
 
   segments_ready : (es : List Element) (os : List Occurrence) (holder : ℕ) (name : List ℕ) (rules : List Rule) (fields : List FieldValue) (place : Option Place) → Walks es os → LawfulRules name rules → segment_failures (sources from (within_if es place)) to holder rules fields ≡ [] → MaySegments m os name rules place
   segments_ready es os holder name rules fields None h lawful none = image_ready es os holder name rules fields h lawful none
   segments_ready es os holder name rules fields (Some place) h lawful none =
       all_as (IsOccurrence from m (element_of (found es place))) (λ o. MayImage (walked m (o ∷ os)) name rules)
-      (λ o is. image_ready (within es place) (o ∷ os) holder name rules fields (scoped_within from (table_names from) m es os place o h is) lawful none)
-      (at_place os place) (walked_there from (table_names from) m es os place h).each
+      (λ o is. image_ready (within es place) (o ∷ os) holder name rules fields (scoped_within from (table_names from.tables) m es os place o h is) lawful none)
+      (at_place os place) (walked_there from (table_names from.tables) m es os place h).each
 
   items_ready : (items : Items) (es : List Element) (os : List Occurrence) (nodes : Forest) → Walks es os → LawfulItems nodes items → items_failures from to es nodes items ≡ [] → MayGive m os nodes items
   items_ready no_items es os nodes h lawful none = tt
@@ -52,18 +52,18 @@ module _ (from to : List TableValue) (m : List SegmentValue) (is_message : IsMes
   items_ready (group_item g items rest) es os nodes h lawful none =
       let inner = nil_right (level_failures (within es g.place) g.line 0 (nodes_of_child nodes g.child) items) (items_failures from to (within es g.place) (nodes_of_child nodes g.child) items) (nil_left _ _ none) in (
         all_as (IsOccurrence from m (element_of (found es g.place))) (λ o. MayGive m (o ∷ os) (nodes_of_child nodes g.child) items)
-            (λ o is. items_ready items (within es g.place) (o ∷ os) (nodes_of_child nodes g.child) (scoped_within from (table_names from) m es os g.place o h is) lawful.0 inner)
-            (at_place os g.place) (walked_there from (table_names from) m es os g.place h).each,
+            (λ o is. items_ready items (within es g.place) (o ∷ os) (nodes_of_child nodes g.child) (scoped_within from (table_names from.tables) m es os g.place o h is) lawful.0 inner)
+            (at_place os g.place) (walked_there from (table_names from.tables) m es os g.place h).each,
         items_ready rest es os nodes h lawful.1 (nil_right _ _ none),
       )
   items_ready (flat_item f items rest) es os nodes h lawful none = (
     all_as (IsOccurrence from m (element_of (found es f.place))) (λ o. MayGive m (o ∷ os) nodes items)
-        (λ o is. items_ready items (within es f.place) (o ∷ os) nodes (scoped_within from (table_names from) m es os f.place o h is) lawful.0 (nil_left _ _ none))
-        (at_place os f.place) (walked_there from (table_names from) m es os f.place h).each,
+        (λ o is. items_ready items (within es f.place) (o ∷ os) nodes (scoped_within from (table_names from.tables) m es os f.place o h is) lawful.0 (nil_left _ _ none))
+        (at_place os f.place) (walked_there from (table_names from.tables) m es os f.place h).each,
     items_ready rest es os nodes h lawful.1 (nil_right _ _ none),
   )
 
 pub ready : (source target : ProfileValue) (map : Resolved) → Allows source target map → (m : List SegmentValue) (tree : Tree) → IsMessage m → Conforms source m → IsTreeOf source m tree → MayGive m (occurrences.nodes tree ∷ []) target.nodes map.items
 ready source target map allows m tree is_message conforms is =
-    items_ready source.tables target.tables m is_message map.items (the_whole source.nodes ∷ []) (occurrences.nodes tree ∷ []) target.nodes
+    items_ready source target m is_message map.items (the_whole source.nodes ∷ []) (occurrences.nodes tree ∷ []) target.nodes
     (whole_scope source allows.source_formed m tree conforms is) allows.lawful (items_pass source target map allows.typed)

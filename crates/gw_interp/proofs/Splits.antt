@@ -4,7 +4,7 @@ use Rattle.std.specs.Prelude.{if◌then◌else◌, nat_le}
 use Rattle.std.proofs.lemmas.Bool.Decides.{eqb_tells, leb_tells}
 use Rattle.std.proofs.lemmas.List.{append_assoc}
 use Rattle.gw_er7.specs.Message.{SegmentValue}
-use Rattle.gw_profile.specs.Shapes.{Forest, TableValue}
+use Rattle.gw_profile.specs.Shapes.{Forest, ProfileValue}
 use Rattle.gw_validate.specs.Cuts.{Cut}
 use Rattle.gw_check.specs.Places.{Element, child, nodes_of_child}
 use Rattle.gw_check.specs.Resolved.{Rule, Items, no_items, segment_item, group_item, flat_item, first_child}
@@ -106,10 +106,10 @@ groups_join P (segment_item s rest) b h = groups_join P rest b h
 groups_join P (group_item g items rest) b h = let more = groups_join P rest b h.1 in ((h.0, more.0), more.1)
 groups_join P (flat_item f items rest) b h = let more = groups_join P rest b h.1 in ((h.0, more.0), more.1)
 
-abbrev None_fail : List TableValue → List TableValue → List Element → Forest → Items → Type 0
+abbrev None_fail : ProfileValue → ProfileValue → List Element → Forest → Items → Type 0
 None_fail from to es nodes items = items_failures from to es nodes items ≡ []
 
-pub failures_join : (from to : List TableValue) (es : List Element) (nodes : Forest) (a b : Items) → None_fail from to es nodes (join a b) → None_fail from to es nodes a × None_fail from to es nodes b
+pub failures_join : (from to : ProfileValue) (es : List Element) (nodes : Forest) (a b : Items) → None_fail from to es nodes (join a b) → None_fail from to es nodes a × None_fail from to es nodes b
 unfolding join
 failures_join from to es nodes no_items b h = (refl, h)
 failures_join from to es nodes (segment_item s rest) b h =

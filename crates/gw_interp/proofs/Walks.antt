@@ -3,7 +3,7 @@ use Rattle.std.proofs.Common.{◌≡◌, ℕ, ◌≤◌, ◌⊎◌, true, List, 
 use Rattle.std.specs.List.{AllByRecursion}
 use Rattle.gw_er7.specs.Message.{Texts, text_of, SegmentValue}
 use Rattle.gw_er7.specs.Presence.{RepAt}
-use Rattle.gw_profile.specs.Shapes.{FieldValue, Forest, TableValue, nothing, segment, group}
+use Rattle.gw_profile.specs.Shapes.{FieldValue, Forest, ProfileValue, nothing, segment, group}
 use Rattle.gw_profile.specs.WellFormed.{LawfulField}
 use Rattle.gw_profile.specs.Deterministic.{AtMost}
 use Rattle.gw_validate.specs.Breaches.{Meets, FieldBreach}
@@ -19,38 +19,38 @@ use Rattle.gw_interp.specs.Meaning.{Walked}
 -- ---- occurrences
 
 -- a segment of that name that meets the shape
-pub record IsSegmentOf (tables : List TableValue) (m : List SegmentValue) (name : List ℕ) (fields : List FieldValue) (i : ℕ) : Type 0 where
+pub record IsSegmentOf (profile : ProfileValue) (m : List SegmentValue) (name : List ℕ) (fields : List FieldValue) (i : ℕ) : Type 0 where
   pub name_is : named m i ≡ name
-  pub meets : Meets tables fields (segment_at m i).at
+  pub meets : Meets profile fields (segment_at m i).at
 
 abbrev mutual
   -- the occurrences of each node, as often as its cardinality says
-  pub IsLevel : List TableValue → List SegmentValue → Tree → Forest → Type 0
-  IsLevel tables m leaf nothing = Unit {0}
-  IsLevel tables m (segments ns t) (segment s rest) =
-      (s.card.min ≤ length ns) × AtMost s.card.max (length ns) × AllByRecursion (IsSegmentOf tables m s.name s.fields) ns × IsLevel tables m t rest
-  IsLevel tables m (groups ts t) (group g below rest) =
-      (g.card.min ≤ count_of ts) × AtMost g.card.max (count_of ts) × AreLevels tables m ts below × IsLevel tables m t rest
-  IsLevel tables m _ _ = ⊥
+  pub IsLevel : ProfileValue → List SegmentValue → Tree → Forest → Type 0
+  IsLevel profile m leaf nothing = Unit {0}
+  IsLevel profile m (segments ns t) (segment s rest) =
+      (s.card.min ≤ length ns) × AtMost s.card.max (length ns) × AllByRecursion (IsSegmentOf profile m s.name s.fields) ns × IsLevel profile m t rest
+  IsLevel profile m (groups ts t) (group g below rest) =
+      (g.card.min ≤ count_of ts) × AtMost g.card.max (count_of ts) × AreLevels profile m ts below × IsLevel profile m t rest
+  IsLevel profile m _ _ = ⊥
 
-  pub AreLevels : List TableValue → List SegmentValue → Trees → Forest → Type 0
-  AreLevels tables m no_trees below = Unit {0}
-  AreLevels tables m (trees t ts) below = IsLevel tables m t below × AreLevels tables m ts below
+  pub AreLevels : ProfileValue → List SegmentValue → Trees → Forest → Type 0
+  AreLevels profile m no_trees below = Unit {0}
+  AreLevels profile m (trees t ts) below = IsLevel profile m t below × AreLevels profile m ts below
 
-abbrev pub IsOccurrence : List TableValue → List SegmentValue → Element → Occurrence → Type 0
-IsOccurrence tables m (elements.a_segment s) (a_segment i) = IsSegmentOf tables m s.name s.fields i
-IsOccurrence tables m (elements.a_segment s) (nodes t) = ⊥
-IsOccurrence tables m (elements.a_group g below) (a_segment i) = ⊥
-IsOccurrence tables m (elements.a_group g below) (nodes t) = IsLevel tables m t below
-IsOccurrence tables m (elements.the_whole below) (a_segment i) = ⊥
-IsOccurrence tables m (elements.the_whole below) (nodes t) = IsLevel tables m t below
+abbrev pub IsOccurrence : ProfileValue → List SegmentValue → Element → Occurrence → Type 0
+IsOccurrence profile m (elements.a_segment s) (a_segment i) = IsSegmentOf profile m s.name s.fields i
+IsOccurrence profile m (elements.a_segment s) (nodes t) = ⊥
+IsOccurrence profile m (elements.a_group g below) (a_segment i) = ⊥
+IsOccurrence profile m (elements.a_group g below) (nodes t) = IsLevel profile m t below
+IsOccurrence profile m (elements.the_whole below) (a_segment i) = ⊥
+IsOccurrence profile m (elements.the_whole below) (nodes t) = IsLevel profile m t below
 
 -- what is walked are occurrences of these elements
-abbrev pub InScope : List TableValue → List SegmentValue → List Element → List Occurrence → Type 0
-InScope tables m [] [] = Unit {0}
-InScope tables m [] (o ∷ os) = ⊥
-InScope tables m (e ∷ es) [] = ⊥
-InScope tables m (e ∷ es) (o ∷ os) = IsOccurrence tables m e o × InScope tables m es os
+abbrev pub InScope : ProfileValue → List SegmentValue → List Element → List Occurrence → Type 0
+InScope profile m [] [] = Unit {0}
+InScope profile m [] (o ∷ os) = ⊥
+InScope profile m (e ∷ es) [] = ⊥
+InScope profile m (e ∷ es) (o ∷ os) = IsOccurrence profile m e o × InScope profile m es os
 
 -- ---- texts
 
@@ -58,26 +58,26 @@ abbrev pub NoText : Texts → Type 0
 NoText m = (f r c s : ℕ) → text_of m f r c s ≡ []
 
 -- what the profile says of the texts at a place
-pub record IsKnown (names : List (List ℕ)) (tables : List TableValue) (k : Known) (m : Texts) : Type 0 where
+pub record IsKnown (names : List (List ℕ)) (profile : ProfileValue) (k : Known) (m : Texts) : Type 0 where
   pub lawful : AllByRecursion (LawfulField names) k.fields
-  pub meets : Meets tables k.fields m ⊎ NoText m
-  pub sure : is_sure k.count ≡ true → Meets tables k.fields m
+  pub meets : Meets profile k.fields m ⊎ NoText m
+  pub sure : is_sure k.count ≡ true → Meets profile k.fields m
   pub never : is_never k.count.greatest ≡ true → NoText m
 
 -- a repetition that is present, of a field that breaks nothing
-pub record IsRepetition (names : List (List ℕ)) (tables : List TableValue) (shape : FieldValue) (current : ℕ → ℕ → List ℕ) : Type 0 where
+pub record IsRepetition (names : List (List ℕ)) (profile : ProfileValue) (shape : FieldValue) (current : ℕ → ℕ → List ℕ) : Type 0 where
   pub texts : Texts
   pub rep : ℕ
   pub lawful : LawfulField names shape
   pub present : RepAt texts shape.number rep
-  pub unbroken : (spot : List ℕ) → FieldBreach tables texts shape spot → ⊥
+  pub unbroken : (spot : List ℕ) → FieldBreach profile texts shape spot → ⊥
   pub current_is : (comp sub : ℕ) → current comp sub ≡ text_of texts shape.number rep comp sub
 
-abbrev pub IsCurrent : List (List ℕ) → List TableValue → Option FieldValue → (ℕ → ℕ → List ℕ) → Type 0
-IsCurrent names tables None current = Unit {0}
-IsCurrent names tables (Some shape) current = IsRepetition names tables shape current
+abbrev pub IsCurrent : List (List ℕ) → ProfileValue → Option FieldValue → (ℕ → ℕ → List ℕ) → Type 0
+IsCurrent names profile None current = Unit {0}
+IsCurrent names profile (Some shape) current = IsRepetition names profile shape current
 
 -- what is read is as the profile says
 pub record IsWalked (names : List (List ℕ)) (s : Sources) (w : Walked) : Type 0 where
-  pub places : (place : Place) → IsKnown names s.tables (known s.scope place) (texts_at w.message w.scope place)
-  pub current : IsCurrent names s.tables s.current w.current
+  pub places : (place : Place) → IsKnown names s.profile (known s.scope place) (texts_at w.message w.scope place)
+  pub current : IsCurrent names s.profile s.current w.current

@@ -6,7 +6,7 @@ use Rattle.gw_er7.specs.Message.{SegmentValue}
 use Rattle.gw_profile.specs.declared.shape.Usage.{Usage}
 use Rattle.gw_profile.specs.declared.shape.Usage.TheVariants.{R, RE, O, X}
 use Rattle.gw_profile.specs.declared.shape.Card.{Card}
-use Rattle.gw_profile.specs.Shapes.{FieldValue, Forest, TableValue, nothing, segment, group}
+use Rattle.gw_profile.specs.Shapes.{FieldValue, Forest, ProfileValue, nothing, segment, group}
 use Rattle.gw_profile.specs.Deterministic.{AtMost}
 use Rattle.gw_profile.specs.WellFormed.{Agrees}
 use Rattle.gw_validate.specs.Breaches.{is_forbidden}
@@ -126,7 +126,7 @@ next nodes j i {c} h = let same : j + suc i ≡ suc j + i = omega arith in subst
 from_zero : (nodes : Forest) (i : ℕ) → child nodes (0 + i) ≡ child nodes i
 from_zero nodes i = let same : 0 + i ≡ i = omega arith in ap (child nodes) same
 
-module _ (from to : List TableValue) (from_names names : List (List ℕ)) (m : List SegmentValue) (Image : Walked → List ℕ → List Rule → SegmentValue → Type 0) (meets : List FieldValue → SegmentValue → Type 0) (sound : FieldsSound from to from_names names m Image meets) where
+module _ (from to : ProfileValue) (from_names names : List (List ℕ)) (m : List SegmentValue) (Image : Walked → List ℕ → List Rule → SegmentValue → Type 0) (meets : List FieldValue → SegmentValue → Type 0) (sound : FieldsSound from to from_names names m Image meets) where
   -- from node j on
   level_from : (f : Forest) (j : ℕ) (items : Items) → splits.EachGroup (LevelSound from to from_names names m Image meets) items → (es : List Element) (os : List Occurrence) (holder : ℕ) (nodes : Forest) (list : List SegmentValue) →
       Scoped from from_names m es os → LawfulNodes names nodes → LawfulNodes names f → ((i : ℕ) → child nodes (j + i) ≡ child f i) → LawfulItems nodes items → are_placed nodes j items ≡ true →
