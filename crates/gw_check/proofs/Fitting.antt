@@ -1,5 +1,5 @@
 -- Values that are in a table, and that aren't too long.
-use Rattle.std.proofs.Common.{◌≡◌, ℕ, zero, suc, ◌≤◌, inl, inr, Bool, true, false, List, [], ◌∷◌, length, Option, Some, None, refl, sym, ap, ◌↔◌, subst, arith}
+use Rattle.std.proofs.Common.{◌≡◌, ℕ, zero, suc, ◌≤◌, inl, inr, Bool, true, false, List, [], ◌∷◌, length, Some, None, refl, sym, ap, ◌↔◌, subst, arith}
 use Rattle.std.specs.Prelude.{not, nat_lt, nat_le}
 use Rattle.std.specs.List.{list_any}
 use Rattle.std.proofs.lemmas.Bool.{le-ltb, ltb-false}
@@ -50,9 +50,9 @@ so_long octets n = (zeros n, zeros_long n)
 
 none_exceeds : (count : Count) (len : ℕ) (to : Count) (most : ℕ) → (may_exceed count len to most ≡ false) ↔ ((x : List ℕ) → nat_le (measure count x) len ≡ true → measure to x ≤ most)
 none_exceeds octets len octets most = (
-    λ e x short. grind (arith, nat_tests),
-    λ h. le-ltb most len (subst (λ n. n ≤ most) (zeros_long len) (h (zeros len) (as_short (zeros_long len)))),
-  )
+  λ e x short. grind (arith, nat_tests),
+  λ h. le-ltb most len (subst (λ n. n ≤ most) (zeros_long len) (h (zeros len) (as_short (zeros_long len)))),
+)
   where
     as_short : {n : ℕ} → n ≡ len → nat_le n len ≡ true
     as_short e = grind (arith, nat_tests)
@@ -62,8 +62,8 @@ is_short to most x = (λ e. ltb-false most (measure to x) e, λ h. le-ltb most (
 
 pub all_short : (to : Count) (v : Values) (most : ℕ) → (may_be_long to v (Some most) ≡ false) ↔ ((x : List ℕ) → IsOf v x → measure to x ≤ most)
 all_short to (any count None) most = (
-    λ e. absurd (cc),
-    λ h. let longer = so_long to (suc most) in absurd (omega (arith, h longer.0 refl, longer.1)),
-  )
+  λ e. absurd (cc),
+  λ h. let longer = so_long to (suc most) in absurd (omega (arith, h longer.0 refl, longer.1)),
+)
 all_short to (any count (Some len)) most = none_exceeds count len to most
 all_short to (listed texts) most = none_fails (λ x. nat_lt most (measure to x)) (λ x. measure to x ≤ most) (is_short to most) texts

@@ -78,7 +78,7 @@ field_presence k (Some f) =
 
 -- ---- values
 
--- any texts, no longer than the length in its count, or those of a list
+-- the listed texts, or any that by this count aren't longer than the length, if there is one
 pub data Values : Type 0 where
   any : (count : Count) (len : Option ℕ) → Values
   listed : (texts : List (List ℕ)) → Values
@@ -160,11 +160,11 @@ may_be_unlisted values None = false
 may_be_unlisted (any count len) (Some table) = true
 may_be_unlisted (listed texts) (Some table) = list_any (λ text. not (is_among text table)) texts
 
--- of the texts that are at most so long in the one count, one may be longer than the most in the other
+-- a text that isn't longer than the length by one count may be longer than the most by the other
 abbrev pub may_exceed : Count → ℕ → Count → ℕ → Bool
 may_exceed octets len octets most = nat_lt most len
 
--- a value may be longer than the length, in the count of the target
+-- a value may be longer than the length, by the count of the target
 abbrev pub may_be_long : Count → Values → Option ℕ → Bool
 may_be_long to values None = false
 may_be_long to (any count None) (Some most) = true

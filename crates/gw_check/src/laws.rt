@@ -47,7 +47,7 @@ pub fn counts_at_the_cap()
     ensures none { (i : Interval) → is_never (saturated i).greatest ≡ is_never i.greatest }
 {}
 
-/// What can stand at a place is included exactly where it meets the usage, and is never there or has only values of the table that aren't too long. Values that aren't missing from a table stand in it, and listed values are missing only where one doesn't. Values aren't too long exactly where each is, in the count of the target, at most so long.
+/// What can stand at a place is included exactly where it meets the usage, and is never there or has only values of the table that aren't too long. Where none can be missing from a table, each stands in it, and where each of listed values stands in it, none can. None can be too long exactly where each has at most that length in the count of the target.
 pub fn values_that_are_included()
     ensures included { (to : Count) (shape : Shape) (s : SubValue) (table : Option (List (List ℕ))) → (is_included to shape s table ≡ true) ↔ ((s.usage ≡ R → shape.presence ≡ Always) × (s.usage ≡ X → shape.presence ≡ Never) × ((shape.presence ≡ Never) ⊎ ((may_be_unlisted shape.values table ≡ false) × (may_be_long to shape.values s.len ≡ false)))) }
     ensures tabled { (v : Values) (table : List (List ℕ)) → may_be_unlisted v (Some table) ≡ false → (x : List ℕ) → IsOf v x → Among x table }

@@ -1,5 +1,5 @@
 -- A text that is as a shape says, and what that means for a target subcomponent for which no rule fails.
-use Rattle.std.proofs.Common.{◌≡◌, ℕ, ◌<◌, ◌⊎◌, inl, inr, Bool, true, false, List, [], ◌∷◌, Option, Some, None, refl, ap, ◌∙◌, arith, length}
+use Rattle.std.proofs.Common.{◌≡◌, ℕ, ◌<◌, ◌⊎◌, inl, inr, Bool, true, false, List, [], ◌∷◌, Option, Some, None, refl, ◌∙◌, arith, length}
 use Rattle.std.specs.Prelude.{◌&&◌, not, option_and_then}
 use Rattle.std.proofs.lemmas.Bool.{le-ltb}
 use Rattle.gw_profile.specs.declared.shape.Usage.{Usage}
