@@ -10,6 +10,7 @@ pub mod Stepped
 pub mod Within
 pub mod Passing
 pub mod Collecting
+pub mod Accounting
 pub mod Labels
 pub mod Targeting
 pub mod Built

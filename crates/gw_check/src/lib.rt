@@ -1,6 +1,7 @@
 //! Checks maps before they run: the rules that keep a translation from failing, and from giving what its receiver refuses.
 #![tactic(auto)]
 
+mod accounted;
 mod checked;
 mod checker;
 mod copied;

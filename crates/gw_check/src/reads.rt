@@ -1,26 +1,20 @@
 //! Which fields of the source are read, and which are passed over.
-ghost use Rattle.std.specs.Prelude.{◌≡◌, ◌++◌, ◌∷◌, ◌==◌, ◌&&◌, [], List, map, flat_map, bytes_eq, not, option_map, IfOk, OnOk};
-ghost use Rattle.std.specs.List.{starts_with, list_any};
-ghost use Rattle.gw_profile.specs.Seen.{forest, field as seen_field};
+ghost use Rattle.std.specs.Prelude.{◌≡◌, ◌++◌, ◌∷◌, [], List, map, flat_map, option_map, IfOk, OnOk};
+ghost use Rattle.std.specs.List.{list_any};
+ghost use Rattle.gw_profile.specs.Seen.{forest, segment_value, field as seen_field};
 ghost use Rattle.gw_check.specs.Reads as spec;
-ghost use Rattle.gw_check.specs.Collected.{Adds, covers, node_passes, reads as seen_reads, positions};
+ghost use Rattle.gw_check.specs.Collected.{Adds, fields_at, positions, is_missed, segment_misses, some_missed, within_misses, node_misses};
 ghost use Rattle.gw_check.specs.Seen.{place as seen_place, reference, source, leaf, at_leaf, making, rule, with_item, all_items, left_out as seen_drop};
 ghost use Rattle.gw_maplang.specs.Shapes.{TableValue};
 ghost use Rattle.gw_check.specs.Resolved.{no_items};
 
+use crate::accounted::{Accounted, FieldAt};
 use crate::resolved::{
     At, Item, Leaf, LeftOut, Making, Place, Reference, Rule, SegmentItem, Source,
 };
 use crate::values::is_forbidden;
-use gw_profile::{FieldShape, Node, Usage};
+use gw_profile::{FieldShape, Node, SegNode, Usage};
 use std::alloc::{AllocError, Global};
-
-/// A field of the segment at a position.
-#[derive(Debug, Drop)]
-pub(crate) struct Read {
-    at: Vec<usize>,
-    field: u32,
-}
 
 /// The position of a place, seen from the positions that are walked, the innermost last.
 fn position(alloc: Global, scope: &[Vec<usize>], place: &Place) -> Result<Vec<usize>, AllocError>
@@ -36,14 +30,14 @@ fn position(alloc: Global, scope: &[Vec<usize>], place: &Place) -> Result<Vec<us
 
 fn add_reference(
     alloc: Global,
-    reads: &mut Vec<Read>,
+    reads: &mut Vec<FieldAt>,
     scope: &[Vec<usize>],
     from: &Reference,
 ) -> Result<(), AllocError>
     ensures { OnOk result (Adds reads.old.items reads.new.items (spec.read_by (positions scope.now) (reference from.now) ∷ [])) }
 {
     let at = position(alloc, scope, &from.place)?;
-    let read = Read {
+    let read = FieldAt {
         at,
         field: from.field,
     };
@@ -53,7 +47,7 @@ fn add_reference(
 
 fn add_source(
     alloc: Global,
-    reads: &mut Vec<Read>,
+    reads: &mut Vec<FieldAt>,
     scope: &[Vec<usize>],
     from: &Source,
 ) -> Result<(), AllocError>
@@ -67,7 +61,7 @@ fn add_source(
 
 fn add_leaf(
     alloc: Global,
-    reads: &mut Vec<Read>,
+    reads: &mut Vec<FieldAt>,
     scope: &[Vec<usize>],
     at: &At,
 ) -> Result<(), AllocError>
@@ -80,18 +74,6 @@ fn add_leaf(
     }
 }
 
-fn same_steps(a: &[usize], b: &[usize]) -> bool
-    ensures { result ≡ bytes_eq a.now b.now }
-{
-    a == b
-}
-
-fn begins_with(at: &[usize], steps: &[usize]) -> bool
-    ensures { result ≡ starts_with (λ a b. a == b) at.now steps.now }
-{
-    at.starts_with(steps)
-}
-
 fn may_hold(usage: Usage) -> bool
     ensures { result ≡ spec.may_hold usage }
 {
@@ -101,101 +83,97 @@ fn may_hold(usage: Usage) -> bool
     }
 }
 
-fn is_same(read: &Read, at: &[usize], field: u32) -> bool
-    ensures { result ≡ bytes_eq read.now.at.items at.now && read.now.field == field }
-{
-    read.field == field && same_steps(&read.at, at)
-}
-
-fn is_read(reads: &[Read], at: &[usize], field: u32) -> bool
-    ensures { result ≡ spec.is_read (seen_reads reads.now) at.now field }
-{
-    for (i, read) in reads.iter().enumerate() {
-        if is_same(read, at, field) {
-            return true;
-        }
-    }
-    false
-}
-
-fn covers(left_out: &LeftOut, at: &[usize], field: u32) -> bool
-    ensures { result ≡ covers (seen_drop left_out.now) at.now field }
-{
-    match left_out.field {
-        None => begins_with(at, &left_out.steps),
-        Some(number) => same_steps(&left_out.steps, at) && number == field,
-    }
-}
-
-fn is_dropped(drops: &[LeftOut], at: &[usize], field: u32) -> bool
-    ensures { result ≡ spec.is_dropped (map seen_drop drops.now) at.now field }
-{
-    for (i, left_out) in drops.iter().enumerate() {
-        if covers(left_out, at, field) {
-            return true;
-        }
-    }
-    false
-}
-
-fn is_passed_over(reads: &[Read], drops: &[LeftOut], at: &[usize], field: &FieldShape) -> bool
-    ensures { result ≡ spec.is_passed_over (seen_reads reads.now) (map seen_drop drops.now) at.now (seen_field field.now) }
+fn is_missed(
+    alloc: Global,
+    known: &Accounted,
+    at: &[usize],
+    field: &FieldShape,
+) -> Result<bool, AllocError>
+    ensures { IfOk result (λ b. b ≡ is_missed known.now at.now (seen_field field.now)) }
 {
     if !may_hold(field.usage) {
-        return false;
+        return Ok(false);
     }
-    if is_read(reads, at, field.number) {
-        return false;
-    }
-    !is_dropped(drops, at, field.number)
+    Ok(!known.has_field(alloc, at, field.number)?)
 }
 
-// Whether a field of the segment is passed over; a forbidden segment has none.
-fn segment_passes(reads: &[Read], drops: &[LeftOut], at: &[usize], fields: &[FieldShape]) -> bool
-    ensures { result ≡ list_any (spec.is_passed_over (seen_reads reads.now) (map seen_drop drops.now) at.now) (map seen_field fields.now) }
+fn some_field_missed(
+    alloc: Global,
+    known: &Accounted,
+    at: &[usize],
+    fields: &[FieldShape],
+) -> Result<bool, AllocError>
+    ensures { IfOk result (λ b. b ≡ list_any (is_missed known.now at.now) (map seen_field fields.now)) }
 {
     for (i, field) in fields.iter().enumerate() {
-        if is_passed_over(reads, drops, at, field) {
-            return true;
+        if is_missed(alloc, known, at, field)? {
+            return Ok(true);
         }
     }
-    false
+    Ok(false)
 }
 
-// Whether a field of the node at this position, or of one within it, is passed over.
-#[cycle(pass)]
-fn node_passes(
+// Whether a field of the segment at this position is missed; a forbidden segment has none.
+fn segment_misses(
     alloc: Global,
-    reads: &[Read],
-    drops: &[LeftOut],
+    known: &Accounted,
+    at: &[usize],
+    segment: &SegNode,
+) -> Result<bool, AllocError>
+    ensures { IfOk result (λ b. b ≡ segment_misses known.now at.now (segment_value segment.now)) }
+{
+    if known.has_element(at) || is_forbidden(segment.usage) {
+        return Ok(false);
+    }
+    some_field_missed(alloc, known, at, &segment.fields)
+}
+
+// Whether a field of the node at this position, or of one within it, is missed.
+#[cycle(pass)]
+fn node_misses(
+    alloc: Global,
+    known: &Accounted,
     at: &[usize],
     node: &Node,
 ) -> Result<bool, AllocError>
-    ensures { IfOk result (λ b. b ≡ node_passes (seen_reads reads.now) (map seen_drop drops.now) at.now node.now) }
+    ensures { IfOk result (λ b. b ≡ node_misses known.now at.now node.now) }
 {
     match node {
-        Node::Seg(segment) => {
-            Ok(!is_forbidden(segment.usage) && segment_passes(reads, drops, at, &segment.fields))
-        }
-        Node::Group(group) => some_passed_over(alloc, reads, drops, at, &group.nodes),
+        Node::Seg(segment) => segment_misses(alloc, known, at, segment),
+        Node::Group(group) => within_misses(alloc, known, at, &group.nodes),
     }
 }
 
-/// Whether a field of the nodes, or of one within them, is passed over, where they stand below this position.
+// Whether a field of the nodes, or of one within them, is missed, where they are all that is in the element at this position.
 #[cycle(pass)]
-pub(crate) fn some_passed_over(
+fn within_misses(
     alloc: Global,
-    reads: &[Read],
-    drops: &[LeftOut],
+    known: &Accounted,
+    at: &[usize],
+    nodes: &[Node],
+) -> Result<bool, AllocError>
+    ensures { IfOk result (λ b. b ≡ within_misses known.now at.now (forest nodes.now)) }
+{
+    if known.has_element(at) {
+        return Ok(false);
+    }
+    some_missed(alloc, known, at, nodes)
+}
+
+// Whether a field of the nodes below this position, or of one within them, is missed.
+#[cycle(pass)]
+fn some_missed(
+    alloc: Global,
+    known: &Accounted,
     above: &[usize],
     nodes: &[Node],
 ) -> Result<bool, AllocError>
-    ensures { IfOk result (λ b. b ≡ spec.some_passed_over (seen_reads reads.now) (map seen_drop drops.now) above.now 0 (forest nodes.now)) }
+    ensures { IfOk result (λ b. b ≡ some_missed known.now above.now 0 (forest nodes.now)) }
 {
     for (j, node) in nodes.iter().enumerate() {
         let mut at = Vec::from_slice(alloc, above)?;
         at.push(j)?;
-        if node_passes(alloc, reads, drops, &at, node)? {
+        if node_misses(alloc, known, &at, node)? {
             return Ok(true);
         }
     }
@@ -204,7 +182,7 @@ pub(crate) fn some_passed_over(
 
 fn add_leaves(
     alloc: Global,
-    reads: &mut Vec<Read>,
+    reads: &mut Vec<FieldAt>,
     scope: &[Vec<usize>],
     leaves: &[At],
 ) -> Result<(), AllocError>
@@ -218,7 +196,7 @@ fn add_leaves(
 
 fn add_rule(
     alloc: Global,
-    reads: &mut Vec<Read>,
+    reads: &mut Vec<FieldAt>,
     scope: &[Vec<usize>],
     of: &Rule,
 ) -> Result<(), AllocError>
@@ -236,7 +214,7 @@ fn add_rule(
 
 fn add_rules(
     alloc: Global,
-    reads: &mut Vec<Read>,
+    reads: &mut Vec<FieldAt>,
     scope: &[Vec<usize>],
     rules: &[Rule],
 ) -> Result<(), AllocError>
@@ -263,7 +241,7 @@ fn inner(alloc: Global, scope: &[Vec<usize>], place: &Place) -> Result<Vec<Vec<u
 
 fn add_segment(
     alloc: Global,
-    reads: &mut Vec<Read>,
+    reads: &mut Vec<FieldAt>,
     scope: &[Vec<usize>],
     segment: &SegmentItem,
 ) -> Result<(), AllocError>
@@ -282,7 +260,7 @@ fn add_segment(
 #[cycle(add)]
 fn add_item(
     alloc: Global,
-    reads: &mut Vec<Read>,
+    reads: &mut Vec<FieldAt>,
     scope: &[Vec<usize>],
     item: &Item,
 ) -> Result<(), AllocError>
@@ -305,7 +283,7 @@ fn add_item(
 #[cycle(add)]
 fn add_items(
     alloc: Global,
-    reads: &mut Vec<Read>,
+    reads: &mut Vec<FieldAt>,
     scope: &[Vec<usize>],
     items: &[Item],
 ) -> Result<(), AllocError>
@@ -317,6 +295,17 @@ fn add_items(
     Ok(())
 }
 
+// What the items read.
+fn all_read(alloc: Global, items: &[Item]) -> Result<Vec<FieldAt>, AllocError>
+    ensures { IfOk result (λ reads. (tables : List TableValue) → fields_at reads.items ≡ spec.items_read ([] ∷ []) (all_items tables items.now)) }
+{
+    let mut scope = Vec::new(alloc);
+    scope.push(Vec::new(alloc))?;
+    let mut reads = Vec::new(alloc);
+    add_items(alloc, &mut reads, &scope, items)?;
+    Ok(reads)
+}
+
 /// Whether some field of the source that may hold something is neither read by the items nor dropped.
 pub(crate) fn passes_over(
     alloc: Global,
@@ -326,9 +315,7 @@ pub(crate) fn passes_over(
 ) -> Result<bool, AllocError>
     ensures { IfOk result (λ b. (tables : List TableValue) → b ≡ spec.some_passed_over (spec.items_read ([] ∷ []) (all_items tables items.now)) (map seen_drop drops.now) [] 0 (forest nodes.now)) }
 {
-    let mut scope = Vec::new(alloc);
-    scope.push(Vec::new(alloc))?;
-    let mut reads = Vec::new(alloc);
-    add_items(alloc, &mut reads, &scope, items)?;
-    some_passed_over(alloc, &reads, drops, &[], nodes)
+    let reads = all_read(alloc, items)?;
+    let known = Accounted::of(alloc, reads, drops)?;
+    within_misses(alloc, &known, &[], nodes)
 }

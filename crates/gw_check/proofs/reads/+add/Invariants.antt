@@ -2,7 +2,7 @@ use Rattle.std.proofs.Common.{◌≡◌, ◌++◌, ◌+◌, ◌*◌, drop, List}
 use Rattle.gw_maplang.specs.Shapes.{TableValue}
 use Rattle.gw_check.specs.declared.resolved.Item.{size-Item}
 use Rattle.gw_check.specs.Reads.{items_read}
-use Rattle.gw_check.specs.Collected.{reads, positions}
+use Rattle.gw_check.specs.Collected.{fields_at, positions}
 use Rattle.gw_check.specs.Seen.{all_items}
 use Rattle.gw_check.proofs.reads.+add.Given as goal
 
@@ -15,4 +15,4 @@ decreases-add_items l = 2 * goal.size-add_items l + 1
 abbrev pub invariant-add_items-loop-i : goal.invariant-add_items-loop-i
 invariant-add_items-loop-i l =
     (tables : List TableValue) →
-    reads l.initial.reads.items ++ items_read (positions l.scope) (all_items tables l.items) ≡ reads l.reads.items ++ items_read (positions l.scope) (all_items tables (drop l.i l.items))
+    fields_at l.initial.reads.items ++ items_read (positions l.scope) (all_items tables l.items) ≡ fields_at l.reads.items ++ items_read (positions l.scope) (all_items tables (drop l.i l.items))

@@ -2,12 +2,12 @@ use Rattle.std.proofs.Common.{◌≡◌, ◌++◌, drop, map, List}
 use Rattle.std.specs.Prelude.{flat_map}
 use Rattle.gw_maplang.specs.Shapes.{TableValue}
 use Rattle.gw_check.specs.Reads.{at_reads}
-use Rattle.gw_check.specs.Collected.{reads, positions}
+use Rattle.gw_check.specs.Collected.{fields_at, positions}
 use Rattle.gw_check.specs.Seen.{at_leaf}
 use Rattle.gw_check.proofs.reads.add_leaves.Given as goal
 
 abbrev pub invariant-loop-i : goal.invariant-loop-i
 invariant-loop-i l =
     (tables : List TableValue) →
-    reads l.initial.reads.items ++ flat_map (at_reads (positions l.scope)) (map (at_leaf tables) l.leaves)
-    ≡ reads l.reads.items ++ flat_map (at_reads (positions l.scope)) (map (at_leaf tables) (drop l.i l.leaves))
+    fields_at l.initial.reads.items ++ flat_map (at_reads (positions l.scope)) (map (at_leaf tables) l.leaves)
+    ≡ fields_at l.reads.items ++ flat_map (at_reads (positions l.scope)) (map (at_leaf tables) (drop l.i l.leaves))

@@ -1,12 +1,12 @@
 use Rattle.std.proofs.Common.{◌≡◌, ◌++◌, drop, map, List}
 use Rattle.gw_maplang.specs.Shapes.{TableValue}
 use Rattle.gw_check.specs.Reads.{rules_read}
-use Rattle.gw_check.specs.Collected.{reads, positions}
+use Rattle.gw_check.specs.Collected.{fields_at, positions}
 use Rattle.gw_check.specs.Seen.{rule}
 use Rattle.gw_check.proofs.reads.add_rules.Given as goal
 
 abbrev pub invariant-loop-i : goal.invariant-loop-i
 invariant-loop-i l =
     (tables : List TableValue) →
-    reads l.initial.reads.items ++ rules_read (positions l.scope) (map (rule tables) l.rules)
-    ≡ reads l.reads.items ++ rules_read (positions l.scope) (map (rule tables) (drop l.i l.rules))
+    fields_at l.initial.reads.items ++ rules_read (positions l.scope) (map (rule tables) l.rules)
+    ≡ fields_at l.reads.items ++ rules_read (positions l.scope) (map (rule tables) (drop l.i l.rules))

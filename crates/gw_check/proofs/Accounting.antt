@@ -1,0 +1,107 @@
+-- What is accounted for, one after the other.
+use Rattle.std.proofs.Common.{◌≡◌, ℕ, Bool, true, false, List, [], ◌∷◌, ◌++◌, map, Option, Some, None, refl, sym, ap, ◌∙◌}
+use Rattle.std.specs.Prelude.{◌==◌, ◌&&◌, ◌||◌, bytes_eq, if◌then◌else◌}
+use Rattle.std.specs.List.{list_any}
+use Rattle.std.specs.Global.{Vec}
+use Rattle.indexmap.specs.IndexSet.{insert_key}
+use Rattle.std.proofs.lemmas.Cmp.{nat_list_eq_equiv, nat_eq_equiv}
+use Rattle.std.proofs.lemmas.List.Folds.{list_any-append}
+use Rattle.gw_profile.proofs.Facts.{both}
+use Rattle.gw_check.specs.declared.accounted.FieldAt.{FieldAt}
+use Rattle.gw_check.specs.declared.accounted.Accounted.{Accounted}
+use Rattle.gw_check.specs.Resolved.{Drop}
+use Rattle.gw_check.specs.Reads.{Position, SourceField, is_read}
+use Rattle.gw_check.specs.Collected.{field_at, fields_at, has_field, has_element, drops_field, drops_element, Gains, no_element, Accounts}
+
+-- ---- tests
+
+pub or_none : (a : Bool) → a || false ≡ a
+or_none true = refl
+or_none false = refl
+
+pub or_assoc : (a b c : Bool) → (a || b) || c ≡ (a || (b || c))
+or_assoc true b c = refl
+or_assoc false b c = refl
+
+already : (a b : Bool) → (b ≡ true → a ≡ true) → a ≡ (a || b)
+already true b h = refl
+already false true h = absurd (cc (h refl))
+already false false h = refl
+
+-- ---- one more key in a set
+
+module _ {K : Type 0} (eq : K → K → Bool) (test : K → Bool) (k : K) (alike : (x : K) → eq k x ≡ true → test k ≡ test x) where
+  found : (ks : List K) → list_any (eq k) ks ≡ true → test k ≡ true → list_any test ks ≡ true
+  found [] h t = h
+  found (x ∷ ks) h t = by (eq k x) refl h (λ e. found ks e t)
+    where
+      last : (b : Bool) → b || true ≡ true
+      last true = refl
+      last false = refl
+
+      by : (b : Bool) → eq k x ≡ b → b || list_any (eq k) ks ≡ true → (list_any (eq k) ks ≡ true → list_any test ks ≡ true) → test x || list_any test ks ≡ true
+      by true e h later = ap (λ b. b || list_any test ks) (sym (alike x e) ∙ t)
+      by false e h later = ap (λ b. test x || b) (later h) ∙ last (test x)
+
+  pub inserted : (ks : List K) → list_any test (insert_key eq ks k) ≡ (list_any test ks || test k)
+  inserted ks = by (list_any (eq k) ks) refl
+    where
+      by : (b : Bool) → list_any (eq k) ks ≡ b → list_any test (if b then ks else ks ++ k ∷ []) ≡ (list_any test ks || test k)
+      by true e = already (list_any test ks) (test k) (found ks e)
+      by false e = list_any-append test ks (k ∷ []) ∙ ap (λ b. list_any test ks || b) (or_none (test k))
+
+-- ---- a field, and an element
+
+abbrev same : FieldAt → FieldAt → Bool
+same a b = bytes_eq a.at.items b.at.items && a.field == b.field
+
+turned : (at bt : Position) (n m : ℕ) → bytes_eq at bt && n == m ≡ (bytes_eq bt at && m == n)
+turned at bt n m = ap (λ b. b && n == m) (nat_list_eq_equiv.symm at bt) ∙ ap (λ b. bytes_eq bt at && b) (nat_eq_equiv.symm n m)
+
+alike_fields : (f x : FieldAt) (at : Position) (n : ℕ) → same f x ≡ true → bytes_eq at f.at.items && n == f.field ≡ (bytes_eq at x.at.items && n == x.field)
+alike_fields f x at n e =
+    let h = both (bytes_eq f.at.items x.at.items) (f.field == x.field) e in
+    turned at f.at.items n f.field
+    ∙ ap (λ b. b && f.field == n) (nat_list_eq_equiv.congr f.at.items x.at.items at h.0)
+    ∙ ap (λ b. bytes_eq x.at.items at && b) (nat_eq_equiv.congr f.field x.field n h.1)
+    ∙ turned x.at.items at x.field n
+
+pub field_added : (old : Accounted) (f : FieldAt) (new : Accounted) → new.fields.keys ≡ insert_key same old.fields.keys f → new.elements ≡ old.elements → Gains old new (is_read (field_at f ∷ [])) no_element
+field_added old f new keys rest = record {
+  fields = λ at n.
+      ap (list_any (λ x. bytes_eq at x.at.items && n == x.field)) keys
+      ∙ inserted same (λ x. bytes_eq at x.at.items && n == x.field) f (λ x e. alike_fields f x at n e) old.fields.keys
+      ∙ ap (λ b. has_field old at n || b) (turned at f.at.items n f.field ∙ sym (or_none (bytes_eq f.at.items at && f.field == n)));
+  elements = λ at. ap (λ s. list_any (λ v. bytes_eq at v.items) s.keys) rest ∙ sym (or_none (has_element old at));
+}
+
+pub element_added : (old : Accounted) (v : Vec ℕ) (new : Accounted) → new.elements.keys ≡ insert_key (λ a b. bytes_eq a.items b.items) old.elements.keys v → new.fields ≡ old.fields → Gains old new (λ at number. false) (bytes_eq v.items)
+element_added old v new keys rest = record {
+  fields = λ at n. ap (λ s. list_any (λ x. bytes_eq at x.at.items && n == x.field) s.keys) rest ∙ sym (or_none (has_field old at n));
+  elements = λ at.
+      ap (list_any (λ x. bytes_eq at x.items)) keys
+      ∙ inserted (λ a b. bytes_eq a.items b.items) (λ x. bytes_eq at x.items) v
+      (λ x e. nat_list_eq_equiv.symm at v.items ∙ nat_list_eq_equiv.congr v.items x.items at e ∙ nat_list_eq_equiv.symm x.items at) old.elements.keys
+      ∙ ap (λ b. has_element old at || b) (nat_list_eq_equiv.symm at v.items);
+}
+
+-- ---- all of them
+
+pub fields_more : (first old new : Accounted) (fs : List FieldAt) (f : FieldAt) → Gains first old (is_read (fields_at fs)) no_element → Gains old new (is_read (field_at f ∷ [])) no_element → Gains first new (is_read (fields_at (fs ++ f ∷ []))) no_element
+fields_more first old new fs f h k = record {
+  fields = λ at n.
+      k.fields at n ∙ ap (λ b. b || is_read (field_at f ∷ []) at n) (h.fields at n)
+      ∙ or_assoc (has_field first at n) (is_read (fields_at fs) at n) (is_read (field_at f ∷ []) at n)
+      ∙ ap (λ b. has_field first at n || b) (sym (ap (λ l. is_read l at n) (fields_push fs f) ∙ list_any-append (λ (r : SourceField). bytes_eq r.at at && r.field == n) (fields_at fs) (field_at f ∷ [])));
+  elements = λ at. k.elements at ∙ ap (λ b. b || false) (h.elements at) ∙ or_none (has_element first at || false);
+}
+  where
+    fields_push : (xs : List FieldAt) (x : FieldAt) → fields_at (xs ++ x ∷ []) ≡ fields_at xs ++ field_at x ∷ []
+    fields_push [] x = refl
+    fields_push (y ∷ xs) x = ap (λ l. field_at y ∷ l) (fields_push xs x)
+
+pub all_accounted : (none mid known : Accounted) (reads : List FieldAt) (drops : List Drop) → none.fields.keys ≡ [] → none.elements.keys ≡ [] → Gains none mid (is_read (fields_at reads)) no_element → Gains mid known (drops_field drops) (drops_element drops) → Accounts known (fields_at reads) drops
+all_accounted none mid known reads drops e f h k = record {
+  fields = λ at n. k.fields at n ∙ ap (λ b. b || drops_field drops at n) (h.fields at n ∙ ap (λ l. list_any (λ x. bytes_eq at x.at.items && n == x.field) l || is_read (fields_at reads) at n) e);
+  elements = λ at. k.elements at ∙ ap (λ b. b || drops_element drops at) (h.elements at ∙ ap (λ l. list_any (λ x. bytes_eq at x.items) l || false) f);
+}
