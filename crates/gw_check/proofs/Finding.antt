@@ -9,6 +9,7 @@ use Rattle.gw_check.specs.Places.{Element, a_segment, a_group, the_whole, nodes_
 use Rattle.gw_check.specs.declared.element.Element as elements
 use Rattle.gw_check.specs.Seen.{saturated, element, scope}
 use Rattle.gw_check.specs.Founds.{count_of, saturated_found, times_element}
+use Rattle.gw_check.specs.Walks.{element_if}
 use Rattle.gw_check.proofs.Saturation.{product_saturated}
 
 abbrev card_of : Element → Card
@@ -76,19 +77,27 @@ out_of_scope es out steps h =
     in_scope (reverse es) out steps ∙ ap (λ e. at_element e steps) (slice_get_past (reverse es) out past)
 
 -- the element so far outwards, of those whose innermost stands last
-pub found_walked : (es : List elements.Element) (out : ℕ) (steps : List ℕ) (e : elements.Element) → out < length es → e ≡ get_or es (length es - 1 - out) e → found_in (scope es) out steps ≡ found_below steps (element e)
-found_walked es out steps e h is =
-    in_scope (scope es) out steps ∙ ap (λ x. at_element x steps) (
-    elim ((slice_get_cases (scope es) out).1) [
-      | inl x ↦ x.2 ∙ ap Some (sym x.3 ∙ get_or-reverse (map element es) out x.0 within ∙ there x.0)
-      | inr x ↦ absurd (omega (arith, x.0, within, length-reverse (map element es)))
+pub found_among : {A : Type 0} (seen : A → Element) (es : List A) (out : ℕ) (steps : List ℕ) (e : A) → out < length es → e ≡ get_or es (length es - 1 - out) e → found_in (reverse (map seen es)) out steps ≡ found_below steps (seen e)
+found_among seen es out steps e h is =
+    in_scope (reverse (map seen es)) out steps ∙ ap (λ x. at_element x steps) (
+    elim ((slice_get_cases (reverse (map seen es)) out).1) [
+      | inl x ↦ x.2 ∙ ap Some (sym x.3 ∙ get_or-reverse (map seen es) out x.0 within ∙ there x.0)
+      | inr x ↦ absurd (omega (arith, x.0, within, length-reverse (map seen es)))
     ])
   where
-    within : out < length (map element es)
-    within = omega (arith, h, length-map es element)
+    within : out < length (map seen es)
+    within = omega (arith, h, length-map es seen)
 
-    there : (d : Element) → get_or (map element es) (length (map element es) - 1 - out) d ≡ element e
+    there : (d : Element) → get_or (map seen es) (length (map seen es) - 1 - out) d ≡ seen e
     there d =
-        ap (λ n. get_or (map element es) (n - 1 - out) d) (length-map es element)
-        ∙ get_or-map element es (length es - 1 - out) e d (omega (arith, h))
-        ∙ ap element (sym is)
+        ap (λ n. get_or (map seen es) (n - 1 - out) d) (length-map es seen)
+        ∙ get_or-map seen es (length es - 1 - out) e d (omega (arith, h))
+        ∙ ap seen (sym is)
+
+pub found_walked : (es : List elements.Element) (out : ℕ) (steps : List ℕ) (e : elements.Element) → out < length es → e ≡ get_or es (length es - 1 - out) e → found_in (scope es) out steps ≡ found_below steps (element e)
+found_walked = found_among element
+
+-- the element that was found, however often it is there
+pub element_of_times : (e : Element) (f : Option Found) → element_if (times_element e f) ≡ element_if f
+element_of_times e None = refl
+element_of_times e (Some f) = refl

@@ -1,5 +1,5 @@
 -- The failures of a map, joined.
-use Rattle.std.proofs.Common.{◌≡◌, ℕ, Bool, List, [], ◌∷◌, ◌++◌, map, Option, Some, None, sym, ap, ap₂, ◌∙◌}
+use Rattle.std.proofs.Common.{◌≡◌, ℕ, Bool, List, [], ◌∷◌, ◌++◌, map, Option, Some, None, Result, Ok, Err, IfOk, sym, ap, ap₂, ◌∙◌}
 use Rattle.gw_profile.specs.Shapes.{Forest, ProfileValue, nothing, segment, group}
 use Rattle.gw_profile.specs.WellFormed.{EachSegment, EachGroup, LawfulSegment, LawfulGroup, WellFormed, table_names}
 use Rattle.gw_maplang.specs.Shapes.{MapValue}
@@ -16,6 +16,8 @@ use Rattle.gw_check.specs.Checked.{or_later, all_failures, least}
 use Rattle.gw_check.specs.Noted.{noted}
 use Rattle.gw_check.specs.Checking.{CountedNodes}
 use Rattle.gw_check.specs.Answers.{unlabelled}
+use Rattle.gw_check.specs.Resolving.{Resolves, ResolvesBy}
+use Rattle.gw_check.specs.declared.resolve.Resolving as resolving
 use Rattle.gw_check.specs.Seen.{all_items, left_out}
 use Rattle.gw_check.proofs.Noting.{noted_append}
 use Rattle.gw_check.proofs.Least.{noted_is_least}
@@ -53,3 +55,8 @@ named_least from to m f e = go (naming_failures from to m) e
     go : (n : List Failure) → Some f ≡ least n → Some f ≡ least (or_later n (failures from to (resolved from to m)))
     go [] h = absurd (cc)
     go (x ∷ n) h = h
+
+-- what the levels of two profiles give is what the profiles give
+pub resolves_both : {E : Type 0} (from to : ProfileValue) (m : MapValue) (source target : Forest) (r : Result resolving.Resolving E) → from.nodes ≡ source → to.nodes ≡ target → IfOk r (ResolvesBy source target m) → IfOk r (Resolves from to m)
+resolves_both from to m source target (Ok made) e f h = h from to e f
+resolves_both from to m source target (Err x) e f h = tt

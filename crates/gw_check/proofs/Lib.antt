@@ -1,4 +1,5 @@
 pub mod Children
+pub mod Inner
 pub mod Rows
 pub mod Saturation
 pub mod Finding

@@ -17,6 +17,9 @@ pub mod Seen
 pub mod Looking
 pub mod Resolving
 pub mod Founds
+pub mod Indexed
+pub mod Walks
+pub mod Heights
 pub mod Reading
 pub mod Counted
 pub mod Checking

@@ -1,6 +1,6 @@
 -- What looking up the labels of a map gives.
 use Rattle.std.specs.Prelude.{◌≡◌, [], map, Some}
-use Rattle.gw_profile.specs.Shapes.{ProfileValue}
+use Rattle.gw_profile.specs.Shapes.{Forest, ProfileValue}
 use Rattle.gw_maplang.specs.Shapes.{MapValue}
 use Rattle.gw_check.specs.declared.resolve.Named.{Named}
 use Rattle.gw_check.specs.declared.resolve.Resolving as declared
@@ -18,3 +18,7 @@ pub record IsNamed (from to : ProfileValue) (m : MapValue) (made : Named) : Type
 abbrev pub Resolves : ProfileValue → ProfileValue → MapValue → declared.Resolving → Type 0
 Resolves from to m (declared.TheVariants.Refused f) = Some (failure f) ≡ least (naming_failures from to m)
 Resolves from to m (declared.TheVariants.Resolved made) = IsNamed from to m made
+
+-- for all profiles with these nodes
+abbrev pub ResolvesBy : Forest → Forest → MapValue → declared.Resolving → Type 0
+ResolvesBy source target m made = (from to : ProfileValue) → from.nodes ≡ source → to.nodes ≡ target → Resolves from to m made

@@ -1,9 +1,13 @@
 -- Parts of the program, without where they lie in memory.
-use Rattle.std.specs.Prelude.{ℕ, min, List, [], ◌∷◌, map, reverse, Option, option_map, unwrap_or}
+use Rattle.std.specs.Prelude.{ℕ, min, List, [], ◌∷◌, map, reverse, Option, Some, None, option_map, unwrap_or}
+use denote.Ref.{Bor}
+use Rattle.gw_profile.specs.declared.node.Node.{Node}
+use Rattle.gw_profile.specs.Shapes.{Forest, nothing}
 use Rattle.gw_profile.specs.Seen.{segment_value, forest}
 use Rattle.gw_check.specs.declared.failure.Failure as failures_of
 use Rattle.gw_check.specs.declared.interval.Interval as intervals
 use Rattle.gw_check.specs.declared.element.Element as elements
+use Rattle.gw_check.specs.declared.walked.Walked as walks
 use Rattle.gw_check.specs.Failures.{Failure}
 use Rattle.gw_check.specs.Intervals.{Interval}
 use Rattle.gw_check.specs.declared.resolved.Place as places
@@ -49,6 +53,23 @@ element (elements.TheVariants.Whole nodes) = the_whole (forest nodes.now)
 -- the elements that are walked, the innermost last in the program
 abbrev pub scope : List elements.Element → List Element
 scope es = reverse (map element es)
+
+-- ---- elements while labels are looked up
+
+-- the nodes of a level, none where there is no level
+abbrev pub nodes_in : Option (Bor (List Node)) → Forest
+nodes_in None = nothing
+nodes_in (Some level) = forest level.now
+
+-- a group's nodes are those of its level
+abbrev pub walked : walks.Walked → Element
+walked (walks.TheVariants.Segment s) = a_segment (segment_value s.now)
+walked (walks.TheVariants.Group g level) = a_group (record { label = g.now.label.items; usage = g.now.usage; card = g.now.card }) (forest level.now)
+walked (walks.TheVariants.Whole level) = the_whole (nodes_in level)
+
+-- the innermost last in the program
+abbrev pub all_walked : List walks.Walked → List Element
+all_walked es = reverse (map walked es)
 
 -- ---- a map without labels; its tables stand apart
 

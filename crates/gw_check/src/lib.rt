@@ -9,6 +9,7 @@ mod count;
 mod element;
 mod failure;
 mod field;
+mod indexed;
 mod inside;
 mod interval;
 mod items;
@@ -31,6 +32,7 @@ mod sources;
 mod targets;
 mod texts;
 mod values;
+mod walked;
 
 pub use checked::CheckedMap;
 pub use checker::{CheckFault, check};

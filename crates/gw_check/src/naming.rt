@@ -1,6 +1,5 @@
 //! The rules on source paths (1 and 2).
 ghost use Rattle.std.specs.Prelude.{◌≡◌, ◌++◌, if◌then◌else◌, is_some, not, IfOk, Some, None, map, flat_map, option_map};
-ghost use Rattle.gw_profile.specs.Seen.{forest};
 ghost use Rattle.gw_maplang.specs.Seen.{items_all, field_path, ref as seen_ref, leaf_value, rule as seen_rule, with_item, all_items, dropped as seen_dropped};
 ghost use Rattle.gw_maplang.specs.declared.item.Item.{SegFrom};
 ghost use Rattle.gw_maplang.specs.Shapes.{nothing};
@@ -11,14 +10,15 @@ ghost use Rattle.gw_profile.specs.Line.{allows};
 ghost use Rattle.gw_check.specs.Placed.{is_segment};
 ghost use Rattle.gw_check.specs.Noted.{noted};
 ghost use Rattle.gw_check.specs.Places as places;
-ghost use Rattle.gw_check.specs.Seen.{element as seen, place as seen_place, scope as walked, failures};
+ghost use Rattle.gw_check.specs.Seen.{walked as seen, nodes_in, place as seen_place, all_walked as walked, failures};
 
-use crate::element::{Element, child, nodes_of, nodes_of_child};
 use crate::failure::{Failure, note};
-use crate::paths::{element_at, place_of, within};
+use crate::indexed::Indexed;
+use crate::paths::{place_of, place_or, within};
 use crate::resolved::Place;
+use crate::walked::{Walked, child, element_at, nodes_of, nodes_of_child};
 use gw_maplang::{Dropped, FieldPath, FromItem, Item, Leaf, LeafRule, Ref, Rule};
-use gw_profile::{Card, Node};
+use gw_profile::Card;
 use std::alloc::{AllocError, Global};
 
 fn allows_two(card: Card) -> bool
@@ -31,27 +31,27 @@ fn allows_two(card: Card) -> bool
 }
 
 // Whether the node of this number may come more than once.
-fn comes_often(nodes: &[Node], number: usize) -> bool
-    ensures { result ≡ comes_often (places.child (forest nodes.now) number) }
+fn comes_often<'a, 'p>(level: Option<&'a Indexed<'p>>, number: usize) -> bool
+    ensures { result ≡ comes_often (places.child (nodes_in level.entry) number) }
 {
-    match child(nodes, number) {
+    match child(level, number) {
         None => false,
-        Some(Element::Segment(segment)) => allows_two(segment.card),
-        Some(Element::Group(group)) => allows_two(group.card),
-        Some(Element::Whole(_)) => false,
+        Some(Walked::Segment(segment)) => allows_two(segment.card),
+        Some(Walked::Group(group, _)) => allows_two(group.card),
+        Some(Walked::Whole(_)) => false,
     }
 }
 
 // No step may come more than once.
-fn are_single(nodes: &[Node], steps: &[usize]) -> bool
-    ensures { result ≡ spec.are_single (forest nodes.now) steps.now }
+fn are_single<'a, 'p>(level: Option<&'a Indexed<'p>>, steps: &[usize]) -> bool
+    ensures { result ≡ spec.are_single (nodes_in level.entry) steps.now }
 {
-    let mut nodes = nodes;
+    let mut level = level;
     for (i, step) in steps.iter().enumerate() {
-        if comes_often(nodes, *step) {
+        if comes_often(level, *step) {
             return false;
         }
-        nodes = nodes_of_child(nodes, *step);
+        level = nodes_of_child(level, *step);
     }
     true
 }
@@ -66,17 +66,17 @@ fn but_last(steps: &[usize]) -> &[usize]
 }
 
 // From where the steps of a place begin.
-fn start_of<'a>(scope: &[Element<'a>], place: &Place) -> &'a [Node]
-    ensures { forest result.now ≡ spec.start_of (walked scope.now) (seen_place place.now) }
+fn start_of<'a, 'p>(scope: &[Walked<'a, 'p>], place: &Place) -> Option<&'a Indexed<'p>>
+    ensures { nodes_in result ≡ spec.start_of (walked scope.now) (seen_place place.now) }
 {
     if place.out >= scope.len() {
-        return &[];
+        return None;
     }
     nodes_of(scope[scope.len() - 1 - place.out])
 }
 
 // No step of the place may come more than once, its last aside.
-fn is_walked_once(scope: &[Element<'_>], place: Option<&Place>) -> bool
+fn is_walked_once(scope: &[Walked<'_, '_>], place: Option<&Place>) -> bool
     ensures { result ≡ spec.is_single_place (walked scope.now) spec.but_last (place_there place.entry) }
 {
     match place {
@@ -86,7 +86,7 @@ fn is_walked_once(scope: &[Element<'_>], place: Option<&Place>) -> bool
 }
 
 // No step of the place may come more than once.
-fn is_read_once(scope: &[Element<'_>], place: Option<&Place>) -> bool
+fn is_read_once(scope: &[Walked<'_, '_>], place: Option<&Place>) -> bool
     ensures { result ≡ spec.is_single_place (walked scope.now) (λ steps. steps) (place_there place.entry) }
 {
     match place {
@@ -95,17 +95,17 @@ fn is_read_once(scope: &[Element<'_>], place: Option<&Place>) -> bool
     }
 }
 
-fn is_segment(element: Element<'_>) -> bool
+fn is_segment(element: Walked<'_, '_>) -> bool
     ensures { result ≡ is_segment (Some (seen element.entry)) }
 {
     match element {
-        Element::Segment(_) => true,
-        Element::Group(_) => false,
-        Element::Whole(_) => false,
+        Walked::Segment(_) => true,
+        Walked::Group(_, _) => false,
+        Walked::Whole(_) => false,
     }
 }
 
-fn ends_at_segment(scope: &[Element<'_>], place: Option<&Place>) -> bool
+fn ends_at_segment(scope: &[Walked<'_, '_>], place: Option<&Place>) -> bool
     ensures { result ≡ spec.ends_at_segment (walked scope.now) (place_there place.entry) }
 {
     match place {
@@ -125,7 +125,7 @@ fn note_both(worst: Option<Failure>, line: u32, leads: bool, once: bool) -> Opti
 fn walk_failures(
     alloc: Global,
     worst: Option<Failure>,
-    scope: &[Element<'_>],
+    scope: &[Walked<'_, '_>],
     line: u32,
     path: &[Vec<u8>],
 ) -> Result<Option<Failure>, AllocError>
@@ -141,7 +141,7 @@ fn walk_failures(
 fn segments_failures(
     alloc: Global,
     worst: Option<Failure>,
-    scope: &[Element<'_>],
+    scope: &[Walked<'_, '_>],
     line: u32,
     path: &[Vec<u8>],
 ) -> Result<Option<Failure>, AllocError>
@@ -157,7 +157,7 @@ fn segments_failures(
 fn read_failures(
     alloc: Global,
     worst: Option<Failure>,
-    scope: &[Element<'_>],
+    scope: &[Walked<'_, '_>],
     line: u32,
     from: &FieldPath,
 ) -> Result<Option<Failure>, AllocError>
@@ -172,7 +172,7 @@ fn read_failures(
 fn ref_failures(
     alloc: Global,
     worst: Option<Failure>,
-    scope: &[Element<'_>],
+    scope: &[Walked<'_, '_>],
     line: u32,
     from: &Ref,
 ) -> Result<Option<Failure>, AllocError>
@@ -187,7 +187,7 @@ fn ref_failures(
 fn leaf_failures(
     alloc: Global,
     worst: Option<Failure>,
-    scope: &[Element<'_>],
+    scope: &[Walked<'_, '_>],
     leaf: &LeafRule,
 ) -> Result<Option<Failure>, AllocError>
     ensures { IfOk result (λ all. failures all ≡ noted (failures worst) (spec.leaf_failures (walked scope.now) (leaf_value leaf.now))) }
@@ -202,7 +202,7 @@ fn leaf_failures(
 fn leaves_failures(
     alloc: Global,
     worst: Option<Failure>,
-    scope: &[Element<'_>],
+    scope: &[Walked<'_, '_>],
     leaves: &[LeafRule],
 ) -> Result<Option<Failure>, AllocError>
     ensures { IfOk result (λ all. failures all ≡ noted (failures worst) (flat_map (spec.leaf_failures (walked scope.now)) (map leaf_value leaves.now))) }
@@ -217,7 +217,7 @@ fn leaves_failures(
 fn rule_failures(
     alloc: Global,
     worst: Option<Failure>,
-    scope: &[Element<'_>],
+    scope: &[Walked<'_, '_>],
     rule: &Rule,
 ) -> Result<Option<Failure>, AllocError>
     ensures { IfOk result (λ all. failures all ≡ noted (failures worst) (spec.rule_failures (walked scope.now) (seen_rule rule.now))) }
@@ -236,7 +236,7 @@ fn rule_failures(
 fn rules_failures(
     alloc: Global,
     worst: Option<Failure>,
-    scope: &[Element<'_>],
+    scope: &[Walked<'_, '_>],
     rules: &[Rule],
 ) -> Result<Option<Failure>, AllocError>
     ensures { IfOk result (λ all. failures all ≡ noted (failures worst) (flat_map (spec.rule_failures (walked scope.now)) (map seen_rule rules.now))) }
@@ -252,13 +252,14 @@ fn rules_failures(
 fn from_failures(
     alloc: Global,
     worst: Option<Failure>,
-    scope: &[Element<'_>],
+    scope: &[Walked<'_, '_>],
     made: &FromItem,
 ) -> Result<Option<Failure>, AllocError>
     ensures { IfOk result (λ all. failures all ≡ noted (failures worst) (spec.path_failures (walked scope.now) (with_item (SegFrom made.now) nothing))) }
 {
     let worst = segments_failures(alloc, worst, scope, made.line, &made.path)?;
-    let inner = within(alloc, scope, &made.path)?;
+    let place = place_or(alloc, scope, &made.path)?;
+    let inner = within(alloc, scope, &place)?;
     rules_failures(alloc, worst, &inner, &made.rules)
 }
 
@@ -267,7 +268,7 @@ fn from_failures(
 fn each_failures(
     alloc: Global,
     worst: Option<Failure>,
-    scope: &[Element<'_>],
+    scope: &[Walked<'_, '_>],
     line: u32,
     path: &[Vec<u8>],
     items: &[Item],
@@ -275,7 +276,8 @@ fn each_failures(
     ensures { IfOk result (λ all. failures all ≡ noted (failures worst) (spec.walk_failures (walked scope.now) line (items_all path.now) ++ spec.path_failures (places.within (walked scope.now) (spec.place_or (walked scope.now) (items_all path.now))) (all_items items.now))) }
 {
     let worst = walk_failures(alloc, worst, scope, line, path)?;
-    let inner = within(alloc, scope, path)?;
+    let place = place_or(alloc, scope, path)?;
+    let inner = within(alloc, scope, &place)?;
     path_failures(alloc, worst, &inner, items)
 }
 
@@ -283,7 +285,7 @@ fn each_failures(
 fn item_failures(
     alloc: Global,
     worst: Option<Failure>,
-    scope: &[Element<'_>],
+    scope: &[Walked<'_, '_>],
     item: &Item,
 ) -> Result<Option<Failure>, AllocError>
     ensures { IfOk result (λ all. failures all ≡ noted (failures worst) (spec.path_failures (walked scope.now) (with_item item.now nothing))) }
@@ -315,7 +317,7 @@ fn item_failures(
 pub(crate) fn path_failures(
     alloc: Global,
     worst: Option<Failure>,
-    scope: &[Element<'_>],
+    scope: &[Walked<'_, '_>],
     items: &[Item],
 ) -> Result<Option<Failure>, AllocError>
     ensures { IfOk result (λ all. failures all ≡ noted (failures worst) (spec.path_failures (walked scope.now) (all_items items.now))) }
@@ -328,7 +330,7 @@ pub(crate) fn path_failures(
 }
 
 // Whether what is left out is there, and a segment where a field of it is named.
-fn leads(scope: &[Element<'_>], field: Option<u32>, place: Option<&Place>) -> bool
+fn leads(scope: &[Walked<'_, '_>], field: Option<u32>, place: Option<&Place>) -> bool
     ensures { result ≡ (if is_some field then spec.ends_at_segment (walked scope.now) (place_there place.entry) else spec.has_place (place_there place.entry)) }
 {
     match field {
@@ -340,7 +342,7 @@ fn leads(scope: &[Element<'_>], field: Option<u32>, place: Option<&Place>) -> bo
 fn drop_failures(
     alloc: Global,
     worst: Option<Failure>,
-    message: Element<'_>,
+    message: Walked<'_, '_>,
     dropped: &Dropped,
 ) -> Result<Option<Failure>, AllocError>
     ensures { IfOk result (λ all. failures all ≡ noted (failures worst) (spec.drop_failures (seen message.entry) (seen_dropped dropped.now))) }
@@ -355,7 +357,7 @@ fn drop_failures(
 pub(crate) fn drops_failures(
     alloc: Global,
     worst: Option<Failure>,
-    message: Element<'_>,
+    message: Walked<'_, '_>,
     drops: &[Dropped],
 ) -> Result<Option<Failure>, AllocError>
     ensures { IfOk result (λ all. failures all ≡ noted (failures worst) (flat_map (spec.drop_failures (seen message.entry)) (map seen_dropped drops.now))) }

@@ -1,18 +1,15 @@
 //! The places to which the paths of a map lead.
-ghost use Rattle.std.specs.Prelude.{◌≡◌, ℕ, ◌++◌, if◌then◌else◌, IfOk, Some, suc, option_map, bytes_eq};
+ghost use Rattle.std.specs.Prelude.{◌≡◌, ℕ, ◌++◌, IfOk, option_map, bytes_eq};
 ghost use Rattle.std.specs.Global.{Vec};
-ghost use Rattle.gw_profile.specs.Shapes.{Forest};
-ghost use Rattle.gw_profile.specs.Seen.{forest, node_forest};
 ghost use Rattle.gw_maplang.specs.Seen.{items_all};
 ghost use Rattle.gw_check.specs.Places as places;
 ghost use Rattle.gw_check.specs.Naming as spec;
 ghost use Rattle.gw_check.specs.Looking.{inwards, further, begun, onwards};
-ghost use Rattle.gw_check.specs.Seen.{element as seen, place as seen_place, scope as walked};
+ghost use Rattle.gw_check.specs.Seen.{walked as seen, nodes_in, place as seen_place, all_walked as walked};
 
-use crate::element::{Element, nodes_of, nodes_of_child};
-use crate::place::find;
+use crate::indexed::Indexed;
 use crate::resolved::Place;
-use gw_profile::Node;
+use crate::walked::{Walked, element_at, nodes_of, nodes_of_child};
 use std::alloc::{AllocError, Global};
 
 /// Whether the two are the same octets.
@@ -22,36 +19,24 @@ pub(crate) fn same(one: &[u8], other: &[u8]) -> bool
     one == other
 }
 
-// Whether the node has this label.
-fn is_labelled(node: &Node, label: &[u8]) -> bool
-    ensures { (rest : Forest) → spec.labelled (node_forest node.now rest) label.now ≡ (if result then Some 0 else option_map suc (spec.labelled rest label.now)) }
-{
-    match node {
-        Node::Seg(segment) => same(&segment.label, label),
-        Node::Group(group) => same(&group.label, label),
-    }
-}
-
 /// The number of the node with this label.
-pub(crate) fn labelled(nodes: &[Node], label: &[u8]) -> Option<usize>
-    ensures { result ≡ spec.labelled (forest nodes.now) label.now }
+pub(crate) fn labelled<'a, 'p>(level: Option<&'a Indexed<'p>>, label: &[u8]) -> Option<usize>
+    ensures { result ≡ spec.labelled (nodes_in level.entry) label.now }
 {
-    for (i, node) in nodes.iter().enumerate() {
-        if is_labelled(node, label) {
-            return Some(i);
-        }
+    match level {
+        None => None,
+        Some(level) => level.number_of(label),
     }
-    None
 }
 
 // Whether this is the element's own label.
-fn has_label(element: Element<'_>, label: &[u8]) -> bool
+fn has_label(element: Walked<'_, '_>, label: &[u8]) -> bool
     ensures { result ≡ spec.has_label label.now (seen element.entry) }
 {
     match element {
-        Element::Segment(segment) => same(&segment.label, label),
-        Element::Group(group) => same(&group.label, label),
-        Element::Whole(_) => false,
+        Walked::Segment(segment) => same(&segment.label, label),
+        Walked::Group(group, _) => same(&group.label, label),
+        Walked::Whole(_) => false,
     }
 }
 
@@ -75,7 +60,7 @@ fn one_step(alloc: Global, out: usize, number: usize) -> Result<Place, AllocErro
 // The label among the nodes of an element so far outwards, or its own.
 fn begin(
     alloc: Global,
-    element: Element<'_>,
+    element: Walked<'_, '_>,
     out: usize,
     label: &[u8],
 ) -> Result<Option<Place>, AllocError>
@@ -94,7 +79,7 @@ fn begin(
 // From the innermost element outwards.
 fn first_label(
     alloc: Global,
-    scope: &[Element<'_>],
+    scope: &[Walked<'_, '_>],
     label: &[u8],
 ) -> Result<Option<Place>, AllocError>
     ensures { IfOk result (λ p. option_map seen_place p ≡ spec.first_label (walked scope.now) label.now) }
@@ -111,45 +96,35 @@ fn first_label(
 }
 
 // The numbers of nodes to which the labels lead, each within the one before it, behind these.
-fn follow(
-    nodes: &[Node],
+fn follow<'a, 'p>(
+    level: Option<&'a Indexed<'p>>,
     path: &[Vec<u8>],
     steps: Vec<usize>,
 ) -> Result<Option<Vec<usize>>, AllocError>
-    ensures { IfOk result (λ found. option_map (λ (v : Vec ℕ). v.items) found ≡ option_map (λ more. steps.items ++ more) (spec.steps_of (forest nodes.now) (items_all path.now))) }
+    ensures { IfOk result (λ found. option_map (λ (v : Vec ℕ). v.items) found ≡ option_map (λ more. steps.items ++ more) (spec.steps_of (nodes_in level.entry) (items_all path.now))) }
 {
-    let mut nodes = nodes;
+    let mut level = level;
     let mut steps = steps;
     for (i, label) in path.iter().enumerate() {
-        let Some(number) = labelled(nodes, label) else {
+        let Some(number) = labelled(level, label) else {
             return Ok(None);
         };
         steps.push(number)?;
-        nodes = nodes_of_child(nodes, number);
+        level = nodes_of_child(level, number);
     }
     Ok(Some(steps))
 }
 
-/// The element at a place, where one is.
-pub(crate) fn element_at<'a>(scope: &[Element<'a>], place: &Place) -> Element<'a>
-    ensures { seen result ≡ places.element_of (places.found (walked scope.now) (seen_place place.now)) }
-{
-    match find(scope, place) {
-        None => Element::Whole(&[]),
-        Some(found) => found.element,
-    }
-}
-
 // The place to which the labels lead from here.
 fn follow_from(
-    scope: &[Element<'_>],
+    scope: &[Walked<'_, '_>],
     path: &[Vec<u8>],
     place: Place,
 ) -> Result<Option<Place>, AllocError>
     ensures { IfOk result (λ p. option_map seen_place p ≡ onwards (walked scope.now) (items_all path.now) (seen_place place)) }
 {
-    let nodes = nodes_of(element_at(scope, &place));
-    let steps = follow(nodes, path, place.steps)?;
+    let level = nodes_of(element_at(scope, &place));
+    let steps = follow(level, path, place.steps)?;
     match steps {
         None => Ok(None),
         Some(steps) => Ok(Some(Place {
@@ -162,7 +137,7 @@ fn follow_from(
 /// The place to which a path leads.
 pub(crate) fn place_of(
     alloc: Global,
-    scope: &[Element<'_>],
+    scope: &[Walked<'_, '_>],
     path: &[Vec<u8>],
 ) -> Result<Option<Place>, AllocError>
     ensures { IfOk result (λ p. option_map seen_place p ≡ spec.place_of (walked scope.now) (items_all path.now)) }
@@ -179,7 +154,7 @@ pub(crate) fn place_of(
 /// The place of a path that names one.
 pub(crate) fn place_or(
     alloc: Global,
-    scope: &[Element<'_>],
+    scope: &[Walked<'_, '_>],
     path: &[Vec<u8>],
 ) -> Result<Place, AllocError>
     ensures { IfOk result (λ p. seen_place p ≡ spec.place_or (walked scope.now) (items_all path.now)) }
@@ -190,16 +165,15 @@ pub(crate) fn place_or(
     }
 }
 
-/// The scope of what is walked at the place of a path.
-pub(crate) fn within<'a>(
+/// The scope of what is walked at a place.
+pub(crate) fn within<'a, 'p>(
     alloc: Global,
-    scope: &[Element<'a>],
-    path: &[Vec<u8>],
-) -> Result<Vec<Element<'a>>, AllocError>
-    ensures { IfOk result (λ inner. walked inner.items ≡ places.within (walked scope.now) (spec.place_or (walked scope.now) (items_all path.now))) }
+    scope: &[Walked<'a, 'p>],
+    place: &Place,
+) -> Result<Vec<Walked<'a, 'p>>, AllocError>
+    ensures { IfOk result (λ inner. walked inner.items ≡ places.within (walked scope.now) (seen_place place.now)) }
 {
-    let place = place_or(alloc, scope, path)?;
     let mut inner = Vec::from_slice(alloc, scope)?;
-    inner.push(element_at(scope, &place))?;
+    inner.push(element_at(scope, place))?;
     Ok(inner)
 }

@@ -3,25 +3,24 @@ ghost use Rattle.std.specs.Prelude.{◌≡◌, IfOk, List, Option, Some, map, op
 ghost use Rattle.gw_maplang.specs.Seen as raw;
 ghost use Rattle.gw_maplang.specs.Shapes.{TableValue, Items};
 ghost use Rattle.gw_maplang.specs.declared.item.Item as items_of;
-ghost use Rattle.gw_profile.specs.Seen.{forest};
 ghost use Rattle.gw_check.specs.Naming as spec;
 ghost use Rattle.gw_check.specs.Seen as seen;
-ghost use Rattle.gw_check.specs.Seen.{scope as walked};
+ghost use Rattle.gw_check.specs.Seen.{nodes_in, all_walked as walked};
 
-use crate::element::{Element, nodes_of_child};
+use crate::indexed::Indexed;
 use crate::paths::{place_or, within};
 use crate::resolved::{
     At, FlatItem, GroupItem, Item, Leaf, LeftOut, Making, Place, Reference, Rule, SegmentItem,
     Source,
 };
 use crate::targets::node_or;
+use crate::walked::{Walked, nodes_of_child};
 use gw_maplang::{Dropped, FieldPath, LeafRule, Ref};
-use gw_profile::Node;
 use std::alloc::{AllocError, Global};
 
 fn reference(
     alloc: Global,
-    scope: &[Element<'_>],
+    scope: &[Walked<'_, '_>],
     from: &FieldPath,
 ) -> Result<Reference, AllocError>
     ensures { IfOk result (λ r. seen.reference r ≡ spec.reference (walked scope.now) (raw.field_path from.now)) }
@@ -33,7 +32,7 @@ fn reference(
     })
 }
 
-fn source(alloc: Global, scope: &[Element<'_>], from: &Ref) -> Result<Source, AllocError>
+fn source(alloc: Global, scope: &[Walked<'_, '_>], from: &Ref) -> Result<Source, AllocError>
     ensures { IfOk result (λ s. seen.source s ≡ spec.source (walked scope.now) (raw.ref from.now)) }
 {
     match from {
@@ -51,7 +50,11 @@ fn copy_of(alloc: Global, bytes: &[u8]) -> Result<Vec<u8>, AllocError>
     Vec::from_slice(alloc, bytes)
 }
 
-fn leaf(alloc: Global, scope: &[Element<'_>], made: &gw_maplang::Leaf) -> Result<Leaf, AllocError>
+fn leaf(
+    alloc: Global,
+    scope: &[Walked<'_, '_>],
+    made: &gw_maplang::Leaf,
+) -> Result<Leaf, AllocError>
     ensures { IfOk result (λ l. (tables : List TableValue) → seen.leaf tables l ≡ spec.leaf tables (walked scope.now) (raw.leaf made.now)) }
 {
     match made {
@@ -71,7 +74,7 @@ fn leaf(alloc: Global, scope: &[Element<'_>], made: &gw_maplang::Leaf) -> Result
     }
 }
 
-fn at_leaf(alloc: Global, scope: &[Element<'_>], made: &LeafRule) -> Result<At, AllocError>
+fn at_leaf(alloc: Global, scope: &[Walked<'_, '_>], made: &LeafRule) -> Result<At, AllocError>
     ensures { IfOk result (λ a. (tables : List TableValue) → seen.at_leaf tables a ≡ spec.at_leaf tables (walked scope.now) (raw.leaf_value made.now)) }
 {
     let leaf = leaf(alloc, scope, &made.leaf)?;
@@ -82,7 +85,7 @@ fn at_leaf(alloc: Global, scope: &[Element<'_>], made: &LeafRule) -> Result<At, 
     })
 }
 
-fn leaves(alloc: Global, scope: &[Element<'_>], all: &[LeafRule]) -> Result<Vec<At>, AllocError>
+fn leaves(alloc: Global, scope: &[Walked<'_, '_>], all: &[LeafRule]) -> Result<Vec<At>, AllocError>
     ensures { IfOk result (λ v. (tables : List TableValue) → map (seen.at_leaf tables) v.items ≡ map (spec.at_leaf tables (walked scope.now)) (map raw.leaf_value all.now)) }
 {
     let mut built = Vec::new(alloc);
@@ -93,7 +96,11 @@ fn leaves(alloc: Global, scope: &[Element<'_>], all: &[LeafRule]) -> Result<Vec<
     Ok(built)
 }
 
-fn rule(alloc: Global, scope: &[Element<'_>], made: &gw_maplang::Rule) -> Result<Rule, AllocError>
+fn rule(
+    alloc: Global,
+    scope: &[Walked<'_, '_>],
+    made: &gw_maplang::Rule,
+) -> Result<Rule, AllocError>
     ensures { IfOk result (λ r. (tables : List TableValue) → seen.rule tables r ≡ spec.rule tables (walked scope.now) (raw.rule made.now)) }
 {
     let making = making(alloc, scope, made)?;
@@ -106,7 +113,7 @@ fn rule(alloc: Global, scope: &[Element<'_>], made: &gw_maplang::Rule) -> Result
 
 fn making(
     alloc: Global,
-    scope: &[Element<'_>],
+    scope: &[Walked<'_, '_>],
     made: &gw_maplang::Rule,
 ) -> Result<Making, AllocError>
     ensures { IfOk result (λ m. (tables : List TableValue) → seen.making tables m ≡ spec.making tables (walked scope.now) ((raw.rule made.now).making)) }
@@ -134,7 +141,7 @@ fn making(
 
 fn rules(
     alloc: Global,
-    scope: &[Element<'_>],
+    scope: &[Walked<'_, '_>],
     all: &[gw_maplang::Rule],
 ) -> Result<Vec<Rule>, AllocError>
     ensures { IfOk result (λ v. (tables : List TableValue) → map (seen.rule tables) v.items ≡ map (spec.rule tables (walked scope.now)) (map raw.rule all.now)) }
@@ -149,18 +156,18 @@ fn rules(
 
 fn segment_from(
     alloc: Global,
-    scope: &[Element<'_>],
+    scope: &[Walked<'_, '_>],
     made: &gw_maplang::FromItem,
-    nodes: &[Node],
+    level: Option<&Indexed<'_>>,
 ) -> Result<Item, AllocError>
-    ensures { IfOk result (λ x. (tables : List TableValue) (rest : Items) → seen.with_item tables x (spec.resolved_items tables (walked scope.now) (forest nodes.now) rest) ≡ spec.resolved_items tables (walked scope.now) (forest nodes.now) (raw.with_item (items_of.SegFrom made.now) rest)) }
+    ensures { IfOk result (λ x. (tables : List TableValue) (rest : Items) → seen.with_item tables x (spec.resolved_items tables (walked scope.now) (nodes_in level.entry) rest) ≡ spec.resolved_items tables (walked scope.now) (nodes_in level.entry) (raw.with_item (items_of.SegFrom made.now) rest)) }
 {
     let place = place_or(alloc, scope, &made.path)?;
-    let inner = within(alloc, scope, &made.path)?;
+    let inner = within(alloc, scope, &place)?;
     let rules = rules(alloc, &inner, &made.rules)?;
     Ok(Item::Segment(SegmentItem {
         line: made.line,
-        child: node_or(0, nodes, &made.label),
+        child: node_or(0, level, &made.label),
         place: Some(place),
         rules,
     }))
@@ -168,16 +175,16 @@ fn segment_from(
 
 fn segment_always(
     alloc: Global,
-    scope: &[Element<'_>],
+    scope: &[Walked<'_, '_>],
     made: &gw_maplang::AlwaysItem,
-    nodes: &[Node],
+    level: Option<&Indexed<'_>>,
 ) -> Result<Item, AllocError>
-    ensures { IfOk result (λ x. (tables : List TableValue) (rest : Items) → seen.with_item tables x (spec.resolved_items tables (walked scope.now) (forest nodes.now) rest) ≡ spec.resolved_items tables (walked scope.now) (forest nodes.now) (raw.with_item (items_of.SegAlways made.now) rest)) }
+    ensures { IfOk result (λ x. (tables : List TableValue) (rest : Items) → seen.with_item tables x (spec.resolved_items tables (walked scope.now) (nodes_in level.entry) rest) ≡ spec.resolved_items tables (walked scope.now) (nodes_in level.entry) (raw.with_item (items_of.SegAlways made.now) rest)) }
 {
     let rules = rules(alloc, scope, &made.rules)?;
     Ok(Item::Segment(SegmentItem {
         line: made.line,
-        child: node_or(0, nodes, &made.label),
+        child: node_or(0, level, &made.label),
         place: None,
         rules,
     }))
@@ -186,16 +193,16 @@ fn segment_always(
 #[cycle(resolving)]
 fn group(
     alloc: Global,
-    scope: &[Element<'_>],
+    scope: &[Walked<'_, '_>],
     made: &gw_maplang::GroupItem,
-    nodes: &[Node],
+    level: Option<&Indexed<'_>>,
 ) -> Result<Item, AllocError>
-    ensures { IfOk result (λ x. (tables : List TableValue) (rest : Items) → seen.with_item tables x (spec.resolved_items tables (walked scope.now) (forest nodes.now) rest) ≡ spec.resolved_items tables (walked scope.now) (forest nodes.now) (raw.with_item (items_of.EachAs made.now) rest)) }
+    ensures { IfOk result (λ x. (tables : List TableValue) (rest : Items) → seen.with_item tables x (spec.resolved_items tables (walked scope.now) (nodes_in level.entry) rest) ≡ spec.resolved_items tables (walked scope.now) (nodes_in level.entry) (raw.with_item (items_of.EachAs made.now) rest)) }
 {
     let place = place_or(alloc, scope, &made.path)?;
-    let inner = within(alloc, scope, &made.path)?;
-    let child = node_or(0, nodes, &made.label);
-    let items = resolve_items(alloc, &inner, &made.items, nodes_of_child(nodes, child))?;
+    let inner = within(alloc, scope, &place)?;
+    let child = node_or(0, level, &made.label);
+    let items = resolve_items(alloc, &inner, &made.items, nodes_of_child(level, child))?;
     Ok(Item::Group(GroupItem {
         line: made.line,
         child,
@@ -207,15 +214,15 @@ fn group(
 #[cycle(resolving)]
 fn flat(
     alloc: Global,
-    scope: &[Element<'_>],
+    scope: &[Walked<'_, '_>],
     made: &gw_maplang::FlatItem,
-    nodes: &[Node],
+    level: Option<&Indexed<'_>>,
 ) -> Result<Item, AllocError>
-    ensures { IfOk result (λ x. (tables : List TableValue) (rest : Items) → seen.with_item tables x (spec.resolved_items tables (walked scope.now) (forest nodes.now) rest) ≡ spec.resolved_items tables (walked scope.now) (forest nodes.now) (raw.with_item (items_of.EachFlat made.now) rest)) }
+    ensures { IfOk result (λ x. (tables : List TableValue) (rest : Items) → seen.with_item tables x (spec.resolved_items tables (walked scope.now) (nodes_in level.entry) rest) ≡ spec.resolved_items tables (walked scope.now) (nodes_in level.entry) (raw.with_item (items_of.EachFlat made.now) rest)) }
 {
     let place = place_or(alloc, scope, &made.path)?;
-    let inner = within(alloc, scope, &made.path)?;
-    let items = resolve_items(alloc, &inner, &made.items, nodes)?;
+    let inner = within(alloc, scope, &place)?;
+    let items = resolve_items(alloc, &inner, &made.items, level)?;
     Ok(Item::Flat(FlatItem {
         line: made.line,
         place,
@@ -226,17 +233,17 @@ fn flat(
 #[cycle(resolving)]
 fn resolve_item(
     alloc: Global,
-    scope: &[Element<'_>],
+    scope: &[Walked<'_, '_>],
     item: &gw_maplang::Item,
-    nodes: &[Node],
+    level: Option<&Indexed<'_>>,
 ) -> Result<Item, AllocError>
-    ensures { IfOk result (λ x. (tables : List TableValue) (rest : Items) → seen.with_item tables x (spec.resolved_items tables (walked scope.now) (forest nodes.now) rest) ≡ spec.resolved_items tables (walked scope.now) (forest nodes.now) (raw.with_item item.now rest)) }
+    ensures { IfOk result (λ x. (tables : List TableValue) (rest : Items) → seen.with_item tables x (spec.resolved_items tables (walked scope.now) (nodes_in level.entry) rest) ≡ spec.resolved_items tables (walked scope.now) (nodes_in level.entry) (raw.with_item item.now rest)) }
 {
     match item {
-        gw_maplang::Item::SegFrom(made) => segment_from(alloc, scope, made, nodes),
-        gw_maplang::Item::SegAlways(made) => segment_always(alloc, scope, made, nodes),
-        gw_maplang::Item::EachAs(made) => group(alloc, scope, made, nodes),
-        gw_maplang::Item::EachFlat(made) => flat(alloc, scope, made, nodes),
+        gw_maplang::Item::SegFrom(made) => segment_from(alloc, scope, made, level),
+        gw_maplang::Item::SegAlways(made) => segment_always(alloc, scope, made, level),
+        gw_maplang::Item::EachAs(made) => group(alloc, scope, made, level),
+        gw_maplang::Item::EachFlat(made) => flat(alloc, scope, made, level),
     }
 }
 
@@ -244,22 +251,22 @@ fn resolve_item(
 #[cycle(resolving)]
 pub(crate) fn resolve_items(
     alloc: Global,
-    scope: &[Element<'_>],
+    scope: &[Walked<'_, '_>],
     items: &[gw_maplang::Item],
-    nodes: &[Node],
+    level: Option<&Indexed<'_>>,
 ) -> Result<Vec<Item>, AllocError>
-    ensures { IfOk result (λ v. (tables : List TableValue) → seen.all_items tables v.items ≡ spec.resolved_items tables (walked scope.now) (forest nodes.now) (raw.all_items items.now)) }
+    ensures { IfOk result (λ v. (tables : List TableValue) → seen.all_items tables v.items ≡ spec.resolved_items tables (walked scope.now) (nodes_in level.entry) (raw.all_items items.now)) }
 {
     let mut built = Vec::new(alloc);
     for (i, item) in items.iter().enumerate() {
-        let one = resolve_item(alloc, scope, item, nodes)?;
+        let one = resolve_item(alloc, scope, item, level)?;
         built.push(one)?;
     }
     Ok(built)
 }
 
-fn left_out(alloc: Global, message: Element<'_>, made: &Dropped) -> Result<LeftOut, AllocError>
-    ensures { IfOk result (λ d. seen.left_out d ≡ spec.drop (seen.element message.entry) (raw.dropped made.now)) }
+fn left_out(alloc: Global, message: Walked<'_, '_>, made: &Dropped) -> Result<LeftOut, AllocError>
+    ensures { IfOk result (λ d. seen.left_out d ≡ spec.drop (seen.walked message.entry) (raw.dropped made.now)) }
 {
     let place = place_or(alloc, &[message], &made.path)?;
     Ok(LeftOut {
@@ -271,10 +278,10 @@ fn left_out(alloc: Global, message: Element<'_>, made: &Dropped) -> Result<LeftO
 /// What is left out, without labels.
 pub(crate) fn resolve_drops(
     alloc: Global,
-    message: Element<'_>,
+    message: Walked<'_, '_>,
     drops: &[Dropped],
 ) -> Result<Vec<LeftOut>, AllocError>
-    ensures { IfOk result (λ v. map seen.left_out v.items ≡ map (spec.drop (seen.element message.entry)) (map raw.dropped drops.now)) }
+    ensures { IfOk result (λ v. map seen.left_out v.items ≡ map (spec.drop (seen.walked message.entry)) (map raw.dropped drops.now)) }
 {
     let mut built = Vec::new(alloc);
     for (i, dropped) in drops.iter().enumerate() {

@@ -1,7 +1,6 @@
 //! The rule on target labels and the order of items (3).
-ghost use Rattle.std.specs.Prelude.{◌≡◌, ◌++◌, ◌&&◌, not, nat_lt, Some, slice_get, bytes_eq, option_map, option_and_then};
+ghost use Rattle.std.specs.Prelude.{◌≡◌, ◌++◌, ◌&&◌, not, nat_lt, Some, slice_get, bytes_eq, unwrap_or, option_map, option_and_then};
 ghost use Rattle.std.specs.List.{list_all};
-ghost use Rattle.gw_profile.specs.Seen.{forest};
 ghost use Rattle.gw_maplang.specs.declared.item.Item.{EachAs, EachFlat};
 ghost use Rattle.gw_maplang.specs.Seen.{now, with_item, all_items};
 ghost use Rattle.gw_maplang.specs.Shapes.{nothing};
@@ -10,13 +9,13 @@ ghost use Rattle.gw_check.specs.Naming as spec;
 ghost use Rattle.gw_check.specs.Noted.{noted};
 ghost use Rattle.gw_check.specs.Placed.{is_segment, is_group};
 ghost use Rattle.gw_check.specs.Places as places;
-ghost use Rattle.gw_check.specs.Seen.{element as seen, failures};
+ghost use Rattle.gw_check.specs.Seen.{walked as seen, nodes_in, failures};
 
-use crate::element::{Element, child, nodes_of_child};
 use crate::failure::{Failure, note};
+use crate::indexed::Indexed;
 use crate::paths::{labelled, same};
+use crate::walked::{Walked, child, nodes_of_child};
 use gw_maplang::{FlatItem, GroupItem, Item};
-use gw_profile::Node;
 
 // ---- labels
 
@@ -100,44 +99,51 @@ struct Reached {
     node: usize,
 }
 
-/// The number of the node with this label, j where there is none.
-pub(crate) fn node_or(j: usize, nodes: &[Node], label: &[u8]) -> usize
-    ensures { result ≡ spec.node_or j (forest nodes.now) label.now }
+// The number, j where there is none.
+fn number_or(j: usize, number: Option<usize>) -> usize
+    ensures { result ≡ unwrap_or number j }
 {
-    match labelled(nodes, label) {
+    match number {
         None => j,
         Some(number) => number,
     }
 }
 
-fn target<'a>(nodes: &'a [Node], label: &[u8]) -> Option<Element<'a>>
-    ensures { option_map seen result ≡ option_and_then (places.child (forest nodes.now)) (spec.labelled (forest nodes.now) label.now) }
+/// The number of the node with this label, j where there is none.
+pub(crate) fn node_or(j: usize, level: Option<&Indexed<'_>>, label: &[u8]) -> usize
+    ensures { result ≡ spec.node_or j (nodes_in level.entry) label.now }
 {
-    match labelled(nodes, label) {
+    number_or(j, labelled(level, label))
+}
+
+fn child_if<'a, 'p>(level: Option<&'a Indexed<'p>>, number: Option<usize>) -> Option<Walked<'a, 'p>>
+    ensures { option_map seen result ≡ option_and_then (places.child (nodes_in level.entry)) number }
+{
+    match number {
         None => None,
-        Some(number) => child(nodes, number),
+        Some(number) => child(level, number),
     }
 }
 
-fn names_segment(nodes: &[Node], label: &[u8]) -> bool
-    ensures { result ≡ is_segment (option_and_then (places.child (forest nodes.now)) (spec.labelled (forest nodes.now) label.now)) }
+fn is_segment_at(level: Option<&Indexed<'_>>, number: Option<usize>) -> bool
+    ensures { result ≡ is_segment (option_and_then (places.child (nodes_in level.entry)) number) }
 {
-    match target(nodes, label) {
+    match child_if(level, number) {
         None => false,
-        Some(Element::Segment(_)) => true,
-        Some(Element::Group(_)) => false,
-        Some(Element::Whole(_)) => false,
+        Some(Walked::Segment(_)) => true,
+        Some(Walked::Group(_, _)) => false,
+        Some(Walked::Whole(_)) => false,
     }
 }
 
-fn names_group(nodes: &[Node], label: &[u8]) -> bool
-    ensures { result ≡ is_group (option_and_then (places.child (forest nodes.now)) (spec.labelled (forest nodes.now) label.now)) }
+fn is_group_at(level: Option<&Indexed<'_>>, number: Option<usize>) -> bool
+    ensures { result ≡ is_group (option_and_then (places.child (nodes_in level.entry)) number) }
 {
-    match target(nodes, label) {
+    match child_if(level, number) {
         None => false,
-        Some(Element::Segment(_)) => false,
-        Some(Element::Group(_)) => true,
-        Some(Element::Whole(_)) => false,
+        Some(Walked::Segment(_)) => false,
+        Some(Walked::Group(_, _)) => true,
+        Some(Walked::Whole(_)) => false,
     }
 }
 
@@ -156,16 +162,17 @@ fn note_target(
 
 fn segment_target(
     worst: Option<Failure>,
-    nodes: &[Node],
+    level: Option<&Indexed<'_>>,
     j: usize,
     line: u32,
     label: &[u8],
 ) -> Reached
-    ensures worst { failures result.worst ≡ noted (failures worst) (spec.label_failures (forest nodes.now) is_segment j line label.now) }
-    ensures node { result.node ≡ spec.node_or j (forest nodes.now) label.now }
+    ensures worst { failures result.worst ≡ noted (failures worst) (spec.label_failures (nodes_in level.entry) is_segment j line label.now) }
+    ensures node { result.node ≡ spec.node_or j (nodes_in level.entry) label.now }
 {
-    let node = node_or(j, nodes, label);
-    let fits = names_segment(nodes, label);
+    let number = labelled(level, label);
+    let node = number_or(j, number);
+    let fits = is_segment_at(level, number);
     Reached {
         worst: note_target(worst, line, fits, j, node),
         node,
@@ -173,43 +180,59 @@ fn segment_target(
 }
 
 #[cycle(targets)]
-fn group_target(worst: Option<Failure>, made: &GroupItem, nodes: &[Node], j: usize) -> Reached
-    ensures worst { failures result.worst ≡ noted (failures worst) (spec.target_failures (forest nodes.now) j (with_item (EachAs made.now) nothing)) }
-    ensures node { result.node ≡ spec.node_or j (forest nodes.now) made.now.label.items }
+fn group_target(
+    worst: Option<Failure>,
+    made: &GroupItem,
+    level: Option<&Indexed<'_>>,
+    j: usize,
+) -> Reached
+    ensures worst { failures result.worst ≡ noted (failures worst) (spec.target_failures (nodes_in level.entry) j (with_item (EachAs made.now) nothing)) }
+    ensures node { result.node ≡ spec.node_or j (nodes_in level.entry) made.now.label.items }
 {
-    let node = node_or(j, nodes, &made.label);
-    let fits = names_group(nodes, &made.label);
+    let number = labelled(level, &made.label);
+    let node = number_or(j, number);
+    let fits = is_group_at(level, number);
     let worst = note_target(worst, made.line, fits, j, node);
     Reached {
-        worst: target_failures(worst, &made.items, nodes_of_child(nodes, node), 0),
+        worst: target_failures(worst, &made.items, nodes_of_child(level, node), 0),
         node,
     }
 }
 
 #[cycle(targets)]
-fn flat_target(worst: Option<Failure>, made: &FlatItem, nodes: &[Node], j: usize) -> Reached
-    ensures worst { failures result.worst ≡ noted (failures worst) (spec.target_failures (forest nodes.now) j (with_item (EachFlat made.now) nothing)) }
-    ensures node { result.node ≡ spec.node_or j (forest nodes.now) (spec.first_or (spec.labels (with_item (EachFlat made.now) nothing))) }
+fn flat_target(
+    worst: Option<Failure>,
+    made: &FlatItem,
+    level: Option<&Indexed<'_>>,
+    j: usize,
+) -> Reached
+    ensures worst { failures result.worst ≡ noted (failures worst) (spec.target_failures (nodes_in level.entry) j (with_item (EachFlat made.now) nothing)) }
+    ensures node { result.node ≡ spec.node_or j (nodes_in level.entry) (spec.first_or (spec.labels (with_item (EachFlat made.now) nothing))) }
 {
-    let node = node_or(j, nodes, first_or(&made.items));
+    let node = node_or(j, level, first_or(&made.items));
     let fits = are_one(&made.items);
     let worst = note_target(worst, made.line, fits, j, node);
     Reached {
-        worst: target_failures(worst, &made.items, nodes, 0),
+        worst: target_failures(worst, &made.items, level, 0),
         node,
     }
 }
 
 #[cycle(targets)]
-fn item_target(worst: Option<Failure>, item: &Item, nodes: &[Node], j: usize) -> Reached
-    ensures worst { failures result.worst ≡ noted (failures worst) (spec.target_failures (forest nodes.now) j (with_item item.now nothing)) }
-    ensures node { result.node ≡ spec.node_or j (forest nodes.now) (spec.first_or (spec.labels (with_item item.now nothing))) }
+fn item_target(
+    worst: Option<Failure>,
+    item: &Item,
+    level: Option<&Indexed<'_>>,
+    j: usize,
+) -> Reached
+    ensures worst { failures result.worst ≡ noted (failures worst) (spec.target_failures (nodes_in level.entry) j (with_item item.now nothing)) }
+    ensures node { result.node ≡ spec.node_or j (nodes_in level.entry) (spec.first_or (spec.labels (with_item item.now nothing))) }
 {
     match item {
-        Item::SegFrom(made) => segment_target(worst, nodes, j, made.line, &made.label),
-        Item::SegAlways(made) => segment_target(worst, nodes, j, made.line, &made.label),
-        Item::EachAs(made) => group_target(worst, made, nodes, j),
-        Item::EachFlat(made) => flat_target(worst, made, nodes, j),
+        Item::SegFrom(made) => segment_target(worst, level, j, made.line, &made.label),
+        Item::SegAlways(made) => segment_target(worst, level, j, made.line, &made.label),
+        Item::EachAs(made) => group_target(worst, made, level, j),
+        Item::EachFlat(made) => flat_target(worst, made, level, j),
     }
 }
 
@@ -218,14 +241,14 @@ fn item_target(worst: Option<Failure>, item: &Item, nodes: &[Node], j: usize) ->
 pub(crate) fn target_failures(
     worst: Option<Failure>,
     items: &[Item],
-    nodes: &[Node],
+    level: Option<&Indexed<'_>>,
     j: usize,
 ) -> Option<Failure>
-    ensures { failures result ≡ noted (failures worst) (spec.target_failures (forest nodes.now) j (all_items items.now)) }
+    ensures { failures result ≡ noted (failures worst) (spec.target_failures (nodes_in level.entry) j (all_items items.now)) }
 {
     let mut reached = Reached { worst, node: j };
     for (i, item) in items.iter().enumerate() {
-        reached = item_target(reached.worst, item, nodes, reached.node);
+        reached = item_target(reached.worst, item, level, reached.node);
     }
     reached.worst
 }

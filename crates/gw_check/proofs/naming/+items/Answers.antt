@@ -1,6 +1,6 @@
 use Rattle.std.proofs.Common.{◌≡◌, ◌∙◌, subst, IfOk}
 use Rattle.gw_check.specs.Noted.{noted}
-use Rattle.gw_check.specs.Seen.{scope as walked, failures}
+use Rattle.gw_check.specs.Seen.{all_walked as walked, failures}
 use Rattle.gw_check.proofs.Noting.{group_failures, flat_failures, items_next}
 use Rattle.gw_check.proofs.naming.+items.Goals as goal
 

@@ -2,7 +2,7 @@ use Rattle.std.proofs.Common.{◌≡◌, drop}
 use Rattle.gw_maplang.specs.Seen.{all_items}
 use Rattle.gw_check.specs.Naming as spec
 use Rattle.gw_check.specs.Noted.{noted}
-use Rattle.gw_check.specs.Seen.{scope as walked, failures}
+use Rattle.gw_check.specs.Seen.{all_walked as walked, failures}
 use Rattle.gw_check.proofs.naming.+items.Given as goal
 
 abbrev pub invariant-path_failures-loop-i : goal.invariant-path_failures-loop-i

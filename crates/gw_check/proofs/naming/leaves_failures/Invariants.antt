@@ -2,7 +2,7 @@ use Rattle.std.proofs.Common.{◌≡◌, drop, map, flat_map}
 use Rattle.gw_maplang.specs.Seen.{leaf_value}
 use Rattle.gw_check.specs.Naming as spec
 use Rattle.gw_check.specs.Noted.{noted}
-use Rattle.gw_check.specs.Seen.{scope as walked, failures}
+use Rattle.gw_check.specs.Seen.{all_walked as walked, failures}
 use Rattle.gw_check.proofs.naming.leaves_failures.Given as goal
 
 abbrev pub invariant-loop-i : goal.invariant-loop-i

@@ -1,7 +1,7 @@
 use Rattle.std.proofs.Common.{◌∙◌}
 use Rattle.gw_maplang.specs.Seen.{rule as seen_rule}
 use Rattle.gw_check.specs.Naming as spec
-use Rattle.gw_check.specs.Seen.{scope as walked, failures}
+use Rattle.gw_check.specs.Seen.{all_walked as walked, failures}
 use Rattle.gw_check.proofs.Noting.{noted_next}
 use Rattle.gw_check.proofs.naming.rules_failures.Goals as goal
 

@@ -1,7 +1,7 @@
 use Rattle.std.proofs.Common.{◌≡◌, ◌-◌, ◌≤◌, length, option_map}
 use Rattle.gw_check.specs.Naming as spec
 use Rattle.gw_check.specs.Looking.{further}
-use Rattle.gw_check.specs.Seen.{scope as walked}
+use Rattle.gw_check.specs.Seen.{all_walked as walked}
 use Rattle.gw_check.proofs.paths.first_label.Given as goal
 
 abbrev pub invariant-loop-left : goal.invariant-loop-left

@@ -1,20 +1,10 @@
-use Rattle.std.proofs.Common.{[], ◌∷◌, map, sym, ap, ◌∙◌}
-use Rattle.gw_profile.specs.Seen.{forest}
-use Rattle.gw_maplang.specs.Seen.{all_items}
-use Rattle.gw_check.specs.Places.{the_whole}
-use Rattle.gw_check.specs.Naming as spec
-use Rattle.gw_check.specs.Seen.{failures}
-use Rattle.gw_check.proofs.Least.{none_least}
+use Rattle.std.proofs.Common.{sym, ap, ◌∙◌}
+use Rattle.gw_profile.specs.Seen.{forest, profile_value}
+use Rattle.gw_maplang.specs.Seen.{map_value}
+use Rattle.gw_check.proofs.Judging.{resolves_both}
 use Rattle.gw_check.proofs.resolve.resolve.Goals as goal
 
 pub returns : goal.returns
 returns c =
-    let from = c.nodes.ensures.value in
-    let to = c.nodes-2.ensures.value in
-    record {
-      none = none_least _ (sym (ap failures c.in_default.is) ∙ c.in_ok-failure.ensures);
-      items =
-          c.in_ok-items.ensures c.args.map.now.tables
-          ∙ (λ i. spec.resolved_items c.args.map.now.tables (the_whole (forest (from i)) ∷ []) (forest (to i)) (all_items (c.items.ensures.value i)));
-      drops = c.in_ok-drops.ensures ∙ (λ i. map (spec.drop (the_whole (forest (from i)))) (c.drops.ensures i));
-    }
+    resolves_both (profile_value c.args.source.now) (profile_value c.args.target.now) (map_value c.args.map.now) _ _ c.resolve_in.result
+    (sym (ap forest (c.in_ok-from.ensures ∙ c.nodes.ensures.value))) (sym (ap forest (c.in_ok-to.ensures ∙ c.nodes-2.ensures.value))) c.resolve_in.ensures

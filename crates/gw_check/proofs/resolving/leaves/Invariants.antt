@@ -3,7 +3,7 @@ use Rattle.gw_maplang.specs.Shapes.{TableValue}
 use Rattle.gw_maplang.specs.Seen as raw
 use Rattle.gw_check.specs.Naming as spec
 use Rattle.gw_check.specs.Seen as seen
-use Rattle.gw_check.specs.Seen.{scope as walked}
+use Rattle.gw_check.specs.Seen.{all_walked as walked}
 use Rattle.gw_check.proofs.resolving.leaves.Given as goal
 
 abbrev pub invariant-loop-i : goal.invariant-loop-i

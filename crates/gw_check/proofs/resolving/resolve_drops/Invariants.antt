@@ -6,4 +6,4 @@ use Rattle.gw_check.proofs.resolving.resolve_drops.Given as goal
 
 abbrev pub invariant-loop-i : goal.invariant-loop-i
 invariant-loop-i l =
-    map (spec.drop (seen.element l.message)) (map raw.dropped l.drops) ≡ map seen.left_out l.built.items ++ map (spec.drop (seen.element l.message)) (map raw.dropped (drop l.i l.drops))
+    map (spec.drop (seen.walked l.message)) (map raw.dropped l.drops) ≡ map seen.left_out l.built.items ++ map (spec.drop (seen.walked l.message)) (map raw.dropped (drop l.i l.drops))

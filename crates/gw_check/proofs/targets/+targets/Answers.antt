@@ -1,23 +1,26 @@
-use Rattle.std.proofs.Common.{◌∙◌, refl}
-use Rattle.gw_profile.specs.Seen.{forest}
-use Rattle.gw_check.specs.Seen.{failures}
+use Rattle.std.proofs.Common.{◌∙◌, refl, ap}
+use Rattle.std.specs.Prelude.{unwrap_or, option_and_then}
+use Rattle.gw_check.specs.Places.{child}
+use Rattle.gw_check.specs.Placed.{is_group}
+use Rattle.gw_check.specs.Seen.{nodes_in, failures}
 use Rattle.gw_check.proofs.Targeting.{targets_next, group_noted, flat_noted, flat_reached}
 use Rattle.gw_check.proofs.targets.+targets.Goals as goal
 
 pub group_target-returns-clause-worst : goal.group_target-returns-clause-worst
 group_target-returns-clause-worst t c =
-    group_noted (forest c.args.nodes.now) (forest c.nodes_of_child.result.now) c.args.j c.node_or-node.result _ c.args.made.now _ _ _ c.names_group-fits.result _ (failures c.note_target-worst.result) (failures c.args.worst)
-    refl c.deref.ensures.value c.deref-2.ensures.value c.deref-3.ensures.value c.node_or-node.ensures c.names_group-fits.ensures c.note_target-worst.ensures c.nodes_of_child.ensures c.target_failures.ensures
+    group_noted (nodes_in c.args.level) (nodes_in c.nodes_of_child.result) c.args.j c.number_or-node.result _ c.args.made.now _ _ _ c.is_group_at-fits.result _ (failures c.note_target-worst.result) (failures c.args.worst)
+    refl c.deref.ensures.value c.deref.ensures.value c.deref-2.ensures.value (c.number_or-node.ensures ∙ ap (λ n. unwrap_or n c.args.j) c.labelled-number.ensures)
+    (c.is_group_at-fits.ensures ∙ ap (λ n. is_group (option_and_then (child (nodes_in c.args.level)) n)) c.labelled-number.ensures) c.note_target-worst.ensures c.nodes_of_child.ensures c.target_failures.ensures
 
 pub flat_target-returns-clause-worst : goal.flat_target-returns-clause-worst
 flat_target-returns-clause-worst t c =
-    flat_noted (forest c.args.nodes.now) c.args.j c.node_or-node.result _ c.args.made.now _ _ _ _ c.are_one-fits.result _ (failures c.note_target-worst.result) (failures c.args.worst)
+    flat_noted (nodes_in c.args.level) c.args.j c.node_or-node.result _ c.args.made.now _ _ _ _ c.are_one-fits.result _ (failures c.note_target-worst.result) (failures c.args.worst)
     refl c.deref.ensures.value c.deref-2.ensures.value c.deref-3.ensures.value c.first_or.ensures c.node_or-node.ensures c.are_one-fits.ensures c.note_target-worst.ensures c.target_failures.ensures
 
 pub flat_target-returns-clause-node : goal.flat_target-returns-clause-node
-flat_target-returns-clause-node t c = flat_reached (forest c.args.nodes.now) c.args.j c.node_or-node.result c.args.made.now _ _ c.deref.ensures.value c.first_or.ensures c.node_or-node.ensures
+flat_target-returns-clause-node t c = flat_reached (nodes_in c.args.level) c.args.j c.node_or-node.result c.args.made.now _ _ c.deref.ensures.value c.first_or.ensures c.node_or-node.ensures
 
 pub target_failures-loop-i-preserved : goal.target_failures-loop-i-preserved
 target_failures-loop-i-preserved t c =
     c.loop-i.invariant
-    ∙ targets_next (forest c.args.nodes.now) c.args.items.now c.loop-i.i c.index-items-i.result (failures c.item_target-reached.result.worst) (failures c.loop-i.reached.worst) c.loop-i.reached.node c.item_target-reached.result.node c.loop-i-test.true c.index-items-i.is c.item_target-reached.ensures.worst c.item_target-reached.ensures.node
+    ∙ targets_next (nodes_in c.args.level) c.args.items.now c.loop-i.i c.index-items-i.result (failures c.item_target-reached.result.worst) (failures c.loop-i.reached.worst) c.loop-i.reached.node c.item_target-reached.result.node c.loop-i-test.true c.index-items-i.is c.item_target-reached.ensures.worst c.item_target-reached.ensures.node
