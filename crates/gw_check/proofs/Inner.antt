@@ -1,11 +1,11 @@
 -- The nodes within a node.
-use Rattle.std.proofs.Common.{◌≡◌, ℕ, zero, suc, List, [], ◌∷◌, Result, Ok, Err, Option, Some, None, IfOk, refl, sym, ap, ◌∙◌, map, length, get_or, ◌<◌, arith}
+use Rattle.std.proofs.Common.{◌≡◌, ℕ, zero, suc, List, [], ◌∷◌, Result, Ok, Err, IfOk, sym, ap, ◌∙◌, map, length, get_or, ◌<◌, arith}
 use Rattle.gw_profile.specs.declared.node.GroupNode.{GroupNode}
 use Rattle.gw_profile.specs.declared.node.Node.{Node, Group}
-use Rattle.gw_profile.specs.Shapes.{Forest, nothing, segment, group}
+use Rattle.gw_profile.specs.Shapes.{nothing}
 use Rattle.gw_profile.specs.Seen.{forest}
 use Rattle.gw_profile.proofs.Rows.{group_forest}
-use Rattle.gw_check.specs.Places.{Element, nodes_of, child, nodes_of_child}
+use Rattle.gw_check.specs.Places.{nodes_of_child}
 use Rattle.gw_check.specs.Indexed.{inner}
 
 pub inner_group : (n : Node) (g : GroupNode) → n ≡ Group g → forest g.nodes.items ≡ inner n
@@ -22,22 +22,3 @@ below_at [] below i n b e h there here = absurd (omega (arith, h))
 below_at (m ∷ nodes) [] i n b e h there here = absurd (cc)
 below_at (m ∷ nodes) (k ∷ below) zero n b e h there here = let same : forest k ≡ inner m = cc in ap forest here ∙ same ∙ sym (ap inner there)
 below_at (m ∷ nodes) (k ∷ below) (suc i) n b e h there here = let others : map forest below ≡ map inner nodes = cc in below_at nodes below i n b others (omega (arith, h)) there here
-
--- ---- by numbers
-
-abbrev nodes_at : Option Element → Forest
-nodes_at None = nothing
-nodes_at (Some e) = nodes_of e
-
-nodes_are_at : (f : Forest) (i : ℕ) → nodes_of_child f i ≡ nodes_at (child f i)
-nodes_are_at nothing i = refl
-nodes_are_at (segment s rest) zero = refl
-nodes_are_at (segment s rest) (suc i) = nodes_are_at rest i
-nodes_are_at (group g nodes rest) zero = refl
-nodes_are_at (group g nodes rest) (suc i) = nodes_are_at rest i
-
-pub same_nodes : (f h : Forest) (i j : ℕ) → child f i ≡ child h j → nodes_of_child f i ≡ nodes_of_child h j
-same_nodes f h i j e = nodes_are_at f i ∙ ap nodes_at e ∙ sym (nodes_are_at h j)
-
-pub no_nodes : (f : Forest) (i : ℕ) → child f i ≡ None → nodes_of_child f i ≡ nothing
-no_nodes f i e = nodes_are_at f i ∙ ap nodes_at e
