@@ -14,6 +14,3 @@ pub use answer::{accept_ack, error_ack, reject_ack};
 pub use header::Header;
 pub use receipt::{Ack, AckFault, read_ack};
 pub use stamp::Stamp;
-
-#[cfg(test)]
-mod tests;

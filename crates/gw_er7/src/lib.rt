@@ -36,6 +36,3 @@ pub use reader::read;
 pub use text::canonical;
 pub use view::{Segment, Value};
 pub use writer::write;
-
-#[cfg(test)]
-mod tests;

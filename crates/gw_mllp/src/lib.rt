@@ -19,6 +19,3 @@ pub use decoder::Decoder;
 pub use fault::FrameFault;
 pub use laws::{long_exactly, one_cut, one_decoder};
 pub use write::{is_content, write_block};
-
-#[cfg(test)]
-mod tests;

@@ -21,6 +21,3 @@ pub use sink::Sink;
 pub use source::{Failed, Source};
 pub use stream::answer_stream;
 pub use writes::Writes;
-
-#[cfg(test)]
-mod tests;

@@ -1,12 +1,18 @@
-//! Tests of the readers of profiles and maps, of the validator, the checker and the translator. They stand apart from these crates, since a crate with tests is proved twice.
+//! Tests of the libraries. They stand apart from these crates, since a crate with tests is proved twice.
 #![tactic(auto)]
 
+#[cfg(test)]
+mod answers;
+#[cfg(test)]
+mod blocks;
 #[cfg(test)]
 mod labels;
 #[cfg(test)]
 mod map_texts;
 #[cfg(test)]
 mod maps;
+#[cfg(test)]
+mod messages;
 #[cfg(test)]
 mod profiles;
 #[cfg(test)]
@@ -15,6 +21,8 @@ mod rules;
 mod samples;
 #[cfg(test)]
 mod shapes;
+#[cfg(test)]
+mod streams;
 #[cfg(test)]
 mod translations;
 #[cfg(test)]
