@@ -1,6 +1,8 @@
-//! Tests of the readers of profiles and maps, of the validator, the checker and the translator. They stand apart from these crates, since a crate with tests is proved twice.
+//! Tests of the readers of profiles and maps, of the validator, the checker, the translator and the desk. They stand apart from these crates, since a crate with tests is proved twice.
 #![tactic(auto)]
 
+#[cfg(test)]
+mod desks;
 #[cfg(test)]
 mod labels;
 #[cfg(test)]
