@@ -1,3 +1,4 @@
 pub mod Places
-pub mod Keeping
-pub mod States
+pub mod Slots
+pub mod Steps
+pub mod Runs

@@ -1,4 +1,4 @@
-use Rattle.std.specs.Prelude.{ℕ, List, Option, None, Some, Result, Ok, Err, ◌≡◌, ◌-◌, ◌+◌, ◌==◌, nat_lt, if◌then◌else◌, position, slice_get, slice_set, drop}
+use Rattle.std.specs.Prelude.{ℕ, List, Option, None, Some, ◌-◌, ◌+◌, ◌==◌, nat_lt, if◌then◌else◌, position, slice_get, slice_set, drop}
 use Rattle.gw_reorder.specs.State.{DeskState}
 use Rattle.gw_reorder.specs.declared.desk.Status.{Status}
 use Rattle.gw_reorder.specs.declared.desk.Status.TheVariants.{Waiting, Repeat, Stranger}
@@ -24,6 +24,12 @@ status_at s (Some place) = if nat_lt place s.released then Repeat else slot_stat
 abbrev pub status_of : {T : Type 0} → DeskState T → ℕ → Status
 status_of s n = status_at s (place_of s n)
 
+-- what becomes of a value, by what its number is
+abbrev pub held_as : {T : Type 0} → Status → T → Held T
+held_as Waiting x = held.TheVariants.Kept
+held_as Repeat x = held.TheVariants.Repeat x
+held_as Stranger x = held.TheVariants.Stranger x
+
 -- the values kept, with one more for the due number at this place
 abbrev pub kept_with : {T : Type 0} → DeskState T → Option ℕ → T → List (Option T)
 kept_with s None x = s.kept
@@ -33,12 +39,15 @@ kept_with s (Some place) x = slice_set s.kept (place - s.released) (Some x)
 abbrev pub with_value : {T : Type 0} → DeskState T → ℕ → T → DeskState T
 with_value s n x = record s { kept = kept_with s (place_of s n) x }
 
--- What `hold` answers and leaves. Want of memory comes only for a number that waits
-abbrev pub Holds : {T : Type 0} → DeskState T → ℕ → T → Result (Held T) T → DeskState T → Type 0
-Holds old n x (Ok held.TheVariants.Kept) new = (status_of old n ≡ Waiting) × (new ≡ with_value old n x)
-Holds old n x (Ok (held.TheVariants.Repeat y)) new = (status_of old n ≡ Repeat) × (y ≡ x) × (new ≡ old)
-Holds old n x (Ok (held.TheVariants.Stranger y)) new = (status_of old n ≡ Stranger) × (y ≡ x) × (new ≡ old)
-Holds old n x (Err y) new = (status_of old n ≡ Waiting) × (y ≡ x) × (new ≡ old)
+-- a desk after a value was brought for a number that is this
+abbrev pub after_bringing : {T : Type 0} → DeskState T → Status → ℕ → T → DeskState T
+after_bringing s Waiting n x = with_value s n x
+after_bringing s Repeat n x = s
+after_bringing s Stranger n x = s
+
+-- what holding leaves: the value is kept where its number waits for one, else nothing changes
+abbrev pub after_holding : {T : Type 0} → DeskState T → ℕ → T → DeskState T
+after_holding s n x = after_bringing s (status_of s n) n x
 
 -- a number with the value kept for it, where there are both
 abbrev pub kept_pair : {T : Type 0} → Option ℕ → Option (Option T) → Option (ℕ × T)

@@ -1,3 +1,3 @@
 pub mod State
 pub mod Calls
-pub mod Lists
+pub mod Runs

@@ -1,6 +1,7 @@
 //! A desk: what is due, by rising numbers, and the values that were brought and not yet given out.
-use crate::search::{entry_of, place_among};
+use crate::search::place_among;
 use std::alloc::{AllocError, Global};
+use std::collections::VecDeque;
 use std::marker::Model;
 
 /// What a number is to a desk.
@@ -25,30 +26,35 @@ pub enum Held<T: Drop> {
     Stranger(T),
 }
 
-/// What is due, by its numbers, and what was brought of it: the values that wait, with their numbers, as they came.
+/// What is due, by its numbers, and what was brought of it and not yet released: the values stand in a window, each at the place of its number.
 #[derive(Drop)]
 pub struct Desk<T: Drop> {
     due: Vec<u64>,
+    waiting: VecDeque<Option<T>>,
     released: usize,
-    held: Vec<(u64, T)>,
 }
 
 impl<T: Drop> Model for Desk<T> {
-    ghost use Rattle.std.specs.Prelude.{◌-◌, vec_len, vec_capacity};
-    ghost use Rattle.gw_reorder.specs.State.{DeskState};
-    ghost use Rattle.gw_reorder.specs.Lists.{state_of, IsInOrder};
+    ghost use Rattle.std.specs.Prelude.{◌-◌, min, vec_len, vec_capacity};
+    ghost use Rattle.std.specs.VecDeque.{deque_len, deque_capacity};
+    ghost use Rattle.gw_reorder.specs.State.{DeskState, IsWindow};
 
     ghost Value = { DeskState T };
 
-    ghost view = { λ d. state_of d.due.items d.released d.held.items (vec_capacity d.due - vec_len d.due) };
+    ghost view = { λ d. record {
+      due = d.due.items;
+      released = d.released;
+      kept = d.waiting.items;
+      room = min (vec_capacity d.due - vec_len d.due) (deque_capacity d.waiting - deque_len d.waiting);
+    } };
 
-    ghost invariant = { λ d. IsInOrder d.due.items d.released d.held.items };
+    ghost invariant = { λ d. IsWindow d.due.items (vec_len d.due) d.released (deque_len d.waiting) };
 }
 
 impl<T: Drop> Desk<T> {
     ghost use Rattle.std.specs.Prelude.{◌≡◌, ◌<◌, ◌≤◌, ◌↔◌, OnOk, OnErr, All, IsTrue, option_map};
     ghost use Rattle.gw_reorder.specs.State.{SameButRoom, nothing_due, with_due};
-    ghost use Rattle.gw_reorder.specs.Calls.{status_of, Holds, next_of, after_giving};
+    ghost use Rattle.gw_reorder.specs.Calls.{status_of, held_as, after_holding, next_of, after_giving};
 
     /// Nothing is due, and there is no room yet.
     pub fn new(alloc: Global) -> Self
@@ -56,26 +62,32 @@ impl<T: Drop> Desk<T> {
     {
         Desk {
             due: Vec::new(alloc),
+            waiting: VecDeque::new(alloc),
             released: 0,
-            held: Vec::new(alloc),
         }
     }
 
-    /// Makes room for one due number.
+    /// Makes room for one due number and its value. After a refused growth there is the room that there was.
     pub fn reserve(&mut self) -> Result<(), AllocError>
         ensures ok { OnOk result (0 < self.new.room) }
         ensures err { OnErr result (self.old.room ≡ 0) }
+        ensures kept { OnErr result (self.new.room ≡ self.old.room) }
         ensures same { SameButRoom self.old self.new }
         ensures room { self.old.room ≤ self.new.room }
     {
-        self.due.reserve(1)
+        self.due.reserve(1)?;
+        let waiting = self.waiting.len();
+        if waiting < self.waiting.capacity() {
+            return Ok(());
+        }
+        self.waiting.reserve_exact(waiting.max(4))
     }
 
     /// Whether there is room for one more due number.
     pub fn has_room(&self) -> bool
         ensures { IsTrue result ↔ (0 < self.now.room) }
     {
-        self.due.len() < self.due.capacity()
+        self.due.len() < self.due.capacity() && self.waiting.len() < self.waiting.capacity()
     }
 
     /// The number is due from now on.
@@ -85,6 +97,7 @@ impl<T: Drop> Desk<T> {
         ensures { self.new ≡ with_due self.old n }
     {
         self.due.push_reserved(n);
+        self.waiting.push_back_reserved(None);
     }
 
     /// What the number is: whether `hold` would keep a value for it.
@@ -97,54 +110,57 @@ impl<T: Drop> Desk<T> {
         if place < self.released {
             return Status::Repeat;
         }
-        match entry_of(&self.held, n) {
-            Some(_) => Status::Repeat,
-            None => Status::Waiting,
+        match self.waiting.get(place - self.released) {
+            Some(Some(_)) => Status::Repeat,
+            _ => Status::Waiting,
         }
     }
 
-    /// Keeps the value of a number that waits for one. `Err` is want of memory.
-    pub fn hold(&mut self, n: u64, value: T) -> Result<Held<T>, T>
-        ensures { Holds self.old n value result self.new }
+    /// Keeps the value of a number that waits for one; another is handed back. The room for it was made before its number was due, so it takes no memory.
+    pub fn hold(&mut self, n: u64, value: T) -> Held<T>
+        ensures answer { result ≡ held_as (status_of self.old n) value }
+        ensures left { self.new ≡ after_holding self.old n value }
     {
-        match self.status(n) {
-            Status::Stranger => Ok(Held::Stranger(value)),
-            Status::Repeat => Ok(Held::Repeat(value)),
-            Status::Waiting => match self.held.push((n, value)) {
-                Ok(()) => Ok(Held::Kept),
-                Err(refused) => Err(refused.value.1),
-            },
+        let Some(place) = place_among(&self.due, n) else {
+            return Held::Stranger(value);
+        };
+        if place < self.released {
+            return Held::Repeat(value);
         }
+        let slot = place - self.released;
+        if self.waiting[slot].is_some() {
+            return Held::Repeat(value);
+        }
+        self.waiting[slot] = Some(value);
+        Held::Kept
     }
 
     /// What `release` would give.
     pub fn peek(&self) -> Option<(u64, &T)>
         ensures { option_map (λ given. (given.0, given.1.now)) result ≡ next_of self.now }
     {
-        if self.released >= self.due.len() {
-            return None;
-        }
-        let number = self.due[self.released];
-        let Some(found) = entry_of(&self.held, number) else {
+        let Some(Some(value)) = self.waiting.front() else {
             return None;
         };
-        Some((number, &self.held[found].1))
+        Some((self.due[self.released], value))
     }
 
-    /// Gives out the least due number that was not released, with the value that was kept for it.
+    /// Gives out the least due number that was not released, with the value that was kept for it. The value leaves the desk.
     pub fn release(&mut self) -> Option<(u64, T)>
         ensures given { result ≡ next_of self.old }
-        ensures left { self.new ≡ after_giving self.old result }
+        ensures left { SameButRoom (after_giving self.old result) self.new }
+        ensures room { self.old.room ≤ self.new.room }
     {
-        if self.released >= self.due.len() {
-            return None;
-        }
-        let number = self.due[self.released];
-        let Some(at) = entry_of(&self.held, number) else {
+        let Some(Some(_)) = self.waiting.front() else {
             return None;
         };
-        let (_, value) = self.held.remove(at);
-        self.released += 1;
-        Some((number, value))
+        let number = self.due[self.released];
+        match self.waiting.pop_front() {
+            Some(Some(value)) => {
+                self.released += 1;
+                Some((number, value))
+            }
+            _ => None,
+        }
     }
 }

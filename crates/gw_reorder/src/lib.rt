@@ -4,9 +4,7 @@
 #![tactic(auto)]
 
 mod desk;
+pub mod laws;
 mod search;
 
 pub use desk::{Desk, Held, Status};
-
-#[cfg(test)]
-mod tests;

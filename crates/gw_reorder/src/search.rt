@@ -13,10 +13,3 @@ pub(crate) fn place_among(due: &[u64], n: u64) -> Option<usize>
         Err(_) => None,
     }
 }
-
-/// The first entry under the number.
-pub(crate) fn entry_of<T: Drop>(entries: &[(u64, T)], n: u64) -> Option<usize>
-    ensures { result ≡ position (λ entry. entry.0 == n) entries.now }
-{
-    entries.iter().position(|entry| entry.0 == n)
-}

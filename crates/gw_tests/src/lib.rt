@@ -6,6 +6,8 @@ mod answers;
 #[cfg(test)]
 mod blocks;
 #[cfg(test)]
+mod desks;
+#[cfg(test)]
 mod labels;
 #[cfg(test)]
 mod map_texts;

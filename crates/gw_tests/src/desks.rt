@@ -1,5 +1,6 @@
 //! The calls on a desk, with their answers.
-use crate::{Desk, Held, Status};
+use gw_reorder::laws::values_are_given_in_order;
+use gw_reorder::{Desk, Held, Status};
 use std::test::Fail;
 
 /// What the answer of `hold` says of the number, and whether a value that isn't kept is the one that was brought.
@@ -14,10 +15,8 @@ fn told(held: &Held<u64>, value: u64) -> (Status, bool) {
 /// Brings a value of ten times the number: `status` and `hold` tell the same.
 fn brings(desk: &mut Desk<u64>, number: u64, value: u64, want: Status) -> bool {
     let before = desk.status(number);
-    match desk.hold(number, value) {
-        Ok(held) => before == want && told(&held, value) == (want, true),
-        Err(_) => false,
-    }
+    let held = desk.hold(number, value);
+    before == want && told(&held, value) == (want, true)
 }
 
 /// Gives the next one: `peek` and `release` tell the same.
@@ -59,6 +58,29 @@ fn numbers_with_gaps(rt: HostRuntime) -> Result<(), Fail> {
     for (at, answer) in answers.iter().enumerate() {
         assert!(rt; *answer, "call {at}");
     }
+    Ok(())
+}
+
+/// Ten thousand numbers with gaps, whose values come in another order: 7919 is prime, so each place is met once.
+#[test]
+fn many_numbers(rt: HostRuntime) -> Result<(), Fail> {
+    values_are_given_in_order::<u64>();
+    let mut desk = Desk::new(rt.alloc());
+    for place in 0..10_000u64 {
+        desk.reserve()?;
+        assert!(rt; desk.has_room());
+        desk.due(3 * place + 1);
+    }
+    for turn in 0..10_000u64 {
+        let number = 3 * (turn * 7_919 % 10_000) + 1;
+        assert!(rt; brings(&mut desk, number, number * 10, Status::Waiting));
+    }
+    for place in 0..10_000u64 {
+        let number = 3 * place + 1;
+        assert!(rt; brings(&mut desk, number, 0, Status::Repeat));
+        assert!(rt; gives(&mut desk, Some((number, number * 10))));
+    }
+    assert!(rt; gives(&mut desk, None));
     Ok(())
 }
 
