@@ -105,7 +105,7 @@ pub fn ruled(
     if !is_headed(lines) {
         return Err(ProfileFault::Header);
     }
-    if let Some(shared) = ambiguous(alloc, &nodes, IndexSet::new(alloc))? {
+    if let Some(shared) = ambiguous(alloc, &nodes, IndexSet::new(alloc), &mut Vec::new(alloc), 0)? {
         return Err(ProfileFault::Ambiguous(shared));
     }
     Ok(Profile {
