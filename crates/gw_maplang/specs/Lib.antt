@@ -10,3 +10,4 @@ pub mod Whole
 pub mod Seen
 pub mod Building
 pub mod Identity
+pub mod Patterns

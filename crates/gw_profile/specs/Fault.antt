@@ -41,8 +41,6 @@ has_leaf (Some leaf) = true
 
 abbrev pub parents : List Line → Parents
 parents [] = no_parents
-parents (Begins name ∷ above) = no_parents
-parents (Table name values ∷ above) = no_parents
 parents (Segment name label renamed usage card ∷ above) =
     record { segment = Some (record { shut = is_forbidden usage; least = least_field name; last = 0 }); field = None; comp = None }
 parents (Field number usage card leaf ∷ above) =
@@ -51,8 +49,7 @@ parents (Comp number usage leaf ∷ above) =
     record { segment = (parents above).segment; field = with_part number (parents above).field; comp = Some (record { shut = is_forbidden usage || has_leaf leaf; least = 1; last = 0 }) }
 parents (Sub number usage leaf ∷ above) =
     record { segment = (parents above).segment; field = (parents above).field; comp = with_part number (parents above).comp }
-parents (Group at label usage card ∷ above) = no_parents
-parents (End ∷ above) = no_parents
+parents (line ∷ above) = no_parents
 
 -- the first line with words says what the text is
 abbrev pub begun : List Line → Bool
@@ -62,14 +59,8 @@ begun (line ∷ above) = true
 -- the names of the tables
 abbrev pub tables : List Line → List (List ℕ)
 tables [] = []
-tables (Begins name ∷ above) = tables above
 tables (Table name values ∷ above) = tables above ++ name ∷ []
-tables (Segment name label renamed usage card ∷ above) = tables above
-tables (Field number usage card leaf ∷ above) = tables above
-tables (Comp number usage leaf ∷ above) = tables above
-tables (Sub number usage leaf ∷ above) = tables above
-tables (Group at label usage card ∷ above) = tables above
-tables (End ∷ above) = tables above
+tables (line ∷ above) = tables above
 
 -- the labels of the nodes so far in the innermost open group, and in each group or level around it, the nearest first
 pub record Levels : Type 0 where
@@ -88,14 +79,10 @@ outside (labels ∷ outer) = record { labels = labels; outer = outer }
 
 abbrev pub levels : List Line → Levels
 levels [] = record { labels = []; outer = [] }
-levels (Begins name ∷ above) = levels above
-levels (Table name values ∷ above) = levels above
 levels (Segment name label renamed usage card ∷ above) = with_label label (levels above)
-levels (Field number usage card leaf ∷ above) = levels above
-levels (Comp number usage leaf ∷ above) = levels above
-levels (Sub number usage leaf ∷ above) = levels above
 levels (Group at label usage card ∷ above) = inside (with_label label (levels above))
 levels (End ∷ above) = outside (levels above).outer
+levels (line ∷ above) = levels above
 
 -- ---- the tests of a line
 

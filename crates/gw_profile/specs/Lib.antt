@@ -16,3 +16,4 @@ pub mod Building
 pub mod Whole
 pub mod Written
 pub mod Worked
+pub mod Patterns
