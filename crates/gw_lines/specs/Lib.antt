@@ -5,3 +5,4 @@ pub mod Parts
 pub mod Reading
 pub mod Seen
 pub mod Expected
+pub mod Grammar

@@ -1,9 +1,10 @@
 -- The faults of a line, by the lines above it, the nearest first.
-use Rattle.std.specs.Prelude.{ℕ, ◌+◌, ◌-◌, ◌==◌, Bool, true, false, not, ◌&&◌, ◌||◌, nat_le, List, [], ◌∷◌, ◌++◌, Option, Some, None, bytes_eq, Result, Err}
+use Rattle.std.specs.Prelude.{ℕ, ◌+◌, ◌-◌, ◌==◌, Bool, true, false, not, ◌&&◌, ◌||◌, nat_le, List, [], ◌∷◌, ◌++◌, Option, Some, None, bytes_eq, Result}
 use Rattle.std.specs.List.{list_any}
 use Rattle.gw_lines.specs.Words.{Word}
 use Rattle.gw_lines.specs.Values.{is_value}
-use Rattle.gw_lines.specs.Reading.{first_of, unless}
+use Rattle.gw_lines.specs.Grammar as declared_by
+use Rattle.gw_lines.specs.Grammar.{Grammar}
 use Rattle.gw_maplang.specs.declared.fault.MapFault.{MapFault}
 use Rattle.gw_maplang.specs.declared.fault.MapFault.TheVariants.{Syntax, UnknownTable, BadConstant, Duplicate, TooDeep}
 use Rattle.gw_maplang.specs.declared.rule.LeafPlace.{LeafPlace}
@@ -241,10 +242,10 @@ tests above at (Each line label path) = each_tests above at
 tests above at End = end_tests above at
 tests above at (Drops drop) = drop_tests above at
 
-abbrev pub tested : List Line → ℕ → Option Line → Result Line MapFault
-tested above at None = Err (Syntax at)
-tested above at (Some line) = unless (first_of (tests above at line)) line
+-- the lines of a map, as they are declared
+abbrev pub grammar : Grammar Line MapFault
+grammar = record { form = form; tests = tests; syntax = Syntax }
 
 -- the line that the words are below these lines, or its fault
 abbrev pub takes : List Line → ℕ → List Word → Result Line MapFault
-takes above at words = tested above at (form at words)
+takes = declared_by.takes grammar

@@ -4,7 +4,6 @@ pub mod Among
 pub mod Lawful
 pub mod Line
 pub mod Fault
-pub mod Taken
 pub mod Value
 pub mod Whole
 pub mod Seen

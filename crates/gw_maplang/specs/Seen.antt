@@ -14,7 +14,7 @@ use Rattle.gw_maplang.specs.declared.form.Line as declared
 use Rattle.gw_maplang.specs.Line as Spec
 use Rattle.gw_maplang.specs.declared.context as Held
 use Rattle.gw_maplang.specs.Fault as Fault
-use Rattle.gw_maplang.specs.Taken.{AllTaken}
+use Rattle.gw_lines.specs.Grammar.{AllTaken}
 use Rattle.gw_maplang.specs.Lawful.{table_names, firsts}
 use Rattle.gw_maplang.specs.Shapes.{Path, FieldPath, Ref, Field, Current, Leaf, Const, Copy, Lookup, LeafValue, Copies, Firsts, Repeats, Builds, RuleValue, Items, nothing, segment, group, flat, Row, Rows, TableValue, DropValue, MapValue}
 
@@ -164,4 +164,4 @@ pub record Agrees (held : Held.Standing.Standing) (tables : List TableValue) (se
   pub has_tables : tables ≡ Fault.tables lines
   pub has_segment : segment ≡ Fault.open_segment lines
   pub has_rule : rule ≡ Fault.open_rule lines
-  pub taken : AllTaken lines
+  pub taken : AllTaken Fault.grammar lines

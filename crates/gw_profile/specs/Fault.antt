@@ -1,9 +1,10 @@
 -- The faults of a line, by the lines above it, the nearest first.
-use Rattle.std.specs.Prelude.{ℕ, ◌==◌, Bool, true, false, not, ◌||◌, nat_le, if◌then◌else◌, List, [], ◌∷◌, ◌++◌, length, Option, Some, None, bytes_eq, codes, Result, Err}
+use Rattle.std.specs.Prelude.{ℕ, ◌==◌, Bool, true, false, not, ◌||◌, nat_le, if◌then◌else◌, List, [], ◌∷◌, ◌++◌, length, Option, Some, None, bytes_eq, codes, Result}
 use Rattle.std.specs.List.{list_any}
 use Rattle.std.specs.Option.{is_some}
 use Rattle.gw_lines.specs.Words.{Word}
-use Rattle.gw_lines.specs.Reading.{first_of, unless}
+use Rattle.gw_lines.specs.Grammar as declared_by
+use Rattle.gw_lines.specs.Grammar.{Grammar}
 use Rattle.gw_profile.specs.declared.fault.ProfileFault.{ProfileFault}
 use Rattle.gw_profile.specs.declared.fault.ProfileFault.TheVariants.{Syntax, Usage, Duplicate, UnknownTable, TooDeep}
 use Rattle.gw_profile.specs.declared.shape.Usage as declared
@@ -146,10 +147,10 @@ tests above at (Sub number usage leaf) = part_tests at number (is_some usage) le
 tests above at (Group line label usage card) = group_tests above at label usage card
 tests above at End = end_tests above at
 
-abbrev pub tested : List Line → ℕ → Option Line → Result Line ProfileFault
-tested above at None = Err (Syntax at)
-tested above at (Some line) = unless (first_of (tests above at line)) line
+-- the lines of a profile, as they are declared
+abbrev pub grammar : Grammar Line ProfileFault
+grammar = record { form = form; tests = tests; syntax = Syntax }
 
 -- the line that the words are below these lines, or its fault
 abbrev pub takes : List Line → ℕ → List Word → Result Line ProfileFault
-takes above at words = tested above at (form at words)
+takes = declared_by.takes grammar

@@ -4,7 +4,6 @@ pub mod Lengths
 pub mod Among
 pub mod Line
 pub mod Fault
-pub mod Taken
 pub mod Determinism
 pub mod Deterministic
 pub mod WellFormed

@@ -1,7 +1,7 @@
 -- Parts of the program, without where they lie in memory.
 use Rattle.std.specs.Prelude.{◌≡◌, ℕ, if◌then◌else◌, List, [], ◌∷◌, ◌++◌, map, reverse, Option, None, Some, false}
 use Rattle.gw_profile.specs.WellFormed.{table_names}
-use Rattle.gw_profile.specs.Taken.{AllTaken}
+use Rattle.gw_lines.specs.Grammar.{AllTaken}
 use Rattle.gw_profile.specs.declared.shape.SubShape.{SubShape}
 use Rattle.gw_profile.specs.declared.shape.CompShape.{CompShape}
 use Rattle.gw_profile.specs.declared.shape.FieldShape.{FieldShape}
@@ -127,7 +127,7 @@ pub record Agrees (held : Held.Parents.Parents) (tables : List TableValue) (labe
   pub has_names : table_names tables ≡ Fault.tables lines
   pub has_tables : tables ≡ kept lines
   pub has_levels : levels labels ≡ Fault.levels lines
-  pub taken : AllTaken lines
+  pub taken : AllTaken Fault.grammar lines
 
 -- a profile, with its nodes as they are lent
 pub record Contents : Type 0 where
