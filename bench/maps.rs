@@ -88,6 +88,17 @@ fn wide(segments: usize, fields: usize) -> String {
     profile
 }
 
+/// So many optional groups behind MSH, each with one segment.
+fn groups(count: usize) -> String {
+    let mut profile = String::from("profile WIDE\nsegment MSH R 1..1\n");
+    for n in 0..count {
+        let name = segment(n);
+        writeln!(profile, "group {name}S O 0..1\n  segment {name} R 1..1\nend")
+            .expect("a String takes all");
+    }
+    profile
+}
+
 /// So many items that all walk the last of so many segments.
 fn last_of(segments: usize) -> Case {
     let last = segment(segments - 1);
@@ -205,6 +216,7 @@ fn all(examples: &Path) -> io::Result<Vec<(&'static str, Case)>> {
         ("same_11_of_900_fields", same(wide(11, 900))),
         ("same_3000_segments", same(wide(3_000, 0))),
         ("same_9990_segments", same(wide(LINES - 10, 0))),
+        ("same_3332_groups", same(groups(3_332))),
         ("last_of_1000_segments", last_of(1_000)),
         ("last_of_9990_segments", last_of(LINES - 10)),
         ("drops_of_9900_fields", drops()),

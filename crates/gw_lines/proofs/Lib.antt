@@ -1,3 +1,4 @@
 pub mod Fronts
 pub mod Decimals
 pub mod Texts
+pub mod Taken

@@ -4,3 +4,5 @@ pub mod Values
 pub mod Parts
 pub mod Reading
 pub mod Seen
+pub mod Expected
+pub mod Grammar

@@ -1,6 +1,7 @@
 //! Texts of numbered lines of words.
 #![tactic(auto)]
 
+mod expected;
 mod form;
 mod lines;
 mod parts;
@@ -8,6 +9,7 @@ mod spelled;
 mod values;
 mod words;
 
+pub use expected::{Expected, keyword_of, line_at};
 pub use form::{Form, TextFault, read_text, take_line, take_lines};
 pub use lines::lines_of;
 pub use parts::{

@@ -17,7 +17,8 @@ use Rattle.gw_maplang.proofs.Shaped.{ShapedLeaf, ShapedLeafValue, ShapedMaking}
 use Rattle.std.proofs.lemmas.Bool.Decides.{Decides-eqb}
 use mathlib.Core.List.{reverse_aux}
 use Rattle.gw_maplang.specs.Whole.{is_unclosed, map_of}
-use Rattle.gw_maplang.specs.Taken.{AllTaken}
+use Rattle.gw_lines.specs.Grammar.{AllTaken}
+use Rattle.gw_maplang.specs.Fault.{grammar}
 use Rattle.gw_maplang.proofs.Kept.{Keeps, taken_keeps}
 use Rattle.gw_profile.proofs.Kept.{map_push}
 
@@ -320,14 +321,14 @@ tables_step above (Each at label path) k h = h
 tables_step above End k h = h
 tables_step above (Drops drop) k h = h
 
-tables_lawful : (all : List Line) → AllTaken all → TablesAre (tables all)
+tables_lawful : (all : List Line) → AllTaken grammar all → TablesAre (tables all)
 tables_lawful [] t = record { each = tt; distinct = tt }
 tables_lawful (line ∷ above) t = tables_step above line (taken_keeps above line t.0) (tables_lawful above t.1)
 
 -- ---- the whole
 
 -- the lines that stand above those, put before them
-goes_back : (names : List (List ℕ)) (above below : List Line) → AllTaken above → Goes names above below → Goes names [] (reverse_aux above below)
+goes_back : (names : List (List ℕ)) (above below : List Line) → AllTaken grammar above → Goes names above below → Goes names [] (reverse_aux above below)
 goes_back names [] below t g = g
 goes_back names (line ∷ above) below t g = goes_back names above (line ∷ below) t.1 (taken_keeps above line t.0, g)
 
@@ -343,7 +344,7 @@ first_lawful : (names : List (List ℕ)) (lines : List Line) → Goes names [] l
 first_lawful names [] g h = absurd (h refl)
 first_lawful names (line ∷ below) g h = head_lawful line g.0
 
-pub formed : (all : List Line) → AllTaken all → is_unclosed all ≡ false → Lawful (map_of all)
+pub formed : (all : List Line) → AllTaken grammar all → is_unclosed all ≡ false → Lawful (map_of all)
 formed all t u =
     let c = neither (not (begun all)) (not (depth all == 0)) u in
     let names = table_names (tables all) in

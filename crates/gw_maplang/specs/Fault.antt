@@ -1,9 +1,10 @@
 -- The faults of a line, by the lines above it, the nearest first.
-use Rattle.std.specs.Prelude.{ℕ, ◌+◌, ◌-◌, ◌==◌, Bool, true, false, not, ◌&&◌, ◌||◌, nat_le, List, [], ◌∷◌, ◌++◌, Option, Some, None, bytes_eq, Result, Err}
+use Rattle.std.specs.Prelude.{ℕ, ◌+◌, ◌-◌, ◌==◌, Bool, true, false, not, ◌&&◌, ◌||◌, nat_le, List, [], ◌∷◌, ◌++◌, Option, Some, None, bytes_eq, Result}
 use Rattle.std.specs.List.{list_any}
 use Rattle.gw_lines.specs.Words.{Word}
 use Rattle.gw_lines.specs.Values.{is_value}
-use Rattle.gw_lines.specs.Reading.{first_of, unless}
+use Rattle.gw_lines.specs.Grammar as declared_by
+use Rattle.gw_lines.specs.Grammar.{Grammar}
 use Rattle.gw_maplang.specs.declared.fault.MapFault.{MapFault}
 use Rattle.gw_maplang.specs.declared.fault.MapFault.TheVariants.{Syntax, UnknownTable, BadConstant, Duplicate, TooDeep}
 use Rattle.gw_maplang.specs.declared.rule.LeafPlace.{LeafPlace}
@@ -32,16 +33,10 @@ with_other value t = record t { other = Some value }
 
 -- the tables below a line; a row, and what stands for other values, belongs to the last
 abbrev pub tables_below : Line → List TableValue → List TableValue
-tables_below (Begins at name source target) tables = tables
 tables_below (Table name) tables = tables ++ record { name = name; rows = []; other = None } ∷ []
 tables_below (Rows row) tables = at_last (with_row row) tables
 tables_below (Else value) tables = at_last (with_other value) tables
-tables_below (Segment at label source) tables = tables
-tables_below (Makes rule) tables = tables
-tables_below (At leaf) tables = tables
-tables_below (Each at label path) tables = tables
-tables_below End tables = tables
-tables_below (Drops drop) tables = tables
+tables_below line tables = tables
 
 -- the tables, in order
 abbrev pub tables : List Line → List TableValue
@@ -51,44 +46,24 @@ tables (line ∷ above) = tables_below line (tables above)
 -- a row would belong to a table
 abbrev pub in_table : List Line → Bool
 in_table [] = false
-in_table (Begins at name source target ∷ above) = false
 in_table (Table name ∷ above) = true
 in_table (Rows row ∷ above) = in_table above
 in_table (Else value ∷ above) = in_table above
-in_table (Segment at label source ∷ above) = false
-in_table (Makes rule ∷ above) = false
-in_table (At leaf ∷ above) = false
-in_table (Each at label path ∷ above) = false
-in_table (End ∷ above) = false
-in_table (Drops drop ∷ above) = false
+in_table (line ∷ above) = false
 
 -- some item stands above
 abbrev pub has_item : List Line → Bool
 has_item [] = false
-has_item (Begins at name source target ∷ above) = has_item above
-has_item (Table name ∷ above) = has_item above
-has_item (Rows row ∷ above) = has_item above
-has_item (Else value ∷ above) = has_item above
 has_item (Segment at label source ∷ above) = true
-has_item (Makes rule ∷ above) = has_item above
-has_item (At leaf ∷ above) = has_item above
 has_item (Each at label path ∷ above) = true
-has_item (End ∷ above) = has_item above
-has_item (Drops drop ∷ above) = has_item above
+has_item (line ∷ above) = has_item above
 
 -- how many groups and flats are open
 abbrev pub depth : List Line → ℕ
 depth [] = 0
-depth (Begins at name source target ∷ above) = depth above
-depth (Table name ∷ above) = depth above
-depth (Rows row ∷ above) = depth above
-depth (Else value ∷ above) = depth above
-depth (Segment at label source ∷ above) = depth above
-depth (Makes rule ∷ above) = depth above
-depth (At leaf ∷ above) = depth above
 depth (Each at label path ∷ above) = depth above + 1
 depth (End ∷ above) = depth above - 1
-depth (Drops drop ∷ above) = depth above
+depth (line ∷ above) = depth above
 
 abbrev pub is_flat : Option (List ℕ) → Bool
 is_flat None = true
@@ -97,16 +72,10 @@ is_flat (Some label) = false
 -- a flat is open that has no item so far
 abbrev pub hollow : List Line → Bool
 hollow [] = false
-hollow (Begins at name source target ∷ above) = hollow above
-hollow (Table name ∷ above) = hollow above
-hollow (Rows row ∷ above) = hollow above
-hollow (Else value ∷ above) = hollow above
 hollow (Segment at label source ∷ above) = false
-hollow (Makes rule ∷ above) = hollow above
-hollow (At leaf ∷ above) = hollow above
 hollow (Each at label path ∷ above) = is_flat label
 hollow (End ∷ above) = false
-hollow (Drops drop ∷ above) = hollow above
+hollow (line ∷ above) = hollow above
 
 -- a segment that may have rules below it: the least number of a field, and the fields that have one
 pub record OpenSegment : Type 0 where
@@ -119,16 +88,10 @@ with_field field (Some s) = Some (record s { fields = s.fields ++ field ∷ [] }
 
 -- the same below a line
 abbrev pub segment_below : Line → Option OpenSegment → Option OpenSegment
-segment_below (Begins at name source target) held = None
-segment_below (Table name) held = None
-segment_below (Rows row) held = None
-segment_below (Else value) held = None
 segment_below (Segment at label source) held = Some (record { least = least_field label; fields = [] })
 segment_below (Makes rule) held = with_field rule.field held
 segment_below (At leaf) held = held
-segment_below (Each at label path) held = None
-segment_below End held = None
-segment_below (Drops drop) held = None
+segment_below line held = None
 
 -- the segment to which a rule would belong
 abbrev pub open_segment : List Line → Option OpenSegment
@@ -154,16 +117,9 @@ with_place place (Some r) = Some (record r { places = r.places ++ place ∷ [] }
 
 -- the same below a line
 abbrev pub rule_below : Line → Option OpenRule → Option OpenRule
-rule_below (Begins at name source target) held = None
-rule_below (Table name) held = None
-rule_below (Rows row) held = None
-rule_below (Else value) held = None
-rule_below (Segment at label source) held = None
 rule_below (Makes rule) held = opened rule.making
 rule_below (At leaf) held = with_place leaf.place held
-rule_below (Each at label path) held = None
-rule_below End held = None
-rule_below (Drops drop) held = None
+rule_below line held = None
 
 -- the rule to which a leaf would belong
 abbrev pub open_rule : List Line → Option OpenRule
@@ -196,30 +152,24 @@ is_said (Some value) = true
 
 -- the current repetition, where nothing is repeated
 abbrev pub is_stray : Bool → Leaf → Bool
-is_stray repeated (Const value) = false
-is_stray repeated (Copy (Field from place)) = false
 is_stray repeated (Copy (Current place)) = not repeated
-is_stray repeated (Lookup table (Field from place)) = false
 is_stray repeated (Lookup table (Current place)) = not repeated
+is_stray repeated leaf = false
 
 -- a table that doesn't stand above
 abbrev pub is_unknown : List (List ℕ) → Leaf → Bool
-is_unknown names (Const value) = false
-is_unknown names (Copy ref) = false
 is_unknown names (Lookup table ref) = not (is_among table names)
+is_unknown names leaf = false
 
 -- a constant that is no value
 abbrev pub is_bad : Leaf → Bool
 is_bad (Const value) = not (is_value value)
-is_bad (Copy ref) = false
-is_bad (Lookup table ref) = false
+is_bad leaf = false
 
 -- the leaf of a rule's own line
 abbrev pub own_leaf : Making → List LeafValue
-own_leaf (Copies from) = []
-own_leaf (Firsts from) = []
-own_leaf (Repeats from leaves) = []
 own_leaf (Builds leaves) = leaves
+own_leaf making = []
 
 -- no segment above can hold a rule for this field
 abbrev pub is_misplaced : ℕ → Option OpenSegment → Bool
@@ -292,10 +242,10 @@ tests above at (Each line label path) = each_tests above at
 tests above at End = end_tests above at
 tests above at (Drops drop) = drop_tests above at
 
-abbrev pub tested : List Line → ℕ → Option Line → Result Line MapFault
-tested above at None = Err (Syntax at)
-tested above at (Some line) = unless (first_of (tests above at line)) line
+-- the lines of a map, as they are declared
+abbrev pub grammar : Grammar Line MapFault
+grammar = record { form = form; tests = tests; syntax = Syntax }
 
 -- the line that the words are below these lines, or its fault
 abbrev pub takes : List Line → ℕ → List Word → Result Line MapFault
-takes above at words = tested above at (form at words)
+takes = declared_by.takes grammar

@@ -4,9 +4,9 @@ pub mod Among
 pub mod Lawful
 pub mod Line
 pub mod Fault
-pub mod Taken
 pub mod Value
 pub mod Whole
 pub mod Seen
 pub mod Building
 pub mod Identity
+pub mod Patterns

@@ -14,7 +14,7 @@ use Rattle.gw_maplang.specs.declared.form.Line as declared
 use Rattle.gw_maplang.specs.Line as Spec
 use Rattle.gw_maplang.specs.declared.context as Held
 use Rattle.gw_maplang.specs.Fault as Fault
-use Rattle.gw_maplang.specs.Taken.{AllTaken}
+use Rattle.gw_lines.specs.Grammar.{AllTaken}
 use Rattle.gw_maplang.specs.Lawful.{table_names, firsts}
 use Rattle.gw_maplang.specs.Shapes.{Path, FieldPath, Ref, Field, Current, Leaf, Const, Copy, Lookup, LeafValue, Copies, Firsts, Repeats, Builds, RuleValue, Items, nothing, segment, group, flat, Row, Rows, TableValue, DropValue, MapValue}
 
@@ -139,55 +139,24 @@ StandingFollows old new l = (above : List Spec.Line) → old ≡ standing above 
 
 -- few enough groups and flats are open
 abbrev pub HasRoom : ℕ → Spec.Line → Type 0
-HasRoom depth (Spec.Begins at name source target) = Unit {0}
-HasRoom depth (Spec.Table name) = Unit {0}
-HasRoom depth (Spec.Rows r) = Unit {0}
-HasRoom depth (Spec.Else value) = Unit {0}
-HasRoom depth (Spec.Segment at label source) = Unit {0}
-HasRoom depth (Spec.Makes r) = Unit {0}
-HasRoom depth (Spec.At l) = Unit {0}
 HasRoom depth (Spec.Each at label p) = depth < 16
-HasRoom depth Spec.End = Unit {0}
-HasRoom depth (Spec.Drops d) = Unit {0}
+HasRoom depth line = Unit {0}
 
 -- a table or row is new
 abbrev pub IsNewTable : List TableValue → Spec.Line → Type 0
-IsNewTable tables (Spec.Begins at name source target) = Unit {0}
 IsNewTable tables (Spec.Table name) = Fault.is_among name (table_names tables) ≡ false
 IsNewTable tables (Spec.Rows r) = Fault.is_among r.first (firsts (Fault.last_table tables).rows) ≡ false
-IsNewTable tables (Spec.Else value) = Unit {0}
-IsNewTable tables (Spec.Segment at label source) = Unit {0}
-IsNewTable tables (Spec.Makes r) = Unit {0}
-IsNewTable tables (Spec.At l) = Unit {0}
-IsNewTable tables (Spec.Each at label p) = Unit {0}
-IsNewTable tables Spec.End = Unit {0}
-IsNewTable tables (Spec.Drops d) = Unit {0}
+IsNewTable tables line = Unit {0}
 
 -- a rule is for a field that has none
 abbrev pub IsNewField : Option Fault.OpenSegment → Spec.Line → Type 0
-IsNewField held (Spec.Begins at name source target) = Unit {0}
-IsNewField held (Spec.Table name) = Unit {0}
-IsNewField held (Spec.Rows r) = Unit {0}
-IsNewField held (Spec.Else value) = Unit {0}
-IsNewField held (Spec.Segment at label source) = Unit {0}
 IsNewField held (Spec.Makes r) = Fault.is_made r.field held ≡ false
-IsNewField held (Spec.At l) = Unit {0}
-IsNewField held (Spec.Each at label p) = Unit {0}
-IsNewField held Spec.End = Unit {0}
-IsNewField held (Spec.Drops d) = Unit {0}
+IsNewField held line = Unit {0}
 
 -- a leaf is for a place that has none
 abbrev pub IsNewPlace : Option Fault.OpenRule → Spec.Line → Type 0
-IsNewPlace held (Spec.Begins at name source target) = Unit {0}
-IsNewPlace held (Spec.Table name) = Unit {0}
-IsNewPlace held (Spec.Rows r) = Unit {0}
-IsNewPlace held (Spec.Else value) = Unit {0}
-IsNewPlace held (Spec.Segment at label source) = Unit {0}
-IsNewPlace held (Spec.Makes r) = Unit {0}
 IsNewPlace held (Spec.At l) = Fault.is_placed l.place held ≡ false
-IsNewPlace held (Spec.Each at label p) = Unit {0}
-IsNewPlace held Spec.End = Unit {0}
-IsNewPlace held (Spec.Drops d) = Unit {0}
+IsNewPlace held line = Unit {0}
 
 -- what is kept beside the lines agrees with them
 pub record Agrees (held : Held.Standing.Standing) (tables : List TableValue) (segment : Option Fault.OpenSegment) (rule : Option Fault.OpenRule) (lines : List Spec.Line) : Type 0 where
@@ -195,4 +164,4 @@ pub record Agrees (held : Held.Standing.Standing) (tables : List TableValue) (se
   pub has_tables : tables ≡ Fault.tables lines
   pub has_segment : segment ≡ Fault.open_segment lines
   pub has_rule : rule ≡ Fault.open_rule lines
-  pub taken : AllTaken lines
+  pub taken : AllTaken Fault.grammar lines

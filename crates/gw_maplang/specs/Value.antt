@@ -31,16 +31,9 @@ rule_with r below = record r { making = with_leaves r.making below }
 -- A line of another kind closes what is open.
 abbrev pub parts : List Line → Parts
 parts [] = no_parts
-parts (Begins at name source target ∷ below) = no_parts
-parts (Table name ∷ below) = no_parts
-parts (Rows row ∷ below) = no_parts
-parts (Else value ∷ below) = no_parts
-parts (Segment at label source ∷ below) = no_parts
 parts (Makes rule ∷ below) = record { leaves = []; rules = rule_with rule (parts below).leaves ∷ (parts below).rules }
 parts (At leaf ∷ below) = record { leaves = leaf ∷ (parts below).leaves; rules = (parts below).rules }
-parts (Each at label path ∷ below) = no_parts
-parts (End ∷ below) = no_parts
-parts (Drops drop ∷ below) = no_parts
+parts (line ∷ below) = no_parts
 
 -- the items up to the end of the group or flat that is open above these lines, and behind that end, and so on
 pub record Levels : Type 0 where
@@ -62,30 +55,16 @@ each_item at (Some label) path inner rest = group (record { line = at; label = l
 
 abbrev pub levels : List Line → Levels
 levels [] = record { here = nothing; behind = [] }
-levels (Begins at name source target ∷ below) = levels below
-levels (Table name ∷ below) = levels below
-levels (Rows row ∷ below) = levels below
-levels (Else value ∷ below) = levels below
 levels (Segment at label source ∷ below) =
     record { here = segment (record { line = at; label = label; source = source; rules = (parts below).rules }) (levels below).here; behind = (levels below).behind }
-levels (Makes rule ∷ below) = levels below
-levels (At leaf ∷ below) = levels below
 levels (Each at label path ∷ below) = record { here = each_item at label path (levels below).here (next (levels below).behind); behind = past (levels below).behind }
 levels (End ∷ below) = record { here = nothing; behind = (levels below).here ∷ (levels below).behind }
-levels (Drops drop ∷ below) = levels below
+levels (line ∷ below) = levels below
 
 abbrev pub drops : List Line → List DropValue
 drops [] = []
-drops (Begins at name source target ∷ below) = drops below
-drops (Table name ∷ below) = drops below
-drops (Rows row ∷ below) = drops below
-drops (Else value ∷ below) = drops below
-drops (Segment at label source ∷ below) = drops below
-drops (Makes rule ∷ below) = drops below
-drops (At leaf ∷ below) = drops below
-drops (Each at label path ∷ below) = drops below
-drops (End ∷ below) = drops below
 drops (Drops drop ∷ below) = drop ∷ drops below
+drops (line ∷ below) = drops below
 
 -- what the first line says
 pub record Head : Type 0 where
@@ -99,15 +78,7 @@ no_head = record { line = 0; name = []; source = []; target = [] }
 
 abbrev pub head_of : Line → Head
 head_of (Begins at name source target) = record { line = at; name = name; source = source; target = target }
-head_of (Table name) = no_head
-head_of (Rows row) = no_head
-head_of (Else value) = no_head
-head_of (Segment at label source) = no_head
-head_of (Makes rule) = no_head
-head_of (At leaf) = no_head
-head_of (Each at label path) = no_head
-head_of End = no_head
-head_of (Drops drop) = no_head
+head_of line = no_head
 
 abbrev pub head : List Line → Head
 head [] = no_head

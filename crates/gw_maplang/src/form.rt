@@ -14,7 +14,7 @@ use gw_lines::{Word, behind, bytes_of, first_word, name_at, number_at};
 use std::alloc::{AllocError, Global};
 
 /// A line of a map. A rule has the leaf of its own line alone. No label stands for `flat`.
-#[derive(Debug, Drop)]
+#[derive(Drop)]
 pub enum Line<'a> {
     Begins(u32, &'a [u8], &'a [u8], &'a [u8]),
     Table(&'a [u8]),

@@ -3,7 +3,7 @@
 use crate::rule::Rule;
 
 /// One segment of the target for each occurrence to which the path leads.
-#[derive(PartialEq, Debug, Drop)]
+#[derive(Drop)]
 pub struct FromItem {
     pub line: u32,
     pub label: Vec<u8>,
@@ -12,7 +12,7 @@ pub struct FromItem {
 }
 
 /// One segment of the target.
-#[derive(PartialEq, Debug, Drop)]
+#[derive(Drop)]
 pub struct AlwaysItem {
     pub line: u32,
     pub label: Vec<u8>,
@@ -20,7 +20,7 @@ pub struct AlwaysItem {
 }
 
 /// One group of the target for each occurrence to which the path leads.
-#[derive(PartialEq, Debug, Drop)]
+#[derive(Drop)]
 #[cycle(item)]
 pub struct GroupItem {
     pub line: u32,
@@ -30,7 +30,7 @@ pub struct GroupItem {
 }
 
 /// What the items give for each occurrence to which the path leads, without a group.
-#[derive(PartialEq, Debug, Drop)]
+#[derive(Drop)]
 #[cycle(item)]
 pub struct FlatItem {
     pub line: u32,
@@ -38,7 +38,7 @@ pub struct FlatItem {
     pub items: Vec<Item>,
 }
 
-#[derive(PartialEq, Debug, Drop)]
+#[derive(Drop)]
 #[cycle(item)]
 pub enum Item {
     SegFrom(FromItem),

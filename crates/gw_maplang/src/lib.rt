@@ -9,6 +9,7 @@ mod item;
 mod itself;
 mod map;
 mod parts;
+mod patterns;
 mod reader;
 mod rule;
 mod table;
@@ -19,7 +20,7 @@ pub use fault::MapFault;
 pub use item::{AlwaysItem, FlatItem, FromItem, GroupItem, Item};
 pub use itself::identity;
 pub use map::Map;
-pub use reader::Reader;
+pub use patterns::expected;
 pub use rule::{
     BuildRule, CopyRule, Dropped, FieldPath, Leaf, LeafPlace, LeafRule, Ref, RepeatRule, Rule,
 };

@@ -8,7 +8,7 @@ ghost use Rattle.gw_maplang.specs.declared.fault.MapFault.TheVariants as fault;
 ghost use Rattle.gw_maplang.specs.Fault as spec;
 ghost use Rattle.gw_maplang.specs.Lawful.{table_names};
 ghost use Rattle.gw_maplang.specs.Line as form;
-ghost use Rattle.gw_maplang.specs.Taken.{Taken};
+ghost use Rattle.gw_lines.specs.Grammar.{Taken};
 ghost use Rattle.gw_maplang.specs.Seen.{line, rule, leaf, leaf_value, table, open_segment, open_rule, map_value};
 ghost use Rattle.gw_maplang.specs.Whole.{whole, is_unclosed};
 
@@ -344,7 +344,7 @@ impl<'a> Reader<'a> {
 
     // Takes a line in.
     fn add(self, whole: Line<'a>) -> Result<Reader<'a>, AllocError>
-        requires { Taken self (line whole) }
+        requires { Taken spec.grammar self (line whole) }
         ensures { IfOk result (λ new. new ≡ line whole.entry ∷ self.entry) }
     {
         let Reader {

@@ -1,7 +1,7 @@
 //! What a map makes of the fields of a segment.
 
 /// A field of the segment to which these labels lead.
-#[derive(PartialEq, Debug, Drop)]
+#[derive(Drop)]
 pub struct FieldPath {
     pub path: Vec<Vec<u8>>,
     pub field: u32,
@@ -15,14 +15,14 @@ pub struct LeafPlace {
 }
 
 /// Where a text is taken from: from the first repetition of a field, or from the current one.
-#[derive(PartialEq, Debug, Drop)]
+#[derive(Drop)]
 pub enum Ref {
     Field(FieldPath, LeafPlace),
     Current(LeafPlace),
 }
 
 /// What gives the text of one place: itself, a text of the source, or the row of a table for it.
-#[derive(PartialEq, Debug, Drop)]
+#[derive(Drop)]
 pub enum Leaf {
     Const(Vec<u8>),
     Copy(Ref),
@@ -30,7 +30,7 @@ pub enum Leaf {
 }
 
 /// What gives the text of this place.
-#[derive(PartialEq, Debug, Drop)]
+#[derive(Drop)]
 pub struct LeafRule {
     pub line: u32,
     pub place: LeafPlace,
@@ -38,7 +38,7 @@ pub struct LeafRule {
 }
 
 /// A field that is taken as it is.
-#[derive(PartialEq, Debug, Drop)]
+#[derive(Drop)]
 pub struct CopyRule {
     pub line: u32,
     pub field: u32,
@@ -46,7 +46,7 @@ pub struct CopyRule {
 }
 
 /// A field that is made anew for each repetition of another.
-#[derive(PartialEq, Debug, Drop)]
+#[derive(Drop)]
 pub struct RepeatRule {
     pub line: u32,
     pub field: u32,
@@ -55,7 +55,7 @@ pub struct RepeatRule {
 }
 
 /// A field of one repetition that is made anew.
-#[derive(PartialEq, Debug, Drop)]
+#[derive(Drop)]
 pub struct BuildRule {
     pub line: u32,
     pub field: u32,
@@ -63,7 +63,7 @@ pub struct BuildRule {
 }
 
 /// What makes a field of the target.
-#[derive(PartialEq, Debug, Drop)]
+#[derive(Drop)]
 pub enum Rule {
     CopyField(CopyRule),
     FirstRep(CopyRule),
@@ -72,7 +72,7 @@ pub enum Rule {
 }
 
 /// What is left out on purpose: a segment or group, or one field of a segment.
-#[derive(PartialEq, Debug, Drop)]
+#[derive(Drop)]
 pub struct Dropped {
     pub line: u32,
     pub path: Vec<Vec<u8>>,

@@ -2,7 +2,8 @@
 ghost use Rattle.std.specs.Prelude.{◌≡◌, map, IfOk, false};
 ghost use Rattle.gw_maplang.specs.Fault.{tables as tables_of};
 ghost use Rattle.gw_maplang.specs.Seen.{above, table, map_value};
-ghost use Rattle.gw_maplang.specs.Taken.{AllTaken};
+ghost use Rattle.gw_lines.specs.Grammar.{AllTaken};
+ghost use Rattle.gw_maplang.specs.Fault.{grammar};
 ghost use Rattle.gw_maplang.specs.Whole as spec;
 
 use crate::build::{Built, Head, build, head_of};
@@ -19,7 +20,7 @@ pub fn map_of(
     tables: IndexMap<Vec<u8>, Table>,
 ) -> Result<Map, AllocError>
     requires tables { map table tables.entries ≡ tables_of (above lines.items) }
-    requires taken { AllTaken (above lines.items) }
+    requires taken { AllTaken grammar (above lines.items) }
     requires closed { spec.is_unclosed (above lines.items) ≡ false }
     ensures { IfOk result (λ m. map_value m ≡ spec.map_of (above lines.entry.items)) }
 {

@@ -1,5 +1,5 @@
 -- Determinism depends on what can follow a node by its names alone, in whatever order and however often they stand.
-use Rattle.std.proofs.Common.{◌≡◌, ℕ, suc, ◌-◌, ◌<◌, ◌≤◌, drop, drop-cons, subst, arith, Bool, true, false, cond, List, [], ◌∷◌, ◌++◌, length, take, get_or, Option, Some, None, refl, sym, ap, ◌∙◌}
+use Rattle.std.proofs.Common.{◌≡◌, ℕ, suc, ◌-◌, ◌<◌, ◌≤◌, drop, drop-cons, subst, arith, Bool, true, false, cond, List, [], ◌∷◌, ◌++◌, length, take, get_or, Option, Some, None, refl, sym, ap, ◌∙◌, append_assoc}
 use Rattle.std.specs.Prelude.{◌+◌, ◌||◌, ◌&&◌, ◌==◌, if◌then◌else◌, bytes_eq}
 use Rattle.std.proofs.lemmas.List.{take_more}
 use Rattle.std.proofs.lemmas.List.Folds.{list_any-append}
@@ -11,7 +11,10 @@ use Rattle.gw_profile.specs.Line.{allows}
 use Rattle.gw_profile.specs.Fault.{is_among}
 use Rattle.gw_profile.specs.Seen.{node_forest, row_forest, forest}
 use Rattle.gw_profile.specs.Determinism.{is_optional, first_names, follow_names, behind_child, least, least_shared, clash, or_else, ambiguous, group_ambiguous}
-use Rattle.gw_profile.specs.Nodes.{first_of_node, node_ambiguous, card_of, Joins}
+use Rattle.gw_profile.specs.Nodes.{first_of_node, node_ambiguous, card_of, Joins, joined}
+use Rattle.indexmap.specs.IndexSet.{IndexSet}
+use Rattle.std.proofs.lemmas.List.{drop-append-le}
+use Rattle.std.proofs.Math.Seq.{drop-length}
 
 -- the same names
 abbrev pub Same : List (List ℕ) → List (List ℕ) → Type 0
@@ -126,6 +129,78 @@ put_more x names i d initial old new more u e =
     ∙ ap (λ b. is_among x initial || (is_among x (take i names) || (b || false))) (nat_list_eq_equiv.symm (get_or names i d) x)
     ∙ ap (λ b. is_among x initial || b) (sym (among_both x (take i names) (get_or names i d ∷ [])))
     ∙ ap (λ l. is_among x initial || is_among x l) (sym (take_more names i d more))
+
+-- ---- sets of the levels around a node
+
+pub joined_append : {S : Type 0} (xs ys : List (IndexSet (List ℕ) S)) → joined (xs ++ ys) ≡ joined xs ++ joined ys
+joined_append [] ys = refl
+joined_append (x ∷ xs) ys = ap (λ l. x.keys ++ l) (joined_append xs ys) ∙ sym (append_assoc x.keys (joined xs) (joined ys))
+
+snoc_same : {A : Type 0} (xs ys : List A) (a b : A) → xs ++ a ∷ [] ≡ ys ++ b ∷ [] → (xs ≡ ys) × (a ≡ b)
+snoc_same [] [] a b e = (refl, cc)
+snoc_same [] (y ∷ []) a b e = absurd (cc)
+snoc_same [] (y ∷ z ∷ ys) a b e = absurd (cc)
+snoc_same (x ∷ []) [] a b e = absurd (cc)
+snoc_same (x ∷ z ∷ xs) [] a b e = absurd (cc)
+snoc_same (x ∷ xs) (y ∷ ys) a b e =
+    let f : xs ++ a ∷ [] ≡ ys ++ b ∷ [] = cc in let g : x ≡ y = cc in let h = snoc_same xs ys a b f in (λ i. g i ∷ h.0 i, h.1)
+
+-- the last is taken
+pub taken_back : {A : Type 0} (old kept sets : List A) (x held : A) → old ≡ kept ++ x ∷ [] → old ≡ sets ++ held ∷ [] → (x ≡ held) × (kept ≡ sets)
+taken_back old kept sets x held a b = let h = snoc_same kept sets x held (sym a ∙ b) in (h.1, h.0)
+
+pub none_taken : {A : Type 0} (sets : List A) (held : A) → [] ≡ sets ++ held ∷ [] → ⊥
+none_taken [] held e = cc
+none_taken (x ∷ sets) held e = cc
+
+-- what can come behind the children of a group, with the sets of the levels around it
+pub behind_more : {S : Type 0} (x : List ℕ) (start : ℕ) (sets : List (IndexSet (List ℕ) S)) (near : IndexSet (List ℕ) S) (again : List (List ℕ)) → start ≤ length sets
+    → is_among x (again ++ joined (drop start (sets ++ near ∷ []))) ≡ is_among x (near.keys ++ joined (drop start sets)) || is_among x again
+behind_more x start sets near again h =
+    ap (λ l. is_among x (again ++ l)) (ap joined (drop-append-le start sets (near ∷ []) h) ∙ joined_append (drop start sets) (near ∷ []))
+    ∙ among_both x again (joined (drop start sets) ++ (near.keys ++ []))
+    ∙ ap (λ b. is_among x again || b) (among_both x (joined (drop start sets)) (near.keys ++ []) ∙ ap (λ b. is_among x (joined (drop start sets)) || b) (among_both x near.keys []))
+    ∙ turn (is_among x again) (is_among x (joined (drop start sets))) (is_among x near.keys)
+    ∙ ap (λ b. b || is_among x again) (sym (among_both x near.keys (joined (drop start sets))))
+  where
+    turn : (a b c : Bool) → a || (b || (c || false)) ≡ (c || b) || a
+    turn true true true = refl
+    turn true true false = refl
+    turn true false true = refl
+    turn true false false = refl
+    turn false true true = refl
+    turn false true false = refl
+    turn false false true = refl
+    turn false false false = refl
+
+-- one node more, whose names are near
+pub joins_far : {S : Type 0} (min start from : ℕ) (first near new : List (List ℕ)) (sets : List (IndexSet (List ℕ) S)) → Joins first (if min == 0 then near else []) new → from ≡ (if min == 0 then start else length sets)
+    → Joins first (if min == 0 then near ++ joined (drop start sets) else []) (new ++ joined (drop from sets))
+joins_far {S} min start from first near new sets j e x =
+    among_both x new (joined (drop from sets)) ∙ ap (λ b. b || is_among x (joined (drop from sets))) (j x) ∙ ap (λ n. (is_among x (if min == 0 then near else []) || is_among x first) || is_among x (joined (drop n sets))) e ∙ by (min == 0)
+  where
+    turn : (a b c : Bool) → (a || b) || c ≡ (a || c) || b
+    turn true true c = refl
+    turn true false c = refl
+    turn false true true = refl
+    turn false true false = refl
+    turn false false true = refl
+    turn false false false = refl
+
+    none : (b : Bool) → b || false ≡ b
+    none true = refl
+    none false = refl
+
+    by : (b : Bool) → (is_among x (if b then near else []) || is_among x first) || is_among x (joined (drop (if b then start else length sets) sets)) ≡ is_among x (if b then near ++ joined (drop start sets) else []) || is_among x first
+    by true = turn (is_among x near) (is_among x first) (is_among x (joined (drop start sets))) ∙ ap (λ b. b || is_among x first) (sym (among_both x near (joined (drop start sets))))
+    by false = ap (λ (l : List (IndexSet (List ℕ) S)). is_among x first || is_among x (joined l)) (drop-length sets) ∙ none (is_among x first)
+
+pub passed_within : (min start from len : ℕ) → start ≤ len → from ≡ (if min == 0 then start else len) → from ≤ len
+passed_within min start from len h e = subst (λ n. n ≤ len) (sym e) (by (min == 0))
+  where
+    by : (b : Bool) → (if b then start else len) ≤ len
+    by true = h
+    by false = omega arith
 
 -- ---- the walk from the last node to the first
 

@@ -13,12 +13,12 @@ use Rattle.std.proofs.lemmas.List.{append-nil, reverse-append, reverse-reverse, 
 use Rattle.gw_profile.specs.Shapes.{TableValue}
 use Rattle.gw_profile.specs.Among.{Among, Distinct}
 use Rattle.gw_profile.specs.Line.{Line, Begins, Table, Segment, Field, Comp, Sub, Group, End}
-use Rattle.gw_profile.specs.Taken.{Taken}
+use Rattle.gw_lines.specs.Grammar.{Taken}
 use Rattle.gw_profile.specs.Value as Value
 use Rattle.gw_profile.proofs.Facts.{false_not}
 use Rattle.gw_profile.proofs.Among.{among_is}
 use Rattle.gw_profile.proofs.Passed.{Passes, taken_keeps}
-use Rattle.gw_profile.specs.Fault.{is_among, has_repeat, tables, levels}
+use Rattle.gw_profile.specs.Fault.{grammar, is_among, has_repeat, tables, levels}
 use Rattle.gw_profile.specs.Value.{table_of}
 use Rattle.gw_profile.specs.WellFormed.{table_names}
 use Rattle.gw_profile.specs.Seen.{table, now_all, with_table, kept, IsNewTable, IsNewLabel}
@@ -128,7 +128,7 @@ new_table_of above (Sub number usage leaf) p held e = tt
 new_table_of above (Group at label usage card) p held e = tt
 new_table_of above End p held e = tt
 
-pub new_table : (above : List Line) (line : Line) → Taken above line → (held : List TableValue) → table_names held ≡ tables above → IsNewTable held line
+pub new_table : (above : List Line) (line : Line) → Taken grammar above line → (held : List TableValue) → table_names held ≡ tables above → IsNewTable held line
 new_table above line t held e = new_table_of above line (taken_keeps above line t).passes held e
 
 -- the label of a line that was taken is new
@@ -142,7 +142,7 @@ new_label_of above (Sub number usage leaf) p held e = tt
 new_label_of above (Group at label usage card) p held e = ap (is_among label) e ∙ not_among_is label (levels above).labels p.3
 new_label_of above End p held e = tt
 
-pub new_label : (above : List Line) (line : Line) → Taken above line → (held : List (List ℕ)) → held ≡ (levels above).labels → IsNewLabel held line
+pub new_label : (above : List Line) (line : Line) → Taken grammar above line → (held : List (List ℕ)) → held ≡ (levels above).labels → IsNewLabel held line
 new_label above line t held e = new_label_of above line (taken_keeps above line t).passes held e
 
 -- the test of a table line, told whether a value stands twice

@@ -4,12 +4,13 @@ use Rattle.std.specs.Prelude.{◌==◌, not, nat_le, IfSome}
 use Rattle.std.specs.List.{AllByRecursion}
 use Rattle.std.specs.Option.{is_some}
 use Rattle.std.proofs.lemmas.Bool.Decides.{nat_tests}
-use Rattle.gw_lines.specs.Reading.{first_of, unless}
+use Rattle.gw_lines.specs.Reading.{first_of}
 use Rattle.gw_profile.specs.declared.fault.ProfileFault.{ProfileFault}
 use Rattle.gw_profile.specs.Among.{Among, Distinct}
 use Rattle.gw_profile.specs.Line.{Line, Leaf, Begins, Table, Segment, Field, Comp, Sub, Group, End, form, agrees, is_forbidden}
-use Rattle.gw_profile.specs.Fault.{Parent, parents, begun, tables, levels, is_among, has_repeat, is_unknown, names_unknown, begins_tests, table_tests, segment_tests, group_tests, end_tests, part_tests, tests, tested}
-use Rattle.gw_profile.specs.Taken.{Taken}
+use Rattle.gw_profile.specs.Fault.{Parent, parents, begun, tables, levels, is_among, has_repeat, is_unknown, names_unknown, begins_tests, table_tests, segment_tests, group_tests, end_tests, part_tests, tests, grammar}
+use Rattle.gw_lines.specs.Grammar.{Taken}
+use Rattle.gw_lines.proofs.Taken.{clear_of, taken_by}
 use Rattle.gw_profile.proofs.Facts.{neither, not_false, no_clash, le_is, lt_is}
 use Rattle.gw_profile.proofs.Among.{among_is, not_among, distinct_is}
 use Rattle.gw_profile.proofs.Shaped.{Shaped, form_is}
@@ -37,12 +38,6 @@ pub record Keeps (above : List Line) (line : Line) : Type 0 where
   pub shaped : Shaped line
   pub passes : Passes above line
 
--- no test says that its fault applies
-clear : (faults : List (Bool × ProfileFault)) → first_of faults ≡ None → AllByRecursion (λ (f : Bool × ProfileFault). f.0 ≡ false) faults
-clear [] h = tt
-clear ((true, e) ∷ more) h = absurd (cc)
-clear ((false, e) ∷ more) h = (refl, clear more h)
-
 known_is : (leaf : Option Leaf) (names : List (List ℕ)) → names_unknown leaf names ≡ false → LeafKnown leaf names
 known_is None names e = tt
 known_is (Some leaf) names e = by leaf.table e
@@ -52,9 +47,9 @@ known_is (Some leaf) names e = by leaf.table e
     by (Some name) e = (among_is name names).0 (not_false (is_among name names) e)
 
 part_passes : (at number : ℕ) (lawful : Bool) (leaf : Option Leaf) (parent : Option Parent) (names : List (List ℕ)) → first_of (part_tests at number lawful leaf parent names) ≡ None → PartPasses number leaf parent names × (lawful ≡ true)
-part_passes at number lawful leaf None names e = absurd (no_clash (clear (part_tests at number lawful leaf None names) e).0)
+part_passes at number lawful leaf None names e = absurd (no_clash (clear_of (part_tests at number lawful leaf None names) e).0)
 part_passes at number lawful leaf (Some parent) names e =
-    let c = clear (part_tests at number lawful leaf (Some parent) names) e in
+    let c = clear_of (part_tests at number lawful leaf (Some parent) names) e in
     let m = neither parent.shut (not (nat_le parent.least number)) c.0 in
     ((m.0, le_is parent.least number (not_false _ m.1), lt_is number parent.last c.1.1.0, known_is leaf names c.1.1.1.0), not_false lawful c.1.0)
 
@@ -62,30 +57,24 @@ not_zero : (n : ℕ) → (n == 0) ≡ false → 0 < n
 not_zero n e = grind (arith, nat_tests)
 
 pub passes_is : (above : List Line) (at : ℕ) (line : Line) → first_of (tests above at line) ≡ None → Passes above line
-passes_is above at (Begins name) e = (clear (begins_tests above at) e).0
+passes_is above at (Begins name) e = (clear_of (begins_tests above at) e).0
 passes_is above at (Table name values) e =
-    let c = clear (table_tests above at name values) e in
+    let c = clear_of (table_tests above at name values) e in
     let d = neither (is_among name (tables above)) (has_repeat values) c.1.0 in
     (not_false _ c.0, not_among name (tables above) d.0, distinct_is values d.1)
 passes_is above at (Segment name label renamed usage card) e =
-    let c = clear (segment_tests above at label usage card) e in
+    let c = clear_of (segment_tests above at label usage card) e in
     (not_false _ c.0, not_false _ c.1.0, not_among label (levels above).labels c.1.1.0)
 passes_is above at (Field number usage card leaf) e = part_passes at number (agrees usage card) leaf (parents above).segment (tables above) e
 passes_is above at (Comp number usage leaf) e = part_passes at number (is_some usage) leaf (parents above).field (tables above) e
 passes_is above at (Sub number usage leaf) e = part_passes at number (is_some usage) leaf (parents above).comp (tables above) e
 passes_is above at (Group line label usage card) e =
-    let c = clear (group_tests above at label usage card) e in
+    let c = clear_of (group_tests above at label usage card) e in
     let u = neither (not (agrees usage card)) (is_forbidden usage) c.1.0 in
     (not_false _ c.0, not_false _ u.0, u.1, not_among label (levels above).labels c.1.1.0, lt_is 8 (length (levels above).outer) c.1.1.1.0)
-passes_is above at End e = not_zero (length (levels above).outer) (clear (end_tests above at) e).0
+passes_is above at End e = not_zero (length (levels above).outer) (clear_of (end_tests above at) e).0
 
-tested_keeps : (above : List Line) (at : ℕ) (o : Option Line) → IfSome o Shaped → (line : Line) → tested above at o ≡ Ok line → Keeps above line
-tested_keeps above at None s line e = absurd (cc)
-tested_keeps above at (Some l) s line e = by (first_of (tests above at l)) refl e
-  where
-    by : (f : Option ProfileFault) → first_of (tests above at l) ≡ f → unless f l ≡ Ok line → Keeps above line
-    by None g e = let same : l ≡ line = cc in subst (Keeps above) same (record { shaped = s; passes = passes_is above at l g })
-    by (Some x) g e = absurd (cc)
-
-pub taken_keeps : (above : List Line) (line : Line) → Taken above line → Keeps above line
-taken_keeps above line t = tested_keeps above t.at (form t.at t.words) (form_is t.at t.words) line t.taken
+pub taken_keeps : (above : List Line) (line : Line) → Taken grammar above line → Keeps above line
+taken_keeps above line t =
+    let k = taken_by grammar above t.at t.words line t.taken in
+    record { shaped = subst (λ o. IfSome o Shaped) k.0 (form_is t.at t.words); passes = passes_is above t.at line k.1 }

@@ -21,11 +21,13 @@ use Rattle.gw_profile.specs.Determinism.{ambiguous}
 use Rattle.gw_profile.specs.Deterministic.{Name}
 use Rattle.gw_profile.specs.Whole.{empty_group, is_headed, is_unclosed, unambiguous, filled, ruled, whole, spelled, most_bytes, most_lines}
 use Rattle.gw_profile.specs.WellFormed.{table_names}
-use Rattle.gw_profile.specs.Taken.{AllTaken}
+use Rattle.gw_lines.specs.Grammar.{AllTaken}
+use Rattle.gw_profile.specs.Fault.{grammar}
 use Rattle.gw_profile.specs.Written.{subs_on, comps_on, fields_on, segment_line, nodes_on, tables_on, profile_lines, plain_leaf, sub_below, comp_below, plain_on, plain_lines, meaning}
 use Rattle.gw_profile.proofs.Facts.{or_right, neither, not_false}
 use Rattle.gw_profile.proofs.Parts.{Goes, AreNames, next_names, parts_lawful}
-use Rattle.gw_profile.proofs.WellFormed.{turned, accepted_taken}
+use Rattle.gw_profile.proofs.WellFormed.{turned}
+use Rattle.gw_lines.proofs.Taken.{Accepts, accepted_taken, spelled_accepts}
 
 -- ---- what a text that spells a profile makes of its lines
 
@@ -52,21 +54,8 @@ whole_read all at p e = by (is_unclosed all) refl e
     by true f e = absurd (cc)
     by false f e = record { closed = f; value = ruled_value (reverse all) p e }
 
-pub record Accepts (text : List ℕ) (p : ProfileValue) : Type 0 where
-  pub all : List Line
-  pub accepts : accepted Syntax takes [] 1 (lines text) ≡ Ok all
-  pub read : Read all p
-
-pub spelled_accepts : (text : List ℕ) (p : ProfileValue) → spelled text ≡ Ok p → Accepts text p
-spelled_accepts text p e = large (is_too_large most_bytes most_lines text) e
-  where
-    by : (r : Result (List Line) ProfileFault) → accepted Syntax takes [] 1 (lines text) ≡ r → (r >>= λ all. whole all (1 + length (lines text))) ≡ Ok p → Accepts text p
-    by (Ok all) f e = record { all = all; accepts = f; read = whole_read all (1 + length (lines text)) p e }
-    by (Err x) f e = absurd (cc)
-
-    large : (b : Bool) → (if b then Err TooLarge else spelled_below Syntax (adding takes) whole [] 1 (lines text)) ≡ Ok p → Accepts text p
-    large true e = absurd (cc)
-    large false e = by (accepted Syntax takes [] 1 (lines text)) refl e
+pub spelled_read : (text : List ℕ) (p : ProfileValue) → spelled text ≡ Ok p → (a : Accepts takes Syntax whole text p) × Read a.all p
+spelled_read text p e = let a = spelled_accepts takes Syntax whole most_bytes most_lines TooLarge text p e in (a, whole_read a.all (1 + length (lines text)) p a.value)
 
 -- ---- groups are closed
 
@@ -186,7 +175,7 @@ none_behind : (behind : List Forest) → length behind ≡ 0 → behind_on behin
 none_behind [] e = refl
 none_behind (f ∷ behind) e = absurd (omega arith)
 
-pub plain_of : (all : List Line) → AllTaken all → is_unclosed all ≡ false → plain_lines (reverse all) ≡ profile_lines (profile (reverse all))
+pub plain_of : (all : List Line) → AllTaken grammar all → is_unclosed all ≡ false → plain_lines (reverse all) ≡ profile_lines (profile (reverse all))
 plain_of all t closed =
     let below = reverse all in
     let g : Goes [] below = turned all [] t tt in
@@ -200,6 +189,6 @@ plain_of all t closed =
 
 pub one_meaning : (text : List ℕ) (p : ProfileValue) → spelled text ≡ Ok p → meaning text ≡ Ok (profile_lines p)
 one_meaning text p e =
-    let a = spelled_accepts text p e in
-    ap (λ (r : Result (List Line) ProfileFault). r >>= λ all. Ok (plain_lines (reverse all))) a.accepts
-    ∙ ap (λ ls. Ok ls) (plain_of a.all (accepted_taken [] 1 (lines text) a.all tt a.accepts) a.read.closed ∙ ap profile_lines a.read.value)
+    let a = spelled_read text p e in
+    ap (λ (r : Result (List Line) ProfileFault). r >>= λ all. Ok (plain_lines (reverse all))) a.0.accepts
+    ∙ ap (λ ls. Ok ls) (plain_of a.0.all (accepted_taken grammar Syntax 1 (lines text) a.0.all a.0.accepts) a.1.closed ∙ ap profile_lines a.1.value)

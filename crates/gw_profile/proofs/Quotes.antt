@@ -12,12 +12,13 @@ use Rattle.gw_profile.specs.declared.fault.ProfileFault.{ProfileFault}
 use Rattle.gw_profile.specs.declared.fault.ProfileFault.TheVariants.{Syntax}
 use Rattle.gw_profile.specs.Shapes.{ProfileValue}
 use Rattle.gw_profile.specs.Line.{Line, Begins, Table, Segment, Field, Comp, Sub, Group, End, profile_form, table_form, segment_form, field_form, comp_form, sub_form, group_form, form, label_at, usage_at, card_at, options, leaf_options}
-use Rattle.gw_profile.specs.Fault.{takes, tested, tests}
+use Rattle.gw_profile.specs.Fault.{grammar, takes}
 use Rattle.gw_profile.specs.Value as Value
 use Rattle.gw_profile.specs.Value.{profile}
 use Rattle.gw_profile.specs.Whole.{spelled}
 use Rattle.gw_profile.specs.Written.{HasNoQuote}
-use Rattle.gw_profile.proofs.Plain.{spelled_accepts}
+use Rattle.gw_lines.proofs.Taken.{taken_by, accepted_keeps}
+use Rattle.gw_profile.proofs.Plain.{spelled_read}
 use Rattle.gw_profile.proofs.Shaped.{any, gives, then_gives, map_gives, chosen, either_gives, with_all_is}
 use Rattle.gw_profile.proofs.Standing.{Unquoted}
 use Rattle.gw_profile.proofs.Facts.{both_false}
@@ -120,32 +121,10 @@ form_is at (w ∷ more) h =
 
 -- ---- texts
 
-taken_clean : (above : List Line) (at : ℕ) (o : Option Line) (line : Line) → IfSome o Clean → tested above at o ≡ Ok line → Clean line
-taken_clean above at None line h e = absurd (cc)
-taken_clean above at (Some l) line h e = by (first_of (tests above at l)) e
-  where
-    by : (f : Option ProfileFault) → unless f l ≡ Ok line → Clean line
-    by None e = let same : l ≡ line = cc in subst Clean same h
-    by (Some x) e = absurd (cc)
-
-line_clean : (above : List Line) (at : ℕ) (o : Option (List Word)) (all : List Line) → IfSome o (AllByRecursion NoQuote) → AllByRecursion Clean above → with_line (Syntax at) (adding takes) above at o ≡ Ok all → AllByRecursion Clean all
-line_clean above at None all h c e = absurd (cc)
-line_clean above at (Some []) all h c e = let same : above ≡ all = cc in subst (AllByRecursion Clean) same c
-line_clean above at (Some (w ∷ more)) all h c e = by (takes above at (w ∷ more)) refl e
-  where
-    by : (r : Result Line ProfileFault) → takes above at (w ∷ more) ≡ r → added above r ≡ Ok all → AllByRecursion Clean all
-    by (Ok line) f e = let same : line ∷ above ≡ all = cc in subst (AllByRecursion Clean) same (taken_clean above at (form at (w ∷ more)) line (form_is at (w ∷ more) h) f, c)
-    by (Err x) f e = absurd (cc)
-
-accepted_clean : (above : List Line) (at : ℕ) (text : List (List ℕ)) (all : List Line) → AllByRecursion Clean above → accepted Syntax takes above at text ≡ Ok all → AllByRecursion Clean all
-accepted_clean above at [] all c e = let same : above ≡ all = cc in subst (AllByRecursion Clean) same c
-accepted_clean above at (line ∷ more) all c e =
-    by (with_line (Syntax at) (adding takes) above at (words line)) refl (λ now. accepted_clean now (at + 1) more all) e
-  where
-    by : (r : Result (List Line) ProfileFault) → with_line (Syntax at) (adding takes) above at (words line) ≡ r → ((now : List Line) → AllByRecursion Clean now → accepted Syntax takes now (at + 1) more ≡ Ok all → AllByRecursion Clean all)
-        → (r >>> λ now. accepted Syntax takes now (at + 1) more) ≡ Ok all → AllByRecursion Clean all
-    by (Ok now) f k e = k now (line_clean above at (words line) now (words_is line) c f) e
-    by (Err x) f k e = absurd (cc)
+taken_clean : (above : List Line) (at : ℕ) (bytes : List ℕ) (ws : List Word) (line : Line) → words bytes ≡ Some ws → takes above at ws ≡ Ok line → AllByRecursion Clean above → AllByRecursion Clean (line ∷ above)
+taken_clean above at bytes ws line w e c =
+    let clean : AllByRecursion NoQuote ws = subst (λ o. IfSome o (AllByRecursion NoQuote)) w (words_is bytes) in
+    (subst (λ o. IfSome o Clean) (taken_by grammar above at ws line e).0 (form_is at ws clean), c)
 
 all_turned : (xs ys : List Line) → AllByRecursion Clean xs → AllByRecursion Clean ys → AllByRecursion Clean (reverse_aux xs ys)
 all_turned [] ys h k = k
@@ -164,5 +143,6 @@ tables_clean (End ∷ all) h = tables_clean all h.1
 
 pub spelled_has_no_quote : (text : List ℕ) (p : ProfileValue) → spelled text ≡ Ok p → HasNoQuote p
 spelled_has_no_quote text p e =
-    let a = spelled_accepts text p e in
-    subst HasNoQuote a.read.value (tables_clean (reverse a.all) (all_turned a.all [] (accepted_clean [] 1 (lines text) a.all tt a.accepts) tt))
+    let a = spelled_read text p e in
+    let clean = accepted_keeps takes Syntax (AllByRecursion Clean) taken_clean [] 1 (lines text) a.0.all tt a.0.accepts in
+    subst HasNoQuote a.1.value (tables_clean (reverse a.0.all) (all_turned a.0.all [] clean tt))

@@ -13,7 +13,8 @@ use Rattle.gw_profile.specs.declared.fault.ProfileFault.TheVariants.{Syntax, Too
 use Rattle.gw_profile.specs.Among.{Among, Distinct}
 use Rattle.gw_profile.specs.Shapes.{Forest, nothing, segment, group, ProfileValue}
 use Rattle.gw_profile.specs.Line.{Line, Leaf, Begins, Table, Segment, Field, Comp, Sub, Group, End, agrees, is_forbidden}
-use Rattle.gw_profile.specs.Fault.{Parent, parents, tables, levels, is_among, has_repeat, is_unknown, names_unknown, begins_tests, table_tests, segment_tests, group_tests, end_tests, part_tests, tests, tested, takes}
+use Rattle.gw_profile.specs.Fault.{Parent, parents, tables, levels, is_among, has_repeat, is_unknown, names_unknown, begins_tests, table_tests, segment_tests, group_tests, end_tests, part_tests, tests, takes, grammar}
+use Rattle.gw_lines.specs.Grammar.{tested}
 use Rattle.gw_profile.specs.Value.{profile}
 use Rattle.gw_profile.specs.Determinism.{ambiguous}
 use Rattle.gw_profile.specs.Deterministic.{Name, NoName, Deterministic, Determined}
@@ -103,7 +104,7 @@ line_taken : (above : List Line) (at : ℕ) (line : Line) → Writable (at_line 
 line_taken above at line w p =
     ap (with_line (Syntax at) (adding takes) above at) (row_words line (unnumbered at line w))
     ∙ with_some above at (line_words line) (some_words line)
-    ∙ ap (λ o. added above (tested above at o)) (form_here at line w)
+    ∙ ap (λ o. added above (tested grammar above at o)) (form_here at line w)
     ∙ ap (λ (o : Option ProfileFault). added above (unless o (at_line at line))) (passes_again above at (at_line at line) p)
 
 lines_taken : (above : List Line) (at : ℕ) (all : List Line) → Ends above (numbered at all) → with_lines Syntax (adding takes) above at (map row all) ≡ Ok (reverse_aux (numbered at all) above)

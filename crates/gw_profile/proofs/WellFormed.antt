@@ -24,7 +24,9 @@ use Rattle.gw_profile.specs.Determinism.{is_optional, ambiguous}
 use Rattle.gw_profile.specs.Deterministic.{Name, AtMost, Demands, NoName, Deterministic, Determined}
 use Rattle.gw_profile.specs.Whole.{empty_group, is_msh, is_once, is_header, is_headed, is_unclosed, unambiguous, filled, ruled, whole, spelled, most_bytes, most_lines}
 use Rattle.gw_profile.specs.WellFormed.{Agrees, LawfulSegment, LawfulGroup, LawfulTable, EachSegment, EachGroup, once, IsOther, Headed, table_names, WellFormed}
-use Rattle.gw_profile.specs.Taken.{AllTaken}
+use Rattle.gw_lines.specs.Grammar.{AllTaken}
+use Rattle.gw_lines.proofs.Taken.{accepted_taken, spelled_accepts}
+use Rattle.gw_profile.specs.Fault.{grammar}
 use Rattle.gw_profile.proofs.Facts.{both, not_true, or_left, or_right, no_clash, unchosen, not_is}
 use Rattle.gw_profile.proofs.Among.{among_append}
 use Rattle.gw_profile.proofs.Ambiguity.{allows_is, optional_is, demands_or, not_ambiguous_is}
@@ -183,12 +185,12 @@ determined_is names (group v inner rest) A s g d h =
 
 -- ---- all of it
 
-pub turned : (all below : List Line) → AllTaken all → Goes all below → Goes [] (reverse_aux all below)
+pub turned : (all below : List Line) → AllTaken grammar all → Goes all below → Goes [] (reverse_aux all below)
 turned [] below t g = g
 turned (line ∷ above) below t g = turned above (line ∷ below) t.1 (taken_keeps above line t.0, g)
 
 -- lines that were taken, the last first, and that keep the rules of the whole
-pub well_formed : (all : List Line) → AllTaken all → empty_group (reverse all) ≡ None → is_headed (reverse all) ≡ true → ambiguous (nodes (reverse all)).here [] ≡ None → WellFormed (profile (reverse all))
+pub well_formed : (all : List Line) → AllTaken grammar all → empty_group (reverse all) ≡ None → is_headed (reverse all) ≡ true → ambiguous (nodes (reverse all)).here [] ≡ None → WellFormed (profile (reverse all))
 well_formed all t empty head clear =
     let g : Goes [] (reverse all) = turned all [] t tt in
     let tables = tables_lawful [] (reverse all) g in
@@ -207,7 +209,7 @@ well_formed all t empty head clear =
 
 -- ---- from the text
 
-ruled_is : (all : List Line) (p : ProfileValue) → AllTaken all → ruled (reverse all) ≡ Ok p → WellFormed p
+ruled_is : (all : List Line) (p : ProfileValue) → AllTaken grammar all → ruled (reverse all) ≡ Ok p → WellFormed p
 ruled_is all p t e =
     by (empty_group (reverse all)) refl (is_headed (reverse all)) refl (ambiguous (nodes (reverse all)).here []) refl e
   where
@@ -221,42 +223,14 @@ ruled_is all p t e =
         last None h e = let same : profile (reverse all) ≡ p = cc in subst WellFormed same (well_formed all t f g h)
         last (Some name) h e = absurd (cc)
 
-pub whole_is : (all : List Line) (at : ℕ) (p : ProfileValue) → AllTaken all → whole all at ≡ Ok p → WellFormed p
+pub whole_is : (all : List Line) (at : ℕ) (p : ProfileValue) → AllTaken grammar all → whole all at ≡ Ok p → WellFormed p
 whole_is all at p t e = by (is_unclosed all) refl e
   where
     by : (b : Bool) → is_unclosed all ≡ b → (if b then Err (Syntax at) else ruled (reverse all)) ≡ Ok p → WellFormed p
     by true f e = absurd (cc)
     by false f e = ruled_is all p t e
 
--- the lines that a text gives were taken
-taken_line : (above : List Line) (number : ℕ) (ws : Option (List Word)) (all : List Line) → AllTaken above → with_line (Syntax number) (adding takes) above number ws ≡ Ok all → AllTaken all
-taken_line above number None all t e = absurd (cc)
-taken_line above number (Some []) all t e = let same : above ≡ all = cc in subst AllTaken same t
-taken_line above number (Some (w ∷ more)) all t e = by (takes above number (w ∷ more)) refl e
-  where
-    by : (r : Result Line ProfileFault) → takes above number (w ∷ more) ≡ r → added above r ≡ Ok all → AllTaken all
-    by (Ok line) f e = let same : line ∷ above ≡ all = cc in subst AllTaken same (record { at = number; words = w ∷ more; taken = f }, t)
-    by (Err x) f e = absurd (cc)
-
-pub accepted_taken : (above : List Line) (number : ℕ) (text : List (List ℕ)) (all : List Line) → AllTaken above → accepted Syntax takes above number text ≡ Ok all → AllTaken all
-accepted_taken above number [] all t e = let same : above ≡ all = cc in subst AllTaken same t
-accepted_taken above number (line ∷ more) all t e =
-    by (with_line (Syntax number) (adding takes) above number (words line)) refl (λ now. accepted_taken now (number + 1) more all) e
-  where
-    by : (r : Result (List Line) ProfileFault) → with_line (Syntax number) (adding takes) above number (words line) ≡ r → ((now : List Line) → AllTaken now → accepted Syntax takes now (number + 1) more ≡ Ok all → AllTaken all) → (r >>= λ now. accepted Syntax takes now (number + 1) more) ≡ Ok all → AllTaken all
-    by (Ok now) f k e = k now (taken_line above number (words line) now t f) e
-    by (Err x) f k e = absurd (cc)
-
-pub spelled_lines_is : (text : List (List ℕ)) (p : ProfileValue) → spelled_below Syntax (adding takes) whole [] 1 text ≡ Ok p → WellFormed p
-spelled_lines_is text p e = by (accepted Syntax takes [] 1 text) refl e
-  where
-    by : (r : Result (List Line) ProfileFault) → accepted Syntax takes [] 1 text ≡ r → (r >>= λ all. whole all (1 + length text)) ≡ Ok p → WellFormed p
-    by (Ok all) f e = whole_is all (1 + length text) p (accepted_taken [] 1 text all tt f) e
-    by (Err x) f e = absurd (cc)
-
 pub spelled_is : (text : List ℕ) (p : ProfileValue) → spelled text ≡ Ok p → WellFormed p
-spelled_is text p e = by (is_too_large most_bytes most_lines text) e
-  where
-    by : (b : Bool) → (if b then Err TooLarge else spelled_below Syntax (adding takes) whole [] 1 (lines text)) ≡ Ok p → WellFormed p
-    by true e = absurd (cc)
-    by false e = spelled_lines_is (lines text) p e
+spelled_is text p e =
+    let a = spelled_accepts takes Syntax whole most_bytes most_lines TooLarge text p e in
+    whole_is a.all (1 + length (lines text)) p (accepted_taken grammar Syntax 1 (lines text) a.all a.accepts) a.value

@@ -1,9 +1,10 @@
 -- The faults of a line, by the lines above it, the nearest first.
-use Rattle.std.specs.Prelude.{ℕ, ◌==◌, Bool, true, false, not, ◌||◌, nat_le, if◌then◌else◌, List, [], ◌∷◌, ◌++◌, length, Option, Some, None, bytes_eq, codes, Result, Err}
+use Rattle.std.specs.Prelude.{ℕ, ◌==◌, Bool, true, false, not, ◌||◌, nat_le, if◌then◌else◌, List, [], ◌∷◌, ◌++◌, length, Option, Some, None, bytes_eq, codes, Result}
 use Rattle.std.specs.List.{list_any}
 use Rattle.std.specs.Option.{is_some}
 use Rattle.gw_lines.specs.Words.{Word}
-use Rattle.gw_lines.specs.Reading.{first_of, unless}
+use Rattle.gw_lines.specs.Grammar as declared_by
+use Rattle.gw_lines.specs.Grammar.{Grammar}
 use Rattle.gw_profile.specs.declared.fault.ProfileFault.{ProfileFault}
 use Rattle.gw_profile.specs.declared.fault.ProfileFault.TheVariants.{Syntax, Usage, Duplicate, UnknownTable, TooDeep}
 use Rattle.gw_profile.specs.declared.shape.Usage as declared
@@ -41,8 +42,6 @@ has_leaf (Some leaf) = true
 
 abbrev pub parents : List Line → Parents
 parents [] = no_parents
-parents (Begins name ∷ above) = no_parents
-parents (Table name values ∷ above) = no_parents
 parents (Segment name label renamed usage card ∷ above) =
     record { segment = Some (record { shut = is_forbidden usage; least = least_field name; last = 0 }); field = None; comp = None }
 parents (Field number usage card leaf ∷ above) =
@@ -51,8 +50,7 @@ parents (Comp number usage leaf ∷ above) =
     record { segment = (parents above).segment; field = with_part number (parents above).field; comp = Some (record { shut = is_forbidden usage || has_leaf leaf; least = 1; last = 0 }) }
 parents (Sub number usage leaf ∷ above) =
     record { segment = (parents above).segment; field = (parents above).field; comp = with_part number (parents above).comp }
-parents (Group at label usage card ∷ above) = no_parents
-parents (End ∷ above) = no_parents
+parents (line ∷ above) = no_parents
 
 -- the first line with words says what the text is
 abbrev pub begun : List Line → Bool
@@ -62,14 +60,8 @@ begun (line ∷ above) = true
 -- the names of the tables
 abbrev pub tables : List Line → List (List ℕ)
 tables [] = []
-tables (Begins name ∷ above) = tables above
 tables (Table name values ∷ above) = tables above ++ name ∷ []
-tables (Segment name label renamed usage card ∷ above) = tables above
-tables (Field number usage card leaf ∷ above) = tables above
-tables (Comp number usage leaf ∷ above) = tables above
-tables (Sub number usage leaf ∷ above) = tables above
-tables (Group at label usage card ∷ above) = tables above
-tables (End ∷ above) = tables above
+tables (line ∷ above) = tables above
 
 -- the labels of the nodes so far in the innermost open group, and in each group or level around it, the nearest first
 pub record Levels : Type 0 where
@@ -88,14 +80,10 @@ outside (labels ∷ outer) = record { labels = labels; outer = outer }
 
 abbrev pub levels : List Line → Levels
 levels [] = record { labels = []; outer = [] }
-levels (Begins name ∷ above) = levels above
-levels (Table name values ∷ above) = levels above
 levels (Segment name label renamed usage card ∷ above) = with_label label (levels above)
-levels (Field number usage card leaf ∷ above) = levels above
-levels (Comp number usage leaf ∷ above) = levels above
-levels (Sub number usage leaf ∷ above) = levels above
 levels (Group at label usage card ∷ above) = inside (with_label label (levels above))
 levels (End ∷ above) = outside (levels above).outer
+levels (line ∷ above) = levels above
 
 -- ---- the tests of a line
 
@@ -159,10 +147,10 @@ tests above at (Sub number usage leaf) = part_tests at number (is_some usage) le
 tests above at (Group line label usage card) = group_tests above at label usage card
 tests above at End = end_tests above at
 
-abbrev pub tested : List Line → ℕ → Option Line → Result Line ProfileFault
-tested above at None = Err (Syntax at)
-tested above at (Some line) = unless (first_of (tests above at line)) line
+-- the lines of a profile, as they are declared
+abbrev pub grammar : Grammar Line ProfileFault
+grammar = record { form = form; tests = tests; syntax = Syntax }
 
 -- the line that the words are below these lines, or its fault
 abbrev pub takes : List Line → ℕ → List Word → Result Line ProfileFault
-takes above at words = tested above at (form at words)
+takes = declared_by.takes grammar

@@ -4,7 +4,6 @@ pub mod Lengths
 pub mod Among
 pub mod Line
 pub mod Fault
-pub mod Taken
 pub mod Determinism
 pub mod Deterministic
 pub mod WellFormed
@@ -16,3 +15,4 @@ pub mod Building
 pub mod Whole
 pub mod Written
 pub mod Worked
+pub mod Patterns

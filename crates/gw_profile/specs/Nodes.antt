@@ -1,6 +1,7 @@
 -- One node, as the program holds it.
-use Rattle.std.specs.Prelude.{◌≡◌, ℕ, ◌||◌, if◌then◌else◌, List, [], ◌∷◌, Option}
+use Rattle.std.specs.Prelude.{◌≡◌, ℕ, ◌||◌, if◌then◌else◌, List, [], ◌∷◌, ◌++◌, Option}
 use Rattle.gw_profile.specs.declared.shape.Card.{Card}
+use Rattle.indexmap.specs.IndexSet.{IndexSet}
 use Rattle.gw_profile.specs.declared.node.Node.{Node, Seg, Group'}
 use Rattle.gw_profile.specs.Line.{allows}
 use Rattle.gw_profile.specs.Fault.{is_among}
@@ -22,3 +23,12 @@ card_of (Group' label usage card shape inner) = card
 -- the names of a list are those of the old one and more
 abbrev pub Joins : List (List ℕ) → List (List ℕ) → List (List ℕ) → Type 0
 Joins more old new = (x : List ℕ) → is_among x new ≡ is_among x old || is_among x more
+
+-- the names of all these sets
+abbrev pub joined : {S : Type 0} → List (IndexSet (List ℕ) S) → List (List ℕ)
+joined [] = []
+joined (set ∷ more) = set.keys ++ joined more
+
+-- the last of the sets is put back
+abbrev pub TakesBack : {S : Type 0} → List (IndexSet (List ℕ) S) → IndexSet (List ℕ) S → List (IndexSet (List ℕ) S) → Type 0
+TakesBack {S} old near far = (sets : List (IndexSet (List ℕ) S)) (held : IndexSet (List ℕ) S) → old ≡ sets ++ held ∷ [] → (near ≡ held) × (far ≡ sets)

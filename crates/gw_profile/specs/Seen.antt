@@ -1,7 +1,7 @@
 -- Parts of the program, without where they lie in memory.
 use Rattle.std.specs.Prelude.{◌≡◌, ℕ, if◌then◌else◌, List, [], ◌∷◌, ◌++◌, map, reverse, Option, None, Some, false}
 use Rattle.gw_profile.specs.WellFormed.{table_names}
-use Rattle.gw_profile.specs.Taken.{AllTaken}
+use Rattle.gw_lines.specs.Grammar.{AllTaken}
 use Rattle.gw_profile.specs.declared.shape.SubShape.{SubShape}
 use Rattle.gw_profile.specs.declared.shape.CompShape.{CompShape}
 use Rattle.gw_profile.specs.declared.shape.FieldShape.{FieldShape}
@@ -88,25 +88,13 @@ levels l = record { labels = now_all l.labels.keys; outer = reverse (map (λ v. 
 
 -- the table of a table line, where no value stands twice
 abbrev pub made : Spec.Line → Option (List (List ℕ))
-made (Spec.Begins name) = None
 made (Spec.Table name values) = if Fault.has_repeat values then None else Some values
-made (Spec.Segment name label renamed usage card) = None
-made (Spec.Field number usage card l) = None
-made (Spec.Comp number usage l) = None
-made (Spec.Sub number usage l) = None
-made (Spec.Group at label usage card) = None
-made Spec.End = None
+made line = None
 
 -- the tables, with that of a table line
 abbrev pub with_table : List TableValue → Spec.Line → List TableValue
-with_table tables (Spec.Begins name) = tables
 with_table tables (Spec.Table name values) = tables ++ record { name = name; values = values } ∷ []
-with_table tables (Spec.Segment name label renamed usage card) = tables
-with_table tables (Spec.Field number usage card l) = tables
-with_table tables (Spec.Comp number usage l) = tables
-with_table tables (Spec.Sub number usage l) = tables
-with_table tables (Spec.Group at label usage card) = tables
-with_table tables Spec.End = tables
+with_table tables line = tables
 
 -- the tables of these lines, the last line first
 abbrev pub kept : List Spec.Line → List TableValue
@@ -115,25 +103,14 @@ kept (line ∷ above) = with_table (kept above) line
 
 -- a table line gives a table that is new
 abbrev pub IsNewTable : List TableValue → Spec.Line → Type 0
-IsNewTable tables (Spec.Begins name) = Unit {0}
 IsNewTable tables (Spec.Table name values) = (Fault.is_among name (table_names tables) ≡ false) × (Fault.has_repeat values ≡ false)
-IsNewTable tables (Spec.Segment name label renamed usage card) = Unit {0}
-IsNewTable tables (Spec.Field number usage card l) = Unit {0}
-IsNewTable tables (Spec.Comp number usage l) = Unit {0}
-IsNewTable tables (Spec.Sub number usage l) = Unit {0}
-IsNewTable tables (Spec.Group at label usage card) = Unit {0}
-IsNewTable tables Spec.End = Unit {0}
+IsNewTable tables line = Unit {0}
 
 -- a segment or group line gives a label that is new at its level
 abbrev pub IsNewLabel : List (List ℕ) → Spec.Line → Type 0
-IsNewLabel labels (Spec.Begins name) = Unit {0}
-IsNewLabel labels (Spec.Table name values) = Unit {0}
 IsNewLabel labels (Spec.Segment name label renamed usage card) = Fault.is_among label labels ≡ false
-IsNewLabel labels (Spec.Field number usage card l) = Unit {0}
-IsNewLabel labels (Spec.Comp number usage l) = Unit {0}
-IsNewLabel labels (Spec.Sub number usage l) = Unit {0}
 IsNewLabel labels (Spec.Group at label usage card) = Fault.is_among label labels ≡ false
-IsNewLabel labels Spec.End = Unit {0}
+IsNewLabel labels line = Unit {0}
 
 abbrev pub ParentsFollow : Held.Parents.Parents → Held.Parents.Parents → Spec.Line → Type 0
 ParentsFollow old new line = (above : List Spec.Line) → parents old ≡ Fault.parents above → parents new ≡ Fault.parents (line ∷ above)
@@ -150,7 +127,7 @@ pub record Agrees (held : Held.Parents.Parents) (tables : List TableValue) (labe
   pub has_names : table_names tables ≡ Fault.tables lines
   pub has_tables : tables ≡ kept lines
   pub has_levels : levels labels ≡ Fault.levels lines
-  pub taken : AllTaken lines
+  pub taken : AllTaken Fault.grammar lines
 
 -- a profile, with its nodes as they are lent
 pub record Contents : Type 0 where

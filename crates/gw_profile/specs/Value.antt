@@ -38,17 +38,13 @@ no_parts = record { subs = []; comps = []; fields = [] }
 -- A line of another kind closes what is open.
 abbrev pub parts : List Line → Parts
 parts [] = no_parts
-parts (Begins name ∷ below) = no_parts
-parts (Table name values ∷ below) = no_parts
-parts (Segment name label renamed usage card ∷ below) = no_parts
 parts (Field number usage card leaf ∷ below) =
     record { subs = []; comps = []; fields = record { number = number; usage = unwrap_or usage O; card = card; comps = comps_of leaf (parts below).comps } ∷ (parts below).fields }
 parts (Comp number usage leaf ∷ below) =
     record { subs = []; comps = record { number = number; usage = unwrap_or usage O; subs = subs_of leaf (parts below).subs } ∷ (parts below).comps; fields = (parts below).fields }
 parts (Sub number usage leaf ∷ below) =
     record { subs = sub_of number usage leaf ∷ (parts below).subs; comps = (parts below).comps; fields = (parts below).fields }
-parts (Group at label usage card ∷ below) = no_parts
-parts (End ∷ below) = no_parts
+parts (line ∷ below) = no_parts
 
 -- the nodes up to the end of the group that is open above these lines, and behind that end, and so on
 pub record Nodes : Type 0 where
@@ -71,26 +67,16 @@ with_group g nodes = record { here = group g nodes.here (next nodes.behind); beh
 
 abbrev pub nodes : List Line → Nodes
 nodes [] = record { here = nothing; behind = [] }
-nodes (Begins name ∷ below) = nodes below
-nodes (Table name values ∷ below) = nodes below
 nodes (Segment name label renamed usage card ∷ below) =
     with_segment (record { name = name; label = label; usage = unwrap_or usage O; card = card; fields = (parts below).fields }) (nodes below)
-nodes (Field number usage card leaf ∷ below) = nodes below
-nodes (Comp number usage leaf ∷ below) = nodes below
-nodes (Sub number usage leaf ∷ below) = nodes below
 nodes (Group at label usage card ∷ below) = with_group (record { label = label; usage = unwrap_or usage O; card = card }) (nodes below)
 nodes (End ∷ below) = record { here = nothing; behind = (nodes below).here ∷ (nodes below).behind }
+nodes (line ∷ below) = nodes below
 
 abbrev pub tables : List Line → List TableValue
 tables [] = []
-tables (Begins name ∷ below) = tables below
 tables (Table name values ∷ below) = record { name = name; values = values } ∷ tables below
-tables (Segment name label renamed usage card ∷ below) = tables below
-tables (Field number usage card leaf ∷ below) = tables below
-tables (Comp number usage leaf ∷ below) = tables below
-tables (Sub number usage leaf ∷ below) = tables below
-tables (Group at label usage card ∷ below) = tables below
-tables (End ∷ below) = tables below
+tables (line ∷ below) = tables below
 
 -- the name that the first line gives
 abbrev pub name_of : List Line → List ℕ

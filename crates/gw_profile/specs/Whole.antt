@@ -16,14 +16,8 @@ use Rattle.gw_profile.specs.Determinism.{is_optional, ambiguous}
 -- the line of the first group without a child of min at least 1
 abbrev pub empty_group : List Line → Option ℕ
 empty_group [] = None
-empty_group (Begins name ∷ below) = empty_group below
-empty_group (Table name values ∷ below) = empty_group below
-empty_group (Segment name label renamed usage card ∷ below) = empty_group below
-empty_group (Field number usage card leaf ∷ below) = empty_group below
-empty_group (Comp number usage leaf ∷ below) = empty_group below
-empty_group (Sub number usage leaf ∷ below) = empty_group below
 empty_group (Group at label usage card ∷ below) = if is_optional (nodes below).here then Some at else empty_group below
-empty_group (End ∷ below) = empty_group below
+empty_group (line ∷ below) = empty_group below
 
 abbrev pub is_msh : List ℕ → Bool
 is_msh name = bytes_eq name (codes "MSH")
@@ -38,36 +32,19 @@ is_once (Some X) card = false
 
 -- a segment line that has MSH as its name or label
 abbrev pub is_header : Line → Bool
-is_header (Begins name) = false
-is_header (Table name values) = false
 is_header (Segment name label renamed usage card) = is_msh name || is_msh label
-is_header (Field number usage card leaf) = false
-is_header (Comp number usage leaf) = false
-is_header (Sub number usage leaf) = false
-is_header (Group at label usage card) = false
-is_header End = false
+is_header line = false
 
 -- `segment MSH R 1..1`, without a label of its own
 abbrev pub is_first : Line → Bool
-is_first (Begins name) = false
-is_first (Table name values) = false
 is_first (Segment name label renamed usage card) = is_msh name && not renamed && is_once usage card
-is_first (Field number usage card leaf) = false
-is_first (Comp number usage leaf) = false
-is_first (Sub number usage leaf) = false
-is_first (Group at label usage card) = false
-is_first End = false
+is_first line = false
 
 -- a line before the nodes
 abbrev pub is_preamble : Line → Bool
 is_preamble (Begins name) = true
 is_preamble (Table name values) = true
-is_preamble (Segment name label renamed usage card) = false
-is_preamble (Field number usage card leaf) = false
-is_preamble (Comp number usage leaf) = false
-is_preamble (Sub number usage leaf) = false
-is_preamble (Group at label usage card) = false
-is_preamble End = false
+is_preamble line = false
 
 -- the first node is the header, and MSH stands nowhere else
 abbrev pub is_headed : List Line → Bool

@@ -11,14 +11,14 @@ use gw_lines::{Word, behind, first_word, name_at, number_at, some_values};
 use std::alloc::{AllocError, Global};
 
 /// What a line says of a leaf.
-#[derive(Clone, Copy, PartialEq, Eq, Debug, Drop)]
+#[derive(Clone, Copy, Drop)]
 pub struct Leaf<'a> {
     pub len: Option<u32>,
     pub table: Option<&'a [u8]>,
 }
 
 /// A line of a profile. No usage stands for C and CE.
-#[derive(Debug, Drop)]
+#[derive(Drop)]
 pub enum Line<'a> {
     Begins(&'a [u8]),
     Table(&'a [u8], Vec<&'a [u8]>),

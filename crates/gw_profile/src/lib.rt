@@ -7,6 +7,7 @@ mod fault;
 mod form;
 pub mod laws;
 mod node;
+mod patterns;
 mod profile;
 mod reader;
 mod rules;
@@ -18,8 +19,8 @@ mod whole;
 
 pub use fault::ProfileFault;
 pub use node::{GroupNode, Node, SegNode};
+pub use patterns::expected;
 pub use profile::Profile;
-pub use reader::Reader;
 pub use shape::{Card, CompShape, FieldShape, SubShape, Usage};
 pub use table::Table;
 pub use text::parse;

@@ -3,7 +3,7 @@
 use crate::shape::{Card, FieldShape, Usage};
 
 /// A segment.
-#[derive(PartialEq, Debug, Drop)]
+#[derive(Drop)]
 pub struct SegNode {
     pub name: [u8; 3],
     pub label: Vec<u8>,
@@ -13,7 +13,7 @@ pub struct SegNode {
 }
 
 /// A group of nodes.
-#[derive(PartialEq, Debug, Drop)]
+#[derive(Drop)]
 #[cycle(node)]
 pub struct GroupNode {
     pub label: Vec<u8>,
@@ -22,7 +22,7 @@ pub struct GroupNode {
     pub nodes: Vec<Node>,
 }
 
-#[derive(PartialEq, Debug, Drop)]
+#[derive(Drop)]
 #[cycle(node)]
 pub enum Node {
     Seg(SegNode),

@@ -5,7 +5,7 @@ ghost use Rattle.gw_lines.specs.Reading.{Gives, first_of, added};
 ghost use Rattle.gw_profile.specs.declared.fault.ProfileFault.TheVariants as fault;
 ghost use Rattle.gw_profile.specs.Fault as spec;
 ghost use Rattle.gw_profile.specs.Line as form;
-ghost use Rattle.gw_profile.specs.Taken.{Taken};
+ghost use Rattle.gw_lines.specs.Grammar.{Taken};
 ghost use Rattle.gw_profile.specs.Seen.{line, made, profile_value};
 ghost use Rattle.gw_profile.specs.Whole.{whole};
 
@@ -185,7 +185,7 @@ impl<'a> Reader<'a> {
     // Takes a line in, with its table.
     fn add(self, whole: Line<'a>, found: Option<Table>) -> Result<Reader<'a>, AllocError>
         requires found { found ≡ made (line whole) }
-        requires taken { Taken self (line whole) }
+        requires taken { Taken spec.grammar self (line whole) }
         ensures { IfOk result (λ new. new ≡ line whole.entry ∷ self.entry) }
     {
         let Reader {

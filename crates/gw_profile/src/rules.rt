@@ -1,17 +1,18 @@
 //! Determinism by one name of look-ahead.
-ghost use Rattle.std.specs.Prelude.{◌≡◌, ◌++◌, ◌∷◌, ◌+◌, ◌==◌, [], ℕ, List, IfOk, OnOk, if◌then◌else◌};
+ghost use Rattle.std.specs.Prelude.{◌≡◌, ◌++◌, ◌∷◌, ◌+◌, ◌==◌, [], ℕ, List, IfOk, OnOk, if◌then◌else◌, length, drop, ◌≤◌, Some};
 ghost use Rattle.gw_profile.specs.Seen.{forest};
 ghost use Rattle.gw_profile.specs.Fault as fault;
 ghost use Rattle.gw_profile.specs.Line as line_of;
 ghost use Rattle.gw_profile.specs.Determinism as spec;
 ghost use Rattle.gw_profile.specs.Nodes as node_spec;
-ghost use Rattle.gw_profile.specs.Nodes.{Joins};
+ghost use Rattle.gw_profile.specs.Nodes.{Joins, joined, TakesBack};
 
 use crate::form::allows;
 use crate::node::Node;
 use crate::shape::Card;
 use indexmap::IndexSet;
 use std::alloc::{AllocError, Global};
+use std::mem;
 
 impl Node {
     ghost use Rattle.std.specs.Prelude.{◌≡◌};
@@ -81,17 +82,11 @@ fn put_names(held: &mut IndexSet<[u8; 3]>, names: &[[u8; 3]]) -> Result<(), Allo
     Ok(())
 }
 
-// The names that can come behind a child of a group.
-fn behind_child(
-    alloc: Global,
-    card: Card,
-    first: &[[u8; 3]],
-    after: &IndexSet<[u8; 3]>,
-) -> Result<IndexSet<[u8; 3]>, AllocError>
-    ensures { IfOk result (λ names. Joins (if line_of.allows card.max 2 then first.now else []) after.now.keys names.keys) }
+// The names that can begin a group again.
+fn again(alloc: Global, card: Card, first: &[[u8; 3]]) -> Result<IndexSet<[u8; 3]>, AllocError>
+    ensures { IfOk result (λ names. Joins (if line_of.allows card.max 2 then first.now else []) [] names.keys) }
 {
     let mut names = IndexSet::new(alloc);
-    put_names(&mut names, after.as_slice())?;
     if allows(card.max, 2) {
         put_names(&mut names, first)?;
         return Ok(names);
@@ -99,7 +94,16 @@ fn behind_child(
     Ok(names)
 }
 
-// The names that can come where a node stands, before those that can come behind it.
+// Takes back what was put behind the others.
+fn take_back(near: &mut IndexSet<[u8; 3]>, far: &mut Vec<IndexSet<[u8; 3]>>)
+    ensures { TakesBack far.old.items near.new far.new.items }
+{
+    if let Some(held) = far.pop() {
+        *near = held;
+    }
+}
+
+// The names of the later siblings, with those that can begin a node before them.
 fn before(
     alloc: Global,
     min: u32,
@@ -108,12 +112,11 @@ fn before(
 ) -> Result<IndexSet<[u8; 3]>, AllocError>
     ensures { IfOk result (λ names. Joins first.now (if min == 0 then follow.keys else []) names.keys) }
 {
-    if min > 0 {
-        let mut names = IndexSet::new(alloc);
-        put_names(&mut names, first)?;
-        return Ok(names);
-    }
-    let mut names = follow;
+    let mut names = if min == 0 {
+        follow
+    } else {
+        IndexSet::new(alloc)
+    };
     put_names(&mut names, first)?;
     Ok(names)
 }
@@ -147,28 +150,44 @@ fn least(name: [u8; 3], found: Option<[u8; 3]>) -> [u8; 3]
     }
 }
 
-fn has_name(name: [u8; 3], others: &IndexSet<[u8; 3]>) -> bool
-    ensures { result ≡ fault.is_among name others.now.keys }
+fn in_some(name: [u8; 3], sets: &[IndexSet<[u8; 3]>]) -> bool
+    ensures { result ≡ fault.is_among name (joined sets.now) }
 {
-    others.contains(&name)
+    for (i, names) in sets.iter().enumerate() {
+        if names.contains(&name) {
+            return true;
+        }
+    }
+    false
 }
 
-fn least_shared(names: &[[u8; 3]], others: &IndexSet<[u8; 3]>) -> Option<[u8; 3]>
-    ensures { result ≡ spec.least_shared names.now others.now.keys }
+fn has_name(name: [u8; 3], near: &IndexSet<[u8; 3]>, far: &[IndexSet<[u8; 3]>]) -> bool
+    ensures { result ≡ fault.is_among name (near.now.keys ++ joined far.now) }
+{
+    near.contains(&name) || in_some(name, far)
+}
+
+fn least_shared(
+    names: &[[u8; 3]],
+    near: &IndexSet<[u8; 3]>,
+    far: &[IndexSet<[u8; 3]>],
+) -> Option<[u8; 3]>
+    ensures { result ≡ spec.least_shared names.now (near.now.keys ++ joined far.now) }
 {
     let mut found = None;
     let mut left = names.len();
     while left > 0 {
         left -= 1;
-        found = with_shared(names[left], others, found);
+        let is_shared = has_name(names[left], near, far);
+        found = with_shared(names[left], is_shared, found);
     }
     found
 }
 
-fn with_shared(name: [u8; 3], others: &IndexSet<[u8; 3]>, found: Option<[u8; 3]>) -> Option<[u8; 3]>
-    ensures { (names : List (List ℕ)) → found ≡ spec.least_shared names others.now.keys → result ≡ spec.least_shared (name ∷ names) others.now.keys }
+fn with_shared(name: [u8; 3], is_shared: bool, found: Option<[u8; 3]>) -> Option<[u8; 3]>
+    ensures { result ≡ (if is_shared then Some (spec.least name found) else found) }
 {
-    if has_name(name, others) {
+    if is_shared {
         return Some(least(name, found));
     }
     found
@@ -184,11 +203,16 @@ fn is_open(card: Card) -> bool
     }
 }
 
-fn clash(card: Card, names: &[[u8; 3]], after: &IndexSet<[u8; 3]>) -> Option<[u8; 3]>
-    ensures { result ≡ spec.clash card names.now after.now.keys }
+fn clash(
+    card: Card,
+    names: &[[u8; 3]],
+    near: &IndexSet<[u8; 3]>,
+    far: &[IndexSet<[u8; 3]>],
+) -> Option<[u8; 3]>
+    ensures { result ≡ spec.clash card names.now (near.now.keys ++ joined far.now) }
 {
     if is_open(card) {
-        return least_shared(names, after);
+        return least_shared(names, near, far);
     }
     None
 }
@@ -211,26 +235,40 @@ fn or_else(name: Option<[u8; 3]>, found: Option<[u8; 3]>) -> Option<[u8; 3]>
     }
 }
 
-/// The least name of the first node that one name of look-ahead does not determine, where one of `after` can come behind these nodes.
-/// The nodes are gone through from the last to the first, with the names that can come behind them.
+// From which set on the names can come behind a node, by the node behind it.
+fn passed(min: u32, start: usize, far: &[IndexSet<[u8; 3]>]) -> usize
+    ensures { result ≡ (if min == 0 then start else length far.now) }
+{
+    if min == 0 { start } else { far.len() }
+}
+
+/// The least name of the first node that one name of look-ahead does not determine, where a name of `near`, or of the sets of `far` from this number on, can come behind these nodes.
+/// The nodes are gone through from the last to the first, with the names of the later siblings; those of the levels around stay in their sets.
 #[cycle(ambiguous)]
 pub fn ambiguous(
     alloc: Global,
     nodes: &[Node],
-    after: IndexSet<[u8; 3]>,
+    near: IndexSet<[u8; 3]>,
+    far: &mut Vec<IndexSet<[u8; 3]>>,
+    start: usize,
 ) -> Result<Option<[u8; 3]>, AllocError>
-    ensures { IfOk result (λ found. found ≡ spec.ambiguous (forest nodes.now) after.keys) }
+    requires { start ≤ length far.old.items }
+    ensures found { IfOk result (λ found. found ≡ spec.ambiguous (forest nodes.now) (near.keys ++ joined (drop start far.old.items))) }
+    ensures kept { OnOk result (far.new.items ≡ far.old.items) }
 {
-    let mut follow = after;
+    let mut follow = near;
+    let mut from = start;
     let mut found = None;
     let mut left = nodes.len();
     while left > 0 {
         left -= 1;
         let node = &nodes[left];
-        let name = node_ambiguous(alloc, node, &follow)?;
+        let name = node_ambiguous(alloc, node, &mut follow, far, from)?;
         found = or_else(name, found);
         let first = first_of(alloc, node)?;
-        follow = before(alloc, node.card().min, &first, follow)?;
+        let min = node.card().min;
+        follow = before(alloc, min, &first, follow)?;
+        from = passed(min, from, far);
     }
     Ok(found)
 }
@@ -239,13 +277,18 @@ pub fn ambiguous(
 fn node_ambiguous(
     alloc: Global,
     node: &Node,
-    after: &IndexSet<[u8; 3]>,
+    near: &mut IndexSet<[u8; 3]>,
+    far: &mut Vec<IndexSet<[u8; 3]>>,
+    start: usize,
 ) -> Result<Option<[u8; 3]>, AllocError>
-    ensures { IfOk result (λ found. found ≡ node_spec.node_ambiguous node.now after.now.keys) }
+    requires { start ≤ length far.old.items }
+    ensures found { IfOk result (λ found. found ≡ node_spec.node_ambiguous node.now (near.old.keys ++ joined (drop start far.old.items))) }
+    ensures near { OnOk result (near.new ≡ near.old) }
+    ensures kept { OnOk result (far.new.items ≡ far.old.items) }
 {
     match node {
-        Node::Seg(segment) => Ok(clash(segment.card, &[segment.name], after)),
-        Node::Group(group) => group_ambiguous(alloc, group.card, &group.nodes, after),
+        Node::Seg(segment) => Ok(clash(segment.card, &[segment.name], near, &far[start..])),
+        Node::Group(group) => group_ambiguous(alloc, group.card, &group.nodes, near, far, start),
     }
 }
 
@@ -254,15 +297,24 @@ fn group_ambiguous(
     alloc: Global,
     card: Card,
     nodes: &[Node],
-    after: &IndexSet<[u8; 3]>,
+    near: &mut IndexSet<[u8; 3]>,
+    far: &mut Vec<IndexSet<[u8; 3]>>,
+    start: usize,
 ) -> Result<Option<[u8; 3]>, AllocError>
-    ensures { IfOk result (λ found. found ≡ spec.group_ambiguous card (forest nodes.now) after.now.keys) }
+    requires { start ≤ length far.old.items }
+    ensures found { IfOk result (λ found. found ≡ spec.group_ambiguous card (forest nodes.now) (near.old.keys ++ joined (drop start far.old.items))) }
+    ensures near { OnOk result (near.new ≡ near.old) }
+    ensures kept { OnOk result (far.new.items ≡ far.old.items) }
 {
     let mut first = Vec::new(alloc);
     add_first(&mut first, nodes)?;
-    if let Some(name) = clash(card, &first, after) {
+    if let Some(name) = clash(card, &first, near, &far[start..]) {
         return Ok(Some(name));
     }
-    let behind = behind_child(alloc, card, &first, after)?;
-    ambiguous(alloc, nodes, behind)
+    let again = again(alloc, card, &first)?;
+    let held = mem::replace(near, IndexSet::new(alloc));
+    far.push(held)?;
+    let found = ambiguous(alloc, nodes, again, far, start)?;
+    take_back(near, far);
+    Ok(found)
 }

@@ -17,7 +17,7 @@ pub struct Card {
 }
 
 /// A subcomponent, with the name of its table.
-#[derive(PartialEq, Debug, Drop)]
+#[derive(PartialEq, Drop)]
 pub struct SubShape {
     pub number: u32,
     pub usage: Usage,
@@ -26,7 +26,7 @@ pub struct SubShape {
 }
 
 /// A component.
-#[derive(PartialEq, Debug, Drop)]
+#[derive(Drop)]
 pub struct CompShape {
     pub number: u32,
     pub usage: Usage,
@@ -34,7 +34,7 @@ pub struct CompShape {
 }
 
 /// A field of a segment.
-#[derive(PartialEq, Debug, Drop)]
+#[derive(Drop)]
 pub struct FieldShape {
     pub number: u32,
     pub usage: Usage,

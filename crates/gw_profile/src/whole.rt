@@ -5,7 +5,8 @@ ghost use Rattle.gw_lines.specs.Reading.{Gives};
 ghost use Rattle.gw_profile.specs.declared.fault.ProfileFault.TheVariants as fault;
 ghost use Rattle.gw_profile.specs.Whole as spec;
 ghost use Rattle.gw_profile.specs.Seen.{line, table, profile_value};
-ghost use Rattle.gw_profile.specs.Taken.{AllTaken};
+ghost use Rattle.gw_lines.specs.Grammar.{AllTaken};
+ghost use Rattle.gw_profile.specs.Fault.{grammar};
 ghost use Rattle.gw_profile.specs.Value.{tables as tables_of};
 
 use crate::build::{Built, build};
@@ -95,7 +96,7 @@ pub fn ruled(
     tables: IndexMap<Vec<u8>, Table>,
 ) -> Result<Profile, ProfileFault>
     requires tables { map table tables.entries ≡ tables_of (map line lines.now) }
-    requires taken { AllTaken (reverse (map line lines.now)) }
+    requires taken { AllTaken grammar (reverse (map line lines.now)) }
     ensures { Gives fault.Memory profile_value result (spec.ruled (map line lines.now)) }
 {
     let Built { name, nodes, empty } = build(alloc, lines)?;
@@ -105,7 +106,7 @@ pub fn ruled(
     if !is_headed(lines) {
         return Err(ProfileFault::Header);
     }
-    if let Some(shared) = ambiguous(alloc, &nodes, IndexSet::new(alloc))? {
+    if let Some(shared) = ambiguous(alloc, &nodes, IndexSet::new(alloc), &mut Vec::new(alloc), 0)? {
         return Err(ProfileFault::Ambiguous(shared));
     }
     Ok(Profile {

@@ -1,32 +1,57 @@
-use Rattle.std.proofs.Common.{◌≡◌, ◌++◌, sym, ap, ◌∙◌, subst, IfOk, List, ℕ, Option, arith}
+use Rattle.std.proofs.Common.{◌≡◌, ◌++◌, ◌∷◌, [], sym, ap, ◌∙◌, subst, IfOk, List, ℕ, Option, arith, drop, length, HashSet, BuildHasherDefault, FoldHasher}
+use Rattle.std.specs.Prelude.{if◌then◌else◌, ◌==◌, ◌||◌}
+use Rattle.std.proofs.lemmas.List.{take_rest}
+use Rattle.gw_profile.specs.Fault.{is_among}
 use Rattle.gw_profile.specs.declared.shape.Card.{Card}
 use Rattle.gw_profile.specs.Seen.{forest}
-use Rattle.gw_profile.specs.Determinism.{first_names, clash, group_ambiguous}
-use Rattle.gw_profile.specs.Nodes.{node_ambiguous}
+use Rattle.gw_profile.specs.Determinism.{first_names, clash, ambiguous, group_ambiguous}
+use Rattle.gw_profile.specs.Nodes.{node_ambiguous, joined, Joins}
 use Rattle.gw_profile.proofs.Rows.{ambiguous_group}
-use Rattle.gw_profile.proofs.Follows.{walk_more, group_more}
+use Rattle.gw_profile.proofs.Follows.{walk_more, group_more, joins_far, behind_more, passed_within}
 use Rattle.gw_profile.proofs.rules.+ambiguous.Goals as goal
 
-pub node_ambiguous-returns-in-Group : goal.node_ambiguous-returns-in-Group
-node_ambiguous-returns-in-Group t c =
+abbrev Set : Type 0
+Set = HashSet (List ℕ) (BuildHasherDefault FoldHasher)
+
+pub node_ambiguous-returns-in-Group-clause-found : goal.node_ambiguous-returns-in-Group-clause-found
+node_ambiguous-returns-in-Group-clause-found t c =
+    let after = c.args.near.now.keys ++ joined (drop c.args.start c.args.far.now.items) in
     subst (λ (o : Option (List ℕ)). IfOk c.group_ambiguous.result (λ found. found ≡ o))
-    (ap (λ l. group_ambiguous c.in-Group.group.card (forest l) c.args.after.now.keys) c.deref.ensures.value
-    ∙ ambiguous_group c.in-Group.group c.args.after.now.keys ∙ ap (λ n. node_ambiguous n c.args.after.now.keys) (sym c.in-Group.is))
-    c.group_ambiguous.ensures
+    (ap (λ l. group_ambiguous c.in-Group.group.card (forest l) after) c.deref-in-Group.ensures.value
+    ∙ ambiguous_group c.in-Group.group after ∙ ap (λ n. node_ambiguous n after) (sym c.in-Group.is))
+    c.group_ambiguous.ensures.found
 
 pub ambiguous-loop-left-preserved : goal.ambiguous-loop-left-preserved
 ambiguous-loop-left-preserved t c =
+    let sets = c.args.far.now.items in
+    let from : c.passed-from.result ≡ (if c.card-min.result.min == 0 then c.loop-left.from else length sets) =
+    c.passed-from.ensures ∙ ap (λ n. if c.card-min.result.min == 0 then c.loop-left.from else n) (ap length (c.deref-in-loop-left.ensures.value ∙ c.in_ok-name.ensures.kept ∙ c.loop-left.invariant.kept)) in
+    let follow : Joins c.deref.result.now (if c.card-min.result.min == 0 then c.loop-left.follow.keys else []) c.in_ok-follow.follow.keys =
+    subst (λ (s : Set). Joins c.deref.result.now (if c.card-min.result.min == 0 then s.keys else []) c.in_ok-follow.follow.keys) c.in_ok-name.ensures.near c.in_ok-follow.ensures in
     let more =
-    walk_more c.args.nodes.now c.loop-left.left c.index-nodes-left.result c.args.after.keys c.loop-left.follow.keys c.deref.result.now c.in_ok-follow.follow.keys c.card.result.min
+    walk_more c.args.nodes.now c.loop-left.left c.index-nodes-left.result (c.args.near.keys ++ joined (drop c.args.start sets)) (c.loop-left.follow.keys ++ joined (drop c.loop-left.from sets)) c.deref.result.now
+    (c.in_ok-follow.follow.keys ++ joined (drop c.passed-from.result sets)) c.card-min.result.min
     c.loop-left.found c.in_ok-name.name c.or_else-found.result c.loop-left-test.true c.loop-left.invariant.within c.index-nodes-left.is c.loop-left.invariant.names c.loop-left.invariant.found
-    c.in_ok-name.ensures c.or_else-found.ensures (c.deref.ensures.value ∙ c.in_ok-first.ensures) (ap (λ (k : Card). k.min) c.card.ensures) c.in_ok-follow.ensures in
-    record { within = omega arith; names = more.0; found = more.1 }
+    (c.in_ok-name.ensures.found ∙ ap (λ (fs : List Set). node_ambiguous c.index-nodes-left.result (c.loop-left.follow.keys ++ joined (drop c.loop-left.from fs))) c.loop-left.invariant.kept)
+    c.or_else-found.ensures (c.deref.ensures.value ∙ c.in_ok-first.ensures) (ap (λ (k : Card). k.min) c.card-min.ensures)
+    (joins_far c.card-min.result.min c.loop-left.from c.passed-from.result c.deref.result.now c.loop-left.follow.keys c.in_ok-follow.follow.keys sets follow from) in
+    let w = c.loop-left.invariant.within in
+    record {
+      within = omega (arith, w);
+      bound = passed_within c.card-min.result.min c.loop-left.from c.passed-from.result (length sets) c.loop-left.invariant.bound from;
+      kept = c.in_ok-name.ensures.kept ∙ c.loop-left.invariant.kept;
+      names = more.0;
+      found = more.1;
+    }
 
-pub group_ambiguous-returns : goal.group_ambiguous-returns
-group_ambiguous-returns t c =
-    subst (λ (o : Option (List ℕ)). IfOk c.ambiguous.result (λ found. found ≡ o))
-    (group_more c.args.card (forest c.args.nodes.now) c.args.after.now.keys c.in_ok-behind.behind.keys c.deref-2.result.now
-    (c.deref-2.ensures.value ∙ c.in_ok-add_first.ensures ∙ ap (λ (l : List (List ℕ)). l ++ first_names (forest c.args.nodes.now)) c.new-first.ensures.items)
-    (ap (λ (f : List (List ℕ)). clash c.args.card f c.args.after.now.keys) (c.deref-2.ensures.value ∙ sym c.deref.ensures.value) ∙ sym c.clash.ensures ∙ c.in_default.is)
-    c.in_ok-behind.ensures)
-    c.ambiguous.ensures
+pub group_ambiguous-returns-clause-found : goal.group_ambiguous-returns-clause-found
+group_ambiguous-returns-clause-found t c =
+    let after = c.args.near.now.keys ++ joined (drop c.args.start c.args.far.now.items) in
+    c.in_ok-found.ensures.found
+    ∙ ap (λ (s : List Set). ambiguous (forest c.args.nodes.now) (c.in_ok-again.again.keys ++ joined (drop c.args.start s))) (c.in_ok-push.ensures.items ∙ ap (λ (s : Set). c.args.far.now.items ++ s ∷ []) c.replace-held.ensures.value)
+    ∙ group_more c.args.card (forest c.args.nodes.now) after (c.in_ok-again.again.keys ++ joined (drop c.args.start (c.args.far.now.items ++ c.args.near.now ∷ []))) c.deref-3.result.now
+    (c.deref-3.ensures.value ∙ c.in_ok-add_first.ensures ∙ ap (λ (l : List (List ℕ)). l ++ first_names (forest c.args.nodes.now)) c.new-first.ensures.items)
+    (ap (λ (f : List (List ℕ)). clash c.args.card f after) (c.deref-3.ensures.value ∙ sym c.deref.ensures.value)
+    ∙ ap (λ (s : List Set). clash c.args.card c.deref.result.now (c.args.near.now.keys ++ joined (drop c.args.start s))) (sym c.deref-2.ensures.value)
+    ∙ ap (λ (s : List Set). clash c.args.card c.deref.result.now (c.args.near.now.keys ++ joined s)) (sym (take_rest c.deref-2.result.now c.args.start)) ∙ sym c.clash.ensures ∙ c.in_default.is)
+    (λ x. behind_more x c.args.start c.args.far.now.items c.args.near.now c.in_ok-again.again.keys c.requires ∙ ap (λ b. is_among x after || b) (c.in_ok-again.ensures x))

@@ -1,0 +1,7 @@
+use Rattle.std.proofs.Common.{◌≡◌, drop}
+use Rattle.gw_profile.specs.Fault.{is_among}
+use Rattle.gw_profile.specs.Nodes.{joined}
+use Rattle.gw_profile.proofs.rules.in_some.Given as goal
+
+abbrev pub invariant-loop-i : goal.invariant-loop-i
+invariant-loop-i l = is_among l.name (joined l.sets) ≡ is_among l.name (joined (drop l.i l.sets))
