@@ -1,9 +1,9 @@
 -- Segments as they are lent: what their leaves stand for.
-use Rattle.std.proofs.Common.{◌≡◌, ℕ, zero, suc, ◌<◌, ◌≤◌, true, false, List, [], ◌∷◌, length, get_or, Some, Ordering, Less, Equal, Greater, refl, sym, ap, subst, ◌∙◌, arith}
+use Rattle.std.proofs.Common.{◌≡◌, ℕ, zero, suc, ◌+◌, ◌-◌, ◌<◌, ◌≤◌, Bool, true, false, List, [], ◌∷◌, length, get_or, Some, Ordering, Less, Equal, Greater, refl, sym, ap, subst, ◌∙◌, arith}
 use Rattle.std.specs.Prelude.{slice_get}
 use Rattle.std.specs.List.{AllByRecursion}
 use Rattle.std.specs.List.Sorted.{IsPartitionPoint}
-use Rattle.std.specs.Ordering.{nat_cmp, is_lt}
+use Rattle.std.specs.Ordering.{nat_cmp, is_lt, is_le, ordering_then}
 use Rattle.std.specs.Cmp.Lexicographic.{slice_cmp}
 use Rattle.std.specs.FinMap as texts
 use Rattle.std.specs.FinMap.{entries-from_sorted}
@@ -11,8 +11,9 @@ use Rattle.gw_er7.specs.declared.segment.Leaf.{Leaf}
 use Rattle.gw_er7.specs.Message.{SegmentValue, first_field, IsKey, IsEntry, IsSegment}
 use Rattle.gw_er7.specs.Entries.{Entry}
 use Rattle.gw_er7.specs.Presence.{IsStart}
-use Rattle.gw_er7.specs.View.{entry_of, entries_of, is_below, stored, IsLent, AreValues}
+use Rattle.gw_er7.specs.View.{entry_of, entries_of, is_below, is_within, stored, IsLent, AreValues}
 use Rattle.gw_er7.proofs.Sorted.{order}
+use Rattle.gw_er7.proofs.Under.{cases_cmp, less_is, greater_is}
 
 one_positive : (n : ℕ) (k : List ℕ) → IsKey n k → IsKey 1 k
 one_positive n [] is = absurd (let four = is.four in omega arith)
@@ -77,3 +78,56 @@ start_at q xs n bound point = record {
 
 pub start_is : (q name : List ℕ) (xs : List Leaf) (s : SegmentValue) (n : ℕ) → IsLent name xs → stored name xs ≡ s → n ≤ length xs → IsPartitionPoint (λ l. is_below q l ≡ true) (λ l. is_below q l ≡ false) xs n → IsStart q (texts.entries s.at) n
 start_is q name xs s n is e bound point = subst (λ (es : List Entry). IsStart q es n) (entries_are name xs s is e) (start_at q xs n bound point)
+
+-- ---- where a field begins and ends
+
+-- a number isn't above n where it is below the next one, and what has more numbers isn't below it
+within_is : (a n : ℕ) → is_le (ordering_then (nat_cmp a n) Equal) ≡ is_lt (ordering_then (nat_cmp a (n + 1)) Greater)
+within_is a n =
+    cases_cmp (λ r. is_le (ordering_then r Equal) ≡ is_lt (ordering_then (nat_cmp a (n + 1)) Greater)) a n
+    (λ lt. ap (λ (r : Ordering). is_lt (ordering_then r Greater)) (sym (less_is a (n + 1) (omega arith))))
+    (λ e. ap (λ (r : Ordering). is_lt (ordering_then r Greater)) (sym (less_is a (n + 1) (omega arith))))
+    (λ gt. cases_cmp (λ r. false ≡ is_lt (ordering_then r Greater)) a (n + 1) (λ lt. absurd (omega arith)) (λ _. refl) (λ _. refl))
+
+pub field_behind : (n : ℕ) (xs : List Leaf) (m : ℕ) → m ≤ length xs → IsPartitionPoint (λ l. is_within (n ∷ []) l ≡ true) (λ l. is_within (n ∷ []) l ≡ false) xs m → IsStart ((n + 1) ∷ []) (entries_of xs) m
+field_behind n xs m bound point =
+    start_at ((n + 1) ∷ []) xs m bound
+    ((λ k d low high. sym (within_is (get_or xs k d).place.field n) ∙ point.0 k d low high), (λ k d low high. sym (within_is (get_or xs k d).place.field n) ∙ point.1 k d low high))
+
+pub field_first : (n : ℕ) (xs : List Leaf) (m : ℕ) → 0 < n → m ≤ length xs → IsPartitionPoint (λ l. is_within ((n - 1) ∷ []) l ≡ true) (λ l. is_within ((n - 1) ∷ []) l ≡ false) xs m → IsStart (n ∷ []) (entries_of xs) m
+field_first n xs m some bound point = (let e : n - 1 + 1 ≡ n = omega arith in subst (λ (k : ℕ). IsStart (k ∷ []) (entries_of xs) m) e (field_behind (n - 1) xs m bound point))
+
+-- ---- where a repetition begins and ends
+
+rep_within_is : (r : Ordering) (a n : ℕ) → is_le (ordering_then r (ordering_then (nat_cmp a n) Equal)) ≡ is_lt (ordering_then r (ordering_then (nat_cmp a (n + 1)) Greater))
+rep_within_is Less a n = refl
+rep_within_is Equal a n = within_is a n
+rep_within_is Greater a n = refl
+
+pub rep_behind : (f n : ℕ) (xs : List Leaf) (m : ℕ) → m ≤ length xs → IsPartitionPoint (λ l. is_within (f ∷ n ∷ []) l ≡ true) (λ l. is_within (f ∷ n ∷ []) l ≡ false) xs m → IsStart (f ∷ (n + 1) ∷ []) (entries_of xs) m
+rep_behind f n xs m bound point =
+    start_at (f ∷ (n + 1) ∷ []) xs m bound (
+      (λ k d low high. sym (rep_within_is (nat_cmp (get_or xs k d).place.field f) (get_or xs k d).place.rep n) ∙ point.0 k d low high),
+      (λ k d low high. sym (rep_within_is (nat_cmp (get_or xs k d).place.field f) (get_or xs k d).place.rep n) ∙ point.1 k d low high),
+    )
+
+-- no component and no subcomponent is below the number 0
+never_less : (c s : ℕ) → is_lt (ordering_then (nat_cmp c 0) (ordering_then (nat_cmp s 0) Equal)) ≡ false
+never_less c s =
+    cases_cmp (λ r. is_lt (ordering_then r (ordering_then (nat_cmp s 0) Equal)) ≡ false) c 0
+    (λ lt. absurd (omega arith)) (λ _. cases_cmp (λ r. is_lt (ordering_then r Equal) ≡ false) s 0 (λ lt. absurd (omega arith)) (λ _. refl) (λ _. refl)) (λ _. refl)
+
+from_zero : (p q : Ordering) (c s : ℕ) → is_lt (ordering_then p (ordering_then q (ordering_then (nat_cmp c 0) (ordering_then (nat_cmp s 0) Equal)))) ≡ is_lt (ordering_then p (ordering_then q Greater))
+from_zero Less q c s = refl
+from_zero Greater q c s = refl
+from_zero Equal Less c s = refl
+from_zero Equal Greater c s = refl
+from_zero Equal Equal c s = never_less c s
+
+below_is : (f n : ℕ) (l : Leaf) → is_below (f ∷ n ∷ 0 ∷ 0 ∷ []) l ≡ is_below (f ∷ n ∷ []) l
+below_is f n l = from_zero (nat_cmp l.place.field f) (nat_cmp l.place.rep n) l.place.comp l.place.sub
+
+pub rep_first : (f n : ℕ) (xs : List Leaf) (m : ℕ) → m ≤ length xs → IsPartitionPoint (λ l. is_below (f ∷ n ∷ 0 ∷ 0 ∷ []) l ≡ true) (λ l. is_below (f ∷ n ∷ 0 ∷ 0 ∷ []) l ≡ false) xs m → IsStart (f ∷ n ∷ []) (entries_of xs) m
+rep_first f n xs m bound point =
+    start_at (f ∷ n ∷ []) xs m bound
+    ((λ k d low high. sym (below_is f n (get_or xs k d)) ∙ point.0 k d low high), (λ k d low high. sym (below_is f n (get_or xs k d)) ∙ point.1 k d low high))

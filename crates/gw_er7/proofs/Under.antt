@@ -21,14 +21,14 @@ use Rattle.gw_er7.proofs.Finds.{Sorted, rising_at}
 
 -- ---- how keys compare with their beginnings
 
-less_is : (a b : ℕ) → a < b → nat_cmp a b ≡ Less
+pub less_is : (a b : ℕ) → a < b → nat_cmp a b ≡ Less
 less_is a b lt = sym (nat_cmp_is a b Less lt)
 
-greater_is : (a b : ℕ) → b < a → nat_cmp a b ≡ Greater
+pub greater_is : (a b : ℕ) → b < a → nat_cmp a b ≡ Greater
 greater_is a b lt = sym (nat_cmp_is a b Greater lt)
 
 -- the three cases of two numbers
-cases_cmp : (P : Ordering → Type 0) (a b : ℕ) → (a < b → P Less) → (a ≡ b → P Equal) → (b < a → P Greater) → P (nat_cmp a b)
+pub cases_cmp : (P : Ordering → Type 0) (a b : ℕ) → (a < b → P Less) → (a ≡ b → P Equal) → (b < a → P Greater) → P (nat_cmp a b)
 cases_cmp P a b less same greater = by (nat_cmp a b) refl
   where
     by : (r : Ordering) → r ≡ nat_cmp a b → P r

@@ -1,11 +1,13 @@
 //! The last numbers that are present.
-ghost use Rattle.std.specs.Prelude.{◌≡◌, ◌≤◌, length, true, false};
+ghost use Rattle.std.specs.Prelude.{◌≡◌, ◌+◌, ◌≤◌, [], ◌∷◌, length, true, false};
 ghost use Rattle.std.specs.List.Sorted.{IsPartitionPoint};
 ghost use Rattle.std.specs.FinMap as texts;
 ghost use Rattle.gw_er7.specs.Message.{numbers};
+ghost use Rattle.gw_er7.specs.Presence.{IsStart};
 ghost use Rattle.gw_er7.specs.View.{entries_of, AreValues, compare_begin, is_within, IsLastUnder};
 
 use crate::place::Place;
+use crate::search::count_below;
 use crate::segment::Leaf;
 use std::cmp::Ordering;
 
@@ -61,4 +63,35 @@ pub(crate) fn last_under(leaves: &[Leaf], prefix: &[usize]) -> Option<Place>
         return Some(place);
     }
     None
+}
+
+/// How many leaves stand at places below this field, and how many at places below the next one.
+pub(crate) fn field_range(leaves: &[Leaf], field: usize) -> (usize, usize)
+    requires { AreValues leaves.now }
+    ensures first { IsStart (field ∷ []) (entries_of leaves.now) result.0 }
+    ensures behind { IsStart ((field + 1) ∷ []) (entries_of leaves.now) result.1 }
+{
+    let behind = count_within(leaves, &[field]);
+    if field == 0 {
+        return (0, behind);
+    }
+    (count_within(leaves, &[field - 1]), behind)
+}
+
+/// How many leaves stand at places below this repetition, and how many at places below the next one.
+pub(crate) fn rep_range(leaves: &[Leaf], field: usize, rep: usize) -> (usize, usize)
+    requires { AreValues leaves.now }
+    ensures first { IsStart (field ∷ rep ∷ []) (entries_of leaves.now) result.0 }
+    ensures behind { IsStart (field ∷ (rep + 1) ∷ []) (entries_of leaves.now) result.1 }
+{
+    let place = Place {
+        field,
+        rep,
+        comp: 0,
+        sub: 0,
+    };
+    (
+        count_below(leaves, place),
+        count_within(leaves, &[field, rep]),
+    )
 }

@@ -3,7 +3,7 @@ ghost use Rattle.std.specs.Prelude.{◌≡◌, ◌<◌, Some, length, slice_get}
 ghost use Rattle.gw_er7.specs.Message.{numbers};
 ghost use Rattle.gw_er7.specs.View.{entries_of};
 
-use crate::counts::last_under;
+use crate::counts::{field_range, last_under, rep_range};
 use crate::place::Place;
 use crate::search::{count_below_near, text_in, text_near};
 use crate::segment::Leaf;
@@ -48,7 +48,7 @@ fn value_at(leaves: &[Leaf], i: usize) -> Value<'_>
 }
 
 impl<'a> Segment<'a> {
-    ghost use Rattle.std.specs.Prelude.{◌≡◌, ◌<◌, [], ◌∷◌, Some, length, slice_get};
+    ghost use Rattle.std.specs.Prelude.{◌≡◌, ◌+◌, ◌<◌, [], ◌∷◌, Some, length, slice_get};
     ghost use Rattle.std.specs.FinMap as texts;
     ghost use Rattle.gw_er7.specs.Message.{numbers, text_at, IsSegment};
     ghost use Rattle.gw_er7.specs.Presence.{SubAt, CompAt, RepAt, FieldAt, IsLast, IsStart};
@@ -59,6 +59,16 @@ impl<'a> Segment<'a> {
         ensures { result ≡ stored name leaves.now }
     {
         Segment { name, leaves }
+    }
+
+    /// The same segment, lent once more. It takes no memory.
+    pub fn again(&self) -> Segment<'a>
+        ensures { result ≡ self.now }
+    {
+        Segment {
+            name: self.name,
+            leaves: self.leaves,
+        }
     }
 
     /// The name. It takes no memory.
@@ -138,6 +148,24 @@ impl<'a> Segment<'a> {
         ensures { IsStart (numbers place) (texts.entries self.now.at) result }
     {
         count_below_near(self.leaves, near, place)
+    }
+
+    /// The numbers of the first text of a field and of the first text behind the field: the texts of the field stand between.
+    /// It takes no memory, and time by the logarithm of the segment's values.
+    pub fn field_values(&self, field: usize) -> (usize, usize)
+        ensures first { IsStart (field ∷ []) (texts.entries self.now.at) result.0 }
+        ensures behind { IsStart ((field + 1) ∷ []) (texts.entries self.now.at) result.1 }
+    {
+        field_range(self.leaves, field)
+    }
+
+    /// The numbers of the first text of a repetition and of the first text behind it: the texts of the repetition stand between.
+    /// It takes no memory, and time by the logarithm of the segment's values.
+    pub fn rep_values(&self, field: usize, rep: usize) -> (usize, usize)
+        ensures first { IsStart (field ∷ rep ∷ []) (texts.entries self.now.at) result.0 }
+        ensures behind { IsStart (field ∷ (rep + 1) ∷ []) (texts.entries self.now.at) result.1 }
+    {
+        rep_range(self.leaves, field, rep)
     }
 
     /// The same as `text`, in a constant time where the text's number is the one named or one of a few behind it.

@@ -1,7 +1,7 @@
 -- The occurrences that are lent, and those of a place.
 use Rattle.std.proofs.Common.{get_or, ◌≡◌, inl, inr, ℕ, zero, suc, ◌+◌, ◌-◌, ◌≤◌, ◌<◌, List, [], ◌∷◌, ◌++◌, Option, Some, None, refl, sym, ap, ◌∙◌, arith, length, map, slice_get, option_map, take, drop, subst, append-nil, append_assoc, Result, Ok, Err}
 use Rattle.std.specs.Prelude.{flat_map, IfOk}
-use Rattle.std.proofs.lemmas.List.{length-map, length-reverse, get_or-reverse, get_or-map, take_all, map-append, take_more, drop_more, drop_all, flat_map_more}
+use Rattle.std.proofs.lemmas.List.{length-map, length-reverse, get_or-reverse, get_or-map, take_all, take-append-drop, map-append, take_more, drop_more, drop_all, flat_map_more}
 use Rattle.std.proofs.lemmas.Option.{slice_get_past, slice_get_cases}
 use Rattle.gw_er7.specs.Message.{SegmentValue}
 use Rattle.gw_validate.specs.declared.occurrences.Occurrences.{Occurrences, Segments, Groups'}
@@ -11,7 +11,7 @@ use Rattle.gw_validate.specs.Fitting.{OccValue, IsLent, IsAlone}
 use Rattle.gw_validate.specs.Viewing as viewing
 use Rattle.gw_validate.specs.Viewing.{number, row, tree_at, count_at, occurrence_at, occurrence_of}
 use Rattle.gw_interp.specs.Occurrences.{Occurrence, a_segment, nodes, list_of, level_at, children, below, in_scope}
-use Rattle.gw_interp.specs.Lent.{numbered, occurrence, scope, AreOf}
+use Rattle.gw_interp.specs.Lent.{numbered, occurrence, scope, AreOf, IsFirstOf}
 
 -- ---- the children of a node
 
@@ -198,6 +198,40 @@ one_walked os out o h is =
         ap (λ n. get_or (map occurrence os) (n - 1 - out) d) (length-map os occurrence)
         ∙ get_or-map occurrence os (length os - 1 - out) o d (omega (arith, h))
         ∙ ap occurrence (sym is)
+
+-- ---- the first one
+
+no_first : {A : Type 0} (f : Occurrence → List A) (xs : List Occurrence) (x : Occurrence) → flat_map f xs ≡ [] → f x ≡ [] → flat_map f (xs ++ x ∷ []) ≡ []
+no_first f xs x none empty = flat_two f xs (x ∷ []) ∙ ap (λ l. l ++ (f x ++ [])) none ∙ ap (λ l. l ++ []) empty
+
+some_first : {A : Type 0} (f : Occurrence → List A) (xs ys : List Occurrence) (x : Occurrence) (y : A) (more : List A) → flat_map f xs ≡ [] → f x ≡ y ∷ more → flat_map f ((xs ++ x ∷ []) ++ ys) ≡ y ∷ (more ++ flat_map f ys)
+some_first f xs ys x y more none is =
+    flat_two f (xs ++ x ∷ []) ys
+    ∙ ap (λ l. l ++ flat_map f ys) (flat_two f xs (x ∷ []) ∙ ap (λ l. l ++ (f x ++ [])) none ∙ append-nil (f x) ∙ is)
+
+module _ (above : OccValue) (i : ℕ) (steps : List ℕ) where
+  -- the steps lead nowhere from the first children
+  abbrev pub LeadNowhere : ℕ → Type 0
+  LeadNowhere k = flat_map (below steps) (take k (level_at (tree_of above.each) i)) ≡ []
+
+  next_child : (k : ℕ) (o : OccValue) → occurrence_at (tree_of above.each) i k ≡ Some (occurrence_of o) → take (k + 1) (level_at (tree_of above.each) i) ≡ take k (level_at (tree_of above.each) i) ++ occurrence o ∷ []
+  next_child k o e =
+      let next : k + 1 ≡ suc k = omega arith in
+      ap (λ n. take n (level_at (tree_of above.each) i)) next ∙ take_level (tree_of above.each) i k (occurrence_of o) e ∙ ap (λ p. take k (level_at (tree_of above.each) i) ++ p ∷ []) (shown_is o)
+
+  pub passed : (k : ℕ) (o : OccValue) → occurrence_at (tree_of above.each) i k ≡ Some (occurrence_of o) → LeadNowhere k → below steps (occurrence o) ≡ [] → LeadNowhere (k + 1)
+  passed k o e none empty = ap (flat_map (below steps)) (next_child k o e) ∙ no_first (below steps) (take k (level_at (tree_of above.each) i)) (occurrence o) none empty
+
+  pub found_first : (k : ℕ) (o first : OccValue) → IsLent above → i < length above.each → occurrence_at (tree_of above.each) i k ≡ Some (occurrence_of o) → LeadNowhere k → IsFirstOf (below steps (occurrence o)) (Some first) → IsFirstOf (flat_map (below steps) (children (occurrence above) i)) (Some first)
+  found_first k o first lent h e none is = (
+    is.0 ++ flat_map (below steps) (drop (k + 1) (level_at (tree_of above.each) i)),
+    ap (flat_map (below steps)) (level_children above i lent h ∙ sym (take-append-drop (k + 1) (level_at (tree_of above.each) i)) ∙ ap (λ l. l ++ drop (k + 1) (level_at (tree_of above.each) i)) (next_child k o e))
+        ∙ some_first (below steps) (take k (level_at (tree_of above.each) i)) (drop (k + 1) (level_at (tree_of above.each) i)) (occurrence o) (occurrence first) is.0 none is.1,
+  )
+
+  pub none_first : (k : ℕ) → IsLent above → i < length above.each → count_at (tree_of above.each) i ≤ k → LeadNowhere k → flat_map (below steps) (children (occurrence above) i) ≡ []
+  none_first k lent h le none =
+      ap (flat_map (below steps)) (level_children above i lent h ∙ sym (take_all k (level_at (tree_of above.each) i) (omega (arith, le, length_level (tree_of above.each) i)))) ∙ none
 
 -- ---- results
 

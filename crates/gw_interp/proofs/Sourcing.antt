@@ -12,7 +12,7 @@ use Rattle.gw_validate.specs.Conforming as conforming
 use Rattle.gw_interp.specs.Occurrences.{Occurrence, texts_of_first}
 use Rattle.gw_interp.specs.Meaning.{InFirst}
 use Rattle.gw_interp.specs.Lent as lent
-use Rattle.gw_interp.specs.Lent.{occurrence, AreOf}
+use Rattle.gw_interp.specs.Lent.{occurrence, IsFirstOf}
 use Rattle.gw_interp.proofs.Shaped.{text_there}
 use Rattle.gw_interp.specs.Sourced.{texts_of, IsFirstRep}
 
@@ -45,16 +45,9 @@ first_is m o more = by o.number
     by None = refl
     by (Some i) = numbered_texts m i
 
-pub no_first : (m : List SegmentValue) (found : List OccValue) (os : List Occurrence) → slice_get found 0 ≡ None → map occurrence found ≡ os → texts_of None ≡ texts_of_first m os
-no_first m [] os e same = ap (texts_of_first m) same
-no_first m (o ∷ found) os e same = absurd (cc)
-
-pub some_first : (m : List SegmentValue) (found : List OccValue) (o : OccValue) (os : List Occurrence) → slice_get found 0 ≡ Some o → map occurrence found ≡ os → AreOf m found → texts_of (segment_of o) ≡ texts_of_first m os
-some_first m [] o os e same a = absurd (cc)
-some_first m (x ∷ found) o os e same a =
-    let is : x ≡ o = cc in
-    ap (λ (p : OccValue). texts_of (segment_of p)) (sym is) ∙ ap (λ l. texts_of (numbered l x.number)) a.0
-    ∙ first_is m x (map occurrence found) ∙ ap (texts_of_first m) same
+-- the texts of the first occurrence, where it is one of the message's
+pub some_first : (m : List SegmentValue) (o : OccValue) (os : List Occurrence) → IsFirstOf os (Some o) → o.message ≡ m → texts_of (segment_of o) ≡ texts_of_first m os
+some_first m o os is of = ap (λ l. texts_of (numbered l o.number)) of ∙ first_is m o is.0 ∙ ap (texts_of_first m) (sym is.1)
 
 -- ---- the text of the first repetition
 

@@ -1,5 +1,5 @@
 -- Occurrences as the program lends them.
-use Rattle.std.specs.Prelude.{◌≡◌, ℕ, List, map, reverse, Option, Some, None}
+use Rattle.std.specs.Prelude.{◌≡◌, ℕ, List, [], ◌∷◌, map, reverse, Option, Some, None}
 use Rattle.std.specs.List.{AllByRecursion}
 use Rattle.gw_er7.specs.Message.{SegmentValue}
 use Rattle.gw_validate.specs.Trees.{Tree}
@@ -21,3 +21,8 @@ scope os = reverse (map occurrence os)
 -- lent by the tree of this message
 abbrev pub AreOf : List SegmentValue → List OccValue → Type 0
 AreOf m os = AllByRecursion (λ o. o.message ≡ m) os
+
+-- the first of the occurrences, if there is one
+abbrev pub IsFirstOf : List Occurrence → Option OccValue → Type 0
+IsFirstOf os None = os ≡ []
+IsFirstOf os (Some o) = (more : List Occurrence) × (os ≡ occurrence o ∷ more)

@@ -1,4 +1,4 @@
--- Texts that are put into the last segment at all places of a kind: of a component, of a repetition, of a field.
+-- Texts that are put into the last segment at all places of a kind: of a repetition, of a field.
 use Rattle.std.specs.Prelude.{◌≡◌, ℕ, ◌<◌, List, [], ◌∷◌, length, map, None, unwrap_or}
 use Rattle.std.specs.List.{AllByRecursion}
 use Rattle.std.specs.FinMap as texts
@@ -32,26 +32,13 @@ pub record AreMade (I : Type 0) (key : I → List ℕ) (Means : I → List ℕ �
 
 -- ---- copies
 
-abbrev pub sub_key : Spot → ℕ → ℕ → List ℕ
-sub_key to comp sub = to.field ∷ to.rep ∷ comp ∷ sub ∷ []
-
 abbrev pub comp_key : Spot → ℕ × ℕ → List ℕ
-comp_key to p = sub_key to p.0 p.1
-
-abbrev pub CompMeans : Texts → Spot → ℕ → ℕ → List ℕ → Type 0
-CompMeans m from comp sub text = text ≡ text_of m from.field from.rep comp sub
+comp_key to p = to.field ∷ to.rep ∷ p.0 ∷ p.1 ∷ []
 
 abbrev pub RepMeans : Texts → Spot → ℕ × ℕ → List ℕ → Type 0
-RepMeans m from p text = CompMeans m from p.0 p.1 text
+RepMeans m from p text = text ≡ text_of m from.field from.rep p.0 p.1
 
--- a component of one repetition in another
-abbrev pub MayCopyComp : Texts → Spot → Spot → ℕ → List SegmentValue → Type 0
-MayCopyComp m from to comp old = MayMake ℕ (sub_key to comp) (CompMeans m from comp) old
-
-abbrev pub IsCompCopied : Texts → Spot → Spot → ℕ → List SegmentValue → List SegmentValue → Type 0
-IsCompCopied m from to comp old new = AreMade ℕ (sub_key to comp) (CompMeans m from comp) old new
-
--- all components of a repetition
+-- a repetition in another
 abbrev pub MayCopyRep : Texts → Spot → Spot → List SegmentValue → Type 0
 MayCopyRep m from to old = MayMake (ℕ × ℕ) (comp_key to) (RepMeans m from) old
 

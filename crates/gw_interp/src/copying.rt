@@ -1,9 +1,8 @@
 //! Fields of the source, copied to fields of the last segment.
 ghost use Rattle.std.specs.Prelude.{◌≡◌, OnOk};
-ghost use Rattle.gw_interp.specs.Making.{MayCopyComp, IsCompCopied, MayCopyRep, IsRepCopied, Copies, MayMakeField, IsFieldMade};
+ghost use Rattle.gw_interp.specs.Making.{MayCopyRep, IsRepCopied, Copies, MayMakeField, IsFieldMade};
 
 use crate::putting::put_text;
-use crate::reading::next_rep;
 use gw_er7::{Builder, Place, Segment};
 use std::alloc::AllocError;
 
@@ -14,37 +13,7 @@ pub(crate) struct Spot {
     pub(crate) rep: usize,
 }
 
-// Copies the texts of a component.
-fn copy_comp(
-    builder: &mut Builder,
-    segment: &Segment<'_>,
-    from: Spot,
-    to: Spot,
-    comp: usize,
-) -> Result<(), AllocError>
-    requires { MayCopyComp segment.now.at from to comp builder.old }
-    ensures { OnOk result (IsCompCopied segment.now.at from to comp builder.old builder.new) }
-{
-    for before in 0..segment.subs(from.field, from.rep, comp) {
-        let sub = before + 1;
-        let text = segment.text(Place {
-            field: from.field,
-            rep: from.rep,
-            comp,
-            sub,
-        });
-        let place = Place {
-            field: to.field,
-            rep: to.rep,
-            comp,
-            sub,
-        };
-        put_text(builder, place, text)?;
-    }
-    Ok(())
-}
-
-/// Copies the texts of a repetition.
+/// Copies the texts of a repetition. It takes time by their number.
 pub(crate) fn copy_rep(
     builder: &mut Builder,
     segment: &Segment<'_>,
@@ -54,13 +23,20 @@ pub(crate) fn copy_rep(
     requires { MayCopyRep segment.now.at from to builder.old }
     ensures { OnOk result (IsRepCopied segment.now.at from to builder.old builder.new) }
 {
-    for before in 0..segment.comps(from.field, from.rep) {
-        copy_comp(builder, segment, from, to, before + 1)?;
+    let (first, behind) = segment.rep_values(from.field, from.rep);
+    for i in first..behind {
+        let value = segment.value(i);
+        let place = Place {
+            field: to.field,
+            rep: to.rep,
+            ..value.place
+        };
+        put_text(builder, place, value.text)?;
     }
     Ok(())
 }
 
-/// Copies the texts of a field, each repetition to that of its number.
+/// Copies the texts of a field, each repetition to that of its number. It takes time by their number.
 pub(crate) fn copy_reps(
     builder: &mut Builder,
     segment: &Segment<'_>,
@@ -70,16 +46,14 @@ pub(crate) fn copy_reps(
     requires { MayMakeField field (Copies segment.now.at from) builder.old }
     ensures { OnOk result (IsFieldMade field (Copies segment.now.at from) builder.old builder.new) }
 {
-    let last = segment.reps(from);
-    let mut rep = 0;
-    while rep < last {
-        rep = next_rep(segment, from, rep, last);
-        copy_rep(
-            builder,
-            segment,
-            Spot { field: from, rep },
-            Spot { field, rep },
-        )?;
+    let (first, behind) = segment.field_values(from);
+    for i in first..behind {
+        let value = segment.value(i);
+        let place = Place {
+            field,
+            ..value.place
+        };
+        put_text(builder, place, value.text)?;
     }
     Ok(())
 }

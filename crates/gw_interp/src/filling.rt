@@ -13,11 +13,10 @@ use crate::reading::Reading;
 use gw_check::At;
 use gw_er7::{Builder, Place};
 use gw_maplang::Map;
-use std::alloc::{AllocError, Global};
+use std::alloc::AllocError;
 
 // Puts the text of a leaf at its place.
 fn put_leaf<'a>(
-    alloc: Global,
     rows: &'a Map,
     reading: &Reading<'_, 'a>,
     builder: &mut Builder,
@@ -31,7 +30,7 @@ fn put_leaf<'a>(
     requires holds { MayHold (read_by reading.now) field rep (last_name builder.old) (at_leaf rows.now.tables leaf.now) }
     ensures { OnOk result (IsHeld (read_by reading.now) field rep (at_leaf rows.now.tables leaf.now) builder.old builder.new) }
 {
-    match leaf_text(alloc, rows, reading, &leaf.leaf)? {
+    match leaf_text(rows, reading, &leaf.leaf) {
         None => Ok(()),
         Some(text) => {
             let place = Place {
@@ -47,7 +46,6 @@ fn put_leaf<'a>(
 
 // Puts the texts of leaves at a repetition of a field of the last segment.
 fn put_leaves<'a>(
-    alloc: Global,
     rows: &'a Map,
     reading: &Reading<'_, 'a>,
     builder: &mut Builder,
@@ -60,14 +58,13 @@ fn put_leaves<'a>(
     ensures { OnOk result (AreFilled (read_by reading.now) field rep (map (at_leaf rows.now.tables) leaves.now) builder.old builder.new) }
 {
     for leaf in leaves {
-        put_leaf(alloc, rows, reading, builder, leaf, field, rep)?;
+        put_leaf(rows, reading, builder, leaf, field, rep)?;
     }
     Ok(())
 }
 
 /// Puts the texts of leaves at all places of a repetition, where none is.
 pub(crate) fn fill_rep<'a>(
-    alloc: Global,
     rows: &'a Map,
     reading: &Reading<'_, 'a>,
     builder: &mut Builder,
@@ -79,5 +76,5 @@ pub(crate) fn fill_rep<'a>(
     requires fill { MayFillRep (read_by reading.now) field rep (map (at_leaf rows.now.tables) leaves.now) builder.old }
     ensures { OnOk result (IsRepFilled (read_by reading.now) field rep (map (at_leaf rows.now.tables) leaves.now) builder.old builder.new) }
 {
-    put_leaves(alloc, rows, reading, builder, leaves, field, rep)
+    put_leaves(rows, reading, builder, leaves, field, rep)
 }

@@ -79,7 +79,6 @@ fn nodes_within(nodes: &[Node], number: usize) -> &[Node]
 
 // A segment for the target's node of an item.
 fn put_one<'a>(
-    alloc: Global,
     rows: &'a Map,
     scope: &[Occ<'a>],
     builder: &mut Builder,
@@ -96,7 +95,7 @@ fn put_one<'a>(
     let Some(name) = name_at(nodes, item.child) else {
         return Ok(());
     };
-    put_segment(alloc, rows, scope, builder, name, &item.rules)
+    put_segment(rows, scope, builder, name, &item.rules)
 }
 
 // A segment for each of the occurrences.
@@ -119,7 +118,7 @@ fn put_ones<'a>(
 {
     for each in found {
         let inner = within(alloc, scope, each)?;
-        put_one(alloc, rows, &inner, builder, nodes, item)?;
+        put_one(rows, &inner, builder, nodes, item)?;
     }
     Ok(())
 }
@@ -141,7 +140,7 @@ fn put_segments<'a>(
     ensures lawful { OnOk result (IsBegun builder.new) }
 {
     match &item.place {
-        None => put_one(alloc, rows, scope, builder, nodes, item),
+        None => put_one(rows, scope, builder, nodes, item),
         Some(place) => {
             let found = at_place(alloc, scope, place)?;
             put_ones(alloc, rows, scope, builder, nodes, item, &found)

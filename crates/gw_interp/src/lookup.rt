@@ -1,5 +1,5 @@
 //! The texts of leaves.
-ghost use Rattle.std.specs.Prelude.{◌≡◌, List, unwrap_or, IfOk};
+ghost use Rattle.std.specs.Prelude.{◌≡◌, List, unwrap_or};
 ghost use Rattle.gw_er7.specs.Message.{SegmentValue};
 ghost use Rattle.gw_maplang.specs.Shapes.{table_of};
 ghost use Rattle.gw_maplang.specs.Seen.{now};
@@ -14,7 +14,6 @@ ghost use Rattle.gw_interp.specs.Sourced.{walks, LeafGives};
 use crate::reading::{Reading, source_text};
 use gw_check::Leaf;
 use gw_maplang::{Map, Table};
-use std::alloc::{AllocError, Global};
 
 fn is_null(text: &[u8]) -> bool
     ensures { result ≡ is_null text.now }
@@ -45,21 +44,17 @@ fn look_up<'a>(map: &'a Map, name: &[u8], text: &'a [u8]) -> Option<&'a [u8]>
     }
 }
 
-/// The text of a leaf, empty where it is absent; none where the rows of its table give nothing for what is read.
+/// The text of a leaf, empty where it is absent; none where the rows of its table give nothing for what is read. It takes no memory.
 pub(crate) fn leaf_text<'a>(
-    alloc: Global,
     map: &'a Map,
     reading: &Reading<'_, 'a>,
     leaf: &'a Leaf,
-) -> Result<Option<&'a [u8]>, AllocError>
-    ensures { IfOk result (λ text. (m : List SegmentValue) → AreOf m reading.now.scope.now → LeafGives (walks m reading.now) (seen_leaf map.now.tables leaf.now) (now text)) }
+) -> Option<&'a [u8]>
+    ensures { (m : List SegmentValue) → AreOf m reading.now.scope.now → LeafGives (walks m reading.now) (seen_leaf map.now.tables leaf.now) (now result) }
 {
     match leaf {
-        Leaf::Const(text) => Ok(Some(text.as_slice())),
-        Leaf::Copied(source) => Ok(Some(source_text(alloc, reading, source)?)),
-        Leaf::LookedUp(name, source) => {
-            let from = source_text(alloc, reading, source)?;
-            Ok(look_up(map, name, from))
-        }
+        Leaf::Const(text) => Some(text.as_slice()),
+        Leaf::Copied(source) => Some(source_text(reading, source)),
+        Leaf::LookedUp(name, source) => look_up(map, name, source_text(reading, source)),
     }
 }

@@ -1,5 +1,5 @@
 //! Fields of the last segment, made by their rules.
-ghost use Rattle.std.specs.Prelude.{◌≡◌, ℕ, OnOk, IfOk, map};
+ghost use Rattle.std.specs.Prelude.{◌≡◌, ℕ, OnOk, map};
 ghost use Rattle.gw_check.specs.Resolved.{copy, first, repeat, build};
 ghost use Rattle.gw_check.specs.Seen.{reference, at_leaf, rule as seen_rule};
 ghost use Rattle.gw_interp.specs.Lent.{AreOf};
@@ -15,31 +15,25 @@ use gw_check::{At, Making, Reference, Rule};
 use gw_er7::Builder;
 use gw_maplang::Map;
 use gw_validate::Occ;
-use std::alloc::{AllocError, Global};
+use std::alloc::AllocError;
 
 // The repetition of this number of a field, where its segment is there.
-fn repetition_at<'a>(
-    alloc: Global,
-    scope: &[Occ<'a>],
-    from: &Reference,
-    rep: usize,
-) -> Result<Option<Repetition<'a>>, AllocError>
+fn repetition_at<'a>(scope: &[Occ<'a>], from: &Reference, rep: usize) -> Option<Repetition<'a>>
     requires of { AreOf (message_of scope.now) scope.now }
-    ensures { IfOk result (λ current. (comp sub : ℕ) → current_texts current comp sub ≡ (walking_in (seen_from scope.now) (reference from.now) rep).current comp sub) }
+    ensures { (comp sub : ℕ) → current_texts result comp sub ≡ (walking_in (seen_from scope.now) (reference from.now) rep).current comp sub }
 {
-    match segment_at(alloc, scope, &from.place)? {
-        None => Ok(None),
-        Some(segment) => Ok(Some(Repetition {
+    match segment_at(scope, &from.place) {
+        None => None,
+        Some(segment) => Some(Repetition {
             segment,
             field: from.field as usize,
             rep,
-        })),
+        }),
     }
 }
 
 // Makes a field as another.
 fn make_copy(
-    alloc: Global,
     scope: &[Occ<'_>],
     builder: &mut Builder,
     from: &Reference,
@@ -49,7 +43,7 @@ fn make_copy(
     requires may { MayMakeBy (seen_from scope.now) (copy (reference from.now)) field builder.old }
     ensures { OnOk result (IsMadeBy (seen_from scope.now) (copy (reference from.now)) field builder.old builder.new) }
 {
-    let Some(segment) = segment_at(alloc, scope, &from.place)? else {
+    let Some(segment) = segment_at(scope, &from.place) else {
         return Ok(());
     };
     copy_reps(builder, &segment, from.field as usize, field)
@@ -57,7 +51,6 @@ fn make_copy(
 
 // Makes a field as the first repetition of another.
 fn make_first(
-    alloc: Global,
     scope: &[Occ<'_>],
     builder: &mut Builder,
     from: &Reference,
@@ -67,7 +60,7 @@ fn make_first(
     requires may { MayMakeBy (seen_from scope.now) (first (reference from.now)) field builder.old }
     ensures { OnOk result (IsMadeBy (seen_from scope.now) (first (reference from.now)) field builder.old builder.new) }
 {
-    let Some(segment) = segment_at(alloc, scope, &from.place)? else {
+    let Some(segment) = segment_at(scope, &from.place) else {
         return Ok(());
     };
     let source = from.field as usize;
@@ -80,7 +73,6 @@ fn make_first(
 
 // Makes one repetition of leaves.
 fn make_build<'a>(
-    alloc: Global,
     rows: &'a Map,
     scope: &[Occ<'a>],
     builder: &mut Builder,
@@ -95,12 +87,11 @@ fn make_build<'a>(
         scope,
         current: None,
     };
-    fill_rep(alloc, rows, &reading, builder, leaves, field, 1)
+    fill_rep(rows, &reading, builder, leaves, field, 1)
 }
 
 // Makes a repetition of leaves for that of the same number of another field.
 fn make_rep<'a>(
-    alloc: Global,
     rows: &'a Map,
     scope: &[Occ<'a>],
     builder: &mut Builder,
@@ -113,14 +104,13 @@ fn make_rep<'a>(
     requires fill { MayFillRep (walking_in (seen_from scope.now) (reference from.now) rep) field rep (map (at_leaf rows.now.tables) leaves.now) builder.old }
     ensures { OnOk result (IsRepFilled (walking_in (seen_from scope.now) (reference from.now) rep) field rep (map (at_leaf rows.now.tables) leaves.now) builder.old builder.new) }
 {
-    let current = repetition_at(alloc, scope, from, rep)?;
+    let current = repetition_at(scope, from, rep);
     let reading = Reading { scope, current };
-    fill_rep(alloc, rows, &reading, builder, leaves, field, rep)
+    fill_rep(rows, &reading, builder, leaves, field, rep)
 }
 
 // Makes a repetition of leaves for each repetition of another field that is there.
 fn make_repeat<'a>(
-    alloc: Global,
     rows: &'a Map,
     scope: &[Occ<'a>],
     builder: &mut Builder,
@@ -132,7 +122,7 @@ fn make_repeat<'a>(
     requires may { MayMakeBy (seen_from scope.now) (repeat (reference from.now) (map (at_leaf rows.now.tables) leaves.now)) field builder.old }
     ensures { OnOk result (IsMadeBy (seen_from scope.now) (repeat (reference from.now) (map (at_leaf rows.now.tables) leaves.now)) field builder.old builder.new) }
 {
-    let Some(segment) = segment_at(alloc, scope, &from.place)? else {
+    let Some(segment) = segment_at(scope, &from.place) else {
         return Ok(());
     };
     let source = from.field as usize;
@@ -140,14 +130,13 @@ fn make_repeat<'a>(
     let mut rep = 0;
     while rep < last {
         rep = next_rep(&segment, source, rep, last);
-        make_rep(alloc, rows, scope, builder, from, leaves, field, rep)?;
+        make_rep(rows, scope, builder, from, leaves, field, rep)?;
     }
     Ok(())
 }
 
 /// Makes the field of a rule.
 pub(crate) fn make_rule<'a>(
-    alloc: Global,
     rows: &'a Map,
     scope: &[Occ<'a>],
     builder: &mut Builder,
@@ -159,11 +148,9 @@ pub(crate) fn make_rule<'a>(
 {
     let field = rule.field as usize;
     match &rule.making {
-        Making::Copy(from) => make_copy(alloc, scope, builder, from, field),
-        Making::First(from) => make_first(alloc, scope, builder, from, field),
-        Making::Repeat(from, leaves) => {
-            make_repeat(alloc, rows, scope, builder, from, leaves, field)
-        }
-        Making::Build(leaves) => make_build(alloc, rows, scope, builder, leaves, field),
+        Making::Copy(from) => make_copy(scope, builder, from, field),
+        Making::First(from) => make_first(scope, builder, from, field),
+        Making::Repeat(from, leaves) => { make_repeat(rows, scope, builder, from, leaves, field) }
+        Making::Build(leaves) => make_build(rows, scope, builder, leaves, field),
     }
 }

@@ -1,9 +1,9 @@
 //! The occurrences at the places of a map.
-ghost use Rattle.std.specs.Prelude.{◌≡◌, ◌++◌, List, IfOk, OnOk, map, flat_map};
+ghost use Rattle.std.specs.Prelude.{◌≡◌, ◌++◌, List, IfOk, OnOk, IfSome, map, flat_map};
 ghost use Rattle.gw_er7.specs.Message.{SegmentValue};
 ghost use Rattle.gw_check.specs.Seen.{place as seen_place};
 ghost use Rattle.gw_interp.specs.Occurrences as spec;
-ghost use Rattle.gw_interp.specs.Lent.{occurrence, scope as walked, AreOf};
+ghost use Rattle.gw_interp.specs.Lent.{occurrence, scope as walked, AreOf, IsFirstOf};
 
 use gw_check::Place;
 use gw_validate::Occ;
@@ -69,4 +69,45 @@ pub(crate) fn at_place<'a>(
         return Ok(Vec::new(alloc));
     }
     below(alloc, &scope[scope.len() - 1 - place.out], &place.steps)
+}
+
+// The first of the occurrences where these steps lead from the children of this number.
+#[cycle(first)]
+fn first_of_children<'a>(above: &Occ<'a>, child: usize, steps: &[usize]) -> Option<Occ<'a>>
+    ensures first { IsFirstOf (flat_map (spec.below steps.now) (spec.children (occurrence above.now) child)) result }
+    ensures message { IfSome result (λ o. o.message ≡ above.now.message) }
+{
+    if child >= above.children() {
+        return None;
+    }
+    for k in 0..above.count(child) {
+        let each = above.child(child, k);
+        if let Some(first) = first_below(&each, steps) {
+            return Some(first);
+        }
+    }
+    None
+}
+
+// The first of the occurrences where the steps lead from this one.
+#[cycle(first)]
+fn first_below<'a>(from: &Occ<'a>, steps: &[usize]) -> Option<Occ<'a>>
+    ensures first { IsFirstOf (spec.below steps.now (occurrence from.now)) result }
+    ensures message { IfSome result (λ o. o.message ≡ from.now.message) }
+{
+    match steps {
+        [] => Some(from.again()),
+        [child, later @ ..] => first_of_children(from, *child, later),
+    }
+}
+
+/// The first of the occurrences at a place. It takes no memory.
+pub(crate) fn first_at_place<'a>(scope: &[Occ<'a>], place: &Place) -> Option<Occ<'a>>
+    ensures first { IsFirstOf (spec.at_place (walked scope.now) (seen_place place.now)) result }
+    ensures message { (m : List SegmentValue) → AreOf m scope.now → IfSome result (λ o. o.message ≡ m) }
+{
+    if place.out >= scope.len() {
+        return None;
+    }
+    first_below(&scope[scope.len() - 1 - place.out], &place.steps)
 }

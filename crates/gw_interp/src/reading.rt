@@ -1,5 +1,5 @@
 //! The texts at the sources of a map.
-ghost use Rattle.std.specs.Prelude.{◌≡◌, ℕ, ◌<◌, ◌≤◌, List, IfOk};
+ghost use Rattle.std.specs.Prelude.{◌≡◌, ℕ, ◌<◌, ◌≤◌, List};
 ghost use Rattle.gw_er7.specs.Message.{SegmentValue, text_of};
 ghost use Rattle.gw_er7.specs.Presence.{RepAt, IsLast};
 ghost use Rattle.gw_check.specs.Seen.{place as seen_place, source as seen_source};
@@ -8,12 +8,11 @@ ghost use Rattle.gw_interp.specs.Lent.{scope as walked, AreOf};
 ghost use Rattle.gw_interp.specs.Meaning.{InFirst, SourceMeans};
 ghost use Rattle.gw_interp.specs.Sourced.{texts_of, IsFirstRep, current_texts, walks};
 
-use crate::places::at_place;
+use crate::places::first_at_place;
 use gw_check::{Place, Source};
 use gw_er7::Segment;
 use gw_maplang::LeafPlace;
 use gw_validate::Occ;
-use std::alloc::{AllocError, Global};
 
 /// A repetition of a field.
 #[derive(Drop)]
@@ -30,18 +29,13 @@ pub(crate) struct Reading<'s, 'a> {
     pub(crate) current: Option<Repetition<'a>>,
 }
 
-/// The segment at a place, where one is there.
-pub(crate) fn segment_at<'a>(
-    alloc: Global,
-    scope: &[Occ<'a>],
-    place: &Place,
-) -> Result<Option<Segment<'a>>, AllocError>
-    ensures { IfOk result (λ found. (m : List SegmentValue) → AreOf m scope.now → texts_of found ≡ texts_at m (walked scope.now) (seen_place place.now)) }
+/// The segment at a place, where one is there. It takes no memory.
+pub(crate) fn segment_at<'a>(scope: &[Occ<'a>], place: &Place) -> Option<Segment<'a>>
+    ensures { (m : List SegmentValue) → AreOf m scope.now → texts_of result ≡ texts_at m (walked scope.now) (seen_place place.now) }
 {
-    let found = at_place(alloc, scope, place)?;
-    match found.first() {
-        None => Ok(None),
-        Some(first) => Ok(first.segment()),
+    match first_at_place(scope, place) {
+        None => None,
+        Some(first) => first.segment(),
     }
 }
 
@@ -111,19 +105,15 @@ fn current_text<'a>(current: &Option<Repetition<'a>>, at: LeafPlace) -> &'a [u8]
     }
 }
 
-/// The text of a source, empty where it is absent.
-pub(crate) fn source_text<'a>(
-    alloc: Global,
-    reading: &Reading<'_, 'a>,
-    source: &Source,
-) -> Result<&'a [u8], AllocError>
-    ensures { IfOk result (λ text. (m : List SegmentValue) → AreOf m reading.now.scope.now → SourceMeans (walks m reading.now) (seen_source source.now) text.now) }
+/// The text of a source, empty where it is absent. It takes no memory.
+pub(crate) fn source_text<'a>(reading: &Reading<'_, 'a>, source: &Source) -> &'a [u8]
+    ensures { (m : List SegmentValue) → AreOf m reading.now.scope.now → SourceMeans (walks m reading.now) (seen_source source.now) result.now }
 {
     match source {
         Source::OfField(from, at) => {
-            let segment = segment_at(alloc, reading.scope, &from.place)?;
-            Ok(first_text(&segment, from.field, *at))
+            let segment = segment_at(reading.scope, &from.place);
+            first_text(&segment, from.field, *at)
         }
-        Source::OfCurrent(at) => Ok(current_text(&reading.current, *at)),
+        Source::OfCurrent(at) => current_text(&reading.current, *at),
     }
 }

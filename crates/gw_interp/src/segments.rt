@@ -13,11 +13,10 @@ use gw_check::Rule;
 use gw_er7::Builder;
 use gw_maplang::Map;
 use gw_validate::Occ;
-use std::alloc::{AllocError, Global};
+use std::alloc::AllocError;
 
 // Makes the fields of rules, one after the other.
 fn make_rules<'a>(
-    alloc: Global,
     rows: &'a Map,
     scope: &[Occ<'a>],
     builder: &mut Builder,
@@ -28,14 +27,13 @@ fn make_rules<'a>(
     ensures { OnOk result (AreRulesMade (seen_from scope.now) (map (seen_rule rows.now.tables) rules.now) builder.old builder.new) }
 {
     for rule in rules {
-        make_rule(alloc, rows, scope, builder, rule)?;
+        make_rule(rows, scope, builder, rule)?;
     }
     Ok(())
 }
 
 /// Puts a segment of this name behind the others, made by rules.
 pub(crate) fn put_segment<'a>(
-    alloc: Global,
     rows: &'a Map,
     scope: &[Occ<'a>],
     builder: &mut Builder,
@@ -50,5 +48,5 @@ pub(crate) fn put_segment<'a>(
     ensures lawful { OnOk result (IsBegun builder.new) }
 {
     builder.begin(name)?;
-    make_rules(alloc, rows, scope, builder, rules)
+    make_rules(rows, scope, builder, rules)
 }

@@ -1,11 +1,13 @@
 //! Worked maps, and what they make of messages.
+ghost use Rattle.std.specs.Prelude.{◌≡◌};
+
 use crate::worked::{FLAT, M2, M3, ORU, P2, T1, profile};
 use gw_check::{CheckedMap, check};
-use gw_er7::{Message, read, write};
+use gw_er7::{Builder, Message, Place, read, write};
 use gw_interp::translate;
 use gw_profile::Profile;
 use gw_validate::{Tree, Verdict, validate};
-use std::alloc::Global;
+use std::alloc::{AllocError, Global};
 use std::sync::Arc;
 use std::test::Fail;
 
@@ -175,5 +177,54 @@ fn rules(rt: HostRuntime) -> Result<(), Fail> {
     for (content, expected) in &STAYED {
         assert_eq!(rt; made(alloc, &map, content)?.as_slice(), *expected);
     }
+    Ok(())
+}
+
+// A place of a field that no one counts up to.
+fn far_away(field: usize) -> Place
+    ensures { result ≡ record { field = field; rep = 1; comp = 1000000000000; sub = 1000000000000 } }
+{
+    Place {
+        field,
+        rep: 1,
+        comp: 1_000_000_000_000,
+        sub: 1_000_000_000_000,
+    }
+}
+
+// A message with one value, far away in PID-3, beside the one that MSH must have.
+fn far(alloc: Global) -> Result<Message, AllocError> {
+    let mut builder = Builder::new(alloc);
+    builder.begin(*b"MSH")?;
+    let sender = Place {
+        field: 10,
+        rep: 1,
+        comp: 1,
+        sub: 1,
+    };
+    builder.put(sender, b"7")?;
+    builder.begin(*b"PID")?;
+    builder.put(far_away(3), b"A")?;
+    Ok(builder.finish())
+}
+
+// Only the values that are there are copied, however far the last one is.
+#[test]
+fn values_far_away(rt: HostRuntime) -> Result<(), Fail> {
+    let alloc = rt.alloc();
+    let map = checked(alloc, VISITS, STAYS, TO_STAYS)?;
+    let source = map.source().clone()?;
+    let tree = fitting(alloc, source, far(alloc)?)?;
+    if !map.takes(&tree) {
+        return Err("another profile".into());
+    }
+    let made = translate(alloc, &map, &tree)?;
+    if made.segment_count() != 3 {
+        return Err("other segments".into());
+    }
+    let patient = made.segment(1);
+    assert_eq!(rt; patient.text(far_away(2)), b"A".as_slice());
+    assert_eq!(rt; patient.text(far_away(3)), b"A".as_slice());
+    assert_eq!(rt; patient.value_count(), 2);
     Ok(())
 }

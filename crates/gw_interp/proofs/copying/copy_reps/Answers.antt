@@ -1,25 +1,28 @@
-use Rattle.std.proofs.Common.{arith}
-use Rattle.gw_interp.specs.Making.{Copies}
-use Rattle.gw_interp.proofs.Copies.{no_copy, no_reps, may_rep, next_reps, all_reps}
+use Rattle.std.proofs.Common.{ℕ, arith}
+use Rattle.gw_interp.specs.Making.{field_key}
+use Rattle.gw_interp.proofs.Copies.{none_copied, may_text, next_text, all_copied, in_field, of_field, apart_field}
 use Rattle.gw_interp.proofs.copying.copy_reps.Goals as goal
 
-pub loop-rep-init : goal.loop-rep-init
-loop-rep-init c = no_reps c.args.segment.now.at c.args.from c.args.field (Copies c.args.segment.now.at c.args.from) (no_copy c.args.segment.now.at c.args.from) c.reps-last.result c.reps-last.ensures c.args.builder.now c.requires
+pub loop-i-init : goal.loop-i-init
+loop-i-init c = none_copied (ℕ × (ℕ × ℕ)) (field_key c.args.from) (field_key c.args.field) c.args.segment.now.at c.field_values-first.result.0 c.args.builder.now c.requires
 
-pub copy_rep-requires : goal.copy_rep-requires
-copy_rep-requires c =
-    may_rep c.args.segment.now.at c.args.from c.args.field (Copies c.args.segment.now.at c.args.from) (no_copy c.args.segment.now.at c.args.from) c.reps-last.result c.reps-last.ensures c.args.builder.now c.requires
-    c.loop-rep.rep c.next_rep-rep.result c.loop-rep.builder c.next_rep-rep.ensures.after c.loop-rep.invariant
+pub put_text-requires : goal.put_text-requires
+put_text-requires c =
+    let m = c.args.segment.now.at in
+    let place = c.value-value.result.place in
+    let here = of_field m c.args.from c.field_values-first.result.0 c.field_values-first.result.1 c.field_values-first.ensures.first c.field_values-first.ensures.behind c.loop-i.i place.field place.rep place.comp place.sub c.value-value.result.text.now c.loop-i.invariant.from c.loop-i-test.true c.value-value.ensures in
+    may_text (ℕ × (ℕ × ℕ)) (field_key c.args.from) (field_key c.args.field) m c.field_values-first.result.0 c.args.builder.now c.loop-i.i c.loop-i.builder (place.rep, (place.comp, place.sub)) c.value-value.result.text.now c.requires c.loop-i.invariant here
 
-pub loop-rep-preserved : goal.loop-rep-preserved
-loop-rep-preserved c =
-    next_reps c.args.segment.now.at c.args.from c.args.field (Copies c.args.segment.now.at c.args.from) (no_copy c.args.segment.now.at c.args.from) c.reps-last.result c.reps-last.ensures c.args.builder.now c.requires
-    c.loop-rep.rep c.next_rep-rep.result c.loop-rep.builder c.copy_rep.new.builder c.next_rep-rep.ensures.after c.next_rep-rep.ensures.first c.loop-rep.invariant c.in_ok-copy_rep.ensures
+pub loop-i-preserved : goal.loop-i-preserved
+loop-i-preserved c =
+    let m = c.args.segment.now.at in
+    let place = c.value-value.result.place in
+    let here = of_field m c.args.from c.field_values-first.result.0 c.field_values-first.result.1 c.field_values-first.ensures.first c.field_values-first.ensures.behind c.loop-i.i place.field place.rep place.comp place.sub c.value-value.result.text.now c.loop-i.invariant.from c.loop-i-test.true c.value-value.ensures in
+    next_text (ℕ × (ℕ × ℕ)) (field_key c.args.from) (field_key c.args.field) m c.field_values-first.result.0 c.args.builder.now (apart_field c.args.from) (apart_field c.args.field) c.loop-i.i c.loop-i.builder c.put_text.new.builder (place.rep, (place.comp, place.sub)) c.value-value.result.text.now here c.loop-i.invariant c.in_ok-put_text.ensures.ok
 
 pub returns : goal.returns
 returns c =
-    all_reps c.args.segment.now.at c.args.from c.args.field (Copies c.args.segment.now.at c.args.from) (no_copy c.args.segment.now.at c.args.from) c.reps-last.result c.reps-last.ensures c.args.builder.now c.requires
-    c.loop-rep.rep c.loop-rep.builder c.loop-rep-test.false c.loop-rep.invariant
-
-pub loop-rep-smaller : goal.loop-rep-smaller
-loop-rep-smaller c = omega (arith, c.loop-rep-test.true, c.next_rep-rep.ensures.after)
+    let m = c.args.segment.now.at in
+    all_copied (ℕ × (ℕ × ℕ)) (field_key c.args.from) (field_key c.args.field) m c.field_values-first.result.0 c.args.builder.now c.loop-i.i c.loop-i.builder
+    (λ p j t g. let in_it = in_field m c.args.from c.field_values-first.result.0 c.field_values-first.result.1 c.field_values-first.ensures.first c.field_values-first.ensures.behind p j t g in (in_it.0, omega (arith, in_it.1, c.loop-i-test.false)))
+    c.loop-i.invariant

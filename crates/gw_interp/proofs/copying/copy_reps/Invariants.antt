@@ -1,10 +1,7 @@
-use Rattle.std.proofs.Common.{◌-◌}
-use Rattle.gw_interp.specs.Making.{Copies}
-use Rattle.gw_interp.proofs.Copies.{RepsUpTo}
+use Rattle.std.proofs.Common.{ℕ}
+use Rattle.gw_interp.specs.Making.{field_key}
+use Rattle.gw_interp.proofs.Copies.{CopiedUpTo}
 use Rattle.gw_interp.proofs.copying.copy_reps.Given as goal
 
-abbrev pub decreases-loop-rep : goal.decreases-loop-rep
-decreases-loop-rep l = l.last - l.rep
-
-abbrev pub invariant-loop-rep : goal.invariant-loop-rep
-invariant-loop-rep l = RepsUpTo l.field (Copies l.segment.at l.from) l.initial.builder l.rep l.builder
+abbrev pub invariant-loop-i : goal.invariant-loop-i
+invariant-loop-i l = CopiedUpTo (ℕ × (ℕ × ℕ)) (field_key l.from) (field_key l.field) l.segment.at l.first l.initial.builder l.i l.builder

@@ -9,9 +9,9 @@ use Rattle.gw_interp.proofs.making.repetition_at.Goals as goal
 pub returns-in-None : goal.returns-in-None
 returns-in-None c =
     walks_nothing (seen_from c.args.scope.now) (reference c.args.from.now) c.args.rep
-    (ap texts_of (sym c.in-None.is) ∙ c.in_ok-segment_at.ensures (message_of c.args.scope.now) c.requires.of)
+    (ap texts_of (sym c.in-None.is) ∙ c.segment_at.ensures (message_of c.args.scope.now) c.requires.of)
 
 pub returns-in-Some : goal.returns-in-Some
 returns-in-Some c =
     walks_in (seen_from c.args.scope.now) (reference c.args.from.now) c.args.rep c.in-Some.segment.at
-    (ap texts_of (sym c.in-Some.is) ∙ c.in_ok-segment_at.ensures (message_of c.args.scope.now) c.requires.of)
+    (ap texts_of (sym c.in-Some.is) ∙ c.segment_at.ensures (message_of c.args.scope.now) c.requires.of)
