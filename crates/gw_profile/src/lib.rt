@@ -6,6 +6,8 @@ mod context;
 mod fault;
 mod form;
 pub mod laws;
+mod level;
+mod names;
 mod node;
 mod profile;
 mod reader;
@@ -17,6 +19,7 @@ mod text;
 mod whole;
 
 pub use fault::ProfileFault;
+pub use level::Level;
 pub use node::{GroupNode, Node, SegNode};
 pub use profile::Profile;
 pub use reader::Reader;
