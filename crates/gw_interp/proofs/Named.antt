@@ -7,7 +7,8 @@ use Rattle.gw_profile.specs.Shapes.{FieldValue, Forest, nothing, segment, group}
 use Rattle.gw_profile.specs.WellFormed.{EachSegment}
 use Rattle.gw_profile.proofs.Facts.{or_left, or_right}
 use Rattle.gw_validate.specs.Cuts.{Cut, Many}
-use Rattle.gw_validate.specs.Conforming.{One, Seq, stands}
+use Rattle.gw_profile.specs.Names.{stands}
+use Rattle.gw_validate.specs.Conforming.{One, Seq}
 use Rattle.gw_validate.proofs.Names.{equal_names}
 use Rattle.gw_interp.proofs.Paths.{all_append}
 

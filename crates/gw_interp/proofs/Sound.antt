@@ -6,7 +6,8 @@ use Rattle.gw_er7.specs.Message.{SegmentValue}
 use Rattle.gw_profile.specs.Shapes.{FieldValue, Forest, ProfileValue}
 use Rattle.gw_profile.specs.WellFormed.{table_names}
 use Rattle.gw_validate.specs.Breaches.{Meets}
-use Rattle.gw_validate.specs.Conforming.{Seq, stands, listed, Conforms}
+use Rattle.gw_profile.specs.Names.{stands}
+use Rattle.gw_validate.specs.Conforming.{Seq, listed, Conforms}
 use Rattle.gw_validate.specs.Trees.{Tree}
 use Rattle.gw_validate.specs.Broken.{IsTreeOf}
 use Rattle.gw_check.specs.Resolved.{Resolved}

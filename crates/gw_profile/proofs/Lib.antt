@@ -16,6 +16,8 @@ pub mod RoundTrip
 pub mod Quotes
 pub mod Meanings
 pub mod Rows
+pub mod Gathered
+pub mod Inner
 pub mod Kept
 pub mod Ruled
 pub mod Sames

@@ -9,6 +9,10 @@ pub mod Deterministic
 pub mod WellFormed
 pub mod Seen
 pub mod Nodes
+pub mod Names
+pub mod Labels
+pub mod Heights
+pub mod Kept
 pub mod Same
 pub mod Value
 pub mod Building

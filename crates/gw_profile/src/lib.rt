@@ -6,6 +6,8 @@ mod context;
 mod fault;
 mod form;
 pub mod laws;
+mod level;
+mod names;
 mod node;
 mod patterns;
 mod profile;
@@ -18,6 +20,7 @@ mod text;
 mod whole;
 
 pub use fault::ProfileFault;
+pub use level::Level;
 pub use node::{GroupNode, Node, SegNode};
 pub use patterns::expected;
 pub use profile::Profile;

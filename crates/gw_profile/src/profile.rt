@@ -1,29 +1,34 @@
 //! Profiles.
-ghost use Rattle.std.specs.Prelude.{◌≡◌, ◌↔◌, IsTrue, map};
+ghost use Rattle.std.specs.Prelude.{◌≡◌, ◌↔◌, IsTrue, IfOk, map};
 ghost use Rattle.std.specs.Option.{option_copied};
-ghost use Rattle.gw_profile.specs.Seen.{profile_value, table};
+ghost use Rattle.gw_profile.specs.Names.{stands};
+ghost use Rattle.gw_profile.specs.Seen.{profile_value, forest, table};
 ghost use Rattle.gw_profile.specs.Value.{table_of};
 ghost use Rattle.gw_profile.specs.WellFormed.{WellFormed};
 
+use crate::names::names_of;
 use crate::node::Node;
 use crate::same::{same_nodes, same_tables};
 use crate::table::Table;
 use indexmap::IndexMap;
+use std::alloc::{AllocError, Global};
+use std::collections::HashSet;
 use std::marker::Model;
 
-/// A message profile: its tables in order, and its tree of segments and groups. It is well formed by its type.
+/// A message profile: its tables in order, its tree of segments and groups, and the names of its segments. It is well formed by its type.
 #[derive(Drop)]
 pub struct Profile {
-    pub(crate) name: Vec<u8>,
-    pub(crate) tables: IndexMap<Vec<u8>, Table>,
-    pub(crate) nodes: Vec<Node>,
+    name: Vec<u8>,
+    tables: IndexMap<Vec<u8>, Table>,
+    nodes: Vec<Node>,
+    names: HashSet<[u8; 3]>,
 }
 
 impl Model for Profile {
     ghost use Rattle.std.specs.Coded.{codes};
     ghost use Rattle.std.specs.Prelude.{ℕ, List, map};
-    ghost use Rattle.gw_profile.specs.Seen.{Contents, table, forest};
-    ghost use Rattle.gw_profile.specs.WellFormed.{WellFormed};
+    ghost use Rattle.gw_profile.specs.Seen.{Contents, table};
+    ghost use Rattle.gw_profile.specs.Kept.{IsKept};
     ghost use Rattle.gw_profile.specs.declared.node.Node.{Node};
     ghost use Rattle.gw_profile.specs.contracts.node.Node as node;
 
@@ -33,10 +38,29 @@ impl Model for Profile {
 
     ghost view = { λ p. record { name = p.name.items; tables = map table p.tables.entries; nodes = p.nodes.items } };
 
-    ghost invariant = { λ p. WellFormed (record { name = p.name.items; tables = map table p.tables.entries; nodes = forest p.nodes.items }) };
+    ghost invariant = { λ p. IsKept (record { name = p.name.items; tables = map table p.tables.entries; nodes = p.nodes.items }) p.names };
 }
 
 impl Profile {
+    /// The profile of these parts, which are well formed.
+    pub(crate) fn of(
+        alloc: Global,
+        name: Vec<u8>,
+        tables: IndexMap<Vec<u8>, Table>,
+        nodes: Vec<Node>,
+    ) -> Result<Profile, AllocError>
+        requires { WellFormed (record { name = name.items; tables = map table tables.entries; nodes = forest nodes.items }) }
+        ensures { IfOk result (λ p. p ≡ record { name = name.items; tables = map table tables.entries; nodes = nodes.items }) }
+    {
+        let names = names_of(alloc, &nodes)?;
+        Ok(Profile {
+            name,
+            tables,
+            nodes,
+            names,
+        })
+    }
+
     /// The name. It takes no memory.
     pub fn name(&self) -> &[u8]
         ensures { result.now ≡ self.now.name }
@@ -50,6 +74,13 @@ impl Profile {
         ensures formed { WellFormed (profile_value self.now) }
     {
         self.nodes.as_slice()
+    }
+
+    /// Whether a segment of this name stands somewhere in the profile. It takes no memory, and looks the name up by its hash.
+    pub fn knows(&self, name: [u8; 3]) -> bool
+        ensures { result ≡ stands (forest self.now.nodes) name }
+    {
+        self.names.contains(&name)
     }
 
     /// The tables, by their names and in order. It takes no memory.

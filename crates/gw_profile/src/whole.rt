@@ -109,9 +109,6 @@ pub fn ruled(
     if let Some(shared) = ambiguous(alloc, &nodes, IndexSet::new(alloc), &mut Vec::new(alloc), 0)? {
         return Err(ProfileFault::Ambiguous(shared));
     }
-    Ok(Profile {
-        name,
-        tables,
-        nodes,
-    })
+    let profile = Profile::of(alloc, name, tables, nodes)?;
+    Ok(profile)
 }

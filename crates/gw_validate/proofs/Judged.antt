@@ -8,7 +8,8 @@ use Rattle.gw_profile.specs.Shapes.{Forest, FieldValue, ProfileValue}
 use Rattle.gw_profile.specs.Deterministic.{Name, Determined, NoName}
 use Rattle.gw_validate.specs.Breaches.{SegmentBreach, Meets, NotAfter}
 use Rattle.gw_validate.specs.Cuts.{Fits, Begins, IsShortest}
-use Rattle.gw_validate.specs.Conforming.{stands, listed, names, NamesFit, numbers, segment_at, named, Seq, Conforms}
+use Rattle.gw_profile.specs.Names.{stands}
+use Rattle.gw_validate.specs.Conforming.{listed, names, NamesFit, numbers, segment_at, named, Seq, Conforms}
 use Rattle.gw_validate.specs.Trees.{Tree, assigned, AllMeet, MeetingTree}
 use Rattle.gw_validate.specs.Least.{Searched, BreachAt}
 use Rattle.gw_validate.specs.Broken.{IsTreeOf, Assigns, Breaks, out_of_order, missing, in_segment}

@@ -4,7 +4,8 @@ use Rattle.std.specs.Prelude.{if◌then◌else◌}
 use Rattle.std.specs.List.{AllByRecursion}
 use Rattle.gw_er7.specs.Message.{SegmentValue}
 use Rattle.gw_profile.specs.Shapes.{Forest}
-use Rattle.gw_validate.specs.Conforming.{stands, listed, numbers_from, numbers, segment_at}
+use Rattle.gw_profile.specs.Names.{stands}
+use Rattle.gw_validate.specs.Conforming.{listed, numbers_from, numbers, segment_at}
 
 at_front : (pre m : List SegmentValue) (s : SegmentValue) → segment_at (pre ++ s ∷ m) (length pre) ≡ s
 at_front [] m s = refl

@@ -1,19 +1,14 @@
 -- Which messages conform to a profile (HL7 v2.5.1 chapter 2, 2.12: segments in order, segment groups, cardinality, usage).
-use Rattle.std.specs.Prelude.{◌≡◌, ℕ, suc, Bool, false, ◌||◌, List, [], ◌∷◌, map, filter, slice_get, unwrap_or, bytes_eq, if◌then◌else◌}
+use Rattle.std.specs.Prelude.{◌≡◌, ℕ, suc, List, [], ◌∷◌, map, filter, slice_get, unwrap_or, if◌then◌else◌}
 use Rattle.std.specs.FinMap as texts
 use Rattle.gw_er7.specs.Message.{SegmentValue}
 use Rattle.gw_profile.specs.Shapes.{FieldValue, Forest, nothing, segment, group, ProfileValue}
 use Rattle.gw_profile.specs.Deterministic.{Name}
+use Rattle.gw_profile.specs.Names.{stands}
 use Rattle.gw_validate.specs.Cuts.{Cut, Times, Fits}
 use Rattle.gw_validate.specs.Breaches.{Meets}
 
 -- ---- which segments count
-
--- a segment of this name stands somewhere in the profile
-abbrev pub stands : Forest → Name → Bool
-stands nothing x = false
-stands (segment s rest) x = bytes_eq s.name x || stands rest x
-stands (group g nodes rest) x = stands nodes x || stands rest x
 
 -- the segments that aren't passed over
 abbrev pub listed : Forest → List SegmentValue → List SegmentValue

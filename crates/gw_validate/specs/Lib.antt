@@ -9,7 +9,6 @@ pub mod Trees
 pub mod Joining
 pub mod Conforming
 pub mod Least
-pub mod Known
 pub mod Broken
 pub mod Fitting
 pub mod Viewing

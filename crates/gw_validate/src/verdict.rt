@@ -100,7 +100,7 @@ fn judge_segments(
 fn judge(alloc: Global, profile: &Profile, message: &Message) -> Result<Judged, AllocError>
     ensures { IfOk result (IsJudged (profile_value profile.now) message.now) }
 {
-    let taken = listed(alloc, profile.nodes(), message)?;
+    let taken = listed(alloc, profile, message)?;
     let names = names_of(alloc, message, &taken)?;
     match walk(alloc, profile.nodes(), &names)? {
         Answer::Fits => judge_segments(alloc, profile, message, &taken),

@@ -8,8 +8,8 @@ use Rattle.gw_profile.specs.WellFormed.{WellFormed}
 use Rattle.gw_profile.proofs.Ruled.{formed}
 use Rattle.gw_profile.proofs.whole.ruled.Goals as goal
 
-pub invariant_of-result : goal.invariant_of-result
-invariant_of-result c =
+pub of-requires : goal.of-requires
+of-requires c =
     let lines = map line c.args.lines.now in
     let built = c.in_ok-name.ensures.value in
     subst WellFormed

@@ -1,4 +1,4 @@
-use Rattle.std.proofs.Common.{◌≡◌, ◌≤◌, suc, inl, inr, true, false, sym, ◌∙◌, arith}
+use Rattle.std.proofs.Common.{◌≡◌, suc, inl, inr, true, false, sym, ◌∙◌, arith}
 use Rattle.std.proofs.lemmas.Bool.Decides.{leb_tells}
 use Rattle.gw_er7.specs.Presence.{RepAt}
 use Rattle.gw_validate.proofs.Breaches.{counted_once}

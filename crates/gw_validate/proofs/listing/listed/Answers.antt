@@ -4,14 +4,14 @@ use Rattle.std.specs.Global.{Global}
 use Rattle.gw_profile.specs.Seen.{forest}
 use Rattle.gw_validate.proofs.Gathered.{number_found, number_passed}
 use Rattle.gw_validate.proofs.listing.listed.Goals as goal
-use Rattle.gw_validate.proofs.listing.listed.Goals.{then-contains+in_ok-push, else-contains}
+use Rattle.gw_validate.proofs.listing.listed.Goals.{then-knows+in_ok-push, else-knows}
 
 pub loop-number-preserved : goal.loop-number-preserved
 loop-number-preserved c =
     let lt : c.loop-number.number < length c.args.message.now = omega (arith, c.segment_count-number-end.ensures.count) in
-    elim c.if-contains.branch [
-      | then-contains+in_ok-push w ↦ ap (λ (v : Vec ℕ Global). v.items) w.found-is ∙
-          number_found (forest c.args.nodes.now) c.args.message.now c.loop-number.number lt c.in_ok-names.names c.in_ok-names.ensures c.loop-number.found.items c.loop-number.invariant c.name_at.result c.name_at.ensures c.contains.result c.contains.ensures w.if-contains.true w.push.new.self.items w.in_ok-push.ensures.items
-      | else-contains w ↦ ap (λ (v : Vec ℕ Global). v.items) w.found-is ∙
-          number_passed (forest c.args.nodes.now) c.args.message.now c.loop-number.number lt c.in_ok-names.names c.in_ok-names.ensures c.loop-number.found.items c.loop-number.invariant c.name_at.result c.name_at.ensures c.contains.result c.contains.ensures w.if-contains.false
+    elim c.if-knows.branch [
+      | then-knows+in_ok-push w ↦ ap (λ (v : Vec ℕ Global). v.items) w.found-is ∙
+          number_found (forest c.args.profile.now.nodes) c.args.message.now c.loop-number.number lt c.loop-number.found.items c.loop-number.invariant c.name_at.result c.name_at.ensures c.knows.result c.knows.ensures w.if-knows.true w.push.new.self.items w.in_ok-push.ensures.items
+      | else-knows w ↦ ap (λ (v : Vec ℕ Global). v.items) w.found-is ∙
+          number_passed (forest c.args.profile.now.nodes) c.args.message.now c.loop-number.number lt c.loop-number.found.items c.loop-number.invariant c.name_at.result c.name_at.ensures c.knows.result c.knows.ensures w.if-knows.false
     ]

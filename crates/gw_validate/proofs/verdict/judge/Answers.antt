@@ -13,18 +13,18 @@ use Rattle.gw_validate.proofs.verdict.judge.Goals as goal
 
 pub judge_segments-requires-clause-fits : goal.judge_segments-requires-clause-fits
 judge_segments-requires-clause-fits c =
-    let taken : c.in_ok-taken.taken.items ≡ numbers (forest c.args.profile.now.nodes) c.args.message.now = c.in_ok-taken.ensures ∙ ap (λ (l : List Node). numbers (forest l) c.args.message.now) c.nodes.ensures.value in
+    let taken : c.in_ok-taken.taken.items ≡ numbers (forest c.args.profile.now.nodes) c.args.message.now = c.in_ok-taken.ensures in
     let known : c.deref-2.result.now ≡ map (named c.args.message.now) (numbers (forest c.args.profile.now.nodes) c.args.message.now) =
     c.deref-2.ensures.value ∙ c.in_ok-names.ensures ∙ ap (map (named c.args.message.now)) (c.deref.ensures.value ∙ taken) in
     names_fit (forest c.args.profile.now.nodes) c.args.message.now c.deref-2.result.now known
-    (subst (λ (l : List Node). Answers (forest l) c.deref-2.result.now answer.Fits) c.nodes-2.ensures.value (rw c.in-Fits.is at c.in_ok-walk.ensures))
+    (subst (λ (l : List Node). Answers (forest l) c.deref-2.result.now answer.Fits) c.nodes.ensures.value (rw c.in-Fits.is at c.in_ok-walk.ensures))
 
 pub returns-in-OutOfOrder : goal.returns-in-OutOfOrder
 returns-in-OutOfOrder c =
-    let taken : c.in_ok-taken.taken.items ≡ numbers (forest c.args.profile.now.nodes) c.args.message.now = c.in_ok-taken.ensures ∙ ap (λ (l : List Node). numbers (forest l) c.args.message.now) c.nodes.ensures.value in
+    let taken : c.in_ok-taken.taken.items ≡ numbers (forest c.args.profile.now.nodes) c.args.message.now = c.in_ok-taken.ensures in
     let known : c.deref-2.result.now ≡ map (named c.args.message.now) (numbers (forest c.args.profile.now.nodes) c.args.message.now) =
     c.deref-2.ensures.value ∙ c.in_ok-names.ensures ∙ ap (map (named c.args.message.now)) (c.deref.ensures.value ∙ taken) in
-    let walked = (subst (λ (l : List Node). Answers (forest l) c.deref-2.result.now (answer.OutOfOrder c.in-OutOfOrder.i)) c.nodes-2.ensures.value (rw c.in-OutOfOrder.is at c.in_ok-walk.ensures)) in
+    let walked = (subst (λ (l : List Node). Answers (forest l) c.deref-2.result.now (answer.OutOfOrder c.in-OutOfOrder.i)) c.nodes.ensures.value (rw c.in-OutOfOrder.is at c.in_ok-walk.ensures)) in
     not_conforming (profile_value c.args.profile.now) c.args.message.now c.nodes.ensures.formed.determined c.breach_at.result
     (order_judged (profile_value c.args.profile.now) c.args.message.now c.nodes.ensures.formed.determined c.deref-2.result.now c.in-OutOfOrder.i known walked
     c.index-number.result.now c.breach_at.result
@@ -37,11 +37,11 @@ returns-in-OutOfOrder c =
 
 pub returns : goal.returns
 returns c =
-    let taken : c.in_ok-taken.taken.items ≡ numbers (forest c.args.profile.now.nodes) c.args.message.now = c.in_ok-taken.ensures ∙ ap (λ (l : List Node). numbers (forest l) c.args.message.now) c.nodes.ensures.value in
+    let taken : c.in_ok-taken.taken.items ≡ numbers (forest c.args.profile.now.nodes) c.args.message.now = c.in_ok-taken.ensures in
     let known : c.deref-2.result.now ≡ map (named c.args.message.now) (numbers (forest c.args.profile.now.nodes) c.args.message.now) =
     c.deref-2.ensures.value ∙ c.in_ok-names.ensures ∙ ap (map (named c.args.message.now)) (c.deref.ensures.value ∙ taken) in
     not_conforming (profile_value c.args.profile.now) c.args.message.now c.nodes.ensures.formed.determined c.breach_at-in-Missing.result
     (missing_judged (profile_value c.args.profile.now) c.args.message.now c.nodes.ensures.formed.determined c.deref-2.result.now c.in-Missing.name c.segment_count.result c.breach_at-in-Missing.result known
-    (subst (λ (l : List Node). Answers (forest l) c.deref-2.result.now (answer.Missing c.in-Missing.name)) c.nodes-2.ensures.value (rw c.in-Missing.is at c.in_ok-walk.ensures))
+    (subst (λ (l : List Node). Answers (forest l) c.deref-2.result.now (answer.Missing c.in-Missing.name)) c.nodes.ensures.value (rw c.in-Missing.is at c.in_ok-walk.ensures))
     c.segment_count.ensures.count c.breach_at-in-Missing.ensures.segment c.breach_at-in-Missing.ensures.sequence
     (c.breach_at-in-Missing.ensures.spot ∙ ap (λ (s : Spot). segment_key s) c.of_kind-in-Missing.ensures))

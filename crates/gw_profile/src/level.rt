@@ -1,0 +1,163 @@
+//! The nodes of a profile, looked up by their labels.
+ghost use Rattle.std.specs.Prelude.{◌≡◌, ℕ, List, [], if◌then◌else◌, IfOk, OnOk, Some, option_map, suc, bytes_eq, map};
+ghost use denote.Ref.{Bor};
+ghost use Rattle.gw_profile.specs.Labels.{labelled, number_of, Numbers, inner};
+ghost use Rattle.gw_profile.specs.Seen.{forest, node_forest};
+ghost use Rattle.gw_profile.specs.Shapes.{Forest};
+
+use crate::node::Node;
+use crate::profile::Profile;
+use indexmap::IndexMap;
+use std::alloc::{AllocError, Global};
+use std::marker::Model;
+
+/// The nodes of one level of a profile: a label is looked up by its hash, and each node has the level within it.
+#[derive(Drop)]
+pub struct Level<'p> {
+    nodes: &'p [Node],
+    numbers: IndexMap<&'p [u8], usize>,
+    below: Vec<Level<'p>>,
+}
+
+impl<'p> Model for Level<'p> {
+    ghost use Rattle.std.specs.Prelude.{List};
+    ghost use Rattle.std.specs.Coded.{coded_list};
+    ghost use Rattle.std.proofs.Common.{arith};
+    ghost use Rattle.gw_profile.specs.declared.node.Node.{Node};
+    ghost use Rattle.gw_profile.specs.contracts.node.Node as node;
+    ghost use Rattle.gw_profile.specs.Seen.{forest};
+    ghost use Rattle.gw_profile.specs.Labels.{IsIndexed};
+    ghost use Rattle.gw_profile.specs.Heights.{height, below_height};
+
+    ghost Value = { List Node };
+
+    ghost coded = { coded_list node.the_row.coded };
+
+    ghost view = { λ l. l.nodes.now };
+
+    ghost invariant = { λ l. IsIndexed l.nodes.now l.numbers.entries l.below.items };
+
+    ghost size = { λ nodes. height (forest nodes) };
+
+    ghost size_decreases = { λ l h. omega (arith, below_height l.nodes.now l.below.items h.are_below) };
+}
+
+// The node's label.
+fn label_of(node: &Node) -> &[u8]
+    ensures { (rest : Forest) (label : List ℕ) → labelled (node_forest node.now rest) label ≡ (if bytes_eq result.now label then Some 0 else option_map suc (labelled rest label)) }
+{
+    match node {
+        Node::Seg(segment) => &segment.label,
+        Node::Group(group) => &group.label,
+    }
+}
+
+// Keeps a number for a label, in the place of one that was kept before.
+fn put_number<'p>(
+    numbers: &mut IndexMap<&'p [u8], usize>,
+    label: &'p [u8],
+    number: usize,
+) -> Result<(), AllocError>
+    ensures { OnOk result ((other : Bor (List ℕ)) → number_of numbers.new.entries other ≡ (if bytes_eq label.now other.now then Some number else number_of numbers.old.entries other)) }
+{
+    numbers.insert(label, number)?;
+    Ok(())
+}
+
+// The numbers of the nodes by their labels, from the last node to the first.
+fn numbers_of<'p>(alloc: Global, nodes: &'p [Node]) -> Result<IndexMap<&'p [u8], usize>, AllocError>
+    ensures { IfOk result (λ numbers. Numbers numbers.entries nodes.now) }
+{
+    let mut numbers = IndexMap::new(alloc);
+    let mut left = nodes.len();
+    while left > 0 {
+        left -= 1;
+        put_number(&mut numbers, label_of(&nodes[left]), left)?;
+    }
+    Ok(numbers)
+}
+
+fn nothing_within<'p>(alloc: Global) -> Level<'p>
+    ensures { result ≡ [] }
+{
+    Level {
+        nodes: &[],
+        numbers: IndexMap::new(alloc),
+        below: Vec::new(alloc),
+    }
+}
+
+// The level of what is within a node.
+#[cycle(index)]
+fn within<'p>(alloc: Global, node: &'p Node) -> Result<Level<'p>, AllocError>
+    ensures { IfOk result (λ made. forest made ≡ inner node.now) }
+{
+    match node {
+        Node::Seg(_) => Ok(nothing_within(alloc)),
+        Node::Group(group) => index(alloc, &group.nodes),
+    }
+}
+
+// For each node the level of what is within it.
+#[cycle(index)]
+fn each_within<'p>(alloc: Global, nodes: &'p [Node]) -> Result<Vec<Level<'p>>, AllocError>
+    ensures { IfOk result (λ below. map forest below.items ≡ map inner nodes.now) }
+{
+    let mut below = Vec::new(alloc);
+    for (i, node) in nodes.iter().enumerate() {
+        let one = within(alloc, node)?;
+        below.push(one)?;
+    }
+    Ok(below)
+}
+
+// The level of these nodes.
+#[cycle(index)]
+fn index<'p>(alloc: Global, nodes: &'p [Node]) -> Result<Level<'p>, AllocError>
+    ensures { IfOk result (λ made. made ≡ nodes.now) }
+{
+    let numbers = numbers_of(alloc, nodes)?;
+    let below = each_within(alloc, nodes)?;
+    Ok(Level {
+        nodes,
+        numbers,
+        below,
+    })
+}
+
+impl<'p> Level<'p> {
+    ghost use Rattle.std.specs.Prelude.{◌≡◌, IfOk};
+    ghost use Rattle.gw_profile.specs.Seen.{forest};
+    ghost use Rattle.gw_profile.specs.Labels as spec;
+
+    /// The level of the nodes at the top of a profile, with all that is within them. It takes time by the number of nodes.
+    pub fn of(alloc: Global, profile: &'p Profile) -> Result<Level<'p>, AllocError>
+        ensures { IfOk result (λ made. made ≡ profile.now.nodes) }
+    {
+        index(alloc, profile.nodes())
+    }
+
+    /// The nodes, in order. It takes no memory.
+    pub fn nodes(&self) -> &'p [Node]
+        ensures { result.now ≡ self.now }
+    {
+        self.nodes
+    }
+
+    /// The number, from 0, of the node with this label. It takes no memory.
+    pub fn number_of(&self, label: &[u8]) -> Option<usize>
+        ensures { result ≡ spec.labelled (forest self.now) label.now }
+    {
+        self.numbers.get(label).copied()
+    }
+
+    /// The level within the node of this number, None where there is no such node. It takes no memory.
+    pub fn within(&self, number: usize) -> Option<&Level<'p>>
+        ensures { spec.nodes_in result ≡ spec.within (forest self.now) number }
+    {
+        if number >= self.below.len() {
+            return None;
+        }
+        Some(&self.below[number])
+    }
+}

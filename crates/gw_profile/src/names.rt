@@ -1,0 +1,45 @@
+//! The names of a profile's segments.
+ghost use Rattle.std.specs.Prelude.{OnOk, IfOk};
+ghost use Rattle.gw_profile.specs.Names.{Adds, Holds};
+ghost use Rattle.gw_profile.specs.Seen.{forest, node_forest};
+ghost use Rattle.gw_profile.specs.Shapes.{nothing};
+
+use crate::node::Node;
+use std::alloc::{AllocError, Global};
+use std::collections::HashSet;
+
+// Adds the names of the segments at a node.
+#[cycle(add)]
+fn add_node(names: &mut HashSet<[u8; 3]>, node: &Node) -> Result<(), AllocError>
+    ensures { OnOk result (Adds names.old names.new (node_forest node.now nothing)) }
+{
+    match node {
+        Node::Seg(segment) => {
+            names.insert(segment.name)?;
+            Ok(())
+        }
+        Node::Group(group) => {
+            add_names(names, &group.nodes)?;
+            Ok(())
+        }
+    }
+}
+
+#[cycle(add)]
+fn add_names(names: &mut HashSet<[u8; 3]>, nodes: &[Node]) -> Result<(), AllocError>
+    ensures { OnOk result (Adds names.old names.new (forest nodes.now)) }
+{
+    for (i, node) in nodes.iter().enumerate() {
+        add_node(names, node)?;
+    }
+    Ok(())
+}
+
+/// The names of the segments at these nodes.
+pub(crate) fn names_of(alloc: Global, nodes: &[Node]) -> Result<HashSet<[u8; 3]>, AllocError>
+    ensures { IfOk result (λ names. Holds names (forest nodes.now)) }
+{
+    let mut names = HashSet::new(alloc);
+    add_names(&mut names, nodes)?;
+    Ok(names)
+}
