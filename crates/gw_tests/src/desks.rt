@@ -61,31 +61,9 @@ fn numbers_with_gaps(rt: HostRuntime) -> Result<(), Fail> {
     Ok(())
 }
 
-/// Ten thousand numbers with gaps, whose values come in another order: 7919 is prime, so each place is met once.
-#[test]
-fn many_numbers(rt: HostRuntime) -> Result<(), Fail> {
-    values_are_given_in_order::<u64>();
-    let mut desk = Desk::new(rt.alloc());
-    for place in 0..10_000u64 {
-        desk.reserve()?;
-        assert!(rt; desk.has_room());
-        desk.due(3 * place + 1);
-    }
-    for turn in 0..10_000u64 {
-        let number = 3 * (turn * 7_919 % 10_000) + 1;
-        assert!(rt; brings(&mut desk, number, number * 10, Status::Waiting));
-    }
-    for place in 0..10_000u64 {
-        let number = 3 * place + 1;
-        assert!(rt; brings(&mut desk, number, 0, Status::Repeat));
-        assert!(rt; gives(&mut desk, Some((number, number * 10))));
-    }
-    assert!(rt; gives(&mut desk, None));
-    Ok(())
-}
-
 #[test]
 fn numbers_in_a_row(rt: HostRuntime) -> Result<(), Fail> {
+    values_are_given_in_order::<u64>();
     let mut desk = Desk::new(rt.alloc());
     desk.reserve()?;
     desk.due(0);
