@@ -4,7 +4,7 @@ use Rattle.std.specs.Prelude.{if◌then◌else◌}
 use Rattle.std.specs.List.{AllByRecursion}
 use Rattle.gw_lines.specs.Words.{Word, words, lines}
 use Rattle.gw_lines.specs.Reading.{Takes, first_of, unless, adding, added, accepted, with_line, spelled_by, spelled_below, is_too_large, ◌>>=◌}
-use Rattle.gw_lines.specs.Grammar.{Grammar, tested, takes, Taken, AllTaken}
+use Rattle.gw_lines.specs.Grammar.{Grammar, tested, takes, AllTaken}
 
 -- no test says that its fault applies
 abbrev pub Clear : {E : Type 0} → List (Bool × E) → Type 0

@@ -1,11 +1,8 @@
 -- What a line that was taken keeps, given the lines above it.
-use Rattle.std.proofs.Common.{◌≡◌, ℕ, Bool, true, false, List, [], ◌∷◌, Option, Some, None, Ok, refl, subst}
+use Rattle.std.proofs.Common.{ℕ, List, subst}
 use Rattle.std.specs.Prelude.{IfSome}
-use Rattle.std.specs.List.{AllByRecursion}
-use Rattle.gw_lines.specs.Reading.{first_of, unless}
 use Rattle.gw_profile.proofs.Facts.{lt_is}
-use Rattle.gw_maplang.specs.declared.fault.MapFault.{MapFault}
-use Rattle.gw_maplang.specs.Line.{Line, Begins, Table, Rows, Else, Segment, Makes, At, Each, End, Drops, form}
+use Rattle.gw_maplang.specs.Line.{Line, Begins, Table, Rows, Else, Segment, Makes, At, Each, End, Drops}
 use Rattle.gw_maplang.specs.Fault.{tests, tables, open_segment, open_rule, depth}
 use Rattle.gw_lines.specs.Grammar.{Taken}
 use Rattle.gw_lines.proofs.Taken.{Clear, clear_of, taken_by}

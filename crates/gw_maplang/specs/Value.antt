@@ -1,7 +1,7 @@
 -- The map that lines spell.
 use Rattle.std.specs.Prelude.{ℕ, List, [], ◌∷◌, Option, Some, None}
 use Rattle.gw_maplang.specs.Shapes.{Path, LeafValue, Making, Copies, Firsts, Repeats, Builds, RuleValue, Items, nothing, segment, group, flat, DropValue}
-use Rattle.gw_maplang.specs.Line.{Line, Begins, Table, Rows, Else, Segment, Makes, At, Each, End, Drops}
+use Rattle.gw_maplang.specs.Line.{Line, Begins, Segment, Makes, At, Each, End, Drops}
 
 -- ---- what lines spell, from the first on
 

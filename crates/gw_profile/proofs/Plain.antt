@@ -6,7 +6,7 @@ use Rattle.std.specs.Option.{is_some}
 use Rattle.std.proofs.lemmas.List.{reverse-reverse}
 use Rattle.std.proofs.lemmas.Bool.Decides.{Decides-eqb}
 use Rattle.gw_lines.specs.Words.{lines}
-use Rattle.gw_lines.specs.Reading.{accepted, adding, spelled_below, is_too_large, ◌>>=◌}
+use Rattle.gw_lines.specs.Reading.{◌>>=◌}
 use Rattle.gw_profile.specs.declared.fault.ProfileFault.{ProfileFault}
 use Rattle.gw_profile.specs.declared.fault.ProfileFault.TheVariants.{Syntax, TooLarge}
 use Rattle.gw_profile.specs.declared.shape.Usage as usages

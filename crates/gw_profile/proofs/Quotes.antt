@@ -1,5 +1,5 @@
 -- No word holds a quotation mark, so no value of a table does.
-use Rattle.std.proofs.Common.{◌≡◌, ℕ, zero, suc, ◌+◌, ◌-◌, Bool, true, false, List, [], ◌∷◌, length, reverse, take, drop, Option, Some, None, Result, Ok, Err, refl, ap, ◌∙◌, subst, arith}
+use Rattle.std.proofs.Common.{◌≡◌, ℕ, zero, suc, ◌+◌, ◌-◌, Bool, true, false, List, [], ◌∷◌, length, reverse, take, drop, Option, Some, None, Ok, refl, ap, ◌∙◌, subst, arith}
 use mathlib.Core.List.{reverse_aux}
 use Rattle.std.specs.Prelude.{◌&&◌, not, nat_lt, if◌then◌else◌, cond, codes, IfSome}
 use Rattle.std.specs.List.{AllByRecursion, list_all, list_any, position_or_len, before_first}
@@ -7,8 +7,6 @@ use Rattle.gw_lines.specs.Words.{Word, Plain, Quoted, lines, without_last, is_la
 use Rattle.gw_lines.specs.Spelled.{name, is_keyword}
 use Rattle.gw_lines.specs.Values.{is_value, bytes_of, value_bytes}
 use Rattle.gw_lines.specs.Parts.{◌>>=◌, name_at, segment_at, number_at, values, some_values, with_all}
-use Rattle.gw_lines.specs.Reading.{first_of, unless, accepted, adding, added, with_line, ◌>>=◌ as ◌>>>◌}
-use Rattle.gw_profile.specs.declared.fault.ProfileFault.{ProfileFault}
 use Rattle.gw_profile.specs.declared.fault.ProfileFault.TheVariants.{Syntax}
 use Rattle.gw_profile.specs.Shapes.{ProfileValue}
 use Rattle.gw_profile.specs.Line.{Line, Begins, Table, Segment, Field, Comp, Sub, Group, End, profile_form, table_form, segment_form, field_form, comp_form, sub_form, group_form, form, label_at, usage_at, card_at, options, leaf_options}

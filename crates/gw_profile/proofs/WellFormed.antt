@@ -1,14 +1,12 @@
 -- The profile that taken lines spell is well formed.
-use Rattle.std.proofs.Common.{◌≡◌, ℕ, ◌+◌, ◌≤◌, inl, inr, Bool, true, false, List, [], ◌∷◌, length, reverse, Option, Some, None, Result, Ok, Err, refl, sym, ◌∙◌, subst, arith}
+use Rattle.std.proofs.Common.{◌≡◌, ℕ, ◌+◌, ◌≤◌, inl, inr, Bool, true, false, List, [], ◌∷◌, length, reverse, Option, Some, None, Ok, Err, refl, sym, ◌∙◌, subst, arith}
 use mathlib.Core.List.{reverse_aux}
 use Rattle.std.specs.Prelude.{◌&&◌, ◌||◌, ◌==◌, not, if◌then◌else◌, codes, unwrap_or}
 use Rattle.std.specs.List.{AllByRecursion, list_all}
 use Rattle.std.proofs.lemmas.Slice.Eq.{bytes_eq-Decides}
 use Rattle.std.proofs.lemmas.Bool.Decides.{Decides-eqb}
-use Rattle.gw_lines.specs.Words.{Word, words, lines}
+use Rattle.gw_lines.specs.Words.{lines}
 use Rattle.gw_lines.specs.Spelled.{is_name}
-use Rattle.gw_lines.specs.Reading.{accepted, adding, added, with_line, spelled_below, is_too_large, ◌>>=◌}
-use Rattle.gw_profile.specs.declared.fault.ProfileFault.{ProfileFault}
 use Rattle.gw_profile.specs.declared.fault.ProfileFault.TheVariants.{Syntax, TooLarge}
 use Rattle.gw_profile.specs.declared.shape.Usage as usages
 use Rattle.gw_profile.specs.declared.shape.Usage.TheVariants.{R, RE, O, X}

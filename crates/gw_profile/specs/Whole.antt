@@ -8,7 +8,7 @@ use Rattle.gw_profile.specs.declared.shape.Usage as usages
 use Rattle.gw_profile.specs.declared.shape.Usage.TheVariants.{R, RE, O, X}
 use Rattle.gw_profile.specs.declared.shape.Card.{Card}
 use Rattle.gw_profile.specs.Shapes.{ProfileValue}
-use Rattle.gw_profile.specs.Line.{Line, Begins, Table, Segment, Field, Comp, Sub, Group, End, allows}
+use Rattle.gw_profile.specs.Line.{Line, Begins, Table, Segment, Group, allows}
 use Rattle.gw_profile.specs.Fault.{begun, levels, takes}
 use Rattle.gw_profile.specs.Value.{nodes, profile}
 use Rattle.gw_profile.specs.Determinism.{is_optional, ambiguous}

@@ -286,14 +286,6 @@ fn add_line(alloc: Global, below: &mut Below, whole: &Line) -> Result<(), AllocE
     ensures { OnOk result (Grows below.old below.new (line whole.now)) }
 {
     match whole {
-        Line::Begins(_) => {
-            close_parts(alloc, below);
-            Ok(())
-        }
-        Line::Table(_, _) => {
-            close_parts(alloc, below);
-            Ok(())
-        }
         Line::Segment(name, label, renamed, usage, card) => {
             add_segment(alloc, below, *name, label, *renamed, *usage, *card)
         }
@@ -306,6 +298,10 @@ fn add_line(alloc: Global, below: &mut Below, whole: &Line) -> Result<(), AllocE
             add_group(alloc, below, *at, label, *usage, *card)
         },
         Line::End => add_end(alloc, below),
+        _ => {
+            close_parts(alloc, below);
+            Ok(())
+        }
     }
 }
 

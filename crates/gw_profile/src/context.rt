@@ -92,10 +92,7 @@ pub fn parents_below(held: Parents, whole: &Line) -> Parents
             field: held.field,
             comp: with_part(*number, held.comp),
         },
-        Line::Begins(_) => NO_PARENTS,
-        Line::Table(_, _) => NO_PARENTS,
-        Line::Group(_, _, _, _) => NO_PARENTS,
-        Line::End => NO_PARENTS,
+        _ => NO_PARENTS,
     }
 }
 

@@ -22,6 +22,8 @@ mod rules;
 #[cfg(test)]
 mod samples;
 #[cfg(test)]
+mod sentences;
+#[cfg(test)]
 mod shapes;
 #[cfg(test)]
 mod streams;
