@@ -1,5 +1,6 @@
 pub mod Sequences
 pub mod Cuts
+pub mod Separated
 pub mod Fixed
 pub mod Lined
 pub mod Faults

@@ -9,6 +9,7 @@ pub mod Building
 pub mod Written
 pub mod Writing
 pub mod Entries
+pub mod Separators
 pub mod Gathered
 pub mod View
 pub mod Ordered

@@ -1,25 +1,81 @@
 //! The texts of a segment's fields.
-ghost use Rattle.std.specs.Prelude.{◌≡◌, ◌+◌, ◌<◌, ◌≤◌, ◌^◌, ◌++◌, ◌==◌, ◌∷◌, [], length, map, List, ℕ, OnOk, IfOk, MatchOption};
-ghost use Rattle.std.specs.List.{slice_split};
-ghost use Rattle.gw_er7.specs.Entries.{under, value, subcomponents, components, repetitions, fields};
+ghost use Rattle.std.specs.Prelude.{◌≡◌, ◌+◌, ◌<◌, ◌≤◌, ◌^◌, ◌++◌, ◌-◌, true, position, OnOk, IfOk, MatchOption};
+ghost use Rattle.gw_er7.specs.Message.{numbers};
+ghost use Rattle.gw_er7.specs.Entries.{fields};
+ghost use Rattle.gw_er7.specs.Separators.{separators, is_separator, next_numbers, value_at, IsLastValue, IsNextValue};
 ghost use Rattle.gw_er7.specs.View.{entries_of};
 
 use crate::delimiters::Delimiters;
 use crate::place::Place;
 use crate::segment::Leaf;
 use crate::text::canonical;
-use memchr::memchr;
 use std::alloc::{AllocError, Global};
 
-/// The first part, and what stands behind its separator where there is one.
-fn cut_first(separator: u8, bytes: &[u8]) -> (&[u8], Option<&[u8]>)
-    ensures { MatchOption result.1
-        (slice_split (λ b. b == separator) bytes.now ≡ result.0.now ∷ [])
-        (λ behind. (slice_split (λ b. b == separator) bytes.now ≡ result.0.now ∷ slice_split (λ b. b == separator) behind.now) × (length behind.now < length bytes.now)) }
+fn is_separator(delimiters: Delimiters, byte: u8) -> bool
+    ensures { result ≡ is_separator (separators delimiters) byte }
 {
-    match memchr(separator, bytes) {
+    byte == delimiters.field
+        || byte == delimiters.repetition
+        || byte == delimiters.component
+        || byte == delimiters.subcomponent
+}
+
+fn first_separator(delimiters: Delimiters, bytes: &[u8]) -> Option<usize>
+    ensures { result ≡ position (λ b. is_separator (separators delimiters) b) bytes.now }
+{
+    bytes
+        .iter()
+        .position(|byte| is_separator(delimiters, *byte))
+}
+
+/// The bytes up to the first separator, and the separator and the bytes behind it where there is one.
+fn cut_value(delimiters: Delimiters, bytes: &[u8]) -> (&[u8], Option<(u8, &[u8])>)
+    ensures { MatchOption result.1 (IsLastValue (separators delimiters) bytes.now result.0.now) (λ b. IsNextValue (separators delimiters) bytes.now result.0.now b.0 b.1.now) }
+{
+    match first_separator(delimiters, bytes) {
         None => (bytes, None),
-        Some(at) => (&bytes[..at], Some(&bytes[at + 1..])),
+        Some(at) => (&bytes[..at], Some((bytes[at], &bytes[at + 1..]))),
+    }
+}
+
+/// The place behind a separator: its own number is one more, and the lower ones begin again.
+fn next_place(delimiters: Delimiters, place: Place, separator: u8) -> Place
+    requires field { place.field < 2 ^ 64 - 1 }
+    requires rep { place.rep < 2 ^ 64 - 1 }
+    requires comp { place.comp < 2 ^ 64 - 1 }
+    requires sub { place.sub < 2 ^ 64 - 1 }
+    requires separates { is_separator (separators delimiters) separator ≡ true }
+    ensures next { numbers result ≡ next_numbers (separators delimiters) (numbers place) separator }
+    ensures field { result.field ≤ place.field + 1 }
+    ensures rep { result.rep ≤ place.rep + 1 }
+    ensures comp { result.comp ≤ place.comp + 1 }
+    ensures sub { result.sub ≤ place.sub + 1 }
+{
+    let first = Place { sub: 1, ..place };
+    if separator == delimiters.field {
+        return Place {
+            field: place.field + 1,
+            rep: 1,
+            comp: 1,
+            sub: 1,
+        };
+    }
+    if separator == delimiters.repetition {
+        return Place {
+            rep: place.rep + 1,
+            comp: 1,
+            ..first
+        };
+    }
+    if separator == delimiters.component {
+        return Place {
+            comp: place.comp + 1,
+            ..first
+        };
+    }
+    Place {
+        sub: place.sub + 1,
+        ..place
     }
 }
 
@@ -31,92 +87,13 @@ fn push_value(
     raw: &[u8],
     leaves: &mut Vec<Leaf>,
 ) -> Result<(), AllocError>
-    ensures { OnOk result (entries_of leaves.new.items ≡ entries_of leaves.old.items
-        ++ map (λ e. under place.field (under place.rep (under place.comp (under place.sub e)))) (value delimiters raw.now)) }
+    ensures { OnOk result (entries_of leaves.new.items ≡ entries_of leaves.old.items ++ value_at delimiters (numbers place) raw.now) }
 {
     if raw.is_empty() {
         return Ok(());
     }
     let text = canonical(alloc, delimiters, raw)?;
     leaves.push(Leaf { place, text })?;
-    Ok(())
-}
-
-/// Reads a component: the texts of its subcomponents.
-fn read_subcomponents(
-    alloc: Global,
-    delimiters: Delimiters,
-    place: Place,
-    bytes: &[u8],
-    leaves: &mut Vec<Leaf>,
-) -> Result<(), AllocError>
-    ensures { OnOk result (entries_of leaves.new.items ≡ entries_of leaves.old.items
-        ++ map (λ e. under place.field (under place.rep (under place.comp e))) (subcomponents delimiters bytes.now)) }
-{
-    let mut number = 1;
-    let mut left = Some(bytes);
-    while let Some(bytes) = left {
-        let (part, behind) = cut_first(delimiters.subcomponent, bytes);
-        let here = Place {
-            sub: number,
-            ..place
-        };
-        push_value(alloc, delimiters, here, part, leaves)?;
-        number += 1;
-        left = behind;
-    }
-    Ok(())
-}
-
-/// Reads a repetition: the texts of its components.
-fn read_components(
-    alloc: Global,
-    delimiters: Delimiters,
-    place: Place,
-    bytes: &[u8],
-    leaves: &mut Vec<Leaf>,
-) -> Result<(), AllocError>
-    ensures { OnOk result (entries_of leaves.new.items ≡ entries_of leaves.old.items
-        ++ map (λ e. under place.field (under place.rep e)) (components delimiters bytes.now)) }
-{
-    let mut number = 1;
-    let mut left = Some(bytes);
-    while let Some(bytes) = left {
-        let (part, behind) = cut_first(delimiters.component, bytes);
-        let here = Place {
-            comp: number,
-            ..place
-        };
-        read_subcomponents(alloc, delimiters, here, part, leaves)?;
-        number += 1;
-        left = behind;
-    }
-    Ok(())
-}
-
-/// Reads a field: the texts of its repetitions.
-fn read_repetitions(
-    alloc: Global,
-    delimiters: Delimiters,
-    place: Place,
-    bytes: &[u8],
-    leaves: &mut Vec<Leaf>,
-) -> Result<(), AllocError>
-    ensures { OnOk result (entries_of leaves.new.items ≡ entries_of leaves.old.items
-        ++ map (λ e. under place.field e) (repetitions delimiters bytes.now)) }
-{
-    let mut number = 1;
-    let mut left = Some(bytes);
-    while let Some(bytes) = left {
-        let (part, behind) = cut_first(delimiters.repetition, bytes);
-        let here = Place {
-            rep: number,
-            ..place
-        };
-        read_components(alloc, delimiters, here, part, leaves)?;
-        number += 1;
-        left = behind;
-    }
     Ok(())
 }
 
@@ -131,19 +108,20 @@ pub(crate) fn read_fields(
     ensures { IfOk result (λ leaves. entries_of leaves.items ≡ fields delimiters first bytes.now) }
 {
     let mut leaves = Vec::new(alloc);
-    let mut number = first;
-    let mut left = Some(bytes);
-    while let Some(bytes) = left {
-        let (part, behind) = cut_first(delimiters.field, bytes);
-        let here = Place {
-            field: number,
-            rep: 1,
-            comp: 1,
-            sub: 1,
+    let mut place = Place {
+        field: first,
+        rep: 1,
+        comp: 1,
+        sub: 1,
+    };
+    let mut rest = bytes;
+    loop {
+        let (raw, behind) = cut_value(delimiters, rest);
+        push_value(alloc, delimiters, place, raw, &mut leaves)?;
+        let Some((separator, later)) = behind else {
+            return Ok(leaves);
         };
-        read_repetitions(alloc, delimiters, here, part, &mut leaves)?;
-        number += 1;
-        left = behind;
+        place = next_place(delimiters, place, separator);
+        rest = later;
     }
-    Ok(leaves)
 }

@@ -1,24 +1,28 @@
-use Rattle.std.proofs.Common.{arith, rules, ap, ◌∙◌, List, ◌++◌, map}
-use Rattle.gw_er7.specs.Entries.{Entry, repetitions, fields}
-use Rattle.gw_er7.specs.declared.segment.Leaf.{Leaf}
+use Rattle.std.proofs.Common.{arith}
+use Rattle.gw_er7.specs.Message.{numbers}
 use Rattle.gw_er7.specs.View.{entries_of}
-use Rattle.gw_er7.proofs.Cuts.{part_taken, cut_is, pointed, same_list}
+use Rattle.gw_er7.proofs.Separated.{value_last, value_taken, later_less}
 use Rattle.gw_er7.proofs.reading.read_fields.Goals as goal
 
-pub loop-left-preserved : goal.loop-left-preserved
-loop-left-preserved c =
-    let cut = cut_is c.args.delimiters.field c.in-Some.bytes.now c.cut_first.result.0.now c.cut_first.result.1 c.cut_first.ensures in
-    let before = rw (c.in-Some.is) at c.loop-left.invariant.read in
-    let room = rw (c.in-Some.is) at c.loop-left.invariant.room in
+pub returns-in_default : goal.returns-in_default
+returns-in_default c =
+    let place = c.loop-leaves.place in
+    let last = rw c.in_default.is at c.cut_value.ensures in
+    value_last c.args.delimiters place.field place.rep place.comp place.sub c.loop-leaves.rest.now c.cut_value.result.0.now (entries_of c.loop-leaves.leaves.items) (entries_of c.push_value.new.leaves.items) _ last c.loop-leaves.invariant.read c.in_ok-push_value.ensures
+
+pub loop-leaves-preserved : goal.loop-leaves-preserved
+loop-leaves-preserved c =
+    let place = c.loop-leaves.place in
+    let next = rw c.in-Some.is at c.cut_value.ensures in
+    let short = later_less _ _ _ _ _ next in
     record {
-      read = part_taken (λ (e : Entry). e) (repetitions c.args.delimiters) c.args.delimiters.field c.loop-left.number
-          (entries_of c.loop-left.leaves.items) (entries_of c.read_repetitions.new.leaves.items) _ c.in-Some.bytes.now c.cut_first.result.0.now (pointed c.cut_first.result.1)
-          before cut.0 c.in_ok-read_repetitions.ensures;
-      room = omega (arith, cut.1, room);
+      read = value_taken c.args.delimiters place.field place.rep place.comp place.sub (numbers c.next_place-place.result) c.loop-leaves.rest.now c.cut_value.result.0.now c.in-Some.separator c.in-Some.later.now
+          (entries_of c.loop-leaves.leaves.items) (entries_of c.push_value.new.leaves.items) _ next c.next_place-place.ensures.next c.loop-leaves.invariant.read c.in_ok-push_value.ensures;
+      field = omega (arith, short, c.next_place-place.ensures.field, c.loop-leaves.invariant.field);
+      rep = omega (arith, short, c.next_place-place.ensures.rep, c.loop-leaves.invariant.rep);
+      comp = omega (arith, short, c.next_place-place.ensures.comp, c.loop-leaves.invariant.comp);
+      sub = omega (arith, short, c.next_place-place.ensures.sub, c.loop-leaves.invariant.sub);
     }
 
-pub loop-left-init : goal.loop-left-init
-loop-left-init c = record {
-  read = ap (λ (x : List Leaf). entries_of x ++ map (λ (e : Entry). e) (fields c.args.delimiters c.args.first c.args.bytes.now)) c.new-leaves.ensures.items ∙ same_list (fields c.args.delimiters c.args.first c.args.bytes.now);
-  room = search rules;
-}
+pub loop-leaves-smaller : goal.loop-leaves-smaller
+loop-leaves-smaller c = later_less _ _ _ _ _ (rw c.in-Some.is at c.cut_value.ensures)

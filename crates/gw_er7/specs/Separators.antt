@@ -1,0 +1,40 @@
+-- The values between the separators of a segment's fields, one after the other. The reader's own words.
+use Rattle.std.specs.Prelude.{◌≡◌, ℕ, ◌+◌, ◌==◌, ◌||◌, Bool, false, true, if◌then◌else◌, List, [], ◌∷◌, ◌++◌, map}
+use Rattle.std.specs.List.{All}
+use Rattle.gw_er7.specs.declared.delimiters.Delimiters.{Delimiters}
+use Rattle.gw_er7.specs.Text.{canon}
+use Rattle.gw_er7.specs.Entries.{Entry}
+
+-- those that cut fields, repetitions, components and subcomponents
+abbrev pub separators : Delimiters → List ℕ
+separators d = d.field ∷ d.repetition ∷ d.component ∷ d.subcomponent ∷ []
+
+abbrev pub is_separator : List ℕ → ℕ → Bool
+is_separator [] b = false
+is_separator (t ∷ ts) b = b == t || is_separator ts b
+
+-- the numbers behind a separator: its own is one more, and the lower ones begin again
+abbrev pub next_numbers : List ℕ → List ℕ → ℕ → List ℕ
+next_numbers [] ns b = ns
+next_numbers (t ∷ ts) [] b = []
+next_numbers (t ∷ ts) (n ∷ ns) b = if b == t then (n + 1) ∷ map (λ t. 1) ts else n ∷ next_numbers ts ns b
+
+-- a raw value at a place: an empty one is absent
+abbrev pub value_at : Delimiters → List ℕ → List ℕ → List Entry
+value_at d ns [] = []
+value_at d ns (b ∷ bs) = (ns, canon d (b ∷ bs)) ∷ []
+
+-- no separator stands in it
+abbrev pub IsClear : List ℕ → List ℕ → Type 0
+IsClear ts bytes = All (λ b. is_separator ts b ≡ false) bytes
+
+-- bytes in which no separator stands
+pub record IsLastValue (ts bytes value : List ℕ) : Type 0 where
+  pub whole : bytes ≡ value
+  pub clear : IsClear ts value
+
+-- bytes up to the first separator, the separator, and those behind it
+pub record IsNextValue (ts bytes value : List ℕ) (separator : ℕ) (behind : List ℕ) : Type 0 where
+  pub whole : bytes ≡ value ++ separator ∷ behind
+  pub clear : IsClear ts value
+  pub separates : is_separator ts separator ≡ true
