@@ -19,7 +19,6 @@ pub use fault::MapFault;
 pub use item::{AlwaysItem, FlatItem, FromItem, GroupItem, Item};
 pub use itself::identity;
 pub use map::Map;
-pub use reader::Reader;
 pub use rule::{
     BuildRule, CopyRule, Dropped, FieldPath, Leaf, LeafPlace, LeafRule, Ref, RepeatRule, Rule,
 };
