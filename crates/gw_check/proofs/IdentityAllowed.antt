@@ -8,7 +8,8 @@ use Rattle.gw_check.specs.Resolved.{Items}
 use Rattle.gw_check.specs.Naming.{naming_failures, resolved_items, resolved}
 use Rattle.gw_check.specs.Reads.{items_read}
 use Rattle.gw_check.specs.Typed.{failures}
-use Rattle.gw_check.specs.Checked.{or_later, all_failures}
+use Rattle.gw_check.specs.Failures.{or_later}
+use Rattle.gw_check.specs.Checked.{all_failures}
 use Rattle.gw_check.proofs.IdentityItems.{same}
 use Rattle.gw_check.proofs.IdentityNamed.{no_more, holds, from_the_first, paths_hold, targets_hold, items_are}
 use Rattle.gw_check.proofs.IdentityLevels.{levels_hold, items_hold}

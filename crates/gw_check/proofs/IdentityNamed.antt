@@ -11,12 +11,13 @@ use Rattle.gw_profile.specs.WellFormed as formed
 use Rattle.gw_maplang.specs.Shapes as raw
 use Rattle.gw_maplang.specs.Shapes.{TableValue}
 use Rattle.gw_maplang.specs.Identity.{field_rules, copy_rule, same_items}
-use Rattle.gw_check.specs.Failures.{fails}
+use Rattle.gw_check.specs.Failures.{Failure, fails, or_later}
 use Rattle.gw_check.specs.Places.{Element, a_segment, a_group, Found, nodes_of, child, nodes_of_child, found, element_of, within}
 use Rattle.gw_check.specs.Intervals.{once, product}
 use Rattle.gw_check.specs.Placed.{is_segment, is_group}
 use Rattle.gw_check.specs.Resolved.{copy, segment_item, group_item}
-use Rattle.gw_check.specs.Naming.{labelled, place_of, place_or, itself, walked_if, node_or, ends_at_segment, is_single_place, has_place, but_last, label_failures, segments_failures, walk_failures, rule_failures, path_failures, target_failures, rule, resolved_items}
+use Rattle.gw_profile.specs.Labels.{labelled}
+use Rattle.gw_check.specs.Naming.{place_of, place_or, itself, walked_if, node_or, ends_at_segment, is_single_place, has_place, but_last, label_failures, segments_failures, walk_failures, rule_failures, path_failures, target_failures, rule, resolved_items}
 use Rattle.gw_check.specs.Founds.{count_of}
 use Rattle.gw_check.proofs.Finding.{below_there}
 use Rattle.gw_check.proofs.IdentityItems.{at_node, same_rule, same_rules, same}
@@ -25,6 +26,9 @@ use Rattle.gw_check.proofs.IdentityItems.{at_node, same_rule, same_rules, same}
 
 pub no_more : {A : Type 0} (a b : List A) → a ≡ [] → b ≡ [] → a ++ b ≡ []
 no_more a b e f = ap₂ (λ s t. s ++ t) e f
+
+no_later : (a b : List Failure) → a ≡ [] → b ≡ [] → or_later a b ≡ []
+no_later a b e f = ap₂ or_later e f
 
 pub holds : (rule line : ℕ) (broken : Bool) → broken ≡ false → fails rule line broken ≡ []
 holds rule line true e = absurd (cc)
@@ -191,11 +195,11 @@ paths_hold e scope j (segment s rest) h d g = by (is_forbidden (Some s.usage)) (
 
     by : (b : Bool) → path_failures (e ∷ scope) (same_items rest) ≡ [] → path_failures (e ∷ scope) (if b then same_items rest else raw.segment (segment_of s) (same_items rest)) ≡ []
     by true later = later
-    by false later = no_more _ _ (no_more _ _ (segments_hold e scope j s.label (a_segment s) here refl) rules) later
+    by false later = no_more _ _ (no_later _ _ (segments_hold e scope j s.label (a_segment s) here refl) rules) later
 paths_hold e scope j (group x nodes rest) h d g =
     let here = group_stands (nodes_of e) j x nodes rest h in
     let inner = ap (λ w. path_failures w (same_items nodes)) (walked_there e scope j x.label (a_group x nodes) here) ∙ paths_hold (a_group x nodes) (e ∷ scope) 0 nodes (from_the_first nodes) g.0.distinct g.1 in
-    no_more _ _ (no_more _ _ (walk_holds e scope j x.label (a_group x nodes) here) inner) (paths_hold e scope (suc j) rest (behind_group (nodes_of e) j x nodes rest h d) d.1 g.2)
+    no_more _ _ (no_later _ _ (walk_holds e scope j x.label (a_group x nodes) here) inner) (paths_hold e scope (suc j) rest (behind_group (nodes_of e) j x nodes rest h d) d.1 g.2)
 
 -- ---- no target label fails
 
@@ -225,7 +229,7 @@ targets_hold whole k j (group x nodes rest) order h d g =
     let number = number_there whole j k x.label (a_group x nodes) here in
     let below = ap (nodes_of_child whole) number ∙ nodes_there whole j (a_group x nodes) here.child_is in
     no_more _ _
-    (no_more _ _ (label_holds whole is_group k j x.label (a_group x nodes) here refl order)
+    (no_later _ _ (label_holds whole is_group k j x.label (a_group x nodes) here refl order)
     (ap (λ f. target_failures f 0 (same_items nodes)) below ∙ targets_hold nodes 0 0 nodes (omega arith) (from_the_first nodes) g.0.distinct g.1))
     (ap (λ n. target_failures whole n (same_items rest)) number ∙ targets_hold whole j (suc j) rest (omega arith) (behind_group whole j x nodes rest h d) d.1 g.2)
 

@@ -12,7 +12,8 @@ use Rattle.gw_check.specs.Levels.{level_failures, items_failures}
 use Rattle.gw_check.specs.Reads.{items_read, some_passed_over}
 use Rattle.gw_check.specs.Naming.{naming_failures, resolved}
 use Rattle.gw_check.specs.Typed.{failures}
-use Rattle.gw_check.specs.Checked.{or_later, all_failures, least}
+use Rattle.gw_check.specs.Failures.{or_later}
+use Rattle.gw_check.specs.Checked.{all_failures, least}
 use Rattle.gw_check.specs.Noted.{noted}
 use Rattle.gw_check.specs.Checking.{CountedNodes}
 use Rattle.gw_check.specs.Answers.{unlabelled}

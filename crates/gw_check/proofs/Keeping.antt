@@ -19,7 +19,8 @@ use Rattle.gw_check.specs.Places.{Element, the_whole, child, nodes_of_child, nam
 use Rattle.gw_check.specs.Resolved.{Rule}
 use Rattle.gw_check.specs.Placed.{is_segment, is_group, are_placed}
 use Rattle.gw_check.specs.Lawful.{LawfulRows, LawfulSource, LawfulLeaf, LawfulAt, LawfulLeaves, LawfulMaking, LawfulRule, LawfulItems, places}
-use Rattle.gw_check.specs.Naming.{labelled, node_or, walked_if, place_or, target_failures, naming_failures, no_rows, source, leaf, at_leaf, making, rule, resolved_items, resolved}
+use Rattle.gw_profile.specs.Labels.{labelled}
+use Rattle.gw_check.specs.Naming.{node_or, walked_if, place_or, target_failures, naming_failures, no_rows, source, leaf, at_leaf, making, rule, resolved_items, resolved}
 use Rattle.gw_check.proofs.Placing.{nil_both, named, number_is, segment_parts, group_parts, flat_parts, placed_where_named}
 
 -- ---- fields of target segments

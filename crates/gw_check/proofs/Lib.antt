@@ -10,6 +10,7 @@ pub mod Nodes
 pub mod Stepped
 pub mod Within
 pub mod Passing
+pub mod Missing
 pub mod Collecting
 pub mod Accounting
 pub mod Labels

@@ -1,6 +1,7 @@
 -- Failures noted one list after the other.
-use Rattle.std.proofs.Common.{◌≡◌, ℕ, zero, suc, ◌+◌, ◌-◌, ◌<◌, ◌≤◌, add-one, List, [], ◌∷◌, ◌++◌, map, flat_map, take, drop, drop-cons, get_or, length, Option, Some, refl, sym, ap, ◌∙◌, arith}
+use Rattle.std.proofs.Common.{◌≡◌, ℕ, zero, suc, Bool, true, false, ◌+◌, ◌-◌, ◌<◌, ◌≤◌, add-one, List, [], ◌∷◌, ◌++◌, map, flat_map, take, drop, drop-cons, get_or, length, Option, Some, refl, sym, ap, ◌∙◌, arith}
 use Rattle.std.proofs.lemmas.List.{append-nil}
+use Rattle.std.specs.Prelude.{◌||◌}
 use Rattle.std.specs.Global.{Vec}
 use Rattle.std.proofs.Common.{ap₂}
 use Rattle.gw_maplang.specs.declared.item.GroupItem.{GroupItem}
@@ -10,8 +11,9 @@ use Rattle.gw_maplang.proofs.Rows.{group_items, flat_items}
 use Rattle.gw_maplang.specs.Shapes.{Items, nothing}
 use Rattle.gw_maplang.specs.Seen.{path, items_all, with_item, row_items, all_items, rule}
 use Rattle.gw_check.specs.Places.{Element, within}
-use Rattle.gw_check.specs.Failures.{Failure}
+use Rattle.gw_check.specs.Failures.{Failure, fails, or_later}
 use Rattle.gw_check.specs.Checked.{lesser}
+use Rattle.gw_check.specs.Looking.{each_within}
 use Rattle.gw_check.specs.Noted.{noted}
 use Rattle.gw_check.specs.Naming.{but_last, place_or, walked_if, source_failures, walk_failures, rule_failures, path_failures}
 
@@ -50,10 +52,10 @@ joined a c = ap (λ l. l ++ c) (sym (append-nil a))
 
 -- an item, and those behind it
 pub one_item : (scope : List Element) (x : Item) (rest : Items) → path_failures scope (with_item x rest) ≡ path_failures scope (with_item x nothing) ++ path_failures scope rest
-one_item scope (SegFrom s) rest = joined (source_failures scope s.line (Some (path s.path)) ++ flat_map (rule_failures (walked_if scope (Some (path s.path)))) (map rule s.rules.items)) (path_failures scope rest)
+one_item scope (SegFrom s) rest = joined (or_later (source_failures scope s.line (Some (path s.path))) (flat_map (rule_failures (walked_if scope (Some (path s.path)))) (map rule s.rules.items))) (path_failures scope rest)
 one_item scope (SegAlways s) rest = joined (flat_map (rule_failures scope) (map rule s.rules.items)) (path_failures scope rest)
-one_item scope (EachAs' line label from shape row) rest = joined (walk_failures scope line (path from) ++ path_failures (within scope (place_or scope (path from))) (row_items row)) (path_failures scope rest)
-one_item scope (EachFlat' line from shape row) rest = joined (walk_failures scope line (path from) ++ path_failures (within scope (place_or scope (path from))) (row_items row)) (path_failures scope rest)
+one_item scope (EachAs' line label from shape row) rest = joined (each_within scope line (path from) (row_items row)) (path_failures scope rest)
+one_item scope (EachFlat' line from shape row) rest = joined (each_within scope line (path from) (row_items row)) (path_failures scope rest)
 
 pub items_next : (scope : List Element) (xs : List Item) (i : ℕ) (x : Item) (v w : Option Failure) → i < length xs → x ≡ get_or xs i x → v ≡ noted w (path_failures scope (with_item x nothing)) → noted w (path_failures scope (all_items (drop i xs))) ≡ noted v (path_failures scope (all_items (drop (i + 1) xs)))
 items_next scope xs i x v w m e made =
@@ -63,7 +65,7 @@ items_next scope xs i x v w m e made =
     ∙ ap (λ o. noted o (path_failures scope (all_items (drop (i + 1) xs)))) (sym made)
 
 abbrev each : List Element → ℕ → List (Vec ℕ) → List Item → List Failure
-each scope line p items = walk_failures scope line (items_all p) ++ path_failures (within scope (place_or scope (items_all p))) (all_items items)
+each scope line p items = each_within scope line (items_all p) (all_items items)
 
 pub group_failures : (scope : List Element) (item : Item) (g : GroupItem) (p : List (Vec ℕ)) (items : List Item) → item ≡ EachAs g → p ≡ g.path.items → items ≡ g.items.items → each scope g.line p items ≡ path_failures scope (with_item item nothing)
 group_failures scope item g p items is e f =
@@ -74,6 +76,19 @@ pub flat_failures : (scope : List Element) (item : Item) (g : FlatItem) (p : Lis
 flat_failures scope item g p items is e f =
     ap₂ (each scope g.line) e f ∙ sym (append-nil (each scope g.line g.path.items g.items.items))
     ∙ sym (ap (path_failures scope) (ap (λ x. with_item x nothing) is ∙ flat_items g nothing))
+
+-- ---- what hides the later ones
+
+-- where either fails, the later ones are hidden
+pub hidden : (r q line : ℕ) (a b : Bool) (later : List Failure) → (a || b) ≡ true → fails r line a ++ fails q line b ≡ or_later (fails r line a ++ fails q line b) later
+hidden r q line true b later e = refl
+hidden r q line false true later e = refl
+hidden r q line false false later e = absurd (cc)
+
+pub shown : (r q line : ℕ) (a b : Bool) (later : List Failure) → (a || b) ≡ false → later ≡ or_later (fails r line a ++ fails q line b) later
+shown r q line true b later e = absurd (cc)
+shown r q line false true later e = absurd (cc)
+shown r q line false false later e = refl
 
 -- ---- several lists
 

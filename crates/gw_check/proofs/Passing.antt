@@ -35,7 +35,7 @@ module _ (known : Accounted) (at : Position) where
 -- ---- elements that are dropped
 
 -- some drop leaves out the element at this position, or one around it
-abbrev is_around : List Drop → Position → Bool
+abbrev pub is_around : List Drop → Position → Bool
 is_around drops at = list_any (λ d. around d.steps d.field) drops
   where
     around : List ℕ → Option ℕ → Bool
@@ -53,7 +53,7 @@ pairs false true true d = refl
 pairs false true false d = refl
 pairs false false c d = refl
 
-dropped_is : (drops : List Drop) (at : Position) (n : ℕ) → is_dropped drops at n ≡ (is_around drops at || drops_field drops at n)
+pub dropped_is : (drops : List Drop) (at : Position) (n : ℕ) → is_dropped drops at n ≡ (is_around drops at || drops_field drops at n)
 dropped_is [] at n = refl
 dropped_is (d ∷ ds) at n = by d.field (dropped_is ds at n)
   where
@@ -73,7 +73,7 @@ one_further (x ∷ y ∷ steps) [] j = refl
 one_further (x ∷ steps) (y ∷ at) j =
     ap (λ b. x == y && b) (one_further steps at j) ∙ spread (x == y) (starts_with (λ a b. a == b) at steps) (bytes_eq steps (at ++ j ∷ []))
 
-around_below : (drops : List Drop) (at : Position) (j : ℕ) → is_around drops (at ++ j ∷ []) ≡ (is_around drops at || drops_element drops (at ++ j ∷ []))
+pub around_below : (drops : List Drop) (at : Position) (j : ℕ) → is_around drops (at ++ j ∷ []) ≡ (is_around drops at || drops_element drops (at ++ j ∷ []))
 around_below [] at j = refl
 around_below (d ∷ ds) at j = by d.field (around_below ds at j)
   where
@@ -85,7 +85,7 @@ around_below (d ∷ ds) at j = by d.field (around_below ds at j)
         ∙ pairs (starts_with (λ a b. a == b) at d.steps) (bytes_eq d.steps (at ++ j ∷ [])) (is_around ds at) (drops_element ds (at ++ j ∷ []))
     by (Some m) e = e
 
-at_the_top : (drops : List Drop) → is_around drops [] ≡ drops_element drops []
+pub at_the_top : (drops : List Drop) → is_around drops [] ≡ drops_element drops []
 at_the_top [] = refl
 at_the_top (d ∷ ds) = by d.field d.steps (at_the_top ds)
   where
@@ -101,12 +101,14 @@ and_false true = refl
 and_false false = refl
 
 module _ (reads : List SourceField) (drops : List Drop) where
+  pub field_dropped : (at : Position) (f : FieldValue) → is_around drops at ≡ true → is_passed_over reads drops at f ≡ false
+  field_dropped at f h =
+      ap (λ b. may_hold f.usage && not (is_read reads at f.number) && not b) (dropped_is drops at f.number ∙ ap (λ b. b || drops_field drops at f.number) h) ∙ and_false (may_hold f.usage && not (is_read reads at f.number))
+
   fields_dropped : (at : Position) (fs : List FieldValue) → is_around drops at ≡ true → list_any (is_passed_over reads drops at) fs ≡ false
   fields_dropped at [] h = refl
   fields_dropped at (f ∷ fs) h =
-      both_false _ _
-      (ap (λ b. may_hold f.usage && not (is_read reads at f.number) && not b) (dropped_is drops at f.number ∙ ap (λ b. b || drops_field drops at f.number) h) ∙ and_false (may_hold f.usage && not (is_read reads at f.number)))
-      (fields_dropped at fs h)
+      both_false _ _ (field_dropped at f h) (fields_dropped at fs h)
 
   all_dropped : (above : Position) (j : ℕ) (nodes : Forest) → is_around drops above ≡ true → some_passed_over reads drops above j nodes ≡ false
   all_dropped above j nothing h = refl
@@ -127,7 +129,7 @@ module _ (reads : List SourceField) (drops : List Drop) where
     by_both true false d = refl
     by_both false r d = refl
 
-    field_missed : (at : Position) (f : FieldValue) → is_around drops at ≡ false → is_missed known at f ≡ is_passed_over reads drops at f
+    pub field_missed : (at : Position) (f : FieldValue) → is_around drops at ≡ false → is_missed known at f ≡ is_passed_over reads drops at f
     field_missed at f h =
         ap (λ b. may_hold f.usage && not b) (all.fields at f.number)
         ∙ by_both (may_hold f.usage) (is_read reads at f.number) (drops_field drops at f.number)
@@ -138,7 +140,7 @@ module _ (reads : List SourceField) (drops : List Drop) where
     fields_missed at (f ∷ fs) h = ap (λ b. b || list_any (is_missed known at) fs) (field_missed at f h) ∙ ap (λ b. is_passed_over reads drops at f || b) (fields_missed at fs h)
 
     -- an element that isn't in one that is dropped
-    around_here : (above : Position) (j : ℕ) → is_around drops above ≡ false → is_around drops (above ++ j ∷ []) ≡ has_element known (above ++ j ∷ [])
+    pub around_here : (above : Position) (j : ℕ) → is_around drops above ≡ false → is_around drops (above ++ j ∷ []) ≡ has_element known (above ++ j ∷ [])
     around_here above j h = around_below drops above j ∙ ap (λ b. b || drops_element drops (above ++ j ∷ [])) h ∙ sym (all.elements (above ++ j ∷ []))
 
     one_missed : (at : Position) (missed passed : Bool) (b : Bool) → has_element known at ≡ b → is_around drops at ≡ has_element known at → (is_around drops at ≡ false → missed ≡ passed) → (is_around drops at ≡ true → passed ≡ false) → not (has_element known at) && missed ≡ passed

@@ -10,13 +10,18 @@ use Rattle.gw_profile.specs.Shapes.{Forest}
 use Rattle.gw_maplang.specs.Shapes as raw
 use Rattle.gw_maplang.specs.Shapes.{TableValue}
 use Rattle.gw_maplang.specs.Lawful as theirs
-use Rattle.gw_check.specs.Failures.{Failure, fails}
+use Rattle.gw_check.specs.Failures.{Failure, fails, or_later}
 use Rattle.gw_check.specs.Places.{Element, child, nodes_of_child, within}
 use Rattle.gw_check.specs.Resolved.{Items, first_child}
 use Rattle.gw_check.specs.Placed.{is_segment, is_group, all_for, are_placed, follows, number_or}
-use Rattle.gw_check.specs.Naming.{labelled, node_or, first_or, labels, are_one, label_failures, target_failures, resolved_items, place_or}
+use Rattle.gw_profile.specs.Labels.{labelled}
+use Rattle.gw_check.specs.Naming.{node_or, first_or, labels, are_one, label_failures, target_failures, resolved_items, place_or}
 
 -- ---- no failures
+
+later_nil : (a b : List Failure) → or_later a b ≡ [] → (a ≡ []) × (b ≡ [])
+later_nil [] b e = (refl, e)
+later_nil (f ∷ a) b e = absurd (cc)
 
 pub nil_both : (a b : List Failure) → a ++ b ≡ [] → (a ≡ []) × (b ≡ [])
 nil_both [] b e = (refl, e)
@@ -98,8 +103,8 @@ pub group_parts : (nodes : Forest) (j : ℕ) (g : raw.GroupItem) (items rest : r
 group_parts nodes j g items rest e =
     let a = label_failures nodes is_group j g.line g.label in
     let b = target_failures (nodes_of_child nodes (node_or j nodes g.label)) 0 items in
-    let p = nil_both (a ++ b) (target_failures nodes (node_or j nodes g.label) rest) e in
-    let q = nil_both a b p.0 in
+    let p = nil_both (or_later a b) (target_failures nodes (node_or j nodes g.label) rest) e in
+    let q = later_nil a b p.0 in
     record { label = q.0; inner = q.1; others = p.1 }
 
 pub record FlatParts (nodes : Forest) (j : ℕ) (items rest : raw.Items) : Type 0 where
@@ -113,8 +118,8 @@ flat_parts nodes j f items rest e =
     let a = fails 3 f.line (not (are_one (labels items))) in
     let b = fails 3 f.line (nat_lt (node_or j nodes (first_or (labels items))) j) in
     let c = target_failures nodes 0 items in
-    let p = nil_both (a ++ b ++ c) (target_failures nodes (node_or j nodes (first_or (labels items))) rest) e in
-    let q = nil_both (a ++ b) c p.0 in
+    let p = nil_both (or_later (a ++ b) c) (target_failures nodes (node_or j nodes (first_or (labels items))) rest) e in
+    let q = later_nil (a ++ b) c p.0 in
     let r = nil_both a b q.0 in
     record { one = not_false _ (not_broken 3 f.line _ r.0); order = not_broken 3 f.line _ r.1; inner = q.1; others = p.1 }
 

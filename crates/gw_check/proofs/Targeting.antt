@@ -1,6 +1,6 @@
 -- The failures of target labels, one item after the other.
-use Rattle.std.proofs.Common.{◌≡◌, ℕ, ◌+◌, ◌<◌, Bool, List, [], ◌++◌, drop, get_or, length, Option, refl, sym, ap, ap₂, ◌∙◌}
-use Rattle.std.specs.Prelude.{not, nat_lt, option_and_then}
+use Rattle.std.proofs.Common.{◌≡◌, ℕ, ◌+◌, ◌<◌, Bool, true, false, List, [], ◌++◌, drop, get_or, length, Option, refl, sym, ap, ap₂, ◌∙◌}
+use Rattle.std.specs.Prelude.{◌||◌, not, nat_lt, option_and_then}
 use Rattle.std.proofs.lemmas.List.{append-nil}
 use Rattle.gw_profile.specs.Shapes.{Forest}
 use Rattle.gw_maplang.specs.declared.item.GroupItem.{GroupItem}
@@ -9,12 +9,13 @@ use Rattle.gw_maplang.specs.declared.item.Item.{Item, SegFrom, SegAlways, EachAs
 use Rattle.gw_maplang.specs.Shapes.{Items, nothing}
 use Rattle.gw_maplang.specs.Seen.{with_item, row_items, all_items}
 use Rattle.gw_maplang.proofs.Rows.{group_items, flat_items}
-use Rattle.gw_check.specs.Failures.{Failure, fails}
+use Rattle.gw_check.specs.Failures.{Failure, fails, or_later}
 use Rattle.gw_check.specs.Placed.{is_segment, is_group}
 use Rattle.gw_check.specs.Places.{child, nodes_of_child}
 use Rattle.gw_check.specs.Noted.{noted}
-use Rattle.gw_check.specs.Naming.{labelled, labels, are_one, first_or, node_or, label_failures, target_failures}
-use Rattle.gw_check.proofs.Noting.{front, joined, noted_append}
+use Rattle.gw_profile.specs.Labels.{labelled}
+use Rattle.gw_check.specs.Naming.{labels, are_one, first_or, node_or, label_failures, flat_failures, target_failures}
+use Rattle.gw_check.proofs.Noting.{front, joined, noted_append, hidden, shown}
 use Rattle.gw_check.proofs.Labels.{flat_labels}
 
 -- the number of the node of an item
@@ -25,10 +26,10 @@ one_target : (nodes : Forest) (j : ℕ) (x : Item) (rest : Items) → target_fai
 one_target nodes j (SegFrom s) rest = joined (label_failures nodes is_segment j s.line s.label.items) (target_failures nodes (node_or j nodes s.label.items) rest)
 one_target nodes j (SegAlways s) rest = joined (label_failures nodes is_segment j s.line s.label.items) (target_failures nodes (node_or j nodes s.label.items) rest)
 one_target nodes j (EachAs' line label from shape row) rest =
-    joined (label_failures nodes is_group j line label.items ++ target_failures (nodes_of_child nodes (node_or j nodes label.items)) 0 (row_items row)) (target_failures nodes (node_or j nodes label.items) rest)
+    joined (or_later (label_failures nodes is_group j line label.items) (target_failures (nodes_of_child nodes (node_or j nodes label.items)) 0 (row_items row))) (target_failures nodes (node_or j nodes label.items) rest)
 one_target nodes j (EachFlat' line from shape row) rest =
     let first = first_or (labels (row_items row)) in
-    let here = fails 3 line (not (are_one (labels (row_items row)))) ++ fails 3 line (nat_lt (node_or j nodes first) j) ++ target_failures nodes 0 (row_items row) in
+    let here = or_later (flat_failures nodes j line (labels (row_items row))) (target_failures nodes 0 (row_items row)) in
     joined here (target_failures nodes (node_or j nodes first) rest)
     ∙ ap (λ l. (here ++ []) ++ target_failures nodes (node_or j nodes (first_or l)) rest) (sym (append-nil (labels (row_items row))))
 
@@ -40,30 +41,61 @@ targets_next nodes xs i x v w j k m e made at =
     ∙ noted_append w (target_failures nodes j (with_item x nothing)) (target_failures nodes (reached nodes j x) rest)
     ∙ ap₂ (λ o n. noted o (target_failures nodes n rest)) (sym made) (sym at)
 
--- what is noted of a group, and of the items in it
-pub group_noted : (nodes inner : Forest) (j node line : ℕ) (g : GroupItem) (label other : List ℕ) (items : List Item) (fits : Bool) (r v w : Option Failure) → line ≡ g.line → label ≡ g.label.items → other ≡ g.label.items → items ≡ g.items.items → node ≡ node_or j nodes label → fits ≡ is_group (option_and_then (child nodes) (labelled nodes other)) → v ≡ noted w (fails 3 line (not fits) ++ fails 3 line (nat_lt node j)) → inner ≡ nodes_of_child nodes node → r ≡ noted v (target_failures inner 0 (all_items items)) → r ≡ noted w (target_failures nodes j (with_item (EachAs g) nothing))
-group_noted nodes inner j node line g label other items fits r v w l a b c n f made below all =
-    let n' : node ≡ node_or j nodes g.label.items = n ∙ ap (node_or j nodes) a in
-    let f' : fits ≡ is_group (option_and_then (child nodes) (labelled nodes g.label.items)) = f ∙ ap (λ x. is_group (option_and_then (child nodes) (labelled nodes x))) b in
-    let here = label_failures nodes is_group j g.line g.label.items in
-    let there = target_failures (nodes_of_child nodes (node_or j nodes g.label.items)) 0 (all_items g.items.items) in
-    let v' : v ≡ noted w here = made ∙ (λ i. noted w (fails 3 (l i) (not (f' i)) ++ fails 3 (l i) (nat_lt (n' i) j))) in
-    all ∙ ap₂ noted v' (ap₂ (λ x y. target_failures x 0 (all_items y)) (below ∙ ap (nodes_of_child nodes) n') c)
-    ∙ sym (noted_append w here there)
-    ∙ ap (noted w) (sym (append-nil (here ++ there)) ∙ ap (target_failures nodes j) (sym (group_items g nothing)))
+-- ---- a group, and the items in it
 
--- what is noted of a flat, and of the items in it
-pub flat_noted : (nodes : Forest) (j node line : ℕ) (f : FlatItem) (label : List ℕ) (xs ys zs : List Item) (fits : Bool) (r v w : Option Failure) → line ≡ f.line → xs ≡ f.items.items → ys ≡ f.items.items → zs ≡ f.items.items → label ≡ first_or (labels (all_items xs)) → node ≡ node_or j nodes label → fits ≡ are_one (labels (all_items ys)) → v ≡ noted w (fails 3 line (not fits) ++ fails 3 line (nat_lt node j)) → r ≡ noted v (target_failures nodes 0 (all_items zs)) → r ≡ noted w (target_failures nodes j (with_item (EachFlat f) nothing))
-flat_noted nodes j node line f label xs ys zs fits r v w l a b c first n one made all =
-    let ls = labels (all_items f.items.items) in
-    let n' : node ≡ node_or j nodes (first_or ls) = n ∙ ap (node_or j nodes) (first ∙ ap (λ x. first_or (labels (all_items x))) a) in
-    let f' : fits ≡ are_one ls = one ∙ ap (λ x. are_one (labels (all_items x))) b in
-    let here = fails 3 f.line (not (are_one ls)) ++ fails 3 f.line (nat_lt (node_or j nodes (first_or ls)) j) in
-    let there = target_failures nodes 0 (all_items f.items.items) in
-    let v' : v ≡ noted w here = made ∙ (λ i. noted w (fails 3 (l i) (not (f' i)) ++ fails 3 (l i) (nat_lt (n' i) j))) in
-    all ∙ ap₂ noted v' (ap (λ x. target_failures nodes 0 (all_items x)) c)
-    ∙ sym (noted_append w here there)
-    ∙ ap (noted w) (sym (append-nil (here ++ there)) ∙ ap (target_failures nodes j) (sym (flat_items f nothing)))
+module _ (nodes : Forest) (j node line : ℕ) (g : GroupItem) (label other : List ℕ) (fits : Bool) (w : Option Failure)
+    (l : line ≡ g.line) (a : label ≡ g.label.items) (b : other ≡ g.label.items) (n : node ≡ node_or j nodes label) (f : fits ≡ is_group (option_and_then (child nodes) (labelled nodes other))) where
+  abbrev pub here : List Failure
+  here = fails 3 line (not fits) ++ fails 3 line (nat_lt node j)
+  abbrev pub there : List Failure
+  there = target_failures (nodes_of_child nodes node) 0 (all_items g.items.items)
+
+  n' : node ≡ node_or j nodes g.label.items
+  n' = n ∙ ap (node_or j nodes) a
+
+  f' : fits ≡ is_group (option_and_then (child nodes) (labelled nodes g.label.items))
+  f' = f ∙ ap (λ x. is_group (option_and_then (child nodes) (labelled nodes x))) b
+
+  whole : or_later here there ≡ target_failures nodes j (with_item (EachAs g) nothing)
+  whole =
+      (λ i. or_later (fails 3 (l i) (not (f' i)) ++ fails 3 (l i) (nat_lt (n' i) j)) (target_failures (nodes_of_child nodes (n' i)) 0 (all_items g.items.items)))
+      ∙ sym (append-nil (or_later (label_failures nodes is_group j g.line g.label.items) (target_failures (nodes_of_child nodes (node_or j nodes g.label.items)) 0 (all_items g.items.items))))
+      ∙ ap (target_failures nodes j) (sym (group_items g nothing))
+
+  pub group_lost : (r : Option Failure) → (not fits || nat_lt node j) ≡ true → r ≡ noted w here → r ≡ noted w (target_failures nodes j (with_item (EachAs g) nothing))
+  group_lost r lost made = made ∙ ap (noted w) (hidden 3 3 line (not fits) (nat_lt node j) there lost ∙ whole)
+
+  pub group_noted : (inner : Forest) (items : List Item) (r : Option Failure) → (not fits || nat_lt node j) ≡ false → items ≡ g.items.items → inner ≡ nodes_of_child nodes node → r ≡ noted w (target_failures inner 0 (all_items items)) → r ≡ noted w (target_failures nodes j (with_item (EachAs g) nothing))
+  group_noted inner items r found c below made =
+      made ∙ ap (noted w) ((λ i. target_failures (below i) 0 (all_items (c i))) ∙ shown 3 3 line (not fits) (nat_lt node j) there found ∙ whole)
+
+-- ---- a flat, and the items in it
+
+module _ (nodes : Forest) (j node line : ℕ) (f : FlatItem) (label : List ℕ) (xs ys : List Item) (fits : Bool) (w : Option Failure)
+    (l : line ≡ f.line) (a : xs ≡ f.items.items) (b : ys ≡ f.items.items) (first : label ≡ first_or (labels (all_items xs))) (n : node ≡ node_or j nodes label) (one : fits ≡ are_one (labels (all_items ys))) where
+  abbrev pub flat_here : List Failure
+  flat_here = fails 3 line (not fits) ++ fails 3 line (nat_lt node j)
+  abbrev pub flat_there : List Failure
+  flat_there = target_failures nodes 0 (all_items f.items.items)
+
+  flat_node : node ≡ node_or j nodes (first_or (labels (all_items f.items.items)))
+  flat_node = n ∙ ap (node_or j nodes) (first ∙ ap (λ x. first_or (labels (all_items x))) a)
+
+  flat_fits : fits ≡ are_one (labels (all_items f.items.items))
+  flat_fits = one ∙ ap (λ x. are_one (labels (all_items x))) b
+
+  flat_whole : or_later flat_here flat_there ≡ target_failures nodes j (with_item (EachFlat f) nothing)
+  flat_whole =
+      (λ i. or_later (fails 3 (l i) (not (flat_fits i)) ++ fails 3 (l i) (nat_lt (flat_node i) j)) flat_there)
+      ∙ sym (append-nil (or_later (flat_failures nodes j f.line (labels (all_items f.items.items))) flat_there))
+      ∙ ap (target_failures nodes j) (sym (flat_items f nothing))
+
+  pub flat_lost : (r : Option Failure) → (not fits || nat_lt node j) ≡ true → r ≡ noted w flat_here → r ≡ noted w (target_failures nodes j (with_item (EachFlat f) nothing))
+  flat_lost r lost made = made ∙ ap (noted w) (hidden 3 3 line (not fits) (nat_lt node j) flat_there lost ∙ flat_whole)
+
+  pub flat_noted : (items : List Item) (r : Option Failure) → (not fits || nat_lt node j) ≡ false → items ≡ f.items.items → r ≡ noted w (target_failures nodes 0 (all_items items)) → r ≡ noted w (target_failures nodes j (with_item (EachFlat f) nothing))
+  flat_noted items r found c made =
+      made ∙ ap (noted w) (ap (λ x. target_failures nodes 0 (all_items x)) c ∙ shown 3 3 line (not fits) (nat_lt node j) flat_there found ∙ flat_whole)
 
 pub flat_reached : (nodes : Forest) (j node : ℕ) (f : FlatItem) (label : List ℕ) (xs : List Item) → xs ≡ f.items.items → label ≡ first_or (labels (all_items xs)) → node ≡ node_or j nodes label → node ≡ reached nodes j (EachFlat f)
 flat_reached nodes j node f label xs a first n = n ∙ ap (node_or j nodes) (first ∙ ap first_or (flat_labels (EachFlat f) f xs refl a))

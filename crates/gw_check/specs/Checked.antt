@@ -2,13 +2,9 @@
 use Rattle.std.specs.Prelude.{Bool, ◌==◌, ◌&&◌, ◌||◌, nat_lt, if◌then◌else◌, List, [], ◌∷◌, Option, Some, None}
 use Rattle.gw_profile.specs.Shapes.{ProfileValue}
 use Rattle.gw_maplang.specs.Shapes.{MapValue}
-use Rattle.gw_check.specs.Failures.{Failure}
+use Rattle.gw_check.specs.Failures.{Failure, or_later}
 use Rattle.gw_check.specs.Naming.{naming_failures, resolved}
 use Rattle.gw_check.specs.Typed.{failures}
-
-abbrev pub or_later : List Failure → List Failure → List Failure
-or_later [] later = later
-or_later (f ∷ fs) later = f ∷ fs
 
 -- the rules 4 to 12 are looked at only where 1 to 3 hold
 abbrev pub all_failures : ProfileValue → ProfileValue → MapValue → List Failure

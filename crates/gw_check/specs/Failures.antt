@@ -8,3 +8,8 @@ pub record Failure : Type 0 where
 -- the rule fails at the line where this holds
 abbrev pub fails : ℕ → ℕ → Bool → List Failure
 fails rule line broken = if broken then record { rule = rule; line = line } ∷ [] else []
+
+-- the later ones only where there are no earlier ones
+abbrev pub or_later : List Failure → List Failure → List Failure
+or_later [] later = later
+or_later (f ∷ fs) later = f ∷ fs

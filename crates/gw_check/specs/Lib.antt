@@ -17,13 +17,12 @@ pub mod Seen
 pub mod Looking
 pub mod Resolving
 pub mod Founds
-pub mod Indexed
 pub mod Walks
-pub mod Heights
 pub mod Reading
 pub mod Counted
 pub mod Checking
 pub mod Collected
+pub mod Unread
 pub mod CheckedMap
 pub mod Texts
 pub mod Answers

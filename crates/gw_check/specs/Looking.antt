@@ -1,12 +1,14 @@
 -- Parts of the looking up of labels.
 use Rattle.std.specs.Prelude.{ℕ, ◌+◌, Bool, false, if◌then◌else◌, List, [], ◌∷◌, ◌++◌, Option, Some, None, option_map}
 use Rattle.gw_profile.specs.Line.{allows}
-use Rattle.gw_maplang.specs.Shapes.{Path}
-use Rattle.gw_check.specs.Places.{Element, a_segment, a_group, the_whole, nodes_of, Place, found, element_of}
+use Rattle.gw_maplang.specs.Shapes.{Path, Items}
+use Rattle.gw_check.specs.Places.{Element, a_segment, a_group, the_whole, nodes_of, Place, found, element_of, within}
 use denote.Ref.{Bor}
 use Rattle.gw_check.specs.declared.resolved.Place as places
 use Rattle.gw_check.specs.Seen.{place}
-use Rattle.gw_check.specs.Naming.{labelled, has_label, itself, or_else, steps_of}
+use Rattle.gw_profile.specs.Labels.{labelled}
+use Rattle.gw_check.specs.Failures.{Failure, or_later}
+use Rattle.gw_check.specs.Naming.{has_label, itself, or_else, steps_of, place_or, walk_failures, path_failures}
 
 -- the node of this number of the innermost element
 abbrev pub inwards : ℕ → Place
@@ -32,3 +34,7 @@ comes_often (Some (the_whole nodes)) = false
 
 abbrev pub place_there : Option (Bor places.Place) → Option Place
 place_there p = option_map (λ (b : Bor places.Place). place b.now) p
+
+-- the failures of a path that is walked, and of the items within
+abbrev pub each_within : List Element → ℕ → Path → Items → List Failure
+each_within scope line path items = or_later (walk_failures scope line path) (path_failures (within scope (place_or scope path)) items)

@@ -2,21 +2,16 @@
 use Rattle.std.specs.Prelude.{ℕ, suc, Bool, true, false, ◌&&◌, not, nat_lt, if◌then◌else◌, List, [], ◌∷◌, ◌++◌, map, flat_map, unwrap_or, slice_get, Option, Some, None, option_map, option_and_then, bytes_eq}
 use Rattle.std.specs.List.{list_all}
 use Rattle.gw_profile.specs.Shapes.{Forest, nothing, segment, group, ProfileValue}
+use Rattle.gw_profile.specs.Labels.{labelled}
 use Rattle.gw_profile.specs.Line.{allows}
 use Rattle.gw_maplang.specs.Shapes as raw
 use Rattle.gw_maplang.specs.Shapes.{MapValue, TableValue, Rows, table_of}
 use Rattle.gw_check.specs.Places.{Element, a_segment, a_group, the_whole, nodes_of, child, nodes_of_child, Place, found, element_of, within}
 use Rattle.gw_check.specs.Resolved.{Reference, Source, of_field, of_current, Leaf, const, copied, looked_up, At, Making, copy, first, repeat, build, Rule, Items, no_items, segment_item, group_item, flat_item, Drop, Resolved}
 use Rattle.gw_check.specs.Placed.{is_segment, is_group}
-use Rattle.gw_check.specs.Failures.{Failure, fails}
+use Rattle.gw_check.specs.Failures.{Failure, fails, or_later}
 
 -- ---- labels
-
--- the number of the node with this label
-abbrev pub labelled : Forest → List ℕ → Option ℕ
-labelled nothing label = None
-labelled (segment s rest) label = if bytes_eq s.label label then Some 0 else option_map suc (labelled rest label)
-labelled (group g nodes rest) label = if bytes_eq g.label label then Some 0 else option_map suc (labelled rest label)
 
 abbrev pub has_label : List ℕ → Element → Bool
 has_label label (a_segment s) = bytes_eq s.label label
@@ -134,14 +129,15 @@ abbrev pub walked_if : List Element → Option raw.Path → List Element
 walked_if scope None = scope
 walked_if scope (Some path) = within scope (place_or scope path)
 
+-- an item whose own path fails hides what is within it
 abbrev pub path_failures : List Element → raw.Items → List Failure
 path_failures scope raw.nothing = []
 path_failures scope (raw.segment s rest) =
-    source_failures scope s.line s.source ++ flat_map (rule_failures (walked_if scope s.source)) s.rules ++ path_failures scope rest
+    or_later (source_failures scope s.line s.source) (flat_map (rule_failures (walked_if scope s.source)) s.rules) ++ path_failures scope rest
 path_failures scope (raw.group g items rest) =
-    walk_failures scope g.line g.path ++ path_failures (within scope (place_or scope g.path)) items ++ path_failures scope rest
+    or_later (walk_failures scope g.line g.path) (path_failures (within scope (place_or scope g.path)) items) ++ path_failures scope rest
 path_failures scope (raw.flat f items rest) =
-    walk_failures scope f.line f.path ++ path_failures (within scope (place_or scope f.path)) items ++ path_failures scope rest
+    or_later (walk_failures scope f.line f.path) (path_failures (within scope (place_or scope f.path)) items) ++ path_failures scope rest
 
 -- a drop leads to something, and to a segment where it names a field
 abbrev pub drop_failures : Element → raw.DropValue → List Failure
@@ -177,19 +173,20 @@ abbrev pub label_failures : Forest → (Option Element → Bool) → ℕ → ℕ
 label_failures nodes is_kind j line label =
     fails 3 line (not (is_kind (option_and_then (child nodes) (labelled nodes label)))) ++ fails 3 line (nat_lt (node_or j nodes label) j)
 
--- items behind one of node j
+-- the items of a flat have different labels, or come behind one of a later node
+abbrev pub flat_failures : Forest → ℕ → ℕ → List (List ℕ) → List Failure
+flat_failures nodes j line labels = fails 3 line (not (are_one labels)) ++ fails 3 line (nat_lt (node_or j nodes (first_or labels)) j)
+
+-- items behind one of node j; one that fails hides what is within it
 abbrev pub target_failures : Forest → ℕ → raw.Items → List Failure
 target_failures nodes j raw.nothing = []
 target_failures nodes j (raw.segment s rest) =
     label_failures nodes is_segment j s.line s.label ++ target_failures nodes (node_or j nodes s.label) rest
 target_failures nodes j (raw.group g items rest) =
-    label_failures nodes is_group j g.line g.label
-    ++ target_failures (nodes_of_child nodes (node_or j nodes g.label)) 0 items
+    or_later (label_failures nodes is_group j g.line g.label) (target_failures (nodes_of_child nodes (node_or j nodes g.label)) 0 items)
     ++ target_failures nodes (node_or j nodes g.label) rest
 target_failures nodes j (raw.flat f items rest) =
-    fails 3 f.line (not (are_one (labels items)))
-    ++ fails 3 f.line (nat_lt (node_or j nodes (first_or (labels items))) j)
-    ++ target_failures nodes 0 items
+    or_later (flat_failures nodes j f.line (labels items)) (target_failures nodes 0 items)
     ++ target_failures nodes (node_or j nodes (first_or (labels items))) rest
 
 -- ---- the map without labels

@@ -3,6 +3,7 @@ use Rattle.std.specs.Prelude.{ℕ, min, List, [], ◌∷◌, map, reverse, Optio
 use denote.Ref.{Bor}
 use Rattle.gw_profile.specs.declared.node.Node.{Node}
 use Rattle.gw_profile.specs.Shapes.{Forest, nothing}
+use Rattle.gw_profile.specs.Labels.{nodes_in}
 use Rattle.gw_profile.specs.Seen.{segment_value, forest}
 use Rattle.gw_check.specs.declared.failure.Failure as failures_of
 use Rattle.gw_check.specs.declared.interval.Interval as intervals
@@ -56,15 +57,10 @@ scope es = reverse (map element es)
 
 -- ---- elements while labels are looked up
 
--- the nodes of a level, none where there is no level
-abbrev pub nodes_in : Option (Bor (List Node)) → Forest
-nodes_in None = nothing
-nodes_in (Some level) = forest level.now
-
 -- a group's nodes are those of its level
 abbrev pub walked : walks.Walked → Element
 walked (walks.TheVariants.Segment s) = a_segment (segment_value s.now)
-walked (walks.TheVariants.Group g level) = a_group (record { label = g.now.label.items; usage = g.now.usage; card = g.now.card }) (forest level.now)
+walked (walks.TheVariants.Group g level) = a_group (record { label = g.now.label.items; usage = g.now.usage; card = g.now.card }) (nodes_in level)
 walked (walks.TheVariants.Whole level) = the_whole (nodes_in level)
 
 -- the innermost last in the program

@@ -50,6 +50,10 @@ p1 = patients (codes "P1") (coded 8 RE (card 0 1) (codes "SEX"))
 abbrev pub p2 : ProfileValue
 p2 = patients (codes "P2") (coded 8 R (card 1 1) (codes "SEX"))
 
+-- any text of one octet as the sex
+abbrev pub p3 : ProfileValue
+p3 = patients (codes "P3") (record { number = 8; usage = R; card = card 1 1; comps = leaf_comp (record { len = Some 1; table = None }) ∷ [] })
+
 -- the same sex by the codes of ISO 5218
 abbrev pub t1 : ProfileValue
 t1 =

@@ -8,11 +8,11 @@ use crate::resolved::LeftOut;
 use indexmap::IndexSet;
 use std::alloc::{AllocError, Global};
 
-/// A field of the segment at a position.
+/// A field of the segment at a position: the numbers of the nodes that lead to it, from the profile's top on and each from 0.
 #[derive(PartialEq, Eq, Hash, Debug, Drop)]
-pub(crate) struct FieldAt {
-    pub(crate) at: Vec<usize>,
-    pub(crate) field: u32,
+pub struct FieldAt {
+    pub at: Vec<usize>,
+    pub field: u32,
 }
 
 /// The fields that are read or dropped by themselves, and the positions of the elements that are dropped with all that is in them.

@@ -13,13 +13,15 @@ ghost use Rattle.gw_check.specs.Resolved.{Reference, of_field};
 ghost use Rattle.gw_check.specs.Leaves.{Sources, Values, IsOf, Shape, listed, at_field, comp_of, sub_of, source_shape, may_be_unlisted, may_be_long, is_included};
 ghost use Rattle.gw_check.specs.Seen.{saturated};
 ghost use Rattle.gw_check.specs.Checked.{all_failures, least};
-ghost use Rattle.gw_check.specs.Worked.{p1, p2, t1, m1, m4, kin, contacts, both_kinds, oru, any_orders, two_orders, m3, failure};
+ghost use Rattle.gw_check.specs.Worked.{p1, p2, p3, t1, m1, m4, kin, contacts, both_kinds, oru, any_orders, two_orders, m3, failure};
 
 /// What the rules say of worked maps.
 pub fn worked_maps()
     ensures may_be_absent { least (all_failures p1 t1 m1) ≡ failure 5 9 }
     ensures is_there { least (all_failures p2 t1 m1) ≡ None }
     ensures without_a_row { least (all_failures p2 t1 m4) ≡ failure 10 7 }
+    ensures of_any_value { least (all_failures p3 t1 m4) ≡ failure 10 7 }
+    ensures of_any_value_or_else { least (all_failures p3 t1 m1) ≡ None }
     ensures too_many { least (all_failures kin (contacts 3) both_kinds) ≡ failure 4 3 }
     ensures enough_room { least (all_failures kin (contacts 4) both_kinds) ≡ None }
     ensures flattened { least (all_failures oru any_orders m3) ≡ None }

@@ -9,7 +9,6 @@ mod count;
 mod element;
 mod failure;
 mod field;
-mod indexed;
 mod inside;
 mod interval;
 mod items;
@@ -20,6 +19,7 @@ mod level;
 mod lookup;
 mod made;
 mod naming;
+mod overlooked;
 mod paths;
 mod place;
 mod presence;
@@ -34,9 +34,11 @@ mod texts;
 mod values;
 mod walked;
 
+pub use accounted::FieldAt;
 pub use checked::CheckedMap;
 pub use checker::{CheckFault, check};
 pub use leaf::included;
+pub use overlooked::unread;
 pub use resolved::{
     At, FlatItem, GroupItem, Item, Leaf, LeftOut, Making, Place, Reference, Rule, SegmentItem,
     Source,

@@ -1,24 +1,24 @@
 //! The rules on source paths (1 and 2).
-ghost use Rattle.std.specs.Prelude.{◌≡◌, ◌++◌, if◌then◌else◌, is_some, not, IfOk, Some, None, map, flat_map, option_map};
+ghost use Rattle.std.specs.Prelude.{◌≡◌, ◌++◌, ◌||◌, if◌then◌else◌, is_some, not, IfOk, Some, None, map, flat_map, option_map};
 ghost use Rattle.gw_maplang.specs.Seen.{items_all, field_path, ref as seen_ref, leaf_value, rule as seen_rule, with_item, all_items, dropped as seen_dropped};
 ghost use Rattle.gw_maplang.specs.declared.item.Item.{SegFrom};
 ghost use Rattle.gw_maplang.specs.Shapes.{nothing};
 ghost use Rattle.gw_check.specs.Failures.{fails};
-ghost use Rattle.gw_check.specs.Looking.{comes_often, place_there};
+ghost use Rattle.gw_check.specs.Looking.{comes_often, place_there, each_within};
 ghost use Rattle.gw_check.specs.Naming as spec;
 ghost use Rattle.gw_profile.specs.Line.{allows};
 ghost use Rattle.gw_check.specs.Placed.{is_segment};
 ghost use Rattle.gw_check.specs.Noted.{noted};
 ghost use Rattle.gw_check.specs.Places as places;
-ghost use Rattle.gw_check.specs.Seen.{walked as seen, nodes_in, place as seen_place, all_walked as walked, failures};
+ghost use Rattle.gw_profile.specs.Labels.{nodes_in};
+ghost use Rattle.gw_check.specs.Seen.{walked as seen, place as seen_place, all_walked as walked, failures};
 
 use crate::failure::{Failure, note};
-use crate::indexed::Indexed;
-use crate::paths::{place_of, place_or, within};
+use crate::paths::{or_itself, place_of, within};
 use crate::resolved::Place;
 use crate::walked::{Walked, child, element_at, nodes_of, nodes_of_child};
 use gw_maplang::{Dropped, FieldPath, FromItem, Item, Leaf, LeafRule, Ref, Rule};
-use gw_profile::Card;
+use gw_profile::{Card, Level};
 use std::alloc::{AllocError, Global};
 
 fn allows_two(card: Card) -> bool
@@ -31,7 +31,7 @@ fn allows_two(card: Card) -> bool
 }
 
 // Whether the node of this number may come more than once.
-fn comes_often<'a, 'p>(level: Option<&'a Indexed<'p>>, number: usize) -> bool
+fn comes_often<'a, 'p>(level: Option<&'a Level<'p>>, number: usize) -> bool
     ensures { result ≡ comes_often (places.child (nodes_in level.entry) number) }
 {
     match child(level, number) {
@@ -43,7 +43,7 @@ fn comes_often<'a, 'p>(level: Option<&'a Indexed<'p>>, number: usize) -> bool
 }
 
 // No step may come more than once.
-fn are_single<'a, 'p>(level: Option<&'a Indexed<'p>>, steps: &[usize]) -> bool
+fn are_single<'a, 'p>(level: Option<&'a Level<'p>>, steps: &[usize]) -> bool
     ensures { result ≡ spec.are_single (nodes_in level.entry) steps.now }
 {
     let mut level = level;
@@ -66,7 +66,7 @@ fn but_last(steps: &[usize]) -> &[usize]
 }
 
 // From where the steps of a place begin.
-fn start_of<'a, 'p>(scope: &[Walked<'a, 'p>], place: &Place) -> Option<&'a Indexed<'p>>
+fn start_of<'a, 'p>(scope: &[Walked<'a, 'p>], place: &Place) -> Option<&'a Level<'p>>
     ensures { nodes_in result ≡ spec.start_of (walked scope.now) (seen_place place.now) }
 {
     if place.out >= scope.len() {
@@ -121,36 +121,51 @@ fn note_both(worst: Option<Failure>, line: u32, leads: bool, once: bool) -> Opti
     note(note(worst, 1, line, !leads), 2, line, !once)
 }
 
-/// The failures of a path to what is walked, whose last step may come often.
-fn walk_failures(
-    alloc: Global,
-    worst: Option<Failure>,
-    scope: &[Walked<'_, '_>],
-    line: u32,
-    path: &[Vec<u8>],
-) -> Result<Option<Failure>, AllocError>
-    ensures { IfOk result (λ all. failures all ≡ noted (failures worst) (spec.walk_failures (walked scope.now) line (items_all path.now))) }
+// Where a path leads: a place that stands for none, whether it leads to what is sought, and whether its steps come once.
+#[derive(Drop)]
+struct Led {
+    place: Place,
+    leads: bool,
+    once: bool,
+}
+
+// Whether a rule on the path fails.
+fn is_lost(leads: bool, once: bool) -> bool
+    ensures { result ≡ (not leads || not once) }
+{
+    !leads || !once
+}
+
+// Where a path leads to what is walked; its last step may come often.
+fn walk_led(alloc: Global, scope: &[Walked<'_, '_>], path: &[Vec<u8>]) -> Result<Led, AllocError>
+    ensures place { IfOk result (λ l. seen_place l.place ≡ spec.place_or (walked scope.now) (items_all path.now)) }
+    ensures leads { IfOk result (λ l. l.leads ≡ spec.has_place (spec.place_of (walked scope.now) (items_all path.now))) }
+    ensures once { IfOk result (λ l. l.once ≡ spec.is_single_place (walked scope.now) spec.but_last (spec.place_of (walked scope.now) (items_all path.now))) }
 {
     let place = place_of(alloc, scope, path)?;
     let leads = place.is_some();
     let once = is_walked_once(scope, place.as_ref());
-    Ok(note_both(worst, line, leads, once))
+    Ok(Led {
+        place: or_itself(alloc, place),
+        leads,
+        once,
+    })
 }
 
-/// The failures of a path to the segments that are walked.
-fn segments_failures(
-    alloc: Global,
-    worst: Option<Failure>,
-    scope: &[Walked<'_, '_>],
-    line: u32,
-    path: &[Vec<u8>],
-) -> Result<Option<Failure>, AllocError>
-    ensures { IfOk result (λ all. failures all ≡ noted (failures worst) (spec.segments_failures (walked scope.now) line (items_all path.now))) }
+// Where a path leads to the segments that are walked; its last step may come often.
+fn segments_led(alloc: Global, scope: &[Walked<'_, '_>], path: &[Vec<u8>]) -> Result<Led, AllocError>
+    ensures place { IfOk result (λ l. seen_place l.place ≡ spec.place_or (walked scope.now) (items_all path.now)) }
+    ensures leads { IfOk result (λ l. l.leads ≡ spec.ends_at_segment (walked scope.now) (spec.place_of (walked scope.now) (items_all path.now))) }
+    ensures once { IfOk result (λ l. l.once ≡ spec.is_single_place (walked scope.now) spec.but_last (spec.place_of (walked scope.now) (items_all path.now))) }
 {
     let place = place_of(alloc, scope, path)?;
     let leads = ends_at_segment(scope, place.as_ref());
     let once = is_walked_once(scope, place.as_ref());
-    Ok(note_both(worst, line, leads, once))
+    Ok(Led {
+        place: or_itself(alloc, place),
+        leads,
+        once,
+    })
 }
 
 /// The failures of a path to the one segment that is read.
@@ -257,9 +272,11 @@ fn from_failures(
 ) -> Result<Option<Failure>, AllocError>
     ensures { IfOk result (λ all. failures all ≡ noted (failures worst) (spec.path_failures (walked scope.now) (with_item (SegFrom made.now) nothing))) }
 {
-    let worst = segments_failures(alloc, worst, scope, made.line, &made.path)?;
-    let place = place_or(alloc, scope, &made.path)?;
-    let inner = within(alloc, scope, &place)?;
+    let led = segments_led(alloc, scope, &made.path)?;
+    if is_lost(led.leads, led.once) {
+        return Ok(note_both(worst, made.line, led.leads, led.once));
+    }
+    let inner = within(alloc, scope, &led.place)?;
     rules_failures(alloc, worst, &inner, &made.rules)
 }
 
@@ -273,11 +290,13 @@ fn each_failures(
     path: &[Vec<u8>],
     items: &[Item],
 ) -> Result<Option<Failure>, AllocError>
-    ensures { IfOk result (λ all. failures all ≡ noted (failures worst) (spec.walk_failures (walked scope.now) line (items_all path.now) ++ spec.path_failures (places.within (walked scope.now) (spec.place_or (walked scope.now) (items_all path.now))) (all_items items.now))) }
+    ensures { IfOk result (λ all. failures all ≡ noted (failures worst) (each_within (walked scope.now) line (items_all path.now) (all_items items.now))) }
 {
-    let worst = walk_failures(alloc, worst, scope, line, path)?;
-    let place = place_or(alloc, scope, path)?;
-    let inner = within(alloc, scope, &place)?;
+    let led = walk_led(alloc, scope, path)?;
+    if is_lost(led.leads, led.once) {
+        return Ok(note_both(worst, line, led.leads, led.once));
+    }
+    let inner = within(alloc, scope, &led.place)?;
     path_failures(alloc, worst, &inner, items)
 }
 

@@ -1,15 +1,16 @@
 //! The places to which the paths of a map lead.
-ghost use Rattle.std.specs.Prelude.{◌≡◌, ℕ, ◌++◌, IfOk, option_map, bytes_eq};
+ghost use Rattle.std.specs.Prelude.{◌≡◌, ℕ, ◌++◌, IfOk, option_map, unwrap_or, bytes_eq};
 ghost use Rattle.std.specs.Global.{Vec};
 ghost use Rattle.gw_maplang.specs.Seen.{items_all};
 ghost use Rattle.gw_check.specs.Places as places;
 ghost use Rattle.gw_check.specs.Naming as spec;
 ghost use Rattle.gw_check.specs.Looking.{inwards, further, begun, onwards};
-ghost use Rattle.gw_check.specs.Seen.{walked as seen, nodes_in, place as seen_place, all_walked as walked};
+ghost use Rattle.gw_profile.specs.Labels.{nodes_in, labelled as spec_labelled};
+ghost use Rattle.gw_check.specs.Seen.{walked as seen, place as seen_place, all_walked as walked};
 
-use crate::indexed::Indexed;
 use crate::resolved::Place;
 use crate::walked::{Walked, element_at, nodes_of, nodes_of_child};
+use gw_profile::Level;
 use std::alloc::{AllocError, Global};
 
 /// Whether the two are the same octets.
@@ -20,8 +21,8 @@ pub(crate) fn same(one: &[u8], other: &[u8]) -> bool
 }
 
 /// The number of the node with this label.
-pub(crate) fn labelled<'a, 'p>(level: Option<&'a Indexed<'p>>, label: &[u8]) -> Option<usize>
-    ensures { result ≡ spec.labelled (nodes_in level.entry) label.now }
+pub(crate) fn labelled<'a, 'p>(level: Option<&'a Level<'p>>, label: &[u8]) -> Option<usize>
+    ensures { result ≡ spec_labelled (nodes_in level.entry) label.now }
 {
     match level {
         None => None,
@@ -97,7 +98,7 @@ fn first_label(
 
 // The numbers of nodes to which the labels lead, each within the one before it, behind these.
 fn follow<'a, 'p>(
-    level: Option<&'a Indexed<'p>>,
+    level: Option<&'a Level<'p>>,
     path: &[Vec<u8>],
     steps: Vec<usize>,
 ) -> Result<Option<Vec<usize>>, AllocError>
@@ -151,6 +152,16 @@ pub(crate) fn place_of(
     }
 }
 
+/// The place, or that of the innermost element itself where there is none.
+pub(crate) fn or_itself(alloc: Global, place: Option<Place>) -> Place
+    ensures { seen_place result ≡ unwrap_or (option_map seen_place place) spec.itself }
+{
+    match place {
+        None => itself(alloc, 0),
+        Some(place) => place,
+    }
+}
+
 /// The place of a path that names one.
 pub(crate) fn place_or(
     alloc: Global,
@@ -159,10 +170,8 @@ pub(crate) fn place_or(
 ) -> Result<Place, AllocError>
     ensures { IfOk result (λ p. seen_place p ≡ spec.place_or (walked scope.now) (items_all path.now)) }
 {
-    match place_of(alloc, scope, path)? {
-        None => Ok(itself(alloc, 0)),
-        Some(place) => Ok(place),
-    }
+    let place = place_of(alloc, scope, path)?;
+    Ok(or_itself(alloc, place))
 }
 
 /// The scope of what is walked at a place.

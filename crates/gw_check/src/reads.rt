@@ -83,7 +83,8 @@ fn may_hold(usage: Usage) -> bool
     }
 }
 
-fn is_missed(
+/// Whether the field may hold something that is required, and nothing accounts for it.
+pub(crate) fn is_missed(
     alloc: Global,
     known: &Accounted,
     at: &[usize],
@@ -295,8 +296,8 @@ fn add_items(
     Ok(())
 }
 
-// What the items read.
-fn all_read(alloc: Global, items: &[Item]) -> Result<Vec<FieldAt>, AllocError>
+/// What the items read.
+pub(crate) fn all_read(alloc: Global, items: &[Item]) -> Result<Vec<FieldAt>, AllocError>
     ensures { IfOk result (λ reads. (tables : List TableValue) → fields_at reads.items ≡ spec.items_read ([] ∷ []) (all_items tables items.now)) }
 {
     let mut scope = Vec::new(alloc);

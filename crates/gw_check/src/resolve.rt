@@ -9,14 +9,13 @@ ghost use Rattle.gw_check.specs.Resolving.{Resolves, ResolvesBy};
 ghost use Rattle.gw_check.specs.Seen.{failures};
 
 use crate::failure::Failure;
-use crate::indexed::{Indexed, index};
 use crate::naming::{drops_failures, path_failures};
 use crate::resolved::{Item, LeftOut};
 use crate::resolving::{resolve_drops, resolve_items};
 use crate::targets::target_failures;
 use crate::walked::Walked;
 use gw_maplang::Map;
-use gw_profile::Profile;
+use gw_profile::{Level, Profile};
 use std::alloc::{AllocError, Global};
 
 /// The items of a map and what it leaves out, without labels.
@@ -36,8 +35,8 @@ pub(crate) enum Resolving {
 // The least failure of the rules on labels (1 to 3).
 fn least_failure(
     alloc: Global,
-    source: &Indexed<'_>,
-    target: &Indexed<'_>,
+    source: &Level<'_>,
+    target: &Level<'_>,
     map: &Map,
 ) -> Result<Option<Failure>, AllocError>
     ensures { IfOk result (λ worst. (from to : ProfileValue) → from.nodes ≡ forest source.now → to.nodes ≡ forest target.now → failures worst ≡ least (spec.naming_failures from to (map_value map.now))) }
@@ -52,8 +51,8 @@ fn least_failure(
 // Looks the labels of a map up in the levels of its profiles.
 fn resolve_in(
     alloc: Global,
-    source: &Indexed<'_>,
-    target: &Indexed<'_>,
+    source: &Level<'_>,
+    target: &Level<'_>,
     map: &Map,
 ) -> Result<Resolving, AllocError>
     ensures { IfOk result (ResolvesBy (forest source.now) (forest target.now) (map_value map.now)) }
@@ -77,7 +76,7 @@ pub(crate) fn resolve(
 ) -> Result<Resolving, AllocError>
     ensures { IfOk result (Resolves (profile_value source.now) (profile_value target.now) (map_value map.now)) }
 {
-    let from = index(alloc, source.nodes())?;
-    let to = index(alloc, target.nodes())?;
+    let from = Level::of(alloc, source)?;
+    let to = Level::of(alloc, target)?;
     resolve_in(alloc, &from, &to, map)
 }

@@ -5,9 +5,9 @@ ghost use Rattle.gw_maplang.specs.Shapes.{TableValue, Items};
 ghost use Rattle.gw_maplang.specs.declared.item.Item as items_of;
 ghost use Rattle.gw_check.specs.Naming as spec;
 ghost use Rattle.gw_check.specs.Seen as seen;
-ghost use Rattle.gw_check.specs.Seen.{nodes_in, all_walked as walked};
+ghost use Rattle.gw_profile.specs.Labels.{nodes_in};
+ghost use Rattle.gw_check.specs.Seen.{all_walked as walked};
 
-use crate::indexed::Indexed;
 use crate::paths::{place_or, within};
 use crate::resolved::{
     At, FlatItem, GroupItem, Item, Leaf, LeftOut, Making, Place, Reference, Rule, SegmentItem,
@@ -16,6 +16,7 @@ use crate::resolved::{
 use crate::targets::node_or;
 use crate::walked::{Walked, nodes_of_child};
 use gw_maplang::{Dropped, FieldPath, LeafRule, Ref};
+use gw_profile::Level;
 use std::alloc::{AllocError, Global};
 
 fn reference(
@@ -158,7 +159,7 @@ fn segment_from(
     alloc: Global,
     scope: &[Walked<'_, '_>],
     made: &gw_maplang::FromItem,
-    level: Option<&Indexed<'_>>,
+    level: Option<&Level<'_>>,
 ) -> Result<Item, AllocError>
     ensures { IfOk result (λ x. (tables : List TableValue) (rest : Items) → seen.with_item tables x (spec.resolved_items tables (walked scope.now) (nodes_in level.entry) rest) ≡ spec.resolved_items tables (walked scope.now) (nodes_in level.entry) (raw.with_item (items_of.SegFrom made.now) rest)) }
 {
@@ -177,7 +178,7 @@ fn segment_always(
     alloc: Global,
     scope: &[Walked<'_, '_>],
     made: &gw_maplang::AlwaysItem,
-    level: Option<&Indexed<'_>>,
+    level: Option<&Level<'_>>,
 ) -> Result<Item, AllocError>
     ensures { IfOk result (λ x. (tables : List TableValue) (rest : Items) → seen.with_item tables x (spec.resolved_items tables (walked scope.now) (nodes_in level.entry) rest) ≡ spec.resolved_items tables (walked scope.now) (nodes_in level.entry) (raw.with_item (items_of.SegAlways made.now) rest)) }
 {
@@ -195,7 +196,7 @@ fn group(
     alloc: Global,
     scope: &[Walked<'_, '_>],
     made: &gw_maplang::GroupItem,
-    level: Option<&Indexed<'_>>,
+    level: Option<&Level<'_>>,
 ) -> Result<Item, AllocError>
     ensures { IfOk result (λ x. (tables : List TableValue) (rest : Items) → seen.with_item tables x (spec.resolved_items tables (walked scope.now) (nodes_in level.entry) rest) ≡ spec.resolved_items tables (walked scope.now) (nodes_in level.entry) (raw.with_item (items_of.EachAs made.now) rest)) }
 {
@@ -216,7 +217,7 @@ fn flat(
     alloc: Global,
     scope: &[Walked<'_, '_>],
     made: &gw_maplang::FlatItem,
-    level: Option<&Indexed<'_>>,
+    level: Option<&Level<'_>>,
 ) -> Result<Item, AllocError>
     ensures { IfOk result (λ x. (tables : List TableValue) (rest : Items) → seen.with_item tables x (spec.resolved_items tables (walked scope.now) (nodes_in level.entry) rest) ≡ spec.resolved_items tables (walked scope.now) (nodes_in level.entry) (raw.with_item (items_of.EachFlat made.now) rest)) }
 {
@@ -235,7 +236,7 @@ fn resolve_item(
     alloc: Global,
     scope: &[Walked<'_, '_>],
     item: &gw_maplang::Item,
-    level: Option<&Indexed<'_>>,
+    level: Option<&Level<'_>>,
 ) -> Result<Item, AllocError>
     ensures { IfOk result (λ x. (tables : List TableValue) (rest : Items) → seen.with_item tables x (spec.resolved_items tables (walked scope.now) (nodes_in level.entry) rest) ≡ spec.resolved_items tables (walked scope.now) (nodes_in level.entry) (raw.with_item item.now rest)) }
 {
@@ -253,7 +254,7 @@ pub(crate) fn resolve_items(
     alloc: Global,
     scope: &[Walked<'_, '_>],
     items: &[gw_maplang::Item],
-    level: Option<&Indexed<'_>>,
+    level: Option<&Level<'_>>,
 ) -> Result<Vec<Item>, AllocError>
     ensures { IfOk result (λ v. (tables : List TableValue) → seen.all_items tables v.items ≡ spec.resolved_items tables (walked scope.now) (nodes_in level.entry) (raw.all_items items.now)) }
 {

@@ -1,5 +1,5 @@
 //! The rule on target labels and the order of items (3).
-ghost use Rattle.std.specs.Prelude.{◌≡◌, ◌++◌, ◌&&◌, not, nat_lt, Some, slice_get, bytes_eq, unwrap_or, option_map, option_and_then};
+ghost use Rattle.std.specs.Prelude.{◌≡◌, ◌++◌, ◌&&◌, ◌||◌, not, nat_lt, Some, slice_get, bytes_eq, unwrap_or, option_map, option_and_then};
 ghost use Rattle.std.specs.List.{list_all};
 ghost use Rattle.gw_maplang.specs.declared.item.Item.{EachAs, EachFlat};
 ghost use Rattle.gw_maplang.specs.Seen.{now, with_item, all_items};
@@ -9,13 +9,14 @@ ghost use Rattle.gw_check.specs.Naming as spec;
 ghost use Rattle.gw_check.specs.Noted.{noted};
 ghost use Rattle.gw_check.specs.Placed.{is_segment, is_group};
 ghost use Rattle.gw_check.specs.Places as places;
-ghost use Rattle.gw_check.specs.Seen.{walked as seen, nodes_in, failures};
+ghost use Rattle.gw_profile.specs.Labels.{nodes_in};
+ghost use Rattle.gw_check.specs.Seen.{walked as seen, failures};
 
 use crate::failure::{Failure, note};
-use crate::indexed::Indexed;
 use crate::paths::{labelled, same};
 use crate::walked::{Walked, child, nodes_of_child};
 use gw_maplang::{FlatItem, GroupItem, Item};
+use gw_profile::Level;
 
 // ---- labels
 
@@ -110,13 +111,13 @@ fn number_or(j: usize, number: Option<usize>) -> usize
 }
 
 /// The number of the node with this label, j where there is none.
-pub(crate) fn node_or(j: usize, level: Option<&Indexed<'_>>, label: &[u8]) -> usize
+pub(crate) fn node_or(j: usize, level: Option<&Level<'_>>, label: &[u8]) -> usize
     ensures { result ≡ spec.node_or j (nodes_in level.entry) label.now }
 {
     number_or(j, labelled(level, label))
 }
 
-fn child_if<'a, 'p>(level: Option<&'a Indexed<'p>>, number: Option<usize>) -> Option<Walked<'a, 'p>>
+fn child_if<'a, 'p>(level: Option<&'a Level<'p>>, number: Option<usize>) -> Option<Walked<'a, 'p>>
     ensures { option_map seen result ≡ option_and_then (places.child (nodes_in level.entry)) number }
 {
     match number {
@@ -125,7 +126,7 @@ fn child_if<'a, 'p>(level: Option<&'a Indexed<'p>>, number: Option<usize>) -> Op
     }
 }
 
-fn is_segment_at(level: Option<&Indexed<'_>>, number: Option<usize>) -> bool
+fn is_segment_at(level: Option<&Level<'_>>, number: Option<usize>) -> bool
     ensures { result ≡ is_segment (option_and_then (places.child (nodes_in level.entry)) number) }
 {
     match child_if(level, number) {
@@ -136,7 +137,7 @@ fn is_segment_at(level: Option<&Indexed<'_>>, number: Option<usize>) -> bool
     }
 }
 
-fn is_group_at(level: Option<&Indexed<'_>>, number: Option<usize>) -> bool
+fn is_group_at(level: Option<&Level<'_>>, number: Option<usize>) -> bool
     ensures { result ≡ is_group (option_and_then (places.child (nodes_in level.entry)) number) }
 {
     match child_if(level, number) {
@@ -145,6 +146,13 @@ fn is_group_at(level: Option<&Indexed<'_>>, number: Option<usize>) -> bool
         Some(Walked::Group(_, _)) => true,
         Some(Walked::Whole(_)) => false,
     }
+}
+
+// Whether something is wrong with the nodes of an item, or it comes behind one of a later node.
+fn is_misplaced(fits: bool, j: usize, node: usize) -> bool
+    ensures { result ≡ (not fits || nat_lt node j) }
+{
+    !fits || node < j
 }
 
 // Takes note of what is wrong with the nodes of an item, or of one that comes behind one of a later node.
@@ -162,7 +170,7 @@ fn note_target(
 
 fn segment_target(
     worst: Option<Failure>,
-    level: Option<&Indexed<'_>>,
+    level: Option<&Level<'_>>,
     j: usize,
     line: u32,
     label: &[u8],
@@ -183,7 +191,7 @@ fn segment_target(
 fn group_target(
     worst: Option<Failure>,
     made: &GroupItem,
-    level: Option<&Indexed<'_>>,
+    level: Option<&Level<'_>>,
     j: usize,
 ) -> Reached
     ensures worst { failures result.worst ≡ noted (failures worst) (spec.target_failures (nodes_in level.entry) j (with_item (EachAs made.now) nothing)) }
@@ -192,7 +200,12 @@ fn group_target(
     let number = labelled(level, &made.label);
     let node = number_or(j, number);
     let fits = is_group_at(level, number);
-    let worst = note_target(worst, made.line, fits, j, node);
+    if is_misplaced(fits, j, node) {
+        return Reached {
+            worst: note_target(worst, made.line, fits, j, node),
+            node,
+        };
+    }
     Reached {
         worst: target_failures(worst, &made.items, nodes_of_child(level, node), 0),
         node,
@@ -203,7 +216,7 @@ fn group_target(
 fn flat_target(
     worst: Option<Failure>,
     made: &FlatItem,
-    level: Option<&Indexed<'_>>,
+    level: Option<&Level<'_>>,
     j: usize,
 ) -> Reached
     ensures worst { failures result.worst ≡ noted (failures worst) (spec.target_failures (nodes_in level.entry) j (with_item (EachFlat made.now) nothing)) }
@@ -211,7 +224,12 @@ fn flat_target(
 {
     let node = node_or(j, level, first_or(&made.items));
     let fits = are_one(&made.items);
-    let worst = note_target(worst, made.line, fits, j, node);
+    if is_misplaced(fits, j, node) {
+        return Reached {
+            worst: note_target(worst, made.line, fits, j, node),
+            node,
+        };
+    }
     Reached {
         worst: target_failures(worst, &made.items, level, 0),
         node,
@@ -222,7 +240,7 @@ fn flat_target(
 fn item_target(
     worst: Option<Failure>,
     item: &Item,
-    level: Option<&Indexed<'_>>,
+    level: Option<&Level<'_>>,
     j: usize,
 ) -> Reached
     ensures worst { failures result.worst ≡ noted (failures worst) (spec.target_failures (nodes_in level.entry) j (with_item item.now nothing)) }
@@ -241,7 +259,7 @@ fn item_target(
 pub(crate) fn target_failures(
     worst: Option<Failure>,
     items: &[Item],
-    level: Option<&Indexed<'_>>,
+    level: Option<&Level<'_>>,
     j: usize,
 ) -> Option<Failure>
     ensures { failures result ≡ noted (failures worst) (spec.target_failures (nodes_in level.entry) j (all_items items.now)) }

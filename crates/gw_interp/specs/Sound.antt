@@ -31,3 +31,9 @@ abbrev pub MakesSome : ProfileValue → ProfileValue → Resolved → Type 0
 MakesSome source target map =
     (m : List SegmentValue) (tree : Tree) → IsMessage m → Conforms source m → IsTreeOf source m tree →
     (made : List SegmentValue) × IsMade target map m tree made
+
+-- there is exactly one of each message that conforms to the source
+abbrev pub MakesTheOne : ProfileValue → ProfileValue → Resolved → Type 0
+MakesTheOne source target map =
+    (m : List SegmentValue) (tree : Tree) → IsMessage m → Conforms source m → IsTreeOf source m tree →
+    (made : List SegmentValue) × IsMade target map m tree made × ((other : List SegmentValue) → IsMessage other → Means target map m tree other → other ≡ made)

@@ -1,10 +1,20 @@
 //! What holds of the definitions.
+ghost use Rattle.std.specs.Prelude.{◌≡◌, []};
 ghost use Rattle.gw_profile.specs.Shapes.{ProfileValue};
 ghost use Rattle.gw_profile.specs.WellFormed.{WellFormed};
+ghost use Rattle.gw_maplang.specs.Lawful.{Lawful};
+ghost use Rattle.gw_maplang.specs.Shapes.{MapValue};
+ghost use Rattle.gw_check.specs.Checked.{all_failures};
+ghost use Rattle.gw_check.specs.Naming.{resolved};
 ghost use Rattle.gw_check.specs.Resolved.{Resolved};
 ghost use Rattle.gw_check.specs.Lawful.{LawfulItems};
 ghost use Rattle.gw_check.specs.Typed.{IsTyped};
-ghost use Rattle.gw_interp.specs.Sound.{MakesConforming, MakesOne, MakesSome};
+ghost use Rattle.gw_interp.specs.Sound.{MakesConforming, MakesOne, MakesSome, MakesTheOne};
+
+/// Where no rule fails, a map makes of each message that conforms to the source exactly one message, and that one conforms to the target.
+pub fn a_yes_gives_one_conforming_message()
+    ensures { (source target : ProfileValue) (map : MapValue) → WellFormed source → WellFormed target → Lawful map → all_failures source target map ≡ [] → MakesTheOne source target (resolved source target map) }
+{}
 
 /// Where the rules allow a map, what it makes of any message that conforms to the source conforms to the target.
 pub fn allowed_maps_are_sound()

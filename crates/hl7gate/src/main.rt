@@ -7,6 +7,7 @@ mod arguments;
 mod files;
 mod maps;
 mod program;
+mod refusal;
 mod report;
 mod stamps;
 

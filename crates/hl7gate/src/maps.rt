@@ -4,13 +4,15 @@ ghost use Rattle.std.specs.Arc.{arc_value};
 ghost use Rattle.gw_profile.specs.Seen.{profile_value};
 
 use crate::files::{read_all, read_text};
+use crate::refusal::Refusal;
 use crate::report::{Ended, write_all};
 use clap::ArgMatches;
-use gw_check::{CheckFault, CheckedMap};
+use gw_check::{CheckFault, CheckedMap, FieldAt, unread};
 use gw_maplang::Map;
 use gw_profile::Profile;
 use gw_run::RunFault;
 use gw_validate::{Tree, Verdict};
+use std::alloc::{AllocError, Global};
 use std::io::{Read, Write};
 use std::rt::Files;
 use std::sync::Arc;
@@ -27,49 +29,76 @@ pub(crate) fn read_profile<R: Files + AllocGlobal>(
     Ok(profile)
 }
 
-/// The map in the file that a word names.
-fn read_map<R: Files + AllocGlobal>(
-    rt: &R,
-    words: &ArgMatches<'_>,
-    word: &str,
-) -> Result<Map, Ended> {
-    let text = read_text(rt, words.get_str(word).unwrap_or(""))?;
-    let map = gw_maplang::parse(rt.alloc(), &text)?;
-    Ok(map)
+/// A map that was checked, or the rule that refuses it.
+#[derive(Drop)]
+enum Checked {
+    Allowed(CheckedMap),
+    Refused(Refusal),
 }
 
-/// The checked map of the files SOURCE, TARGET and MAP, each read and parsed before the next.
+/// What the map passes over, where rule 9 refuses it.
+fn passed_over(
+    alloc: Global,
+    rule: u8,
+    source: &Profile,
+    target: &Profile,
+    map: &Map,
+) -> Result<Vec<FieldAt>, AllocError> {
+    if rule == 9 {
+        return unread(alloc, source, target, map);
+    }
+    Ok(Vec::new(alloc))
+}
+
+/// The map of the files SOURCE, TARGET and MAP, each read and parsed before the next, and checked.
 fn read_checked<R: Files + AllocGlobal>(
     rt: &R,
     words: &ArgMatches<'_>,
-) -> Result<CheckedMap, Ended> {
+) -> Result<Checked, Ended> {
     let source = read_profile(rt, words, "SOURCE")?;
     let target = read_profile(rt, words, "TARGET")?;
-    let map = read_map(rt, words, "MAP")?;
-    match gw_check::check(rt.alloc(), source, target, map) {
-        Ok(checked) => Ok(checked),
+    let text = read_text(rt, map_path(words))?;
+    let map = gw_maplang::parse(rt.alloc(), &text)?;
+    match gw_check::check(rt.alloc(), source.clone()?, target.clone()?, map) {
+        Ok(checked) => Ok(Checked::Allowed(checked)),
         Err(CheckFault::Memory(_)) => Err(Ended::Run(RunFault::Memory)),
-        Err(CheckFault::Rule { rule, line, map: _ }) => Err(Ended::Rule { rule, line }),
+        Err(CheckFault::Rule { rule, line, map }) => {
+            let unread = passed_over(rt.alloc(), rule, &source, &target, &map)?;
+            Ok(Checked::Refused(Refusal {
+                rule,
+                line,
+                text,
+                source,
+                unread,
+            }))
+        }
     }
 }
 
-/// Prints whether the rules allow a map, and else the rule that refuses it. False where it is refused.
-pub(crate) fn check<R: Files + AllocGlobal, O: Write>(
+/// The path of the map.
+fn map_path<'a>(words: &'a ArgMatches<'_>) -> &'a str {
+    words.get_str("MAP").unwrap_or("")
+}
+
+/// Prints whether the rules allow a map, and else the rule that refuses it; what a person needs to mend it goes to `errors`. False where it is refused.
+pub(crate) fn check<R: Files + AllocGlobal, O: Write, E: Write>(
     rt: &R,
     words: &ArgMatches<'_>,
     output: &mut O,
+    errors: &mut E,
 ) -> Result<bool, Ended> {
-    match read_checked(rt, words) {
-        Ok(_) => {
+    match read_checked(rt, words)? {
+        Checked::Allowed(_) => {
             write_all(output, b"accepted\n")?;
             Ok(true)
         }
-        Err(Ended::Rule { rule, line }) => {
+        Checked::Refused(refusal) => {
+            let Refusal { rule, line, .. } = &refusal;
             let said = format!(in rt.alloc(); "refused K{rule} line {line}\n")?;
             write_all(output, said.as_bytes())?;
+            refusal.tell(errors, map_path(words));
             Ok(false)
         }
-        Err(ended) => Err(ended),
     }
 }
 
@@ -85,17 +114,38 @@ fn tree_of<R: AllocGlobal>(rt: &R, profile: Arc<Profile>, content: &[u8]) -> Res
     }
 }
 
-/// Prints the translation of the content on standard input, which has no frame.
-pub(crate) fn translate<R: Files + AllocGlobal, I: Read + Drop, O: Write>(
+/// Writes the translation of the content on standard input, which has no frame.
+fn write_translation<R: AllocGlobal, I: Read + Drop, O: Write>(
+    rt: &R,
+    map: &CheckedMap,
+    input: I,
+    output: &mut O,
+) -> Result<(), Ended> {
+    let content = read_all(rt, input)?;
+    let tree = tree_of(rt, map.source().clone()?, &content)?;
+    let message = gw_interp::translate(rt.alloc(), map, &tree)?;
+    let written = gw_er7::write(rt.alloc(), &message)?;
+    write_all(output, &written)
+}
+
+/// Prints the translation of the content on standard input. A map that is refused is told before that is read: then it answers false.
+pub(crate) fn translate<R: Files + AllocGlobal, I: Read + Drop, O: Write, E: Write>(
     rt: &R,
     words: &ArgMatches<'_>,
     input: I,
     output: &mut O,
-) -> Result<(), Ended> {
-    let map = read_checked(rt, words)?;
-    let content = read_all(rt, input)?;
-    let tree = tree_of(rt, map.source().clone()?, &content)?;
-    let message = gw_interp::translate(rt.alloc(), &map, &tree)?;
-    let written = gw_er7::write(rt.alloc(), &message)?;
-    write_all(output, &written)
+    errors: &mut E,
+) -> Result<bool, Ended> {
+    match read_checked(rt, words)? {
+        Checked::Allowed(map) => {
+            write_translation(rt, &map, input, output)?;
+            Ok(true)
+        }
+        Checked::Refused(refusal) => {
+            let Refusal { rule, line, .. } = &refusal;
+            let _ = writeln!(errors, "refused K{rule} line {line}");
+            refusal.tell(errors, map_path(words));
+            Ok(false)
+        }
+    }
 }

@@ -1,7 +1,7 @@
 //! The commands, over any reader and two writers.
 use crate::arguments::parse;
 use crate::maps::{check, read_profile, translate};
-use crate::report::{DONE, Ended, USAGE, status_if, status_of, tell, tell_words};
+use crate::report::{Ended, USAGE, status_if, status_of, tell, tell_words};
 use crate::stamps::stamp_of;
 use clap::ArgMatches;
 use gw_run::{Counts, Reads, Writes, answer_stream};
@@ -40,8 +40,8 @@ pub fn command<R: Files + Clock + AllocGlobal, I: Read + Drop, O: Write + Drop, 
     };
     let ended = match matches.subcommand() {
         Some(("validate", words)) => validate(rt, words, input, output).map(status_of),
-        Some(("check", words)) => check(rt, words, &mut output).map(status_if),
-        Some(("translate", words)) => translate(rt, words, input, &mut output).map(|_| DONE),
+        Some(("check", words)) => check(rt, words, &mut output, &mut errors).map(status_if),
+        Some(("translate", words)) => translate(rt, words, input, &mut output, &mut errors).map(status_if),
         _ => return USAGE,
     };
     ended.unwrap_or_else(|ended| tell(&mut errors, ended))

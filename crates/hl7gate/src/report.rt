@@ -34,8 +34,6 @@ pub(crate) enum Ended {
     Profile(ProfileFault),
     /// The text isn't a map.
     Map(MapFault),
-    /// A rule of the checker fails at this line of the map.
-    Rule { rule: u8, line: u32 },
     /// The content isn't a message.
     Message(ReadFault),
     /// The message breaks its profile.
@@ -214,10 +212,6 @@ pub(crate) fn tell<E: Write>(errors: &mut E, ended: Ended) -> u8 {
         }
         Ended::Profile(fault) => tell_profile(errors, fault),
         Ended::Map(fault) => tell_map(errors, fault),
-        Ended::Rule { rule, line } => {
-            let _ = writeln!(errors, "refused K{rule} line {line}");
-            REFUSED
-        }
         Ended::Message(fault) => {
             let number = number_of(fault);
             let _ = writeln!(errors, "message refused {number}");

@@ -1,6 +1,6 @@
 use Rattle.std.proofs.Common.{◌≡◌, drop}
 use Rattle.gw_check.specs.Naming as spec
-use Rattle.gw_check.specs.Seen.{nodes_in}
+use Rattle.gw_profile.specs.Labels.{nodes_in}
 use Rattle.gw_check.proofs.naming.are_single.Given as goal
 
 abbrev pub invariant-loop-i : goal.invariant-loop-i

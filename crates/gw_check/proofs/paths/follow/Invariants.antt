@@ -1,7 +1,7 @@
 use Rattle.std.proofs.Common.{◌≡◌, ◌++◌, drop, option_map}
 use Rattle.gw_maplang.specs.Seen.{items_all}
 use Rattle.gw_check.specs.Naming as spec
-use Rattle.gw_check.specs.Seen.{nodes_in}
+use Rattle.gw_profile.specs.Labels.{nodes_in}
 use Rattle.gw_check.proofs.paths.follow.Given as goal
 
 abbrev pub invariant-loop-i : goal.invariant-loop-i

@@ -7,4 +7,4 @@ use Rattle.gw_check.proofs.resolve.resolve.Goals as goal
 pub returns : goal.returns
 returns c =
     resolves_both (profile_value c.args.source.now) (profile_value c.args.target.now) (map_value c.args.map.now) _ _ c.resolve_in.result
-    (sym (ap forest (c.in_ok-from.ensures ∙ c.nodes.ensures.value))) (sym (ap forest (c.in_ok-to.ensures ∙ c.nodes-2.ensures.value))) c.resolve_in.ensures
+    (sym (ap forest c.in_ok-from.ensures)) (sym (ap forest c.in_ok-to.ensures)) c.resolve_in.ensures

@@ -2,7 +2,8 @@ use Rattle.std.proofs.Common.{ap, ◌∙◌, refl}
 use Rattle.gw_maplang.specs.Seen as raw
 use Rattle.gw_check.specs.Naming as spec
 use Rattle.gw_check.specs.Places.{within}
-use Rattle.gw_check.specs.Seen.{nodes_in, all_walked as walked}
+use Rattle.gw_profile.specs.Labels.{nodes_in}
+use Rattle.gw_check.specs.Seen.{all_walked as walked}
 use Rattle.gw_check.proofs.Built.{items_made, items_done, made_group, made_flat}
 use Rattle.gw_check.proofs.resolving.+resolving.Goals as goal
 

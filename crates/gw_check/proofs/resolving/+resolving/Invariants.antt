@@ -2,7 +2,8 @@ use Rattle.std.proofs.Common.{◌≡◌, List, drop}
 use Rattle.gw_maplang.specs.Shapes.{TableValue}
 use Rattle.gw_maplang.specs.Seen as raw
 use Rattle.gw_check.specs.Naming as spec
-use Rattle.gw_check.specs.Seen.{nodes_in, all_walked as walked}
+use Rattle.gw_profile.specs.Labels.{nodes_in}
+use Rattle.gw_check.specs.Seen.{all_walked as walked}
 use Rattle.gw_check.proofs.Built.{with_items}
 use Rattle.gw_check.proofs.resolving.+resolving.Given as goal
 

@@ -2,7 +2,8 @@ use Rattle.std.proofs.Common.{◌≡◌, drop}
 use Rattle.gw_maplang.specs.Seen.{all_items}
 use Rattle.gw_check.specs.Naming as spec
 use Rattle.gw_check.specs.Noted.{noted}
-use Rattle.gw_check.specs.Seen.{nodes_in, failures}
+use Rattle.gw_profile.specs.Labels.{nodes_in}
+use Rattle.gw_check.specs.Seen.{failures}
 use Rattle.gw_check.proofs.targets.+targets.Given as goal
 
 abbrev pub invariant-target_failures-loop-i : goal.invariant-target_failures-loop-i

@@ -1,7 +1,0 @@
-use Rattle.std.proofs.Common.{◌≡◌, ◌++◌, drop, map}
-use Rattle.gw_profile.specs.Seen.{forest}
-use Rattle.gw_check.specs.Indexed.{inner}
-use Rattle.gw_check.proofs.indexed.+index.Given as goal
-
-abbrev pub invariant-each_within-loop-i : goal.invariant-each_within-loop-i
-invariant-each_within-loop-i l = map inner l.nodes ≡ map forest l.below.items ++ map inner (drop l.i l.nodes)

@@ -1,0 +1,19 @@
+use Rattle.std.proofs.Common.{◌≡◌, ◌++◌, ◌+◌, ◌*◌, drop}
+use Rattle.gw_profile.specs.declared.node.Node.{size-Node}
+use Rattle.gw_profile.specs.Seen.{forest}
+use Rattle.gw_check.specs.Collected.{fields_at}
+use Rattle.gw_check.specs.Unread.{all_missed}
+use Rattle.gw_check.proofs.overlooked.+gather.Given as goal
+
+abbrev pub decreases-add_node : goal.decreases-add_node
+decreases-add_node l = 3 * size-Node l.node.now
+
+abbrev pub decreases-add_within : goal.decreases-add_within
+decreases-add_within l = 3 * goal.size-add_within l + 2
+
+abbrev pub decreases-add_nodes : goal.decreases-add_nodes
+decreases-add_nodes l = 3 * goal.size-add_nodes l + 1
+
+abbrev pub invariant-add_nodes-loop-j : goal.invariant-add_nodes-loop-j
+invariant-add_nodes-loop-j l =
+    fields_at l.initial.found.items ++ all_missed l.known l.above 0 (forest l.nodes) ≡ fields_at l.found.items ++ all_missed l.known l.above l.j (forest (drop l.j l.nodes))

@@ -1,0 +1,10 @@
+use Rattle.std.proofs.Common.{◌≡◌, ◌++◌, drop, map}
+use Rattle.std.specs.Prelude.{flat_map}
+use Rattle.gw_profile.specs.Seen.{field}
+use Rattle.gw_check.specs.Collected.{fields_at}
+use Rattle.gw_check.specs.Unread.{missed_field}
+use Rattle.gw_check.proofs.overlooked.add_fields.Given as goal
+
+abbrev pub invariant-loop-i : goal.invariant-loop-i
+invariant-loop-i l =
+    fields_at l.initial.found.items ++ flat_map (missed_field l.known l.at) (map field l.fields) ≡ fields_at l.found.items ++ flat_map (missed_field l.known l.at) (map field (drop l.i l.fields))

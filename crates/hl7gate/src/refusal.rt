@@ -1,0 +1,125 @@
+//! What a person needs of a map that a rule refuses: the file and its line, what the rule demands, and what to do.
+use gw_check::FieldAt;
+use gw_profile::{Node, Profile};
+use std::io::Write;
+use std::sync::Arc;
+
+/// A rule that refuses a map: the least, at its least line.
+#[derive(Drop)]
+pub(crate) struct Refusal {
+    pub(crate) rule: u8,
+    pub(crate) line: u32,
+    /// The text of the map.
+    pub(crate) text: Vec<u8>,
+    pub(crate) source: Arc<Profile>,
+    /// The fields that the map passes over, where rule 9 refuses it.
+    pub(crate) unread: Vec<FieldAt>,
+}
+
+/// What a rule demands, and what to do.
+fn advice(rule: u8) -> &'static str {
+    match rule {
+        1 => {
+            "each path leads somewhere in the source: write its labels as the source profile has them; a field is read of a segment"
+        }
+        2 => {
+            "what is read comes once: walk it by `segment .. from` or `flat each` and read below that, or read what comes once"
+        }
+        3 => {
+            "target labels stand at this level of the target profile and in its order, and those in a `flat` are one: move or rename the item"
+        }
+        4 => {
+            "no more than the target takes: take `first` or an item less, or let the target profile take more"
+        }
+        5 => {
+            "what the target requires is always there: read what the source requires, or let the source profile require it or the target profile ask for less"
+        }
+        6 => {
+            "each value stands in the target's table: translate by a `lookup`, or list the source's values in its profile"
+        }
+        7 => {
+            "no value is longer than the target takes: give the source a length in its profile"
+        }
+        8 => {
+            "what the target asks for is said: add an item or a rule for it, or make it O in the target profile"
+        }
+        9 => {
+            "what the source requires is read or dropped: add a rule that reads it, or a `drop`"
+        }
+        10 => "each value that is looked up has a row: add the row, or an `else`",
+        11 => "the target doesn't want this: leave the rule out",
+        12 => {
+            "a constant stands in the target's table and is no longer than the target takes: write another"
+        }
+        _ => "",
+    }
+}
+
+/// What stands behind so many lines.
+fn behind(text: &[u8], lines: u32) -> &[u8] {
+    let mut rest = text;
+    for _ in 0..lines {
+        match rest.iter().position(|byte| *byte == b'\n') {
+            None => return &[],
+            Some(end) => rest = &rest[end + 1..],
+        }
+    }
+    rest
+}
+
+/// The line of this number, from 1, without the blanks around it.
+fn line_at(text: &[u8], number: u32) -> &[u8] {
+    if number == 0 {
+        return &[];
+    }
+    let rest = behind(text, number - 1);
+    match rest.iter().position(|byte| *byte == b'\n') {
+        None => rest.trim_ascii(),
+        Some(end) => rest[..end].trim_ascii(),
+    }
+}
+
+fn label_of(node: &Node) -> &[u8] {
+    match node {
+        Node::Seg(segment) => &segment.label,
+        Node::Group(group) => &group.label,
+    }
+}
+
+fn nodes_of(node: &Node) -> &[Node] {
+    match node {
+        Node::Seg(_) => &[],
+        Node::Group(group) => &group.nodes,
+    }
+}
+
+/// Tells a field that the map passes over by its path.
+fn tell_field<E: Write>(errors: &mut E, nodes: &[Node], field: &FieldAt) {
+    let mut level = nodes;
+    for (i, number) in field.at.iter().enumerate() {
+        let Some(node) = level.get(*number) else {
+            return;
+        };
+        if i > 0 {
+            let _ = errors.write_all(b"/");
+        }
+        let _ = errors.write_all(label_of(node));
+        level = nodes_of(node);
+    }
+    let number = field.field;
+    let _ = writeln!(errors, "-{number}: neither read nor dropped");
+}
+
+impl Refusal {
+    /// Tells the file with its line, what the rule demands, and each field that is passed over.
+    pub(crate) fn tell<E: Write>(&self, errors: &mut E, path: &str) {
+        let line = self.line;
+        let _ = write!(errors, "{path}:{line}: ");
+        let _ = errors.write_all(line_at(&self.text, line));
+        let advice = advice(self.rule);
+        let _ = writeln!(errors, "\n{advice}");
+        for field in &self.unread {
+            tell_field(errors, self.source.nodes(), field);
+        }
+    }
+}
