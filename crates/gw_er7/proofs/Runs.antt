@@ -9,6 +9,9 @@ use Rattle.std.specs.Cmp.{nat_cmp_is}
 use Rattle.std.specs.FinMap.Entries.{below_all}
 use Rattle.gw_er7.specs.declared.segment.Leaf.{Leaf}
 use Rattle.gw_er7.specs.Entries.{Entry, under}
+use Rattle.gw_er7.specs.declared.level.Level.{Level}
+use Rattle.gw_er7.specs.declared.level.Level.TheVariants.{Field, Repetition, Component, Subcomponent}
+use Rattle.gw_er7.specs.Layers.{number_at, seen_at, inside, part_text}
 use Rattle.gw_er7.specs.Ordered.{IsAtLeast, Above, IsOrdered, IsCut}
 use Rattle.gw_er7.proofs.Sorted.{order, both, first, second, cmp-same}
 
@@ -101,3 +104,23 @@ module _ (head : Leaf → ℕ) (tail : Leaf → Entry) where
     where
       found : (a n end : ℕ) → cond (nat_lt a n) (Some a) None ≡ Some end → a ≡ end
       found a n end h = elim (nat_lt a n) as (λ v. cond v (Some a) None ≡ Some end → a ≡ end) [ true ↦ λ h. cc | false ↦ λ h. absurd (let z : ⊥ = cc in z) ] h
+
+-- ---- at each level
+
+pub level_none : (level : Level) (n : ℕ) (xs : List Leaf) → IsOrdered n (map (seen_at level) xs) → position (λ l. not (number_at level l.place == n)) xs ≡ None → IsCut n (map (seen_at level) xs) (map (inside level) xs) []
+level_none Field n xs is e = cut_none (λ l. l.place.field) (inside Field) n xs is e
+level_none Repetition n xs is e = cut_none (λ l. l.place.rep) (inside Repetition) n xs is e
+level_none Component n xs is e = cut_none (λ l. l.place.comp) (inside Component) n xs is e
+level_none Subcomponent n xs is e = cut_none (λ l. l.place.sub) (inside Subcomponent) n xs is e
+
+pub level_some : (level : Level) (n : ℕ) (xs : List Leaf) (end : ℕ) (later : List Leaf) → IsOrdered n (map (seen_at level) xs) → position (λ l. not (number_at level l.place == n)) xs ≡ Some end → later ≡ drop end xs → IsCut n (map (seen_at level) xs) (map (inside level) (take end xs)) (map (seen_at level) later)
+level_some Field n xs end later is e d = cut_some (λ l. l.place.field) (inside Field) n xs end later is e d
+level_some Repetition n xs end later is e d = cut_some (λ l. l.place.rep) (inside Repetition) n xs end later is e d
+level_some Component n xs end later is e d = cut_some (λ l. l.place.comp) (inside Component) n xs end later is e d
+level_some Subcomponent n xs end later is e d = cut_some (λ l. l.place.sub) (inside Subcomponent) n xs end later is e d
+
+pub part_empty : (level : Level) → part_text level [] ≡ []
+part_empty Field = refl
+part_empty Repetition = refl
+part_empty Component = refl
+part_empty Subcomponent = refl

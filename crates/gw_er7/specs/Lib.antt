@@ -13,4 +13,5 @@ pub mod Separators
 pub mod Gathered
 pub mod View
 pub mod Ordered
+pub mod Layers
 pub mod Canonical

@@ -21,22 +21,6 @@ entry_of l = (numbers l.place, l.text.items)
 abbrev pub entries_of : List Leaf → List Entry
 entries_of = map entry_of
 
--- the same inside a field
-abbrev pub in_field : List Leaf → List Entry
-in_field = map (λ l. (l.place.rep ∷ l.place.comp ∷ l.place.sub ∷ [], l.text.items))
-
--- inside a repetition
-abbrev pub in_repetition : List Leaf → List Entry
-in_repetition = map (λ l. (l.place.comp ∷ l.place.sub ∷ [], l.text.items))
-
--- inside a component
-abbrev pub in_component : List Leaf → List Entry
-in_component = map (λ l. (l.place.sub ∷ [], l.text.items))
-
--- inside a subcomponent
-abbrev pub in_subcomponent : List Leaf → List Entry
-in_subcomponent = map (λ l. ([], l.text.items))
-
 -- the leaf stands at a place below this one
 abbrev pub is_below : List ℕ → Leaf → Bool
 is_below key l = is_lt (slice_cmp nat_cmp (numbers l.place) key)

@@ -9,6 +9,7 @@ mod delimiters;
 mod draft;
 mod fault;
 mod laws;
+mod level;
 mod lines;
 mod message;
 mod place;

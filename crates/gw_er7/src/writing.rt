@@ -1,84 +1,61 @@
 //! How leaves are written.
-ghost use Rattle.std.specs.Prelude.{◌≡◌, ◌+◌, ◌<◌, ◌++◌, ◌==◌, not, position, OnOk, MatchResult, [], ◌∷◌};
+ghost use Rattle.std.specs.Prelude.{◌≡◌, ◌+◌, ◌<◌, ◌++◌, ◌==◌, not, map, position, OnOk, MatchResult, [], ◌∷◌};
 ghost use Rattle.gw_er7.specs.Message.{first_field};
-ghost use Rattle.gw_er7.specs.View.{entries_of, in_field, in_repetition, in_component, in_subcomponent};
-ghost use Rattle.gw_er7.specs.Written.{leaf_text, component_text, repetition_text, field_text, fields_text, behind_separator, delimiters_text};
+ghost use Rattle.gw_er7.specs.View.{entries_of};
+ghost use Rattle.gw_er7.specs.Written.{layer, leaf_text, behind_separator, delimiters_text};
 ghost use Rattle.gw_er7.specs.Ordered.{IsOrdered, IsCut};
+ghost use Rattle.gw_er7.specs.Layers.{number_at, seen_at, inside, separator_of, part_text};
+ghost use Rattle.gw_er7.specs.declared.level.Level.TheVariants.{Subcomponent};
 
 use crate::checks::is_header;
+use crate::level::Level;
+use crate::place::Place;
 use crate::segment::Leaf;
 use std::alloc::AllocError;
 
-fn end_of_field(leaves: &[Leaf], number: usize) -> Option<usize>
-    ensures { result ≡ position (λ l. not (l.place.field == number)) leaves.now }
+fn number_at(level: Level, place: Place) -> usize
+    ensures { result ≡ number_at level place }
 {
-    leaves.iter().position(|leaf| leaf.place.field != number)
-}
-
-/// The leaves of this field, and those behind it.
-fn cut_field(leaves: &[Leaf], number: usize) -> (&[Leaf], &[Leaf])
-    requires { IsOrdered number (entries_of leaves.now) }
-    ensures { IsCut number (entries_of leaves.now) (in_field result.0.now) (entries_of result.1.now) }
-{
-    match end_of_field(leaves, number) {
-        None => (leaves, &[]),
-        Some(end) => (&leaves[..end], &leaves[end..]),
+    match level {
+        Level::Field => place.field,
+        Level::Repetition => place.rep,
+        Level::Component => place.comp,
+        Level::Subcomponent => place.sub,
     }
 }
 
-fn end_of_repetition(leaves: &[Leaf], number: usize) -> Option<usize>
-    ensures { result ≡ position (λ l. not (l.place.rep == number)) leaves.now }
+fn separator_of(level: Level) -> u8
+    ensures { result ≡ separator_of level }
 {
-    leaves.iter().position(|leaf| leaf.place.rep != number)
-}
-
-/// The leaves of this repetition, and those behind it.
-fn cut_repetition(leaves: &[Leaf], number: usize) -> (&[Leaf], &[Leaf])
-    requires { IsOrdered number (in_field leaves.now) }
-    ensures { IsCut number (in_field leaves.now) (in_repetition result.0.now) (in_field result.1.now) }
-{
-    match end_of_repetition(leaves, number) {
-        None => (leaves, &[]),
-        Some(end) => (&leaves[..end], &leaves[end..]),
+    match level {
+        Level::Field => b'|',
+        Level::Repetition => b'~',
+        Level::Component => b'^',
+        Level::Subcomponent => b'&',
     }
 }
 
-fn end_of_component(leaves: &[Leaf], number: usize) -> Option<usize>
-    ensures { result ≡ position (λ l. not (l.place.comp == number)) leaves.now }
+fn end_of_part(level: Level, leaves: &[Leaf], number: usize) -> Option<usize>
+    ensures { result ≡ position (λ l. not (number_at level l.place == number)) leaves.now }
 {
-    leaves.iter().position(|leaf| leaf.place.comp != number)
+    leaves
+        .iter()
+        .position(|leaf| number_at(level, leaf.place) != number)
 }
 
-/// The leaves of this component, and those behind it.
-fn cut_component(leaves: &[Leaf], number: usize) -> (&[Leaf], &[Leaf])
-    requires { IsOrdered number (in_repetition leaves.now) }
-    ensures { IsCut number (in_repetition leaves.now) (in_component result.0.now) (in_repetition result.1.now) }
+/// The leaves of the part of this number, and those behind it.
+fn cut_part(level: Level, leaves: &[Leaf], number: usize) -> (&[Leaf], &[Leaf])
+    requires { IsOrdered number (map (seen_at level) leaves.now) }
+    ensures { IsCut number (map (seen_at level) leaves.now) (map (inside level) result.0.now) (map (seen_at level) result.1.now) }
 {
-    match end_of_component(leaves, number) {
-        None => (leaves, &[]),
-        Some(end) => (&leaves[..end], &leaves[end..]),
-    }
-}
-
-fn end_of_subcomponent(leaves: &[Leaf], number: usize) -> Option<usize>
-    ensures { result ≡ position (λ l. not (l.place.sub == number)) leaves.now }
-{
-    leaves.iter().position(|leaf| leaf.place.sub != number)
-}
-
-/// The leaves of this subcomponent, and those behind it.
-fn cut_subcomponent(leaves: &[Leaf], number: usize) -> (&[Leaf], &[Leaf])
-    requires { IsOrdered number (in_component leaves.now) }
-    ensures { IsCut number (in_component leaves.now) (in_subcomponent result.0.now) (in_component result.1.now) }
-{
-    match end_of_subcomponent(leaves, number) {
+    match end_of_part(level, leaves, number) {
         None => (leaves, &[]),
         Some(end) => (&leaves[..end], &leaves[end..]),
     }
 }
 
 fn write_text(out: &mut Vec<u8>, leaves: &[Leaf]) -> Result<(), AllocError>
-    ensures { OnOk result (out.new.items ≡ out.old.items ++ leaf_text (in_subcomponent leaves.now)) }
+    ensures { OnOk result (out.new.items ≡ out.old.items ++ leaf_text (map (inside Subcomponent) leaves.now)) }
 {
     match leaves {
         [] => Ok(()),
@@ -86,90 +63,43 @@ fn write_text(out: &mut Vec<u8>, leaves: &[Leaf]) -> Result<(), AllocError>
     }
 }
 
-/// Writes the subcomponents of a component.
-fn write_component(out: &mut Vec<u8>, leaves: &[Leaf]) -> Result<(), AllocError>
-    requires { IsOrdered 1 (in_component leaves.now) }
-    ensures { OnOk result (out.new.items ≡ out.old.items ++ component_text (in_component leaves.now)) }
+/// Writes a part of a level: its own parts, or its text.
+#[cycle(write)]
+fn write_part(out: &mut Vec<u8>, level: Level, leaves: &[Leaf]) -> Result<(), AllocError>
+    requires { IsOrdered 1 (map (inside level) leaves.now) }
+    ensures { OnOk result (out.new.items ≡ out.old.items ++ part_text level (map (inside level) leaves.now)) }
 {
-    let mut number = 1;
-    let mut rest = leaves;
-    loop {
-        let (these, later) = cut_subcomponent(rest, number);
-        write_text(out, these)?;
-        if later.is_empty() {
-            return Ok(());
-        }
-        let next = &later[0];
-        prove!(number < next.place.sub);
-        out.push(b'&')?;
-        number += 1;
-        rest = later;
+    match level {
+        Level::Field => write_level(out, Level::Repetition, 1, leaves),
+        Level::Repetition => write_level(out, Level::Component, 1, leaves),
+        Level::Component => write_level(out, Level::Subcomponent, 1, leaves),
+        Level::Subcomponent => write_text(out, leaves),
     }
 }
 
-/// Writes the components of a repetition.
-fn write_repetition(out: &mut Vec<u8>, leaves: &[Leaf]) -> Result<(), AllocError>
-    requires { IsOrdered 1 (in_repetition leaves.now) }
-    ensures { OnOk result (out.new.items ≡ out.old.items ++ repetition_text (in_repetition leaves.now)) }
-{
-    let mut number = 1;
-    let mut rest = leaves;
-    loop {
-        let (these, later) = cut_component(rest, number);
-        write_component(out, these)?;
-        if later.is_empty() {
-            return Ok(());
-        }
-        let next = &later[0];
-        prove!(number < next.place.comp);
-        out.push(b'^')?;
-        number += 1;
-        rest = later;
-    }
-}
-
-/// Writes the repetitions of a field.
-fn write_field(out: &mut Vec<u8>, leaves: &[Leaf]) -> Result<(), AllocError>
-    requires { IsOrdered 1 (in_field leaves.now) }
-    ensures { OnOk result (out.new.items ≡ out.old.items ++ field_text (in_field leaves.now)) }
-{
-    let mut number = 1;
-    let mut rest = leaves;
-    loop {
-        let (these, later) = cut_repetition(rest, number);
-        write_repetition(out, these)?;
-        if later.is_empty() {
-            return Ok(());
-        }
-        let next = &later[0];
-        prove!(number < next.place.rep);
-        out.push(b'~')?;
-        number += 1;
-        rest = later;
-    }
-}
-
-/// Writes the fields of a segment, the first of which has this number.
-pub(crate) fn write_fields(
+/// Writes the parts of a level, the first of which has this number.
+#[cycle(write)]
+fn write_level(
     out: &mut Vec<u8>,
+    level: Level,
     first: usize,
     leaves: &[Leaf],
 ) -> Result<(), AllocError>
     requires from { 0 < first }
-    requires ordered { IsOrdered first (entries_of leaves.now) }
-    ensures { OnOk result (out.new.items ≡ out.old.items ++ fields_text first (entries_of leaves.now)) }
+    requires ordered { IsOrdered first (map (seen_at level) leaves.now) }
+    ensures { OnOk result (out.new.items ≡ out.old.items ++ layer (part_text level) (separator_of level) first (map (seen_at level) leaves.now)) }
 {
     let mut number = first;
     let mut rest = leaves;
     loop {
-        let (these, later) = cut_field(rest, number);
-        write_field(out, these)?;
+        let (these, later) = cut_part(level, rest, number);
+        write_part(out, level, these)?;
         if later.is_empty() {
             return Ok(());
         }
-        let next = &later[0];
-        prove!(number < next.place.field);
-        out.push(b'|')?;
+        let next = number_at(level, later[0].place);
+        prove!(number < next);
+        out.push(separator_of(level))?;
         number += 1;
         rest = later;
     }
@@ -197,7 +127,7 @@ fn write_behind(out: &mut Vec<u8>, first: usize, leaves: &[Leaf]) -> Result<(), 
         return Ok(());
     }
     out.push(b'|')?;
-    write_fields(out, first, leaves)
+    write_level(out, Level::Field, first, leaves)
 }
 
 /// Writes the line of a segment, and its end.

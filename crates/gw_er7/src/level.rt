@@ -1,0 +1,10 @@
+//! The four levels that separators cut.
+
+/// What a separator cuts, the highest first.
+#[derive(Clone, Copy, Debug)]
+pub(crate) enum Level {
+    Field,
+    Repetition,
+    Component,
+    Subcomponent,
+}
