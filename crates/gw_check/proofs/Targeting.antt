@@ -47,6 +47,7 @@ module _ (nodes : Forest) (j node line : ℕ) (g : GroupItem) (label other : Lis
     (l : line ≡ g.line) (a : label ≡ g.label.items) (b : other ≡ g.label.items) (n : node ≡ node_or j nodes label) (f : fits ≡ is_group (option_and_then (child nodes) (labelled nodes other))) where
   abbrev pub here : List Failure
   here = fails 3 line (not fits) ++ fails 3 line (nat_lt node j)
+
   abbrev pub there : List Failure
   there = target_failures (nodes_of_child nodes node) 0 (all_items g.items.items)
 
@@ -75,6 +76,7 @@ module _ (nodes : Forest) (j node line : ℕ) (f : FlatItem) (label : List ℕ) 
     (l : line ≡ f.line) (a : xs ≡ f.items.items) (b : ys ≡ f.items.items) (first : label ≡ first_or (labels (all_items xs))) (n : node ≡ node_or j nodes label) (one : fits ≡ are_one (labels (all_items ys))) where
   abbrev pub flat_here : List Failure
   flat_here = fails 3 line (not fits) ++ fails 3 line (nat_lt node j)
+
   abbrev pub flat_there : List Failure
   flat_there = target_failures nodes 0 (all_items f.items.items)
 

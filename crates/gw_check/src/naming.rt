@@ -153,7 +153,11 @@ fn walk_led(alloc: Global, scope: &[Walked<'_, '_>], path: &[Vec<u8>]) -> Result
 }
 
 // Where a path leads to the segments that are walked; its last step may come often.
-fn segments_led(alloc: Global, scope: &[Walked<'_, '_>], path: &[Vec<u8>]) -> Result<Led, AllocError>
+fn segments_led(
+    alloc: Global,
+    scope: &[Walked<'_, '_>],
+    path: &[Vec<u8>],
+) -> Result<Led, AllocError>
     ensures place { IfOk result (λ l. seen_place l.place ≡ spec.place_or (walked scope.now) (items_all path.now)) }
     ensures leads { IfOk result (λ l. l.leads ≡ spec.ends_at_segment (walked scope.now) (spec.place_of (walked scope.now) (items_all path.now))) }
     ensures once { IfOk result (λ l. l.once ≡ spec.is_single_place (walked scope.now) spec.but_last (spec.place_of (walked scope.now) (items_all path.now))) }

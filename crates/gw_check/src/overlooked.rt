@@ -155,6 +155,11 @@ pub fn unread(
 {
     match resolve(alloc, source, target, map)? {
         Resolving::Refused(_) => Ok(Vec::new(alloc)),
-        Resolving::Resolved(named) => passed_over(alloc, source.nodes(), &named.items, &named.drops),
+        Resolving::Resolved(named) => passed_over(
+            alloc,
+            source.nodes(),
+            &named.items,
+            &named.drops,
+        ),
     }
 }

@@ -237,12 +237,7 @@ fn flat_target(
 }
 
 #[cycle(targets)]
-fn item_target(
-    worst: Option<Failure>,
-    item: &Item,
-    level: Option<&Level<'_>>,
-    j: usize,
-) -> Reached
+fn item_target(worst: Option<Failure>, item: &Item, level: Option<&Level<'_>>, j: usize) -> Reached
     ensures worst { failures result.worst ≡ noted (failures worst) (spec.target_failures (nodes_in level.entry) j (with_item item.now nothing)) }
     ensures node { result.node ≡ spec.node_or j (nodes_in level.entry) (spec.first_or (spec.labels (with_item item.now nothing))) }
 {

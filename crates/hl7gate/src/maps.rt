@@ -51,13 +51,10 @@ fn passed_over(
 }
 
 /// The map of the files SOURCE, TARGET and MAP, each read and parsed before the next, and checked.
-fn read_checked<R: Files + AllocGlobal>(
-    rt: &R,
-    words: &ArgMatches<'_>,
-) -> Result<Checked, Ended> {
+fn read_checked<R: Files + AllocGlobal>(rt: &R, words: &ArgMatches<'_>) -> Result<Checked, Ended> {
     let source = read_profile(rt, words, "SOURCE")?;
     let target = read_profile(rt, words, "TARGET")?;
-    let text = read_text(rt, map_path(words))?;
+    let text = read_text(rt, words.get_str("MAP").unwrap_or(""))?;
     let map = gw_maplang::parse(rt.alloc(), &text)?;
     match gw_check::check(rt.alloc(), source.clone()?, target.clone()?, map) {
         Ok(checked) => Ok(Checked::Allowed(checked)),
@@ -73,11 +70,6 @@ fn read_checked<R: Files + AllocGlobal>(
             }))
         }
     }
-}
-
-/// The path of the map.
-fn map_path<'a>(words: &'a ArgMatches<'_>) -> &'a str {
-    words.get_str("MAP").unwrap_or("")
 }
 
 /// Prints whether the rules allow a map, and else the rule that refuses it; what a person needs to mend it goes to `errors`. False where it is refused.
@@ -96,7 +88,7 @@ pub(crate) fn check<R: Files + AllocGlobal, O: Write, E: Write>(
             let Refusal { rule, line, .. } = &refusal;
             let said = format!(in rt.alloc(); "refused K{rule} line {line}\n")?;
             write_all(output, said.as_bytes())?;
-            refusal.tell(errors, map_path(words));
+            refusal.tell(errors, words.get_str("MAP").unwrap_or(""));
             Ok(false)
         }
     }
@@ -144,7 +136,7 @@ pub(crate) fn translate<R: Files + AllocGlobal, I: Read + Drop, O: Write, E: Wri
         Checked::Refused(refusal) => {
             let Refusal { rule, line, .. } = &refusal;
             let _ = writeln!(errors, "refused K{rule} line {line}");
-            refusal.tell(errors, map_path(words));
+            refusal.tell(errors, words.get_str("MAP").unwrap_or(""));
             Ok(false)
         }
     }

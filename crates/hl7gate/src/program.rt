@@ -41,7 +41,9 @@ pub fn command<R: Files + Clock + AllocGlobal, I: Read + Drop, O: Write + Drop, 
     let ended = match matches.subcommand() {
         Some(("validate", words)) => validate(rt, words, input, output).map(status_of),
         Some(("check", words)) => check(rt, words, &mut output, &mut errors).map(status_if),
-        Some(("translate", words)) => translate(rt, words, input, &mut output, &mut errors).map(status_if),
+        Some(("translate", words)) => translate(rt, words, input, &mut output, &mut errors).map(
+            status_if,
+        ),
         _ => return USAGE,
     };
     ended.unwrap_or_else(|ended| tell(&mut errors, ended))

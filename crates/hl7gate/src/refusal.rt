@@ -37,9 +37,7 @@ fn advice(rule: u8) -> &'static str {
         6 => {
             "each value stands in the target's table: translate by a `lookup`, or list the source's values in its profile"
         }
-        7 => {
-            "no value is longer than the target takes: give the source a length in its profile"
-        }
+        7 => { "no value is longer than the target takes: give the source a length in its profile" }
         8 => {
             "what the target asks for is said: add an item or a rule for it, or make it O in the target profile"
         }

@@ -99,7 +99,9 @@ fn tells_whether_a_map_is_allowed(rt: HostRuntime) -> Result<(), Fail> {
         } else {
             1
         };
-        assert!(rt; got.0 == status && got.1.as_slice() == told && got.2.is_empty() == (status == 0));
+        assert!(rt;
+            got.0 == status && got.1.as_slice() == told && got.2.is_empty() == (status == 0)
+        );
     }
     Ok(())
 }
@@ -255,9 +257,7 @@ fn refuses_a_map_before_it_reads(rt: HostRuntime) -> Result<(), Fail> {
         "early_map.txt",
     ];
     let got = done(&rt, &words, broken)?;
-    assert!(rt;
-        got.0 == 1 && got.1.is_empty() && got.2.starts_with(b"refused K5 line 9\n")
-    );
+    assert!(rt; got.0 == 1 && got.1.is_empty() && got.2.starts_with(b"refused K5 line 9\n"));
     fs::write(&rt, "early_source.txt", P2)?;
     fs::write(&rt, "early_map.txt", M2)?;
     let broken = Drip {
