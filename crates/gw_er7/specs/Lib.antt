@@ -13,3 +13,4 @@ pub mod Gathered
 pub mod View
 pub mod Ordered
 pub mod Canonical
+pub mod Numbers
