@@ -4,9 +4,11 @@
 #![tactic(auto)]
 
 mod arguments;
+mod ended;
 mod files;
 mod maps;
 mod program;
+mod refusals;
 mod report;
 mod stamps;
 
