@@ -1,0 +1,6 @@
+pub mod Parts
+pub mod Journal
+pub mod Replies
+pub mod Lawful
+pub mod Headline
+pub mod Toy
