@@ -15,3 +15,4 @@ pub mod View
 pub mod Ordered
 pub mod Layers
 pub mod Canonical
+pub mod Numbers

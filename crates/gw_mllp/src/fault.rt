@@ -5,7 +5,7 @@ ghost use Rattle.gw_mllp.specs.declared.fault.FrameFault.TheVariants.{Memory};
 use std::alloc::{AllocError, AllocFailed};
 use thiserror::Error;
 
-/// Why a stream cannot be read on. The numbers are 1, 2 and 3, in this order.
+/// Why a stream cannot be read on.
 #[derive(Clone, Copy, Debug, PartialEq, Eq, Error)]
 pub enum FrameFault {
     /// A growth was refused. The piece was not taken, and may be fed again.
@@ -17,6 +17,21 @@ pub enum FrameFault {
     /// The stream ends within a block.
     #[error("the stream ends within a block")]
     Truncated,
+}
+
+impl FrameFault {
+    ghost use Rattle.gw_mllp.specs.Numbers.{number};
+
+    /// The number of the fault, from 1 for want of memory to 3. It takes no memory.
+    pub fn number(&self) -> u8
+        ensures { result ≡ number self.now }
+    {
+        match self {
+            FrameFault::Memory => 1,
+            FrameFault::TooLong => 2,
+            FrameFault::Truncated => 3,
+        }
+    }
 }
 
 impl From<AllocError> for FrameFault {

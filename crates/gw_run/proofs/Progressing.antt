@@ -10,6 +10,7 @@ use Rattle.gw_run.specs.declared.fault.RunFault.{RunFault}
 use Rattle.gw_run.specs.declared.fault.RunFault.TheVariants.{Memory, Write, Frame}
 use Rattle.gw_run.specs.Counted.{nothing, IsTotal}
 use Rattle.gw_run.specs.Faults.{OfStream, memory, write, truncated}
+use Rattle.gw_run.specs.Reading.{ReadTimes}
 use Rattle.gw_run.specs.Streams.{AnswersAll, AnswersPart, HasFirst, Answers, Breaks, Drains, Progress}
 use Rattle.gw_run.proofs.Counting.{all_more, total_more}
 use Rattle.gw_run.proofs.Answering.{Judge, are_many, answers_join, breaks_join, breaks_none}
@@ -198,6 +199,17 @@ long_enough (Some stream) (Some left) taken most takes many = let e : length str
 pub progress_turns : (J : Judge) (s : List ℕ) (r0 r w0 w : Option (List ℕ)) (h : Held) (c : Counts) (turn most : ℕ) → Progress J s r0 r h w0 w c turn → most ≤ turn
     → IfSome r0 (λ stream. most ≤ length stream)
 progress_turns J s r0 r w0 w h c turn most p all = let many = p.many in long_enough r0 r p.taken most p.takes (omega arith)
+
+-- ---- how often the source was read
+
+pub reads_none : (before : ℕ) → ReadTimes 0 before before
+reads_none before small = omega arith
+
+pub reads_more : (times before between after : ℕ) → ReadTimes times before between → ReadTimes 1 between after → ReadTimes (times + 1) before after
+reads_more times before between after many one small = let there = many (omega arith) in let more = one (omega arith) in omega arith
+
+pub reads_all : (times most before after : ℕ) → ReadTimes times before after → most ≤ times → times ≤ most → ReadTimes most before after
+reads_all times most before after many least greatest small = let there = many (omega arith) in omega arith
 
 -- ---- the end
 

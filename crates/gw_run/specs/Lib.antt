@@ -3,3 +3,4 @@ pub mod Faults
 pub mod Answers
 pub mod Counted
 pub mod Streams
+pub mod Reading

@@ -6,6 +6,7 @@ use std::io::{ErrorKind, Read};
 #[derive(Drop)]
 pub struct Reads<R: Read> {
     reader: R,
+    reads: u64,
     failed: bool,
 }
 
@@ -15,10 +16,12 @@ impl<R: Read> Reads<R> {
     /// A source that hasn't failed. It takes no memory.
     pub fn new(reader: R) -> Self
         ensures left { ⟦<Reads<R> as Source>⟧.remaining result ≡ R.remaining reader }
+        ensures unread { ⟦<Reads<R> as Source>⟧.reads result ≡ 0 }
         ensures works { ⟦<Reads<R> as Source>⟧.has_failed result ≡ false }
     {
         Reads {
             reader,
+            reads: 0,
             failed: false,
         }
     }
@@ -27,6 +30,8 @@ impl<R: Read> Reads<R> {
 impl<R: Read> Source for Reads<R> {
     ghost remaining = { λ s. R.remaining s.reader };
 
+    ghost reads = { λ s. s.reads };
+
     ghost has_failed = { λ s. s.failed };
 
     fn failed(&self) -> bool {
@@ -34,6 +39,7 @@ impl<R: Read> Source for Reads<R> {
     }
 
     fn read(&mut self, buf: &mut [u8]) -> Result<usize, Failed> {
+        self.reads = self.reads.saturating_add(1);
         'tries: for _try in 0..TRIES {
             match self.reader.read(buf) {
                 Ok(count) => {

@@ -7,6 +7,7 @@ ghost use Rattle.gw_run.specs.declared.counts.Counts.{Counts};
 ghost use Rattle.gw_run.specs.Answers.{Validated};
 ghost use Rattle.gw_run.specs.Counted.{IsTotal};
 ghost use Rattle.gw_run.specs.Faults.{OfStream};
+ghost use Rattle.gw_run.specs.Reading.{ReadTimes};
 ghost use Rattle.gw_run.specs.Streams.{Answers, AnswersAll, AnswersPart, Breaks, Drains};
 
 use crate::answer::answer;
@@ -153,6 +154,7 @@ pub fn answer_stream<R: Source, W: Sink>(
     ensures read { IsErrOf result RunFault.Read ↔ IsTrue (R.has_failed reader.new) }
     ensures write { IsErrOf result RunFault.Write ↔ IsTrue (W.has_failed writer.new) }
     ensures turns { IsErrOf result RunFault.Turns → IfSome (R.remaining reader.old) (λ stream. 1000000 ≤ length stream) }
+    ensures counted { IsErrOf result RunFault.Turns → ReadTimes 1000000 (R.reads reader.old) (R.reads reader.new) }
     ensures kinds { IfErr result OfStream }
 {
     let mut decoder = Decoder::new(alloc);

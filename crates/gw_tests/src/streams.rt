@@ -29,6 +29,7 @@ const COUNTS: Counts = Counts {
 struct Drip<'a> {
     rest: &'a [u8],
     reads: usize,
+    read: u64,
     failed: bool,
 }
 
@@ -37,6 +38,8 @@ impl Source for Drip<'_> {
 
     ghost remaining = { λ _. None };
 
+    ghost reads = { λ s. s.read };
+
     ghost has_failed = { λ s. s.failed };
 
     fn failed(&self) -> bool {
@@ -44,6 +47,7 @@ impl Source for Drip<'_> {
     }
 
     fn read(&mut self, buf: &mut [u8]) -> Result<usize, Failed> {
+        self.read = self.read.saturating_add(1);
         self.failed = self.reads == 0;
         if self.failed {
             return Err(Failed);
@@ -118,6 +122,7 @@ fn run(
     let mut source = Drip {
         rest: STREAM,
         reads,
+        read: 0,
         failed: false,
     };
     let mut sink = Narrow {
@@ -197,12 +202,15 @@ fn each_end(rt: HostRuntime) -> Result<(), Fail> {
 #[derive(Drop)]
 struct Gap {
     left: usize,
+    read: u64,
 }
 
 impl Source for Gap {
     ghost use Rattle.std.specs.Prelude.{None, false};
 
     ghost remaining = { λ _. None };
+
+    ghost reads = { λ s. s.read };
 
     ghost has_failed = { λ _. false };
 
@@ -211,6 +219,7 @@ impl Source for Gap {
     }
 
     fn read(&mut self, buf: &mut [u8]) -> Result<usize, Failed> {
+        self.read = self.read.saturating_add(1);
         if self.left == 0 || buf.is_empty() {
             return Ok(0);
         }
@@ -228,7 +237,7 @@ fn turns(rt: HostRuntime) -> Result<(), Fail> {
         (999_999, Ok(Counts::none())),
         (1_000_000, Err(RunFault::Turns)),
     ] {
-        let mut source = Gap { left };
+        let mut source = Gap { left, read: 0 };
         let mut held = Vec::new(alloc);
         let mut writer = Writes::new(&mut held);
         let stamp = stamp().ok_or("a stamp")?;

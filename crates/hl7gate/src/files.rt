@@ -1,4 +1,5 @@
 //! The texts that a command reads.
+use crate::ended::Ended;
 use gw_run::RunFault;
 use std::fs::File;
 use std::io::{ErrorKind, Read};
@@ -8,11 +9,18 @@ use std::rt::Files;
 const MOST: u64 = 4_194_305;
 
 /// The bytes of a file, or the first of them where there are more than any text may have.
-pub(crate) fn read_text<R: Files + AllocGlobal>(rt: &R, path: &str) -> Result<Vec<u8>, RunFault> {
+pub(crate) fn read_text<'a, R: Files + AllocGlobal>(
+    rt: &R,
+    path: &'a str,
+) -> Result<Vec<u8>, Ended<'a>> {
     let Ok(file) = File::open(rt, path) else {
-        return Err(RunFault::Read);
+        return Err(Ended::Unread { path });
     };
-    read_all(rt, file.take(MOST))
+    match read_all(rt, file.take(MOST)) {
+        Ok(text) => Ok(text),
+        Err(RunFault::Read) => Err(Ended::Unread { path }),
+        Err(fault) => Err(Ended::Run(fault)),
+    }
 }
 
 /// All bytes of a reader.

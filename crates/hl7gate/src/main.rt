@@ -3,11 +3,13 @@
 //! `program::command` does it over any reader and two writers; here are the process's own.
 #![tactic(auto)]
 
+mod advice;
 mod arguments;
+mod ended;
 mod files;
 mod maps;
 mod program;
-mod refusal;
+mod refusals;
 mod report;
 mod stamps;
 

@@ -3,9 +3,10 @@ ghost use Rattle.std.specs.Prelude.{◌≡◌, IfOk};
 ghost use Rattle.std.specs.Arc.{arc_value};
 ghost use Rattle.gw_profile.specs.Seen.{profile_value};
 
+use crate::advice::Refusal;
+use crate::ended::Ended;
 use crate::files::{read_all, read_text};
-use crate::refusal::Refusal;
-use crate::report::{Ended, write_all};
+use crate::report::write_all;
 use clap::ArgMatches;
 use gw_check::{CheckFault, CheckedMap, FieldAt, unread};
 use gw_maplang::Map;
@@ -18,22 +19,24 @@ use std::rt::Files;
 use std::sync::Arc;
 
 /// The profile in the file that a word names.
-pub(crate) fn read_profile<R: Files + AllocGlobal>(
+pub(crate) fn read_profile<'a, R: Files + AllocGlobal>(
     rt: &R,
-    words: &ArgMatches<'_>,
+    words: &ArgMatches<'a>,
     word: &str,
-) -> Result<Arc<Profile>, Ended> {
-    let text = read_text(rt, words.get_str(word).unwrap_or(""))?;
-    let profile = gw_profile::parse(rt.alloc(), &text)?;
-    let profile = Arc::new(rt.alloc(), profile)?;
-    Ok(profile)
+) -> Result<Arc<Profile>, Ended<'a>> {
+    let path = words.get_str(word).unwrap_or("");
+    let text = read_text(rt, path)?;
+    match gw_profile::parse(rt.alloc(), &text) {
+        Ok(profile) => Ok(Arc::new(rt.alloc(), profile)?),
+        Err(fault) => Err(Ended::Profile { path, fault }),
+    }
 }
 
 /// A map that was checked, or the rule that refuses it.
 #[derive(Drop)]
-enum Checked {
+enum Checked<'a> {
     Allowed(CheckedMap),
-    Refused(Refusal),
+    Refused(Refusal<'a>),
 }
 
 /// What the map passes over, where rule 9 refuses it.
@@ -50,18 +53,31 @@ fn passed_over(
     Ok(Vec::new(alloc))
 }
 
+/// The map of a file's text.
+fn parse_map<'a>(alloc: Global, path: &'a str, text: &[u8]) -> Result<Map, Ended<'a>> {
+    match gw_maplang::parse(alloc, text) {
+        Ok(map) => Ok(map),
+        Err(fault) => Err(Ended::Map { path, fault }),
+    }
+}
+
 /// The map of the files SOURCE, TARGET and MAP, each read and parsed before the next, and checked.
-fn read_checked<R: Files + AllocGlobal>(rt: &R, words: &ArgMatches<'_>) -> Result<Checked, Ended> {
+fn read_checked<'a, R: Files + AllocGlobal>(
+    rt: &R,
+    words: &ArgMatches<'a>,
+) -> Result<Checked<'a>, Ended<'a>> {
     let source = read_profile(rt, words, "SOURCE")?;
     let target = read_profile(rt, words, "TARGET")?;
-    let text = read_text(rt, words.get_str("MAP").unwrap_or(""))?;
-    let map = gw_maplang::parse(rt.alloc(), &text)?;
+    let path = words.get_str("MAP").unwrap_or("");
+    let text = read_text(rt, path)?;
+    let map = parse_map(rt.alloc(), path, &text)?;
     match gw_check::check(rt.alloc(), source.clone()?, target.clone()?, map) {
         Ok(checked) => Ok(Checked::Allowed(checked)),
         Err(CheckFault::Memory(_)) => Err(Ended::Run(RunFault::Memory)),
         Err(CheckFault::Rule { rule, line, map }) => {
             let unread = passed_over(rt.alloc(), rule, &source, &target, &map)?;
             Ok(Checked::Refused(Refusal {
+                path,
                 rule,
                 line,
                 text,
@@ -73,12 +89,12 @@ fn read_checked<R: Files + AllocGlobal>(rt: &R, words: &ArgMatches<'_>) -> Resul
 }
 
 /// Prints whether the rules allow a map, and else the rule that refuses it; what a person needs to mend it goes to `errors`. False where it is refused.
-pub(crate) fn check<R: Files + AllocGlobal, O: Write, E: Write>(
+pub(crate) fn check<'a, R: Files + AllocGlobal, O: Write, E: Write>(
     rt: &R,
-    words: &ArgMatches<'_>,
+    words: &ArgMatches<'a>,
     output: &mut O,
     errors: &mut E,
-) -> Result<bool, Ended> {
+) -> Result<bool, Ended<'a>> {
     match read_checked(rt, words)? {
         Checked::Allowed(_) => {
             write_all(output, b"accepted\n")?;
@@ -88,17 +104,24 @@ pub(crate) fn check<R: Files + AllocGlobal, O: Write, E: Write>(
             let Refusal { rule, line, .. } = &refusal;
             let said = format!(in rt.alloc(); "refused K{rule} line {line}\n")?;
             write_all(output, said.as_bytes())?;
-            refusal.tell(errors, words.get_str("MAP").unwrap_or(""));
+            refusal.tell(errors);
             Ok(false)
         }
     }
 }
 
 /// The tree of a content that conforms to a profile.
-fn tree_of<R: AllocGlobal>(rt: &R, profile: Arc<Profile>, content: &[u8]) -> Result<Tree, Ended>
+fn tree_of<'a, R: AllocGlobal>(
+    rt: &R,
+    profile: Arc<Profile>,
+    content: &[u8],
+) -> Result<Tree, Ended<'a>>
     ensures { IfOk result (λ tree. profile_value tree.profile ≡ profile_value (arc_value profile)) }
 {
-    let message = gw_er7::read(rt.alloc(), content)?;
+    let message = match gw_er7::read(rt.alloc(), content) {
+        Ok(message) => message,
+        Err(fault) => return Err(Ended::Message { fault }),
+    };
     match gw_validate::validate(rt.alloc(), profile, message) {
         Ok(Verdict::Fits(tree)) => Ok(tree),
         Ok(Verdict::Breaks(breach, _)) => Err(Ended::Breaks(breach)),
@@ -107,27 +130,28 @@ fn tree_of<R: AllocGlobal>(rt: &R, profile: Arc<Profile>, content: &[u8]) -> Res
 }
 
 /// Writes the translation of the content on standard input, which has no frame.
-fn write_translation<R: AllocGlobal, I: Read + Drop, O: Write>(
+fn write_translation<'a, R: AllocGlobal, I: Read + Drop, O: Write>(
     rt: &R,
     map: &CheckedMap,
     input: I,
     output: &mut O,
-) -> Result<(), Ended> {
+) -> Result<(), Ended<'a>> {
     let content = read_all(rt, input)?;
     let tree = tree_of(rt, map.source().clone()?, &content)?;
     let message = gw_interp::translate(rt.alloc(), map, &tree)?;
     let written = gw_er7::write(rt.alloc(), &message)?;
-    write_all(output, &written)
+    write_all(output, &written)?;
+    Ok(())
 }
 
 /// Prints the translation of the content on standard input. A map that is refused is told before that is read: then it answers false.
-pub(crate) fn translate<R: Files + AllocGlobal, I: Read + Drop, O: Write, E: Write>(
+pub(crate) fn translate<'a, R: Files + AllocGlobal, I: Read + Drop, O: Write, E: Write>(
     rt: &R,
-    words: &ArgMatches<'_>,
+    words: &ArgMatches<'a>,
     input: I,
     output: &mut O,
     errors: &mut E,
-) -> Result<bool, Ended> {
+) -> Result<bool, Ended<'a>> {
     match read_checked(rt, words)? {
         Checked::Allowed(map) => {
             write_translation(rt, &map, input, output)?;
@@ -136,7 +160,7 @@ pub(crate) fn translate<R: Files + AllocGlobal, I: Read + Drop, O: Write, E: Wri
         Checked::Refused(refusal) => {
             let Refusal { rule, line, .. } = &refusal;
             let _ = writeln!(errors, "refused K{rule} line {line}");
-            refusal.tell(errors, words.get_str("MAP").unwrap_or(""));
+            refusal.tell(errors);
             Ok(false)
         }
     }

@@ -1,7 +1,8 @@
 //! The commands, over any reader and two writers.
 use crate::arguments::parse;
+use crate::ended::Ended;
 use crate::maps::{check, read_profile, translate};
-use crate::report::{Ended, USAGE, status_if, status_of, tell, tell_words};
+use crate::report::{USAGE, status_if, tell, tell_counts, tell_words};
 use crate::stamps::stamp_of;
 use clap::ArgMatches;
 use gw_run::{Counts, Reads, Writes, answer_stream};
@@ -10,12 +11,12 @@ use std::rt::Files;
 use std::time::Clock;
 
 /// Answers each message of a stream by a profile.
-fn validate<R: Files + Clock + AllocGlobal, I: Read + Drop, O: Write + Drop>(
+fn validate<'a, R: Files + Clock + AllocGlobal, I: Read + Drop, O: Write + Drop>(
     rt: &R,
-    words: &ArgMatches<'_>,
+    words: &ArgMatches<'a>,
     input: I,
     output: O,
-) -> Result<Counts, Ended> {
+) -> Result<Counts, Ended<'a>> {
     let Some(stamp) = stamp_of(rt, words.get_str("stamp")) else {
         return Err(Ended::Stamp);
     };
@@ -39,7 +40,9 @@ pub fn command<R: Files + Clock + AllocGlobal, I: Read + Drop, O: Write + Drop, 
         Err(error) => return tell_words(&mut output, &mut errors, &error),
     };
     let ended = match matches.subcommand() {
-        Some(("validate", words)) => validate(rt, words, input, output).map(status_of),
+        Some(("validate", words)) => {
+            validate(rt, words, input, output).map(|counts| tell_counts(&mut errors, counts))
+        }
         Some(("check", words)) => check(rt, words, &mut output, &mut errors).map(status_if),
         Some(("translate", words)) => translate(rt, words, input, &mut output, &mut errors).map(
             status_if,

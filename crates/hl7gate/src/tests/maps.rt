@@ -1,5 +1,6 @@
 //! Maps that are checked, and messages that are translated.
-use super::{Drip, H, done, joined};
+use super::limits::segments;
+use super::{Drip, H, done, joined, on_files, tells, unread};
 use std::alloc::{AllocError, Global};
 use std::fs;
 use std::rt::Files;
@@ -57,27 +58,25 @@ const FOUR: &[u8] = b"profile FOUR\nsegment MSH R 1..1\nsegment NK1 O 0..4\n";
 const JOINED: &[u8] =
     b"map JOINED from KIN to THREE\nsegment MSH from MSH\nsegment NK1 from NK1\nsegment NK1 from GT1\n";
 
-/// Writes the three texts of a map's command, and does the command by them.
+/// The command by three texts, with a content seven bytes a read.
 fn on_map<R: Files + Clock + AllocGlobal>(
     rt: &R,
     command: &str,
     texts: [&[u8]; 3],
     content: &[u8],
 ) -> Result<(u8, Vec<u8>, Vec<u8>), Fail> {
-    let names = ["source.txt", "target.txt", "map.txt"];
-    for (name, text) in names.iter().zip(texts) {
-        fs::write(rt, name, text)?;
-    }
     let input = Drip {
         rest: content,
         most: 7,
         reads: 2_000_000,
     };
-    let got = done(rt, &[command, names[0], names[1], names[2]], input)?;
-    for name in names {
-        fs::remove_file(rt, name)?;
-    }
-    Ok(got)
+    on_files(
+        rt,
+        command,
+        ["source.txt", "target.txt", "map.txt"],
+        texts,
+        input,
+    )
 }
 
 #[test]
@@ -127,13 +126,20 @@ fn tells_what_a_refusal_needs(rt: HostRuntime) -> Result<(), Fail> {
 /// Texts that are refused before the map is checked, by both commands.
 #[test]
 fn tells_why_a_text_is_refused(rt: HostRuntime) -> Result<(), Fail> {
-    let rows: [([&[u8]; 3], &[u8]); 8] = [
-        ([b"profile P\n", T1, M1], b"profile refused 8\n"),
-        ([P1, b"", b""], b"profile refused 2 line 1\n"),
-        ([P1, T1, b""], b"map refused 2 line 1\n"),
+    let long = vec![in rt.alloc(); 35u8; 1_048_577]?;
+    let rows: [([&[u8]; 3], &[u8], &[u8]); 9] = [
+        (
+            [b"profile P\n", b"", M1],
+            b"profile refused 8\n",
+            b"source.txt",
+        ),
+        ([P1, b"", b""], b"profile refused 2 line 1\n", b"target.txt"),
+        ([P1, T1, b""], b"map refused 2 line 1\n", b"map.txt"),
+        ([P1, T1, &long], b"map refused 7\n", b"map.txt"),
         (
             [P1, T1, b"map M from P1 to T1\nsegment MSH\n"],
             b"map refused 2 line 2\n",
+            b"map.txt",
         ),
         (
             [
@@ -142,6 +148,7 @@ fn tells_why_a_text_is_refused(rt: HostRuntime) -> Result<(), Fail> {
                 b"map M from P1 to T1\nsegment MSH from MSH\n  build 10 lookup T MSH-10\n",
             ],
             b"map refused 3 line 3\n",
+            b"map.txt",
         ),
         (
             [
@@ -150,10 +157,12 @@ fn tells_why_a_text_is_refused(rt: HostRuntime) -> Result<(), Fail> {
                 b"map M from P1 to T1\nsegment MSH from MSH\n  build 10 const a|b\n",
             ],
             b"map refused 4 line 3\n",
+            b"map.txt",
         ),
         (
             [P1, T1, b"map M from P1 to T1\ntable T\ntable T\n"],
             b"map refused 5 line 3\n",
+            b"map.txt",
         ),
         (
             [
@@ -162,11 +171,12 @@ fn tells_why_a_text_is_refused(rt: HostRuntime) -> Result<(), Fail> {
                 b"map M from P1 to T1\nflat each A\nflat each A\nflat each A\nflat each A\nflat each A\nflat each A\nflat each A\nflat each A\nflat each A\nflat each A\nflat each A\nflat each A\nflat each A\nflat each A\nflat each A\nflat each A\nflat each A\n",
             ],
             b"map refused 6 line 18\n",
+            b"map.txt",
         ),
     ];
-    for (texts, told) in rows {
+    for (texts, told, from) in rows {
         let got = on_map(&rt, "translate", texts, b"")?;
-        assert!(rt; got.0 == 1 && got.1.is_empty() && got.2.as_slice() == told);
+        assert!(rt; got.0 == 1 && got.1.is_empty() && tells(&got.2, told, from));
     }
     Ok(())
 }
@@ -215,26 +225,28 @@ fn translates_messages(rt: HostRuntime) -> Result<(), Fail> {
 /// Contents that aren't translated.
 #[test]
 fn tells_why_a_message_is_not_translated(rt: HostRuntime) -> Result<(), Fail> {
-    let rows: [(&[u8], &[u8]); 5] = [
-        (b"PID|||123\r", b"breaks 101 PID^1^8\n"),
-        (b"", b"breaks 100 PID^1\n"),
-        (b"PID|||123|||||X\r", b"breaks 103 PID^1^8^1^1^1\n"),
-        (b"PID|||A~B~C|||||F\r", b"breaks 102 PID^1^3^3\n"),
-        (b"pid\r", b"message refused 6\n"),
+    let rows: [(&[u8], &[u8], &[u8]); 5] = [
+        (b"PID|||123\r", b"breaks 101 PID^1^8\n", b""),
+        (b"", b"breaks 100 PID^1\n", b""),
+        (b"PID|||123|||||X\r", b"breaks 103 PID^1^8^1^1^1\n", b""),
+        (b"PID|||A~B~C|||||F\r", b"breaks 102 PID^1^3^3\n", b""),
+        (b"pid\r", b"message refused 6\n", b"standard input"),
     ];
-    for (tail, told) in rows {
+    for (tail, told, from) in rows {
         let got = translated(&rt, [P2, T1, M2], tail)?;
-        assert!(rt; got.0 == 1 && got.1.is_empty() && got.2.as_slice() == told);
+        assert!(rt; got.0 == 1 && got.1.is_empty() && tells(&got.2, told, from));
     }
-    let refused: [(&[u8], &[u8]); 4] = [
+    let many = segments(rt.alloc(), 10_001)?;
+    let refused: [(&[u8], &[u8]); 5] = [
         (b"", b"message refused 2\n"),
         (b"MSH|^~\\&\x07\r", b"message refused 3\n"),
         (b"PID|1\r", b"message refused 4\n"),
         (b"MSH|^~\\|\r", b"message refused 5\n"),
+        (&many, b"message refused 7\n"),
     ];
     for (content, told) in refused {
         let got = on_map(&rt, "translate", [P2, T1, M2], content)?;
-        assert!(rt; got.0 == 1 && got.1.is_empty() && got.2.as_slice() == told);
+        assert!(rt; got.0 == 1 && got.1.is_empty() && tells(&got.2, told, b"standard input"));
     }
     Ok(())
 }
@@ -245,27 +257,17 @@ fn refuses_a_map_before_it_reads(rt: HostRuntime) -> Result<(), Fail> {
     fs::write(&rt, "early_source.txt", P1)?;
     fs::write(&rt, "early_target.txt", T1)?;
     fs::write(&rt, "early_map.txt", M1)?;
-    let broken = Drip {
-        rest: b"",
-        most: 1,
-        reads: 0,
-    };
     let words = [
         "translate",
         "early_source.txt",
         "early_target.txt",
         "early_map.txt",
     ];
-    let got = done(&rt, &words, broken)?;
+    let got = done(&rt, &words, unread())?;
     assert!(rt; got.0 == 1 && got.1.is_empty() && got.2.starts_with(b"refused K5 line 9\n"));
     fs::write(&rt, "early_source.txt", P2)?;
     fs::write(&rt, "early_map.txt", M2)?;
-    let broken = Drip {
-        rest: b"",
-        most: 1,
-        reads: 0,
-    };
-    let got = done(&rt, &words, broken)?;
+    let got = done(&rt, &words, unread())?;
     assert!(rt; got.0 == 3 && got.1.is_empty() && got.2.as_slice() == b"fault 2\n".as_slice());
     for name in ["early_source.txt", "early_target.txt", "early_map.txt"] {
         fs::remove_file(&rt, name)?;

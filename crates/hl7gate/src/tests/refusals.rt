@@ -1,5 +1,5 @@
 //! Profiles that are refused, by the command.
-use super::done;
+use super::{done, tells};
 use std::fs;
 use std::test::Fail;
 
@@ -47,8 +47,20 @@ fn tells_each_fault_of_a_profile(rt: HostRuntime) -> Result<(), Fail> {
     for (text, told) in rows {
         fs::write(&rt, "refused.txt", text)?;
         let got = done(&rt, &["validate", "refused.txt"], b"".as_slice())?;
-        assert!(rt; got.0 == 1 && got.1.is_empty() && got.2.as_slice() == told);
+        assert!(rt; got.0 == 1 && got.1.is_empty() && tells(&got.2, told, b"refused.txt"));
     }
     fs::remove_file(&rt, "refused.txt")?;
+    Ok(())
+}
+
+/// The second line, whole.
+#[test]
+fn names_the_file_and_says_why(rt: HostRuntime) -> Result<(), Fail> {
+    fs::write(&rt, "named.txt", b"profile P\nsegment PID R 1..1\n")?;
+    let got = done(&rt, &["validate", "named.txt"], b"".as_slice())?;
+    let told =
+        b"profile refused 8\nnamed.txt: the profile does not begin with the one segment MSH R 1..1\n";
+    assert!(rt; got.0 == 1 && got.1.is_empty() && got.2.as_slice() == told.as_slice());
+    fs::remove_file(&rt, "named.txt")?;
     Ok(())
 }

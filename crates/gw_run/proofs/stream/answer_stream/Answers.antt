@@ -1,13 +1,14 @@
 use Rattle.std.proofs.Common.{rules, ap, refl, sym, ◌∙◌, Ok, arith}
 use Rattle.std.proofs.lemmas.Grind.{common_steps}
 use Rattle.gw_run.specs.Faults.{memory, read, too_long, turns}
-use Rattle.gw_run.proofs.Progressing.{progress_begins, progress_goes, progress_ends, progress_long, progress_stops, progress_breaks, progress_total, progress_room, progress_turns, between_goes_on, ends_well, ends_within, ends_of_stream, sends_of_stream}
+use Rattle.gw_run.proofs.Progressing.{progress_begins, progress_goes, progress_ends, progress_long, progress_stops, progress_breaks, progress_total, progress_room, progress_turns, reads_none, reads_more, reads_all, between_goes_on, ends_well, ends_within, ends_of_stream, sends_of_stream}
 use Rattle.gw_run.proofs.stream.answer_stream.Goals as goal
 
 pub reads-init : goal.reads-init
 reads-init g c = record {
   reads = c.requires.reads;
   writes = c.requires.writes;
+  counted = reads_none _;
   on = between_goes_on _ (ap (λ h. h.tail) c.new-decoder.ensures.empty);
   progress = progress_begins _ _ _ _ _ _ c.new-decoder.ensures.stands (ap (λ h. h.waiting) c.new-decoder.ensures.empty) c.none-counts.ensures;
 }
@@ -83,6 +84,7 @@ reads-preserved g c =
       reads = search rules;
       writes = search rules;
       on = λ past. c.in_ok-on.ensures.on (ap Ok c.if-not-on.false) (sym c.in_ok-answer_waiting.ensures.ok.tail ∙ past);
+      counted = reads_more _ _ _ _ c.reads.invariant.counted c.in-Ok.ensures.counted;
       progress = progress_goes _ _ _ _ _ _ _ _ _ _ _ _ _ _ _ c.reads.invariant.progress c.in-Ok.ensures.bytes.0 (grind (arith, common_steps)) (grind (arith, common_steps))
           c.in_ok-on.ensures.stands c.in_ok-answer_waiting.ensures.ok c.in_ok-answer_waiting.ensures.none;
     }
@@ -92,6 +94,9 @@ returns-clause-part g c = progress_stops _ _ _ _ _ _ _ _ _ c.reads.invariant.pro
 
 pub returns-clause-turns : goal.returns-clause-turns
 returns-clause-turns g c err = progress_turns _ _ _ _ _ _ _ _ _ 1000000 c.reads.invariant.progress (search rules)
+
+pub returns-clause-counted : goal.returns-clause-counted
+returns-clause-counted g c err = reads_all _ 1000000 _ _ c.reads.invariant.counted (first_of (omega arith, search rules)) (first_of (omega arith, search rules))
 
 pub returns-clause-kinds : goal.returns-clause-kinds
 returns-clause-kinds g c = turns

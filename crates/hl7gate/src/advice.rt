@@ -6,7 +6,9 @@ use std::sync::Arc;
 
 /// A rule that refuses a map: the least, at its least line.
 #[derive(Drop)]
-pub(crate) struct Refusal {
+pub(crate) struct Refusal<'a> {
+    /// The file of the map.
+    pub(crate) path: &'a str,
     pub(crate) rule: u8,
     pub(crate) line: u32,
     /// The text of the map.
@@ -108,12 +110,12 @@ fn tell_field<E: Write>(errors: &mut E, nodes: &[Node], field: &FieldAt) {
     let _ = writeln!(errors, "-{number}: neither read nor dropped");
 }
 
-impl Refusal {
+impl Refusal<'_> {
     /// Tells the file with its line, what the rule demands, and each field that is passed over.
-    pub(crate) fn tell<E: Write>(&self, errors: &mut E, path: &str) {
-        let line = self.line;
+    pub(crate) fn tell<E: Write>(&self, errors: &mut E) {
+        let Refusal { path, line, .. } = self;
         let _ = write!(errors, "{path}:{line}: ");
-        let _ = errors.write_all(line_at(&self.text, line));
+        let _ = errors.write_all(line_at(&self.text, self.line));
         let advice = advice(self.rule);
         let _ = writeln!(errors, "\n{advice}");
         for field in &self.unread {

@@ -1,0 +1,9 @@
+-- The numbers by which faults are told.
+use Rattle.std.specs.Prelude.{ℕ}
+use Rattle.gw_mllp.specs.declared.fault.FrameFault.{FrameFault}
+use Rattle.gw_mllp.specs.declared.fault.FrameFault.TheVariants.{Memory, TooLong, Truncated}
+
+abbrev pub number : FrameFault → ℕ
+number Memory = 1
+number TooLong = 2
+number Truncated = 3

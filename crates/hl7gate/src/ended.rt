@@ -1,0 +1,44 @@
+//! Why a command wasn't done.
+use gw_er7::ReadFault;
+use gw_maplang::MapFault;
+use gw_profile::ProfileFault;
+use gw_run::RunFault;
+use gw_validate::Breach;
+use std::alloc::{AllocError, AllocFailed};
+
+/// Why a command wasn't done. A path is a word of the command line.
+#[derive(Debug, Drop)]
+pub(crate) enum Ended<'a> {
+    /// The digits of the time stamp aren't fourteen.
+    Stamp,
+    /// The file can't be opened or read.
+    Unread { path: &'a str },
+    /// The text of the file isn't a profile.
+    Profile { path: &'a str, fault: ProfileFault },
+    /// The text of the file isn't a map.
+    Map { path: &'a str, fault: MapFault },
+    /// The content on standard input isn't a message.
+    Message { fault: ReadFault },
+    /// The message breaks its profile.
+    Breaks(Breach),
+    /// The run ended early.
+    Run(RunFault),
+}
+
+impl From<RunFault> for Ended<'_> {
+    fn from(fault: RunFault) -> Self {
+        Ended::Run(fault)
+    }
+}
+
+impl From<AllocError> for Ended<'_> {
+    fn from(_error: AllocError) -> Self {
+        Ended::Run(RunFault::Memory)
+    }
+}
+
+impl<T: Drop> From<AllocFailed<T>> for Ended<'_> {
+    fn from(_error: AllocFailed<T>) -> Self {
+        Ended::Run(RunFault::Memory)
+    }
+}

@@ -1,0 +1,119 @@
+//! What is told of a text or a content that was refused.
+use crate::report::{REFUSED, tell_fault};
+use gw_er7::ReadFault;
+use gw_maplang::MapFault;
+use gw_profile::ProfileFault;
+use gw_run::RunFault;
+use gw_validate::Breach;
+use std::fmt::Display;
+use std::io::Write;
+
+/// The number of want of memory, whatever was read.
+const NO_MEMORY: u8 = 1;
+
+/// What a refusal names beside its number.
+#[derive(Clone, Copy)]
+enum Place {
+    /// Nothing.
+    Whole,
+    /// A line, from 1.
+    Line(u32),
+    /// A segment name.
+    Name([u8; 3]),
+}
+
+/// What was refused, and where it came from.
+#[derive(Clone, Copy)]
+struct Subject<'a> {
+    word: &'a str,
+    from: &'a str,
+}
+
+/// Tells a refusal: on the first line its number, with its line or name; on the next where the text came from, and what is wrong with it.
+fn tell_refused<E: Write, F: Display>(
+    errors: &mut E,
+    subject: Subject<'_>,
+    number: u8,
+    place: Place,
+    fault: &F,
+) -> u8 {
+    if number == NO_MEMORY {
+        return tell_fault(errors, RunFault::Memory);
+    }
+    let Subject { word, from } = subject;
+    let _ = match place {
+        Place::Whole => writeln!(errors, "{word} refused {number}"),
+        Place::Line(line) => writeln!(errors, "{word} refused {number} line {line}"),
+        Place::Name(name) => {
+            let [first, second, third] = name.map(char::from);
+            writeln!(errors, "{word} refused {number} {first}{second}{third}")
+        }
+    };
+    let _ = writeln!(errors, "{from}: {fault}");
+    REFUSED
+}
+
+/// Tells why the text of a file is no profile.
+pub(crate) fn tell_profile<E: Write>(errors: &mut E, path: &str, fault: ProfileFault) -> u8 {
+    let place = match fault {
+        ProfileFault::Syntax(line) => Place::Line(line),
+        ProfileFault::Usage(line) => Place::Line(line),
+        ProfileFault::Duplicate(line) => Place::Line(line),
+        ProfileFault::UnknownTable(line) => Place::Line(line),
+        ProfileFault::EmptyGroup(line) => Place::Line(line),
+        ProfileFault::Ambiguous(name) => Place::Name(name),
+        ProfileFault::TooDeep(line) => Place::Line(line),
+        _ => Place::Whole,
+    };
+    let subject = Subject {
+        word: "profile",
+        from: path,
+    };
+    tell_refused(errors, subject, fault.number(), place, &fault)
+}
+
+/// Tells why the text of a file is no map.
+pub(crate) fn tell_map<E: Write>(errors: &mut E, path: &str, fault: MapFault) -> u8 {
+    let place = match fault {
+        MapFault::Syntax(line) => Place::Line(line),
+        MapFault::UnknownTable(line) => Place::Line(line),
+        MapFault::BadConstant(line) => Place::Line(line),
+        MapFault::Duplicate(line) => Place::Line(line),
+        MapFault::TooDeep(line) => Place::Line(line),
+        _ => Place::Whole,
+    };
+    let subject = Subject {
+        word: "map",
+        from: path,
+    };
+    tell_refused(errors, subject, fault.number(), place, &fault)
+}
+
+/// Tells why the content on standard input is no message.
+pub(crate) fn tell_message<E: Write>(errors: &mut E, fault: ReadFault) -> u8 {
+    let subject = Subject {
+        word: "message",
+        from: "standard input",
+    };
+    tell_refused(errors, subject, fault.number(), Place::Whole, &fault)
+}
+
+/// Tells what a message breaks: the code, and the place up to its last number.
+pub(crate) fn tell_breach<E: Write>(errors: &mut E, breach: Breach) -> u8 {
+    let code = breach.code();
+    let [first, second, third] = breach.segment.map(char::from);
+    let _ = write!(errors, "breaks {code} {first}{second}{third}");
+    for number in [
+        breach.sequence,
+        breach.field,
+        breach.rep,
+        breach.comp,
+        breach.sub,
+    ] {
+        if number > 0 {
+            let _ = write!(errors, "^{number}");
+        }
+    }
+    let _ = writeln!(errors);
+    REFUSED
+}
