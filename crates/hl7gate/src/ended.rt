@@ -6,7 +6,7 @@ use gw_run::RunFault;
 use gw_validate::Breach;
 use std::alloc::{AllocError, AllocFailed};
 
-/// Why a command wasn't done. A path is a word of the command line.
+/// Why a command wasn't done. A path is a word of the command line; what was expected is said of a line that is no line of its form.
 #[derive(Debug, Drop)]
 pub(crate) enum Ended<'a> {
     /// The digits of the time stamp aren't fourteen.
@@ -14,9 +14,17 @@ pub(crate) enum Ended<'a> {
     /// The file can't be opened or read.
     Unread { path: &'a str },
     /// The text of the file isn't a profile.
-    Profile { path: &'a str, fault: ProfileFault },
+    Profile {
+        path: &'a str,
+        fault: ProfileFault,
+        expected: Option<String>,
+    },
     /// The text of the file isn't a map.
-    Map { path: &'a str, fault: MapFault },
+    Map {
+        path: &'a str,
+        fault: MapFault,
+        expected: Option<String>,
+    },
     /// The content on standard input isn't a message.
     Message { fault: ReadFault },
     /// The message breaks its profile.

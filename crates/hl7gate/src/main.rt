@@ -6,6 +6,7 @@
 mod advice;
 mod arguments;
 mod ended;
+mod expected;
 mod files;
 mod maps;
 mod program;

@@ -5,6 +5,7 @@ ghost use Rattle.gw_profile.specs.Seen.{profile_value};
 
 use crate::advice::Refusal;
 use crate::ended::Ended;
+use crate::expected;
 use crate::files::{read_all, read_text};
 use crate::report::write_all;
 use clap::ArgMatches;
@@ -28,7 +29,14 @@ pub(crate) fn read_profile<'a, R: Files + AllocGlobal>(
     let text = read_text(rt, path)?;
     match gw_profile::parse(rt.alloc(), &text) {
         Ok(profile) => Ok(Arc::new(rt.alloc(), profile)?),
-        Err(fault) => Err(Ended::Profile { path, fault }),
+        Err(fault) => {
+            let expected = expected::in_profile(rt.alloc(), &text, fault)?;
+            Err(Ended::Profile {
+                path,
+                fault,
+                expected,
+            })
+        }
     }
 }
 
@@ -57,7 +65,14 @@ fn passed_over(
 fn parse_map<'a>(alloc: Global, path: &'a str, text: &[u8]) -> Result<Map, Ended<'a>> {
     match gw_maplang::parse(alloc, text) {
         Ok(map) => Ok(map),
-        Err(fault) => Err(Ended::Map { path, fault }),
+        Err(fault) => {
+            let expected = expected::in_map(alloc, text, fault)?;
+            Err(Ended::Map {
+                path,
+                fault,
+                expected,
+            })
+        }
     }
 }
 

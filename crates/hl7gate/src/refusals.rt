@@ -22,14 +22,15 @@ enum Place {
     Name([u8; 3]),
 }
 
-/// What was refused, and where it came from.
-#[derive(Clone, Copy)]
+/// What was refused, where it came from, and what was expected at a line that is no line of its form.
+#[derive(Drop)]
 struct Subject<'a> {
     word: &'a str,
     from: &'a str,
+    expected: Option<String>,
 }
 
-/// Tells a refusal: on the first line its number, with its line or name; on the next where the text came from, and what is wrong with it.
+/// Tells a refusal: on the first line its number, with its line or name; on the next where the text came from, and what was expected there or is wrong with it.
 fn tell_refused<E: Write, F: Display>(
     errors: &mut E,
     subject: Subject<'_>,
@@ -40,7 +41,11 @@ fn tell_refused<E: Write, F: Display>(
     if number == NO_MEMORY {
         return tell_fault(errors, RunFault::Memory);
     }
-    let Subject { word, from } = subject;
+    let Subject {
+        word,
+        from,
+        expected,
+    } = subject;
     let _ = match place {
         Place::Whole => writeln!(errors, "{word} refused {number}"),
         Place::Line(line) => writeln!(errors, "{word} refused {number} line {line}"),
@@ -49,12 +54,20 @@ fn tell_refused<E: Write, F: Display>(
             writeln!(errors, "{word} refused {number} {first}{second}{third}")
         }
     };
-    let _ = writeln!(errors, "{from}: {fault}");
+    let _ = match (place, expected) {
+        (Place::Line(line), Some(said)) => writeln!(errors, "{from}:{line}: {said}"),
+        _ => writeln!(errors, "{from}: {fault}"),
+    };
     REFUSED
 }
 
 /// Tells why the text of a file is no profile.
-pub(crate) fn tell_profile<E: Write>(errors: &mut E, path: &str, fault: ProfileFault) -> u8 {
+pub(crate) fn tell_profile<E: Write>(
+    errors: &mut E,
+    path: &str,
+    fault: ProfileFault,
+    expected: Option<String>,
+) -> u8 {
     let place = match fault {
         ProfileFault::Syntax(line) => Place::Line(line),
         ProfileFault::Usage(line) => Place::Line(line),
@@ -68,12 +81,18 @@ pub(crate) fn tell_profile<E: Write>(errors: &mut E, path: &str, fault: ProfileF
     let subject = Subject {
         word: "profile",
         from: path,
+        expected,
     };
     tell_refused(errors, subject, fault.number(), place, &fault)
 }
 
 /// Tells why the text of a file is no map.
-pub(crate) fn tell_map<E: Write>(errors: &mut E, path: &str, fault: MapFault) -> u8 {
+pub(crate) fn tell_map<E: Write>(
+    errors: &mut E,
+    path: &str,
+    fault: MapFault,
+    expected: Option<String>,
+) -> u8 {
     let place = match fault {
         MapFault::Syntax(line) => Place::Line(line),
         MapFault::UnknownTable(line) => Place::Line(line),
@@ -85,6 +104,7 @@ pub(crate) fn tell_map<E: Write>(errors: &mut E, path: &str, fault: MapFault) ->
     let subject = Subject {
         word: "map",
         from: path,
+        expected,
     };
     tell_refused(errors, subject, fault.number(), place, &fault)
 }
@@ -94,6 +114,7 @@ pub(crate) fn tell_message<E: Write>(errors: &mut E, fault: ReadFault) -> u8 {
     let subject = Subject {
         word: "message",
         from: "standard input",
+        expected: None,
     };
     tell_refused(errors, subject, fault.number(), Place::Whole, &fault)
 }

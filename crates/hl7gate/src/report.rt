@@ -70,8 +70,16 @@ pub(crate) fn tell<E: Write>(errors: &mut E, ended: Ended<'_>) -> u8 {
             let _ = writeln!(errors, "{path}: the file can't be opened or read");
             status
         }
-        Ended::Profile { path, fault } => tell_profile(errors, path, fault),
-        Ended::Map { path, fault } => tell_map(errors, path, fault),
+        Ended::Profile {
+            path,
+            fault,
+            expected,
+        } => tell_profile(errors, path, fault, expected),
+        Ended::Map {
+            path,
+            fault,
+            expected,
+        } => tell_map(errors, path, fault, expected),
         Ended::Message { fault } => tell_message(errors, fault),
         Ended::Breaks(breach) => tell_breach(errors, breach),
         Ended::Run(fault) => tell_fault(errors, fault),
