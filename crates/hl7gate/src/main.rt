@@ -19,9 +19,6 @@ use program::command;
 use report::tell_unread_words;
 use std::process::ExitCode;
 
-#[cfg(test)]
-mod tests;
-
 fn main(rt: HostRuntime) -> ExitCode {
     let status = match process_words(&rt) {
         Ok(words) => command(&rt, words.as_slice(), rt.stdin(), rt.stdout(), rt.stderr()),
