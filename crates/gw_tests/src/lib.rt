@@ -1,4 +1,4 @@
-//! Tests of the libraries. They stand apart from these crates, since a crate with tests is proved twice.
+//! What the program can't show of the libraries. They stand apart from these crates, since a crate with tests is proved twice.
 #![tactic(auto)]
 
 #[cfg(test)]
@@ -6,25 +6,15 @@ mod answers;
 #[cfg(test)]
 mod blocks;
 #[cfg(test)]
+mod checks;
+#[cfg(test)]
 mod desks;
-#[cfg(test)]
-mod labels;
-#[cfg(test)]
-mod map_texts;
 #[cfg(test)]
 mod maps;
 #[cfg(test)]
 mod messages;
 #[cfg(test)]
 mod profiles;
-#[cfg(test)]
-mod rules;
-#[cfg(test)]
-mod samples;
-#[cfg(test)]
-mod sentences;
-#[cfg(test)]
-mod shapes;
 #[cfg(test)]
 mod streams;
 #[cfg(test)]

@@ -1,0 +1,62 @@
+//! What the checker hands back, and maps that it always allows.
+use crate::worked::{ORU, P1, profile};
+use gw_check::{CheckFault, Presence, Shape, Values, check, included};
+use gw_profile::{SubShape, Usage};
+use std::test::Fail;
+
+const T1: &str =
+    "profile T1\ntable ISO 1 2 9\nsegment MSH R 1..1\n  field 10 R 1..1\nsegment PID R 1..1\n  field 8 R 1..1 len 1 table ISO\n";
+
+const M1: &[u8] =
+    b"map M1 from P1 to T1\ntable SEXMAP\n  row M 1\n  row F 2\n  else 9\nsegment MSH from MSH\n  copy 10 from MSH-10\nsegment PID from PID\n  build 8 lookup SEXMAP PID-8\ndrop PID-3\ndrop PID-5\n";
+
+/// A field, a component and a segment that are forbidden, beside what is required and what may be absent.
+const CLINIC: &str =
+    "profile CLINIC\ntable SEX M F U\nsegment MSH R 1..1\n  field 10 R 1..1\nsegment ZPI X 0..0\nsegment PID R 1..1\n  field 3 R 1..2\n  field 4 X 0..0\n  field 5 RE 0..1\n    comp 1 R len 4\n    comp 2 X\ngroup VISIT O 0..9\n  segment PV1 R 1..1\n  segment NTE RE 0..1\n    field 3 RE 0..1\nend\n";
+
+/// A map that is refused comes back, with the least rule that fails and its line.
+#[test]
+fn refused(rt: HostRuntime) -> Result<(), Fail> {
+    let alloc = rt.alloc();
+    let source = profile(alloc, P1)?;
+    let target = profile(alloc, T1)?;
+    let given = gw_maplang::parse(alloc, M1).map_err(|_| "M1")?;
+    let Err(CheckFault::Rule { rule, line, map }) = check(alloc, source, target, given) else {
+        return Err("a rule refuses it".into());
+    };
+    assert_eq!(rt; (rule, line), (5, 9));
+    assert_eq!(rt; map.name(), b"M1".as_slice());
+    Ok(())
+}
+
+/// The map that leaves all as it is.
+#[test]
+fn identities(rt: HostRuntime) -> Result<(), Fail> {
+    let alloc = rt.alloc();
+    for text in &[P1, ORU, CLINIC] {
+        let both = profile(alloc, text)?;
+        let map = gw_maplang::identity(alloc, &both)?;
+        let target = profile(alloc, text)?;
+        assert!(rt; check(alloc, both, target, map).is_ok(), "{text}");
+    }
+    Ok(())
+}
+
+/// Whether a text of at most so many octets always meets a subcomponent that takes twenty.
+#[test]
+fn shapes(rt: HostRuntime) -> Result<(), Fail> {
+    let sub = SubShape {
+        number: 1,
+        usage: Usage::R,
+        len: Some(20),
+        table: None,
+    };
+    for (len, expected) in [(Some(20), true), (Some(21), false), (None, false)] {
+        let shape = Shape {
+            presence: Presence::Always,
+            values: Values::Any(len),
+        };
+        assert_eq!(rt; included(&shape, &sub, None), expected);
+    }
+    Ok(())
+}
