@@ -12,7 +12,9 @@ pub(crate) enum Ended<'a> {
     /// The digits of the time stamp aren't fourteen.
     Stamp,
     /// The file can't be opened or read.
-    Unread { path: &'a str },
+    Unread {
+        path: &'a str,
+    },
     /// The text of the file isn't a profile.
     Profile {
         path: &'a str,
@@ -26,7 +28,9 @@ pub(crate) enum Ended<'a> {
         expected: Option<String>,
     },
     /// The content on standard input isn't a message.
-    Message { fault: ReadFault },
+    Message {
+        fault: ReadFault,
+    },
     /// The message breaks its profile.
     Breaks(Breach),
     /// The run ended early.
