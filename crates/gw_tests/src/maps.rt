@@ -8,7 +8,7 @@ const WARD: &[u8] =
 
 #[test]
 fn values(rt: HostRuntime) -> Result<(), Fail> {
-    let map = parse(rt.alloc(), WARD).map_err(|_| "WARD")?;
+    let map = parse(rt.alloc(), WARD)?;
     assert_eq!(rt; map.name(), b"WARD_TO_ARCHIVE".as_slice());
     assert_eq!(rt; map.source(), b"WARD".as_slice());
     assert_eq!(rt; map.target(), b"ARCHIVE".as_slice());
