@@ -31,10 +31,21 @@ fn values(rt: HostRuntime) -> Result<(), Fail> {
     let table = profile.table(b"T").ok_or("T")?;
     assert!(rt; table.contains(b"a") && !table.contains(b"b"));
     assert_eq!(rt; table.values().len(), 1);
+    Ok(())
+}
+
+#[test]
+fn same(rt: HostRuntime) -> Result<(), Fail> {
+    let profile = parse(rt.alloc(), TEXTS[0].0)?;
     for (text, want) in TEXTS {
         let other = parse(rt.alloc(), text)?;
         assert_eq!(rt; profile.same(&other), want);
     }
+    Ok(())
+}
+
+#[test]
+fn sentences(rt: HostRuntime) -> Result<(), Fail> {
     let expected = expected(rt.alloc(), b"profile P\ntable T \"a\xff\n", 2)?;
     let said = format!(in rt.alloc(); "{expected}")?;
     let sentence = "expected: table NAME VALUE .., found: \"table T \\\"a\\xff\"";
