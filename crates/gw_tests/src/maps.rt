@@ -6,7 +6,9 @@ use std::test::Fail;
 fn values(rt: HostRuntime) -> Result<(), Fail> {
     let text = b"map M from A to B\ntable T\nrow F 2\nelse 9\nsegment MSH from MSH\ndrop PID\n";
     let map = parse(rt.alloc(), text)?;
-    assert!(rt; map.name() == b"M" && map.source() == b"A" && map.target() == b"B");
+    assert_eq!(rt; map.name(), b"M".as_slice());
+    assert_eq!(rt; map.source(), b"A".as_slice());
+    assert_eq!(rt; map.target(), b"B".as_slice());
     assert!(rt; map.line() == 1 && map.items().len() == 1 && map.drops().len() == 1);
     let table = map.table(b"T").ok_or("T")?;
     assert!(rt; table.rows().len() == 1 && map.tables().len() == 1);
