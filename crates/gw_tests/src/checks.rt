@@ -20,7 +20,7 @@ fn refused(rt: HostRuntime) -> Result<(), Fail> {
     let alloc = rt.alloc();
     let source = profile(alloc, P1)?;
     let target = profile(alloc, T1)?;
-    let given = gw_maplang::parse(alloc, M1).map_err(|_| "M1")?;
+    let given = gw_maplang::parse(alloc, M1)?;
     let Err(CheckFault::Rule { rule, line, map }) = check(alloc, source, target, given) else {
         return Err("a rule refuses it".into());
     };

@@ -69,7 +69,7 @@ fn a_segment_is_looked_at(rt: HostRuntime) -> Result<(), Fail> {
     let message = read(rt.alloc(), b"MSH|^~\\&\rPID||x|a^b&c~~d\r")?;
     assert_eq!(rt; message.segment_count(), 2);
     let segment = message.segment(1);
-    assert_eq!(rt; segment.name(), *b"PID");
+    assert_eq!(rt; segment.again().name(), *b"PID");
     assert_eq!(rt; segment.field_count(), 3);
     assert_eq!(rt; segment.reps(3), 3);
     assert_eq!(rt; segment.comps(3, 1), 2);

@@ -24,17 +24,28 @@ const TEXTS: [(&[u8], bool); 4] = [
 
 #[test]
 fn values(rt: HostRuntime) -> Result<(), Fail> {
-    let profile = parse(rt.alloc(), TEXTS[0].0).map_err(|_| "the first")?;
+    let profile = parse(rt.alloc(), TEXTS[0].0)?;
     assert_eq!(rt; profile.name(), b"A".as_slice());
     assert_eq!(rt; (profile.nodes().len(), profile.tables().len()), (1, 1));
     assert!(rt; profile.knows(*b"MSH") && !profile.knows(*b"PID"));
     let table = profile.table(b"T").ok_or("T")?;
     assert!(rt; table.contains(b"a") && !table.contains(b"b"));
     assert_eq!(rt; table.values().len(), 1);
+    Ok(())
+}
+
+#[test]
+fn same(rt: HostRuntime) -> Result<(), Fail> {
+    let profile = parse(rt.alloc(), TEXTS[0].0)?;
     for (text, want) in TEXTS {
-        let other = parse(rt.alloc(), text).map_err(|_| "another")?;
+        let other = parse(rt.alloc(), text)?;
         assert_eq!(rt; profile.same(&other), want);
     }
+    Ok(())
+}
+
+#[test]
+fn sentences(rt: HostRuntime) -> Result<(), Fail> {
     let expected = expected(rt.alloc(), b"profile P\ntable T \"a\xff\n", 2)?;
     let said = format!(in rt.alloc(); "{expected}")?;
     let sentence = "expected: table NAME VALUE .., found: \"table T \\\"a\\xff\"";

@@ -48,7 +48,7 @@ fn far(alloc: Global) -> Result<Message, AllocError> {
 fn values_far_away(rt: HostRuntime) -> Result<(), Fail> {
     let alloc = rt.alloc();
     let source = profile(alloc, P)?;
-    let map = gw_maplang::parse(alloc, M).map_err(|_| "M")?;
+    let map = gw_maplang::parse(alloc, M)?;
     let Ok(map) = check(alloc, source, profile(alloc, P)?, map) else {
         return Err("the map is refused".into());
     };
