@@ -6,7 +6,6 @@ pub mod Finding
 pub mod Firsts
 pub mod Counted
 pub mod Noting
-pub mod Nodes
 pub mod Stepped
 pub mod Within
 pub mod Passing

@@ -12,8 +12,8 @@ pub mod Typed
 pub mod Lawful
 pub mod Naming
 pub mod Checked
-pub mod Noted
 pub mod Seen
+pub mod Noted
 pub mod Looking
 pub mod Resolving
 pub mod Founds
