@@ -3,7 +3,7 @@ pub mod Inner
 pub mod Rows
 pub mod Saturation
 pub mod Finding
-pub mod Firsts
+pub mod Lacks
 pub mod Counted
 pub mod Noting
 pub mod Stepped

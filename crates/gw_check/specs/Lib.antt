@@ -19,6 +19,7 @@ pub mod Resolving
 pub mod Founds
 pub mod Walks
 pub mod Reading
+pub mod Lacking
 pub mod Counted
 pub mod Checking
 pub mod Collected

@@ -8,7 +8,7 @@ ghost use Rattle.gw_check.specs.Seen.{failure, failures};
 use std::alloc::AllocError;
 
 /// The number of a rule, and the line at which the map breaks it.
-#[derive(Clone, Copy, PartialEq, Eq, Debug, Drop)]
+#[derive(Clone, Copy, Drop)]
 pub struct Failure {
     pub rule: u8,
     pub line: u32,

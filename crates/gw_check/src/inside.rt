@@ -60,6 +60,7 @@ fn check_given(
 {
     let inner = within_if(alloc, scope, &segment.place)?;
     let sources = Sources {
+        alloc,
         profile: sides.source,
         map: sides.map,
         scope: &inner,

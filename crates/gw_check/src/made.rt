@@ -1,14 +1,14 @@
 //! The rules on fields that are made of leaves.
-ghost use Rattle.std.specs.Prelude.{◌≡◌, ◌==◌, ◌&&◌, ◌||◌, not, map, flat_map, Some, ◌∷◌, [], option_copied, OnOk};
-ghost use Rattle.std.specs.List.{list_any, list_all};
+ghost use Rattle.std.specs.Prelude.{◌≡◌, ◌&&◌, ◌||◌, not, map, flat_map, ◌∷◌, [], IfOk, OnOk};
 ghost use Rattle.gw_profile.specs.Seen.{sub as sub_value, comp as comp_value, field as field_value, profile_value};
 ghost use Rattle.gw_profile.specs.Lengths.{octets};
-ghost use Rattle.gw_validate.specs.Breaches.{is_null, is_required};
+ghost use Rattle.gw_validate.specs.Breaches.{is_null};
 ghost use Rattle.gw_check.specs.Failures.{fails};
 ghost use Rattle.gw_check.specs.Fields as spec;
+ghost use Rattle.gw_check.specs.Lacking.{there_of, there_value, has_comp, has_only_comp, has_sub, has_only_sub, sub_lacks, comp_lacks, all_lacks};
 ghost use Rattle.gw_check.specs.Leaves as leaves_spec;
 ghost use Rattle.gw_check.specs.Noted.{Notes};
-ghost use Rattle.gw_check.specs.Reading.{sources_value, map_tables, some_comp, some_sub, first_there, first_within};
+ghost use Rattle.gw_check.specs.Reading.{sources_value, map_tables, some_comp, some_sub};
 ghost use Rattle.gw_check.specs.Seen.{at_leaf, leaf as seen_leaf};
 ghost use Rattle.gw_check.specs.Texts.{texts_value};
 
@@ -21,241 +21,168 @@ use crate::shape::Presence;
 use crate::sources::Sources;
 use crate::texts::{Texts, may_be_long, may_be_unlisted};
 use crate::values::{check_values, is_forbidden, is_required};
+use gw_maplang::LeafPlace;
 use gw_profile::{CompShape, FieldShape, Profile, SubShape};
 use std::alloc::AllocError;
 
+/// The place of a leaf, and whether a text stands there.
+#[derive(Clone, Copy)]
+struct There {
+    place: LeafPlace,
+    presence: Presence,
+}
+
+// The leaves, each with its presence.
+fn all_there(sources: Sources<'_, '_, '_, '_>, leaves: &[At]) -> Result<Vec<There>, AllocError>
+    ensures { IfOk result (λ v. map there_value v.items ≡ map (there_of (sources_value sources.entry)) (map (at_leaf (map_tables sources.entry)) leaves.now)) }
+{
+    let mut all = Vec::new(sources.alloc);
+    for (i, at) in leaves.iter().enumerate() {
+        all.push(There {
+            place: at.place,
+            presence: leaf_presence(sources, &at.leaf),
+        })?;
+    }
+    Ok(all)
+}
+
 // ---- whether something required is there
 
-fn has_comp_among(sources: Sources<'_, '_, '_, '_>, leaves: &[At], comp: u32) -> bool
-    ensures { result ≡ list_any (λ a. a.place.comp == comp && leaves_spec.is_always (leaves_spec.leaf_shape (sources_value sources.entry) (seen_leaf (map_tables sources.entry) a.leaf)).presence) leaves.now }
-{
-    leaves.iter().any(|at| at.place.comp == comp && is_always(leaf_presence(sources, &at.leaf)))
-}
-
 // Some leaf of the component is always there.
-fn has_comp(sources: Sources<'_, '_, '_, '_>, leaves: &[At], comp: u32) -> bool
-    ensures { result ≡ list_any (λ a. a.comp == comp && leaves_spec.is_always (leaves_spec.leaf_shape (sources_value sources.entry) a.leaf).presence) (map (at_leaf (map_tables sources.entry)) leaves.now) }
+fn has_comp(leaves: &[There], comp: u32) -> bool
+    ensures { result ≡ has_comp (map there_value leaves.now) comp }
 {
-    has_comp_among(sources, leaves, comp)
-}
-
-fn has_only_comp_among(sources: Sources<'_, '_, '_, '_>, leaves: &[At], comp: u32) -> bool
-    ensures { result ≡ list_all (λ a. a.place.comp == comp || leaves_spec.is_absent (leaves_spec.leaf_shape (sources_value sources.entry) (seen_leaf (map_tables sources.entry) a.leaf)).presence) leaves.now }
-{
-    leaves.iter().all(|at| at.place.comp == comp || is_absent(leaf_presence(sources, &at.leaf)))
+    for (i, leaf) in leaves.iter().enumerate() {
+        if leaf.place.comp == comp && is_always(leaf.presence) {
+            return true;
+        }
+    }
+    false
 }
 
 // No text can stand but in the component.
-fn has_only_comp(sources: Sources<'_, '_, '_, '_>, leaves: &[At], comp: u32) -> bool
-    ensures { result ≡ list_all (λ a. a.comp == comp || leaves_spec.is_absent (leaves_spec.leaf_shape (sources_value sources.entry) a.leaf).presence) (map (at_leaf (map_tables sources.entry)) leaves.now) }
+fn has_only_comp(leaves: &[There], comp: u32) -> bool
+    ensures { result ≡ has_only_comp (map there_value leaves.now) comp }
 {
-    has_only_comp_among(sources, leaves, comp)
-}
-
-// The first leaf that can have a text.
-fn first_there<'l>(sources: Sources<'_, '_, '_, '_>, leaves: &'l [At]) -> Option<&'l At>
-    ensures { option_copied result ≡ first_there sources.entry leaves.now }
-{
-    leaves
-        .iter()
-        .find(|at| !is_absent(leaf_presence(sources, &at.leaf)))
-}
-
-// No text can stand but in the component, where this leaf is the first that can have one.
-fn has_only_comp_from(sources: Sources<'_, '_, '_, '_>, leaves: &[At], at: &At, comp: u32) -> bool
-    ensures { Some at.now ≡ first_there sources.entry leaves.now → result ≡ list_all (λ a. a.comp == comp || leaves_spec.is_absent (leaves_spec.leaf_shape (sources_value sources.entry) a.leaf).presence) (map (at_leaf (map_tables sources.entry)) leaves.now) }
-{
-    if at.place.comp != comp {
-        return false;
+    for (i, leaf) in leaves.iter().enumerate() {
+        if leaf.place.comp != comp && !is_absent(leaf.presence) {
+            return false;
+        }
     }
-    has_only_comp(sources, leaves, comp)
-}
-
-// No text can stand but in the component, where the first leaf that can have one is known.
-fn has_only_comp_by(
-    sources: Sources<'_, '_, '_, '_>,
-    leaves: &[At],
-    first: Option<&At>,
-    comp: u32,
-) -> bool
-    ensures { option_copied first.entry ≡ first_there sources.entry leaves.now → result ≡ list_all (λ a. a.comp == comp || leaves_spec.is_absent (leaves_spec.leaf_shape (sources_value sources.entry) a.leaf).presence) (map (at_leaf (map_tables sources.entry)) leaves.now) }
-{
-    match first {
-        None => true,
-        Some(at) => has_only_comp_from(sources, leaves, at, comp),
-    }
-}
-
-fn is_comp_sure(
-    sources: Sources<'_, '_, '_, '_>,
-    leaves: &[At],
-    first: Option<&At>,
-    comp: u32,
-) -> bool
-    ensures { option_copied first.entry ≡ first_there sources.entry leaves.now → result ≡ spec.is_comp_sure (sources_value sources.entry) (map (at_leaf (map_tables sources.entry)) leaves.now) comp }
-{
-    has_comp(sources, leaves, comp) || has_only_comp_by(sources, leaves, first, comp)
-}
-
-fn has_sub_among(sources: Sources<'_, '_, '_, '_>, leaves: &[At], comp: u32, sub: u32) -> bool
-    ensures { result ≡ list_any (λ a. a.place.comp == comp && a.place.sub == sub && leaves_spec.is_always (leaves_spec.leaf_shape (sources_value sources.entry) (seen_leaf (map_tables sources.entry) a.leaf)).presence) leaves.now }
-{
-    leaves.iter().any(|at| {
-        at.place.comp == comp && at.place.sub == sub && is_always(leaf_presence(sources, &at.leaf))
-    })
+    true
 }
 
 // The leaf of the subcomponent is always there.
-fn has_sub(sources: Sources<'_, '_, '_, '_>, leaves: &[At], comp: u32, sub: u32) -> bool
-    ensures { result ≡ list_any (λ a. a.comp == comp && a.sub == sub && leaves_spec.is_always (leaves_spec.leaf_shape (sources_value sources.entry) a.leaf).presence) (map (at_leaf (map_tables sources.entry)) leaves.now) }
+fn has_sub(leaves: &[There], comp: u32, sub: u32) -> bool
+    ensures { result ≡ has_sub (map there_value leaves.now) comp sub }
 {
-    has_sub_among(sources, leaves, comp, sub)
-}
-
-fn has_only_sub_among(sources: Sources<'_, '_, '_, '_>, leaves: &[At], comp: u32, sub: u32) -> bool
-    ensures { result ≡ list_all (λ a. not (a.place.comp == comp) || a.place.sub == sub || leaves_spec.is_absent (leaves_spec.leaf_shape (sources_value sources.entry) (seen_leaf (map_tables sources.entry) a.leaf)).presence) leaves.now }
-{
-    leaves.iter().all(|at| {
-        at.place.comp != comp || at.place.sub == sub || is_absent(leaf_presence(sources, &at.leaf))
-    })
+    for (i, leaf) in leaves.iter().enumerate() {
+        if leaf.place.comp == comp && leaf.place.sub == sub && is_always(leaf.presence) {
+            return true;
+        }
+    }
+    false
 }
 
 // The component can have no text but in the subcomponent.
-fn has_only_sub(sources: Sources<'_, '_, '_, '_>, leaves: &[At], comp: u32, sub: u32) -> bool
-    ensures { result ≡ list_all (λ a. not (a.comp == comp) || a.sub == sub || leaves_spec.is_absent (leaves_spec.leaf_shape (sources_value sources.entry) a.leaf).presence) (map (at_leaf (map_tables sources.entry)) leaves.now) }
+fn has_only_sub(leaves: &[There], comp: u32, sub: u32) -> bool
+    ensures { result ≡ has_only_sub (map there_value leaves.now) comp sub }
 {
-    has_only_sub_among(sources, leaves, comp, sub)
-}
-
-// The first leaf of the component that can have a text.
-fn first_within<'l>(sources: Sources<'_, '_, '_, '_>, leaves: &'l [At], comp: u32) -> Option<&'l At>
-    ensures { option_copied result ≡ first_within sources.entry comp leaves.now }
-{
-    leaves.iter().find(|at| at.place.comp == comp && !is_absent(leaf_presence(sources, &at.leaf)))
-}
-
-// The component can have no text but in the subcomponent, where this leaf is its first that can have one.
-fn has_only_sub_from(
-    sources: Sources<'_, '_, '_, '_>,
-    leaves: &[At],
-    at: &At,
-    comp: u32,
-    sub: u32,
-) -> bool
-    ensures { Some at.now ≡ first_within sources.entry comp leaves.now → result ≡ list_all (λ a. not (a.comp == comp) || a.sub == sub || leaves_spec.is_absent (leaves_spec.leaf_shape (sources_value sources.entry) a.leaf).presence) (map (at_leaf (map_tables sources.entry)) leaves.now) }
-{
-    if at.place.sub != sub {
-        return false;
+    for (i, leaf) in leaves.iter().enumerate() {
+        if leaf.place.comp == comp && leaf.place.sub != sub && !is_absent(leaf.presence) {
+            return false;
+        }
     }
-    has_only_sub(sources, leaves, comp, sub)
+    true
 }
 
-// The component can have no text but in the subcomponent, where its first leaf that can have one is known.
-fn has_only_sub_by(
-    sources: Sources<'_, '_, '_, '_>,
-    leaves: &[At],
-    first: Option<&At>,
-    comp: u32,
-    sub: u32,
-) -> bool
-    ensures { option_copied first.entry ≡ first_within sources.entry comp leaves.now → result ≡ list_all (λ a. not (a.comp == comp) || a.sub == sub || leaves_spec.is_absent (leaves_spec.leaf_shape (sources_value sources.entry) a.leaf).presence) (map (at_leaf (map_tables sources.entry)) leaves.now) }
+fn is_comp_sure(leaves: &[There], comp: u32) -> bool
+    ensures { result ≡ (has_comp (map there_value leaves.now) comp || has_only_comp (map there_value leaves.now) comp) }
 {
-    match first {
-        None => true,
-        Some(at) => has_only_sub_from(sources, leaves, at, comp, sub),
-    }
+    has_comp(leaves, comp) || has_only_comp(leaves, comp)
 }
 
-fn is_sub_sure(
-    sources: Sources<'_, '_, '_, '_>,
-    leaves: &[At],
-    first: Option<&At>,
-    comp: u32,
-    sub: u32,
-) -> bool
-    ensures { option_copied first.entry ≡ first_within sources.entry comp leaves.now → result ≡ spec.is_sub_sure (sources_value sources.entry) (map (at_leaf (map_tables sources.entry)) leaves.now) comp sub }
+fn is_sub_sure(leaves: &[There], comp: u32, sub: u32) -> bool
+    ensures { result ≡ (has_sub (map there_value leaves.now) comp sub || has_only_sub (map there_value leaves.now) comp sub) }
 {
-    has_sub(sources, leaves, comp, sub) || has_only_sub_by(sources, leaves, first, comp, sub)
+    has_sub(leaves, comp, sub) || has_only_sub(leaves, comp, sub)
 }
 
 // ---- what is made
 
 fn check_sub(
     found: &mut Vec<Failure>,
-    sources: Sources<'_, '_, '_, '_>,
     line: u32,
-    leaves: &[At],
-    first: Option<&At>,
+    leaves: &[There],
     comp: u32,
     sub: &SubShape,
 ) -> Result<(), AllocError>
-    ensures { option_copied first.entry ≡ first_within sources.entry comp leaves.now → OnOk result (Notes found.old found.new (spec.made_sub (sources_value sources.entry) line (map (at_leaf (map_tables sources.entry)) leaves.now) comp (sub_value sub.now))) }
+    ensures { OnOk result (Notes found.old found.new (sub_lacks line (map there_value leaves.now) comp (sub_value sub.now))) }
 {
     if !is_required(sub.usage) {
         return Ok(());
     }
-    note(
-        found,
-        5,
-        line,
-        !is_sub_sure(sources, leaves, first, comp, sub.number),
-    )
+    note(found, 5, line, !is_sub_sure(leaves, comp, sub.number))
 }
 
 fn check_subs(
     found: &mut Vec<Failure>,
-    sources: Sources<'_, '_, '_, '_>,
     line: u32,
-    leaves: &[At],
+    leaves: &[There],
     comp: u32,
     subs: &[SubShape],
 ) -> Result<(), AllocError>
-    ensures { OnOk result (Notes found.old found.new (flat_map (spec.made_sub (sources_value sources.entry) line (map (at_leaf (map_tables sources.entry)) leaves.now) comp) (map sub_value subs.now))) }
+    ensures { OnOk result (Notes found.old found.new (flat_map (sub_lacks line (map there_value leaves.now) comp) (map sub_value subs.now))) }
 {
-    let first = first_within(sources, leaves, comp);
     for (i, sub) in subs.iter().enumerate() {
-        check_sub(found, sources, line, leaves, first, comp, sub)?;
+        check_sub(found, line, leaves, comp, sub)?;
     }
     Ok(())
 }
 
 // The component itself.
-fn check_required_comp(
+fn check_comp_there(
     found: &mut Vec<Failure>,
-    sources: Sources<'_, '_, '_, '_>,
     line: u32,
-    leaves: &[At],
-    first: Option<&At>,
+    leaves: &[There],
     comp: &CompShape,
 ) -> Result<(), AllocError>
-    ensures { option_copied first.entry ≡ first_there sources.entry leaves.now → OnOk result (Notes found.old found.new (fails 5 line (is_required comp.now.usage && not (spec.is_comp_sure (sources_value sources.entry) (map (at_leaf (map_tables sources.entry)) leaves.now) comp.now.number)))) }
+    ensures { OnOk result (Notes found.old found.new (comp_lacks line (map there_value leaves.now) (comp_value comp.now))) }
 {
     if !is_required(comp.usage) {
         return Ok(());
     }
-    note(
-        found,
-        5,
-        line,
-        !is_comp_sure(sources, leaves, first, comp.number),
-    )
+    note(found, 5, line, !is_comp_sure(leaves, comp.number))
 }
 
 fn check_comp(
     found: &mut Vec<Failure>,
-    sources: Sources<'_, '_, '_, '_>,
     line: u32,
-    leaves: &[At],
-    first: Option<&At>,
+    leaves: &[There],
     comp: &CompShape,
 ) -> Result<(), AllocError>
-    ensures { option_copied first.entry ≡ first_there sources.entry leaves.now → OnOk result (Notes found.old found.new (spec.made_comp (sources_value sources.entry) line (map (at_leaf (map_tables sources.entry)) leaves.now) (comp_value comp.now))) }
+    ensures { OnOk result (Notes found.old found.new (all_lacks line (map there_value leaves.now) (comp_value comp.now))) }
 {
-    check_required_comp(found, sources, line, leaves, first, comp)?;
-    check_subs(found, sources, line, leaves, comp.number, &comp.subs)
+    check_comp_there(found, line, leaves, comp)?;
+    check_subs(found, line, leaves, comp.number, &comp.subs)
 }
 
 fn check_comps(
+    found: &mut Vec<Failure>,
+    line: u32,
+    leaves: &[There],
+    comps: &[CompShape],
+) -> Result<(), AllocError>
+    ensures { OnOk result (Notes found.old found.new (flat_map (all_lacks line (map there_value leaves.now)) (map comp_value comps.now))) }
+{
+    for (i, comp) in comps.iter().enumerate() {
+        check_comp(found, line, leaves, comp)?;
+    }
+    Ok(())
+}
+
+// What the leaves of a rule don't give.
+fn check_lacking(
     found: &mut Vec<Failure>,
     sources: Sources<'_, '_, '_, '_>,
     line: u32,
@@ -264,11 +191,8 @@ fn check_comps(
 ) -> Result<(), AllocError>
     ensures { OnOk result (Notes found.old found.new (flat_map (spec.made_comp (sources_value sources.entry) line (map (at_leaf (map_tables sources.entry)) leaves.now)) (map comp_value comps.now))) }
 {
-    let first = first_there(sources, leaves);
-    for (i, comp) in comps.iter().enumerate() {
-        check_comp(found, sources, line, leaves, first, comp)?;
-    }
-    Ok(())
+    let there = all_there(sources, leaves)?;
+    check_comps(found, line, &there, comps)
 }
 
 // ---- what the leaves give
@@ -434,6 +358,6 @@ pub(crate) fn check_made(
 ) -> Result<(), AllocError>
     ensures { OnOk result (Notes found.old found.new (spec.made_field (sources_value sources.entry) (profile_value target.now) line (map (at_leaf (map_tables sources.entry)) leaves.now) (field_value field.now))) }
 {
-    check_comps(found, sources, line, leaves, &field.comps)?;
+    check_lacking(found, sources, line, leaves, &field.comps)?;
     check_leaves(found, sources, target, field, leaves)
 }
