@@ -3,10 +3,9 @@ pub mod Inner
 pub mod Rows
 pub mod Saturation
 pub mod Finding
-pub mod Firsts
+pub mod Lacks
 pub mod Counted
 pub mod Noting
-pub mod Nodes
 pub mod Stepped
 pub mod Within
 pub mod Passing

@@ -1,6 +1,6 @@
--- Failures noted one list after the other.
+-- Failures found one list after the other.
 use Rattle.std.proofs.Common.{◌≡◌, ℕ, zero, suc, Bool, true, false, ◌+◌, ◌-◌, ◌<◌, ◌≤◌, add-one, List, [], ◌∷◌, ◌++◌, map, flat_map, take, drop, drop-cons, get_or, length, Option, Some, refl, sym, ap, ◌∙◌, arith}
-use Rattle.std.proofs.lemmas.List.{append-nil}
+use Rattle.std.proofs.lemmas.List.{append-nil, append_assoc}
 use Rattle.std.specs.Prelude.{◌||◌}
 use Rattle.std.specs.Global.{Vec}
 use Rattle.std.proofs.Common.{ap₂}
@@ -12,25 +12,16 @@ use Rattle.gw_maplang.specs.Shapes.{Items, nothing}
 use Rattle.gw_maplang.specs.Seen.{path, items_all, with_item, row_items, all_items, rule}
 use Rattle.gw_check.specs.Places.{Element, within}
 use Rattle.gw_check.specs.Failures.{Failure, fails, or_later}
-use Rattle.gw_check.specs.Checked.{lesser}
 use Rattle.gw_check.specs.Looking.{each_within}
-use Rattle.gw_check.specs.Noted.{noted}
 use Rattle.gw_check.specs.Naming.{but_last, place_or, walked_if, source_failures, walk_failures, rule_failures, path_failures}
 
-pub noted_append : (w : Option Failure) (a b : List Failure) → noted w (a ++ b) ≡ noted (noted w a) b
-noted_append w [] b = refl
-noted_append w (f ∷ a) b = noted_append (Some (lesser f w)) a b
+-- one more, and those behind it
+pub added_one : {A : Type 0} (old new a b whole : List A) → whole ≡ a ++ b → new ≡ old ++ a → old ++ whole ≡ new ++ b
+added_one old new a b whole e made = ap (λ l. old ++ l) e ∙ sym (append_assoc old a b) ∙ ap (λ l. l ++ b) (sym made)
 
 -- one element of a list, and those behind it
 pub front : {A : Type 0} (xs : List A) (i : ℕ) (x : A) → i < length xs → x ≡ get_or xs i x → drop i xs ≡ x ∷ drop (i + 1) xs
 front xs i x m e = drop-cons xs i x m ∙ ap (λ z. z ∷ drop (suc i) xs) (sym e) ∙ ap (λ (k : ℕ). x ∷ drop k xs) (sym (add-one i))
-
--- the failures of one more
-pub noted_next : {A B : Type 0} (f : B → List Failure) (view : A → B) (xs : List A) (i : ℕ) (x : A) (v w : Option Failure) → i < length xs → x ≡ get_or xs i x → v ≡ noted w (f (view x)) → noted w (flat_map f (map view (drop i xs))) ≡ noted v (flat_map f (map view (drop (i + 1) xs)))
-noted_next f view xs i x v w m e made =
-    ap (λ l. noted w (flat_map f (map view l))) (front xs i x m e)
-    ∙ noted_append w (f (view x)) (flat_map f (map view (drop (i + 1) xs)))
-    ∙ ap (λ o. noted o (flat_map f (map view (drop (i + 1) xs)))) (sym made)
 
 -- ---- steps but the last
 
@@ -57,12 +48,10 @@ one_item scope (SegAlways s) rest = joined (flat_map (rule_failures scope) (map 
 one_item scope (EachAs' line label from shape row) rest = joined (each_within scope line (path from) (row_items row)) (path_failures scope rest)
 one_item scope (EachFlat' line from shape row) rest = joined (each_within scope line (path from) (row_items row)) (path_failures scope rest)
 
-pub items_next : (scope : List Element) (xs : List Item) (i : ℕ) (x : Item) (v w : Option Failure) → i < length xs → x ≡ get_or xs i x → v ≡ noted w (path_failures scope (with_item x nothing)) → noted w (path_failures scope (all_items (drop i xs))) ≡ noted v (path_failures scope (all_items (drop (i + 1) xs)))
-items_next scope xs i x v w m e made =
-    ap (λ l. noted w (path_failures scope (all_items l))) (front xs i x m e)
-    ∙ ap (noted w) (one_item scope x (all_items (drop (i + 1) xs)))
-    ∙ noted_append w (path_failures scope (with_item x nothing)) (path_failures scope (all_items (drop (i + 1) xs)))
-    ∙ ap (λ o. noted o (path_failures scope (all_items (drop (i + 1) xs)))) (sym made)
+pub items_next : (scope : List Element) (xs : List Item) (i : ℕ) (x : Item) (old new : List Failure) → i < length xs → x ≡ get_or xs i x → new ≡ old ++ path_failures scope (with_item x nothing) → old ++ path_failures scope (all_items (drop i xs)) ≡ new ++ path_failures scope (all_items (drop (i + 1) xs))
+items_next scope xs i x old new m e made =
+    added_one old new (path_failures scope (with_item x nothing)) (path_failures scope (all_items (drop (i + 1) xs))) (path_failures scope (all_items (drop i xs)))
+    (ap (λ l. path_failures scope (all_items l)) (front xs i x m e) ∙ one_item scope x (all_items (drop (i + 1) xs))) made
 
 abbrev each : List Element → ℕ → List (Vec ℕ) → List Item → List Failure
 each scope line p items = each_within scope line (items_all p) (all_items items)
@@ -89,17 +78,3 @@ pub shown : (r q line : ℕ) (a b : Bool) (later : List Failure) → (a || b) �
 shown r q line true b later e = absurd (cc)
 shown r q line false true later e = absurd (cc)
 shown r q line false false later e = refl
-
--- ---- several lists
-
--- first the ones, then the others
-pub noted_both : (w one two : Option Failure) (a b : List Failure) → one ≡ noted w a → two ≡ noted one b → two ≡ noted w (a ++ b)
-noted_both w one two a b e f = f ∙ ap (λ o. noted o b) e ∙ sym (noted_append w a b)
-
-pub noted_four : (w : Option Failure) (a b c d : List Failure) → noted w (a ++ b ++ c ++ d) ≡ noted (noted (noted (noted w a) b) c) d
-noted_four w a b c d =
-    noted_append w (a ++ b ++ c) d ∙ ap (λ v. noted v d) (noted_append w (a ++ b) c) ∙ ap (λ v. noted (noted v c) d) (noted_append w a b)
-
--- one element more
-pub noted_more : {A B : Type 0} (f : A → List Failure) (view : B → A) (xs : List B) (i : ℕ) (x : B) (w next : Option Failure) → i < length xs → x ≡ get_or xs i x → next ≡ noted w (f (view x)) → noted w (flat_map f (map view (drop i xs))) ≡ noted next (flat_map f (map view (drop (i + 1) xs)))
-noted_more f view xs i x w next h is e = noted_next f view xs i x next w h is e

@@ -1,39 +1,31 @@
 -- The failures within items, one after the other.
-use Rattle.std.proofs.Common.{◌≡◌, ℕ, zero, suc, ◌+◌, ◌<◌, ◌≤◌, List, [], ◌∷◌, ◌++◌, Option, length, drop, drop-cons, get_or, sym, ap, ◌∙◌, subst, arith, IfOk, Result, Ok, Err}
-use Rattle.std.proofs.lemmas.List.{append-nil}
+use Rattle.std.proofs.Common.{◌≡◌, ℕ, zero, suc, ◌+◌, ◌<◌, ◌≤◌, List, [], ◌∷◌, ◌++◌, length, drop, get_or, sym, ap, ◌∙◌, subst, arith, IfOk, Result, Ok, Err}
+use Rattle.std.proofs.lemmas.List.{append-nil, append_assoc}
+use Rattle.std.specs.Global.{Vec}
 use Rattle.gw_profile.specs.Shapes as profiles
-use Rattle.gw_profile.specs.Shapes.{Forest, nothing, segment, group}
+use Rattle.gw_profile.specs.Shapes.{Forest}
 use Rattle.gw_maplang.specs.Shapes.{TableValue}
 use Rattle.gw_check.specs.declared.resolved.GroupItem.{GroupItem}
 use Rattle.gw_check.specs.declared.resolved.FlatItem.{FlatItem}
 use Rattle.gw_check.specs.declared.resolved.Item.{Item, Segment, Group, Flat, Group', Flat'}
 use Rattle.gw_check.specs.declared.failure.Failure as declared
+use Rattle.gw_check.specs.Failures.{Failure}
 use Rattle.gw_check.specs.Places.{Element, nodes_of_child, within}
 use Rattle.gw_check.specs.Resolved.{Items, no_items}
 use Rattle.gw_check.specs.Levels.{level_failures, items_failures}
-use Rattle.gw_check.specs.Noted.{noted}
 use Rattle.gw_check.specs.declared.element.Element as elements
 use Rattle.gw_check.specs.Seen.{failures, place, with_item, all_items, scope}
-use Rattle.gw_check.specs.Checking.{weight, weight_one, weight_all, CountedNodes, NotesLevel, NotesItem, NotesItems}
-use Rattle.gw_check.proofs.Noting.{noted_append}
+use Rattle.gw_check.specs.Checking.{weight, weight_one, weight_all, NotesLevel, NotesItem, NotesItems}
+use Rattle.gw_check.proofs.Noting.{front, added_one}
 use Rattle.gw_check.proofs.Rows.{group_items, flat_items}
-
--- ---- counts
-
-pub counted_child : (nodes : Forest) (j : ℕ) → CountedNodes nodes → CountedNodes (nodes_of_child nodes j)
-counted_child nothing j h = tt
-counted_child (segment s rest) zero h = tt
-counted_child (segment s rest) (suc j) h = counted_child rest j h.1
-counted_child (group g inner rest) zero h = h.1
-counted_child (group g inner rest) (suc j) h = counted_child rest j h.2
 
 pub where_ok : {A E : Type 0} (P Q : A → Type 0) (r : Result A E) → ((x : A) → P x → Q x) → IfOk r P → IfOk r Q
 where_ok P Q (Ok x) f h = f x h
 where_ok P Q (Err e) f h = tt
 
 -- lent twice
-pub level_same : (a b : List elements.Element) (is js : List Item) → a ≡ b → is ≡ js → (holder : ℕ) (nodes : Forest) (old new : Option declared.Failure) → NotesLevel (scope a) holder 0 nodes is old new → NotesLevel (scope b) holder 0 nodes js old new
-level_same a b is js e f holder nodes old new h = subst (λ x. NotesLevel (scope b) holder 0 nodes x old new) f (subst (λ x. NotesLevel (scope x) holder 0 nodes is old new) e h)
+pub level_same : (a b : List elements.Element) (is js : List Item) → a ≡ b → is ≡ js → (tables : List TableValue) (holder : ℕ) (nodes : Forest) (old new : Vec declared.Failure) → NotesLevel tables (scope a) holder 0 nodes is old new → NotesLevel tables (scope b) holder 0 nodes js old new
+level_same a b is js e f tables holder nodes old new h = subst (λ x. NotesLevel tables (scope b) holder 0 nodes x old new) f (subst (λ x. NotesLevel tables (scope x) holder 0 nodes is old new) e h)
 
 -- ---- fewer items
 
@@ -67,35 +59,31 @@ module _ (tables : List TableValue) (from to : profiles.ProfileValue) where
   first_and_rest scope nodes (Group' line j from' shape row) rest = ap (λ l. l ++ items_failures from to scope nodes rest) (sym (append-nil _))
   first_and_rest scope nodes (Flat' line from' shape row) rest = ap (λ l. l ++ items_failures from to scope nodes rest) (sym (append-nil _))
 
-  pub items_more : (scope : List Element) (nodes : Forest) (items : List Item) (k : ℕ) (i : Item) (first old new : Option declared.Failure) → k < length items → i ≡ get_or items k i → NotesItem tables from to scope nodes i old new →
-      noted (failures first) (items_failures from to scope nodes (all_items tables items)) ≡ noted (failures old) (items_failures from to scope nodes (all_items tables (drop k items))) →
-      noted (failures first) (items_failures from to scope nodes (all_items tables items)) ≡ noted (failures new) (items_failures from to scope nodes (all_items tables (drop (k + 1) items)))
+  pub items_more : (scope : List Element) (nodes : Forest) (items : List Item) (k : ℕ) (i : Item) (first : List Failure) (old new : Vec declared.Failure) → k < length items → i ≡ get_or items k i → NotesItem tables from to scope nodes i old new →
+      first ++ items_failures from to scope nodes (all_items tables items) ≡ failures old.items ++ items_failures from to scope nodes (all_items tables (drop k items)) →
+      first ++ items_failures from to scope nodes (all_items tables items) ≡ failures new.items ++ items_failures from to scope nodes (all_items tables (drop (k + 1) items))
   items_more scope nodes items k i first old new low at notes h =
-      let next : suc k ≡ k + 1 = omega arith in
-      let step : drop k items ≡ i ∷ drop (k + 1) items = drop-cons items k i low ∙ ap (λ x. x ∷ drop (suc k) items) (sym at) ∙ ap (λ n. i ∷ drop n items) next in
-      h ∙ ap (λ l. noted (failures old) (items_failures from to scope nodes (all_items tables l))) step
-      ∙ ap (noted (failures old)) (first_and_rest scope nodes i (all_items tables (drop (k + 1) items)))
-      ∙ noted_append (failures old) (items_failures from to scope nodes (with_item tables i no_items)) (items_failures from to scope nodes (all_items tables (drop (k + 1) items)))
-      ∙ ap (λ w. noted w (items_failures from to scope nodes (all_items tables (drop (k + 1) items)))) (sym notes)
+      h
+      ∙ added_one (failures old.items) (failures new.items) (items_failures from to scope nodes (with_item tables i no_items)) (items_failures from to scope nodes (all_items tables (drop (k + 1) items))) (items_failures from to scope nodes (all_items tables (drop k items)))
+      (ap (λ l. items_failures from to scope nodes (all_items tables l)) (front items k i low at) ∙ first_and_rest scope nodes i (all_items tables (drop (k + 1) items))) notes
 
   -- ---- a group, and a flat
 
-  pub group_noted : (scope inner : List Element) (nodes below : Forest) (i : Item) (g : GroupItem) (is : List Item) (first middle last : Option declared.Failure) → i ≡ Group g → is ≡ g.items.items → inner ≡ within scope (place g.place) → below ≡ nodes_of_child nodes g.child →
-      NotesLevel inner g.line 0 below is first middle → NotesItems tables from to inner below is middle last → NotesItem tables from to scope nodes i first last
+  pub group_noted : (scope inner : List Element) (nodes below : Forest) (i : Item) (g : GroupItem) (is : List Item) (first middle last : Vec declared.Failure) → i ≡ Group g → is ≡ g.items.items → inner ≡ within scope (place g.place) → below ≡ nodes_of_child nodes g.child →
+      NotesLevel tables inner g.line 0 below is first middle → NotesItems tables from to inner below is middle last → NotesItem tables from to scope nodes i first last
   group_noted scope inner nodes below i g is first middle last same items there under level inside =
-      inside ∙ ap (λ w. noted w (items_failures from to inner below (all_items tables is))) (level tables)
-      ∙ sym (noted_append (failures first) (level_failures inner g.line 0 below (all_items tables is)) (items_failures from to inner below (all_items tables is)))
-      ∙ ap (λ (s : List Element). noted (failures first) (level_failures s g.line 0 below (all_items tables is) ++ items_failures from to s below (all_items tables is))) there
-      ∙ ap (λ f. noted (failures first) (level_failures (within scope (place g.place)) g.line 0 f (all_items tables is) ++ items_failures from to (within scope (place g.place)) f (all_items tables is))) under
-      ∙ ap (λ l. noted (failures first) (level_failures (within scope (place g.place)) g.line 0 (nodes_of_child nodes g.child) (all_items tables l) ++ items_failures from to (within scope (place g.place)) (nodes_of_child nodes g.child) (all_items tables l))) items
-      ∙ ap (noted (failures first)) (sym (append-nil (level_failures (within scope (place g.place)) g.line 0 (nodes_of_child nodes g.child) (all_items tables g.items.items) ++ items_failures from to (within scope (place g.place)) (nodes_of_child nodes g.child) (all_items tables g.items.items))))
-      ∙ sym (ap (λ x. noted (failures first) (items_failures from to scope nodes x)) (ap (λ j. with_item tables j no_items) same ∙ group_items tables g no_items))
+      inside ∙ ap (λ w. w ++ items_failures from to inner below (all_items tables is)) level
+      ∙ append_assoc (failures first.items) (level_failures inner g.line 0 below (all_items tables is)) (items_failures from to inner below (all_items tables is))
+      ∙ ap (λ l. failures first.items ++ l)
+      ((λ j. level_failures (there j) g.line 0 (under j) (all_items tables (items j)) ++ items_failures from to (there j) (under j) (all_items tables (items j)))
+      ∙ sym (append-nil (level_failures (within scope (place g.place)) g.line 0 (nodes_of_child nodes g.child) (all_items tables g.items.items) ++ items_failures from to (within scope (place g.place)) (nodes_of_child nodes g.child) (all_items tables g.items.items)))
+      ∙ sym (ap (items_failures from to scope nodes) (ap (λ j. with_item tables j no_items) same ∙ group_items tables g no_items)))
 
-  pub flat_noted : (scope inner : List Element) (nodes : Forest) (i : Item) (f : FlatItem) (is : List Item) (first last : Option declared.Failure) → i ≡ Flat f → is ≡ f.items.items → inner ≡ within scope (place f.place) →
+  pub flat_noted : (scope inner : List Element) (nodes : Forest) (i : Item) (f : FlatItem) (is : List Item) (first last : Vec declared.Failure) → i ≡ Flat f → is ≡ f.items.items → inner ≡ within scope (place f.place) →
       NotesItems tables from to inner nodes is first last → NotesItem tables from to scope nodes i first last
   flat_noted scope inner nodes i f is first last same items there inside =
       inside
-      ∙ ap (λ (s : List Element). noted (failures first) (items_failures from to s nodes (all_items tables is))) there
-      ∙ ap (λ l. noted (failures first) (items_failures from to (within scope (place f.place)) nodes (all_items tables l))) items
-      ∙ ap (noted (failures first)) (sym (append-nil (items_failures from to (within scope (place f.place)) nodes (all_items tables f.items.items))))
-      ∙ sym (ap (λ x. noted (failures first) (items_failures from to scope nodes x)) (ap (λ j. with_item tables j no_items) same ∙ flat_items tables f no_items))
+      ∙ ap (λ l. failures first.items ++ l)
+      ((λ j. items_failures from to (there j) nodes (all_items tables (items j)))
+      ∙ sym (append-nil (items_failures from to (within scope (place f.place)) nodes (all_items tables f.items.items)))
+      ∙ sym (ap (items_failures from to scope nodes) (ap (λ j. with_item tables j no_items) same ∙ flat_items tables f no_items)))

@@ -17,6 +17,12 @@ use Rattle.gw_check.specs.Seen.{failure, all_items, left_out}
 abbrev pub unlabelled : MapValue → List Item → List LeftOut → Resolved
 unlabelled m is drops = record { line = m.line; items = all_items m.tables is; drops = map left_out drops }
 
+-- the profiles are well formed, and these are the items of the map without labels
+pub record IsUnlabelled (from to : ProfileValue) (m : MapValue) (is : List Item) : Type 0 where
+  pub source : WellFormed from
+  pub target : WellFormed to
+  pub items : all_items m.tables is ≡ (resolved from to m).items
+
 pub record IsAllowed (from to : ProfileValue) (m : MapValue) (is : List Item) : Type 0 where
   pub source : WellFormed from
   pub target : WellFormed to

@@ -1,10 +1,10 @@
--- The failures of a level, as the program takes note of them.
+-- The failures of a level and of its items, as the program finds them.
 use Rattle.std.specs.Prelude.{◌≡◌, ℕ, ◌+◌, List, [], map, option_map, Option}
 use Rattle.gw_profile.specs.declared.shape.Usage.{Usage}
-use Rattle.gw_profile.specs.declared.shape.Card.{Card}
-use Rattle.gw_profile.specs.Shapes.{Forest, nothing, segment, group, ProfileValue}
+use Rattle.gw_profile.specs.Shapes.{Forest, ProfileValue}
 use Rattle.gw_profile.specs.declared.node.Node.{Node, Seg, Group'}
-use Rattle.gw_profile.specs.WellFormed.{Counted}
+use Rattle.gw_profile.specs.Nodes.{card_of}
+use Rattle.std.specs.Global.{Vec}
 use Rattle.gw_maplang.specs.Shapes.{TableValue}
 use Rattle.gw_check.specs.declared.resolved.Item.{Item}
 use Rattle.gw_check.specs.declared.failure.Failure as declared
@@ -14,35 +14,28 @@ use Rattle.gw_check.specs.declared.resolved.SegmentItem.{SegmentItem}
 use Rattle.gw_check.specs.Counts.{items_count}
 use Rattle.gw_check.specs.Levels.{sources, node_failures, level_failures, items_failures}
 use Rattle.gw_check.specs.Resolved.{Items, no_items, segment_item, group_item, flat_item}
-use Rattle.gw_check.specs.Noted.{noted}
-use Rattle.gw_check.specs.Seen.{failures, place, rule, with_item, all_items}
-
--- with the failures of one node, whatever the map's tables are
-abbrev pub NotesNode : List Element → ℕ → Usage → Card → List Item → Option declared.Failure → Option declared.Failure → Type 0
-NotesNode scope holder usage card is old new =
-    (tables : List TableValue) → failures new ≡ noted (failures old) (node_failures holder usage card (items_count scope (all_items tables is)) (all_items tables is))
-
--- with those of the nodes from number j on
-abbrev pub NotesLevel : List Element → ℕ → ℕ → Forest → List Item → Option declared.Failure → Option declared.Failure → Type 0
-NotesLevel scope holder j nodes is old new =
-    (tables : List TableValue) → failures new ≡ noted (failures old) (level_failures scope holder j nodes (all_items tables is))
-
--- counts are at most 9999
-abbrev pub CountedNodes : Forest → Type 0
-CountedNodes nothing = Unit {0}
-CountedNodes (segment s rest) = Counted s.card × CountedNodes rest
-CountedNodes (group g nodes rest) = Counted g.card × CountedNodes nodes × CountedNodes rest
+use Rattle.gw_check.specs.Noted.{Notes}
+use Rattle.gw_check.specs.Seen.{place, rule, with_item, all_items}
 
 abbrev pub usage_of : Node → Usage
 usage_of (Seg s) = s.usage
 usage_of (Group' label usage card shape nodes) = usage
 
--- with those of what the items give; the map has these tables
-abbrev pub NotesItems : List TableValue → ProfileValue → ProfileValue → List Element → Forest → List Item → Option declared.Failure → Option declared.Failure → Type 0
-NotesItems tables from to scope nodes is old new = failures new ≡ noted (failures old) (items_failures from to scope nodes (all_items tables is))
+-- with the failures of one node; the map has these tables
+abbrev pub NotesNode : List TableValue → List Element → ℕ → Node → List Item → Vec declared.Failure → Vec declared.Failure → Type 0
+NotesNode tables scope holder node is old new =
+    Notes old new (node_failures holder (usage_of node) (card_of node) (items_count scope (all_items tables is)) (all_items tables is))
 
-abbrev pub NotesItem : List TableValue → ProfileValue → ProfileValue → List Element → Forest → Item → Option declared.Failure → Option declared.Failure → Type 0
-NotesItem tables from to scope nodes i old new = failures new ≡ noted (failures old) (items_failures from to scope nodes (with_item tables i no_items))
+-- with those of the nodes from number j on
+abbrev pub NotesLevel : List TableValue → List Element → ℕ → ℕ → Forest → List Item → Vec declared.Failure → Vec declared.Failure → Type 0
+NotesLevel tables scope holder j nodes is old new = Notes old new (level_failures scope holder j nodes (all_items tables is))
+
+-- with those of what the items give
+abbrev pub NotesItems : List TableValue → ProfileValue → ProfileValue → List Element → Forest → List Item → Vec declared.Failure → Vec declared.Failure → Type 0
+NotesItems tables from to scope nodes is old new = Notes old new (items_failures from to scope nodes (all_items tables is))
+
+abbrev pub NotesItem : List TableValue → ProfileValue → ProfileValue → List Element → Forest → Item → Vec declared.Failure → Vec declared.Failure → Type 0
+NotesItem tables from to scope nodes i old new = Notes old new (items_failures from to scope nodes (with_item tables i no_items))
 
 -- how many items there are, at any depth
 abbrev pub weight : Items → ℕ
@@ -58,6 +51,6 @@ abbrev pub weight_all : List Item → ℕ
 weight_all is = weight (all_items [] is)
 
 -- with those of the segments that an item gives
-abbrev pub NotesSegment : List TableValue → ProfileValue → ProfileValue → List Element → Forest → SegmentItem → Option declared.Failure → Option declared.Failure → Type 0
+abbrev pub NotesSegment : List TableValue → ProfileValue → ProfileValue → List Element → Forest → SegmentItem → Vec declared.Failure → Vec declared.Failure → Type 0
 NotesSegment tables from to scope nodes s old new =
-    failures new ≡ noted (failures old) (segment_failures (sources from (within_if scope (option_map place s.place))) to s.line (map (rule tables) s.rules.items) (fields_of (child nodes s.child)))
+    Notes old new (segment_failures (sources from (within_if scope (option_map place s.place))) to s.line (map (rule tables) s.rules.items) (fields_of (child nodes s.child)))

@@ -2,6 +2,7 @@
 use Rattle.std.specs.Prelude.{ℕ, Bool, true, false, ◌==◌, ◌&&◌, ◌||◌, not, nat_lt, if◌then◌else◌, List, [], ◌++◌, flat_map, Option, Some, None, option_and_then}
 use Rattle.std.specs.List.{list_any, list_all}
 use Rattle.gw_profile.specs.declared.shape.Usage.{Usage}
+use Rattle.gw_profile.specs.declared.shape.Card.{Card}
 use Rattle.gw_profile.specs.declared.shape.Usage.TheVariants.{R, RE, O, X}
 use Rattle.gw_profile.specs.Shapes.{SubValue, CompValue, FieldValue, TableValue, ProfileValue}
 use Rattle.gw_profile.specs.Lengths.{len_count}
@@ -25,6 +26,22 @@ abbrev pub value_failures : ProfileValue → ℕ → Shape → SubValue → List
 value_failures to line shape s =
     fails 6 line (not (is_absent shape.presence) && may_be_unlisted shape.values (table_values to.tables s))
     ++ fails 7 line (not (is_absent shape.presence) && may_be_long (len_count to) shape.values s.len)
+
+-- ---- how often something comes
+
+abbrev pub is_expected : Usage → Bool
+is_expected R = false
+is_expected RE = true
+is_expected O = false
+is_expected X = false
+
+-- what comes so often is told at the line of what gives it, and what is missing at the line of its holder
+abbrev pub often_failures : ℕ → ℕ → Interval → Usage → Card → Bool → List Failure
+often_failures holder line count usage card is_missing =
+    fails 4 line (not (is_forbidden usage) && not (is_within count.greatest card.max))
+    ++ fails 5 line (nat_lt count.least card.min)
+    ++ fails 8 holder (is_expected usage && is_missing)
+    ++ fails 11 line (is_forbidden usage && not (is_never count.greatest))
 
 -- ---- copied fields
 
@@ -117,18 +134,9 @@ abbrev pub has_no_rule : Option Rule → Bool
 has_no_rule None = true
 has_no_rule (Some r) = false
 
-abbrev pub is_expected : Usage → Bool
-is_expected R = false
-is_expected RE = true
-is_expected O = false
-is_expected X = false
-
 abbrev pub count_failures : ℕ → Interval → FieldValue → Option Rule → List Failure
 count_failures holder count target rule =
-    fails 4 (line_of_rule holder rule) (not (is_forbidden target.usage) && not (is_within count.greatest target.card.max))
-    ++ fails 5 (line_of_rule holder rule) (nat_lt count.least target.card.min)
-    ++ fails 8 holder (is_expected target.usage && has_no_rule rule)
-    ++ fails 11 (line_of_rule holder rule) (is_forbidden target.usage && not (is_never count.greatest))
+    often_failures holder (line_of_rule holder rule) count target.usage target.card (has_no_rule rule)
 
 -- of a target field, in a segment that an item at this line gives by these rules
 abbrev pub field_failures : Sources → ProfileValue → ℕ → List Rule → FieldValue → List Failure

@@ -1,16 +1,15 @@
 -- The rules on target segments and groups: cardinality (4), usage R (5), RE (8) and X (11).
-use Rattle.std.specs.Prelude.{ℕ, suc, Bool, true, false, ◌==◌, ◌&&◌, not, nat_lt, if◌then◌else◌, List, [], ◌++◌, Option, Some, None}
+use Rattle.std.specs.Prelude.{ℕ, suc, Bool, true, false, ◌==◌, if◌then◌else◌, List, [], ◌++◌, Option, Some, None}
 use Rattle.gw_profile.specs.declared.shape.Usage.{Usage}
 use Rattle.gw_profile.specs.declared.shape.Card.{Card}
 use Rattle.gw_profile.specs.Shapes.{ProfileValue, Forest, nothing, segment, group}
-use Rattle.gw_validate.specs.Breaches.{is_forbidden}
-use Rattle.gw_check.specs.Intervals.{Interval, is_never, is_within}
+use Rattle.gw_check.specs.Intervals.{Interval}
 use Rattle.gw_check.specs.Places.{Element, child, nodes_of_child, fields_of, within, within_if}
 use Rattle.gw_check.specs.Resolved.{Items, no_items, segment_item, group_item, flat_item, first_child}
 use Rattle.gw_check.specs.Leaves.{Sources}
 use Rattle.gw_check.specs.Counts.{items_count}
-use Rattle.gw_check.specs.Failures.{Failure, fails}
-use Rattle.gw_check.specs.Fields.{is_expected, segment_failures}
+use Rattle.gw_check.specs.Failures.{Failure}
+use Rattle.gw_check.specs.Fields.{often_failures, segment_failures}
 
 -- ---- the items of one node; items stand in the order of the nodes
 
@@ -48,11 +47,7 @@ has_no_item (flat_item f items rest) = false
 -- ---- a node
 
 abbrev pub node_failures : ℕ → Usage → Card → Interval → Items → List Failure
-node_failures holder usage card count items =
-    fails 4 (first_line holder items) (not (is_forbidden usage) && not (is_within count.greatest card.max))
-    ++ fails 5 (first_line holder items) (nat_lt count.least card.min)
-    ++ fails 8 holder (is_expected usage && has_no_item items)
-    ++ fails 11 (first_line holder items) (is_forbidden usage && not (is_never count.greatest))
+node_failures holder usage card count items = often_failures holder (first_line holder items) count usage card (has_no_item items)
 
 -- the nodes from number j on, at a level whose items stand in the group, or the map, at this line
 abbrev pub level_failures : List Element → ℕ → ℕ → Forest → Items → List Failure

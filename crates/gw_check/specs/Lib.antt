@@ -12,13 +12,14 @@ pub mod Typed
 pub mod Lawful
 pub mod Naming
 pub mod Checked
-pub mod Noted
 pub mod Seen
+pub mod Noted
 pub mod Looking
 pub mod Resolving
 pub mod Founds
 pub mod Walks
 pub mod Reading
+pub mod Lacking
 pub mod Counted
 pub mod Checking
 pub mod Collected

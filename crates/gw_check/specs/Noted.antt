@@ -1,9 +1,10 @@
--- Failures taken one after the other, of which the least is kept.
-use Rattle.std.specs.Prelude.{List, [], ◌∷◌, Option, Some}
+-- Failures that are found one after the other.
+use Rattle.std.specs.Prelude.{◌≡◌, List, ◌++◌}
+use Rattle.std.specs.Global.{Vec}
+use Rattle.gw_check.specs.declared.failure.Failure as declared
 use Rattle.gw_check.specs.Failures.{Failure}
-use Rattle.gw_check.specs.Checked.{lesser}
+use Rattle.gw_check.specs.Seen.{failures}
 
--- the least of the one that was kept and of these
-abbrev pub noted : Option Failure → List Failure → Option Failure
-noted worst [] = worst
-noted worst (f ∷ fs) = noted (Some (lesser f worst)) fs
+-- these were found as well
+abbrev pub Notes : Vec declared.Failure → Vec declared.Failure → List Failure → Type 0
+Notes old new more = failures new.items ≡ failures old.items ++ more

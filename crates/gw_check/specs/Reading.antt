@@ -1,9 +1,6 @@
 -- What the rules of a map can read, and what they read it for, as the program holds it.
-use Rattle.std.specs.Prelude.{ℕ, Bool, not, nat_lt, ◌==◌, ◌&&◌, ◌++◌, List, map, Option, option_map}
-use Rattle.std.specs.List.{find}
+use Rattle.std.specs.Prelude.{List, map, Option, option_map}
 use denote.Ref.{Bor}
-use Rattle.gw_profile.specs.declared.shape.Usage.{Usage}
-use Rattle.gw_profile.specs.declared.shape.Card.{Card}
 use Rattle.gw_profile.specs.declared.shape.SubShape.{SubShape}
 use Rattle.gw_profile.specs.declared.shape.CompShape.{CompShape}
 use Rattle.gw_profile.specs.declared.shape.FieldShape.{FieldShape}
@@ -11,17 +8,12 @@ use Rattle.gw_profile.specs.Shapes.{SubValue, CompValue, FieldValue}
 use Rattle.gw_profile.specs.Seen.{field, comp, sub, profile_value}
 use Rattle.gw_maplang.specs.Shapes.{TableValue}
 use Rattle.gw_check.specs.declared.resolved.Rule as rules_of
-use Rattle.gw_check.specs.declared.resolved.At as ats
 use Rattle.gw_check.specs.declared.sources.Sources as declared
 use Rattle.gw_check.specs.declared.known.Known as the_known
-use Rattle.gw_validate.specs.Breaches.{is_forbidden}
-use Rattle.gw_check.specs.Intervals.{Interval, is_within, is_never}
-use Rattle.gw_check.specs.Failures.{Failure, fails}
-use Rattle.gw_check.specs.Fields.{is_expected}
 use Rattle.gw_check.specs.Places.{Known}
 use Rattle.gw_check.specs.Resolved.{Rule}
-use Rattle.gw_check.specs.Leaves.{Sources, leaf_shape, is_absent}
-use Rattle.gw_check.specs.Seen.{scope, interval, saturated, rule, leaf}
+use Rattle.gw_check.specs.Leaves.{Sources}
+use Rattle.gw_check.specs.Seen.{scope, interval, saturated, rule}
 
 abbrev pub sources_value : declared.Sources → Sources
 sources_value s = record { profile = profile_value s.profile.now; scope = scope s.scope.now; current = option_map (λ f. field f.now) s.current }
@@ -29,19 +21,6 @@ sources_value s = record { profile = profile_value s.profile.now; scope = scope 
 -- the tables of the map
 abbrev pub map_tables : declared.Sources → List TableValue
 map_tables s = s.map.now.tables
-
--- ---- leaves that can have a text
-
-abbrev pub is_there : declared.Sources → ats.At → Bool
-is_there s a = not (is_absent (leaf_shape (sources_value s) (leaf (map_tables s) a.leaf)).presence)
-
--- the first of all
-abbrev pub first_there : declared.Sources → List ats.At → Option ats.At
-first_there s leaves = find (is_there s) leaves
-
--- the first of a component
-abbrev pub first_within : declared.Sources → ℕ → List ats.At → Option ats.At
-first_within s comp leaves = find (λ a. a.place.comp == comp && is_there s a) leaves
 
 -- ---- elements that may be there
 
@@ -65,13 +44,3 @@ known_value k = record { count = interval k.count; fields = map field k.fields.n
 -- the program's counts end at the cap
 abbrev pub saturated_known : Known → Known
 saturated_known k = record { count = saturated k.count; fields = k.fields }
-
--- ---- how often a field comes
-
--- what is told of a count, where the rule stands at this line, or is missing
-abbrev pub told : ℕ → ℕ → Interval → Usage → Card → Bool → List Failure
-told holder line count usage card is_missing =
-    fails 4 line (not (is_forbidden usage) && not (is_within count.greatest card.max))
-    ++ fails 5 line (nat_lt count.least card.min)
-    ++ fails 8 holder (is_expected usage && is_missing)
-    ++ fails 11 line (is_forbidden usage && not (is_never count.greatest))

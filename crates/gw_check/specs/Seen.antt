@@ -28,8 +28,8 @@ use Rattle.gw_check.specs.Resolved.{Reference, Source, of_field, of_current, Lea
 abbrev pub failure : failures_of.Failure → Failure
 failure f = record { rule = f.rule; line = f.line }
 
-abbrev pub failures : Option failures_of.Failure → Option Failure
-failures f = option_map failure f
+abbrev pub failures : List failures_of.Failure → List Failure
+failures = map failure
 
 -- ---- counts
 

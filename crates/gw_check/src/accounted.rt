@@ -9,7 +9,7 @@ use indexmap::IndexSet;
 use std::alloc::{AllocError, Global};
 
 /// A field of the segment at a position: the numbers of the nodes that lead to it, from the profile's top on and each from 0.
-#[derive(PartialEq, Eq, Hash, Debug, Drop)]
+#[derive(PartialEq, Eq, Hash, Drop)]
 pub struct FieldAt {
     pub at: Vec<usize>,
     pub field: u32,

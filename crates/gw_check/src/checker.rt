@@ -1,18 +1,18 @@
 //! The checker.
-ghost use Rattle.std.specs.Prelude.{◌≡◌, [], None, IfOk, IfErr};
+ghost use Rattle.std.specs.Prelude.{◌≡◌, [], IfOk, IfErr, OnOk};
 ghost use Rattle.std.specs.Arc.{arc_value};
 ghost use Rattle.gw_profile.specs.Seen.{profile_value};
 ghost use Rattle.gw_profile.specs.WellFormed.{WellFormed};
 ghost use Rattle.gw_maplang.specs.Seen.{map_value};
-ghost use Rattle.gw_check.specs.Answers.{unlabelled, Judges, IsRefusal};
+ghost use Rattle.gw_check.specs.Answers.{unlabelled, Judges, IsUnlabelled, IsRefusal};
 ghost use Rattle.gw_check.specs.Checked.{all_failures};
-ghost use Rattle.gw_check.specs.Noted.{noted};
-ghost use Rattle.gw_check.specs.Seen.{failures};
+ghost use Rattle.gw_check.specs.Noted.{Notes};
+ghost use Rattle.gw_check.specs.Seen.{failures as seen_failures};
 ghost use Rattle.gw_check.specs.Typed as typed;
 
 use crate::checked::CheckedMap;
 use crate::element::Element;
-use crate::failure::{Failure, note};
+use crate::failure::{Failure, least, note};
 use crate::inside::{Sides, check_items};
 use crate::level::check_level;
 use crate::reads::passes_over;
@@ -32,6 +32,15 @@ pub enum CheckFault {
     Rule { rule: u8, line: u32, map: Map },
 }
 
+/// What the rules say of a map.
+#[derive(Drop)]
+struct Examined {
+    /// The failures.
+    found: Vec<Failure>,
+    /// The items without labels, where there is no failure.
+    items: Vec<Item>,
+}
+
 /// What a map is by the rules.
 #[derive(Drop)]
 enum Judged {
@@ -40,45 +49,81 @@ enum Judged {
     Refused(Failure),
 }
 
-// The least failure of the rules 4 to 12.
-fn least_failure(
+// Adds the failures of the rules 4 to 12.
+fn add_failures(
+    alloc: Global,
+    found: &mut Vec<Failure>,
+    sides: Sides<'_, '_, '_>,
+    items: &[Item],
+    drops: &[LeftOut],
+) -> Result<(), AllocError>
+    ensures source { WellFormed (profile_value sides.entry.source.now) }
+    ensures target { WellFormed (profile_value sides.entry.target.now) }
+    ensures found { OnOk result (Notes found.old found.new (typed.failures (profile_value sides.entry.source.now) (profile_value sides.entry.target.now) (unlabelled (map_value sides.entry.map.now) items.now drops.now))) }
+{
+    let whole = sides.source.nodes();
+    let nodes = sides.target.nodes();
+    let scope = [Element::Whole(whole)];
+    check_level(alloc, found, &scope, sides.map.line(), nodes, items)?;
+    check_items(alloc, found, sides, &scope, nodes, items)?;
+    let passed = passes_over(alloc, whole, items, drops)?;
+    note(found, 9, sides.map.line(), passed)
+}
+
+// What the rules say of a map; 4 to 12 are looked at only where 1 to 3 hold.
+fn examine(
     alloc: Global,
     source: &Profile,
     target: &Profile,
     map: &Map,
-    items: &[Item],
-    drops: &[LeftOut],
-) -> Result<Option<Failure>, AllocError>
-    ensures source { WellFormed (profile_value source.now) }
-    ensures target { WellFormed (profile_value target.now) }
-    ensures least { IfOk result (λ worst. failures worst ≡ noted None (typed.failures (profile_value source.now) (profile_value target.now) (unlabelled (map_value map.now) items.now drops.now))) }
+) -> Result<Examined, AllocError>
+    ensures found { IfOk result (λ e. seen_failures e.found.items ≡ all_failures (profile_value source.now) (profile_value target.now) (map_value map.now)) }
+    ensures items { IfOk result (λ e. e.found.items ≡ [] → IsUnlabelled (profile_value source.now) (profile_value target.now) (map_value map.now) e.items.items) }
 {
-    let whole = source.nodes();
-    let nodes = target.nodes();
-    let scope = [Element::Whole(whole)];
-    let sides = Sides {
-        source,
-        target,
-        map,
-    };
-    let worst = check_level(alloc, None, &scope, map.line(), nodes, items)?;
-    let worst = check_items(alloc, worst, sides, &scope, nodes, items)?;
-    let passed = passes_over(alloc, whole, items, drops)?;
-    Ok(note(worst, 9, map.line(), passed))
+    match resolve(alloc, source, target, map)? {
+        Resolving::Refused(found) => Ok(Examined {
+            found,
+            items: Vec::new(alloc),
+        }),
+        Resolving::Resolved(named) => {
+            let mut found = Vec::new(alloc);
+            let sides = Sides {
+                source,
+                target,
+                map,
+            };
+            add_failures(alloc, &mut found, sides, &named.items, &named.drops)?;
+            Ok(Examined {
+                found,
+                items: named.items,
+            })
+        }
+    }
+}
+
+/// All failures of a map between two profiles, in the order of the definition; none where the map is allowed.
+///
+/// The rules 4 to 12 are looked at only where 1 to 3 hold. It takes time by the sizes of the profiles and the map. The one error is want of memory.
+pub fn failures(
+    alloc: Global,
+    source: &Profile,
+    target: &Profile,
+    map: &Map,
+) -> Result<Vec<Failure>, AllocError>
+    ensures { IfOk result (λ found. seen_failures found.items ≡ all_failures (profile_value source.now) (profile_value target.now) (map_value map.now)) }
+{
+    let examined = examine(alloc, source, target, map)?;
+    Ok(examined.found)
 }
 
 // What a map is by the rules.
 fn judge(alloc: Global, source: &Profile, target: &Profile, map: &Map) -> Result<Judged, AllocError>
     ensures { IfOk result (Judges (profile_value source.now) (profile_value target.now) (map_value map.now)) }
 {
-    match resolve(alloc, source, target, map)? {
-        Resolving::Refused(failure) => Ok(Judged::Refused(failure)),
-        Resolving::Resolved(named) => {
-            match least_failure(alloc, source, target, map, &named.items, &named.drops)? {
-                Some(failure) => Ok(Judged::Refused(failure)),
-                None => Ok(Judged::Allowed(named.items)),
-            }
-        }
+    let examined = examine(alloc, source, target, map)?;
+    match least(&examined.found) {
+        Some(failure) => Ok(Judged::Refused(failure)),
+        None => Ok(Judged::Allowed(examined.items)),
     }
 }
 

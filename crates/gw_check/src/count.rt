@@ -1,10 +1,8 @@
 //! How often a rule gives its field.
 ghost use Rattle.std.specs.Prelude.{◌≡◌, map};
-ghost use Rattle.std.specs.List.{list_any, list_all};
 ghost use Rattle.gw_check.specs.Counts as spec;
-ghost use Rattle.gw_check.specs.Leaves as leaves_spec;
 ghost use Rattle.gw_check.specs.Reading.{sources_value, map_tables, some_field, some_rule, known_value};
-ghost use Rattle.gw_check.specs.Seen.{interval, saturated, reference, leaf as seen_leaf, at_leaf, making as seen_making};
+ghost use Rattle.gw_check.specs.Seen.{interval, saturated, reference, at_leaf, making as seen_making};
 
 use crate::interval::{Interval, any_number, never, once};
 use crate::known::{Known, at_field, field_of, segment_at};
@@ -57,34 +55,28 @@ pub(crate) fn walking<'p, 'm, 's, 'e>(
     }
 }
 
-fn some_always_among(sources: Sources<'_, '_, '_, '_>, leaves: &[At]) -> bool
-    ensures { result ≡ list_any (λ a. leaves_spec.is_always (leaves_spec.leaf_shape (sources_value sources.entry) (seen_leaf (map_tables sources.entry) a.leaf)).presence) leaves.now }
-{
-    leaves
-        .iter()
-        .any(|at| is_always(leaf_presence(sources, &at.leaf)))
-}
-
 // Whether some leaf is always there.
 fn some_always(sources: Sources<'_, '_, '_, '_>, leaves: &[At]) -> bool
     ensures { result ≡ spec.some_always (sources_value sources.entry) (map (at_leaf (map_tables sources.entry)) leaves.now) }
 {
-    some_always_among(sources, leaves)
-}
-
-fn all_absent_among(sources: Sources<'_, '_, '_, '_>, leaves: &[At]) -> bool
-    ensures { result ≡ list_all (λ a. leaves_spec.is_absent (leaves_spec.leaf_shape (sources_value sources.entry) (seen_leaf (map_tables sources.entry) a.leaf)).presence) leaves.now }
-{
-    leaves
-        .iter()
-        .all(|at| is_absent(leaf_presence(sources, &at.leaf)))
+    for (i, at) in leaves.iter().enumerate() {
+        if is_always(leaf_presence(sources, &at.leaf)) {
+            return true;
+        }
+    }
+    false
 }
 
 // Whether no leaf ever is.
 fn all_absent(sources: Sources<'_, '_, '_, '_>, leaves: &[At]) -> bool
     ensures { result ≡ spec.all_absent (sources_value sources.entry) (map (at_leaf (map_tables sources.entry)) leaves.now) }
 {
-    all_absent_among(sources, leaves)
+    for (i, at) in leaves.iter().enumerate() {
+        if !is_absent(leaf_presence(sources, &at.leaf)) {
+            return false;
+        }
+    }
+    true
 }
 
 // What leaves give where there is something to give them for.

@@ -1,8 +1,8 @@
 //! The rules within the items of a map.
-ghost use Rattle.std.specs.Prelude.{◌≡◌, map, IfOk, option_map};
+ghost use Rattle.std.specs.Prelude.{◌≡◌, map, IfOk, OnOk, option_map};
 ghost use Rattle.gw_profile.specs.Seen.{forest, field, profile_value};
 ghost use Rattle.gw_check.specs.Places as places;
-ghost use Rattle.gw_check.specs.Checking.{CountedNodes, NotesSegment, NotesItem, NotesItems};
+ghost use Rattle.gw_check.specs.Checking.{NotesSegment, NotesItem, NotesItems};
 ghost use Rattle.gw_check.specs.Seen.{scope as walked, place as seen_place};
 
 use crate::element::{Element, child, nodes_of_child};
@@ -50,54 +50,55 @@ fn within_if<'a>(
 // The failures of the rules on the segments that an item gives.
 fn check_given(
     alloc: Global,
-    worst: Option<Failure>,
+    found: &mut Vec<Failure>,
     sides: Sides<'_, '_, '_>,
     scope: &[Element<'_>],
     nodes: &[Node],
     segment: &SegmentItem,
-) -> Result<Option<Failure>, AllocError>
-    ensures { IfOk result (λ new. NotesSegment sides.entry.map.now.tables (profile_value sides.entry.source.now) (profile_value sides.entry.target.now) (walked scope.now) (forest nodes.now) segment.now worst new) }
+) -> Result<(), AllocError>
+    ensures { OnOk result (NotesSegment sides.entry.map.now.tables (profile_value sides.entry.source.now) (profile_value sides.entry.target.now) (walked scope.now) (forest nodes.now) segment.now found.old found.new) }
 {
     let inner = within_if(alloc, scope, &segment.place)?;
     let sources = Sources {
+        alloc,
         profile: sides.source,
         map: sides.map,
         scope: &inner,
         current: None,
     };
-    Ok(check_segment(
-        worst,
+    check_segment(
+        found,
         sources,
         sides.target,
         segment.line,
         &segment.rules,
         fields_at(nodes, segment.child),
-    ))
+    )
 }
 
 // The failures of the rules on what one item gives.
 #[cycle(inside)]
 fn check_item(
     alloc: Global,
-    worst: Option<Failure>,
+    found: &mut Vec<Failure>,
     sides: Sides<'_, '_, '_>,
     scope: &[Element<'_>],
     nodes: &[Node],
     item: &Item,
-) -> Result<Option<Failure>, AllocError>
-    ensures { IfOk result (λ new. CountedNodes (forest nodes.now) → NotesItem sides.entry.map.now.tables (profile_value sides.entry.source.now) (profile_value sides.entry.target.now) (walked scope.now) (forest nodes.now) item.now worst new) }
+) -> Result<(), AllocError>
+    ensures { OnOk result (NotesItem sides.entry.map.now.tables (profile_value sides.entry.source.now) (profile_value sides.entry.target.now) (walked scope.now) (forest nodes.now) item.now found.old found.new) }
 {
     match item {
-        Item::Segment(segment) => check_given(alloc, worst, sides, scope, nodes, segment),
+        Item::Segment(segment) => check_given(alloc, found, sides, scope, nodes, segment),
         Item::Group(group) => {
             let inner = within(alloc, scope, &group.place)?;
             let below = nodes_of_child(nodes, group.child);
-            let worst = check_level(alloc, worst, &inner, group.line, below, &group.items)?;
-            check_items(alloc, worst, sides, &inner, below, &group.items)
+            check_level(alloc, found, &inner, group.line, below, &group.items)?;
+            check_items(alloc, found, sides, &inner, below, &group.items)
         }
         Item::Flat(flat) => {
             let inner = within(alloc, scope, &flat.place)?;
-            check_items(alloc, worst, sides, &inner, nodes, &flat.items)
+            check_items(alloc, found, sides, &inner, nodes, &flat.items)
         }
     }
 }
@@ -106,17 +107,16 @@ fn check_item(
 #[cycle(inside)]
 pub(crate) fn check_items(
     alloc: Global,
-    worst: Option<Failure>,
+    found: &mut Vec<Failure>,
     sides: Sides<'_, '_, '_>,
     scope: &[Element<'_>],
     nodes: &[Node],
     items: &[Item],
-) -> Result<Option<Failure>, AllocError>
-    ensures { IfOk result (λ new. CountedNodes (forest nodes.now) → NotesItems sides.entry.map.now.tables (profile_value sides.entry.source.now) (profile_value sides.entry.target.now) (walked scope.now) (forest nodes.now) items.now worst new) }
+) -> Result<(), AllocError>
+    ensures { OnOk result (NotesItems sides.entry.map.now.tables (profile_value sides.entry.source.now) (profile_value sides.entry.target.now) (walked scope.now) (forest nodes.now) items.now found.old found.new) }
 {
-    let mut worst = worst;
     for (i, item) in items.iter().enumerate() {
-        worst = check_item(alloc, worst, sides, scope, nodes, item)?;
+        check_item(alloc, found, sides, scope, nodes, item)?;
     }
-    Ok(worst)
+    Ok(())
 }

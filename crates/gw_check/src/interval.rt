@@ -9,7 +9,7 @@ use gw_profile::Card;
 pub(crate) const CAP: u64 = 4_294_967_296;
 
 /// At least so often, and at most so often or without limit.
-#[derive(Clone, Copy, PartialEq, Eq, Debug, Drop)]
+#[derive(Clone, Copy, Drop)]
 pub(crate) struct Interval {
     pub(crate) least: u64,
     pub(crate) greatest: Option<u64>,

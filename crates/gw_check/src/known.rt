@@ -1,5 +1,5 @@
 //! The segments at the places of a map, and their fields.
-ghost use Rattle.std.specs.Prelude.{◌≡◌, ◌==◌, map, find, option_copied, List, [], Some, None};
+ghost use Rattle.std.specs.Prelude.{◌≡◌, ◌==◌, map, find, List, [], Some, None};
 ghost use Rattle.gw_profile.specs.Seen.{field, comp, sub};
 ghost use Rattle.gw_check.specs.Founds.{found_value};
 ghost use Rattle.gw_check.specs.Leaves as spec;
@@ -55,35 +55,27 @@ pub(crate) fn segment_at<'a>(scope: &[Element<'a>], place: &Place) -> Known<'a>
     }
 }
 
-fn field_among(fields: &[FieldShape], number: u32) -> Option<&FieldShape>
-    ensures { option_copied result ≡ find (λ f. f.number == number) fields.now }
-{
-    fields.iter().find(|field| field.number == number)
-}
-
-fn comp_among(comps: &[CompShape], number: u32) -> Option<&CompShape>
-    ensures { option_copied result ≡ find (λ c. c.number == number) comps.now }
-{
-    comps.iter().find(|comp| comp.number == number)
-}
-
-fn sub_among(subs: &[SubShape], number: u32) -> Option<&SubShape>
-    ensures { option_copied result ≡ find (λ s. s.number == number) subs.now }
-{
-    subs.iter().find(|sub| sub.number == number)
-}
-
-fn rule_among(rules: &[Rule], field: u32) -> Option<&Rule>
-    ensures { option_copied result ≡ find (λ r. r.field == field) rules.now }
-{
-    rules.iter().find(|rule| rule.field == field)
-}
-
 /// The field of this number.
 pub(crate) fn field_of(fields: &[FieldShape], number: u32) -> Option<&FieldShape>
     ensures { some_field result ≡ spec.field_of (map field fields.now) number }
 {
-    field_among(fields, number)
+    for (i, field) in fields.iter().enumerate() {
+        if field.number == number {
+            return Some(field);
+        }
+    }
+    None
+}
+
+fn comp_among(comps: &[CompShape], number: u32) -> Option<&CompShape>
+    ensures { some_comp result ≡ find (λ c. c.number == number) (map comp comps.now) }
+{
+    for (i, comp) in comps.iter().enumerate() {
+        if comp.number == number {
+            return Some(comp);
+        }
+    }
+    None
 }
 
 /// The component of this number.
@@ -94,6 +86,17 @@ pub(crate) fn comp_of(field: Option<&FieldShape>, number: u32) -> Option<&CompSh
         None => None,
         Some(field) => comp_among(&field.comps, number),
     }
+}
+
+fn sub_among(subs: &[SubShape], number: u32) -> Option<&SubShape>
+    ensures { some_sub result ≡ find (λ s. s.number == number) (map sub subs.now) }
+{
+    for (i, sub) in subs.iter().enumerate() {
+        if sub.number == number {
+            return Some(sub);
+        }
+    }
+    None
 }
 
 /// The subcomponent of this number.
@@ -110,7 +113,12 @@ pub(crate) fn sub_of(comp: Option<&CompShape>, number: u32) -> Option<&SubShape>
 pub(crate) fn rule_of(rules: &[Rule], number: u32) -> Option<&Rule>
     ensures { (tables : List TableValue) → some_rule tables result ≡ resolved.rule_of (map (seen_rule tables) rules.now) number }
 {
-    rule_among(rules, number)
+    for (i, rule) in rules.iter().enumerate() {
+        if rule.field == number {
+            return Some(rule);
+        }
+    }
+    None
 }
 
 /// The source field of this reference.

@@ -1,26 +1,21 @@
 //! The rules on target segments and groups.
-ghost use Rattle.std.specs.Prelude.{◌≡◌, ◌&&◌, not, ℕ, List, IfOk, option_map};
+ghost use Rattle.std.specs.Prelude.{◌≡◌, ℕ, List, IfOk, OnOk, option_map};
 ghost use Rattle.gw_profile.specs.Seen.{forest};
 ghost use Rattle.gw_check.specs.Levels as spec;
 ghost use Rattle.gw_check.specs.Resolved as resolved;
 ghost use Rattle.gw_check.specs.Places as places;
 ghost use Rattle.gw_check.specs.Seen.{interval, saturated, scope as walked, place as seen_place, with_item, all_items};
-ghost use Rattle.gw_check.specs.Checking.{NotesNode, NotesLevel, CountedNodes, usage_of};
-ghost use Rattle.gw_check.specs.Fields.{is_expected};
-ghost use Rattle.gw_check.specs.Intervals.{is_never, is_within};
-ghost use Rattle.gw_profile.specs.WellFormed.{Counted};
-ghost use Rattle.gw_validate.specs.Breaches.{is_forbidden};
+ghost use Rattle.gw_check.specs.Checking.{NotesNode, NotesLevel, usage_of};
 ghost use Rattle.gw_maplang.specs.Shapes.{TableValue};
 
 use crate::element::Element;
-use crate::failure::{Failure, note};
-use crate::field::is_expected;
+use crate::failure::Failure;
 use crate::interval::{Interval, never, once};
 use crate::items::{items_count, leading};
+use crate::often::{Asked, check_often};
 use crate::place::find;
 use crate::resolved::{Item, Place};
-use crate::values::is_forbidden;
-use gw_profile::{Card, Node, Usage};
+use gw_profile::{Node, Usage};
 use std::alloc::{AllocError, Global};
 
 /// The scope of what is walked at a place.
@@ -80,28 +75,10 @@ fn first_line(holder: u32, items: &[Item]) -> u32
     line_of(item)
 }
 
-fn is_too_often(usage: Usage, count: Interval, most: Option<u32>) -> bool
-    ensures { result ≡ not (is_forbidden usage) && not (is_within count.greatest most) }
-{
-    !is_forbidden(usage) && !count.is_within(most)
-}
-
 fn has_no_item(items: &[Item]) -> bool
     ensures { (tables : List TableValue) → result ≡ spec.has_no_item (all_items tables items.now) }
 {
     items.is_empty()
-}
-
-fn is_missing(usage: Usage, items: &[Item]) -> bool
-    ensures { (tables : List TableValue) → result ≡ is_expected usage && spec.has_no_item (all_items tables items.now) }
-{
-    is_expected(usage) && has_no_item(items)
-}
-
-fn is_there_forbidden(usage: Usage, count: Interval) -> bool
-    ensures { result ≡ is_forbidden usage && not (is_never count.greatest) }
-{
-    is_forbidden(usage) && !count.is_never()
 }
 
 fn usage_of(node: &Node) -> Usage
@@ -116,49 +93,41 @@ fn usage_of(node: &Node) -> Usage
 // The failures of the rules on the count of a node, of which these are the items.
 fn check_node(
     alloc: Global,
-    worst: Option<Failure>,
+    found: &mut Vec<Failure>,
     scope: &[Element<'_>],
     holder: u32,
-    usage: Usage,
-    card: Card,
+    node: &Node,
     items: &[Item],
-) -> Result<Option<Failure>, AllocError>
-    ensures { IfOk result (λ new. Counted card → NotesNode (walked scope.now) holder usage card items.now worst new) }
+) -> Result<(), AllocError>
+    ensures { (tables : List TableValue) → OnOk result (NotesNode tables (walked scope.now) holder node.now items.now found.old found.new) }
 {
-    let count = items_count(alloc, scope, items)?;
-    let line = first_line(holder, items);
-    let worst = note(worst, 4, line, is_too_often(usage, count, card.max));
-    let worst = note(worst, 5, line, count.least < u64::from(card.min));
-    let worst = note(worst, 8, holder, is_missing(usage, items));
-    Ok(note(worst, 11, line, is_there_forbidden(usage, count)))
+    let asked = Asked {
+        holder,
+        line: first_line(holder, items),
+        usage: usage_of(node),
+        card: node.card(),
+        is_missing: has_no_item(items),
+    };
+    check_often(found, asked, items_count(alloc, scope, items)?)
 }
 
 /// The failures of the rules on the counts of these nodes, at a level whose items stand in the group, or the map, at this line.
 pub(crate) fn check_level(
     alloc: Global,
-    worst: Option<Failure>,
+    found: &mut Vec<Failure>,
     scope: &[Element<'_>],
     holder: u32,
     nodes: &[Node],
     items: &[Item],
-) -> Result<Option<Failure>, AllocError>
-    ensures { IfOk result (λ new. CountedNodes (forest nodes.now) → NotesLevel (walked scope.now) holder 0 (forest nodes.now) items.now worst new) }
+) -> Result<(), AllocError>
+    ensures { (tables : List TableValue) → OnOk result (NotesLevel tables (walked scope.now) holder 0 (forest nodes.now) items.now found.old found.new) }
 {
-    let mut worst = worst;
     let mut done = 0;
     for (j, node) in nodes.iter().enumerate() {
         let rest = &items[done..];
         let count = leading(rest, j);
-        worst = check_node(
-            alloc,
-            worst,
-            scope,
-            holder,
-            usage_of(node),
-            node.card(),
-            &rest[..count],
-        )?;
+        check_node(alloc, found, scope, holder, node, &rest[..count])?;
         done += count;
     }
-    Ok(worst)
+    Ok(())
 }

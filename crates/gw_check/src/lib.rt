@@ -19,6 +19,7 @@ mod level;
 mod lookup;
 mod made;
 mod naming;
+mod often;
 mod overlooked;
 mod paths;
 mod place;
@@ -36,7 +37,8 @@ mod walked;
 
 pub use accounted::FieldAt;
 pub use checked::CheckedMap;
-pub use checker::{CheckFault, check};
+pub use checker::{CheckFault, check, failures};
+pub use failure::Failure;
 pub use leaf::included;
 pub use overlooked::unread;
 pub use resolved::{

@@ -1,15 +1,15 @@
 //! The rules on fields that are made of leaves.
-ghost use Rattle.std.specs.Prelude.{◌≡◌, ◌==◌, ◌&&◌, ◌||◌, not, map, flat_map, Some, ◌∷◌, [], option_copied};
-ghost use Rattle.std.specs.List.{list_any, list_all};
+ghost use Rattle.std.specs.Prelude.{◌≡◌, ◌&&◌, ◌||◌, not, map, flat_map, ◌∷◌, [], IfOk, OnOk};
 ghost use Rattle.gw_profile.specs.Seen.{sub as sub_value, comp as comp_value, field as field_value, profile_value};
 ghost use Rattle.gw_profile.specs.Lengths.{octets};
-ghost use Rattle.gw_validate.specs.Breaches.{is_null, is_required};
+ghost use Rattle.gw_validate.specs.Breaches.{is_null};
 ghost use Rattle.gw_check.specs.Failures.{fails};
 ghost use Rattle.gw_check.specs.Fields as spec;
+ghost use Rattle.gw_check.specs.Lacking.{there_of, there_value, has_comp, has_only_comp, has_sub, has_only_sub, sub_lacks, comp_lacks, all_lacks};
 ghost use Rattle.gw_check.specs.Leaves as leaves_spec;
-ghost use Rattle.gw_check.specs.Noted.{noted};
-ghost use Rattle.gw_check.specs.Reading.{sources_value, map_tables, some_comp, some_sub, first_there, first_within};
-ghost use Rattle.gw_check.specs.Seen.{failures, at_leaf, leaf as seen_leaf};
+ghost use Rattle.gw_check.specs.Noted.{Notes};
+ghost use Rattle.gw_check.specs.Reading.{sources_value, map_tables, some_comp, some_sub};
+ghost use Rattle.gw_check.specs.Seen.{at_leaf, leaf as seen_leaf};
 ghost use Rattle.gw_check.specs.Texts.{texts_value};
 
 use crate::failure::{Failure, note};
@@ -21,254 +21,178 @@ use crate::shape::Presence;
 use crate::sources::Sources;
 use crate::texts::{Texts, may_be_long, may_be_unlisted};
 use crate::values::{check_values, is_forbidden, is_required};
+use gw_maplang::LeafPlace;
 use gw_profile::{CompShape, FieldShape, Profile, SubShape};
+use std::alloc::AllocError;
+
+/// The place of a leaf, and whether a text stands there.
+#[derive(Clone, Copy)]
+struct There {
+    place: LeafPlace,
+    presence: Presence,
+}
+
+// The leaves, each with its presence.
+fn all_there(sources: Sources<'_, '_, '_, '_>, leaves: &[At]) -> Result<Vec<There>, AllocError>
+    ensures { IfOk result (λ v. map there_value v.items ≡ map (there_of (sources_value sources.entry)) (map (at_leaf (map_tables sources.entry)) leaves.now)) }
+{
+    let mut all = Vec::new(sources.alloc);
+    for (i, at) in leaves.iter().enumerate() {
+        all.push(There {
+            place: at.place,
+            presence: leaf_presence(sources, &at.leaf),
+        })?;
+    }
+    Ok(all)
+}
 
 // ---- whether something required is there
 
-fn has_comp_among(sources: Sources<'_, '_, '_, '_>, leaves: &[At], comp: u32) -> bool
-    ensures { result ≡ list_any (λ a. a.place.comp == comp && leaves_spec.is_always (leaves_spec.leaf_shape (sources_value sources.entry) (seen_leaf (map_tables sources.entry) a.leaf)).presence) leaves.now }
-{
-    leaves.iter().any(|at| at.place.comp == comp && is_always(leaf_presence(sources, &at.leaf)))
-}
-
 // Some leaf of the component is always there.
-fn has_comp(sources: Sources<'_, '_, '_, '_>, leaves: &[At], comp: u32) -> bool
-    ensures { result ≡ list_any (λ a. a.comp == comp && leaves_spec.is_always (leaves_spec.leaf_shape (sources_value sources.entry) a.leaf).presence) (map (at_leaf (map_tables sources.entry)) leaves.now) }
+fn has_comp(leaves: &[There], comp: u32) -> bool
+    ensures { result ≡ has_comp (map there_value leaves.now) comp }
 {
-    has_comp_among(sources, leaves, comp)
-}
-
-fn has_only_comp_among(sources: Sources<'_, '_, '_, '_>, leaves: &[At], comp: u32) -> bool
-    ensures { result ≡ list_all (λ a. a.place.comp == comp || leaves_spec.is_absent (leaves_spec.leaf_shape (sources_value sources.entry) (seen_leaf (map_tables sources.entry) a.leaf)).presence) leaves.now }
-{
-    leaves.iter().all(|at| at.place.comp == comp || is_absent(leaf_presence(sources, &at.leaf)))
+    for (i, leaf) in leaves.iter().enumerate() {
+        if leaf.place.comp == comp && is_always(leaf.presence) {
+            return true;
+        }
+    }
+    false
 }
 
 // No text can stand but in the component.
-fn has_only_comp(sources: Sources<'_, '_, '_, '_>, leaves: &[At], comp: u32) -> bool
-    ensures { result ≡ list_all (λ a. a.comp == comp || leaves_spec.is_absent (leaves_spec.leaf_shape (sources_value sources.entry) a.leaf).presence) (map (at_leaf (map_tables sources.entry)) leaves.now) }
+fn has_only_comp(leaves: &[There], comp: u32) -> bool
+    ensures { result ≡ has_only_comp (map there_value leaves.now) comp }
 {
-    has_only_comp_among(sources, leaves, comp)
-}
-
-// The first leaf that can have a text.
-fn first_there<'l>(sources: Sources<'_, '_, '_, '_>, leaves: &'l [At]) -> Option<&'l At>
-    ensures { option_copied result ≡ first_there sources.entry leaves.now }
-{
-    leaves
-        .iter()
-        .find(|at| !is_absent(leaf_presence(sources, &at.leaf)))
-}
-
-// No text can stand but in the component, where this leaf is the first that can have one.
-fn has_only_comp_from(sources: Sources<'_, '_, '_, '_>, leaves: &[At], at: &At, comp: u32) -> bool
-    ensures { Some at.now ≡ first_there sources.entry leaves.now → result ≡ list_all (λ a. a.comp == comp || leaves_spec.is_absent (leaves_spec.leaf_shape (sources_value sources.entry) a.leaf).presence) (map (at_leaf (map_tables sources.entry)) leaves.now) }
-{
-    if at.place.comp != comp {
-        return false;
+    for (i, leaf) in leaves.iter().enumerate() {
+        if leaf.place.comp != comp && !is_absent(leaf.presence) {
+            return false;
+        }
     }
-    has_only_comp(sources, leaves, comp)
-}
-
-// No text can stand but in the component, where the first leaf that can have one is known.
-fn has_only_comp_by(
-    sources: Sources<'_, '_, '_, '_>,
-    leaves: &[At],
-    found: Option<&At>,
-    comp: u32,
-) -> bool
-    ensures { option_copied found.entry ≡ first_there sources.entry leaves.now → result ≡ list_all (λ a. a.comp == comp || leaves_spec.is_absent (leaves_spec.leaf_shape (sources_value sources.entry) a.leaf).presence) (map (at_leaf (map_tables sources.entry)) leaves.now) }
-{
-    match found {
-        None => true,
-        Some(at) => has_only_comp_from(sources, leaves, at, comp),
-    }
-}
-
-fn is_comp_sure(
-    sources: Sources<'_, '_, '_, '_>,
-    leaves: &[At],
-    found: Option<&At>,
-    comp: u32,
-) -> bool
-    ensures { option_copied found.entry ≡ first_there sources.entry leaves.now → result ≡ spec.is_comp_sure (sources_value sources.entry) (map (at_leaf (map_tables sources.entry)) leaves.now) comp }
-{
-    has_comp(sources, leaves, comp) || has_only_comp_by(sources, leaves, found, comp)
-}
-
-fn has_sub_among(sources: Sources<'_, '_, '_, '_>, leaves: &[At], comp: u32, sub: u32) -> bool
-    ensures { result ≡ list_any (λ a. a.place.comp == comp && a.place.sub == sub && leaves_spec.is_always (leaves_spec.leaf_shape (sources_value sources.entry) (seen_leaf (map_tables sources.entry) a.leaf)).presence) leaves.now }
-{
-    leaves.iter().any(|at| {
-        at.place.comp == comp && at.place.sub == sub && is_always(leaf_presence(sources, &at.leaf))
-    })
+    true
 }
 
 // The leaf of the subcomponent is always there.
-fn has_sub(sources: Sources<'_, '_, '_, '_>, leaves: &[At], comp: u32, sub: u32) -> bool
-    ensures { result ≡ list_any (λ a. a.comp == comp && a.sub == sub && leaves_spec.is_always (leaves_spec.leaf_shape (sources_value sources.entry) a.leaf).presence) (map (at_leaf (map_tables sources.entry)) leaves.now) }
+fn has_sub(leaves: &[There], comp: u32, sub: u32) -> bool
+    ensures { result ≡ has_sub (map there_value leaves.now) comp sub }
 {
-    has_sub_among(sources, leaves, comp, sub)
-}
-
-fn has_only_sub_among(sources: Sources<'_, '_, '_, '_>, leaves: &[At], comp: u32, sub: u32) -> bool
-    ensures { result ≡ list_all (λ a. not (a.place.comp == comp) || a.place.sub == sub || leaves_spec.is_absent (leaves_spec.leaf_shape (sources_value sources.entry) (seen_leaf (map_tables sources.entry) a.leaf)).presence) leaves.now }
-{
-    leaves.iter().all(|at| {
-        at.place.comp != comp || at.place.sub == sub || is_absent(leaf_presence(sources, &at.leaf))
-    })
+    for (i, leaf) in leaves.iter().enumerate() {
+        if leaf.place.comp == comp && leaf.place.sub == sub && is_always(leaf.presence) {
+            return true;
+        }
+    }
+    false
 }
 
 // The component can have no text but in the subcomponent.
-fn has_only_sub(sources: Sources<'_, '_, '_, '_>, leaves: &[At], comp: u32, sub: u32) -> bool
-    ensures { result ≡ list_all (λ a. not (a.comp == comp) || a.sub == sub || leaves_spec.is_absent (leaves_spec.leaf_shape (sources_value sources.entry) a.leaf).presence) (map (at_leaf (map_tables sources.entry)) leaves.now) }
+fn has_only_sub(leaves: &[There], comp: u32, sub: u32) -> bool
+    ensures { result ≡ has_only_sub (map there_value leaves.now) comp sub }
 {
-    has_only_sub_among(sources, leaves, comp, sub)
-}
-
-// The first leaf of the component that can have a text.
-fn first_within<'l>(sources: Sources<'_, '_, '_, '_>, leaves: &'l [At], comp: u32) -> Option<&'l At>
-    ensures { option_copied result ≡ first_within sources.entry comp leaves.now }
-{
-    leaves.iter().find(|at| at.place.comp == comp && !is_absent(leaf_presence(sources, &at.leaf)))
-}
-
-// The component can have no text but in the subcomponent, where this leaf is its first that can have one.
-fn has_only_sub_from(
-    sources: Sources<'_, '_, '_, '_>,
-    leaves: &[At],
-    at: &At,
-    comp: u32,
-    sub: u32,
-) -> bool
-    ensures { Some at.now ≡ first_within sources.entry comp leaves.now → result ≡ list_all (λ a. not (a.comp == comp) || a.sub == sub || leaves_spec.is_absent (leaves_spec.leaf_shape (sources_value sources.entry) a.leaf).presence) (map (at_leaf (map_tables sources.entry)) leaves.now) }
-{
-    if at.place.sub != sub {
-        return false;
+    for (i, leaf) in leaves.iter().enumerate() {
+        if leaf.place.comp == comp && leaf.place.sub != sub && !is_absent(leaf.presence) {
+            return false;
+        }
     }
-    has_only_sub(sources, leaves, comp, sub)
+    true
 }
 
-// The component can have no text but in the subcomponent, where its first leaf that can have one is known.
-fn has_only_sub_by(
-    sources: Sources<'_, '_, '_, '_>,
-    leaves: &[At],
-    found: Option<&At>,
-    comp: u32,
-    sub: u32,
-) -> bool
-    ensures { option_copied found.entry ≡ first_within sources.entry comp leaves.now → result ≡ list_all (λ a. not (a.comp == comp) || a.sub == sub || leaves_spec.is_absent (leaves_spec.leaf_shape (sources_value sources.entry) a.leaf).presence) (map (at_leaf (map_tables sources.entry)) leaves.now) }
+fn is_comp_sure(leaves: &[There], comp: u32) -> bool
+    ensures { result ≡ (has_comp (map there_value leaves.now) comp || has_only_comp (map there_value leaves.now) comp) }
 {
-    match found {
-        None => true,
-        Some(at) => has_only_sub_from(sources, leaves, at, comp, sub),
-    }
+    has_comp(leaves, comp) || has_only_comp(leaves, comp)
 }
 
-fn is_sub_sure(
-    sources: Sources<'_, '_, '_, '_>,
-    leaves: &[At],
-    found: Option<&At>,
-    comp: u32,
-    sub: u32,
-) -> bool
-    ensures { option_copied found.entry ≡ first_within sources.entry comp leaves.now → result ≡ spec.is_sub_sure (sources_value sources.entry) (map (at_leaf (map_tables sources.entry)) leaves.now) comp sub }
+fn is_sub_sure(leaves: &[There], comp: u32, sub: u32) -> bool
+    ensures { result ≡ (has_sub (map there_value leaves.now) comp sub || has_only_sub (map there_value leaves.now) comp sub) }
 {
-    has_sub(sources, leaves, comp, sub) || has_only_sub_by(sources, leaves, found, comp, sub)
+    has_sub(leaves, comp, sub) || has_only_sub(leaves, comp, sub)
 }
 
 // ---- what is made
 
 fn check_sub(
-    worst: Option<Failure>,
-    sources: Sources<'_, '_, '_, '_>,
+    found: &mut Vec<Failure>,
     line: u32,
-    leaves: &[At],
-    found: Option<&At>,
+    leaves: &[There],
     comp: u32,
     sub: &SubShape,
-) -> Option<Failure>
-    ensures { option_copied found.entry ≡ first_within sources.entry comp leaves.now → failures result ≡ noted (failures worst) (spec.made_sub (sources_value sources.entry) line (map (at_leaf (map_tables sources.entry)) leaves.now) comp (sub_value sub.now)) }
+) -> Result<(), AllocError>
+    ensures { OnOk result (Notes found.old found.new (sub_lacks line (map there_value leaves.now) comp (sub_value sub.now))) }
 {
     if !is_required(sub.usage) {
-        return worst;
+        return Ok(());
     }
-    note(
-        worst,
-        5,
-        line,
-        !is_sub_sure(sources, leaves, found, comp, sub.number),
-    )
+    note(found, 5, line, !is_sub_sure(leaves, comp, sub.number))
 }
 
 fn check_subs(
-    mut worst: Option<Failure>,
-    sources: Sources<'_, '_, '_, '_>,
+    found: &mut Vec<Failure>,
     line: u32,
-    leaves: &[At],
+    leaves: &[There],
     comp: u32,
     subs: &[SubShape],
-) -> Option<Failure>
-    ensures { failures result ≡ noted (failures worst) (flat_map (spec.made_sub (sources_value sources.entry) line (map (at_leaf (map_tables sources.entry)) leaves.now) comp) (map sub_value subs.now)) }
+) -> Result<(), AllocError>
+    ensures { OnOk result (Notes found.old found.new (flat_map (sub_lacks line (map there_value leaves.now) comp) (map sub_value subs.now))) }
 {
-    let found = first_within(sources, leaves, comp);
     for (i, sub) in subs.iter().enumerate() {
-        worst = check_sub(worst, sources, line, leaves, found, comp, sub);
+        check_sub(found, line, leaves, comp, sub)?;
     }
-    worst
+    Ok(())
 }
 
 // The component itself.
-fn check_required_comp(
-    worst: Option<Failure>,
-    sources: Sources<'_, '_, '_, '_>,
+fn check_comp_there(
+    found: &mut Vec<Failure>,
     line: u32,
-    leaves: &[At],
-    found: Option<&At>,
+    leaves: &[There],
     comp: &CompShape,
-) -> Option<Failure>
-    ensures { option_copied found.entry ≡ first_there sources.entry leaves.now → failures result ≡ noted (failures worst) (fails 5 line (is_required comp.now.usage && not (spec.is_comp_sure (sources_value sources.entry) (map (at_leaf (map_tables sources.entry)) leaves.now) comp.now.number))) }
+) -> Result<(), AllocError>
+    ensures { OnOk result (Notes found.old found.new (comp_lacks line (map there_value leaves.now) (comp_value comp.now))) }
 {
     if !is_required(comp.usage) {
-        return worst;
+        return Ok(());
     }
-    note(
-        worst,
-        5,
-        line,
-        !is_comp_sure(sources, leaves, found, comp.number),
-    )
+    note(found, 5, line, !is_comp_sure(leaves, comp.number))
 }
 
-#[tactic(auto, using(crate::proofs::Noting::noted_both))]
 fn check_comp(
-    worst: Option<Failure>,
-    sources: Sources<'_, '_, '_, '_>,
+    found: &mut Vec<Failure>,
     line: u32,
-    leaves: &[At],
-    found: Option<&At>,
+    leaves: &[There],
     comp: &CompShape,
-) -> Option<Failure>
-    ensures { option_copied found.entry ≡ first_there sources.entry leaves.now → failures result ≡ noted (failures worst) (spec.made_comp (sources_value sources.entry) line (map (at_leaf (map_tables sources.entry)) leaves.now) (comp_value comp.now)) }
+) -> Result<(), AllocError>
+    ensures { OnOk result (Notes found.old found.new (all_lacks line (map there_value leaves.now) (comp_value comp.now))) }
 {
-    let worst = check_required_comp(worst, sources, line, leaves, found, comp);
-    check_subs(worst, sources, line, leaves, comp.number, &comp.subs)
+    check_comp_there(found, line, leaves, comp)?;
+    check_subs(found, line, leaves, comp.number, &comp.subs)
 }
 
 fn check_comps(
-    mut worst: Option<Failure>,
+    found: &mut Vec<Failure>,
+    line: u32,
+    leaves: &[There],
+    comps: &[CompShape],
+) -> Result<(), AllocError>
+    ensures { OnOk result (Notes found.old found.new (flat_map (all_lacks line (map there_value leaves.now)) (map comp_value comps.now))) }
+{
+    for (i, comp) in comps.iter().enumerate() {
+        check_comp(found, line, leaves, comp)?;
+    }
+    Ok(())
+}
+
+// What the leaves of a rule don't give.
+fn check_lacking(
+    found: &mut Vec<Failure>,
     sources: Sources<'_, '_, '_, '_>,
     line: u32,
     leaves: &[At],
     comps: &[CompShape],
-) -> Option<Failure>
-    ensures { failures result ≡ noted (failures worst) (flat_map (spec.made_comp (sources_value sources.entry) line (map (at_leaf (map_tables sources.entry)) leaves.now)) (map comp_value comps.now)) }
+) -> Result<(), AllocError>
+    ensures { OnOk result (Notes found.old found.new (flat_map (spec.made_comp (sources_value sources.entry) line (map (at_leaf (map_tables sources.entry)) leaves.now)) (map comp_value comps.now))) }
 {
-    let found = first_there(sources, leaves);
-    for (i, comp) in comps.iter().enumerate() {
-        worst = check_comp(worst, sources, line, leaves, found, comp);
-    }
-    worst
+    let there = all_there(sources, leaves)?;
+    check_comps(found, line, &there, comps)
 }
 
 // ---- what the leaves give
@@ -287,32 +211,32 @@ fn breaks(target: &Profile, texts: Texts<'_>, sub: &SubShape) -> bool
 }
 
 fn check_const(
-    worst: Option<Failure>,
+    found: &mut Vec<Failure>,
     target: &Profile,
     line: u32,
     text: &[u8],
     sub: &SubShape,
-) -> Option<Failure>
-    ensures { failures result ≡ noted (failures worst) (fails 12 line (not (is_null text.now) && (leaves_spec.may_be_unlisted (leaves_spec.listed (text.now ∷ [])) (spec.table_values target.now.tables (sub_value sub.now)) || leaves_spec.may_be_long octets (leaves_spec.listed (text.now ∷ [])) sub.now.len))) }
+) -> Result<(), AllocError>
+    ensures { OnOk result (Notes found.old found.new (fails 12 line (not (is_null text.now) && (leaves_spec.may_be_unlisted (leaves_spec.listed (text.now ∷ [])) (spec.table_values target.now.tables (sub_value sub.now)) || leaves_spec.may_be_long octets (leaves_spec.listed (text.now ∷ [])) sub.now.len)))) }
 {
     if is_null(text) {
-        return worst;
+        return Ok(());
     }
-    note(worst, 12, line, breaks(target, Texts::One(text), sub))
+    note(found, 12, line, breaks(target, Texts::One(text), sub))
 }
 
 fn check_source(
-    worst: Option<Failure>,
+    found: &mut Vec<Failure>,
     sources: Sources<'_, '_, '_, '_>,
     target: &Profile,
     line: u32,
     leaf: &Leaf,
     sub: &SubShape,
-) -> Option<Failure>
-    ensures { failures result ≡ noted (failures worst) (spec.value_failures (profile_value target.now) line (leaves_spec.leaf_shape (sources_value sources.entry) (seen_leaf (map_tables sources.entry) leaf.now)) (sub_value sub.now)) }
+) -> Result<(), AllocError>
+    ensures { OnOk result (Notes found.old found.new (spec.value_failures (profile_value target.now) line (leaves_spec.leaf_shape (sources_value sources.entry) (seen_leaf (map_tables sources.entry) leaf.now)) (sub_value sub.now))) }
 {
     check_values(
-        worst,
+        found,
         target,
         line,
         leaf_presence(sources, leaf),
@@ -322,35 +246,35 @@ fn check_source(
 }
 
 fn check_leaf(
-    worst: Option<Failure>,
+    found: &mut Vec<Failure>,
     sources: Sources<'_, '_, '_, '_>,
     target: &Profile,
     line: u32,
     leaf: &Leaf,
     sub: &SubShape,
-) -> Option<Failure>
-    ensures { failures result ≡ noted (failures worst) (spec.leaf_failures (sources_value sources.entry) (profile_value target.now) line (seen_leaf (map_tables sources.entry) leaf.now) (sub_value sub.now)) }
+) -> Result<(), AllocError>
+    ensures { OnOk result (Notes found.old found.new (spec.leaf_failures (sources_value sources.entry) (profile_value target.now) line (seen_leaf (map_tables sources.entry) leaf.now) (sub_value sub.now))) }
 {
     match leaf {
-        Leaf::Const(text) => check_const(worst, target, line, text, sub),
-        Leaf::Copied(_) => check_source(worst, sources, target, line, leaf, sub),
-        Leaf::LookedUp(_, _) => check_source(worst, sources, target, line, leaf, sub),
+        Leaf::Const(text) => check_const(found, target, line, text, sub),
+        Leaf::Copied(_) => check_source(found, sources, target, line, leaf, sub),
+        Leaf::LookedUp(_, _) => check_source(found, sources, target, line, leaf, sub),
     }
 }
 
 // A leaf at a place that the target may list.
 fn check_placed(
-    worst: Option<Failure>,
+    found: &mut Vec<Failure>,
     sources: Sources<'_, '_, '_, '_>,
     target: &Profile,
     at: &At,
     sub: Option<&SubShape>,
-) -> Option<Failure>
-    ensures { failures result ≡ noted (failures worst) (spec.placed (sources_value sources.entry) (profile_value target.now) at.now.line (seen_leaf (map_tables sources.entry) at.now.leaf) (some_sub sub.entry)) }
+) -> Result<(), AllocError>
+    ensures { OnOk result (Notes found.old found.new (spec.placed (sources_value sources.entry) (profile_value target.now) at.now.line (seen_leaf (map_tables sources.entry) at.now.leaf) (some_sub sub.entry))) }
 {
     match sub {
-        None => worst,
-        Some(sub) => check_leaf(worst, sources, target, at.line, &at.leaf, sub),
+        None => Ok(()),
+        Some(sub) => check_leaf(found, sources, target, at.line, &at.leaf, sub),
     }
 }
 
@@ -379,63 +303,61 @@ fn is_barred(comp: Option<&CompShape>, sub: Option<&SubShape>) -> bool
 }
 
 fn check_barred(
-    worst: Option<Failure>,
+    found: &mut Vec<Failure>,
     line: u32,
     barred: bool,
     presence: Presence,
-) -> Option<Failure>
-    ensures { failures result ≡ noted (failures worst) (fails 11 line (barred && not (leaves_spec.is_absent presence))) }
+) -> Result<(), AllocError>
+    ensures { OnOk result (Notes found.old found.new (fails 11 line (barred && not (leaves_spec.is_absent presence)))) }
 {
     if !barred {
-        return worst;
+        return Ok(());
     }
-    note(worst, 11, line, !is_absent(presence))
+    note(found, 11, line, !is_absent(presence))
 }
 
-#[tactic(auto, using(crate::proofs::Noting::noted_both))]
 fn check_at(
-    worst: Option<Failure>,
+    found: &mut Vec<Failure>,
     sources: Sources<'_, '_, '_, '_>,
     target: &Profile,
     field: &FieldShape,
     at: &At,
-) -> Option<Failure>
-    ensures { failures result ≡ noted (failures worst) (spec.made_leaf (sources_value sources.entry) (profile_value target.now) (field_value field.now) (at_leaf (map_tables sources.entry) at.now)) }
+) -> Result<(), AllocError>
+    ensures { OnOk result (Notes found.old found.new (spec.made_leaf (sources_value sources.entry) (profile_value target.now) (field_value field.now) (at_leaf (map_tables sources.entry) at.now))) }
 {
     let comp = comp_of(Some(field), at.place.comp);
     let sub = sub_of(comp, at.place.sub);
     let presence = leaf_presence(sources, &at.leaf);
-    let worst = check_barred(worst, at.line, is_barred(comp, sub), presence);
-    check_placed(worst, sources, target, at, sub)
+    check_barred(found, at.line, is_barred(comp, sub), presence)?;
+    check_placed(found, sources, target, at, sub)
 }
 
 fn check_leaves(
-    mut worst: Option<Failure>,
+    found: &mut Vec<Failure>,
     sources: Sources<'_, '_, '_, '_>,
     target: &Profile,
     field: &FieldShape,
     leaves: &[At],
-) -> Option<Failure>
-    ensures { failures result ≡ noted (failures worst) (flat_map (spec.made_leaf (sources_value sources.entry) (profile_value target.now) (field_value field.now)) (map (at_leaf (map_tables sources.entry)) leaves.now)) }
+) -> Result<(), AllocError>
+    ensures { OnOk result (Notes found.old found.new (flat_map (spec.made_leaf (sources_value sources.entry) (profile_value target.now) (field_value field.now)) (map (at_leaf (map_tables sources.entry)) leaves.now))) }
 {
     for (i, at) in leaves.iter().enumerate() {
-        worst = check_at(worst, sources, target, field, at);
+        check_at(found, sources, target, field, at)?;
     }
-    worst
+    Ok(())
 }
 
 /// The failures of a field that is made of these leaves.
-#[tactic(auto, using(crate::proofs::Noting::noted_both))]
 pub(crate) fn check_made(
-    worst: Option<Failure>,
+    found: &mut Vec<Failure>,
     sources: Sources<'_, '_, '_, '_>,
     target: &Profile,
     line: u32,
     leaves: &[At],
     field: &FieldShape,
-) -> Option<Failure>
-    ensures { failures result ≡ noted (failures worst) (spec.made_field (sources_value sources.entry) (profile_value target.now) line (map (at_leaf (map_tables sources.entry)) leaves.now) (field_value field.now)) }
+) -> Result<(), AllocError>
+    ensures { OnOk result (Notes found.old found.new (spec.made_field (sources_value sources.entry) (profile_value target.now) line (map (at_leaf (map_tables sources.entry)) leaves.now) (field_value field.now))) }
 {
-    let worst = check_comps(worst, sources, line, leaves, &field.comps);
-    check_leaves(worst, sources, target, field, leaves)
+    check_lacking(found, sources, line, leaves, &field.comps)?;
+    check_leaves(found, sources, target, field, leaves)
 }

@@ -1,5 +1,5 @@
 //! The rules on source paths (1 and 2).
-ghost use Rattle.std.specs.Prelude.{◌≡◌, ◌++◌, ◌||◌, if◌then◌else◌, is_some, not, IfOk, Some, None, map, flat_map, option_map};
+ghost use Rattle.std.specs.Prelude.{◌≡◌, ◌++◌, ◌||◌, if◌then◌else◌, is_some, not, IfOk, OnOk, Some, None, map, flat_map, option_map};
 ghost use Rattle.gw_maplang.specs.Seen.{items_all, field_path, ref as seen_ref, leaf_value, rule as seen_rule, with_item, all_items, dropped as seen_dropped};
 ghost use Rattle.gw_maplang.specs.declared.item.Item.{SegFrom};
 ghost use Rattle.gw_maplang.specs.Shapes.{nothing};
@@ -8,10 +8,10 @@ ghost use Rattle.gw_check.specs.Looking.{comes_often, place_there, each_within};
 ghost use Rattle.gw_check.specs.Naming as spec;
 ghost use Rattle.gw_profile.specs.Line.{allows};
 ghost use Rattle.gw_check.specs.Placed.{is_segment};
-ghost use Rattle.gw_check.specs.Noted.{noted};
+ghost use Rattle.gw_check.specs.Noted.{Notes};
 ghost use Rattle.gw_check.specs.Places as places;
 ghost use Rattle.gw_profile.specs.Labels.{nodes_in};
-ghost use Rattle.gw_check.specs.Seen.{walked as seen, place as seen_place, all_walked as walked, failures};
+ghost use Rattle.gw_check.specs.Seen.{walked as seen, place as seen_place, all_walked as walked};
 
 use crate::failure::{Failure, note};
 use crate::paths::{or_itself, place_of, within};
@@ -115,10 +115,11 @@ fn ends_at_segment(scope: &[Walked<'_, '_>], place: Option<&Place>) -> bool
 }
 
 // Takes note of a path that leads nowhere, or by steps that come often.
-fn note_both(worst: Option<Failure>, line: u32, leads: bool, once: bool) -> Option<Failure>
-    ensures { failures result ≡ noted (failures worst) (fails 1 line (not leads) ++ fails 2 line (not once)) }
+fn note_both(found: &mut Vec<Failure>, line: u32, leads: bool, once: bool) -> Result<(), AllocError>
+    ensures { OnOk result (Notes found.old found.new (fails 1 line (not leads) ++ fails 2 line (not once))) }
 {
-    note(note(worst, 1, line, !leads), 2, line, !once)
+    note(found, 1, line, !leads)?;
+    note(found, 2, line, !once)
 }
 
 // Where a path leads: a place that stands for none, whether it leads to what is sought, and whether its steps come once.
@@ -175,150 +176,148 @@ fn segments_led(
 /// The failures of a path to the one segment that is read.
 fn read_failures(
     alloc: Global,
-    worst: Option<Failure>,
+    found: &mut Vec<Failure>,
     scope: &[Walked<'_, '_>],
     line: u32,
     from: &FieldPath,
-) -> Result<Option<Failure>, AllocError>
-    ensures { IfOk result (λ all. failures all ≡ noted (failures worst) (spec.read_failures (walked scope.now) line (field_path from.now))) }
+) -> Result<(), AllocError>
+    ensures { OnOk result (Notes found.old found.new (spec.read_failures (walked scope.now) line (field_path from.now))) }
 {
     let place = place_of(alloc, scope, &from.path)?;
     let leads = ends_at_segment(scope, place.as_ref());
     let once = is_read_once(scope, place.as_ref());
-    Ok(note_both(worst, line, leads, once))
+    note_both(found, line, leads, once)
 }
 
 fn ref_failures(
     alloc: Global,
-    worst: Option<Failure>,
+    found: &mut Vec<Failure>,
     scope: &[Walked<'_, '_>],
     line: u32,
     from: &Ref,
-) -> Result<Option<Failure>, AllocError>
-    ensures { IfOk result (λ all. failures all ≡ noted (failures worst) (spec.ref_failures (walked scope.now) line (seen_ref from.now))) }
+) -> Result<(), AllocError>
+    ensures { OnOk result (Notes found.old found.new (spec.ref_failures (walked scope.now) line (seen_ref from.now))) }
 {
     match from {
-        Ref::Field(from, _) => read_failures(alloc, worst, scope, line, from),
-        Ref::Current(_) => Ok(worst),
+        Ref::Field(from, _) => read_failures(alloc, found, scope, line, from),
+        Ref::Current(_) => Ok(()),
     }
 }
 
 fn leaf_failures(
     alloc: Global,
-    worst: Option<Failure>,
+    found: &mut Vec<Failure>,
     scope: &[Walked<'_, '_>],
     leaf: &LeafRule,
-) -> Result<Option<Failure>, AllocError>
-    ensures { IfOk result (λ all. failures all ≡ noted (failures worst) (spec.leaf_failures (walked scope.now) (leaf_value leaf.now))) }
+) -> Result<(), AllocError>
+    ensures { OnOk result (Notes found.old found.new (spec.leaf_failures (walked scope.now) (leaf_value leaf.now))) }
 {
     match &leaf.leaf {
-        Leaf::Const(_) => Ok(worst),
-        Leaf::Copy(from) => ref_failures(alloc, worst, scope, leaf.line, from),
-        Leaf::Lookup(_, from) => ref_failures(alloc, worst, scope, leaf.line, from),
+        Leaf::Const(_) => Ok(()),
+        Leaf::Copy(from) => ref_failures(alloc, found, scope, leaf.line, from),
+        Leaf::Lookup(_, from) => ref_failures(alloc, found, scope, leaf.line, from),
     }
 }
 
 fn leaves_failures(
     alloc: Global,
-    worst: Option<Failure>,
+    found: &mut Vec<Failure>,
     scope: &[Walked<'_, '_>],
     leaves: &[LeafRule],
-) -> Result<Option<Failure>, AllocError>
-    ensures { IfOk result (λ all. failures all ≡ noted (failures worst) (flat_map (spec.leaf_failures (walked scope.now)) (map leaf_value leaves.now))) }
+) -> Result<(), AllocError>
+    ensures { OnOk result (Notes found.old found.new (flat_map (spec.leaf_failures (walked scope.now)) (map leaf_value leaves.now))) }
 {
-    let mut worst = worst;
     for (i, leaf) in leaves.iter().enumerate() {
-        worst = leaf_failures(alloc, worst, scope, leaf)?;
+        leaf_failures(alloc, found, scope, leaf)?;
     }
-    Ok(worst)
+    Ok(())
 }
 
 fn rule_failures(
     alloc: Global,
-    worst: Option<Failure>,
+    found: &mut Vec<Failure>,
     scope: &[Walked<'_, '_>],
     rule: &Rule,
-) -> Result<Option<Failure>, AllocError>
-    ensures { IfOk result (λ all. failures all ≡ noted (failures worst) (spec.rule_failures (walked scope.now) (seen_rule rule.now))) }
+) -> Result<(), AllocError>
+    ensures { OnOk result (Notes found.old found.new (spec.rule_failures (walked scope.now) (seen_rule rule.now))) }
 {
     match rule {
-        Rule::CopyField(made) => read_failures(alloc, worst, scope, made.line, &made.from),
-        Rule::FirstRep(made) => read_failures(alloc, worst, scope, made.line, &made.from),
+        Rule::CopyField(made) => read_failures(alloc, found, scope, made.line, &made.from),
+        Rule::FirstRep(made) => read_failures(alloc, found, scope, made.line, &made.from),
         Rule::RepeatField(made) => {
-            let worst = read_failures(alloc, worst, scope, made.line, &made.from)?;
-            leaves_failures(alloc, worst, scope, &made.leaves)
+            read_failures(alloc, found, scope, made.line, &made.from)?;
+            leaves_failures(alloc, found, scope, &made.leaves)
         }
-        Rule::Build(made) => leaves_failures(alloc, worst, scope, &made.leaves),
+        Rule::Build(made) => leaves_failures(alloc, found, scope, &made.leaves),
     }
 }
 
 fn rules_failures(
     alloc: Global,
-    worst: Option<Failure>,
+    found: &mut Vec<Failure>,
     scope: &[Walked<'_, '_>],
     rules: &[Rule],
-) -> Result<Option<Failure>, AllocError>
-    ensures { IfOk result (λ all. failures all ≡ noted (failures worst) (flat_map (spec.rule_failures (walked scope.now)) (map seen_rule rules.now))) }
+) -> Result<(), AllocError>
+    ensures { OnOk result (Notes found.old found.new (flat_map (spec.rule_failures (walked scope.now)) (map seen_rule rules.now))) }
 {
-    let mut worst = worst;
     for (i, rule) in rules.iter().enumerate() {
-        worst = rule_failures(alloc, worst, scope, rule)?;
+        rule_failures(alloc, found, scope, rule)?;
     }
-    Ok(worst)
+    Ok(())
 }
 
 // The failures of a segment item that walks a path.
 fn from_failures(
     alloc: Global,
-    worst: Option<Failure>,
+    found: &mut Vec<Failure>,
     scope: &[Walked<'_, '_>],
     made: &FromItem,
-) -> Result<Option<Failure>, AllocError>
-    ensures { IfOk result (λ all. failures all ≡ noted (failures worst) (spec.path_failures (walked scope.now) (with_item (SegFrom made.now) nothing))) }
+) -> Result<(), AllocError>
+    ensures { OnOk result (Notes found.old found.new (spec.path_failures (walked scope.now) (with_item (SegFrom made.now) nothing))) }
 {
     let led = segments_led(alloc, scope, &made.path)?;
     if is_lost(led.leads, led.once) {
-        return Ok(note_both(worst, made.line, led.leads, led.once));
+        return note_both(found, made.line, led.leads, led.once);
     }
     let inner = within(alloc, scope, &led.place)?;
-    rules_failures(alloc, worst, &inner, &made.rules)
+    rules_failures(alloc, found, &inner, &made.rules)
 }
 
 // The failures of a path that is walked, and of the items of each occurrence.
 #[cycle(items)]
 fn each_failures(
     alloc: Global,
-    worst: Option<Failure>,
+    found: &mut Vec<Failure>,
     scope: &[Walked<'_, '_>],
     line: u32,
     path: &[Vec<u8>],
     items: &[Item],
-) -> Result<Option<Failure>, AllocError>
-    ensures { IfOk result (λ all. failures all ≡ noted (failures worst) (each_within (walked scope.now) line (items_all path.now) (all_items items.now))) }
+) -> Result<(), AllocError>
+    ensures { OnOk result (Notes found.old found.new (each_within (walked scope.now) line (items_all path.now) (all_items items.now))) }
 {
     let led = walk_led(alloc, scope, path)?;
     if is_lost(led.leads, led.once) {
-        return Ok(note_both(worst, line, led.leads, led.once));
+        return note_both(found, line, led.leads, led.once);
     }
     let inner = within(alloc, scope, &led.place)?;
-    path_failures(alloc, worst, &inner, items)
+    path_failures(alloc, found, &inner, items)
 }
 
 #[cycle(items)]
 fn item_failures(
     alloc: Global,
-    worst: Option<Failure>,
+    found: &mut Vec<Failure>,
     scope: &[Walked<'_, '_>],
     item: &Item,
-) -> Result<Option<Failure>, AllocError>
-    ensures { IfOk result (λ all. failures all ≡ noted (failures worst) (spec.path_failures (walked scope.now) (with_item item.now nothing))) }
+) -> Result<(), AllocError>
+    ensures { OnOk result (Notes found.old found.new (spec.path_failures (walked scope.now) (with_item item.now nothing))) }
 {
     match item {
-        Item::SegFrom(made) => from_failures(alloc, worst, scope, made),
-        Item::SegAlways(made) => rules_failures(alloc, worst, scope, &made.rules),
+        Item::SegFrom(made) => from_failures(alloc, found, scope, made),
+        Item::SegAlways(made) => rules_failures(alloc, found, scope, &made.rules),
         Item::EachAs(made) => each_failures(
             alloc,
-            worst,
+            found,
             scope,
             made.line,
             &made.path,
@@ -326,7 +325,7 @@ fn item_failures(
         ),
         Item::EachFlat(made) => each_failures(
             alloc,
-            worst,
+            found,
             scope,
             made.line,
             &made.path,
@@ -339,17 +338,16 @@ fn item_failures(
 #[cycle(items)]
 pub(crate) fn path_failures(
     alloc: Global,
-    worst: Option<Failure>,
+    found: &mut Vec<Failure>,
     scope: &[Walked<'_, '_>],
     items: &[Item],
-) -> Result<Option<Failure>, AllocError>
-    ensures { IfOk result (λ all. failures all ≡ noted (failures worst) (spec.path_failures (walked scope.now) (all_items items.now))) }
+) -> Result<(), AllocError>
+    ensures { OnOk result (Notes found.old found.new (spec.path_failures (walked scope.now) (all_items items.now))) }
 {
-    let mut worst = worst;
     for (i, item) in items.iter().enumerate() {
-        worst = item_failures(alloc, worst, scope, item)?;
+        item_failures(alloc, found, scope, item)?;
     }
-    Ok(worst)
+    Ok(())
 }
 
 // Whether what is left out is there, and a segment where a field of it is named.
@@ -364,30 +362,29 @@ fn leads(scope: &[Walked<'_, '_>], field: Option<u32>, place: Option<&Place>) ->
 
 fn drop_failures(
     alloc: Global,
-    worst: Option<Failure>,
+    found: &mut Vec<Failure>,
     message: Walked<'_, '_>,
     dropped: &Dropped,
-) -> Result<Option<Failure>, AllocError>
-    ensures { IfOk result (λ all. failures all ≡ noted (failures worst) (spec.drop_failures (seen message.entry) (seen_dropped dropped.now))) }
+) -> Result<(), AllocError>
+    ensures { OnOk result (Notes found.old found.new (spec.drop_failures (seen message.entry) (seen_dropped dropped.now))) }
 {
     let scope = [message];
     let place = place_of(alloc, &scope, &dropped.path)?;
     let there = leads(&scope, dropped.field, place.as_ref());
-    Ok(note(worst, 1, dropped.line, !there))
+    note(found, 1, dropped.line, !there)
 }
 
 /// The failures of what is left out.
 pub(crate) fn drops_failures(
     alloc: Global,
-    worst: Option<Failure>,
+    found: &mut Vec<Failure>,
     message: Walked<'_, '_>,
     drops: &[Dropped],
-) -> Result<Option<Failure>, AllocError>
-    ensures { IfOk result (λ all. failures all ≡ noted (failures worst) (flat_map (spec.drop_failures (seen message.entry)) (map seen_dropped drops.now))) }
+) -> Result<(), AllocError>
+    ensures { OnOk result (Notes found.old found.new (flat_map (spec.drop_failures (seen message.entry)) (map seen_dropped drops.now))) }
 {
-    let mut worst = worst;
     for (i, dropped) in drops.iter().enumerate() {
-        worst = drop_failures(alloc, worst, message, dropped)?;
+        drop_failures(alloc, found, message, dropped)?;
     }
-    Ok(worst)
+    Ok(())
 }

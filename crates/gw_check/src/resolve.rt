@@ -3,7 +3,6 @@ ghost use Rattle.std.specs.Prelude.{◌≡◌, IfOk};
 ghost use Rattle.gw_profile.specs.Seen.{forest, profile_value};
 ghost use Rattle.gw_profile.specs.Shapes.{ProfileValue};
 ghost use Rattle.gw_maplang.specs.Seen.{map_value};
-ghost use Rattle.gw_check.specs.Checked.{least};
 ghost use Rattle.gw_check.specs.Naming as spec;
 ghost use Rattle.gw_check.specs.Resolving.{Resolves, ResolvesBy};
 ghost use Rattle.gw_check.specs.Seen.{failures};
@@ -19,33 +18,34 @@ use gw_profile::{Level, Profile};
 use std::alloc::{AllocError, Global};
 
 /// The items of a map and what it leaves out, without labels.
-#[derive(PartialEq, Debug, Drop)]
+#[derive(Drop)]
 pub(crate) struct Named {
     pub(crate) items: Vec<Item>,
     pub(crate) drops: Vec<LeftOut>,
 }
 
-/// The map without labels, or the least failure of the rules on them.
-#[derive(PartialEq, Debug, Drop)]
+/// The map without labels, or the failures of the rules on them.
+#[derive(Drop)]
 pub(crate) enum Resolving {
-    Refused(Failure),
+    Refused(Vec<Failure>),
     Resolved(Named),
 }
 
-// The least failure of the rules on labels (1 to 3).
-fn least_failure(
+// The failures of the rules on labels (1 to 3).
+fn naming_failures(
     alloc: Global,
     source: &Level<'_>,
     target: &Level<'_>,
     map: &Map,
-) -> Result<Option<Failure>, AllocError>
-    ensures { IfOk result (λ worst. (from to : ProfileValue) → from.nodes ≡ forest source.now → to.nodes ≡ forest target.now → failures worst ≡ least (spec.naming_failures from to (map_value map.now))) }
+) -> Result<Vec<Failure>, AllocError>
+    ensures { IfOk result (λ found. (from to : ProfileValue) → from.nodes ≡ forest source.now → to.nodes ≡ forest target.now → failures found.items ≡ spec.naming_failures from to (map_value map.now)) }
 {
-    let whole = Some(source);
-    let message = Walked::Whole(whole);
-    let worst = path_failures(alloc, None, &[message], map.items())?;
-    let worst = drops_failures(alloc, worst, message, map.drops())?;
-    Ok(target_failures(worst, map.items(), Some(target), 0))
+    let mut found = Vec::new(alloc);
+    let message = Walked::Whole(Some(source));
+    path_failures(alloc, &mut found, &[message], map.items())?;
+    drops_failures(alloc, &mut found, message, map.drops())?;
+    target_failures(&mut found, map.items(), Some(target), 0)?;
+    Ok(found)
 }
 
 // Looks the labels of a map up in the levels of its profiles.
@@ -57,14 +57,14 @@ fn resolve_in(
 ) -> Result<Resolving, AllocError>
     ensures { IfOk result (ResolvesBy (forest source.now) (forest target.now) (map_value map.now)) }
 {
-    if let Some(failure) = least_failure(alloc, source, target, map)? {
-        return Ok(Resolving::Refused(failure));
+    let found = naming_failures(alloc, source, target, map)?;
+    if found.as_slice().is_empty() {
+        let message = Walked::Whole(Some(source));
+        let items = resolve_items(alloc, &[message], map.items(), Some(target))?;
+        let drops = resolve_drops(alloc, message, map.drops())?;
+        return Ok(Resolving::Resolved(Named { items, drops }));
     }
-    let whole = Some(source);
-    let message = Walked::Whole(whole);
-    let items = resolve_items(alloc, &[message], map.items(), Some(target))?;
-    let drops = resolve_drops(alloc, message, map.drops())?;
-    Ok(Resolving::Resolved(Named { items, drops }))
+    Ok(Resolving::Refused(found))
 }
 
 /// Looks the labels of a map up.

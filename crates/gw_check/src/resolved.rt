@@ -3,28 +3,28 @@
 use gw_maplang::LeafPlace;
 
 /// One of the occurrences that are walked, counted outwards from the innermost, and from there the number of a child, step by step.
-#[derive(PartialEq, Debug, Drop)]
+#[derive(Drop)]
 pub struct Place {
     pub out: usize,
     pub steps: Vec<usize>,
 }
 
 /// A field of the segment at a place.
-#[derive(PartialEq, Debug, Drop)]
+#[derive(Drop)]
 pub struct Reference {
     pub place: Place,
     pub field: u32,
 }
 
 /// A subcomponent: of the first present repetition of a field, or of the repetition that is walked.
-#[derive(PartialEq, Debug, Drop)]
+#[derive(Drop)]
 pub enum Source {
     OfField(Reference, LeafPlace),
     OfCurrent(LeafPlace),
 }
 
 /// A text, the text of a source, or what the table of this name gives for that.
-#[derive(PartialEq, Debug, Drop)]
+#[derive(Drop)]
 pub enum Leaf {
     Const(Vec<u8>),
     Copied(Source),
@@ -32,7 +32,7 @@ pub enum Leaf {
 }
 
 /// The leaf of a component and subcomponent.
-#[derive(PartialEq, Debug, Drop)]
+#[derive(Drop)]
 pub struct At {
     pub line: u32,
     pub place: LeafPlace,
@@ -40,7 +40,7 @@ pub struct At {
 }
 
 /// How a field is made: as another, as its first repetition, a repetition of leaves for each of its own, or one of leaves.
-#[derive(PartialEq, Debug, Drop)]
+#[derive(Drop)]
 pub enum Making {
     Copy(Reference),
     First(Reference),
@@ -49,7 +49,7 @@ pub enum Making {
 }
 
 /// The rule of a target field.
-#[derive(PartialEq, Debug, Drop)]
+#[derive(Drop)]
 pub struct Rule {
     pub line: u32,
     pub field: u32,
@@ -57,7 +57,7 @@ pub struct Rule {
 }
 
 /// A target segment for each occurrence at a place, or one where no place is said.
-#[derive(PartialEq, Debug, Drop)]
+#[derive(Drop)]
 pub struct SegmentItem {
     pub line: u32,
     pub child: usize,
@@ -66,7 +66,7 @@ pub struct SegmentItem {
 }
 
 /// A target group for each occurrence at a place.
-#[derive(PartialEq, Debug, Drop)]
+#[derive(Drop)]
 #[cycle(item)]
 pub struct GroupItem {
     pub line: u32,
@@ -76,7 +76,7 @@ pub struct GroupItem {
 }
 
 /// The occurrences at a place, without a target group.
-#[derive(PartialEq, Debug, Drop)]
+#[derive(Drop)]
 #[cycle(item)]
 pub struct FlatItem {
     pub line: u32,
@@ -84,7 +84,7 @@ pub struct FlatItem {
     pub items: Vec<Item>,
 }
 
-#[derive(PartialEq, Debug, Drop)]
+#[derive(Drop)]
 #[cycle(item)]
 pub enum Item {
     Segment(SegmentItem),
@@ -93,7 +93,7 @@ pub enum Item {
 }
 
 /// A source element that is left out on purpose, or one field of it.
-#[derive(PartialEq, Debug, Drop)]
+#[derive(Drop)]
 pub struct LeftOut {
     pub steps: Vec<usize>,
     pub field: Option<u32>,

@@ -1,7 +1,7 @@
 //! What can stand at a source place, as far as the source's profile says.
 
 /// Whether a text stands there.
-#[derive(Clone, Copy, PartialEq, Eq, Debug, Drop)]
+#[derive(Clone, Copy, Drop)]
 pub enum Presence {
     Always,
     Maybe,
@@ -9,7 +9,7 @@ pub enum Presence {
 }
 
 /// Which texts can stand there, `""` aside.
-#[derive(PartialEq, Debug, Drop)]
+#[derive(Drop)]
 pub enum Values {
     /// Any text, of at most so many octets where a length is known.
     Any(Option<u32>),
@@ -18,7 +18,7 @@ pub enum Values {
 }
 
 /// What can stand at a place.
-#[derive(PartialEq, Debug, Drop)]
+#[derive(Drop)]
 pub struct Shape {
     pub presence: Presence,
     pub values: Values,

@@ -1,22 +1,23 @@
 //! The rule on target labels and the order of items (3).
-ghost use Rattle.std.specs.Prelude.{◌≡◌, ◌++◌, ◌&&◌, ◌||◌, not, nat_lt, Some, slice_get, bytes_eq, unwrap_or, option_map, option_and_then};
+ghost use Rattle.std.specs.Prelude.{◌≡◌, ◌++◌, ◌&&◌, ◌||◌, not, nat_lt, Some, slice_get, bytes_eq, unwrap_or, option_map, option_and_then, IfOk, OnOk};
 ghost use Rattle.std.specs.List.{list_all};
 ghost use Rattle.gw_maplang.specs.declared.item.Item.{EachAs, EachFlat};
 ghost use Rattle.gw_maplang.specs.Seen.{now, with_item, all_items};
 ghost use Rattle.gw_maplang.specs.Shapes.{nothing};
 ghost use Rattle.gw_check.specs.Failures.{fails};
 ghost use Rattle.gw_check.specs.Naming as spec;
-ghost use Rattle.gw_check.specs.Noted.{noted};
+ghost use Rattle.gw_check.specs.Noted.{Notes};
 ghost use Rattle.gw_check.specs.Placed.{is_segment, is_group};
 ghost use Rattle.gw_check.specs.Places as places;
 ghost use Rattle.gw_profile.specs.Labels.{nodes_in};
-ghost use Rattle.gw_check.specs.Seen.{walked as seen, failures};
+ghost use Rattle.gw_check.specs.Seen.{walked as seen};
 
 use crate::failure::{Failure, note};
 use crate::paths::{labelled, same};
 use crate::walked::{Walked, child, nodes_of_child};
 use gw_maplang::{FlatItem, GroupItem, Item};
 use gw_profile::Level;
+use std::alloc::AllocError;
 
 // ---- labels
 
@@ -93,13 +94,6 @@ fn first_or(items: &[Item]) -> &[u8]
 
 // ---- target nodes
 
-// The failures so far, and the number of the node of the last item.
-#[derive(Clone, Copy)]
-struct Reached {
-    worst: Option<Failure>,
-    node: usize,
-}
-
 // The number, j where there is none.
 fn number_or(j: usize, number: Option<usize>) -> usize
     ensures { result ≡ unwrap_or number j }
@@ -157,111 +151,107 @@ fn is_misplaced(fits: bool, j: usize, node: usize) -> bool
 
 // Takes note of what is wrong with the nodes of an item, or of one that comes behind one of a later node.
 fn note_target(
-    worst: Option<Failure>,
+    found: &mut Vec<Failure>,
     line: u32,
     fits: bool,
     j: usize,
     node: usize,
-) -> Option<Failure>
-    ensures { failures result ≡ noted (failures worst) (fails 3 line (not fits) ++ fails 3 line (nat_lt node j)) }
+) -> Result<(), AllocError>
+    ensures { OnOk result (Notes found.old found.new (fails 3 line (not fits) ++ fails 3 line (nat_lt node j))) }
 {
-    note(note(worst, 3, line, !fits), 3, line, node < j)
+    note(found, 3, line, !fits)?;
+    note(found, 3, line, node < j)
 }
 
 fn segment_target(
-    worst: Option<Failure>,
+    found: &mut Vec<Failure>,
     level: Option<&Level<'_>>,
     j: usize,
     line: u32,
     label: &[u8],
-) -> Reached
-    ensures worst { failures result.worst ≡ noted (failures worst) (spec.label_failures (nodes_in level.entry) is_segment j line label.now) }
-    ensures node { result.node ≡ spec.node_or j (nodes_in level.entry) label.now }
+) -> Result<usize, AllocError>
+    ensures failures { OnOk result (Notes found.old found.new (spec.label_failures (nodes_in level.entry) is_segment j line label.now)) }
+    ensures node { IfOk result (λ node. node ≡ spec.node_or j (nodes_in level.entry) label.now) }
 {
     let number = labelled(level, label);
     let node = number_or(j, number);
     let fits = is_segment_at(level, number);
-    Reached {
-        worst: note_target(worst, line, fits, j, node),
-        node,
-    }
+    note_target(found, line, fits, j, node)?;
+    Ok(node)
 }
 
 #[cycle(targets)]
 fn group_target(
-    worst: Option<Failure>,
+    found: &mut Vec<Failure>,
     made: &GroupItem,
     level: Option<&Level<'_>>,
     j: usize,
-) -> Reached
-    ensures worst { failures result.worst ≡ noted (failures worst) (spec.target_failures (nodes_in level.entry) j (with_item (EachAs made.now) nothing)) }
-    ensures node { result.node ≡ spec.node_or j (nodes_in level.entry) made.now.label.items }
+) -> Result<usize, AllocError>
+    ensures failures { OnOk result (Notes found.old found.new (spec.target_failures (nodes_in level.entry) j (with_item (EachAs made.now) nothing))) }
+    ensures node { IfOk result (λ node. node ≡ spec.node_or j (nodes_in level.entry) made.now.label.items) }
 {
     let number = labelled(level, &made.label);
     let node = number_or(j, number);
     let fits = is_group_at(level, number);
     if is_misplaced(fits, j, node) {
-        return Reached {
-            worst: note_target(worst, made.line, fits, j, node),
-            node,
-        };
+        note_target(found, made.line, fits, j, node)?;
+        return Ok(node);
     }
-    Reached {
-        worst: target_failures(worst, &made.items, nodes_of_child(level, node), 0),
-        node,
-    }
+    target_failures(found, &made.items, nodes_of_child(level, node), 0)?;
+    Ok(node)
 }
 
 #[cycle(targets)]
 fn flat_target(
-    worst: Option<Failure>,
+    found: &mut Vec<Failure>,
     made: &FlatItem,
     level: Option<&Level<'_>>,
     j: usize,
-) -> Reached
-    ensures worst { failures result.worst ≡ noted (failures worst) (spec.target_failures (nodes_in level.entry) j (with_item (EachFlat made.now) nothing)) }
-    ensures node { result.node ≡ spec.node_or j (nodes_in level.entry) (spec.first_or (spec.labels (with_item (EachFlat made.now) nothing))) }
+) -> Result<usize, AllocError>
+    ensures failures { OnOk result (Notes found.old found.new (spec.target_failures (nodes_in level.entry) j (with_item (EachFlat made.now) nothing))) }
+    ensures node { IfOk result (λ node. node ≡ spec.node_or j (nodes_in level.entry) (spec.first_or (spec.labels (with_item (EachFlat made.now) nothing)))) }
 {
     let node = node_or(j, level, first_or(&made.items));
     let fits = are_one(&made.items);
     if is_misplaced(fits, j, node) {
-        return Reached {
-            worst: note_target(worst, made.line, fits, j, node),
-            node,
-        };
+        note_target(found, made.line, fits, j, node)?;
+        return Ok(node);
     }
-    Reached {
-        worst: target_failures(worst, &made.items, level, 0),
-        node,
-    }
+    target_failures(found, &made.items, level, 0)?;
+    Ok(node)
 }
 
 #[cycle(targets)]
-fn item_target(worst: Option<Failure>, item: &Item, level: Option<&Level<'_>>, j: usize) -> Reached
-    ensures worst { failures result.worst ≡ noted (failures worst) (spec.target_failures (nodes_in level.entry) j (with_item item.now nothing)) }
-    ensures node { result.node ≡ spec.node_or j (nodes_in level.entry) (spec.first_or (spec.labels (with_item item.now nothing))) }
+fn item_target(
+    found: &mut Vec<Failure>,
+    item: &Item,
+    level: Option<&Level<'_>>,
+    j: usize,
+) -> Result<usize, AllocError>
+    ensures failures { OnOk result (Notes found.old found.new (spec.target_failures (nodes_in level.entry) j (with_item item.now nothing))) }
+    ensures node { IfOk result (λ node. node ≡ spec.node_or j (nodes_in level.entry) (spec.first_or (spec.labels (with_item item.now nothing)))) }
 {
     match item {
-        Item::SegFrom(made) => segment_target(worst, level, j, made.line, &made.label),
-        Item::SegAlways(made) => segment_target(worst, level, j, made.line, &made.label),
-        Item::EachAs(made) => group_target(worst, made, level, j),
-        Item::EachFlat(made) => flat_target(worst, made, level, j),
+        Item::SegFrom(made) => segment_target(found, level, j, made.line, &made.label),
+        Item::SegAlways(made) => segment_target(found, level, j, made.line, &made.label),
+        Item::EachAs(made) => group_target(found, made, level, j),
+        Item::EachFlat(made) => flat_target(found, made, level, j),
     }
 }
 
 /// The failures of the target labels of items behind one of node j.
 #[cycle(targets)]
 pub(crate) fn target_failures(
-    worst: Option<Failure>,
+    found: &mut Vec<Failure>,
     items: &[Item],
     level: Option<&Level<'_>>,
     j: usize,
-) -> Option<Failure>
-    ensures { failures result ≡ noted (failures worst) (spec.target_failures (nodes_in level.entry) j (all_items items.now)) }
+) -> Result<(), AllocError>
+    ensures { OnOk result (Notes found.old found.new (spec.target_failures (nodes_in level.entry) j (all_items items.now))) }
 {
-    let mut reached = Reached { worst, node: j };
+    let mut node = j;
     for (i, item) in items.iter().enumerate() {
-        reached = item_target(reached.worst, item, level, reached.node);
+        node = item_target(found, item, level, node)?;
     }
-    reached.worst
+    Ok(())
 }

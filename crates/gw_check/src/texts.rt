@@ -53,7 +53,12 @@ fn is_short(len: Option<u32>, text: &[u8]) -> bool
 fn is_one_of(text: &[u8], all: &[Vec<u8>]) -> bool
     ensures { result ≡ list_any (λ v. bytes_eq text.now v.items) all.now }
 {
-    all.iter().any(|other| text == other.as_slice())
+    for (i, other) in all.iter().enumerate() {
+        if text == other.as_slice() {
+            return true;
+        }
+    }
+    false
 }
 
 // Whether the text fails the test.
@@ -120,8 +125,12 @@ fn some_short_unlisted(table: &Table, len: Option<u32>, all: &[Vec<u8>]) -> bool
 fn some_short_fails_alone(test: Test<'_>, len: Option<u32>, all: &[Vec<u8>]) -> bool
     ensures { result ≡ list_any (λ v. spec.is_short octets len v.items && test_value test.entry v.items) all.now }
 {
-    all.iter()
-        .any(|text| is_short(len, text) && fails(test, text))
+    for (i, text) in all.iter().enumerate() {
+        if is_short(len, text) && fails(test, text) {
+            return true;
+        }
+    }
+    false
 }
 
 // Whether one of the texts that aren't longer fails the test.
@@ -139,7 +148,12 @@ fn some_short_fails(test: Test<'_>, len: Option<u32>, all: &[Vec<u8>]) -> bool
 fn some_given_fails(test: Test<'_>, table: Option<&Rows>, len: Option<u32>, all: &[Vec<u8>]) -> bool
     ensures { result ≡ list_any (λ v. spec.is_short octets len v.items && fails_some (test_value test.entry) (spec.given (rows_value table.entry) v.items)) all.now }
 {
-    all.iter().any(|text| is_short(len, text) && fails_some(test, given(table, text)))
+    for (i, text) in all.iter().enumerate() {
+        if is_short(len, text) && fails_some(test, given(table, text)) {
+            return true;
+        }
+    }
+    false
 }
 
 // Whether a second value of the rows fails the test.
@@ -281,8 +295,12 @@ fn is_there(text: Option<&[u8]>) -> bool
 fn some_unrowed(table: Option<&Rows>, len: Option<u32>, all: &[Vec<u8>]) -> bool
     ensures { result ≡ list_any (λ v. spec.is_short octets len v.items && not (is_there (second_of v.items (rows_value table.entry).rows))) all.now }
 {
-    all.iter()
-        .any(|text| is_short(len, text) && !has_row(table, text))
+    for (i, text) in all.iter().enumerate() {
+        if is_short(len, text) && !has_row(table, text) {
+            return true;
+        }
+    }
+    false
 }
 
 /// Whether a text of the source has no row, as far as is known.

@@ -1,13 +1,12 @@
 //! The rules on what can stand at one place: usage, table and length.
-ghost use Rattle.std.specs.Prelude.{◌≡◌, ◌&&◌, not};
+ghost use Rattle.std.specs.Prelude.{◌≡◌, ◌&&◌, not, OnOk};
 ghost use Rattle.gw_profile.specs.Seen.{sub as sub_value, profile_value};
 ghost use Rattle.gw_profile.specs.Lengths.{octets};
 ghost use Rattle.gw_validate.specs.Breaches.{is_required, is_forbidden};
 ghost use Rattle.gw_check.specs.Failures.{fails};
 ghost use Rattle.gw_check.specs.Fields as spec;
 ghost use Rattle.gw_check.specs.Leaves as leaves_spec;
-ghost use Rattle.gw_check.specs.Noted.{noted};
-ghost use Rattle.gw_check.specs.Seen.{failures};
+ghost use Rattle.gw_check.specs.Noted.{Notes};
 ghost use Rattle.gw_check.specs.Texts.{texts_value};
 
 use crate::failure::{Failure, note};
@@ -16,6 +15,7 @@ use crate::presence::{is_absent, is_always};
 use crate::shape::Presence;
 use crate::texts::{Texts, may_be_long, may_be_unlisted};
 use gw_profile::{Profile, SubShape, Usage};
+use std::alloc::AllocError;
 
 pub(crate) fn is_required(usage: Usage) -> bool
     ensures { result ≡ is_required usage }
@@ -37,49 +37,49 @@ pub(crate) fn is_forbidden(usage: Usage) -> bool
 
 /// Something required isn't always there.
 pub(crate) fn check_required(
-    worst: Option<Failure>,
+    found: &mut Vec<Failure>,
     line: u32,
     usage: Usage,
     presence: Presence,
-) -> Option<Failure>
-    ensures { failures result ≡ noted (failures worst) (fails 5 line (is_required usage && not (leaves_spec.is_always presence))) }
+) -> Result<(), AllocError>
+    ensures { OnOk result (Notes found.old found.new (fails 5 line (is_required usage && not (leaves_spec.is_always presence)))) }
 {
     if !is_required(usage) {
-        return worst;
+        return Ok(());
     }
-    note(worst, 5, line, !is_always(presence))
+    note(found, 5, line, !is_always(presence))
 }
 
 /// Something forbidden may be there.
 pub(crate) fn check_forbidden(
-    worst: Option<Failure>,
+    found: &mut Vec<Failure>,
     line: u32,
     usage: Usage,
     presence: Presence,
-) -> Option<Failure>
-    ensures { failures result ≡ noted (failures worst) (fails 11 line (is_forbidden usage && not (leaves_spec.is_absent presence))) }
+) -> Result<(), AllocError>
+    ensures { OnOk result (Notes found.old found.new (fails 11 line (is_forbidden usage && not (leaves_spec.is_absent presence)))) }
 {
     if !is_forbidden(usage) {
-        return worst;
+        return Ok(());
     }
-    note(worst, 11, line, !is_absent(presence))
+    note(found, 11, line, !is_absent(presence))
 }
 
 fn check_table(
-    worst: Option<Failure>,
+    found: &mut Vec<Failure>,
     target: &Profile,
     line: u32,
     presence: Presence,
     texts: Texts<'_>,
     sub: &SubShape,
-) -> Option<Failure>
-    ensures { failures result ≡ noted (failures worst) (fails 6 line (not (leaves_spec.is_absent presence) && leaves_spec.may_be_unlisted (texts_value texts.entry) (spec.table_values target.now.tables (sub_value sub.now)))) }
+) -> Result<(), AllocError>
+    ensures { OnOk result (Notes found.old found.new (fails 6 line (not (leaves_spec.is_absent presence) && leaves_spec.may_be_unlisted (texts_value texts.entry) (spec.table_values target.now.tables (sub_value sub.now))))) }
 {
     if is_absent(presence) {
-        return worst;
+        return Ok(());
     }
     note(
-        worst,
+        found,
         6,
         line,
         may_be_unlisted(texts, table_of(target, sub)),
@@ -87,32 +87,31 @@ fn check_table(
 }
 
 fn check_length(
-    worst: Option<Failure>,
+    found: &mut Vec<Failure>,
     line: u32,
     presence: Presence,
     texts: Texts<'_>,
     sub: &SubShape,
-) -> Option<Failure>
-    ensures { failures result ≡ noted (failures worst) (fails 7 line (not (leaves_spec.is_absent presence) && leaves_spec.may_be_long octets (texts_value texts.entry) sub.now.len)) }
+) -> Result<(), AllocError>
+    ensures { OnOk result (Notes found.old found.new (fails 7 line (not (leaves_spec.is_absent presence) && leaves_spec.may_be_long octets (texts_value texts.entry) sub.now.len))) }
 {
     if is_absent(presence) {
-        return worst;
+        return Ok(());
     }
-    note(worst, 7, line, may_be_long(texts, sub.len))
+    note(found, 7, line, may_be_long(texts, sub.len))
 }
 
 /// What can stand there has another value than its table's, or is too long.
-#[tactic(auto, using(crate::proofs::Noting::noted_both))]
 pub(crate) fn check_values(
-    worst: Option<Failure>,
+    found: &mut Vec<Failure>,
     target: &Profile,
     line: u32,
     presence: Presence,
     texts: Texts<'_>,
     sub: &SubShape,
-) -> Option<Failure>
-    ensures { failures result ≡ noted (failures worst) (spec.value_failures (profile_value target.now) line (record { presence = presence; values = texts_value texts.entry }) (sub_value sub.now)) }
+) -> Result<(), AllocError>
+    ensures { OnOk result (Notes found.old found.new (spec.value_failures (profile_value target.now) line (record { presence = presence; values = texts_value texts.entry }) (sub_value sub.now))) }
 {
-    let worst = check_table(worst, target, line, presence, texts, sub);
-    check_length(worst, line, presence, texts, sub)
+    check_table(found, target, line, presence, texts, sub)?;
+    check_length(found, line, presence, texts, sub)
 }

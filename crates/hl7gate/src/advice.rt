@@ -1,6 +1,8 @@
 //! What a person needs of a map that a rule refuses: the file and its line, what the rule demands, and what to do.
-use gw_check::FieldAt;
+use gw_check::{Failure, FieldAt};
 use gw_profile::{Node, Profile};
+use std::alloc::{AllocError, Global};
+use std::collections::BTreeSet;
 use std::io::Write;
 use std::sync::Arc;
 
@@ -16,6 +18,8 @@ pub(crate) struct Refusal<'a> {
     pub(crate) source: Arc<Profile>,
     /// The fields that the map passes over, where rule 9 refuses it.
     pub(crate) unread: Vec<FieldAt>,
+    /// All failures of the map.
+    pub(crate) failures: Vec<Failure>,
 }
 
 /// What a rule demands, and what to do.
@@ -111,8 +115,34 @@ fn tell_field<E: Write>(errors: &mut E, nodes: &[Node], field: &FieldAt) {
 }
 
 impl Refusal<'_> {
-    /// Tells the file with its line, what the rule demands, and each field that is passed over.
-    pub(crate) fn tell<E: Write>(&self, errors: &mut E) {
+    /// The rules that fail as well, by their lines, each once at one line.
+    fn others(&self, alloc: Global) -> Result<BTreeSet<(u32, u8)>, AllocError> {
+        let mut others = BTreeSet::new(alloc);
+        for failure in &self.failures {
+            if failure.rule != self.rule || failure.line != self.line {
+                others.insert((failure.line, failure.rule))?;
+            }
+        }
+        Ok(others)
+    }
+
+    /// Tells how many more rules fail, and each in a line of its own.
+    fn tell_others<E: Write>(&self, alloc: Global, errors: &mut E) -> Result<(), AllocError> {
+        let others = self.others(alloc)?;
+        if others.is_empty() {
+            return Ok(());
+        }
+        let path = self.path;
+        let more = others.len();
+        let _ = writeln!(errors, "and {more} more:");
+        for (line, rule) in &others {
+            let _ = writeln!(errors, "{path}:{line}: K{rule}");
+        }
+        Ok(())
+    }
+
+    /// Tells the file with its line, what the rule demands, each field that is passed over, and what fails as well.
+    pub(crate) fn tell<E: Write>(&self, alloc: Global, errors: &mut E) -> Result<(), AllocError> {
         let Refusal { path, line, .. } = self;
         let _ = write!(errors, "{path}:{line}: ");
         let _ = errors.write_all(line_at(&self.text, self.line));
@@ -121,5 +151,6 @@ impl Refusal<'_> {
         for field in &self.unread {
             tell_field(errors, self.source.nodes(), field);
         }
+        self.tell_others(alloc, errors)
     }
 }

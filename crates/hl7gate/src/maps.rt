@@ -9,7 +9,7 @@ use crate::expected;
 use crate::files::{read_all, read_text};
 use crate::report::write_all;
 use clap::ArgMatches;
-use gw_check::{CheckFault, CheckedMap, FieldAt, unread};
+use gw_check::{CheckFault, CheckedMap, FieldAt, failures, unread};
 use gw_maplang::Map;
 use gw_profile::Profile;
 use gw_run::RunFault;
@@ -91,6 +91,7 @@ fn read_checked<'a, R: Files + AllocGlobal>(
         Err(CheckFault::Memory(_)) => Err(Ended::Run(RunFault::Memory)),
         Err(CheckFault::Rule { rule, line, map }) => {
             let unread = passed_over(rt.alloc(), rule, &source, &target, &map)?;
+            let failures = failures(rt.alloc(), &source, &target, &map)?;
             Ok(Checked::Refused(Refusal {
                 path,
                 rule,
@@ -98,6 +99,7 @@ fn read_checked<'a, R: Files + AllocGlobal>(
                 text,
                 source,
                 unread,
+                failures,
             }))
         }
     }
@@ -119,7 +121,7 @@ pub(crate) fn check<'a, R: Files + AllocGlobal, O: Write, E: Write>(
             let Refusal { rule, line, .. } = &refusal;
             let said = format!(in rt.alloc(); "refused K{rule} line {line}\n")?;
             write_all(output, said.as_bytes())?;
-            refusal.tell(errors);
+            refusal.tell(rt.alloc(), errors)?;
             Ok(false)
         }
     }
@@ -175,7 +177,7 @@ pub(crate) fn translate<'a, R: Files + AllocGlobal, I: Read + Drop, O: Write, E:
         Checked::Refused(refusal) => {
             let Refusal { rule, line, .. } = &refusal;
             let _ = writeln!(errors, "refused K{rule} line {line}");
-            refusal.tell(errors);
+            refusal.tell(rt.alloc(), errors)?;
             Ok(false)
         }
     }

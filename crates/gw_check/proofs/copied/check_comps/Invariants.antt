@@ -1,13 +1,12 @@
-use Rattle.std.proofs.Common.{◌≡◌, map, drop}
+use Rattle.std.proofs.Common.{◌≡◌, ◌++◌, map, drop}
 use Rattle.std.specs.Prelude.{flat_map}
 use Rattle.gw_profile.specs.Seen.{comp, profile_value}
 use Rattle.gw_check.specs.Fields.{copied_comp}
-use Rattle.gw_check.specs.Noted.{noted}
 use Rattle.gw_check.specs.Reading.{some_field}
 use Rattle.gw_check.specs.Seen.{failures}
 use Rattle.gw_check.proofs.copied.check_comps.Given as goal
 
 abbrev pub invariant-loop-i : goal.invariant-loop-i
 invariant-loop-i l =
-    noted (failures l.fn.worst) (flat_map (copied_comp (profile_value l.source) (profile_value l.target) l.line (some_field l.from)) (map comp l.comps))
-    ≡ noted (failures l.worst) (flat_map (copied_comp (profile_value l.source) (profile_value l.target) l.line (some_field l.from)) (map comp (drop l.i l.comps)))
+    failures l.initial.found.items ++ (flat_map (copied_comp (profile_value l.source) (profile_value l.target) l.line (some_field l.from)) (map comp l.comps))
+    ≡ failures l.found.items ++ (flat_map (copied_comp (profile_value l.source) (profile_value l.target) l.line (some_field l.from)) (map comp (drop l.i l.comps)))

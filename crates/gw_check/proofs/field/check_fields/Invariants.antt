@@ -1,13 +1,12 @@
-use Rattle.std.proofs.Common.{◌≡◌, map, drop}
+use Rattle.std.proofs.Common.{◌≡◌, ◌++◌, map, drop}
 use Rattle.std.specs.Prelude.{flat_map}
 use Rattle.gw_profile.specs.Seen.{field, profile_value}
 use Rattle.gw_check.specs.Fields.{field_failures}
 use Rattle.gw_check.specs.Reading.{sources_value, map_tables}
 use Rattle.gw_check.specs.Seen.{failures, rule}
-use Rattle.gw_check.specs.Noted.{noted}
 use Rattle.gw_check.proofs.field.check_fields.Given as goal
 
 abbrev pub invariant-loop-i : goal.invariant-loop-i
 invariant-loop-i l =
-    noted (failures l.fn.worst) (flat_map (field_failures (sources_value l.sources) (profile_value l.target) l.holder (map (rule (map_tables l.sources)) l.rules)) (map field l.fields))
-    ≡ noted (failures l.worst) (flat_map (field_failures (sources_value l.sources) (profile_value l.target) l.holder (map (rule (map_tables l.sources)) l.rules)) (map field (drop l.i l.fields)))
+    failures l.initial.found.items ++ (flat_map (field_failures (sources_value l.sources) (profile_value l.target) l.holder (map (rule (map_tables l.sources)) l.rules)) (map field l.fields))
+    ≡ failures l.found.items ++ (flat_map (field_failures (sources_value l.sources) (profile_value l.target) l.holder (map (rule (map_tables l.sources)) l.rules)) (map field (drop l.i l.fields)))

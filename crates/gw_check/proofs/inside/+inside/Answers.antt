@@ -1,14 +1,15 @@
-use Rattle.std.proofs.Common.{rules, ◌<◌, ◌≤◌, sym, ap, subst, ◌∙◌}
+use Rattle.std.proofs.Common.{rules, ◌<◌, ◌≤◌, sym, ap, ◌∙◌}
 use Rattle.gw_profile.specs.Seen.{forest, profile_value}
-use Rattle.gw_check.specs.Seen.{scope}
-use Rattle.gw_check.specs.Checking.{CountedNodes, weight_one, weight_all}
-use Rattle.gw_check.proofs.Within.{counted_child, items_more, group_noted, flat_noted, lighter_group, lighter_flat, not_heavier, where_ok, level_same}
+use Rattle.gw_check.specs.Seen.{failures, scope}
+use Rattle.gw_check.specs.Checking.{weight_one, weight_all}
+use Rattle.gw_check.proofs.Collecting.{on_ok}
+use Rattle.gw_check.proofs.Within.{items_more, group_noted, flat_noted, lighter_group, lighter_flat, not_heavier, level_same}
 use Rattle.gw_check.proofs.inside.+inside.Goals as goal
 
 pub check_items-loop-i-preserved : goal.check_items-loop-i-preserved
-check_items-loop-i-preserved t c = λ counted.
+check_items-loop-i-preserved t c =
     items_more c.args.sides.map.now.tables (profile_value c.args.sides.source.now) (profile_value c.args.sides.target.now) (scope c.args.scope.now) (forest c.args.nodes.now) c.args.items.now c.loop-i.i c.index-items-i.result
-    c.args.worst c.loop-i.worst c.in_ok-worst.worst c.loop-i-test.true c.index-items-i.is (c.in_ok-worst.ensures counted) (c.loop-i.invariant counted)
+    (failures c.args.found.now.items) c.loop-i.found c.check_item.new.found c.loop-i-test.true c.index-items-i.is c.in_ok-check_item.ensures c.loop-i.invariant
 
 pub check_item-check_items-requires : goal.check_item-check_items-requires
 check_item-check_items-requires t c =
@@ -25,21 +26,19 @@ check_items-check_item-requires t c =
     let smaller : weight_one c.index-items-i.result ≤ weight_all c.args.items.now = not_heavier c.args.items.now c.loop-i.i c.index-items-i.result c.loop-i-test.true c.index-items-i.is in
     search rules
 
-pub check_item-returns-in_ok-worst-in-Group : goal.check_item-returns-in_ok-worst-in-Group
-check_item-returns-in_ok-worst-in-Group t c =
+pub check_item-returns-in_ok-check_level-in-Group : goal.check_item-returns-in_ok-check_level-in-Group
+check_item-returns-in_ok-check_level-in-Group t c =
+    let tables = c.args.sides.map.now.tables in
     let inner = scope c.deref-in-Group-2.result.now in
-    where_ok _ _ c.check_items.result
-    (λ new inside counted.
-    let below = subst CountedNodes (sym c.nodes_of_child-below.ensures) (counted_child (forest c.args.nodes.now) c.in-Group.group.child counted) in
-    group_noted c.args.sides.map.now.tables (profile_value c.args.sides.source.now) (profile_value c.args.sides.target.now) (scope c.args.scope.now) inner (forest c.args.nodes.now) (forest c.nodes_of_child-below.result.now) c.args.item.now c.in-Group.group c.deref-in-Group-3.result.now
-    c.args.worst c.in_ok-worst-in-Group.worst new c.in-Group.is c.deref-in-Group-3.ensures.value (ap scope c.deref-in-Group-2.ensures.value ∙ c.in_ok-inner-in-Group.ensures) c.nodes_of_child-below.ensures
-    (level_same c.deref.result.now c.deref-in-Group-2.result.now c.deref-in-Group.result.now c.deref-in-Group-3.result.now (c.deref.ensures.value ∙ sym c.deref-in-Group-2.ensures.value) (c.deref-in-Group.ensures.value ∙ sym c.deref-in-Group-3.ensures.value) c.in-Group.group.line (forest c.nodes_of_child-below.result.now) c.args.worst c.in_ok-worst-in-Group.worst (c.in_ok-worst-in-Group.ensures below)) (inside below))
+    on_ok c.check_items.result _ _
+    (group_noted tables (profile_value c.args.sides.source.now) (profile_value c.args.sides.target.now) (scope c.args.scope.now) inner (forest c.args.nodes.now) (forest c.nodes_of_child-below.result.now) c.args.item.now c.in-Group.group c.deref-in-Group-3.result.now
+    c.args.found.now c.check_level.new.found c.check_items.new.found c.in-Group.is c.deref-in-Group-3.ensures.value (ap scope c.deref-in-Group-2.ensures.value ∙ c.in_ok-inner-in-Group.ensures) c.nodes_of_child-below.ensures
+    (level_same c.deref.result.now c.deref-in-Group-2.result.now c.deref-in-Group.result.now c.deref-in-Group-3.result.now (c.deref.ensures.value ∙ sym c.deref-in-Group-2.ensures.value) (c.deref-in-Group.ensures.value ∙ sym c.deref-in-Group-3.ensures.value) tables c.in-Group.group.line (forest c.nodes_of_child-below.result.now) c.args.found.now c.check_level.new.found (c.in_ok-check_level-in-Group.ensures tables)))
     c.check_items.ensures
 
 pub check_item-returns-in_ok-inner-in-Flat : goal.check_item-returns-in_ok-inner-in-Flat
 check_item-returns-in_ok-inner-in-Flat t c =
-    where_ok _ _ c.check_items-in-Flat.result
-    (λ new inside counted.
-    flat_noted c.args.sides.map.now.tables (profile_value c.args.sides.source.now) (profile_value c.args.sides.target.now) (scope c.args.scope.now) (scope c.deref-in-Flat.result.now) (forest c.args.nodes.now) c.args.item.now c.in-Flat.flat c.deref-in-Flat-2.result.now
-    c.args.worst new c.in-Flat.is c.deref-in-Flat-2.ensures.value (ap scope c.deref-in-Flat.ensures.value ∙ c.in_ok-inner-in-Flat.ensures) (inside counted))
+    on_ok c.check_items-in-Flat.result _ _
+    (flat_noted c.args.sides.map.now.tables (profile_value c.args.sides.source.now) (profile_value c.args.sides.target.now) (scope c.args.scope.now) (scope c.deref-in-Flat.result.now) (forest c.args.nodes.now) c.args.item.now c.in-Flat.flat c.deref-in-Flat-2.result.now
+    c.args.found.now c.check_items-in-Flat.new.found c.in-Flat.is c.deref-in-Flat-2.ensures.value (ap scope c.deref-in-Flat.ensures.value ∙ c.in_ok-inner-in-Flat.ensures))
     c.check_items-in-Flat.ensures

@@ -1,8 +1,7 @@
-use Rattle.std.proofs.Common.{◌≡◌, ◌+◌, ◌*◌, drop}
+use Rattle.std.proofs.Common.{◌≡◌, ◌++◌, ◌+◌, ◌*◌, drop}
 use Rattle.gw_profile.specs.Seen.{forest, profile_value}
 use Rattle.gw_check.specs.Levels.{items_failures}
-use Rattle.gw_check.specs.Noted.{noted}
-use Rattle.gw_check.specs.Checking.{CountedNodes, weight_one, weight_all}
+use Rattle.gw_check.specs.Checking.{weight_one, weight_all}
 use Rattle.gw_check.specs.Seen.{failures, scope, all_items}
 use Rattle.gw_check.proofs.inside.+inside.Given as goal
 
@@ -14,5 +13,5 @@ decreases-check_items l = 2 * weight_all l.items.now + 1
 
 abbrev pub invariant-check_items-loop-i : goal.invariant-check_items-loop-i
 invariant-check_items-loop-i l =
-    CountedNodes (forest l.nodes) → noted (failures l.initial.worst) (items_failures (profile_value l.sides.source.now) (profile_value l.sides.target.now) (scope l.scope) (forest l.nodes) (all_items l.sides.map.now.tables l.items))
-    ≡ noted (failures l.worst) (items_failures (profile_value l.sides.source.now) (profile_value l.sides.target.now) (scope l.scope) (forest l.nodes) (all_items l.sides.map.now.tables (drop l.i l.items)))
+    failures l.initial.found.items ++ (items_failures (profile_value l.sides.source.now) (profile_value l.sides.target.now) (scope l.scope) (forest l.nodes) (all_items l.sides.map.now.tables l.items))
+    ≡ failures l.found.items ++ (items_failures (profile_value l.sides.source.now) (profile_value l.sides.target.now) (scope l.scope) (forest l.nodes) (all_items l.sides.map.now.tables (drop l.i l.items)))

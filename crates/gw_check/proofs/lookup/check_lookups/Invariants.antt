@@ -1,12 +1,11 @@
-use Rattle.std.proofs.Common.{◌≡◌, map, drop}
+use Rattle.std.proofs.Common.{◌≡◌, ◌++◌, map, drop}
 use Rattle.std.specs.Prelude.{flat_map}
 use Rattle.gw_check.specs.Fields.{lookup_failures}
 use Rattle.gw_check.specs.Reading.{sources_value, map_tables}
 use Rattle.gw_check.specs.Seen.{failures, at_leaf}
-use Rattle.gw_check.specs.Noted.{noted}
 use Rattle.gw_check.proofs.lookup.check_lookups.Given as goal
 
 abbrev pub invariant-loop-i : goal.invariant-loop-i
 invariant-loop-i l =
-    noted (failures l.fn.worst) (flat_map (lookup_failures (sources_value l.sources)) (map (at_leaf (map_tables l.sources)) l.leaves))
-    ≡ noted (failures l.worst) (flat_map (lookup_failures (sources_value l.sources)) (map (at_leaf (map_tables l.sources)) (drop l.i l.leaves)))
+    failures l.initial.found.items ++ (flat_map (lookup_failures (sources_value l.sources)) (map (at_leaf (map_tables l.sources)) l.leaves))
+    ≡ failures l.found.items ++ (flat_map (lookup_failures (sources_value l.sources)) (map (at_leaf (map_tables l.sources)) (drop l.i l.leaves)))

@@ -1,12 +1,11 @@
-use Rattle.std.proofs.Common.{◌≡◌, map, drop}
+use Rattle.std.proofs.Common.{◌≡◌, ◌++◌, map, drop}
 use Rattle.std.specs.Prelude.{flat_map}
 use Rattle.gw_check.specs.Fields.{rule_lookups}
 use Rattle.gw_check.specs.Reading.{sources_value, map_tables}
 use Rattle.gw_check.specs.Seen.{failures, rule}
-use Rattle.gw_check.specs.Noted.{noted}
 use Rattle.gw_check.proofs.lookup.check_rules.Given as goal
 
 abbrev pub invariant-loop-i : goal.invariant-loop-i
 invariant-loop-i l =
-    noted (failures l.fn.worst) (flat_map (rule_lookups (sources_value l.sources)) (map (rule (map_tables l.sources)) l.rules))
-    ≡ noted (failures l.worst) (flat_map (rule_lookups (sources_value l.sources)) (map (rule (map_tables l.sources)) (drop l.i l.rules)))
+    failures l.initial.found.items ++ (flat_map (rule_lookups (sources_value l.sources)) (map (rule (map_tables l.sources)) l.rules))
+    ≡ failures l.found.items ++ (flat_map (rule_lookups (sources_value l.sources)) (map (rule (map_tables l.sources)) (drop l.i l.rules)))

@@ -1,13 +1,12 @@
-use Rattle.std.proofs.Common.{◌≡◌, map, drop}
+use Rattle.std.proofs.Common.{◌≡◌, ◌++◌, map, drop}
 use Rattle.std.specs.Prelude.{flat_map}
 use Rattle.gw_profile.specs.Seen.{field, profile_value}
 use Rattle.gw_check.specs.Fields.{made_leaf}
 use Rattle.gw_check.specs.Reading.{sources_value, map_tables}
 use Rattle.gw_check.specs.Seen.{failures, at_leaf}
-use Rattle.gw_check.specs.Noted.{noted}
 use Rattle.gw_check.proofs.made.check_leaves.Given as goal
 
 abbrev pub invariant-loop-i : goal.invariant-loop-i
 invariant-loop-i l =
-    noted (failures l.fn.worst) (flat_map (made_leaf (sources_value l.sources) (profile_value l.target) (field l.field)) (map (at_leaf (map_tables l.sources)) l.leaves))
-    ≡ noted (failures l.worst) (flat_map (made_leaf (sources_value l.sources) (profile_value l.target) (field l.field)) (map (at_leaf (map_tables l.sources)) (drop l.i l.leaves)))
+    failures l.initial.found.items ++ (flat_map (made_leaf (sources_value l.sources) (profile_value l.target) (field l.field)) (map (at_leaf (map_tables l.sources)) l.leaves))
+    ≡ failures l.found.items ++ (flat_map (made_leaf (sources_value l.sources) (profile_value l.target) (field l.field)) (map (at_leaf (map_tables l.sources)) (drop l.i l.leaves)))

@@ -1,13 +1,11 @@
-use Rattle.std.proofs.Common.{◌≡◌, map, drop}
+use Rattle.std.proofs.Common.{◌≡◌, ◌++◌, drop, map}
 use Rattle.std.specs.Prelude.{flat_map}
 use Rattle.gw_profile.specs.Seen.{sub}
-use Rattle.gw_check.specs.Fields.{made_sub}
-use Rattle.gw_check.specs.Reading.{sources_value, map_tables}
-use Rattle.gw_check.specs.Seen.{failures, at_leaf}
-use Rattle.gw_check.specs.Noted.{noted}
+use Rattle.gw_check.specs.Lacking.{there_value, sub_lacks}
+use Rattle.gw_check.specs.Seen.{failures}
 use Rattle.gw_check.proofs.made.check_subs.Given as goal
 
 abbrev pub invariant-loop-i : goal.invariant-loop-i
 invariant-loop-i l =
-    noted (failures l.fn.worst) (flat_map (made_sub (sources_value l.sources) l.line (map (at_leaf (map_tables l.sources)) l.leaves) l.comp) (map sub l.subs))
-    ≡ noted (failures l.worst) (flat_map (made_sub (sources_value l.sources) l.line (map (at_leaf (map_tables l.sources)) l.leaves) l.comp) (map sub (drop l.i l.subs)))
+    failures l.initial.found.items ++ flat_map (sub_lacks l.line (map there_value l.leaves) l.comp) (map sub l.subs)
+    ≡ failures l.found.items ++ flat_map (sub_lacks l.line (map there_value l.leaves) l.comp) (map sub (drop l.i l.subs))

@@ -1,0 +1,9 @@
+use Rattle.std.proofs.Common.{◌≡◌, drop, map}
+use Rattle.gw_check.specs.Counts as spec
+use Rattle.gw_check.specs.Reading.{sources_value, map_tables}
+use Rattle.gw_check.specs.Seen.{at_leaf}
+use Rattle.gw_check.proofs.count.all_absent.Given as goal
+
+abbrev pub invariant-loop-i : goal.invariant-loop-i
+invariant-loop-i l =
+    spec.all_absent (sources_value l.sources) (map (at_leaf (map_tables l.sources)) l.leaves) ≡ spec.all_absent (sources_value l.sources) (map (at_leaf (map_tables l.sources)) (drop l.i l.leaves))

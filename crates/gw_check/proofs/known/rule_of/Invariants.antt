@@ -1,0 +1,8 @@
+use Rattle.std.proofs.Common.{◌≡◌, drop, map, List}
+use Rattle.gw_maplang.specs.Shapes.{TableValue}
+use Rattle.gw_check.specs.Resolved as resolved
+use Rattle.gw_check.specs.Seen.{rule}
+use Rattle.gw_check.proofs.known.rule_of.Given as goal
+
+abbrev pub invariant-loop-i : goal.invariant-loop-i
+invariant-loop-i l = (tables : List TableValue) → resolved.rule_of (map (rule tables) l.rules) l.number ≡ resolved.rule_of (map (rule tables) (drop l.i l.rules)) l.number

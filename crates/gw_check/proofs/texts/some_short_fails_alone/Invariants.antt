@@ -1,0 +1,10 @@
+use Rattle.std.proofs.Common.{◌≡◌, drop}
+use Rattle.std.specs.Prelude.{◌&&◌}
+use Rattle.std.specs.List.{list_any}
+use Rattle.gw_profile.specs.Lengths.{octets}
+use Rattle.gw_check.specs.Leaves.{is_short}
+use Rattle.gw_check.specs.Texts.{test_value}
+use Rattle.gw_check.proofs.texts.some_short_fails_alone.Given as goal
+
+abbrev pub invariant-loop-i : goal.invariant-loop-i
+invariant-loop-i l = list_any (λ v. is_short octets l.len v.items && test_value l.test v.items) l.all ≡ list_any (λ v. is_short octets l.len v.items && test_value l.test v.items) (drop l.i l.all)

@@ -1,0 +1,75 @@
+//! The rules on how often a field, a segment or a group comes.
+ghost use Rattle.std.specs.Prelude.{◌≡◌, ◌&&◌, not, OnOk};
+ghost use Rattle.gw_validate.specs.Breaches.{is_forbidden};
+ghost use Rattle.gw_check.specs.Fields.{is_expected, often_failures};
+ghost use Rattle.gw_check.specs.Intervals as intervals;
+ghost use Rattle.gw_check.specs.Noted.{Notes};
+ghost use Rattle.gw_check.specs.Seen.{interval, saturated};
+
+use crate::failure::{Failure, note};
+use crate::interval::Interval;
+use crate::values::is_forbidden;
+use gw_profile::{Card, Usage};
+use std::alloc::AllocError;
+
+/// What a target asks of how often something comes, and where that is told.
+#[derive(Clone, Copy)]
+pub(crate) struct Asked {
+    /// The line of what should hold it, where it is missing.
+    pub(crate) holder: u32,
+    /// The line of what gives it.
+    pub(crate) line: u32,
+    pub(crate) usage: Usage,
+    pub(crate) card: Card,
+    /// Nothing gives it.
+    pub(crate) is_missing: bool,
+}
+
+fn is_expected(usage: Usage) -> bool
+    ensures { result ≡ is_expected usage }
+{
+    match usage {
+        Usage::RE => true,
+        _ => false,
+    }
+}
+
+// More often than it may.
+fn is_too_often(asked: Asked, count: Interval) -> bool
+    ensures { result ≡ (not (is_forbidden asked.usage) && not (intervals.is_within (interval count).greatest asked.card.max)) }
+{
+    !is_forbidden(asked.usage) && !count.is_within(asked.card.max)
+}
+
+// Forbidden, and it comes.
+fn is_unwanted(asked: Asked, count: Interval) -> bool
+    ensures { result ≡ (is_forbidden asked.usage && not (intervals.is_never (interval count).greatest)) }
+{
+    is_forbidden(asked.usage) && !count.is_never()
+}
+
+fn check_capped(found: &mut Vec<Failure>, asked: Asked, count: Interval) -> Result<(), AllocError>
+    ensures { OnOk result (Notes found.old found.new (often_failures asked.holder asked.line (interval count) asked.usage asked.card asked.is_missing)) }
+{
+    let lacking = is_expected(asked.usage) && asked.is_missing;
+    note(found, 4, asked.line, is_too_often(asked, count))?;
+    note(
+        found,
+        5,
+        asked.line,
+        count.least < u64::from(asked.card.min),
+    )?;
+    note(found, 8, asked.holder, lacking)?;
+    note(found, 11, asked.line, is_unwanted(asked, count))
+}
+
+/// The failures of what comes so often. A count that ends at the cap is as good as the whole one.
+pub(crate) fn check_often(
+    found: &mut Vec<Failure>,
+    asked: Asked,
+    count: Interval,
+) -> Result<(), AllocError>
+    ensures { (whole : intervals.Interval) → interval count ≡ saturated whole → OnOk result (Notes found.old found.new (often_failures asked.holder asked.line whole asked.usage asked.card asked.is_missing)) }
+{
+    check_capped(found, asked, count)
+}
