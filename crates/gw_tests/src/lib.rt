@@ -8,6 +8,8 @@ mod blocks;
 #[cfg(test)]
 mod desks;
 #[cfg(test)]
+mod failures;
+#[cfg(test)]
 mod labels;
 #[cfg(test)]
 mod map_texts;
