@@ -1,7 +1,7 @@
 -- The nodes within a node of a level.
 use Rattle.std.proofs.Common.{◌≡◌, ℕ, zero, suc, List, [], ◌∷◌, refl, sym, ap, ◌∙◌, length, get_or, ◌<◌, arith}
 use Rattle.gw_profile.specs.declared.node.Node.{Node, Seg, Group'}
-use Rattle.gw_profile.specs.Shapes.{Forest, nothing}
+use Rattle.gw_profile.specs.Shapes.{Forest}
 use Rattle.gw_profile.specs.Seen.{forest, node_forest}
 use Rattle.gw_profile.specs.Labels.{within, inner}
 

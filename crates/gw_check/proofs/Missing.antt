@@ -1,7 +1,7 @@
 -- The fields that are passed over are those that are missed by what is accounted for.
 use Rattle.std.proofs.Common.{◌≡◌, ℕ, suc, ◌+◌, ◌<◌, Bool, true, false, List, [], ◌∷◌, ◌++◌, length, drop, drop-cons, get_or, refl, sym, ap, ap₂, ◌∙◌, arith}
 use Rattle.std.specs.Prelude.{◌||◌, if◌then◌else◌, flat_map}
-use Rattle.std.proofs.lemmas.List.{append-nil, append_assoc}
+use Rattle.std.proofs.lemmas.List.{append_assoc}
 use Rattle.gw_profile.specs.declared.node.Node.{Node, Seg, Group, Group'}
 use Rattle.gw_profile.specs.declared.node.GroupNode.{GroupNode}
 use Rattle.gw_profile.specs.Shapes.{FieldValue, SegmentValue, Forest, nothing, segment, group}

@@ -1,5 +1,5 @@
 -- Failures found one list after the other.
-use Rattle.std.proofs.Common.{◌≡◌, ℕ, zero, suc, Bool, true, false, ◌+◌, ◌-◌, ◌<◌, ◌≤◌, add-one, List, [], ◌∷◌, ◌++◌, map, flat_map, take, drop, drop-cons, get_or, length, Option, Some, refl, sym, ap, ◌∙◌, arith}
+use Rattle.std.proofs.Common.{◌≡◌, ℕ, zero, suc, Bool, true, false, ◌+◌, ◌-◌, ◌<◌, ◌≤◌, add-one, List, [], ◌∷◌, ◌++◌, map, flat_map, take, drop, drop-cons, get_or, length, Some, refl, sym, ap, ◌∙◌, arith}
 use Rattle.std.proofs.lemmas.List.{append-nil, append_assoc}
 use Rattle.std.specs.Prelude.{◌||◌}
 use Rattle.std.specs.Global.{Vec}
@@ -10,10 +10,10 @@ use Rattle.gw_maplang.specs.declared.item.Item.{Item, SegFrom, SegAlways, EachAs
 use Rattle.gw_maplang.proofs.Rows.{group_items, flat_items}
 use Rattle.gw_maplang.specs.Shapes.{Items, nothing}
 use Rattle.gw_maplang.specs.Seen.{path, items_all, with_item, row_items, all_items, rule}
-use Rattle.gw_check.specs.Places.{Element, within}
+use Rattle.gw_check.specs.Places.{Element}
 use Rattle.gw_check.specs.Failures.{Failure, fails, or_later}
 use Rattle.gw_check.specs.Looking.{each_within}
-use Rattle.gw_check.specs.Naming.{but_last, place_or, walked_if, source_failures, walk_failures, rule_failures, path_failures}
+use Rattle.gw_check.specs.Naming.{but_last, walked_if, source_failures, rule_failures, path_failures}
 
 -- one more, and those behind it
 pub added_one : {A : Type 0} (old new a b whole : List A) → whole ≡ a ++ b → new ≡ old ++ a → old ++ whole ≡ new ++ b

@@ -1,7 +1,7 @@
 -- What the labels of a map name: source paths (rules 1 and 2), target labels (rule 3), and the map without labels.
 use Rattle.std.specs.Prelude.{ℕ, suc, Bool, true, false, ◌&&◌, not, nat_lt, if◌then◌else◌, List, [], ◌∷◌, ◌++◌, map, flat_map, unwrap_or, slice_get, Option, Some, None, option_map, option_and_then, bytes_eq}
 use Rattle.std.specs.List.{list_all}
-use Rattle.gw_profile.specs.Shapes.{Forest, nothing, segment, group, ProfileValue}
+use Rattle.gw_profile.specs.Shapes.{Forest, nothing, ProfileValue}
 use Rattle.gw_profile.specs.Labels.{labelled}
 use Rattle.gw_profile.specs.Line.{allows}
 use Rattle.gw_maplang.specs.Shapes as raw

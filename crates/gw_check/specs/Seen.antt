@@ -1,8 +1,5 @@
 -- Parts of the program, without where they lie in memory.
-use Rattle.std.specs.Prelude.{ℕ, min, List, [], ◌∷◌, map, reverse, Option, Some, None, option_map, unwrap_or}
-use denote.Ref.{Bor}
-use Rattle.gw_profile.specs.declared.node.Node.{Node}
-use Rattle.gw_profile.specs.Shapes.{Forest, nothing}
+use Rattle.std.specs.Prelude.{ℕ, min, List, [], ◌∷◌, map, reverse, option_map, unwrap_or}
 use Rattle.gw_profile.specs.Labels.{nodes_in}
 use Rattle.gw_profile.specs.Seen.{segment_value, forest}
 use Rattle.gw_check.specs.declared.failure.Failure as failures_of

@@ -8,7 +8,7 @@ use Rattle.gw_maplang.specs.Shapes.{MapValue}
 use Rattle.gw_check.specs.declared.accounted.Accounted.{Accounted}
 use Rattle.gw_check.specs.Failures.{Failure}
 use Rattle.gw_check.specs.Naming.{naming_failures, resolved}
-use Rattle.gw_check.specs.Resolved.{Drop, Resolved}
+use Rattle.gw_check.specs.Resolved.{Drop}
 use Rattle.gw_check.specs.Reads.{Position, SourceField, items_read, is_passed_over}
 use Rattle.gw_check.specs.Collected.{has_element, is_missed}
 

@@ -10,6 +10,8 @@ mod checks;
 #[cfg(test)]
 mod desks;
 #[cfg(test)]
+mod failures;
+#[cfg(test)]
 mod maps;
 #[cfg(test)]
 mod messages;

@@ -1,4 +1,4 @@
-use Rattle.std.proofs.Common.{subst, take, drop, ◌≤◌, length}
+use Rattle.std.proofs.Common.{subst, take, ◌≤◌, length}
 use Rattle.gw_check.specs.Seen.{failures, scope}
 use Rattle.gw_check.specs.Counted.{Leads}
 use Rattle.gw_check.specs.Checking.{NotesNode}

@@ -1,6 +1,5 @@
-use Rattle.std.proofs.Common.{ap, ◌∙◌}
 use Rattle.gw_check.proofs.Collecting.{on_ok}
-use Rattle.gw_check.proofs.Missing.{group_adds, node_adds}
+use Rattle.gw_check.proofs.Missing.{group_adds}
 use Rattle.gw_check.proofs.overlooked.+gather.Goals as goal
 
 pub add_node-returns-in-Group : goal.add_node-returns-in-Group

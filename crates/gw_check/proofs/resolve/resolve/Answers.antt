@@ -1,4 +1,4 @@
-use Rattle.std.proofs.Common.{sym, ap, ◌∙◌}
+use Rattle.std.proofs.Common.{sym, ap}
 use Rattle.gw_profile.specs.Seen.{forest, profile_value}
 use Rattle.gw_maplang.specs.Seen.{map_value}
 use Rattle.gw_check.proofs.Judging.{resolves_both}
