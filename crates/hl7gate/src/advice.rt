@@ -1,25 +1,34 @@
 //! What a person needs of a map that a rule refuses: the file and its line, what the rule demands, and what to do.
+use crate::maps::Sides;
 use gw_check::{Failure, FieldAt};
-use gw_profile::{Node, Profile};
+use gw_profile::Node;
 use std::alloc::{AllocError, Global};
 use std::collections::BTreeSet;
 use std::io::Write;
-use std::sync::Arc;
+
+/// The file of a map, and its text.
+#[derive(Drop)]
+pub(crate) struct Written<'a> {
+    pub(crate) path: &'a str,
+    pub(crate) text: Vec<u8>,
+}
+
+/// All that fails of a map that a rule refuses.
+#[derive(Drop)]
+pub(crate) struct Found {
+    /// The fields that the map passes over, where rule 9 is the least that fails.
+    pub(crate) unread: Vec<FieldAt>,
+    pub(crate) failures: Vec<Failure>,
+}
 
 /// A rule that refuses a map: the least, at its least line.
 #[derive(Drop)]
 pub(crate) struct Refusal<'a> {
-    /// The file of the map.
-    pub(crate) path: &'a str,
     pub(crate) rule: u8,
     pub(crate) line: u32,
-    /// The text of the map.
-    pub(crate) text: Vec<u8>,
-    pub(crate) source: Arc<Profile>,
-    /// The fields that the map passes over, where rule 9 refuses it.
-    pub(crate) unread: Vec<FieldAt>,
-    /// All failures of the map.
-    pub(crate) failures: Vec<Failure>,
+    pub(crate) written: Written<'a>,
+    pub(crate) sides: Sides,
+    pub(crate) found: Found,
 }
 
 /// What a rule demands, and what to do.
@@ -118,7 +127,7 @@ impl Refusal<'_> {
     /// The rules that fail as well, by their lines, each once at one line.
     fn others(&self, alloc: Global) -> Result<BTreeSet<(u32, u8)>, AllocError> {
         let mut others = BTreeSet::new(alloc);
-        for failure in &self.failures {
+        for failure in &self.found.failures {
             if failure.rule != self.rule || failure.line != self.line {
                 others.insert((failure.line, failure.rule))?;
             }
@@ -132,7 +141,7 @@ impl Refusal<'_> {
         if others.is_empty() {
             return Ok(());
         }
-        let path = self.path;
+        let path = self.written.path;
         let more = others.len();
         let _ = writeln!(errors, "and {more} more:");
         for (line, rule) in &others {
@@ -143,13 +152,14 @@ impl Refusal<'_> {
 
     /// Tells the file with its line, what the rule demands, each field that is passed over, and what fails as well.
     pub(crate) fn tell<E: Write>(&self, alloc: Global, errors: &mut E) -> Result<(), AllocError> {
-        let Refusal { path, line, .. } = self;
+        let Written { path, text } = &self.written;
+        let line = self.line;
         let _ = write!(errors, "{path}:{line}: ");
-        let _ = errors.write_all(line_at(&self.text, self.line));
+        let _ = errors.write_all(line_at(text, line));
         let advice = advice(self.rule);
         let _ = writeln!(errors, "\n{advice}");
-        for field in &self.unread {
-            tell_field(errors, self.source.nodes(), field);
+        for field in &self.found.unread {
+            tell_field(errors, self.sides.source.nodes(), field);
         }
         self.tell_others(alloc, errors)
     }

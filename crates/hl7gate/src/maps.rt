@@ -3,13 +3,14 @@ ghost use Rattle.std.specs.Prelude.{◌≡◌, IfOk};
 ghost use Rattle.std.specs.Arc.{arc_value};
 ghost use Rattle.gw_profile.specs.Seen.{profile_value};
 
-use crate::advice::Refusal;
+use crate::advice::{Found, Refusal, Written};
 use crate::ended::Ended;
 use crate::expected;
 use crate::files::{read_all, read_text};
 use crate::report::write_all;
 use clap::ArgMatches;
 use gw_check::{CheckFault, CheckedMap, FieldAt, failures, unread};
+use gw_er7::Message;
 use gw_maplang::Map;
 use gw_profile::Profile;
 use gw_run::RunFault;
@@ -40,6 +41,22 @@ pub(crate) fn read_profile<'a, R: Files + AllocGlobal>(
     }
 }
 
+/// The profiles between which a map goes.
+#[derive(Drop)]
+pub(crate) struct Sides {
+    pub(crate) source: Arc<Profile>,
+    pub(crate) target: Arc<Profile>,
+}
+
+impl Sides {
+    // The same profiles, shared once more.
+    fn shared(&self) -> Result<Sides, AllocError> {
+        let source = self.source.clone()?;
+        let target = self.target.clone()?;
+        Ok(Sides { source, target })
+    }
+}
+
 /// A map that was checked, or the rule that refuses it.
 #[derive(Drop)]
 enum Checked<'a> {
@@ -47,31 +64,81 @@ enum Checked<'a> {
     Refused(Refusal<'a>),
 }
 
-/// What the map passes over, where rule 9 refuses it.
+/// The profiles of the files SOURCE and TARGET, in this order.
+fn read_sides<'a, R: Files + AllocGlobal>(
+    rt: &R,
+    words: &ArgMatches<'a>,
+) -> Result<Sides, Ended<'a>> {
+    let source = read_profile(rt, words, "SOURCE")?;
+    let target = read_profile(rt, words, "TARGET")?;
+    Ok(Sides { source, target })
+}
+
+/// The text of the file MAP.
+fn read_written<'a, R: Files + AllocGlobal>(
+    rt: &R,
+    words: &ArgMatches<'a>,
+) -> Result<Written<'a>, Ended<'a>> {
+    let path = words.get_str("MAP").unwrap_or("");
+    let text = read_text(rt, path)?;
+    Ok(Written { path, text })
+}
+
+/// The map of a file's text.
+fn parse_map<'a>(alloc: Global, written: &Written<'a>) -> Result<Map, Ended<'a>> {
+    match gw_maplang::parse(alloc, &written.text) {
+        Ok(map) => Ok(map),
+        Err(fault) => {
+            let expected = expected::in_map(alloc, &written.text, fault)?;
+            Err(Ended::Map {
+                path: written.path,
+                fault,
+                expected,
+            })
+        }
+    }
+}
+
+/// What rule 9 fails of, where it is the least.
 fn passed_over(
     alloc: Global,
     rule: u8,
-    source: &Profile,
-    target: &Profile,
+    sides: &Sides,
     map: &Map,
 ) -> Result<Vec<FieldAt>, AllocError> {
     if rule == 9 {
-        return unread(alloc, source, target, map);
+        return unread(alloc, &sides.source, &sides.target, map);
     }
     Ok(Vec::new(alloc))
 }
 
-/// The map of a file's text.
-fn parse_map<'a>(alloc: Global, path: &'a str, text: &[u8]) -> Result<Map, Ended<'a>> {
-    match gw_maplang::parse(alloc, text) {
-        Ok(map) => Ok(map),
-        Err(fault) => {
-            let expected = expected::in_map(alloc, text, fault)?;
-            Err(Ended::Map {
-                path,
-                fault,
-                expected,
-            })
+/// All that fails of a map that a rule refuses.
+fn all_that_fails(alloc: Global, rule: u8, sides: &Sides, map: &Map) -> Result<Found, AllocError> {
+    let unread = passed_over(alloc, rule, sides, map)?;
+    let failures = failures(alloc, &sides.source, &sides.target, map)?;
+    Ok(Found { unread, failures })
+}
+
+/// A map by the rules.
+fn judge<'a>(
+    alloc: Global,
+    sides: Sides,
+    written: Written<'a>,
+    map: Map,
+) -> Result<Checked<'a>, Ended<'a>> {
+    let Sides { source, target } = sides.shared()?;
+    match gw_check::check(alloc, source, target, map) {
+        Ok(checked) => Ok(Checked::Allowed(checked)),
+        Err(CheckFault::Memory(_)) => Err(Ended::Run(RunFault::Memory)),
+        Err(CheckFault::Rule { rule, line, map }) => {
+            let found = all_that_fails(alloc, rule, &sides, &map)?;
+            Ok(Checked::Refused(Refusal {
+                rule,
+                line,
+                written,
+                sides,
+                found,
+            }))
         }
     }
 }
@@ -81,28 +148,24 @@ fn read_checked<'a, R: Files + AllocGlobal>(
     rt: &R,
     words: &ArgMatches<'a>,
 ) -> Result<Checked<'a>, Ended<'a>> {
-    let source = read_profile(rt, words, "SOURCE")?;
-    let target = read_profile(rt, words, "TARGET")?;
-    let path = words.get_str("MAP").unwrap_or("");
-    let text = read_text(rt, path)?;
-    let map = parse_map(rt.alloc(), path, &text)?;
-    match gw_check::check(rt.alloc(), source.clone()?, target.clone()?, map) {
-        Ok(checked) => Ok(Checked::Allowed(checked)),
-        Err(CheckFault::Memory(_)) => Err(Ended::Run(RunFault::Memory)),
-        Err(CheckFault::Rule { rule, line, map }) => {
-            let unread = passed_over(rt.alloc(), rule, &source, &target, &map)?;
-            let failures = failures(rt.alloc(), &source, &target, &map)?;
-            Ok(Checked::Refused(Refusal {
-                path,
-                rule,
-                line,
-                text,
-                source,
-                unread,
-                failures,
-            }))
-        }
-    }
+    let sides = read_sides(rt, words)?;
+    let written = read_written(rt, words)?;
+    let map = parse_map(rt.alloc(), &written)?;
+    judge(rt.alloc(), sides, written, map)
+}
+
+/// Prints the rule that refuses a map; what a person needs to mend it goes to `errors`.
+fn write_refusal<'a, O: Write, E: Write>(
+    alloc: Global,
+    refusal: &Refusal<'a>,
+    output: &mut O,
+    errors: &mut E,
+) -> Result<(), Ended<'a>> {
+    let Refusal { rule, line, .. } = refusal;
+    let said = format!(in alloc; "refused K{rule} line {line}\n")?;
+    write_all(output, said.as_bytes())?;
+    refusal.tell(alloc, errors)?;
+    Ok(())
 }
 
 /// Prints whether the rules allow a map, and else the rule that refuses it; what a person needs to mend it goes to `errors`. False where it is refused.
@@ -118,10 +181,7 @@ pub(crate) fn check<'a, R: Files + AllocGlobal, O: Write, E: Write>(
             Ok(true)
         }
         Checked::Refused(refusal) => {
-            let Refusal { rule, line, .. } = &refusal;
-            let said = format!(in rt.alloc(); "refused K{rule} line {line}\n")?;
-            write_all(output, said.as_bytes())?;
-            refusal.tell(rt.alloc(), errors)?;
+            write_refusal(rt.alloc(), &refusal, output, errors)?;
             Ok(false)
         }
     }
@@ -146,6 +206,28 @@ fn tree_of<'a, R: AllocGlobal>(
     }
 }
 
+/// The translation of a content.
+fn translated<'a, R: AllocGlobal>(
+    rt: &R,
+    map: &CheckedMap,
+    content: &[u8],
+) -> Result<Message, Ended<'a>> {
+    let tree = tree_of(rt, map.source().clone()?, content)?;
+    let message = gw_interp::translate(rt.alloc(), map, &tree)?;
+    Ok(message)
+}
+
+/// Writes a message without a frame.
+fn write_message<'a, O: Write>(
+    alloc: Global,
+    message: &Message,
+    output: &mut O,
+) -> Result<(), Ended<'a>> {
+    let written = gw_er7::write(alloc, message)?;
+    write_all(output, &written)?;
+    Ok(())
+}
+
 /// Writes the translation of the content on standard input, which has no frame.
 fn write_translation<'a, R: AllocGlobal, I: Read + Drop, O: Write>(
     rt: &R,
@@ -154,10 +236,19 @@ fn write_translation<'a, R: AllocGlobal, I: Read + Drop, O: Write>(
     output: &mut O,
 ) -> Result<(), Ended<'a>> {
     let content = read_all(rt, input)?;
-    let tree = tree_of(rt, map.source().clone()?, &content)?;
-    let message = gw_interp::translate(rt.alloc(), map, &tree)?;
-    let written = gw_er7::write(rt.alloc(), &message)?;
-    write_all(output, &written)?;
+    let message = translated(rt, map, &content)?;
+    write_message(rt.alloc(), &message, output)
+}
+
+/// Tells the rule that refuses a map, and what a person needs to mend it.
+fn tell_refusal<'a, E: Write>(
+    alloc: Global,
+    refusal: &Refusal<'a>,
+    errors: &mut E,
+) -> Result<(), Ended<'a>> {
+    let Refusal { rule, line, .. } = refusal;
+    let _ = writeln!(errors, "refused K{rule} line {line}");
+    refusal.tell(alloc, errors)?;
     Ok(())
 }
 
@@ -175,9 +266,7 @@ pub(crate) fn translate<'a, R: Files + AllocGlobal, I: Read + Drop, O: Write, E:
             Ok(true)
         }
         Checked::Refused(refusal) => {
-            let Refusal { rule, line, .. } = &refusal;
-            let _ = writeln!(errors, "refused K{rule} line {line}");
-            refusal.tell(rt.alloc(), errors)?;
+            tell_refusal(rt.alloc(), &refusal, errors)?;
             Ok(false)
         }
     }

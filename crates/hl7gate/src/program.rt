@@ -27,6 +27,31 @@ fn validate<'a, R: Files + Clock + AllocGlobal, I: Read + Drop, O: Write + Drop>
     Ok(counts)
 }
 
+/// Does the command of these words, and answers the status.
+fn done<'a, R: Files + Clock + AllocGlobal, I: Read + Drop, O: Write + Drop, E: Write>(
+    rt: &R,
+    words: &ArgMatches<'a>,
+    input: I,
+    mut output: O,
+    errors: &mut E,
+) -> Result<u8, Ended<'a>> {
+    match words.subcommand() {
+        Some(("validate", words)) => {
+            let counts = validate(rt, words, input, output)?;
+            Ok(tell_counts(errors, counts))
+        }
+        Some(("check", words)) => {
+            let accepted = check(rt, words, &mut output, errors)?;
+            Ok(status_if(accepted))
+        }
+        Some(("translate", words)) => {
+            let accepted = translate(rt, words, input, &mut output, errors)?;
+            Ok(status_if(accepted))
+        }
+        _ => Ok(USAGE),
+    }
+}
+
 /// Does what the words say, and answers the status: 0 done, 1 refused, 2 usage, 3 a fault of a device, a frame or a run, 4 want of memory.
 pub fn command<R: Files + Clock + AllocGlobal, I: Read + Drop, O: Write + Drop, E: Write + Drop>(
     rt: &R,
@@ -35,19 +60,11 @@ pub fn command<R: Files + Clock + AllocGlobal, I: Read + Drop, O: Write + Drop, 
     mut output: O,
     mut errors: E,
 ) -> u8 {
-    let matches = match parse(rt.alloc(), words) {
-        Ok(matches) => matches,
-        Err(error) => return tell_words(&mut output, &mut errors, &error),
-    };
-    let ended = match matches.subcommand() {
-        Some(("validate", words)) => {
-            validate(rt, words, input, output).map(|counts| tell_counts(&mut errors, counts))
-        }
-        Some(("check", words)) => check(rt, words, &mut output, &mut errors).map(status_if),
-        Some(("translate", words)) => translate(rt, words, input, &mut output, &mut errors).map(
-            status_if,
-        ),
-        _ => return USAGE,
-    };
-    ended.unwrap_or_else(|ended| tell(&mut errors, ended))
+    match parse(rt.alloc(), words) {
+        Err(error) => tell_words(&mut output, &mut errors, &error),
+        Ok(matches) => match done(rt, &matches, input, output, &mut errors) {
+            Ok(status) => status,
+            Err(ended) => tell(&mut errors, ended),
+        },
+    }
 }

@@ -23,11 +23,11 @@ enum Place {
 }
 
 /// What was refused, where it came from, and what was expected at a line that is no line of its form.
-#[derive(Drop)]
+#[derive(Clone, Copy)]
 struct Subject<'a> {
     word: &'a str,
     from: &'a str,
-    expected: Option<String>,
+    expected: Option<&'a str>,
 }
 
 /// Tells a refusal: on the first line its number, with its line or name; on the next where the text came from, and what was expected there or is wrong with it.
@@ -66,7 +66,7 @@ pub(crate) fn tell_profile<E: Write>(
     errors: &mut E,
     path: &str,
     fault: ProfileFault,
-    expected: Option<String>,
+    expected: Option<&str>,
 ) -> u8 {
     let place = match fault {
         ProfileFault::Syntax(line) => Place::Line(line),
@@ -91,7 +91,7 @@ pub(crate) fn tell_map<E: Write>(
     errors: &mut E,
     path: &str,
     fault: MapFault,
-    expected: Option<String>,
+    expected: Option<&str>,
 ) -> u8 {
     let place = match fault {
         MapFault::Syntax(line) => Place::Line(line),

@@ -58,6 +58,14 @@ pub(crate) fn write_all<O: Write>(output: &mut O, bytes: &[u8]) -> Result<(), Ru
     written.map_err(|_| RunFault::Write)
 }
 
+// What is said, where something is.
+fn text_of(said: &Option<String>) -> Option<&str> {
+    match said {
+        None => None,
+        Some(said) => Some(said.as_str()),
+    }
+}
+
 /// Tells why a command wasn't done.
 pub(crate) fn tell<E: Write>(errors: &mut E, ended: Ended<'_>) -> u8 {
     match ended {
@@ -74,12 +82,12 @@ pub(crate) fn tell<E: Write>(errors: &mut E, ended: Ended<'_>) -> u8 {
             path,
             fault,
             expected,
-        } => tell_profile(errors, path, fault, expected),
+        } => tell_profile(errors, path, fault, text_of(&expected)),
         Ended::Map {
             path,
             fault,
             expected,
-        } => tell_map(errors, path, fault, expected),
+        } => tell_map(errors, path, fault, text_of(&expected)),
         Ended::Message { fault } => tell_message(errors, fault),
         Ended::Breaks(breach) => tell_breach(errors, breach),
         Ended::Run(fault) => tell_fault(errors, fault),
