@@ -1,0 +1,111 @@
+-- What the lines above say together, and what one line more makes of it.
+use Rattle.std.specs.Prelude.{ℕ, ◌==◌, Bool, true, false, ◌&&◌, if◌then◌else◌, List, [], ◌∷◌, ◌++◌, Option, Some, None, bytes_eq, position, is_some, Result, Ok, Err}
+use Rattle.std.specs.List.{list_any}
+use Rattle.std.specs.Option.{option_to_list}
+use Rattle.gw_profile.specs.Shapes.{ProfileValue}
+use Rattle.gw_plan.specs.declared.fault.PlanFault.{PlanFault}
+use Rattle.gw_plan.specs.declared.fault.PlanFault.TheVariants.{Syntax, Duplicate, UnknownName, WrongMap}
+use Rattle.gw_plan.specs.Shapes.{ReceiverValue, MapBetween, Leg, RouteValue, PlanValue, named}
+use Rattle.gw_plan.specs.Line.{Line, Begins, Receives, Versions, Processing, OpensProfile, OpensMap, Routes, Delivers}
+
+-- A plan so far. A `to` line belongs to the current route.
+pub record Draft : Type 0 where
+  pub begun : Bool
+  pub receivers : List ReceiverValue
+  pub versions : List (List ℕ)
+  pub processing : List (List ℕ)
+  pub profiles : List ProfileValue
+  pub maps : List MapBetween
+  pub routes : List RouteValue
+  pub current : Option RouteValue
+
+abbrev pub nothing : Draft
+nothing =
+    record { begun = false; receivers = []; versions = []; processing = []; profiles = []; maps = []; routes = []; current = None }
+
+-- a line of another kind closes the current route
+abbrev pub closed : Draft → Draft
+closed d = record d { routes = d.routes ++ option_to_list d.current; current = None }
+
+-- ---- what stands above
+
+abbrev pub profile_named : Draft → List ℕ → Option ProfileValue
+profile_named d name = named (λ p. p.name) name d.profiles
+
+abbrev pub map_named : Draft → List ℕ → Option MapBetween
+map_named d name = named (λ b. b.map.name) name d.maps
+
+abbrev pub is_receiver : List ℕ → ReceiverValue → Bool
+is_receiver name r = bytes_eq name r.name
+
+-- the number of a receiver, from 0
+abbrev pub receiver_number : Draft → List ℕ → Option ℕ
+receiver_number d name = position (is_receiver name) d.receivers
+
+-- whether a route is for this code and event
+abbrev pub is_for : List ℕ → List ℕ → RouteValue → Bool
+is_for code event r = bytes_eq code r.code && bytes_eq event r.event
+
+-- whether a leg goes to this receiver
+abbrev pub goes : ℕ → Leg → Bool
+goes receiver leg = receiver == leg.0
+
+-- ---- lines
+
+abbrev pub with_receiver : Draft → ℕ → List ℕ → List ℕ → Result Draft PlanFault
+with_receiver d at name address =
+    if is_some (receiver_number d name) then Err (Duplicate at)
+    else Ok (record d { receivers = d.receivers ++ record { name = name; address = address } ∷ [] })
+
+-- the profile stands above
+abbrev pub with_profile : Draft → ℕ → List ℕ → List ℕ → Option ProfileValue → Result Draft PlanFault
+with_profile d at code event None = Err (UnknownName at)
+with_profile d at code event (Some profile) =
+    Ok (record d { current = Some (record { code = code; event = event; profile = profile; legs = [] }) })
+
+-- no route above is for this code and event
+abbrev pub with_route : Draft → ℕ → List ℕ → List ℕ → Option ProfileValue → Result Draft PlanFault
+with_route d at code event found =
+    if list_any (is_for code event) d.routes then Err (Duplicate at) else with_profile d at code event found
+
+-- the map, where it stands above, begins at the profile of the route
+abbrev pub with_map : Draft → ℕ → RouteValue → ℕ → Option MapBetween → Result Draft PlanFault
+with_map d at route receiver None = Err (UnknownName at)
+with_map d at route receiver (Some by) =
+    if bytes_eq by.source.name route.profile.name then Ok (record d { current = Some (record route { legs = route.legs ++ (receiver, by) ∷ [] }) })
+    else Err (WrongMap at)
+
+-- the receiver, where it stands above, isn't one of the route's so far
+abbrev pub with_leg : Draft → ℕ → RouteValue → Option ℕ → Option MapBetween → Result Draft PlanFault
+with_leg d at route None by = Err (UnknownName at)
+with_leg d at route (Some receiver) by =
+    if list_any (goes receiver) route.legs then Err (Duplicate at) else with_map d at route receiver by
+
+abbrev pub delivered : Draft → ℕ → Option RouteValue → List ℕ → List ℕ → Result Draft PlanFault
+delivered d at None receiver map = Err (Syntax at)
+delivered d at (Some route) receiver map = with_leg d at route (receiver_number d receiver) (map_named d map)
+
+-- what a line makes of a plan that is begun; lines that open an inner text are not among them
+abbrev pub below : Draft → ℕ → Line → Result Draft PlanFault
+below d at (Begins name) = Err (Syntax at)
+below d at (Receives name address) = with_receiver (closed d) at name address
+below d at (Versions accepted) = Ok (record (closed d) { versions = d.versions ++ accepted })
+below d at (Processing accepted) = Ok (record (closed d) { processing = d.processing ++ accepted })
+below d at OpensProfile = Err (Syntax at)
+below d at OpensMap = Err (Syntax at)
+below d at (Routes code event profile) = with_route (closed d) at code event (profile_named d profile)
+below d at (Delivers receiver map) = delivered d at d.current receiver map
+
+-- the first line says that the text is a plan, and no other does
+abbrev pub first : Draft → ℕ → Line → Result Draft PlanFault
+first d at (Begins name) = Ok (record d { begun = true })
+first d at line = Err (Syntax at)
+
+-- what a line of its own makes of a plan
+abbrev pub takes : Draft → ℕ → Line → Result Draft PlanFault
+takes d at line = if d.begun then below d at line else first d at line
+
+-- the plan that all lines say
+abbrev pub plan_of : Draft → PlanValue
+plan_of d =
+    record { receivers = (closed d).receivers; versions = (closed d).versions; processing = (closed d).processing; routes = (closed d).routes }

@@ -1,0 +1,54 @@
+-- What the program holds of a plan, and what it stands for.
+use Rattle.std.specs.Prelude.{◌≡◌, ℕ, Bool, if◌then◌else◌, List, map, slice_get, Some, Result, Ok, Err}
+use Rattle.std.specs.List.{AllByRecursion}
+use denote.Ref.{Bor}
+use Rattle.gw_profile.specs.Seen as profiles
+use Rattle.gw_profile.specs.Seen.{profile_value}
+use Rattle.gw_maplang.specs.Seen.{map_value}
+use Rattle.gw_check.specs.CheckedMap.{CheckedValue}
+use Rattle.gw_plan.specs.Shapes.{ReceiverValue, MapBetween, Leg, RouteValue, PlanValue}
+
+-- a route, with its profile and maps as they are lent
+pub record RouteHeld : Type 0 where
+  pub code : List ℕ
+  pub event : List ℕ
+  pub profile : profiles.Contents
+  pub legs : List (ℕ × CheckedValue)
+
+-- a plan, with its text
+pub record PlanHeld : Type 0 where
+  pub text : List ℕ
+  pub receivers : List ReceiverValue
+  pub versions : List (List ℕ)
+  pub processing : List (List ℕ)
+  pub routes : List RouteHeld
+
+abbrev pub map_between : CheckedValue → MapBetween
+map_between c = record { source = profile_value c.source; target = profile_value c.target; map = map_value c.map }
+
+abbrev pub leg : ℕ × CheckedValue → Leg
+leg l = (l.0, map_between l.1)
+
+abbrev pub route_value : RouteHeld → RouteValue
+route_value r = record { code = r.code; event = r.event; profile = profile_value r.profile; legs = map leg r.legs }
+
+abbrev pub plan_value : PlanHeld → PlanValue
+plan_value p = record { receivers = p.receivers; versions = p.versions; processing = p.processing; routes = map route_value p.routes }
+
+-- every map of a route begins at the route's profile
+abbrev pub IsRoute : RouteHeld → Type 0
+IsRoute r = AllByRecursion (λ l. profile_value l.1.source ≡ profile_value r.profile) r.legs
+
+-- a route that was found, or the code that was answered
+abbrev pub lent : Result (Bor RouteHeld) ℕ → Result RouteValue ℕ
+lent (Ok r) = Ok (route_value r.now)
+lent (Err code) = Err code
+
+-- the tests of version and processing id, for a route of this number
+abbrev pub tested : Bool → Bool → ℕ → Result ℕ ℕ
+tested version processing number = if version then (if processing then Ok number else Err 202) else Err 203
+
+-- the number of a route that was found, from 0, or the code that was answered
+abbrev pub FoundAt : List RouteHeld → Result ℕ ℕ → Result RouteValue ℕ → Type 0
+FoundAt routes (Ok number) said = (r : RouteHeld) × (slice_get routes number ≡ Some r) × (said ≡ Ok (route_value r))
+FoundAt routes (Err code) said = said ≡ Err code

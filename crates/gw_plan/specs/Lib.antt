@@ -1,0 +1,15 @@
+pub mod Numbers
+pub mod Shapes
+pub mod Line
+pub mod Draft
+pub mod Joined
+pub mod Inner
+pub mod Whole
+pub mod Routing
+pub mod Seen
+pub mod Index
+pub mod Held
+pub mod Kept
+pub mod Admitted
+pub mod Translating
+pub mod Worked

@@ -1,0 +1,162 @@
+//! Messages that a plan admits.
+ghost use Rattle.std.specs.Prelude.{◌≡◌, ◌↔◌, IsTrue, IfOk, IfErr, Ok};
+ghost use Rattle.std.specs.Arc.{arc_value};
+ghost use Rattle.gw_profile.specs.Seen.{profile_value};
+ghost use Rattle.gw_plan.specs.Held.{plan_value, route_value};
+ghost use Rattle.gw_plan.specs.Routing.{routed};
+ghost use Rattle.gw_plan.specs.Admitted.{ConformingHeld, IsConforming, IsAdmitted, IsRefused, IsUnder, IsOf};
+ghost use Rattle.gw_plan.specs.Translating.{Translates};
+
+use crate::plan::Plan;
+use crate::route::Route;
+use gw_er7::Message;
+use gw_interp::translate;
+use gw_validate::{Breach, Tree, Verdict, validate};
+use std::alloc::{AllocError, Global};
+use std::marker::Model;
+use std::sync::Arc;
+
+/// A message that was admitted under a plan and its version: the plan has a route for it, and it conforms to the route's profile. It is made by `admit` alone.
+#[derive(Drop)]
+pub struct Conforming {
+    tree: Tree,
+    number: usize,
+    plan: Arc<Plan>,
+    version: u64,
+}
+
+impl Model for Conforming {
+    ghost use Rattle.std.specs.Coded.{codes};
+    ghost use Rattle.std.specs.Arc.{arc_value};
+    ghost use Rattle.gw_er7.specs.Message.{segment_code};
+    ghost use Rattle.gw_profile.specs.contracts.node.Node as node;
+    ghost use Rattle.gw_validate.specs.contracts.occurrences.Occurrences as occurrences;
+    ghost use Rattle.gw_maplang.specs.contracts.item.Item as raw_item;
+    ghost use Rattle.gw_check.specs.contracts.resolved.Item as item;
+    ghost use Rattle.gw_plan.specs.Admitted.{ConformingHeld, IsConforming};
+
+    ghost Value = { ConformingHeld };
+
+    ghost coded = { Prim.hlevel (codes, segment_code, node.the_row.coded, occurrences.the_row.coded, raw_item.the_row.coded, item.the_row.coded) };
+
+    ghost view = { λ c. record { tree = c.tree; number = c.number; plan = arc_value c.plan; version = c.version } };
+
+    ghost invariant = { λ c. IsConforming (record { tree = c.tree; number = c.number; plan = arc_value c.plan; version = c.version }) };
+}
+
+/// Why a message isn't admitted. The message is handed back.
+#[derive(Drop)]
+pub enum Refusal {
+    /// Want of memory.
+    Memory(Message),
+    /// The plan has no route for it: the code of the condition (HL7 table 0357).
+    Route(u16, Message),
+    /// It breaks its route's profile, and this is its first breach.
+    Breaks(Breach, Message),
+}
+
+impl Conforming {
+    /// The route. It takes no memory.
+    pub fn route(&self) -> &Route
+        ensures route { routed (plan_value self.now.plan) self.now.tree.message ≡ Ok (route_value result.now) }
+        ensures profile { profile_value self.now.tree.profile ≡ profile_value result.now.profile }
+    {
+        self.plan.route_at(self.number)
+    }
+
+    /// Whether its route goes to this receiver. It takes no memory.
+    pub fn goes_to(&self, receiver: usize) -> bool
+        ensures { IsTrue result ↔ IsOf self.now receiver }
+    {
+        self.route().goes_to(receiver)
+    }
+
+    /// The message. It takes no memory.
+    pub fn message(&self) -> &Message
+        ensures { result.now ≡ self.now.tree.message }
+    {
+        self.tree.message()
+    }
+
+    /// Whether it was admitted under this version and a plan of this one's text. It takes no memory.
+    pub fn under(&self, version: u64, plan: &Plan) -> bool
+        ensures { IsTrue result ↔ IsUnder self.now version plan.now }
+    {
+        self.version == version && self.plan.text() == plan.text()
+    }
+}
+
+impl Conforming {
+    // What the route's map for a receiver makes of the message.
+    pub(crate) fn translation(&self, alloc: Global, receiver: usize) -> Result<Message, AllocError>
+        requires { IsOf self.now receiver }
+        ensures { IfOk result (Translates self.now receiver) }
+    {
+        let tree = &self.tree;
+        let _root = tree.root();
+        match self.route().map_for(receiver) {
+            None => Err(AllocError),
+            Some(map) => match translate(alloc, map, tree) {
+                Err(error) => Err(error),
+                Ok(made) => Ok(made),
+            },
+        }
+    }
+}
+
+// The message of this tree, admitted.
+fn shared(
+    alloc: Global,
+    tree: Tree,
+    number: usize,
+    plan: Arc<Plan>,
+    version: u64,
+) -> Result<Arc<Conforming>, Message>
+    requires { IsConforming (record { tree = tree; number = number; plan = arc_value plan; version = version }) }
+    ensures made { IfOk result (λ c. arc_value c ≡ record { tree = tree; number = number; plan = arc_value plan; version = version }) }
+    ensures back { IfErr result (λ m. m ≡ tree.message) }
+{
+    let conforming = Conforming {
+        tree,
+        number,
+        plan,
+        version,
+    };
+    match Arc::new(alloc, conforming) {
+        Ok(shared) => Ok(shared),
+        Err(failed) => {
+            let Conforming { tree, .. } = failed.value;
+            Err(tree.into_message())
+        }
+    }
+}
+
+/// The message, admitted under a plan and its version: exactly where the plan has a route for it and it conforms to the route's profile.
+pub fn admit(
+    alloc: Global,
+    plan: &Arc<Plan>,
+    version: u64,
+    message: Message,
+) -> Result<Arc<Conforming>, Refusal>
+    ensures admitted { IfOk result (λ c. IsAdmitted (arc_value plan.now) version message (arc_value c)) }
+    ensures refused { IfErr result (IsRefused (arc_value plan.now) message) }
+{
+    let number = match plan.find(&message) {
+        Err(code) => return Err(Refusal::Route(code, message)),
+        Ok(number) => number,
+    };
+    let Ok(profile) = Arc::try_clone(plan.route_at(number).profile()) else {
+        return Err(Refusal::Memory(message));
+    };
+    let Ok(kept) = Arc::try_clone(plan) else {
+        return Err(Refusal::Memory(message));
+    };
+    match validate(alloc, profile, message) {
+        Err(message) => Err(Refusal::Memory(message)),
+        Ok(Verdict::Breaks(breach, message)) => Err(Refusal::Breaks(breach, message)),
+        Ok(Verdict::Fits(tree)) => match shared(alloc, tree, number, kept, version) {
+            Ok(shared) => Ok(shared),
+            Err(message) => Err(Refusal::Memory(message)),
+        },
+    }
+}

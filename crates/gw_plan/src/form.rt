@@ -1,0 +1,192 @@
+//! The forms of a plan's lines.
+ghost use Rattle.std.specs.Prelude.{◌≡◌, map, IfOk};
+ghost use Rattle.std.specs.Option.{option_map};
+ghost use Rattle.gw_lines.specs.Seen.{word};
+ghost use Rattle.gw_plan.specs.Line as spec;
+ghost use Rattle.gw_plan.specs.Seen.{line, now_all};
+
+use gw_lines::{Word, behind, first_word, name_at};
+use std::alloc::{AllocError, Global};
+
+/// A line of the plan's own. The empty event stands for an event that is absent.
+#[derive(Drop)]
+pub enum Line<'a> {
+    Begins(&'a [u8]),
+    Receives(&'a [u8], &'a [u8]),
+    Versions(Vec<&'a [u8]>),
+    Processing(Vec<&'a [u8]>),
+    OpensProfile,
+    OpensMap,
+    Routes(&'a [u8], &'a [u8], &'a [u8]),
+    Delivers(&'a [u8], &'a [u8]),
+}
+
+fn plain_at<'a, 'w>(words: &'w [Word<'a>]) -> Option<(&'a [u8], &'w [Word<'a>])>
+    ensures { option_map (λ w. (w.0.now, map word w.1.now)) result ≡ spec.plain_at (map word words.now) }
+{
+    let (first, more) = first_word(words)?;
+    let bytes = first.plain()?;
+    Some((bytes, more))
+}
+
+// The bytes of these words, where none is quoted.
+fn plain_words<'a>(alloc: Global, words: &[Word<'a>]) -> Result<Option<Vec<&'a [u8]>>, AllocError>
+    ensures { IfOk result (λ found. option_map (λ v. now_all v.items) found ≡ spec.plain_words (map word words.now)) }
+{
+    let mut all = Vec::new(alloc);
+    for (i, next) in words.iter().enumerate() {
+        let Some(bytes) = next.plain() else {
+            return Ok(None);
+        };
+        all.push(bytes)?;
+    }
+    Ok(Some(all))
+}
+
+fn some_words<'a>(alloc: Global, words: &[Word<'a>]) -> Result<Option<Vec<&'a [u8]>>, AllocError>
+    ensures { IfOk result (λ found. option_map (λ v. now_all v.items) found ≡ spec.some_words (map word words.now)) }
+{
+    if words.is_empty() {
+        return Ok(None);
+    }
+    plain_words(alloc, words)
+}
+
+// `-` stands for an event that is absent.
+fn event_of(bytes: &[u8]) -> &[u8]
+    ensures { result.now ≡ spec.event_of bytes.now }
+{
+    if bytes == b"-".as_slice() { &[] } else { bytes }
+}
+
+fn plan_form<'a>(words: &[Word<'a>]) -> Option<Line<'a>>
+    ensures { option_map line result ≡ spec.plan_form (map word words.now) }
+{
+    let (name, more) = name_at(words)?;
+    if more.is_empty() {
+        Some(Line::Begins(name))
+    } else {
+        None
+    }
+}
+
+fn receiver_form<'a>(words: &[Word<'a>]) -> Option<Line<'a>>
+    ensures { option_map line result ≡ spec.receiver_form (map word words.now) }
+{
+    let (name, more) = name_at(words)?;
+    let (address, more) = plain_at(more)?;
+    if more.is_empty() {
+        Some(Line::Receives(name, address))
+    } else {
+        None
+    }
+}
+
+fn accept_form<'a>(alloc: Global, words: &[Word<'a>]) -> Result<Option<Line<'a>>, AllocError>
+    ensures { IfOk result (λ found. option_map line found ≡ spec.accept_form (map word words.now)) }
+{
+    let Some((kind, more)) = first_word(words) else {
+        return Ok(None);
+    };
+    if kind.is(b"version") {
+        return Ok(some_words(alloc, more)?.map(Line::Versions));
+    }
+    if kind.is(b"processing") {
+        return Ok(some_words(alloc, more)?.map(Line::Processing));
+    }
+    Ok(None)
+}
+
+fn begin_form<'a>(words: &[Word<'a>]) -> Option<Line<'a>>
+    ensures { option_map line result ≡ spec.begin_form (map word words.now) }
+{
+    let (kind, more) = first_word(words)?;
+    if !more.is_empty() {
+        return None;
+    }
+    if kind.is(b"profile") {
+        return Some(Line::OpensProfile);
+    }
+    if kind.is(b"map") {
+        return Some(Line::OpensMap);
+    }
+    None
+}
+
+// The name that `from` is followed by, where nothing follows it.
+fn source_at<'a>(words: &[Word<'a>]) -> Option<&'a [u8]>
+    ensures { option_map (λ name. name.now) result ≡ spec.source_at (map word words.now) }
+{
+    let more = behind(b"from", words)?;
+    let (name, more) = name_at(more)?;
+    if more.is_empty() { Some(name) } else { None }
+}
+
+fn route_form<'a>(words: &[Word<'a>]) -> Option<Line<'a>>
+    ensures { option_map line result ≡ spec.route_form (map word words.now) }
+{
+    let (code, more) = plain_at(words)?;
+    let (event, more) = plain_at(more)?;
+    let profile = source_at(more)?;
+    Some(Line::Routes(code, event_of(event), profile))
+}
+
+fn to_form<'a>(words: &[Word<'a>]) -> Option<Line<'a>>
+    ensures { option_map line result ≡ spec.to_form (map word words.now) }
+{
+    let (receiver, more) = name_at(words)?;
+    let more = behind(b"by", more)?;
+    let (by, more) = name_at(more)?;
+    if more.is_empty() {
+        Some(Line::Delivers(receiver, by))
+    } else {
+        None
+    }
+}
+
+fn fixed_form<'a>(keyword: Word<'a>, more: &[Word<'a>]) -> Option<Line<'a>>
+    ensures { option_map line result ≡ spec.fixed_form (word keyword.entry) (map word more.now) }
+{
+    if keyword.is(b"plan") {
+        return plan_form(more);
+    }
+    if keyword.is(b"receiver") {
+        return receiver_form(more);
+    }
+    if keyword.is(b"begin") {
+        return begin_form(more);
+    }
+    if keyword.is(b"route") {
+        return route_form(more);
+    }
+    if keyword.is(b"to") {
+        return to_form(more);
+    }
+    None
+}
+
+/// The line that these words are.
+pub fn form<'a>(alloc: Global, words: &[Word<'a>]) -> Result<Option<Line<'a>>, AllocError>
+    ensures { IfOk result (λ found. option_map line found ≡ spec.form (map word words.now)) }
+{
+    let Some((keyword, more)) = first_word(words) else {
+        return Ok(None);
+    };
+    if keyword.is(b"accept") {
+        return accept_form(alloc, more);
+    }
+    Ok(fixed_form(keyword, more))
+}
+
+/// Whether these words are the one word `stop`.
+pub fn is_stop(words: &Option<Vec<Word<'_>>>) -> bool
+    ensures { result ≡ spec.is_stop_line (option_map (λ v. map word v.items) words.now) }
+{
+    match words {
+        None => false,
+        Some(words) => match words.as_slice() {
+            [only] => only.is(b"stop"),
+            _ => false,
+        },
+    }
+}

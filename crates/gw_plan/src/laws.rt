@@ -1,0 +1,42 @@
+//! What holds of the definitions.
+ghost use Rattle.std.specs.Prelude.{◌≡◌, Ok, Err, [], codes};
+ghost use Rattle.gw_plan.specs.declared.fault.PlanFault.TheVariants as fault;
+ghost use Rattle.gw_plan.specs.Held.{plan_value};
+ghost use Rattle.gw_plan.specs.Routing.{routed_by};
+ghost use Rattle.gw_plan.specs.Whole.{spelled};
+ghost use Rattle.gw_plan.specs.Worked as worked;
+
+use crate::plan::Plan;
+
+/// Two plans of one text are one plan: what they make of messages is a function of the text.
+pub fn one_text_is_one_plan(one: &Plan, other: &Plan)
+    ensures { one.now.text ≡ other.now.text → plan_value one.now ≡ plan_value other.now }
+{
+    let _ = &one.text;
+    let _ = &other.text;
+}
+
+/// The route of a message, or the code of the first test that fails: type, event, version, processing id.
+pub fn rows_of_routes()
+    ensures route { routed_by worked.worked (codes "ADT") (codes "A01") (codes "2.5.1") (codes "P") ≡ Ok worked.admission }
+    ensures no_event { routed_by worked.worked (codes "ORU") [] (codes "2.5.1") (codes "P") ≡ Ok worked.report }
+    ensures code { routed_by worked.worked (codes "ACK") (codes "A01") (codes "2.3") (codes "D") ≡ Err 200 }
+    ensures event { routed_by worked.worked (codes "ADT") (codes "A99") (codes "2.3") (codes "D") ≡ Err 201 }
+    ensures version { routed_by worked.worked (codes "ADT") (codes "A01") (codes "2.3") (codes "D") ≡ Err 203 }
+    ensures processing { routed_by worked.worked (codes "ADT") (codes "A01") (codes "2.5.1") (codes "D") ≡ Err 202 }
+    ensures any { routed_by worked.open_worked (codes "ADT") (codes "A01") (codes "2.3") (codes "D") ≡ Ok worked.admission }
+{}
+
+/// What texts spell, and their faults by line.
+pub fn rows_of_texts()
+    ensures empty { spelled [] ≡ Err (fault.Syntax 1) }
+    ensures again { spelled worked.second_receiver ≡ Err (fault.Duplicate 3) }
+    ensures stray { spelled worked.stray_leg ≡ Err (fault.Syntax 3) }
+    ensures unknown { spelled worked.unknown_profile ≡ Err (fault.UnknownName 2) }
+    ensures hollow { spelled worked.empty_profile ≡ Err (fault.Profile 3 2) }
+    ensures broken { spelled worked.broken_profile ≡ Err (fault.Syntax 4) }
+    ensures refused { spelled worked.refused_profile ≡ Err (fault.Profile 4 2) }
+    ensures headless { spelled worked.headless_profile ≡ Err (fault.Profile 2 8) }
+    ensures unstopped { spelled worked.unstopped_profile ≡ Err (fault.Syntax 4) }
+    ensures stray_map { spelled worked.stray_map ≡ Err (fault.UnknownName 3) }
+{}

@@ -1,0 +1,18 @@
+//! Plans: which messages a gateway takes, by which profiles, and what it makes of them for whom.
+#![tactic(auto)]
+
+mod conforming;
+mod fault;
+mod form;
+mod index;
+mod inner;
+pub mod laws;
+mod plan;
+mod route;
+mod translated;
+
+pub use conforming::{Conforming, Refusal, admit};
+pub use fault::PlanFault;
+pub use plan::{Plan, Receiver};
+pub use route::Route;
+pub use translated::{Translated, translate_for};

@@ -1,0 +1,134 @@
+//! Plans.
+ghost use Rattle.std.specs.Prelude.{◌≡◌, ◌<◌, map, length, slice_get, Some, bytes_eq};
+ghost use Rattle.std.specs.List.{list_any};
+ghost use Rattle.gw_plan.specs.Routing.{header_text, is_accepted, routed};
+ghost use Rattle.gw_plan.specs.Held.{plan_value, lent, tested, FoundAt};
+ghost use Rattle.gw_plan.specs.Seen.{receiver_value};
+
+use crate::index::Index;
+use crate::route::Route;
+use gw_er7::{Message, Place};
+use std::marker::Model;
+
+/// A receiver: its name, and the address where it is reached.
+#[derive(Drop)]
+pub struct Receiver {
+    pub name: Vec<u8>,
+    pub address: Vec<u8>,
+}
+
+/// A plan: the receivers, the versions and processing ids that are accepted, and the routes. It is the meaning of its text by its type.
+#[derive(Drop)]
+pub struct Plan {
+    pub(crate) text: Vec<u8>,
+    receivers: Vec<Receiver>,
+    versions: Vec<Vec<u8>>,
+    processing: Vec<Vec<u8>>,
+    index: Index,
+    routes: Vec<Route>,
+}
+
+impl Model for Plan {
+    ghost use Rattle.std.specs.Coded.{codes};
+    ghost use Rattle.std.specs.Prelude.{map};
+    ghost use Rattle.gw_profile.specs.contracts.node.Node as node;
+    ghost use Rattle.gw_maplang.specs.contracts.item.Item as raw_item;
+    ghost use Rattle.gw_check.specs.contracts.resolved.Item as item;
+    ghost use Rattle.gw_plan.specs.Seen.{receiver_value};
+    ghost use Rattle.gw_plan.specs.Held.{PlanHeld};
+    ghost use Rattle.gw_plan.specs.Kept.{IsPlan};
+
+    ghost Value = { PlanHeld };
+
+    ghost coded = { Prim.hlevel (codes, node.the_row.coded, raw_item.the_row.coded, item.the_row.coded) };
+
+    ghost view = { λ p. record { text = p.text.items; receivers = map receiver_value p.receivers.items; versions = map (λ w. w.items) p.versions.items; processing = map (λ w. w.items) p.processing.items; routes = p.routes.items } };
+
+    ghost invariant = { λ p. IsPlan (record { text = p.text.items; receivers = map receiver_value p.receivers.items; versions = map (λ w. w.items) p.versions.items; processing = map (λ w. w.items) p.processing.items; routes = p.routes.items }) p.index };
+}
+
+// The first leaf of a component of a field of MSH.
+fn header_text(message: &Message, field: usize, comp: usize) -> &[u8]
+    ensures { result.now ≡ header_text message.now field comp }
+{
+    let count = message.segment_count();
+    if count == 0 {
+        return &[];
+    }
+    message.segment(0).text(Place {
+        field,
+        rep: 1,
+        comp,
+        sub: 1,
+    })
+}
+
+fn has(words: &[Vec<u8>], text: &[u8]) -> bool
+    ensures { result ≡ list_any (λ w. bytes_eq text.entry.now w.items) words.now }
+{
+    words.iter().any(|word| text == word.as_slice())
+}
+
+// Any text is accepted where no word is said.
+fn accepts(words: &[Vec<u8>], text: &[u8]) -> bool
+    ensures { result ≡ is_accepted (map (λ w. w.items) words.now) text.now }
+{
+    words.is_empty() || has(words, text)
+}
+
+impl Plan {
+    /// The text. It takes no memory.
+    pub fn text(&self) -> &[u8]
+        ensures { result.now ≡ self.now.text }
+    {
+        self.text.as_slice()
+    }
+
+    /// The receivers in the order of their lines, by which they are numbered from 0. It takes no memory.
+    pub fn receivers(&self) -> &[Receiver]
+        ensures { map receiver_value result.now ≡ self.now.receivers }
+    {
+        self.receivers.as_slice()
+    }
+
+    // The tests of version and processing id, for a route of this number.
+    fn tested(&self, message: &Message, number: usize) -> Result<usize, u16>
+        ensures { result ≡ tested (is_accepted self.now.versions (header_text message.now 12 1)) (is_accepted self.now.processing (header_text message.now 11 1)) number }
+    {
+        if !accepts(&self.versions, header_text(message, 12, 1)) {
+            return Err(203);
+        }
+        if !accepts(&self.processing, header_text(message, 11, 1)) {
+            return Err(202);
+        }
+        Ok(number)
+    }
+
+    /// The number of a message's route, or the code of the first test that fails.
+    pub(crate) fn find(&self, message: &Message) -> Result<usize, u16>
+        ensures { FoundAt self.now.routes result (routed (plan_value self.now) message.now) }
+    {
+        let code = header_text(message, 9, 1);
+        let event = header_text(message, 9, 2);
+        match self.index.find(code, event) {
+            Err(code) => Err(code),
+            Ok(number) => self.tested(message, number),
+        }
+    }
+
+    /// The route of this number.
+    pub(crate) fn route_at(&self, number: usize) -> &Route
+        requires { number < length self.now.routes }
+        ensures { slice_get self.now.routes number ≡ Some result.now }
+    {
+        &self.routes[number]
+    }
+
+    /// The message's route, or the code of the condition that fails first: 200 for its type, 201 for its event, 203 for its version, 202 for its processing id (HL7 table 0357). It takes no memory, and no more time where there are more routes.
+    pub fn route(&self, message: &Message) -> Result<&Route, u16>
+        ensures { lent result ≡ routed (plan_value self.now) message.now }
+    {
+        let number = self.find(message)?;
+        Ok(self.route_at(number))
+    }
+}

@@ -1,0 +1,71 @@
+//! Routes.
+ghost use Rattle.std.specs.Prelude.{◌≡◌, IfSome, length, nat_eq};
+ghost use Rattle.std.specs.List.{list_any};
+ghost use Rattle.std.specs.Arc.{arc_value};
+ghost use Rattle.std.specs.Map.{lookup};
+ghost use Rattle.std.specs.Option.{option_map};
+ghost use Rattle.gw_profile.specs.Seen.{profile_value};
+
+use gw_check::CheckedMap;
+use gw_profile::Profile;
+use indexmap::IndexMap;
+use std::marker::Model;
+use std::sync::Arc;
+
+/// The messages of a code and an event, the empty text where a message says none: the profile by which they are judged, and the receivers that they go to, each with the map that makes what it is sent.
+#[derive(Drop)]
+pub struct Route {
+    code: Vec<u8>,
+    event: Vec<u8>,
+    profile: Arc<Profile>,
+    legs: IndexMap<usize, Arc<CheckedMap>>,
+}
+
+impl Model for Route {
+    ghost use Rattle.std.specs.Coded.{codes};
+    ghost use Rattle.std.specs.Prelude.{map};
+    ghost use Rattle.std.specs.Arc.{arc_value};
+    ghost use Rattle.gw_profile.specs.contracts.node.Node as node;
+    ghost use Rattle.gw_maplang.specs.contracts.item.Item as raw_item;
+    ghost use Rattle.gw_check.specs.contracts.resolved.Item as item;
+    ghost use Rattle.gw_plan.specs.Held.{RouteHeld, IsRoute};
+
+    ghost Value = { RouteHeld };
+
+    ghost coded = { Prim.hlevel (codes, node.the_row.coded, raw_item.the_row.coded, item.the_row.coded) };
+
+    ghost view = { λ r. record { code = r.code.items; event = r.event.items; profile = arc_value r.profile; legs = map (λ l. (l.0, arc_value l.1)) r.legs.entries } };
+
+    ghost invariant = { λ r. IsRoute (record { code = r.code.items; event = r.event.items; profile = arc_value r.profile; legs = map (λ l. (l.0, arc_value l.1)) r.legs.entries }) };
+}
+
+impl Route {
+    /// The profile. It takes no memory.
+    pub fn profile(&self) -> &Arc<Profile>
+        ensures { arc_value result.now ≡ self.now.profile }
+    {
+        &self.profile
+    }
+
+    /// How many receivers it has. It takes no memory.
+    pub fn len(&self) -> usize
+        ensures { result ≡ length self.now.legs }
+    {
+        self.legs.len()
+    }
+
+    /// Whether it goes to this receiver. It takes no memory.
+    pub fn goes_to(&self, receiver: usize) -> bool
+        ensures { result ≡ list_any (λ l. nat_eq receiver l.0) self.now.legs }
+    {
+        self.legs.contains_key(&receiver)
+    }
+
+    /// The map that makes what this receiver is sent. It takes no memory.
+    pub fn map_for(&self, receiver: usize) -> Option<&Arc<CheckedMap>>
+        ensures leg { option_map (λ m. arc_value m.now) result ≡ lookup (nat_eq receiver) self.now.legs }
+        ensures takes { IfSome result (λ m. profile_value (arc_value m.now).source ≡ profile_value self.now.profile) }
+    {
+        self.legs.get(&receiver)
+    }
+}

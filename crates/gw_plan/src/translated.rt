@@ -1,0 +1,79 @@
+//! What receivers are sent.
+ghost use Rattle.std.specs.Prelude.{◌≡◌, IfOk};
+ghost use Rattle.std.specs.Arc.{arc_value};
+ghost use Rattle.gw_plan.specs.Admitted.{IsOf};
+ghost use Rattle.gw_plan.specs.Translating.{Translates};
+
+use crate::conforming::Conforming;
+use gw_er7::Message;
+use std::alloc::{AllocError, Global};
+use std::marker::Model;
+use std::sync::Arc;
+
+/// What is made of an admitted message for a receiver. It is made by `translate_for` alone.
+#[derive(Drop)]
+pub struct Translated {
+    source: Arc<Conforming>,
+    receiver: usize,
+    message: Message,
+}
+
+impl Model for Translated {
+    ghost use Rattle.std.specs.Coded.{codes};
+    ghost use Rattle.std.specs.Arc.{arc_value};
+    ghost use Rattle.gw_er7.specs.Message.{segment_code};
+    ghost use Rattle.gw_profile.specs.contracts.node.Node as node;
+    ghost use Rattle.gw_validate.specs.contracts.occurrences.Occurrences as occurrences;
+    ghost use Rattle.gw_maplang.specs.contracts.item.Item as raw_item;
+    ghost use Rattle.gw_check.specs.contracts.resolved.Item as item;
+    ghost use Rattle.gw_plan.specs.Translating.{TranslatedHeld, Translates};
+
+    ghost Value = { TranslatedHeld };
+
+    ghost coded = { Prim.hlevel (codes, segment_code, node.the_row.coded, occurrences.the_row.coded, raw_item.the_row.coded, item.the_row.coded) };
+
+    ghost view = { λ t. record { source = arc_value t.source; receiver = t.receiver; message = t.message } };
+
+    ghost invariant = { λ t. Translates (arc_value t.source) t.receiver t.message };
+}
+
+impl Translated {
+    /// The number of the receiver. It takes no memory.
+    pub fn receiver(&self) -> usize
+        ensures { result ≡ self.now.receiver }
+    {
+        self.receiver
+    }
+
+    /// The message that the receiver is sent. It takes no memory.
+    pub fn message(&self) -> &Message
+        ensures message { result.now ≡ self.now.message }
+        ensures translates { Translates self.now.source self.now.receiver self.now.message }
+    {
+        &self.message
+    }
+}
+
+/// What a receiver is sent of an admitted message whose route goes to it. The one error is want of memory.
+pub fn translate_for(
+    alloc: Global,
+    conforming: &Arc<Conforming>,
+    receiver: usize,
+) -> Result<Arc<Translated>, AllocError>
+    requires { IsOf (arc_value conforming.now) receiver }
+    ensures source { IfOk result (λ t. (arc_value t).source ≡ arc_value conforming.now) }
+    ensures receiver { IfOk result (λ t. (arc_value t).receiver ≡ receiver) }
+    ensures translates { IfOk result (λ t. Translates (arc_value conforming.now) receiver (arc_value t).message) }
+{
+    let message = conforming.translation(alloc, receiver)?;
+    let source = Arc::try_clone(conforming)?;
+    let made = Arc::new(
+        alloc,
+        Translated {
+            source,
+            receiver,
+            message,
+        },
+    )?;
+    Ok(made)
+}
