@@ -1,7 +1,7 @@
 //! Messages looked at and built.
 ghost use Rattle.std.specs.Prelude.{◌≡◌};
 
-use gw_er7::{Builder, Place, is_canonical, is_segment_name, read, write};
+use gw_er7::{Builder, Place, Segment, is_canonical, is_segment_name, read, write};
 use std::test::Fail;
 
 fn place(field: usize, rep: usize, comp: usize, sub: usize) -> Place
@@ -15,84 +15,64 @@ fn place(field: usize, rep: usize, comp: usize, sub: usize) -> Place
     }
 }
 
-/// The values of PID below, in order.
-const VALUES: [(Place, &[u8]); 5] = [
+/// The segment that is looked at is its second.
+const CONTENT: &[u8] = b"MSH|^~\\&\rPID||x|a^b&c~~d\r";
+
+// How much there is of each kind in PID.
+fn counts(segment: &Segment<'_>) -> (usize, usize, usize, usize, usize) {
     (
-        Place {
-            field: 2,
-            rep: 1,
-            comp: 1,
-            sub: 1,
-        },
-        b"x",
-    ),
-    (
-        Place {
-            field: 3,
-            rep: 1,
-            comp: 1,
-            sub: 1,
-        },
-        b"a",
-    ),
-    (
-        Place {
-            field: 3,
-            rep: 1,
-            comp: 2,
-            sub: 1,
-        },
-        b"b",
-    ),
-    (
-        Place {
-            field: 3,
-            rep: 1,
-            comp: 2,
-            sub: 2,
-        },
-        b"c",
-    ),
-    (
-        Place {
-            field: 3,
-            rep: 3,
-            comp: 1,
-            sub: 1,
-        },
-        b"d",
-    ),
-];
+        segment.field_count(),
+        segment.reps(3),
+        segment.comps(3, 1),
+        segment.comps(3, 2),
+        segment.subs(3, 1, 2),
+    )
+}
+
+// Whether places are found wherever they are looked for first.
+fn is_found_from(segment: &Segment<'_>, near: usize) -> bool {
+    segment.values_before(near, place(3, 1, 2, 0)) == 2
+        && segment.text_near(near, place(3, 3, 1, 1)) == b"d".as_slice()
+        && segment.text_near(near, place(3, 2, 1, 1)).is_empty()
+}
+
+// Whether the value of this number is this text, and is found by its place.
+fn is_value(segment: &Segment<'_>, i: usize, text: &[u8]) -> bool {
+    if i >= segment.value_count() {
+        return false;
+    }
+    let value = segment.value(i);
+    value.text == text && segment.text(value.place) == text
+}
+
+// Whether these are all values of PID, with their ranges.
+fn has_values(segment: &Segment<'_>) -> bool {
+    segment.value_count() == 5
+        && is_value(segment, 0, b"x")
+        && is_value(segment, 3, b"c")
+        && is_value(segment, 4, b"d")
+        && segment.field_values(3) == (1, 5)
+        && segment.rep_values(3, 1) == (1, 4)
+}
+
+// Whether the segment is PID with its values.
+fn is_pid(segment: &Segment<'_>) -> bool {
+    segment.again().name() == *b"PID"
+        && counts(segment) == (3, 3, 2, 0, 2)
+        && is_found_from(segment, 0)
+        && is_found_from(segment, 7)
+        && has_values(segment)
+}
 
 #[test]
 fn a_segment_is_looked_at(rt: HostRuntime) -> Result<(), Fail> {
-    let message = read(rt.alloc(), b"MSH|^~\\&\rPID||x|a^b&c~~d\r")?;
-    assert_eq!(rt; message.segment_count(), 2);
-    let segment = message.segment(1);
-    assert_eq!(rt; segment.again().name(), *b"PID");
-    assert_eq!(rt; segment.field_count(), 3);
-    assert_eq!(rt; segment.reps(3), 3);
-    assert_eq!(rt; segment.comps(3, 1), 2);
-    assert_eq!(rt; segment.comps(3, 2), 0);
-    assert_eq!(rt; segment.subs(3, 1, 2), 2);
-    for near in 0..8 {
-        assert_eq!(rt; segment.values_before(near, place(3, 1, 2, 0)), 2);
-        assert_eq!(rt; segment.text_near(near, place(3, 3, 1, 1)), b"d".as_slice());
-        assert!(rt; segment.text_near(near, place(3, 2, 1, 1)).is_empty());
-    }
-    assert_eq!(rt;
-        (segment.field_values(3), segment.rep_values(3, 1)),
-        ((1, 5), (1, 4))
-    );
-    assert_eq!(rt; segment.value_count(), VALUES.len());
-    for i in 0..segment.value_count() {
-        let value = segment.value(i);
-        if i < VALUES.len() {
-            assert_eq!(rt; value.place, VALUES[i].0);
-            assert_eq!(rt; value.text, VALUES[i].1);
-        }
-        assert_eq!(rt; segment.text(value.place), value.text);
-    }
+    let message = read(rt.alloc(), CONTENT)?;
+    assert!(rt; message.segment_count() == 2 && is_pid(&message.segment(1)));
+    Ok(())
+}
+
+#[test]
+fn texts_and_names_are_told(rt: HostRuntime) -> Result<(), Fail> {
     assert!(rt; is_canonical(b"x\\.br\\y") && !is_canonical(b"C:\\a"));
     assert!(rt; is_segment_name(b"Z01") && !is_segment_name(b"1ID"));
     Ok(())

@@ -85,14 +85,14 @@ impl Write for Device<'_> {
 }
 
 /// What a run answers, and the device that it wrote to.
-fn run<'a>(
+fn run<'a, R: Read + Drop>(
     alloc: Global,
-    mut input: Device<'_>,
+    input: R,
     mut output: Device<'a>,
 ) -> Result<(Result<Counts, RunFault>, Device<'a>), Fail> {
     let profile = profile(alloc, "profile P\nsegment MSH R 1..1\nsegment PID R 1..1\n")?;
     let stamp = Stamp::from_digits(b"20240102030406").ok_or("a stamp")?;
-    let mut reader = Reads::new(&mut input);
+    let mut reader = Reads::new(input);
     let mut writer = Writes::new(&mut output);
     let result = answer_stream(alloc, profile, stamp, &mut reader, &mut writer);
     Ok((result, output))
@@ -151,19 +151,34 @@ fn interrupted(rt: HostRuntime) -> Result<(), Fail> {
     Ok(())
 }
 
+/// Gives CR, one byte a read, so often.
+#[derive(Drop)]
+struct Gap {
+    left: usize,
+}
+
+impl Read for Gap {
+    fn read(&mut self, buf: &mut [u8]) -> io::Result<usize> {
+        if self.left == 0 || buf.is_empty() {
+            return Ok(0);
+        }
+        self.left -= 1;
+        buf[0] = 13;
+        Ok(1)
+    }
+}
+
 /// The 1,000,000th read that gives something is one too many.
 #[test]
 fn turns(rt: HostRuntime) -> Result<(), Fail> {
     let alloc = rt.alloc();
-    let gap = vec![in alloc; 13u8; 1_000_000]?;
-    for (stream, want) in [
-        (&gap[1..], Ok(Counts::none())),
-        (&gap[..], Err(RunFault::Turns)),
+    for (left, want) in [
+        (999_999, Ok(Counts::none())),
+        (1_000_000, Err(RunFault::Turns)),
     ] {
-        let input = Device::new(alloc, stream, 1, 2_000_000, 0);
-        let (result, output) = run(alloc, input, Device::new(alloc, b"", 1, 1000, 0))?;
+        let output = Device::new(alloc, b"", 1, 1000, 0);
+        let (result, output) = run(alloc, Gap { left }, output)?;
         assert!(rt; result == want && output.held.is_empty());
     }
-    assert_eq!(rt; RunFault::Turns.number(), 6);
     Ok(())
 }

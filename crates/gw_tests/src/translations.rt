@@ -2,11 +2,13 @@
 ghost use Rattle.std.specs.Prelude.{◌≡◌};
 
 use crate::worked::profile;
-use gw_check::check;
+use gw_check::{CheckedMap, check};
 use gw_er7::{Builder, Message, Place};
 use gw_interp::translate;
-use gw_validate::{Verdict, validate};
+use gw_profile::Profile;
+use gw_validate::{Tree, Verdict, validate};
 use std::alloc::{AllocError, Global};
+use std::sync::Arc;
 use std::test::Fail;
 
 const P: &str =
@@ -43,28 +45,52 @@ fn far(alloc: Global) -> Result<Message, AllocError> {
     Ok(builder.finish())
 }
 
+fn checked(alloc: Global) -> Result<CheckedMap, Fail> {
+    let source = profile(alloc, P)?;
+    let target = source.clone()?;
+    let Ok(map) = gw_maplang::parse(alloc, M) else {
+        return Err("no map".into());
+    };
+    match check(alloc, source, target, map) {
+        Ok(map) => Ok(map),
+        Err(_) => Err("the map is refused".into()),
+    }
+}
+
+fn tree_of(alloc: Global, source: Arc<Profile>) -> Result<Tree, Fail> {
+    let message = far(alloc)?;
+    match validate(alloc, source, message) {
+        Ok(Verdict::Fits(tree)) => Ok(tree),
+        _ => Err("it breaks".into()),
+    }
+}
+
+fn made(alloc: Global, map: &CheckedMap, tree: &Tree) -> Result<Message, Fail> {
+    if !map.takes(tree) {
+        return Err("another profile".into());
+    }
+    let made = translate(alloc, map, tree)?;
+    Ok(made)
+}
+
+// Whether the value stands in PID-2 and PID-3, as far away, and nothing else does.
+fn is_copied(made: &Message) -> bool {
+    if made.segment_count() != 2 {
+        return false;
+    }
+    let patient = made.segment(1);
+    patient.value_count() == 2
+        && patient.text(far_away(2)) == b"A".as_slice()
+        && patient.text(far_away(3)) == b"A".as_slice()
+}
+
 // Only the values that are there are copied, however far the last one is.
 #[test]
 fn values_far_away(rt: HostRuntime) -> Result<(), Fail> {
     let alloc = rt.alloc();
-    let source = profile(alloc, P)?;
-    let map = gw_maplang::parse(alloc, M)?;
-    let Ok(map) = check(alloc, source, profile(alloc, P)?, map) else {
-        return Err("the map is refused".into());
-    };
-    let Ok(Verdict::Fits(tree)) = validate(alloc, map.source().clone()?, far(alloc)?) else {
-        return Err("it breaks".into());
-    };
-    if !map.takes(&tree) {
-        return Err("another profile".into());
-    }
-    let made = translate(alloc, &map, &tree)?;
-    if made.segment_count() != 2 {
-        return Err("other segments".into());
-    }
-    let patient = made.segment(1);
-    assert_eq!(rt; patient.text(far_away(2)), b"A".as_slice());
-    assert_eq!(rt; patient.text(far_away(3)), b"A".as_slice());
-    assert_eq!(rt; patient.value_count(), 2);
+    let map = checked(alloc)?;
+    let tree = tree_of(alloc, map.source().clone()?)?;
+    let made = made(alloc, &map, &tree)?;
+    assert!(rt; is_copied(&made));
     Ok(())
 }

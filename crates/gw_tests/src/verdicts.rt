@@ -15,6 +15,17 @@ fn at<'a>(occ: &Occ<'a>, child: usize, k: usize) -> Option<Occ<'a>> {
     Some(occ.child(child, k))
 }
 
+// Whether a tree has two results, of two orders and of one, and how the second order stands in the first.
+fn is_shaped(root: &Occ<'_>) -> Option<bool> {
+    let first = at(root, 1, 0)?;
+    let second = at(root, 1, 1)?;
+    let order = at(&first, 1, 1)?;
+    let segment = at(&order, 0, 0)?;
+    let segment = segment.segment()?;
+    let ends = at(root, 1, 2).is_none() && at(&first, 1, 2).is_none();
+    Some(ends && at(&second, 1, 1).is_none() && segment.name() == *b"OBR")
+}
+
 #[test]
 fn results(rt: HostRuntime) -> Result<(), Fail> {
     let alloc = rt.alloc();
@@ -23,19 +34,8 @@ fn results(rt: HostRuntime) -> Result<(), Fail> {
     let Ok(Verdict::Fits(tree)) = validate(alloc, profile(alloc, ORU)?, message) else {
         return Err("it fits".into());
     };
-    let root = tree.root();
-    assert_eq!(rt; root.children(), 2);
-    let first = at(&root, 1, 0).ok_or("a result")?;
-    let second = at(&root, 1, 1).ok_or("two results")?;
-    assert!(rt; at(&root, 1, 2).is_none() && at(&first, 1, 2).is_none());
-    assert!(rt; at(&second, 1, 0).is_some() && at(&second, 1, 1).is_none());
-    let order = at(&first, 1, 1).ok_or("two orders")?;
-    assert!(rt; order.segment().is_none());
-    let segment = at(&order, 0, 0).ok_or("a segment")?;
-    let segment = segment.segment().ok_or("a segment")?;
-    assert_eq!(rt; segment.name(), *b"OBR");
-    assert_eq!(rt; tree.message().segment_count(), 6);
-    assert_eq!(rt; tree.profile().name(), b"ORU".as_slice());
-    assert_eq!(rt; tree.into_message().segment_count(), 6);
+    assert!(rt; is_shaped(&tree.root()) == Some(true) && tree.message().segment_count() == 6);
+    assert!(rt; tree.profile().name() == b"ORU".as_slice());
+    assert!(rt; tree.into_message().segment_count() == 6);
     Ok(())
 }

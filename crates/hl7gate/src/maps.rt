@@ -168,6 +168,25 @@ fn write_refusal<'a, O: Write, E: Write>(
     Ok(())
 }
 
+// Prints what the rules say of a map. False where they refuse it.
+fn write_checked<'a, O: Write, E: Write>(
+    alloc: Global,
+    checked: &Checked<'a>,
+    output: &mut O,
+    errors: &mut E,
+) -> Result<bool, Ended<'a>> {
+    match checked {
+        Checked::Allowed(_) => {
+            write_all(output, b"accepted\n")?;
+            Ok(true)
+        }
+        Checked::Refused(refusal) => {
+            write_refusal(alloc, refusal, output, errors)?;
+            Ok(false)
+        }
+    }
+}
+
 /// Prints whether the rules allow a map, and else the rule that refuses it; what a person needs to mend it goes to `errors`. False where it is refused.
 pub(crate) fn check<'a, R: Files + AllocGlobal, O: Write, E: Write>(
     rt: &R,
@@ -175,16 +194,8 @@ pub(crate) fn check<'a, R: Files + AllocGlobal, O: Write, E: Write>(
     output: &mut O,
     errors: &mut E,
 ) -> Result<bool, Ended<'a>> {
-    match read_checked(rt, words)? {
-        Checked::Allowed(_) => {
-            write_all(output, b"accepted\n")?;
-            Ok(true)
-        }
-        Checked::Refused(refusal) => {
-            write_refusal(rt.alloc(), &refusal, output, errors)?;
-            Ok(false)
-        }
-    }
+    let checked = read_checked(rt, words)?;
+    write_checked(rt.alloc(), &checked, output, errors)
 }
 
 /// The tree of a content that conforms to a profile.
@@ -252,6 +263,26 @@ fn tell_refusal<'a, E: Write>(
     Ok(())
 }
 
+// Writes the translation by a map that the rules allow, and else tells the rule that refuses it: then it answers false.
+fn translate_by<'a, R: AllocGlobal, I: Read + Drop, O: Write, E: Write>(
+    rt: &R,
+    checked: &Checked<'a>,
+    input: I,
+    output: &mut O,
+    errors: &mut E,
+) -> Result<bool, Ended<'a>> {
+    match checked {
+        Checked::Allowed(map) => {
+            write_translation(rt, map, input, output)?;
+            Ok(true)
+        }
+        Checked::Refused(refusal) => {
+            tell_refusal(rt.alloc(), refusal, errors)?;
+            Ok(false)
+        }
+    }
+}
+
 /// Prints the translation of the content on standard input. A map that is refused is told before that is read: then it answers false.
 pub(crate) fn translate<'a, R: Files + AllocGlobal, I: Read + Drop, O: Write, E: Write>(
     rt: &R,
@@ -260,14 +291,6 @@ pub(crate) fn translate<'a, R: Files + AllocGlobal, I: Read + Drop, O: Write, E:
     output: &mut O,
     errors: &mut E,
 ) -> Result<bool, Ended<'a>> {
-    match read_checked(rt, words)? {
-        Checked::Allowed(map) => {
-            write_translation(rt, &map, input, output)?;
-            Ok(true)
-        }
-        Checked::Refused(refusal) => {
-            tell_refusal(rt.alloc(), &refusal, errors)?;
-            Ok(false)
-        }
-    }
+    let checked = read_checked(rt, words)?;
+    translate_by(rt, &checked, input, output, errors)
 }

@@ -30,6 +30,18 @@ struct Subject<'a> {
     expected: Option<&'a str>,
 }
 
+// The first line of a refusal: its number, with its line or name.
+fn tell_number<E: Write>(errors: &mut E, word: &str, number: u8, place: Place) {
+    let _ = match place {
+        Place::Whole => writeln!(errors, "{word} refused {number}"),
+        Place::Line(line) => writeln!(errors, "{word} refused {number} line {line}"),
+        Place::Name(name) => {
+            let [first, second, third] = name.map(char::from);
+            writeln!(errors, "{word} refused {number} {first}{second}{third}")
+        }
+    };
+}
+
 /// Tells a refusal: on the first line its number, with its line or name; on the next where the text came from, and what was expected there or is wrong with it.
 fn tell_refused<E: Write, F: Display>(
     errors: &mut E,
@@ -46,14 +58,7 @@ fn tell_refused<E: Write, F: Display>(
         from,
         expected,
     } = subject;
-    let _ = match place {
-        Place::Whole => writeln!(errors, "{word} refused {number}"),
-        Place::Line(line) => writeln!(errors, "{word} refused {number} line {line}"),
-        Place::Name(name) => {
-            let [first, second, third] = name.map(char::from);
-            writeln!(errors, "{word} refused {number} {first}{second}{third}")
-        }
-    };
+    tell_number(errors, word, number, place);
     let _ = match (place, expected) {
         (Place::Line(line), Some(said)) => writeln!(errors, "{from}:{line}: {said}"),
         _ => writeln!(errors, "{from}: {fault}"),
