@@ -93,8 +93,10 @@ impl Conforming {
         ensures { IfOk result (Translates self.now receiver) }
     {
         let tree = &self.tree;
+        // (its clause tells that the tree is the message's)
         let _root = tree.root();
         match self.route().map_for(receiver) {
+            // (it doesn't come: the route goes to the receiver)
             None => Err(AllocError),
             Some(map) => match translate(alloc, map, tree) {
                 Err(error) => Err(error),
