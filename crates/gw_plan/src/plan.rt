@@ -124,7 +124,8 @@ impl Plan {
         &self.routes[number]
     }
 
-    /// The message's route, or the code of the condition that fails first: 200 for its type, 201 for its event, 203 for its version, 202 for its processing id (HL7 table 0357). It takes no memory, and no more time where there are more routes.
+    /// The message's route, or the code of the condition that fails first:
+    /// 200 for its type, 201 for its event, 203 for its version, 202 for its processing id (HL7 table 0357). It takes no memory, and no more time where there are more routes.
     pub fn route(&self, message: &Message) -> Result<&Route, u16>
         ensures { lent result ≡ routed (plan_value self.now) message.now }
     {

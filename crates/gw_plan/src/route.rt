@@ -12,7 +12,8 @@ use indexmap::IndexMap;
 use std::marker::Model;
 use std::sync::Arc;
 
-/// The messages of a code and an event, the empty text where a message says none: the profile by which they are judged, and the receivers that they go to, each with the map that makes what it is sent.
+/// The messages of a code and an event, the empty text where a message says none:
+/// the profile by which they are judged, and the receivers that they go to, each with the map that makes what it is sent.
 #[derive(Drop)]
 pub struct Route {
     code: Vec<u8>,
