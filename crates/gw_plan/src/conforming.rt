@@ -4,7 +4,7 @@ ghost use Rattle.std.specs.Arc.{arc_value};
 ghost use Rattle.gw_profile.specs.Seen.{profile_value};
 ghost use Rattle.gw_plan.specs.Held.{plan_value, route_value};
 ghost use Rattle.gw_plan.specs.Routing.{routed};
-ghost use Rattle.gw_plan.specs.Admitted.{ConformingHeld, IsConforming, IsAdmitted, IsRefused, IsUnder, IsOf};
+ghost use Rattle.gw_plan.specs.Admitted.{ConformingHeld, IsConforming, IsAdmitted, IsRefused, IsSameSource, IsUnder, IsOf};
 ghost use Rattle.gw_plan.specs.Translating.{Translates};
 
 use crate::plan::Plan;
@@ -83,6 +83,16 @@ impl Conforming {
         ensures { IsTrue result ↔ IsUnder self.now version plan.now }
     {
         self.version == version && self.plan.text() == plan.text()
+    }
+
+    /// Whether these are the same: message, version and the plan's text. It takes no memory.
+    pub fn same(&self, other: &Conforming) -> bool
+        ensures { IsTrue result ↔ IsSameSource self.now other.now }
+    {
+        if !other.under(self.version, &self.plan) {
+            return false;
+        }
+        self.message().same(other.message())
     }
 }
 

@@ -1,5 +1,5 @@
 //! Routes.
-ghost use Rattle.std.specs.Prelude.{◌≡◌, IfSome, length, nat_eq};
+ghost use Rattle.std.specs.Prelude.{◌≡◌, IfSome, length, nat_eq, slice_get};
 ghost use Rattle.std.specs.List.{list_any};
 ghost use Rattle.std.specs.Arc.{arc_value};
 ghost use Rattle.std.specs.Map.{lookup};
@@ -53,6 +53,16 @@ impl Route {
         ensures { result ≡ length self.now.legs }
     {
         self.legs.len()
+    }
+
+    /// The number of its receiver of this place in the order of its lines, from 0. It takes no memory.
+    pub fn receiver(&self, i: usize) -> Option<usize>
+        ensures { result ≡ option_map (λ l. l.0) (slice_get self.now.legs i) }
+    {
+        match self.legs.get_index(i) {
+            None => None,
+            Some((receiver, _)) => Some(*receiver),
+        }
     }
 
     /// Whether it goes to this receiver. It takes no memory.

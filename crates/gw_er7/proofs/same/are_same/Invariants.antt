@@ -1,6 +1,6 @@
 use Rattle.std.proofs.Common.{◌≡◌, ◌↔◌, drop, length}
 use Rattle.std.specs.List.{AllZip}
-use Rattle.gw_profile.proofs.same.are_same.Given as goal
+use Rattle.gw_er7.proofs.same.are_same.Given as goal
 
 abbrev pub invariant-loop-i : goal.invariant-loop-i
 invariant-loop-i g l = record {
