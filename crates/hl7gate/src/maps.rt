@@ -240,10 +240,10 @@ fn write_message<'a, O: Write>(
 }
 
 /// Writes the translation of the content on standard input, which has no frame.
-fn write_translation<'a, R: AllocGlobal, I: Read + Drop, O: Write>(
+fn write_translation<'a, R: AllocGlobal, I: Read, O: Write>(
     rt: &R,
     map: &CheckedMap,
-    input: I,
+    input: &mut I,
     output: &mut O,
 ) -> Result<(), Ended<'a>> {
     let content = read_all(rt, input)?;
@@ -264,10 +264,10 @@ fn tell_refusal<'a, E: Write>(
 }
 
 // Writes the translation by a map that the rules allow, and else tells the rule that refuses it: then it answers false.
-fn translate_by<'a, R: AllocGlobal, I: Read + Drop, O: Write, E: Write>(
+fn translate_by<'a, R: AllocGlobal, I: Read, O: Write, E: Write>(
     rt: &R,
     checked: &Checked<'a>,
-    input: I,
+    input: &mut I,
     output: &mut O,
     errors: &mut E,
 ) -> Result<bool, Ended<'a>> {
@@ -284,10 +284,10 @@ fn translate_by<'a, R: AllocGlobal, I: Read + Drop, O: Write, E: Write>(
 }
 
 /// Prints the translation of the content on standard input. A map that is refused is told before that is read: then it answers false.
-pub(crate) fn translate<'a, R: Files + AllocGlobal, I: Read + Drop, O: Write, E: Write>(
+pub(crate) fn translate<'a, R: Files + AllocGlobal, I: Read, O: Write, E: Write>(
     rt: &R,
     words: &ArgMatches<'a>,
-    input: I,
+    input: &mut I,
     output: &mut O,
     errors: &mut E,
 ) -> Result<bool, Ended<'a>> {
