@@ -1,5 +1,5 @@
 //! Routes.
-ghost use Rattle.std.specs.Prelude.{◌≡◌, IfSome, length, nat_eq, slice_get};
+ghost use Rattle.std.specs.Prelude.{◌≡◌, ◌<◌, IfSome, Some, length, map, nat_eq, slice_get};
 ghost use Rattle.std.specs.List.{list_any};
 ghost use Rattle.std.specs.Arc.{arc_value};
 ghost use Rattle.std.specs.Map.{lookup};
@@ -55,13 +55,14 @@ impl Route {
         self.legs.len()
     }
 
-    /// The number of its receiver of this place in the order of its lines, from 0. It takes no memory.
-    pub fn receiver(&self, i: usize) -> Option<usize>
-        ensures { result ≡ option_map (λ l. l.0) (slice_get self.now.legs i) }
+    /// The number of the receiver of its `to` line of this place, from 0. It takes no memory.
+    pub fn receiver(&self, i: usize) -> usize
+        requires { i < length self.now.legs }
+        ensures { slice_get (map (λ l. l.0) self.now.legs) i ≡ Some result }
     {
         match self.legs.get_index(i) {
-            None => None,
-            Some((receiver, _)) => Some(*receiver),
+            Some((receiver, _)) => *receiver,
+            None => unreachable!(),
         }
     }
 

@@ -95,3 +95,14 @@ fn a_message_is_built(rt: HostRuntime) -> Result<(), Fail> {
     assert_eq!(rt; again.as_slice(), want);
     Ok(())
 }
+
+// The same values with separators that say nothing, and two values less.
+const SAME: &[u8] = b"MSH|^~\\&\rPID||x|a^b&c~~d||\r";
+const LESS: &[u8] = b"MSH|^~\\&\rPID||x|a^b&c\r";
+
+#[test]
+fn equal_messages_are_the_same(rt: HostRuntime) -> Result<(), Fail> {
+    let message = read(rt.alloc(), CONTENT)?;
+    assert!(rt; message.same(&read(rt.alloc(), SAME)?) && !message.same(&read(rt.alloc(), LESS)?));
+    Ok(())
+}
