@@ -1,9 +1,9 @@
 -- The least of failures.
 use Rattle.std.proofs.Common.{◌≡◌, ℕ, ◌==◌, true, false, List, [], ◌∷◌, length, None, refl, sym, ap, ◌∙◌, inl, inr, arith}
 use Rattle.std.proofs.lemmas.Bool.Decides.{eqb_tells}
-use Rattle.gw_check.specs.declared.failure.Failure.{Failure}
+use Rattle.gw_resolve.specs.declared.failure.Failure.{Failure}
 use Rattle.gw_check.specs.Checked.{least}
-use Rattle.gw_check.specs.Seen.{failures}
+use Rattle.gw_resolve.specs.Seen.{failures}
 
 -- where there is none, there are no failures
 pub none_least : (l : List Failure) → None ≡ least (failures l) → l ≡ []

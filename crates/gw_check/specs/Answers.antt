@@ -6,12 +6,12 @@ use Rattle.gw_maplang.specs.Shapes.{MapValue}
 use Rattle.gw_maplang.specs.Seen.{Contents}
 use Rattle.gw_check.specs.declared.checker.Judged as judged
 use Rattle.gw_check.specs.declared.checker.CheckFault as faults
-use Rattle.gw_check.specs.declared.resolved.Item.{Item}
-use Rattle.gw_check.specs.declared.resolved.LeftOut.{LeftOut}
-use Rattle.gw_check.specs.Resolved.{Resolved}
-use Rattle.gw_check.specs.Naming.{resolved}
+use Rattle.gw_resolve.specs.declared.resolved.Item.{Item}
+use Rattle.gw_resolve.specs.declared.resolved.LeftOut.{LeftOut}
+use Rattle.gw_resolve.specs.Resolved.{Resolved}
+use Rattle.gw_resolve.specs.Naming.{resolved}
 use Rattle.gw_check.specs.Checked.{all_failures, least}
-use Rattle.gw_check.specs.Seen.{failure, all_items, left_out}
+use Rattle.gw_resolve.specs.Seen.{failure, all_items, left_out}
 
 -- a map without labels, as the program holds it
 abbrev pub unlabelled : MapValue → List Item → List LeftOut → Resolved

@@ -6,20 +6,18 @@ ghost use Rattle.gw_profile.specs.WellFormed.{WellFormed};
 ghost use Rattle.gw_maplang.specs.Seen.{map_value};
 ghost use Rattle.gw_check.specs.Answers.{unlabelled, Judges, IsUnlabelled, IsRefusal};
 ghost use Rattle.gw_check.specs.Checked.{all_failures};
-ghost use Rattle.gw_check.specs.Noted.{Notes};
-ghost use Rattle.gw_check.specs.Seen.{failures as seen_failures};
+ghost use Rattle.gw_resolve.specs.Noted.{Notes};
+ghost use Rattle.gw_resolve.specs.Seen.{failures as seen_failures};
 ghost use Rattle.gw_check.specs.Typed as typed;
 
 use crate::checked::CheckedMap;
-use crate::element::Element;
-use crate::failure::{Failure, least, note};
+use crate::failure::least;
 use crate::inside::{Sides, check_items};
 use crate::level::check_level;
 use crate::reads::passes_over;
-use crate::resolve::{Resolving, resolve};
-use crate::resolved::{Item, LeftOut};
 use gw_maplang::Map;
-use gw_profile::Profile;
+use gw_profile::{Level, Profile};
+use gw_resolve::{Element, Failure, Item, LeftOut, Resolving, note, resolve};
 use std::alloc::{AllocError, Global};
 use std::sync::Arc;
 
@@ -54,16 +52,18 @@ fn add_failures(
     alloc: Global,
     found: &mut Vec<Failure>,
     sides: Sides<'_, '_, '_>,
+    level: &Level<'_>,
     items: &[Item],
     drops: &[LeftOut],
 ) -> Result<(), AllocError>
+    requires { level.now ≡ sides.source.now.nodes }
     ensures source { WellFormed (profile_value sides.entry.source.now) }
     ensures target { WellFormed (profile_value sides.entry.target.now) }
     ensures found { OnOk result (Notes found.old found.new (typed.failures (profile_value sides.entry.source.now) (profile_value sides.entry.target.now) (unlabelled (map_value sides.entry.map.now) items.now drops.now))) }
 {
     let whole = sides.source.nodes();
     let nodes = sides.target.nodes();
-    let scope = [Element::Whole(whole)];
+    let scope = [Element::Whole(Some(level))];
     check_level(alloc, found, &scope, sides.map.line(), nodes, items)?;
     check_items(alloc, found, sides, &scope, nodes, items)?;
     let passed = passes_over(alloc, whole, items, drops)?;
@@ -80,7 +80,9 @@ fn examine(
     ensures found { IfOk result (λ e. seen_failures e.found.items ≡ all_failures (profile_value source.now) (profile_value target.now) (map_value map.now)) }
     ensures items { IfOk result (λ e. e.found.items ≡ [] → IsUnlabelled (profile_value source.now) (profile_value target.now) (map_value map.now) e.items.items) }
 {
-    match resolve(alloc, source, target, map)? {
+    let from = Level::of(alloc, source)?;
+    let to = Level::of(alloc, target)?;
+    match resolve(alloc, &from, &to, map)? {
         Resolving::Refused(found) => Ok(Examined {
             found,
             items: Vec::new(alloc),
@@ -92,7 +94,7 @@ fn examine(
                 target,
                 map,
             };
-            add_failures(alloc, &mut found, sides, &named.items, &named.drops)?;
+            add_failures(alloc, &mut found, sides, &from, &named.items, &named.drops)?;
             Ok(Examined {
                 found,
                 items: named.items,

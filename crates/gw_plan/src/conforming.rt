@@ -32,7 +32,7 @@ impl Model for Conforming {
     ghost use Rattle.gw_profile.specs.contracts.node.Node as node;
     ghost use Rattle.gw_validate.specs.contracts.occurrences.Occurrences as occurrences;
     ghost use Rattle.gw_maplang.specs.contracts.item.Item as raw_item;
-    ghost use Rattle.gw_check.specs.contracts.resolved.Item as item;
+    ghost use Rattle.gw_resolve.specs.contracts.resolved.Item as item;
     ghost use Rattle.gw_plan.specs.Admitted.{ConformingHeld, IsConforming};
 
     ghost Value = { ConformingHeld };

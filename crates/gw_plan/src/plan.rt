@@ -48,7 +48,7 @@ impl Model for Plan {
     ghost use Rattle.std.specs.Prelude.{map};
     ghost use Rattle.gw_profile.specs.contracts.node.Node as node;
     ghost use Rattle.gw_maplang.specs.contracts.item.Item as raw_item;
-    ghost use Rattle.gw_check.specs.contracts.resolved.Item as item;
+    ghost use Rattle.gw_resolve.specs.contracts.resolved.Item as item;
     ghost use Rattle.gw_plan.specs.Seen.{receiver_value};
     ghost use Rattle.gw_plan.specs.Held.{PlanHeld};
     ghost use Rattle.gw_plan.specs.Kept.{IsPlan};

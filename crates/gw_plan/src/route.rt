@@ -28,7 +28,7 @@ impl Model for Route {
     ghost use Rattle.std.specs.Arc.{arc_value};
     ghost use Rattle.gw_profile.specs.contracts.node.Node as node;
     ghost use Rattle.gw_maplang.specs.contracts.item.Item as raw_item;
-    ghost use Rattle.gw_check.specs.contracts.resolved.Item as item;
+    ghost use Rattle.gw_resolve.specs.contracts.resolved.Item as item;
     ghost use Rattle.gw_plan.specs.Held.{RouteHeld, IsRoute};
 
     ghost Value = { RouteHeld };

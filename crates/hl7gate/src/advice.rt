@@ -1,7 +1,8 @@
 //! What a person needs of a map that a rule refuses: the file and its line, what the rule demands, and what to do.
 use crate::maps::Sides;
-use gw_check::{Failure, FieldAt};
+use gw_check::FieldAt;
 use gw_profile::Node;
+use gw_resolve::Failure;
 use std::alloc::{AllocError, Global};
 use std::collections::BTreeSet;
 use std::io::Write;

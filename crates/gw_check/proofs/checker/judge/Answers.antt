@@ -1,6 +1,6 @@
 use Rattle.std.proofs.Common.{sym, ap, ◌∙◌, option_map}
 use Rattle.gw_check.specs.Checked.{least}
-use Rattle.gw_check.specs.Seen.{failure, failures}
+use Rattle.gw_resolve.specs.Seen.{failure, failures}
 use Rattle.gw_check.proofs.Least.{none_least}
 use Rattle.gw_check.proofs.checker.judge.Goals as goal
 
