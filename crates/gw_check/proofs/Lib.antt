@@ -9,6 +9,7 @@ pub mod Accounting
 pub mod Least
 pub mod Placing
 pub mod Keeping
+pub mod Judging
 pub mod Lists
 pub mod Tested
 pub mod Counting

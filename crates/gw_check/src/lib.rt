@@ -11,6 +11,7 @@ mod field;
 mod inside;
 mod items;
 mod known;
+mod labels;
 pub mod laws;
 mod leaf;
 mod level;
@@ -27,7 +28,7 @@ mod values;
 
 pub use accounted::FieldAt;
 pub use checked::CheckedMap;
-pub use checker::{CheckFault, check, failures};
+pub use checker::{CheckFault, Refusal, check, examine, failures};
 pub use leaf::included;
 pub use overlooked::unread;
 pub use shape::{Presence, Shape, Values};

@@ -9,11 +9,12 @@ ghost use Rattle.gw_resolve.specs.Seen.{all_items, left_out as seen_drop};
 ghost use Rattle.gw_check.specs.Unread as spec;
 
 use crate::accounted::{Accounted, FieldAt};
+use crate::labels::look_up;
 use crate::reads::{all_read, is_missed};
 use crate::values::is_forbidden;
 use gw_maplang::Map;
 use gw_profile::{FieldShape, Level, Node, Profile, SegNode};
-use gw_resolve::{Item, LeftOut, Resolving, resolve};
+use gw_resolve::{Item, LeftOut, Resolving};
 use std::alloc::{AllocError, Global};
 
 // Adds a field, where it is missed.
@@ -154,7 +155,7 @@ pub fn unread(
 {
     let from = Level::of(alloc, source)?;
     let to = Level::of(alloc, target)?;
-    match resolve(alloc, &from, &to, map)? {
+    match look_up(alloc, source, target, &from, &to, map)? {
         Resolving::Refused(_) => Ok(Vec::new(alloc)),
         Resolving::Resolved(named) => passed_over(
             alloc,

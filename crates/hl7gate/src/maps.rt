@@ -9,10 +9,11 @@ use crate::expected;
 use crate::files::{read_all, read_text};
 use crate::report::write_all;
 use clap::ArgMatches;
-use gw_check::{CheckFault, CheckedMap, FieldAt, failures, unread};
+use gw_check::{CheckedMap, FieldAt, unread};
 use gw_er7::Message;
 use gw_maplang::Map;
 use gw_profile::Profile;
+use gw_resolve::Failure;
 use gw_run::RunFault;
 use gw_validate::{Tree, Verdict};
 use std::alloc::{AllocError, Global};
@@ -112,13 +113,6 @@ fn passed_over(
     Ok(Vec::new(alloc))
 }
 
-/// All that fails of a map that a rule refuses.
-fn all_that_fails(alloc: Global, rule: u8, sides: &Sides, map: &Map) -> Result<Found, AllocError> {
-    let unread = passed_over(alloc, rule, sides, map)?;
-    let failures = failures(alloc, &sides.source, &sides.target, map)?;
-    Ok(Found { unread, failures })
-}
-
 /// A map by the rules.
 fn judge<'a>(
     alloc: Global,
@@ -127,17 +121,19 @@ fn judge<'a>(
     map: Map,
 ) -> Result<Checked<'a>, Ended<'a>> {
     let Sides { source, target } = sides.shared()?;
-    match gw_check::check(alloc, source, target, map) {
+    match gw_check::examine(alloc, source, target, map) {
         Ok(checked) => Ok(Checked::Allowed(checked)),
-        Err(CheckFault::Memory(_)) => Err(Ended::Run(RunFault::Memory)),
-        Err(CheckFault::Rule { rule, line, map }) => {
-            let found = all_that_fails(alloc, rule, &sides, &map)?;
+        Err(gw_check::Refusal::Memory(_)) => Err(Ended::Run(RunFault::Memory)),
+        Err(gw_check::Refusal::Rules { least, found, map }) => {
+            let unread = passed_over(alloc, least.rule, &sides, &map)?;
             Ok(Checked::Refused(Refusal {
-                rule,
-                line,
+                least,
                 written,
                 sides,
-                found,
+                found: Found {
+                    unread,
+                    failures: found,
+                },
             }))
         }
     }
@@ -161,7 +157,7 @@ fn write_refusal<'a, O: Write, E: Write>(
     output: &mut O,
     errors: &mut E,
 ) -> Result<(), Ended<'a>> {
-    let Refusal { rule, line, .. } = refusal;
+    let Failure { rule, line } = refusal.least;
     let said = format!(in alloc; "refused K{rule} line {line}\n")?;
     write_all(output, said.as_bytes())?;
     refusal.tell(alloc, errors)?;
@@ -257,7 +253,7 @@ fn tell_refusal<'a, E: Write>(
     refusal: &Refusal<'a>,
     errors: &mut E,
 ) -> Result<(), Ended<'a>> {
-    let Refusal { rule, line, .. } = refusal;
+    let Failure { rule, line } = refusal.least;
     let _ = writeln!(errors, "refused K{rule} line {line}");
     refusal.tell(alloc, errors)?;
     Ok(())
