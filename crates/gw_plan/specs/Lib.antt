@@ -9,6 +9,7 @@ pub mod Routing
 pub mod Seen
 pub mod Index
 pub mod Held
+pub mod Above
 pub mod Kept
 pub mod Admitted
 pub mod Translating

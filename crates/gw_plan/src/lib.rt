@@ -1,6 +1,7 @@
 //! Plans: which messages a gateway takes, by which profiles, and what it makes of them for whom.
 #![tactic(auto)]
 
+mod above;
 mod conforming;
 mod fault;
 mod form;
