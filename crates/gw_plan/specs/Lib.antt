@@ -11,6 +11,7 @@ pub mod Index
 pub mod Held
 pub mod Above
 pub mod Kept
+pub mod Drafted
 pub mod Admitted
 pub mod Translating
 pub mod Worked

@@ -2,14 +2,18 @@
 #![tactic(auto)]
 
 mod above;
+mod accepted;
 mod conforming;
+mod draft;
 mod fault;
 mod form;
 mod index;
 mod inner;
 pub mod laws;
 mod plan;
+mod receivers;
 mod route;
+mod route_list;
 mod translated;
 
 pub use conforming::{Conforming, Refusal, admit};
