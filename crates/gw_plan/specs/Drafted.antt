@@ -52,3 +52,7 @@ pub record Leads (d : declared.Draft) (at : ℕ) (receiver map : List ℕ) (numb
   pub new : IfSome d.routes.current (IsNewLeg number by)
   pub delivers : delivered (draft_value d) at (draft_value d).current receiver map
       ≡ Ok (record (draft_value d) { current = option_map (λ r. route_value (longer number by r)) d.routes.current })
+
+-- a plan so far, with how many lines more were taken
+abbrev pub counted : declared.Draft → ℕ → Spec.Draft × ℕ
+counted d count = (draft_value d, count)

@@ -49,8 +49,8 @@ reads d (suc skip) at (line ∷ more) = reads d skip (at + 1) more
 reads d zero at (line ∷ more) = takes_words d at (words line) more >>= λ next. reads next.0 next.1 (at + 1) more
 
 -- the whole; at is the number of the line after the last
-abbrev pub whole : Draft → ℕ → Result PlanValue PlanFault
-whole d at = if d.begun then Ok (plan_of d) else Err (Syntax at)
+abbrev pub begun : Draft → ℕ → Result Draft PlanFault
+begun d at = if d.begun then Ok d else Err (Syntax at)
 
 abbrev pub most_bytes : ℕ
 most_bytes = 4194304
@@ -58,8 +58,12 @@ most_bytes = 4194304
 abbrev pub most_lines : ℕ
 most_lines = 40000
 
+-- what all lines of the text say together
+abbrev pub drafted : List ℕ → Result Draft PlanFault
+drafted text =
+    if is_too_large most_bytes most_lines text then Err TooLarge
+    else reads nothing 0 1 (lines text) >>= λ d. begun d (length (lines text) + 1)
+
 -- the plan that the text spells, or its one fault
 abbrev pub spelled : List ℕ → Result PlanValue PlanFault
-spelled text =
-    if is_too_large most_bytes most_lines text then Err TooLarge
-    else reads nothing 0 1 (lines text) >>= λ d. whole d (length (lines text) + 1)
+spelled text = drafted text >>= λ d. Ok (plan_of d)

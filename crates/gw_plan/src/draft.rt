@@ -5,12 +5,17 @@ ghost use Rattle.gw_lines.specs.Reading.{Gives};
 ghost use Rattle.gw_plan.specs.declared.fault.PlanFault.TheVariants as fault;
 ghost use Rattle.gw_plan.specs.Draft as spec;
 ghost use Rattle.gw_plan.specs.Drafted.{draft_value, IsKept, Leads};
+ghost use Rattle.gw_plan.specs.Inner.{takes_profile, takes_map};
+ghost use Rattle.gw_plan.specs.Made.{inner, IsNumbered};
 ghost use Rattle.gw_plan.specs.Seen.{now_all, line};
 
 use crate::above::Above;
 use crate::accepted::accept;
 use crate::fault::PlanFault;
 use crate::form::Line;
+use crate::inner::Inner;
+use crate::inner_map::take_map;
+use crate::inner_profile::take_profile;
 use crate::receivers::Receivers;
 use crate::route_list::RouteList;
 use gw_check::CheckedMap;
@@ -201,5 +206,31 @@ impl Draft {
         } else {
             self.begin(at, whole)
         }
+    }
+
+    /// Takes a profile of the plan.
+    pub fn add_profile(&mut self, alloc: Global, part: &Inner<'_, '_>) -> Result<(), PlanFault>
+        requires kept { IsKept self.old }
+        requires numbered { IsNumbered (inner part.now) }
+        ensures value { Gives fault.Memory (λ _. draft_value self.new) result (takes_profile (draft_value self.old) (inner part.now)) }
+        ensures kept { OnOk result (IsKept self.new) }
+    {
+        self.close()?;
+        let profile = take_profile(alloc, &self.above, part)?;
+        self.above.add_profile(alloc, profile)?;
+        Ok(())
+    }
+
+    /// Takes a map of the plan.
+    pub fn add_map(&mut self, alloc: Global, part: &Inner<'_, '_>) -> Result<(), PlanFault>
+        requires kept { IsKept self.old }
+        requires numbered { IsNumbered (inner part.now) }
+        ensures value { Gives fault.Memory (λ _. draft_value self.new) result (takes_map (draft_value self.old) (inner part.now)) }
+        ensures kept { OnOk result (IsKept self.new) }
+    {
+        self.close()?;
+        let map = take_map(alloc, &self.above, part)?;
+        self.above.add_map(alloc, map)?;
+        Ok(())
     }
 }

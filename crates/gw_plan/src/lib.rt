@@ -14,6 +14,7 @@ mod inner_map;
 mod inner_profile;
 pub mod laws;
 mod order;
+mod parse;
 mod plan;
 mod receivers;
 mod route;
