@@ -16,6 +16,8 @@ mod maps;
 #[cfg(test)]
 mod messages;
 #[cfg(test)]
+mod plans;
+#[cfg(test)]
 mod profiles;
 #[cfg(test)]
 mod streams;
