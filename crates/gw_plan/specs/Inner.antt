@@ -5,11 +5,11 @@ use Rattle.gw_lines.specs.Words.{Word, words}
 use Rattle.gw_lines.specs.Parts.{◌>>=◌, name_at, behind, with_all}
 use Rattle.gw_lines.specs.Reading.{unless}
 use Rattle.gw_profile.specs.Shapes.{ProfileValue}
-use Rattle.gw_profile.specs.Whole as profiles
+use Rattle.gw_profile.specs.Whole as profile_texts
 use Rattle.gw_profile.specs.Numbers as profile_numbers
 use Rattle.gw_profile.specs.declared.fault.ProfileFault as profile_faults
 use Rattle.gw_maplang.specs.Shapes.{MapValue}
-use Rattle.gw_maplang.specs.Whole as maps
+use Rattle.gw_maplang.specs.Whole as map_texts
 use Rattle.gw_maplang.specs.Numbers as map_numbers
 use Rattle.gw_maplang.specs.declared.fault.MapFault as map_faults
 use Rattle.gw_check.specs.Failures.{Failure}
@@ -111,7 +111,7 @@ profile_said beside p (Err fault) = Err (earlier beside (profile_fault p fault))
 
 -- the profile that an inner text gives below these, or its fault
 abbrev pub inner_profile : List ProfileValue → Inner → Result ProfileValue PlanFault
-inner_profile profiles p = profile_said (profile_faults_beside profiles p) p (profiles.spelled (text p))
+inner_profile profiles p = profile_said (profile_faults_beside profiles p) p (profile_texts.spelled (text p))
 
 -- ---- maps
 
@@ -122,13 +122,19 @@ pub record MapHead : Type 0 where
   pub source : List ℕ
   pub target : List ℕ
 
+-- from SOURCE to TARGET, the last words of a line
+abbrev pub sides_at : List Word → Option (List ℕ × List ℕ)
+sides_at words = do
+  source ← name_behind (codes "from") words
+  target ← name_behind (codes "to") source.1
+  with_all target.1 (source.0, target.0)
+
 -- what a line of this number says, map NAME from SOURCE to TARGET
 abbrev pub map_head_of : ℕ × List Word → Option MapHead
 map_head_of said = do
   name ← name_behind (codes "map") said.1
-  source ← name_behind (codes "from") name.1
-  target ← name_behind (codes "to") source.1
-  with_all target.1 (record { line = said.0; name = name.0; source = source.0; target = target.0 })
+  sides ← sides_at name.1
+  Some (record { line = said.0; name = name.0; source = sides.0; target = sides.1 })
 
 abbrev pub map_head : Inner → Option MapHead
 map_head p = first_said (p.at + 1) p.lines >>= map_head_of
@@ -184,7 +190,7 @@ map_said profiles beside p (Err fault) = Err (earlier beside (map_fault p fault)
 
 -- the map that an inner text gives below these, with its profiles, or its fault
 abbrev pub inner_map : List ProfileValue → List MapBetween → Inner → Result MapBetween PlanFault
-inner_map profiles maps p = map_said profiles (map_faults_beside profiles maps p) p (maps.spelled (text p))
+inner_map profiles maps p = map_said profiles (map_faults_beside profiles maps p) p (map_texts.spelled (text p))
 
 -- ---- what inner texts make of a plan
 

@@ -48,16 +48,25 @@ pub(crate) fn profile_head<'a>(
     }
 }
 
+// The names of the two profiles, where nothing follows them.
+fn sides_at<'a>(words: &[Word<'a>]) -> Option<(&'a [u8], &'a [u8])>
+    ensures { option_map (λ s. (s.0.now, s.1.now)) result ≡ spec.sides_at (map word words.now) }
+{
+    let (source, more) = name_behind(b"from", words)?;
+    let (target, more) = name_behind(b"to", more)?;
+    if more.is_empty() {
+        Some((source, target))
+    } else {
+        None
+    }
+}
+
 // What a line of this number says.
 fn map_head_of<'a>(line: u64, words: &[Word<'a>]) -> Option<MapHead<'a>>
     ensures { option_map map_head result ≡ spec.map_head_of (line, map word words.now) }
 {
     let (name, more) = name_behind(b"map", words)?;
-    let (source, more) = name_behind(b"from", more)?;
-    let (target, more) = name_behind(b"to", more)?;
-    if !more.is_empty() {
-        return None;
-    }
+    let (source, target) = sides_at(more)?;
     Some(MapHead {
         line,
         name,

@@ -52,14 +52,14 @@ fn wrapped(part: &Inner<'_, '_>, fault: MapFault) -> PlanFault
     }
 }
 
-// A rule that fails.
-fn broken_rule(part: &Inner<'_, '_>, failure: Failure) -> PlanFault
+// The fault of a map that breaks a rule.
+fn rule_fault(part: &Inner<'_, '_>, broken: Failure) -> PlanFault
     requires { IsNumbered (inner part.now) }
-    ensures { Some result ≡ spec.check_fault (inner part.now) (Some (failure failure)) }
+    ensures { Some result ≡ spec.check_fault (inner part.now) (Some (failure broken)) }
 {
     PlanFault::Check {
-        line: part.at + u64::from(failure.line),
-        rule: failure.rule,
+        line: part.at + u64::from(broken.line),
+        rule: broken.rule,
     }
 }
 
@@ -171,7 +171,7 @@ fn with_sides(
         return Err(earlier(beside, PlanFault::UnknownName(line)));
     };
     match checked(alloc, source, target, map)? {
-        Err(failure) => Err(earlier(beside, broken_rule(part, failure))),
+        Err(failure) => Err(earlier(beside, rule_fault(part, failure))),
         Ok(checked) => match beside {
             Some(fault) => Err(fault),
             None => Ok(Arc::new(alloc, checked)?),
