@@ -1,5 +1,7 @@
 pub mod Keys
+pub mod Leading
 pub mod Listing
+pub mod Planning
 pub mod Receiving
 pub mod Routes
 pub mod Sendings

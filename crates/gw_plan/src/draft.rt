@@ -1,5 +1,5 @@
 //! A plan so far, line by line.
-ghost use Rattle.std.specs.Prelude.{◌≡◌, IfOk, IfErr, OnOk, Err};
+ghost use Rattle.std.specs.Prelude.{◌≡◌, IfOk, IfErr, OnOk, None, Err};
 ghost use Rattle.std.specs.Arc.{arc_value};
 ghost use Rattle.gw_lines.specs.Reading.{Gives};
 ghost use Rattle.gw_plan.specs.declared.fault.PlanFault.TheVariants as fault;
@@ -53,6 +53,7 @@ impl Draft {
     pub fn close(&mut self) -> Result<(), AllocError>
         requires { IsKept self.old }
         ensures value { OnOk result (draft_value self.new ≡ spec.closed (draft_value self.old)) }
+        ensures current { OnOk result (self.new.routes.current ≡ None) }
         ensures kept { OnOk result (IsKept self.new) }
     {
         self.routes.close()

@@ -156,6 +156,26 @@ fn take_bytes(
     take_words(alloc, draft, at, &words, more)
 }
 
+// Takes a line, or skips it where so many are to be skipped; how many of the lines that follow are to be.
+fn take_next(
+    alloc: Global,
+    draft: &mut Draft,
+    skip: usize,
+    at: u64,
+    bytes: &[u8],
+    more: &[&[u8]],
+) -> Result<usize, PlanFault>
+    requires kept { IsKept draft.old }
+    requires few { at + length more.now < 4294967296 }
+    ensures value { Gives fault.Memory (counted draft.new) result (spec.takes_next (draft_value draft.old) skip at bytes.now (now_all more.now)) }
+    ensures kept { OnOk result (IsKept draft.new) }
+{
+    if skip > 0 {
+        return Ok(skip - 1);
+    }
+    take_bytes(alloc, draft, at, bytes, more)
+}
+
 // Takes all lines.
 fn take_lines(alloc: Global, draft: &mut Draft, all: &[&[u8]]) -> Result<(), PlanFault>
     requires kept { IsKept draft.old }
@@ -165,11 +185,7 @@ fn take_lines(alloc: Global, draft: &mut Draft, all: &[&[u8]]) -> Result<(), Pla
 {
     let mut skip: usize = 0;
     for (i, bytes) in all.iter().enumerate() {
-        skip = if skip > 0 {
-            skip - 1
-        } else {
-            take_bytes(alloc, draft, i as u64 + 1, bytes, &all[i + 1..])?
-        };
+        skip = take_next(alloc, draft, skip, i as u64 + 1, bytes, &all[i + 1..])?;
     }
     Ok(())
 }

@@ -96,9 +96,10 @@ impl Plan {
             receivers,
             versions,
             processing,
-            routes: RouteList { closed, index, .. },
+            routes,
             ..
         } = draft;
+        let RouteList { closed, index, .. } = routes;
         let receivers = receivers.into_all(alloc)?;
         Ok(Plan {
             text,
