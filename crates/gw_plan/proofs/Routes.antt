@@ -135,8 +135,8 @@ leg_last {A} {B} f receiver (e ∷ es) x new = by (nat_eq receiver e.0) new (leg
     by true n next = absurd (cc)
     by false n next = ap (λ l. e ∷ l) (next n)
 
-pub leg_put : {A B : Type 0} (f : A → B) (receiver : ℕ) (es new : List (ℕ × A)) (x : A) → list_any (λ (l : ℕ × B). nat_eq receiver l.0) (map (λ (l : ℕ × A). (l.0, f l.1)) es) ≡ false
-    → new ≡ insert_entry nat_eq es receiver x → map (λ (l : ℕ × A). (l.0, f l.1)) new ≡ map (λ (l : ℕ × A). (l.0, f l.1)) es ++ (receiver, f x) ∷ []
+pub leg_put : {A B : Type 0} (f : A → B) (receiver : ℕ) (es new : List (ℕ × A)) (x : A) → list_any (λ (l : ℕ × B). nat_eq receiver l.0) (map {B = ℕ × B} (λ (l : ℕ × A). (l.0, f l.1)) es) ≡ false
+    → new ≡ insert_entry nat_eq es receiver x → map {B = ℕ × B} (λ (l : ℕ × A). (l.0, f l.1)) new ≡ map {B = ℕ × B} (λ (l : ℕ × A). (l.0, f l.1)) es ++ (receiver, f x) ∷ []
 leg_put {A} {B} f receiver es new x none put = ap (map {B = ℕ × B} (λ (l : ℕ × A). (l.0, f l.1))) (put ∙ leg_last f receiver es x none) ∙ map-append {B = ℕ × B} (λ (l : ℕ × A). (l.0, f l.1)) es ((receiver, x) ∷ [])
 
 all_push : {A : Type 0} (P : A → Type 0) (xs : List A) (x : A) → AllByRecursion P xs → P x → AllByRecursion P (xs ++ x ∷ [])

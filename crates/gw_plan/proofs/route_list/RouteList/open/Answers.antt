@@ -12,7 +12,7 @@ returns-clause-listed c =
     (
       subst (Indexes c.push.new.self) (sym (keys_more c.args.self.now.closed.items (record { code = c.args.code.now; event = c.args.event.now; profile = arc_value c.args.profile; legs = [] })))
       (
-        c.in_ok-push.ensures (map key_of c.args.self.now.closed.items) (indexed_closed _ _ _ c.requires.closed c.requires.listed)
+        c.in_ok-push.ensures (map key_of c.args.self.now.closed.items) (indexed_closed c.args.self.now.index c.args.self.now.closed.items c.args.self.now.current c.requires.closed c.requires.listed)
         (any_key c.args.code.now c.args.event.now c.args.self.now.closed.items ∙ c.requires.new)
       )
     )
