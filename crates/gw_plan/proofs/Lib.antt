@@ -6,3 +6,4 @@ pub mod Receiving
 pub mod Routes
 pub mod Sendings
 pub mod Standing
+pub mod Stopping
