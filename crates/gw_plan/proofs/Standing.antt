@@ -6,16 +6,19 @@ use Rattle.std.specs.Map.{lookup}
 use Rattle.std.specs.Option.{option_map, option_copied, IfSome}
 use Rattle.std.specs.Global.{Vec}
 use Rattle.std.proofs.lemmas.List.{map-append}
+use Rattle.std.proofs.lemmas.Slice.Eq.{bytes_eq-Decides}
 use Rattle.indexmap.specs.IndexMap.{insert_entry}
 use Rattle.indexmap.proofs.MapLemmas.{absent_from_lookup, insert_entry-absent}
 use denote.Ref.{Bor}
 use Rattle.gw_profile.specs.Seen as profiles
 use Rattle.gw_profile.specs.Seen.{profile_value}
 use Rattle.gw_profile.specs.Shapes.{ProfileValue}
+use Rattle.gw_maplang.specs.Seen as maps
 use Rattle.gw_check.specs.CheckedMap.{CheckedValue}
 use Rattle.gw_plan.specs.Shapes.{MapBetween, named}
 use Rattle.gw_plan.specs.Held.{map_between}
 use Rattle.gw_plan.specs.Above.{IsAbove, BeginsAt, named_profile, named_map}
+use Rattle.gw_plan.specs.Made.{IsCheckedSo, IsTaken}
 use Rattle.gw_plan.proofs.Keys.{some_same}
 
 all_push : {A : Type 0} (P : A → Type 0) (xs : List A) (x : A) → AllByRecursion P xs → P x → AllByRecursion P (xs ++ x ∷ [])
@@ -35,6 +38,15 @@ named_more {A} name_of name (y ∷ xs) ys x e = by (bytes_eq name (name_of y)) e
         → (if b then Some y else named name_of name (xs ++ ys)) ≡ Some x
     by true e next = e
     by false e next = next e
+
+-- what is found by a name has it
+named_is : {A : Type 0} (name_of : A → List ℕ) (name : List ℕ) (xs : List A) (x : A) → named name_of name xs ≡ Some x → name ≡ name_of x
+named_is name_of name [] x e = absurd (cc)
+named_is {A} name_of name (y ∷ xs) x e = by (bytes_eq name (name_of y)) refl e (named_is name_of name xs x)
+  where
+    by : (b : Bool) → bytes_eq name (name_of y) ≡ b → (if b then Some y else named name_of name xs) ≡ Some x → (named name_of name xs ≡ Some x → name ≡ name_of x) → name ≡ name_of x
+    by true same f next = (bytes_eq-Decides name (name_of y)).0 same ∙ ap name_of (some_same f)
+    by false same f next = next f
 
 -- each entry's key is the name of what it holds, seen by two steps
 abbrev pub Keyed : {A B P : Type 0} → (B → P) → (A → B) → (P → List ℕ) → List (Vec ℕ × A) → Type 0
@@ -132,3 +144,13 @@ pub map_kept : {A B : Type 0} (f : B → profiles.Contents) (g : A → CheckedVa
     → BeginsAt (map profile_value (map (λ e. f e.1) qs)) (g x) → IsAbove (map (λ e. (e.0.items, f e.1)) qs) (map (λ e. (e.0.items, g e.1)) es) → IsAbove (map (λ e. (e.0.items, f e.1)) qs) (map (λ e. (e.0.items, g e.1)) new)
 map_kept f g qs es new key x e put begins is =
     rw put (rw map-append (map_added (map (λ e. (e.0.items, f e.1)) qs) (map (λ e. (e.0.items, g e.1)) es) key.items (g x) e (subst (λ (ps : List ProfileValue). BeginsAt ps (g x)) (sym (held_values profile_value f qs)) begins) is))
+
+-- what was checked begins at the profile that its map names
+pub taken_so : (ps : List ProfileValue) (source target : profiles.Contents) (m : maps.Contents) (checked given : CheckedValue) → given ≡ checked → IsCheckedSo source target m checked
+    → named_profile m.source ps ≡ Some (profile_value source) → IsTaken ps m given
+taken_so ps source target m checked given same is found =
+    let from : given.source ≡ source = ap (λ (c : CheckedValue). c.source) same ∙ is.source_is in
+    record {
+      map_is = ap (λ (c : CheckedValue). c.map) same ∙ is.map_is;
+      source = subst (λ (p : profiles.Contents). named_profile p.name ps ≡ Some (profile_value p)) (sym from) (subst (λ name. named_profile name ps ≡ Some (profile_value source)) (named_is (λ (p : ProfileValue). p.name) m.source ps (profile_value source) found) found);
+    }
