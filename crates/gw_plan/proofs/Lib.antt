@@ -2,3 +2,8 @@ pub mod Keys
 pub mod Routes
 pub mod Sendings
 pub mod Standing
+pub mod Rejoined
+pub mod FirstLines
+pub mod Earliest
+pub mod NamedProfile
+pub mod NamedMap
