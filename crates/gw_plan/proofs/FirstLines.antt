@@ -45,7 +45,8 @@ first_taken {L} {E} g broken n m (bytes ∷ text) all e = by (words bytes) refl 
       all_are = f.all_are;
     })
 
-    starts : (v : Word) (ws : List Word) → words bytes ≡ Some (v ∷ ws) → (r : Result L E) → takes g [] m (v ∷ ws) ≡ r → (added [] r >>= λ next. with_lines broken (adding (takes g)) next (m + 1) text) ≡ Ok all → (all ≡ []) ⊎ First g n (bytes ∷ text) all
+    starts : (v : Word) (ws : List Word) → words bytes ≡ Some (v ∷ ws) → (r : Result L E) → takes g [] m (v ∷ ws) ≡ r
+        → (added [] r >>= λ next. with_lines broken (adding (takes g)) next (m + 1) text) ≡ Ok all → (all ≡ []) ⊎ First g n (bytes ∷ text) all
     starts v ws w (Err x) t e = absurd (cc)
     starts v ws w (Ok line) t e =
         let s = first_stays g broken (m + 1) text line all e in
@@ -60,7 +61,8 @@ first_taken {L} {E} g broken n m (bytes ∷ text) all e = by (words bytes) refl 
           all_are = s.1;
         })
 
-    by : (o : Option (List Word)) → words bytes ≡ o → (accepted broken (takes g) [] (m + 1) text ≡ Ok all → (all ≡ []) ⊎ First g (n + 1) text all) → (with_line (broken m) (adding (takes g)) [] m o >>= λ next. with_lines broken (adding (takes g)) next (m + 1) text) ≡ Ok all → (all ≡ []) ⊎ First g n (bytes ∷ text) all
+    by : (o : Option (List Word)) → words bytes ≡ o → (accepted broken (takes g) [] (m + 1) text ≡ Ok all → (all ≡ []) ⊎ First g (n + 1) text all)
+        → (with_line (broken m) (adding (takes g)) [] m o >>= λ next. with_lines broken (adding (takes g)) next (m + 1) text) ≡ Ok all → (all ≡ []) ⊎ First g n (bytes ∷ text) all
     by None w next e = absurd (cc)
     by (Some []) w next e = goes_on w (next e)
     by (Some (v ∷ ws)) w next e = starts v ws w (takes g [] m (v ∷ ws)) refl e

@@ -10,7 +10,9 @@ use Rattle.gw_lines.proofs.Taken.{taken_by, spelled_accepts}
 use Rattle.gw_maplang.specs.declared.fault.MapFault.{MapFault}
 use Rattle.gw_maplang.specs.declared.fault.MapFault.TheVariants.{Syntax, TooLarge}
 use Rattle.gw_maplang.specs.Shapes.{MapValue}
-use Rattle.gw_maplang.specs.Line.{Line, Begins, Table, Rows, Else, Segment, Makes, At, Each, End, Drops, path_of, place_of, drop_of, plain_at, text_at, source_at, made_from, own_leaves, leaf_form, map_form, table_form, row_form, else_form, segment_form, copies_form, firsts_form, repeats_form, builds_form, at_form, each_form, group_form, drop_form, rule_form, form}
+use Rattle.gw_maplang.specs.Line.{Line, Begins, Table, Rows, Else, Segment, Makes, At, Each, End, Drops, path_of, place_of, drop_of, plain_at, text_at, source_at, made_from, own_leaves}
+use Rattle.gw_maplang.specs.Line.{leaf_form, map_form, table_form, row_form, else_form, segment_form, copies_form, firsts_form, repeats_form, builds_form, at_form, each_form, group_form}
+use Rattle.gw_maplang.specs.Line.{drop_form, rule_form, form}
 use Rattle.gw_maplang.specs.Fault.{grammar, tests, takes}
 use Rattle.gw_maplang.specs.Value.{head}
 use Rattle.gw_maplang.specs.Whole.{is_unclosed, map_of, whole, most_bytes, most_lines, spelled}
@@ -49,7 +51,8 @@ with_all_known P (w ∷ ws) x h = tt
 name_behind_is : (keyword : List ℕ) (ws more : List Word) (name : List ℕ × List Word) → behind keyword ws ≡ Some more → name_at more ≡ Some name → name_behind keyword ws ≡ Some name
 name_behind_is keyword ws more name b n = ap (λ (o : Option (List Word)). o >>= λ more. name_at more) b ∙ n
 
-sides_are : (ws : List Word) (source target : List ℕ × List Word) → name_behind (codes "from") ws ≡ Some source → name_behind (codes "to") source.1 ≡ Some target → target.1 ≡ [] → sides_at ws ≡ Some (source.0, target.0)
+sides_are : (ws : List Word) (source target : List ℕ × List Word) → name_behind (codes "from") ws ≡ Some source → name_behind (codes "to") source.1 ≡ Some target → target.1 ≡ []
+    → sides_at ws ≡ Some (source.0, target.0)
 sides_are ws source target s t none =
     ap (λ (o : Option (List ℕ × List Word)). o >>= λ source. name_behind (codes "to") source.1 >>= λ target. with_all target.1 (source.0, target.0)) s
     ∙ ap (λ (o : Option (List ℕ × List Word)). o >>= λ target. with_all target.1 (source.0, target.0)) t
@@ -58,7 +61,8 @@ sides_are ws source target s t none =
 head_is : (n : ℕ) (ws : List Word) (name : List ℕ × List Word) (source target : List ℕ) → name_behind (codes "map") ws ≡ Some name → sides_at name.1 ≡ Some (source, target)
     → map_head_of (n, ws) ≡ Some (record { line = n; name = name.0; source = source; target = target })
 head_is n ws name source target e s =
-    ap (λ (o : Option (List ℕ × List Word)). o >>= λ name. sides_at name.1 >>= λ sides. Some (heading n name.0 sides)) e ∙ ap (λ (o : Option (List ℕ × List ℕ)). o >>= λ sides. Some (heading n name.0 sides)) s
+    ap (λ (o : Option (List ℕ × List Word)). o >>= λ name. sides_at name.1 >>= λ sides. Some (heading n name.0 sides)) e
+    ∙ ap (λ (o : Option (List ℕ × List ℕ)). o >>= λ sides. Some (heading n name.0 sides)) s
   where
     heading : ℕ → List ℕ → List ℕ × List ℕ → MapHead
     heading n name sides = record { line = n; name = name; source = sides.0; target = sides.1 }
@@ -97,9 +101,11 @@ form_says at (w ∷ more) =
     let P = Says (w ∷ more) in
     keyword_gives P (is_keyword (codes "map") w) (map_form at more) _ (begins_says at w more)
     (either_gives P (is_keyword (codes "table") w) (table_form more) _ (after (w ∷ more) (name_at more) _ (λ n. with_all_is P n.1 (Table n.0) tt))
-    (either_gives P (is_keyword (codes "row") w) (row_form more) _ (after (w ∷ more) (text_at more) _ (λ a. after (w ∷ more) (text_at a.1) _ (λ b. with_all_is P b.1 (Rows (record { first = a.0; second = b.0 })) tt)))
+    (either_gives P (is_keyword (codes "row") w) (row_form more) _ (after (w ∷ more) (text_at more) _ (λ a. after (w ∷ more) (text_at a.1) _
+    (λ b. with_all_is P b.1 (Rows (record { first = a.0; second = b.0 })) tt)))
     (either_gives P (is_keyword (codes "else") w) (else_form more) _ (after (w ∷ more) (text_at more) _ (λ a. with_all_is P a.1 (Else a.0) tt))
-    (either_gives P (is_keyword (codes "segment") w) (segment_form at more) _ (after (w ∷ more) (name_at more) _ (λ l. after (w ∷ more) (source_at l.1) _ (λ s. with_all_is P s.1 (Segment at l.0 s.0) tt)))
+    (either_gives P (is_keyword (codes "segment") w) (segment_form at more) _ (after (w ∷ more) (name_at more) _ (λ l. after (w ∷ more) (source_at l.1) _
+    (λ s. with_all_is P s.1 (Segment at l.0 s.0) tt)))
     (either_gives P (is_keyword (codes "group") w) (group_form at more) _ (after (w ∷ more) (name_at more) _ (λ l. each_says (w ∷ more) at (Some l.0) l.1))
     (either_gives P (is_keyword (codes "flat") w) (each_form at None more) _ (each_says (w ∷ more) at None more)
     (either_gives P (is_keyword (codes "end") w) (with_all more End) _ (with_all_is P more End tt)
@@ -164,8 +170,8 @@ named_so p v e unbroken =
     let accepts = subst (λ (ls : List (List ℕ)). accepted Syntax takes [] 1 ls ≡ Ok a.all) (rejoined (p.at + 1) p.lines unbroken) a.accepts in
     let name : (head (reverse a.all)).name ≡ v.name = ap (λ (m : MapValue). m.name) w.1 in
     elim (first_taken grammar Syntax (p.at + 1) 1 p.lines a.all accepts) [
-      inl none ↦ absurd (some_said a.all w.0 none) |
-      inr f ↦ (let h = headed (p.at + 1) p.lines a.all f in record { heading = h.heading; is = h.is; name_is = h.name_is ∙ name })
+      | inl none ↦ absurd (some_said a.all w.0 none)
+      | inr f ↦ (let h = headed (p.at + 1) p.lines a.all f in record { heading = h.heading; is = h.is; name_is = h.name_is ∙ name })
     ]
 
 again_none : (o : Option MapBetween) (at : ℕ) → (if is_some o then Some (Duplicate at) else None) ≡ None → o ≡ None

@@ -1,5 +1,6 @@
 -- Lines that are joined are cut again.
-use Rattle.std.proofs.Common.{◌≡◌, ℕ, zero, suc, ◌+◌, ◌-◌, Bool, true, false, List, [], ◌∷◌, ◌++◌, length, get_or, take, Option, Some, None, refl, sym, ap, ◌∙◌, subst, arith, append_assoc, length-append}
+use Rattle.std.proofs.Common.{◌≡◌, ℕ, zero, suc, ◌+◌, ◌-◌, Bool, true, false, List, [], ◌∷◌, ◌++◌, length, get_or, take, Option, Some, None, refl, sym, ap, ◌∙◌, subst, arith, append_assoc}
+use Rattle.std.proofs.Common.{length-append}
 use Rattle.std.specs.Prelude.{◌&&◌, ◌==◌, not, cond, slice_index, if◌then◌else◌}
 use Rattle.std.specs.List.{AllByRecursion, list_all, flat_map, slice_split, onto_first}
 use Rattle.std.specs.Option.{is_some}
@@ -107,7 +108,8 @@ whole_lines : (at : ℕ) (all : List (List ℕ)) → broken at all ≡ None → 
 whole_lines at [] e = tt
 whole_lines at (line ∷ rest) e = by (is_some (words line)) refl (whole_lines (at + 1) rest) e
   where
-    by : (b : Bool) → is_some (words line) ≡ b → (broken (at + 1) rest ≡ None → AllByRecursion IsWhole rest) → (if b then broken (at + 1) rest else Some (Syntax at)) ≡ None → AllByRecursion IsWhole (line ∷ rest)
+    by : (b : Bool) → is_some (words line) ≡ b → (broken (at + 1) rest ≡ None → AllByRecursion IsWhole rest) → (if b then broken (at + 1) rest else Some (Syntax at)) ≡ None
+        → AllByRecursion IsWhole (line ∷ rest)
     by true f next k = (whole_line line f, next k)
     by false f next k = absurd (cc)
 

@@ -7,5 +7,6 @@ use Rattle.gw_plan.proofs.inner_map.with_sides.Goals as goal
 
 pub returns-in_ok-new-in-None-clause-taken : goal.returns-in_ok-new-in-None-clause-taken
 returns-in_ok-new-in-None-clause-taken c =
-    taken_so (profiles_of c.args.above.now) (arc_value c.in-Some.source.now) (arc_value c.in-Some.target.now) c.args.map c.in-Ok.checked (arc_value c.in_ok-new-in-None.field-0) c.in_ok-new-in-None.ensures.ok
+    taken_so (profiles_of c.args.above.now) (arc_value c.in-Some.source.now) (arc_value c.in-Some.target.now) c.args.map c.in-Ok.checked
+    (arc_value c.in_ok-new-in-None.field-0) c.in_ok-new-in-None.ensures.ok
     (subst (λ r. Checks (arc_value c.in-Some.source.now) (arc_value c.in-Some.target.now) c.args.map r) c.in-Ok.is c.in_ok-failure.ensures) c.in-Some.ensures.source
