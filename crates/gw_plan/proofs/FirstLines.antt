@@ -30,7 +30,7 @@ first_stays {L} {E} g broken m text line all e =
 -- none is said, or the first is taken
 pub first_taken : {L E : Type 0} (g : Grammar L E) (broken : ℕ → E) (n m : ℕ) (text : List (List ℕ)) (all : List L) → accepted broken (takes g) [] m text ≡ Ok all → (all ≡ []) ⊎ First g n text all
 first_taken g broken n m [] all e = inl (let same : [] ≡ all = cc in sym same)
-first_taken {L} {E} g broken n m (bytes ∷ text) all e = by (words bytes) refl e
+first_taken {L} {E} g broken n m (bytes ∷ text) all e = by (words bytes) refl (first_taken g broken (n + 1) (m + 1) text all) e
   where
     goes_on : words bytes ≡ Some [] → (all ≡ []) ⊎ First g (n + 1) text all → (all ≡ []) ⊎ First g n (bytes ∷ text) all
     goes_on w (inl none) = inl none
@@ -45,7 +45,8 @@ first_taken {L} {E} g broken n m (bytes ∷ text) all e = by (words bytes) refl 
       all_are = f.all_are;
     })
 
-    starts : (v : Word) (ws : List Word) → words bytes ≡ Some (v ∷ ws) → (r : Result L E) → takes g [] m (v ∷ ws) ≡ r → (added [] r >>= λ next. with_lines broken (adding (takes g)) next (m + 1) text) ≡ Ok all → (all ≡ []) ⊎ First g n (bytes ∷ text) all
+    starts : (v : Word) (ws : List Word) → words bytes ≡ Some (v ∷ ws) → (r : Result L E) → takes g [] m (v ∷ ws) ≡ r
+        → (added [] r >>= λ next. with_lines broken (adding (takes g)) next (m + 1) text) ≡ Ok all → (all ≡ []) ⊎ First g n (bytes ∷ text) all
     starts v ws w (Err x) t e = absurd (cc)
     starts v ws w (Ok line) t e =
         let s = first_stays g broken (m + 1) text line all e in
@@ -60,10 +61,11 @@ first_taken {L} {E} g broken n m (bytes ∷ text) all e = by (words bytes) refl 
           all_are = s.1;
         })
 
-    by : (o : Option (List Word)) → words bytes ≡ o → (with_line (broken m) (adding (takes g)) [] m o >>= λ next. with_lines broken (adding (takes g)) next (m + 1) text) ≡ Ok all → (all ≡ []) ⊎ First g n (bytes ∷ text) all
-    by None w e = absurd (cc)
-    by (Some []) w e = goes_on w (first_taken g broken (n + 1) (m + 1) text all e)
-    by (Some (v ∷ ws)) w e = starts v ws w (takes g [] m (v ∷ ws)) refl e
+    by : (o : Option (List Word)) → words bytes ≡ o → (accepted broken (takes g) [] (m + 1) text ≡ Ok all → (all ≡ []) ⊎ First g (n + 1) text all)
+        → (with_line (broken m) (adding (takes g)) [] m o >>= λ next. with_lines broken (adding (takes g)) next (m + 1) text) ≡ Ok all → (all ≡ []) ⊎ First g n (bytes ∷ text) all
+    by None w next e = absurd (cc)
+    by (Some []) w next e = goes_on w (next e)
+    by (Some (v ∷ ws)) w next e = starts v ws w (takes g [] m (v ∷ ws)) refl e
 
 pub turned : {L : Type 0} (others : List L) (line : L) → reverse (others ++ line ∷ []) ≡ line ∷ reverse others
 turned others line = reverse-append others (line ∷ [])

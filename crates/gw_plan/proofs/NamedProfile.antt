@@ -9,7 +9,8 @@ use Rattle.gw_lines.specs.Reading.{first_of, accepted}
 use Rattle.gw_lines.proofs.Taken.{taken_by}
 use Rattle.gw_profile.specs.declared.fault.ProfileFault.TheVariants.{Syntax}
 use Rattle.gw_profile.specs.Shapes.{ProfileValue}
-use Rattle.gw_profile.specs.Line.{Line, Begins, Table, Segment, Field, Comp, Sub, Group, End, profile_form, table_form, segment_form, field_form, comp_form, sub_form, group_form, form, label_at, usage_at, card_at, options, leaf_options}
+use Rattle.gw_profile.specs.Line.{Line, Begins, Table, Segment, Field, Comp, Sub, Group, End, profile_form, table_form, segment_form, field_form, comp_form, sub_form, group_form, form}
+use Rattle.gw_profile.specs.Line.{label_at, usage_at, card_at, options, leaf_options}
 use Rattle.gw_profile.specs.Fault.{grammar, tests, takes}
 use Rattle.gw_profile.specs.Value.{name_of, profile}
 use Rattle.gw_profile.specs.Whole.{is_unclosed, spelled}
@@ -54,11 +55,16 @@ form_says at (w ∷ more) =
     let P = Says (w ∷ more) in
     keyword_gives P (is_keyword (codes "profile") w) (profile_form more) _ (begins_says w more)
     (either_gives P (is_keyword (codes "table") w) (table_form more) _ (after (w ∷ more) (name_at more) _ (λ n. after (w ∷ more) (some_values n.1) _ (λ v. tt)))
-    (either_gives P (is_keyword (codes "segment") w) (segment_form more) _ (after (w ∷ more) (segment_at more) _ (λ n. after (w ∷ more) (label_at n.0 n.1) _ (λ l. after (w ∷ more) (usage_at l.1) _ (λ u. after (w ∷ more) (card_at u.1) _ (λ c. with_all_is P c.1 (Segment n.0 l.0.0 l.0.1 u.0 c.0) tt)))))
-    (either_gives P (is_keyword (codes "field") w) (field_form more) _ (after (w ∷ more) (number_at 999 more) _ (λ n. after (w ∷ more) (usage_at n.1) _ (λ u. after (w ∷ more) (card_at u.1) _ (λ c. after (w ∷ more) (leaf_options u.0 c.1) _ (λ l. tt)))))
-    (either_gives P (is_keyword (codes "comp") w) (comp_form more) _ (after (w ∷ more) (number_at 99 more) _ (λ n. after (w ∷ more) (usage_at n.1) _ (λ u. after (w ∷ more) (leaf_options u.0 u.1) _ (λ l. tt))))
-    (either_gives P (is_keyword (codes "sub") w) (sub_form more) _ (after (w ∷ more) (number_at 99 more) _ (λ n. after (w ∷ more) (usage_at n.1) _ (λ u. after (w ∷ more) (options u.0 false u.1) _ (λ l. tt))))
-    (either_gives P (is_keyword (codes "group") w) (group_form at more) _ (after (w ∷ more) (name_at more) _ (λ l. after (w ∷ more) (usage_at l.1) _ (λ u. after (w ∷ more) (card_at u.1) _ (λ c. with_all_is P c.1 (Group at l.0 u.0 c.0) tt))))
+    (either_gives P (is_keyword (codes "segment") w) (segment_form more) _ (after (w ∷ more) (segment_at more) _ (λ n. after (w ∷ more) (label_at n.0 n.1) _
+    (λ l. after (w ∷ more) (usage_at l.1) _ (λ u. after (w ∷ more) (card_at u.1) _ (λ c. with_all_is P c.1 (Segment n.0 l.0.0 l.0.1 u.0 c.0) tt)))))
+    (either_gives P (is_keyword (codes "field") w) (field_form more) _ (after (w ∷ more) (number_at 999 more) _ (λ n. after (w ∷ more) (usage_at n.1) _
+    (λ u. after (w ∷ more) (card_at u.1) _ (λ c. after (w ∷ more) (leaf_options u.0 c.1) _ (λ l. tt)))))
+    (either_gives P (is_keyword (codes "comp") w) (comp_form more) _ (after (w ∷ more) (number_at 99 more) _ (λ n. after (w ∷ more) (usage_at n.1) _
+    (λ u. after (w ∷ more) (leaf_options u.0 u.1) _ (λ l. tt))))
+    (either_gives P (is_keyword (codes "sub") w) (sub_form more) _ (after (w ∷ more) (number_at 99 more) _ (λ n. after (w ∷ more) (usage_at n.1) _
+    (λ u. after (w ∷ more) (options u.0 false u.1) _ (λ l. tt))))
+    (either_gives P (is_keyword (codes "group") w) (group_form at more) _ (after (w ∷ more) (name_at more) _ (λ l. after (w ∷ more) (usage_at l.1) _
+    (λ u. after (w ∷ more) (card_at u.1) _ (λ c. with_all_is P c.1 (Group at l.0 u.0 c.0) tt))))
     (either_gives P (is_keyword (codes "end") w) (with_all more End) None (with_all_is P more End tt) tt)))))))
 
 -- the first line of a profile says its name
@@ -91,8 +97,8 @@ named_so p v e whole =
     let accepts = subst (λ (ls : List (List ℕ)). accepted Syntax takes [] 1 ls ≡ Ok a.0.all) (rejoined (p.at + 1) p.lines whole) a.0.accepts in
     let name : name_of (reverse a.0.all) ≡ v.name = ap (λ (q : ProfileValue). q.name) a.1.value in
     elim (first_taken grammar Syntax (p.at + 1) 1 p.lines a.0.all accepts) [
-      inl none ↦ absurd (some_said a.0.all a.1.closed none) |
-      inr f ↦ (let h = headed (p.at + 1) p.lines a.0.all f in (h.0, h.1 ∙ ap (λ name. Some (h.0, name)) name))
+      | inl none ↦ absurd (some_said a.0.all a.1.closed none)
+      | inr f ↦ (let h = headed (p.at + 1) p.lines a.0.all f in (h.0, h.1 ∙ ap (λ name. Some (h.0, name)) name))
     ]
 
 -- no profile above has the name of one that is taken

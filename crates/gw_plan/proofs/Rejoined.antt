@@ -1,5 +1,6 @@
 -- Lines that are joined are cut again.
-use Rattle.std.proofs.Common.{◌≡◌, ℕ, zero, suc, ◌+◌, ◌-◌, Bool, true, false, List, [], ◌∷◌, ◌++◌, length, get_or, take, Option, Some, None, refl, sym, ap, ◌∙◌, subst, arith, append_assoc, length-append}
+use Rattle.std.proofs.Common.{◌≡◌, ℕ, zero, suc, ◌+◌, ◌-◌, Bool, true, false, List, [], ◌∷◌, ◌++◌, length, get_or, take, Option, Some, None, refl, sym, ap, ◌∙◌, subst, arith, append_assoc}
+use Rattle.std.proofs.Common.{length-append}
 use Rattle.std.specs.Prelude.{◌&&◌, ◌==◌, not, cond, slice_index, if◌then◌else◌}
 use Rattle.std.specs.List.{AllByRecursion, list_all, flat_map, slice_split, onto_first}
 use Rattle.std.specs.Option.{is_some}
@@ -105,11 +106,12 @@ whole_line line h = whole_with_end line (by (list_all is_lawful (without_last 13
 
 whole_lines : (at : ℕ) (all : List (List ℕ)) → broken at all ≡ None → AllByRecursion IsWhole all
 whole_lines at [] e = tt
-whole_lines at (line ∷ rest) e = by (is_some (words line)) refl e
+whole_lines at (line ∷ rest) e = by (is_some (words line)) refl (whole_lines (at + 1) rest) e
   where
-    by : (b : Bool) → is_some (words line) ≡ b → (if b then broken (at + 1) rest else Some (Syntax at)) ≡ None → AllByRecursion IsWhole (line ∷ rest)
-    by true f k = (whole_line line f, whole_lines (at + 1) rest k)
-    by false f k = absurd (cc)
+    by : (b : Bool) → is_some (words line) ≡ b → (broken (at + 1) rest ≡ None → AllByRecursion IsWhole rest) → (if b then broken (at + 1) rest else Some (Syntax at)) ≡ None
+        → AllByRecursion IsWhole (line ∷ rest)
+    by true f next k = (whole_line line f, next k)
+    by false f next k = absurd (cc)
 
 -- lines that are joined are cut again, where none is broken
 pub rejoined : (at : ℕ) (all : List (List ℕ)) → broken at all ≡ None → lines (joined all) ≡ all

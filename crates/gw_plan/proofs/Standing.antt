@@ -6,16 +6,19 @@ use Rattle.std.specs.Map.{lookup}
 use Rattle.std.specs.Option.{option_map, option_copied, IfSome}
 use Rattle.std.specs.Global.{Vec}
 use Rattle.std.proofs.lemmas.List.{map-append}
+use Rattle.std.proofs.lemmas.Slice.Eq.{bytes_eq-Decides}
 use Rattle.indexmap.specs.IndexMap.{insert_entry}
 use Rattle.indexmap.proofs.MapLemmas.{absent_from_lookup, insert_entry-absent}
 use denote.Ref.{Bor}
 use Rattle.gw_profile.specs.Seen as profiles
 use Rattle.gw_profile.specs.Seen.{profile_value}
 use Rattle.gw_profile.specs.Shapes.{ProfileValue}
+use Rattle.gw_maplang.specs.Seen as maps
 use Rattle.gw_check.specs.CheckedMap.{CheckedValue}
 use Rattle.gw_plan.specs.Shapes.{MapBetween, named}
 use Rattle.gw_plan.specs.Held.{map_between}
 use Rattle.gw_plan.specs.Above.{IsAbove, BeginsAt, named_profile, named_map}
+use Rattle.gw_plan.specs.Made.{IsCheckedSo, IsTaken}
 use Rattle.gw_plan.proofs.Keys.{some_same}
 
 all_push : {A : Type 0} (P : A → Type 0) (xs : List A) (x : A) → AllByRecursion P xs → P x → AllByRecursion P (xs ++ x ∷ [])
@@ -35,6 +38,15 @@ named_more {A} name_of name (y ∷ xs) ys x e = by (bytes_eq name (name_of y)) e
         → (if b then Some y else named name_of name (xs ++ ys)) ≡ Some x
     by true e next = e
     by false e next = next e
+
+-- what is found by a name has it
+named_is : {A : Type 0} (name_of : A → List ℕ) (name : List ℕ) (xs : List A) (x : A) → named name_of name xs ≡ Some x → name ≡ name_of x
+named_is name_of name [] x e = absurd (cc)
+named_is {A} name_of name (y ∷ xs) x e = by (bytes_eq name (name_of y)) refl e (named_is name_of name xs x)
+  where
+    by : (b : Bool) → bytes_eq name (name_of y) ≡ b → (if b then Some y else named name_of name xs) ≡ Some x → (named name_of name xs ≡ Some x → name ≡ name_of x) → name ≡ name_of x
+    by true same f next = (bytes_eq-Decides name (name_of y)).0 same ∙ ap name_of (some_same f)
+    by false same f next = next f
 
 -- each entry's key is the name of what it holds, seen by two steps
 abbrev pub Keyed : {A B P : Type 0} → (B → P) → (A → B) → (P → List ℕ) → List (Vec ℕ × A) → Type 0
@@ -67,7 +79,8 @@ all_lookup {A} {B} P g name (e ∷ es) x all found = by (bytes_eq name e.0.items
     by true same next = subst (λ y. P (g y)) (some_same same) all.0
     by false same next = next same
 
-pub lent_all : {A B : Type 0} (P : B → Type 0) (g : A → B) (name : List ℕ) (es : List (Vec ℕ × A)) (result : Option (Bor A)) → AllByRecursion (λ (e : List ℕ × B). P e.1) (map (λ (e : Vec ℕ × A). (e.0.items, g e.1)) es)
+pub lent_all : {A B : Type 0} (P : B → Type 0) (g : A → B) (name : List ℕ) (es : List (Vec ℕ × A)) (result : Option (Bor A))
+    → AllByRecursion (λ (e : List ℕ × B). P e.1) (map (λ (e : Vec ℕ × A). (e.0.items, g e.1)) es)
     → option_copied result ≡ lookup (λ k. bytes_eq name k.items) es → IfSome result (λ (x : Bor A). P (g x.now))
 lent_all P g name es None all e = tt
 lent_all P g name es (Some x) all e = all_lookup P g name es x.now all (sym e)
@@ -90,16 +103,26 @@ inserted f g name_of es key x keyed new =
 
 -- ---- what is kept
 
-pub profile_added : (ps : List (List ℕ × profiles.Contents)) (ms : List (List ℕ × CheckedValue)) (name : List ℕ) (p : profiles.Contents) → name ≡ p.name → IsAbove ps ms → IsAbove (ps ++ (name, p) ∷ []) ms
+-- the profiles that are held, without the names
+abbrev Held : List (List ℕ × profiles.Contents) → List ProfileValue
+Held ps = map (λ p. profile_value p.1) ps
+
+begins_still : (ps : List (List ℕ × profiles.Contents)) (name : List ℕ) (p : profiles.Contents) (m : CheckedValue) → BeginsAt (Held ps) m → BeginsAt (Held (ps ++ (name, p) ∷ [])) m
+begins_still ps name p m h =
+    rw map-append (named_more (λ (p : ProfileValue). p.name) m.source.name (Held ps) (profile_value p ∷ []) (profile_value m.source) h)
+
+pub profile_added : (ps : List (List ℕ × profiles.Contents)) (ms : List (List ℕ × CheckedValue)) (name : List ℕ) (p : profiles.Contents) → name ≡ p.name → IsAbove ps ms
+    → IsAbove (ps ++ (name, p) ∷ []) ms
 profile_added ps ms name p e is = record {
   profile_names = all_push (λ (e : List ℕ × profiles.Contents). e.0 ≡ e.1.name) ps (name, p) is.profile_names e;
   map_names = is.map_names;
   sources =
-    all_weaken (λ (e : List ℕ × CheckedValue). BeginsAt (map (λ p. profile_value p.1) ps) e.1) (λ (e : List ℕ × CheckedValue). BeginsAt (map (λ p. profile_value p.1) (ps ++ (name, p) ∷ [])) e.1) ms
-    (λ e h. rw map-append (named_more (λ (p : ProfileValue). p.name) e.1.source.name (map (λ (p : List ℕ × profiles.Contents). profile_value p.1) ps) (profile_value p ∷ []) (profile_value e.1.source) h)) is.sources;
+      all_weaken (λ (e : List ℕ × CheckedValue). BeginsAt (Held ps) e.1) (λ (e : List ℕ × CheckedValue). BeginsAt (Held (ps ++ (name, p) ∷ [])) e.1) ms
+      (λ e h. begins_still ps name p e.1 h) is.sources;
 }
 
-pub map_added : (ps : List (List ℕ × profiles.Contents)) (ms : List (List ℕ × CheckedValue)) (name : List ℕ) (m : CheckedValue) → name ≡ m.map.name → BeginsAt (map (λ p. profile_value p.1) ps) m → IsAbove ps ms → IsAbove ps (ms ++ (name, m) ∷ [])
+pub map_added : (ps : List (List ℕ × profiles.Contents)) (ms : List (List ℕ × CheckedValue)) (name : List ℕ) (m : CheckedValue) → name ≡ m.map.name
+    → BeginsAt (map (λ p. profile_value p.1) ps) m → IsAbove ps ms → IsAbove ps (ms ++ (name, m) ∷ [])
 map_added ps ms name m e begins is = record {
   profile_names = is.profile_names;
   map_names = all_push (λ (e : List ℕ × CheckedValue). e.0 ≡ e.1.map.name) ms (name, m) is.map_names e;
@@ -113,7 +136,8 @@ same_key name_of xs e none = ap (λ name. named name_of name xs) e ∙ none
 
 -- the entries with a profile that is new
 pub profile_put : {A : Type 0} (g : A → profiles.Contents) (es new : List (Vec ℕ × A)) (ms : List (List ℕ × CheckedValue)) (key : Vec ℕ) (x : A) → key.items ≡ (g x).name
-    → IsAbove (map (λ e. (e.0.items, g e.1)) es) ms → named_profile (g x).name (map profile_value (map (λ e. g e.1) es)) ≡ None → new ≡ insert_entry (λ k l. bytes_eq k.items l.items) es key x → new ≡ es ++ (key, x) ∷ []
+    → IsAbove (map (λ e. (e.0.items, g e.1)) es) ms → named_profile (g x).name (map profile_value (map (λ e. g e.1) es)) ≡ None
+    → new ≡ insert_entry (λ k l. bytes_eq k.items l.items) es key x → new ≡ es ++ (key, x) ∷ []
 profile_put g es new ms key x e is none put = put ∙ inserted profile_value g (λ (p : ProfileValue). p.name) es key x is.profile_names (same_key (λ (p : ProfileValue). p.name) _ e none)
 
 pub profile_kept : {A : Type 0} (g : A → profiles.Contents) (es new : List (Vec ℕ × A)) (ms : List (List ℕ × CheckedValue)) (key : Vec ℕ) (x : A) → key.items ≡ (g x).name → new ≡ es ++ (key, x) ∷ []
@@ -125,10 +149,26 @@ one_more {A} g es new key x put = ap (map (λ (e : Vec ℕ × A). g e.1)) put �
 
 -- the same with a map
 pub map_put : {A : Type 0} (g : A → CheckedValue) (es new : List (Vec ℕ × A)) (ps : List (List ℕ × profiles.Contents)) (key : Vec ℕ) (x : A) → key.items ≡ (g x).map.name
-    → IsAbove ps (map (λ e. (e.0.items, g e.1)) es) → named_map (g x).map.name (map map_between (map (λ e. g e.1) es)) ≡ None → new ≡ insert_entry (λ k l. bytes_eq k.items l.items) es key x → new ≡ es ++ (key, x) ∷ []
+    → IsAbove ps (map (λ e. (e.0.items, g e.1)) es) → named_map (g x).map.name (map map_between (map (λ e. g e.1) es)) ≡ None
+    → new ≡ insert_entry (λ k l. bytes_eq k.items l.items) es key x → new ≡ es ++ (key, x) ∷ []
 map_put g es new ps key x e is none put = put ∙ inserted map_between g (λ (b : MapBetween). b.map.name) es key x is.map_names (same_key (λ (b : MapBetween). b.map.name) _ e none)
 
-pub map_kept : {A B : Type 0} (f : B → profiles.Contents) (g : A → CheckedValue) (qs : List (Vec ℕ × B)) (es new : List (Vec ℕ × A)) (key : Vec ℕ) (x : A) → key.items ≡ (g x).map.name → new ≡ es ++ (key, x) ∷ []
-    → BeginsAt (map profile_value (map (λ e. f e.1) qs)) (g x) → IsAbove (map (λ e. (e.0.items, f e.1)) qs) (map (λ e. (e.0.items, g e.1)) es) → IsAbove (map (λ e. (e.0.items, f e.1)) qs) (map (λ e. (e.0.items, g e.1)) new)
+pub map_kept : {A B : Type 0} (f : B → profiles.Contents) (g : A → CheckedValue) (qs : List (Vec ℕ × B)) (es new : List (Vec ℕ × A)) (key : Vec ℕ) (x : A) → key.items ≡ (g x).map.name
+    → new ≡ es ++ (key, x) ∷ []
+    → BeginsAt (map profile_value (map (λ e. f e.1) qs)) (g x) → IsAbove (map (λ e. (e.0.items, f e.1)) qs) (map (λ e. (e.0.items, g e.1)) es)
+    → IsAbove (map (λ e. (e.0.items, f e.1)) qs) (map (λ e. (e.0.items, g e.1)) new)
 map_kept f g qs es new key x e put begins is =
-    rw put (rw map-append (map_added (map (λ e. (e.0.items, f e.1)) qs) (map (λ e. (e.0.items, g e.1)) es) key.items (g x) e (subst (λ (ps : List ProfileValue). BeginsAt ps (g x)) (sym (held_values profile_value f qs)) begins) is))
+    let held = subst (λ (ps : List ProfileValue). BeginsAt ps (g x)) (sym (held_values profile_value f qs)) begins in
+    rw put (rw map-append (map_added (map (λ e. (e.0.items, f e.1)) qs) (map (λ e. (e.0.items, g e.1)) es) key.items (g x) e held is))
+
+-- what was checked begins at the profile that its map names
+pub taken_so : (ps : List ProfileValue) (source target : profiles.Contents) (m : maps.Contents) (checked given : CheckedValue) → given ≡ checked → IsCheckedSo source target m checked
+    → named_profile m.source ps ≡ Some (profile_value source) → IsTaken ps m given
+taken_so ps source target m checked given same is found =
+    let from : given.source ≡ source = ap (λ (c : CheckedValue). c.source) same ∙ is.source_is in
+    let named = named_is (λ (p : ProfileValue). p.name) m.source ps (profile_value source) found in
+    let begins = subst (λ name. named_profile name ps ≡ Some (profile_value source)) named found in
+    record {
+      map_is = ap (λ (c : CheckedValue). c.map) same ∙ is.map_is;
+      source = subst (λ (p : profiles.Contents). named_profile p.name ps ≡ Some (profile_value p)) (sym from) begins;
+    }

@@ -184,8 +184,11 @@ abbrev pub map_checked : Option PlanFault → Inner → MapValue → Option MapB
 map_checked beside p m None = Err (earlier beside (UnknownName (p.at + m.line)))
 map_checked beside p m (Some b) = unless (earliest beside (check_fault p (least (all_failures b.source b.target m)))) b
 
+abbrev pub checked_between : List ProfileValue → Option PlanFault → Inner → MapValue → Result MapBetween PlanFault
+checked_between profiles beside p m = map_checked beside p m (between profiles m)
+
 abbrev pub map_said : List ProfileValue → Option PlanFault → Inner → Result MapValue map_faults.MapFault → Result MapBetween PlanFault
-map_said profiles beside p (Ok m) = map_checked beside p m (between profiles m)
+map_said profiles beside p (Ok m) = checked_between profiles beside p m
 map_said profiles beside p (Err fault) = Err (earlier beside (map_fault p fault))
 
 -- the map that an inner text gives below these, with its profiles, or its fault

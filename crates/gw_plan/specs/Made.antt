@@ -35,9 +35,9 @@ abbrev pub Spells : {X Y E : Type 0} → (X → Y) → Result X E → Result Y E
 Spells view (Ok x) said = said ≡ Ok (view x)
 Spells view (Err e) said = said ≡ Err e
 
--- a map with these profiles
-abbrev pub between_these : ProfileValue → ProfileValue → MapValue → MapBetween
-between_these source target m = record { source = source; target = target; map = m }
+-- a map with the profiles that were found for it, seen by view
+abbrev pub with_found : {A : Type 0} → (A → ProfileValue) → MapValue → A × A → MapBetween
+with_found view m found = record { source = view found.0; target = view found.1; map = m }
 
 -- a map that was checked is this one, with its profiles, and no rule fails
 pub record IsCheckedSo (source target : profiles.Contents) (m : maps.Contents) (c : CheckedValue) : Type 0 where

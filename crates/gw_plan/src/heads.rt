@@ -31,7 +31,11 @@ fn profile_head_of<'a>(line: u64, words: &[Word<'a>]) -> Option<(u64, &'a [u8])>
     ensures { option_map (λ h. (h.0, h.1.now)) result ≡ spec.profile_head_of (line, map word words.now) }
 {
     let (name, more) = name_behind(b"profile", words)?;
-    if more.is_empty() { Some((line, name)) } else { None }
+    if more.is_empty() {
+        Some((line, name))
+    } else {
+        None
+    }
 }
 
 /// The name that the first line of a profile says, with that line's number.

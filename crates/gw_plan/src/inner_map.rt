@@ -12,7 +12,7 @@ ghost use Rattle.gw_plan.specs.declared.fault.PlanFault.TheVariants as fault;
 ghost use Rattle.gw_plan.specs.Above.{profiles_of, maps_of, named_profile, IsNewMap};
 ghost use Rattle.gw_plan.specs.Held.{map_between};
 ghost use Rattle.gw_plan.specs.Inner as spec;
-ghost use Rattle.gw_plan.specs.Made.{inner, map_head, between_these, IsNumbered, IsLasting, Spells, Checks, IsTaken};
+ghost use Rattle.gw_plan.specs.Made.{inner, map_head, with_found, IsNumbered, IsLasting, Spells, Checks, IsTaken};
 
 use crate::above::Above;
 use crate::fault::PlanFault;
@@ -127,7 +127,7 @@ fn spelled(alloc: Global, part: &Inner<'_, '_>) -> Result<Result<Map, MapFault>,
 
 // The profiles that a map names, where they stand above.
 fn sides<'s>(above: &'s Above, map: &Map) -> Option<(&'s Arc<Profile>, &'s Arc<Profile>)>
-    ensures between { option_map (λ s. between_these (profile_value (arc_value s.0.now)) (profile_value (arc_value s.1.now)) (map_value map.now)) result ≡ spec.between (profiles_of above.now) (map_value map.now) }
+    ensures between { option_map (with_found (λ p. profile_value (arc_value p.now)) (map_value map.now)) result ≡ spec.between (profiles_of above.now) (map_value map.now) }
     ensures source { IfSome result (λ s. named_profile map.now.source (profiles_of above.now) ≡ Some (profile_value (arc_value s.0.now))) }
 {
     let source = above.profile(map.source())?;
@@ -162,7 +162,7 @@ fn with_sides(
     map: Map,
 ) -> Result<Arc<CheckedMap>, PlanFault>
     requires { IsNumbered (inner part.now) }
-    ensures said { Gives fault.Memory (λ m. map_between (arc_value m)) result (spec.map_checked beside (inner part.now) (map_value map) (spec.between (profiles_of above.now) (map_value map))) }
+    ensures said { Gives fault.Memory (λ m. map_between (arc_value m)) result (spec.checked_between (profiles_of above.now) beside (inner part.now) (map_value map)) }
     ensures taken { IfOk result (λ m. IsTaken (profiles_of above.now) map (arc_value m)) }
     ensures alone { IfOk result (λ _. beside ≡ None) }
 {
@@ -179,7 +179,8 @@ fn with_sides(
     }
 }
 
-/// The map that an inner text gives below what stands above, checked between the profiles that it names; or its fault: of the faults of its lines, of its names, of the map itself and of its check the first.
+/// The map that an inner text gives below what stands above, checked between the profiles that it names.
+/// Else its fault: of the faults of its lines, of its names, of the map itself and of its check the first.
 pub(crate) fn take_map(
     alloc: Global,
     above: &Above,

@@ -97,7 +97,10 @@ fn lasting(fault: ProfileFault) -> Result<ProfileFault, AllocError>
 }
 
 // The profile that the inner text spells, or its fault.
-fn spelled(alloc: Global, part: &Inner<'_, '_>) -> Result<Result<Arc<Profile>, ProfileFault>, AllocError>
+fn spelled(
+    alloc: Global,
+    part: &Inner<'_, '_>,
+) -> Result<Result<Arc<Profile>, ProfileFault>, AllocError>
     ensures { IfOk result (λ made. Spells (λ p. profile_value (arc_value p)) made (profiles.spelled (spec.text (inner part.now)))) }
 {
     let text = joined(alloc, part.lines)?;
@@ -107,7 +110,8 @@ fn spelled(alloc: Global, part: &Inner<'_, '_>) -> Result<Result<Arc<Profile>, P
     }
 }
 
-/// The profile that an inner text gives below what stands above, or its fault: of the faults of its lines, of its name and of the profile itself the first.
+/// The profile that an inner text gives below what stands above.
+/// Else its fault: of the faults of its lines, of its name and of the profile itself the first.
 pub(crate) fn take_profile(
     alloc: Global,
     above: &Above,

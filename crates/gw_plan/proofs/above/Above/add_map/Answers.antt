@@ -9,7 +9,7 @@ use Rattle.gw_plan.proofs.above.Above.add_map.Goals as goal
 pub invariant_of-self-2 : goal.invariant_of-self-2
 invariant_of-self-2 c =
     let name : c.in_ok-name.name.items ≡ (arc_value c.args.map).map.name =
-      c.in_ok-name.ensures.items ∙ c.name.ensures ∙ ap (λ (m : maps.Contents). m.name) (c.map.ensures ∙ ap (λ (m : CheckedValue). m.map) c.deref.ensures)
+    c.in_ok-name.ensures.items ∙ c.name.ensures ∙ ap (λ (m : maps.Contents). m.name) (c.map.ensures ∙ ap (λ (m : CheckedValue). m.map) c.deref.ensures)
     in
     let new = ap (λ (a : AboveHeld). named_map (arc_value c.args.map).map.name (maps_of a)) c.self.view_is ∙ c.requires.new in
     map_kept arc_value arc_value c.self.inside.profiles.entries c.self.inside.maps.entries c.insert.new.self.entries c.in_ok-name.name c.args.map name
@@ -19,9 +19,10 @@ invariant_of-self-2 c =
 pub returns-clause-added : goal.returns-clause-added
 returns-clause-added c =
     let name : c.in_ok-name.name.items ≡ (arc_value c.args.map).map.name =
-      c.in_ok-name.ensures.items ∙ c.name.ensures ∙ ap (λ (m : maps.Contents). m.name) (c.map.ensures ∙ ap (λ (m : CheckedValue). m.map) c.deref.ensures)
+    c.in_ok-name.ensures.items ∙ c.name.ensures ∙ ap (λ (m : maps.Contents). m.name) (c.map.ensures ∙ ap (λ (m : CheckedValue). m.map) c.deref.ensures)
     in
     let new = ap (λ (a : AboveHeld). named_map (arc_value c.args.map).map.name (maps_of a)) c.self.view_is ∙ c.requires.new in
     let put = map_put arc_value c.self.inside.maps.entries c.insert.new.self.entries _ c.in_ok-name.name c.args.map name c.self.invariant new c.in_ok-insert.ensures.entries in
-    ap (λ (ms : List CheckedValue). record { profiles = map (λ e. arc_value e.1) c.self.inside.profiles.entries; maps = ms }) (one_more arc_value c.self.inside.maps.entries c.insert.new.self.entries c.in_ok-name.name c.args.map put)
+    ap (λ (ms : List CheckedValue). record { profiles = map (λ e. arc_value e.1) c.self.inside.profiles.entries; maps = ms })
+    (one_more arc_value c.self.inside.maps.entries c.insert.new.self.entries c.in_ok-name.name c.args.map put)
     ∙ ap (λ (a : AboveHeld). with_map a (arc_value c.args.map)) c.self.view_is

@@ -17,5 +17,6 @@ returns-clause-added c =
     let name : c.in_ok-name.name.items ≡ (arc_value c.args.profile).name = c.in_ok-name.ensures.items ∙ c.name.ensures ∙ ap (λ (p : profiles.Contents). p.name) c.deref.ensures in
     let new = ap (λ (a : AboveHeld). named_profile (arc_value c.args.profile).name (profiles_of a)) c.self.view_is ∙ c.requires in
     let put = profile_put arc_value c.self.inside.profiles.entries c.insert.new.self.entries _ c.in_ok-name.name c.args.profile name c.self.invariant new c.in_ok-insert.ensures.entries in
-    ap (λ (ps : List profiles.Contents). record { profiles = ps; maps = map (λ e. arc_value e.1) c.self.inside.maps.entries }) (one_more arc_value c.self.inside.profiles.entries c.insert.new.self.entries c.in_ok-name.name c.args.profile put)
+    ap (λ (ps : List profiles.Contents). record { profiles = ps; maps = map (λ e. arc_value e.1) c.self.inside.maps.entries })
+    (one_more arc_value c.self.inside.profiles.entries c.insert.new.self.entries c.in_ok-name.name c.args.profile put)
     ∙ ap (λ (a : AboveHeld). with_profile a (arc_value c.args.profile)) c.self.view_is
