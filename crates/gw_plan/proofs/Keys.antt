@@ -1,6 +1,6 @@
 -- What an index of routes finds.
 use Rattle.std.proofs.Common.{◌≡◌, ℕ, ◌+◌, List, [], ◌∷◌, ◌++◌, length, Option, Some, None, Bool, true, false, refl, sym, ap, ◌∙◌, subst, arith, eq-eqb, ap₂}
-use Rattle.std.specs.Prelude.{Err, not, ◌&&◌, ◌||◌, position, if◌then◌else◌, bytes_eq, nat_eq}
+use Rattle.std.specs.Prelude.{Err, is_ok, is_some, not, ◌&&◌, ◌||◌, position, if◌then◌else◌, bytes_eq, nat_eq}
 use Rattle.std.specs.List.{list_any, AllZip, AllByRecursion, position_or_len, position_from}
 use Rattle.std.specs.Global.{Vec}
 use Rattle.indexmap.specs.IndexSet.{insert_key}
@@ -236,3 +236,34 @@ indexed_put codes events pairs keys code event key i j ec ee ei ej new x = recor
 
     unknown : list_any (pair_eq (i, j)) pairs ≡ false
     unknown = zip_any (pair_eq (i, j)) (is_key key.code key.event) pairs keys (zip_map pairs keys (pair_test key.code key.event (grown codes code) (grown events event) i j has_code has_event) moved) ∙ new
+
+-- ---- whether one is found
+
+is_found : {A : Type 0} (t : A → Bool) (n : ℕ) (xs : List A) → is_some (position_from t n xs) ≡ list_any t xs
+is_found t n [] = refl
+is_found t n (x ∷ xs) = by (t x) (is_found t (n + 1) xs)
+  where
+    by : (b : Bool) → is_some (position_from t (n + 1) xs) ≡ list_any t xs → is_some (if b then Some n else position_from t (n + 1) xs) ≡ b || list_any t xs
+    by true h = refl
+    by false h = h
+
+no_key : (code event : List ℕ) (keys : List Key) → list_any (λ k. bytes_eq code k.code) keys ≡ false → list_any (is_key code event) keys ≡ false
+no_key code event [] e = refl
+no_key code event (k ∷ keys) e = by (bytes_eq code k.code) e (no_key code event keys)
+  where
+    by : (b : Bool) → b || list_any (λ k. bytes_eq code k.code) keys ≡ false → (list_any (λ k. bytes_eq code k.code) keys ≡ false → list_any (is_key code event) keys ≡ false)
+        → (b && bytes_eq event k.event) || list_any (is_key code event) keys ≡ false
+    by true e next = absurd (cc)
+    by false e next = next e
+
+ok_if_some : (o : Option ℕ) → is_ok (number_if_some o) ≡ is_some o
+ok_if_some None = refl
+ok_if_some (Some n) = refl
+
+-- a number is found exactly for a key that is there
+pub has_key : (code event : List ℕ) (keys : List Key) → is_ok (number_for code event keys) ≡ list_any (is_key code event) keys
+has_key code event keys = by (list_any (λ k. bytes_eq code k.code) keys) refl
+  where
+    by : (b : Bool) → list_any (λ k. bytes_eq code k.code) keys ≡ b → is_ok (if b then number_if_some (position_from (is_key code event) 0 keys) else Err 200) ≡ list_any (is_key code event) keys
+    by true e = ok_if_some (position_from (is_key code event) 0 keys) ∙ is_found (is_key code event) 0 keys
+    by false e = sym (no_key code event keys e)

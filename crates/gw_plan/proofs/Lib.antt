@@ -1,4 +1,15 @@
 pub mod Keys
 pub mod Routes
 pub mod Sendings
-pub mod Receivers
+pub mod Alike
+pub mod Standing
+pub mod Rejoined
+pub mod FirstLines
+pub mod Earliest
+pub mod NamedProfile
+pub mod NamedMap
+pub mod Leading
+pub mod Listing
+pub mod Planning
+pub mod Receiving
+pub mod Stopping

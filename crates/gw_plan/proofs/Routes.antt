@@ -1,9 +1,11 @@
 -- What a plan finds for a message.
-use Rattle.std.proofs.Common.{◌≡◌, ℕ, suc, ◌+◌, List, [], ◌∷◌, length, map, Option, Some, None, Bool, true, false, refl, sym, ap, ◌∙◌, subst, arith}
+use Rattle.std.proofs.Common.{◌≡◌, ℕ, suc, ◌+◌, List, [], ◌∷◌, ◌++◌, length, map, Option, Some, None, Bool, true, false, refl, sym, ap, ◌∙◌, subst, arith}
 use Rattle.std.specs.Prelude.{Result, Ok, Err, ◌&&◌, ◌||◌, if◌then◌else◌, bytes_eq, nat_eq, slice_get}
 use Rattle.std.specs.List.{list_any, position_from, AllByRecursion}
 use Rattle.std.specs.Map.{keys_of, lookup}
 use Rattle.std.specs.Option.{option_map, option_copied, IfSome}
+use Rattle.std.proofs.lemmas.List.{map-append}
+use Rattle.indexmap.specs.IndexMap.{insert_entry}
 use denote.Ref.{Bor}
 use Rattle.gw_profile.specs.Seen.{profile_value}
 use Rattle.std.specs.Global.{Vec}
@@ -11,7 +13,7 @@ use Rattle.gw_er7.specs.Message.{SegmentValue}
 use Rattle.gw_check.specs.CheckedMap.{CheckedValue}
 use Rattle.gw_plan.specs.Shapes.{Leg, RouteValue}
 use Rattle.gw_plan.specs.Index.{is_key, number_for, number_if_some}
-use Rattle.gw_plan.specs.Held.{RouteHeld, PlanHeld, IsRoute, leg, plan_value, route_value, tested, FoundAt}
+use Rattle.gw_plan.specs.Held.{RouteHeld, PlanHeld, IsRoute, longer, leg, plan_value, route_value, tested, FoundAt}
 use Rattle.gw_plan.specs.Kept.{key_of}
 use Rattle.gw_plan.specs.Routing.{is_code, route_for, admitted, routed, is_accepted}
 use Rattle.gw_plan.proofs.Keys.{none_some, some_same}
@@ -119,3 +121,28 @@ any_items (w ∷ words) text = ap (λ b. bytes_eq text w.items || b) (any_items 
 pub accepted_some : (words : List (Vec ℕ)) (text : List ℕ) → nat_eq (length words) 0 ≡ false → list_any (λ w. bytes_eq text w.items) words ≡ is_accepted (map (λ w. w.items) words) text
 accepted_some [] text some = absurd (cc)
 accepted_some (w ∷ words) text some = any_items (w ∷ words) text
+
+-- ---- one leg more
+
+-- a new receiver goes last
+leg_last : {A B : Type 0} (f : A → B) (receiver : ℕ) (es : List (ℕ × A)) (x : A) → list_any (λ (l : ℕ × B). nat_eq receiver l.0) (map (λ (l : ℕ × A). (l.0, f l.1)) es) ≡ false → insert_entry nat_eq es receiver x ≡ es ++ (receiver, x) ∷ []
+leg_last f receiver [] x new = refl
+leg_last {A} {B} f receiver (e ∷ es) x new = by (nat_eq receiver e.0) new (leg_last f receiver es x)
+  where
+    by : (b : Bool) → b || list_any (λ (l : ℕ × B). nat_eq receiver l.0) (map (λ (l : ℕ × A). (l.0, f l.1)) es) ≡ false
+        → (list_any (λ (l : ℕ × B). nat_eq receiver l.0) (map (λ (l : ℕ × A). (l.0, f l.1)) es) ≡ false → insert_entry nat_eq es receiver x ≡ es ++ (receiver, x) ∷ [])
+        → (if b then (e.0, x) ∷ es else e ∷ insert_entry nat_eq es receiver x) ≡ e ∷ (es ++ (receiver, x) ∷ [])
+    by true n next = absurd (cc)
+    by false n next = ap (λ l. e ∷ l) (next n)
+
+pub leg_put : {A B : Type 0} (f : A → B) (receiver : ℕ) (es new : List (ℕ × A)) (x : A) → list_any (λ (l : ℕ × B). nat_eq receiver l.0) (map {B = ℕ × B} (λ (l : ℕ × A). (l.0, f l.1)) es) ≡ false
+    → new ≡ insert_entry nat_eq es receiver x → map {B = ℕ × B} (λ (l : ℕ × A). (l.0, f l.1)) new ≡ map {B = ℕ × B} (λ (l : ℕ × A). (l.0, f l.1)) es ++ (receiver, f x) ∷ []
+leg_put {A} {B} f receiver es new x none put = ap (map {B = ℕ × B} (λ (l : ℕ × A). (l.0, f l.1))) (put ∙ leg_last f receiver es x none) ∙ map-append {B = ℕ × B} (λ (l : ℕ × A). (l.0, f l.1)) es ((receiver, x) ∷ [])
+
+all_push : {A : Type 0} (P : A → Type 0) (xs : List A) (x : A) → AllByRecursion P xs → P x → AllByRecursion P (xs ++ x ∷ [])
+all_push P [] x all p = (p, tt)
+all_push P (y ∷ xs) x all p = (all.0, all_push P xs x all.1 p)
+
+-- a route is one with a leg more that begins at its profile
+pub route_longer : (receiver : ℕ) (by : CheckedValue) (r : RouteHeld) → profile_value by.source ≡ profile_value r.profile → IsRoute r → IsRoute (longer receiver by r)
+route_longer receiver by r source is = all_push (λ (l : ℕ × CheckedValue). profile_value l.1.source ≡ profile_value r.profile) r.legs (receiver, by) is source

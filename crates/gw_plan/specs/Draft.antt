@@ -57,6 +57,12 @@ with_receiver d at name address =
     if is_some (receiver_number d name) then Err (Duplicate at)
     else Ok (record d { receivers = d.receivers ++ record { name = name; address = address } ∷ [] })
 
+abbrev pub with_versions : Draft → List (List ℕ) → Draft
+with_versions d accepted = record (closed d) { versions = d.versions ++ accepted }
+
+abbrev pub with_processing : Draft → List (List ℕ) → Draft
+with_processing d accepted = record (closed d) { processing = d.processing ++ accepted }
+
 -- the profile stands above
 abbrev pub with_profile : Draft → ℕ → List ℕ → List ℕ → Option ProfileValue → Result Draft PlanFault
 with_profile d at code event None = Err (UnknownName at)
@@ -89,8 +95,8 @@ delivered d at (Some route) receiver map = with_leg d at route (receiver_number 
 abbrev pub below : Draft → ℕ → Line → Result Draft PlanFault
 below d at (Begins name) = Err (Syntax at)
 below d at (Receives name address) = with_receiver (closed d) at name address
-below d at (Versions accepted) = Ok (record (closed d) { versions = d.versions ++ accepted })
-below d at (Processing accepted) = Ok (record (closed d) { processing = d.processing ++ accepted })
+below d at (Versions accepted) = Ok (with_versions d accepted)
+below d at (Processing accepted) = Ok (with_processing d accepted)
 below d at OpensProfile = Err (Syntax at)
 below d at OpensMap = Err (Syntax at)
 below d at (Routes code event profile) = with_route (closed d) at code event (profile_named d profile)

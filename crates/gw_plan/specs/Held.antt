@@ -1,6 +1,6 @@
 -- What the program holds of a plan, and what it stands for.
-use Rattle.std.specs.Prelude.{◌≡◌, ℕ, Bool, if◌then◌else◌, List, map, slice_get, Some, Result, Ok, Err}
-use Rattle.std.specs.List.{AllByRecursion}
+use Rattle.std.specs.Prelude.{◌≡◌, ℕ, Bool, false, nat_eq, if◌then◌else◌, List, [], ◌∷◌, ◌++◌, map, slice_get, Some, Result, Ok, Err}
+use Rattle.std.specs.List.{AllByRecursion, list_any}
 use denote.Ref.{Bor}
 use Rattle.gw_profile.specs.Seen as profiles
 use Rattle.gw_profile.specs.Seen.{profile_value}
@@ -38,6 +38,15 @@ plan_value p = record { receivers = p.receivers; versions = p.versions; processi
 -- every map of a route begins at the route's profile
 abbrev pub IsRoute : RouteHeld → Type 0
 IsRoute r = AllByRecursion (λ l. profile_value l.1.source ≡ profile_value r.profile) r.legs
+
+-- with one leg more
+abbrev pub longer : ℕ → CheckedValue → RouteHeld → RouteHeld
+longer receiver by r = record r { legs = r.legs ++ (receiver, by) ∷ [] }
+
+-- the receiver is new to the route, and the map begins at the route's profile
+pub record IsNewLeg (receiver : ℕ) (by : CheckedValue) (r : RouteHeld) : Type 0 where
+  pub new : list_any (λ l. nat_eq receiver l.0) r.legs ≡ false
+  pub source : profile_value by.source ≡ profile_value r.profile
 
 -- a route that was found, or the code that was answered
 abbrev pub lent : Result (Bor RouteHeld) ℕ → Result RouteValue ℕ

@@ -1,5 +1,5 @@
 -- How a route is found by its code and event.
-use Rattle.std.specs.Prelude.{◌≡◌, ℕ, true, Bool, ◌&&◌, if◌then◌else◌, List, Option, Some, None, bytes_eq, Result, Ok, Err}
+use Rattle.std.specs.Prelude.{◌≡◌, ℕ, true, Bool, ◌&&◌, if◌then◌else◌, List, [], ◌∷◌, ◌++◌, Option, Some, None, bytes_eq, Result, Ok, Err}
 use Rattle.std.specs.List.{list_any, position_from, AllZip, AllByRecursion}
 use Rattle.std.specs.Global.{Vec}
 use Rattle.gw_plan.specs.declared.index.Index.{Index}
@@ -11,6 +11,10 @@ pub record Key : Type 0 where
 
 abbrev pub is_key : List ℕ → List ℕ → Key → Bool
 is_key code event k = bytes_eq code k.code && bytes_eq event k.event
+
+-- with one more behind the others
+abbrev pub with_key : List ℕ → List ℕ → List Key → List Key
+with_key code event keys = keys ++ record { code = code; event = event } ∷ []
 
 abbrev pub number_if_some : Option ℕ → Result ℕ ℕ
 number_if_some None = Err 201

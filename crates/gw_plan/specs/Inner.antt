@@ -3,12 +3,13 @@ use Rattle.std.specs.Prelude.{ℕ, ◌+◌, Bool, true, false, ◌&&◌, not, if
 use Rattle.std.specs.Option.{option_map}
 use Rattle.gw_lines.specs.Words.{Word, words}
 use Rattle.gw_lines.specs.Parts.{◌>>=◌, name_at, behind, with_all}
+use Rattle.gw_lines.specs.Reading.{unless}
 use Rattle.gw_profile.specs.Shapes.{ProfileValue}
-use Rattle.gw_profile.specs.Whole as profiles
+use Rattle.gw_profile.specs.Whole as profile_texts
 use Rattle.gw_profile.specs.Numbers as profile_numbers
 use Rattle.gw_profile.specs.declared.fault.ProfileFault as profile_faults
 use Rattle.gw_maplang.specs.Shapes.{MapValue}
-use Rattle.gw_maplang.specs.Whole as maps
+use Rattle.gw_maplang.specs.Whole as map_texts
 use Rattle.gw_maplang.specs.Numbers as map_numbers
 use Rattle.gw_maplang.specs.declared.fault.MapFault as map_faults
 use Rattle.gw_resolve.specs.Failures.{Failure}
@@ -18,7 +19,8 @@ use Rattle.gw_plan.specs.declared.fault.PlanFault.TheVariants.{Syntax, Profile, 
 use Rattle.gw_plan.specs.Joined.{joined}
 use Rattle.gw_plan.specs.Numbers.{earlier, earliest}
 use Rattle.gw_plan.specs.Shapes.{MapBetween}
-use Rattle.gw_plan.specs.Draft.{Draft, closed, profile_named, map_named}
+use Rattle.gw_plan.specs.Above.{named_profile, named_map}
+use Rattle.gw_plan.specs.Draft.{Draft, closed}
 
 -- The lines from behind a `begin` line, of this number, up to the `stop` line; or up to the text's end, where none follows.
 pub record Inner : Type 0 where
@@ -54,15 +56,23 @@ abbrev pub first_said : ℕ → List (List ℕ) → Option (ℕ × List Word)
 first_said at [] = None
 first_said at (line ∷ lines) = said_or at (words line) (first_said (at + 1) lines)
 
+-- a name behind a keyword
+abbrev pub name_behind : List ℕ → List Word → Option (List ℕ × List Word)
+name_behind keyword words = do
+  more ← behind keyword words
+  name_at more
+
 -- ---- profiles
+
+-- the name that a line of this number says, profile NAME
+abbrev pub profile_head_of : ℕ × List Word → Option (ℕ × List ℕ)
+profile_head_of said = do
+  name ← name_behind (codes "profile") said.1
+  with_all name.1 (said.0, name.0)
 
 -- the name that the first line says, with that line's number
 abbrev pub profile_head : Inner → Option (ℕ × List ℕ)
-profile_head p = do
-  said ← first_said (p.at + 1) p.lines
-  rest ← behind (codes "profile") said.1
-  name ← name_at rest
-  with_all name.1 (said.0, name.0)
+profile_head p = first_said (p.at + 1) p.lines >>= profile_head_of
 
 -- the line of a fault in its text, 0 where it has none
 abbrev pub profile_line : profile_faults.ProfileFault → ℕ
@@ -88,24 +98,20 @@ profile_fault p fault =
     else Profile (p.at + profile_line fault) (profile_numbers.number fault)
 
 -- a name that a profile above has
-abbrev pub profile_again : Draft → Option (ℕ × List ℕ) → Option PlanFault
-profile_again d None = None
-profile_again d (Some head) = if is_some (profile_named d head.1) then Some (Duplicate head.0) else None
+abbrev pub profile_again : List ProfileValue → Option (ℕ × List ℕ) → Option PlanFault
+profile_again profiles None = None
+profile_again profiles (Some head) = if is_some (named_profile head.1 profiles) then Some (Duplicate head.0) else None
 
-abbrev pub profile_faults_beside : Draft → Inner → Option PlanFault
-profile_faults_beside d p = earliest (common p) (profile_again d (profile_head p))
+abbrev pub profile_faults_beside : List ProfileValue → Inner → Option PlanFault
+profile_faults_beside profiles p = earliest (common p) (profile_again profiles (profile_head p))
 
-abbrev pub kept_unless : Option PlanFault → Draft → Result Draft PlanFault
-kept_unless None d = Ok d
-kept_unless (Some fault) d = Err fault
+abbrev pub profile_said : Option PlanFault → Inner → Result ProfileValue profile_faults.ProfileFault → Result ProfileValue PlanFault
+profile_said beside p (Ok profile) = unless beside profile
+profile_said beside p (Err fault) = Err (earlier beside (profile_fault p fault))
 
-abbrev pub profile_taken : Draft → Inner → Result ProfileValue profile_faults.ProfileFault → Result Draft PlanFault
-profile_taken d p (Ok profile) = kept_unless (profile_faults_beside d p) (record (closed d) { profiles = d.profiles ++ profile ∷ [] })
-profile_taken d p (Err fault) = Err (earlier (profile_faults_beside d p) (profile_fault p fault))
-
--- what an inner profile makes of a plan
-abbrev pub takes_profile : Draft → Inner → Result Draft PlanFault
-takes_profile d p = profile_taken d p (profiles.spelled (text p))
+-- the profile that an inner text gives below these, or its fault
+abbrev pub inner_profile : List ProfileValue → Inner → Result ProfileValue PlanFault
+inner_profile profiles p = profile_said (profile_faults_beside profiles p) p (profile_texts.spelled (text p))
 
 -- ---- maps
 
@@ -116,16 +122,22 @@ pub record MapHead : Type 0 where
   pub source : List ℕ
   pub target : List ℕ
 
+-- from SOURCE to TARGET, the last words of a line
+abbrev pub sides_at : List Word → Option (List ℕ × List ℕ)
+sides_at words = do
+  source ← name_behind (codes "from") words
+  target ← name_behind (codes "to") source.1
+  with_all target.1 (source.0, target.0)
+
+-- what a line of this number says, map NAME from SOURCE to TARGET
+abbrev pub map_head_of : ℕ × List Word → Option MapHead
+map_head_of said = do
+  name ← name_behind (codes "map") said.1
+  sides ← sides_at name.1
+  Some (record { line = said.0; name = name.0; source = sides.0; target = sides.1 })
+
 abbrev pub map_head : Inner → Option MapHead
-map_head p = do
-  said ← first_said (p.at + 1) p.lines
-  rest ← behind (codes "map") said.1
-  name ← name_at rest
-  from ← behind (codes "from") name.1
-  source ← name_at from
-  to ← behind (codes "to") source.1
-  target ← name_at to
-  with_all target.1 (record { line = said.0; name = name.0; source = source.0; target = target.0 })
+map_head p = first_said (p.at + 1) p.lines >>= map_head_of
 
 abbrev pub map_line : map_faults.MapFault → ℕ
 map_line (map_faults.TheVariants.Syntax line) = line
@@ -139,43 +151,62 @@ abbrev pub map_fault : Inner → map_faults.MapFault → PlanFault
 map_fault p fault = Map (p.at + map_line fault) (map_numbers.number fault)
 
 -- a name that a map above has
-abbrev pub map_again : Draft → MapHead → Option PlanFault
-map_again d head = if is_some (map_named d head.name) then Some (Duplicate head.line) else None
+abbrev pub map_again : List MapBetween → MapHead → Option PlanFault
+map_again maps head = if is_some (named_map head.name maps) then Some (Duplicate head.line) else None
 
 -- both of its profiles stand above
-abbrev pub is_known : Draft → MapHead → Bool
-is_known d head = is_some (profile_named d head.source) && is_some (profile_named d head.target)
+abbrev pub is_known : List ProfileValue → MapHead → Bool
+is_known profiles head = is_some (named_profile head.source profiles) && is_some (named_profile head.target profiles)
 
-abbrev pub map_unknown : Draft → MapHead → Option PlanFault
-map_unknown d head = if is_known d head then None else Some (UnknownName head.line)
+abbrev pub map_unknown : List ProfileValue → MapHead → Option PlanFault
+map_unknown profiles head = if is_known profiles head then None else Some (UnknownName head.line)
 
-abbrev pub head_faults : Draft → Option MapHead → Option PlanFault
-head_faults d None = None
-head_faults d (Some head) = earliest (map_again d head) (map_unknown d head)
+abbrev pub head_faults : List ProfileValue → List MapBetween → Option MapHead → Option PlanFault
+head_faults profiles maps None = None
+head_faults profiles maps (Some head) = earliest (map_again maps head) (map_unknown profiles head)
 
-abbrev pub map_faults_beside : Draft → Inner → Option PlanFault
-map_faults_beside d p = earliest (common p) (head_faults d (map_head p))
+abbrev pub map_faults_beside : List ProfileValue → List MapBetween → Inner → Option PlanFault
+map_faults_beside profiles maps p = earliest (common p) (head_faults profiles maps (map_head p))
 
 -- the map with the profiles that it names
-abbrev pub between : Draft → MapValue → Option MapBetween
-between d m = do
-  source ← profile_named d m.source
-  target ← profile_named d m.target
+abbrev pub between : List ProfileValue → MapValue → Option MapBetween
+between profiles m = do
+  source ← named_profile m.source profiles
+  target ← named_profile m.target profiles
   Some (record { source = source; target = target; map = m })
 
 -- the least rule that fails, at its least line
 abbrev pub check_fault : Inner → Option Failure → Option PlanFault
 check_fault p failure = option_map (λ f. Check (p.at + f.line) f.rule) failure
 
-abbrev pub map_checked : Draft → Inner → MapValue → Option MapBetween → Result Draft PlanFault
-map_checked d p m None = Err (earlier (map_faults_beside d p) (UnknownName (p.at + m.line)))
-map_checked d p m (Some b) =
-    kept_unless (earliest (map_faults_beside d p) (check_fault p (least (all_failures b.source b.target m)))) (record (closed d) { maps = d.maps ++ b ∷ [] })
+-- a map with its profiles, where they stand above; the faults beside it are those of its lines and of its head
+abbrev pub map_checked : Option PlanFault → Inner → MapValue → Option MapBetween → Result MapBetween PlanFault
+map_checked beside p m None = Err (earlier beside (UnknownName (p.at + m.line)))
+map_checked beside p m (Some b) = unless (earliest beside (check_fault p (least (all_failures b.source b.target m)))) b
 
-abbrev pub map_taken : Draft → Inner → Result MapValue map_faults.MapFault → Result Draft PlanFault
-map_taken d p (Ok m) = map_checked d p m (between d m)
-map_taken d p (Err fault) = Err (earlier (map_faults_beside d p) (map_fault p fault))
+abbrev pub checked_between : List ProfileValue → Option PlanFault → Inner → MapValue → Result MapBetween PlanFault
+checked_between profiles beside p m = map_checked beside p m (between profiles m)
 
--- what an inner map makes of a plan
+abbrev pub map_said : List ProfileValue → Option PlanFault → Inner → Result MapValue map_faults.MapFault → Result MapBetween PlanFault
+map_said profiles beside p (Ok m) = checked_between profiles beside p m
+map_said profiles beside p (Err fault) = Err (earlier beside (map_fault p fault))
+
+-- the map that an inner text gives below these, with its profiles, or its fault
+abbrev pub inner_map : List ProfileValue → List MapBetween → Inner → Result MapBetween PlanFault
+inner_map profiles maps p = map_said profiles (map_faults_beside profiles maps p) p (map_texts.spelled (text p))
+
+-- ---- what inner texts make of a plan
+
+abbrev pub with_inner_profile : Draft → Result ProfileValue PlanFault → Result Draft PlanFault
+with_inner_profile d (Ok profile) = Ok (record (closed d) { profiles = d.profiles ++ profile ∷ [] })
+with_inner_profile d (Err fault) = Err fault
+
+abbrev pub takes_profile : Draft → Inner → Result Draft PlanFault
+takes_profile d p = with_inner_profile d (inner_profile d.profiles p)
+
+abbrev pub with_inner_map : Draft → Result MapBetween PlanFault → Result Draft PlanFault
+with_inner_map d (Ok b) = Ok (record (closed d) { maps = d.maps ++ b ∷ [] })
+with_inner_map d (Err fault) = Err fault
+
 abbrev pub takes_map : Draft → Inner → Result Draft PlanFault
-takes_map d p = map_taken d p (maps.spelled (text p))
+takes_map d p = with_inner_map d (inner_map d.profiles d.maps p)

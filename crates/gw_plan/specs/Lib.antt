@@ -3,13 +3,16 @@ pub mod Shapes
 pub mod Line
 pub mod Draft
 pub mod Joined
-pub mod Inner
 pub mod Whole
 pub mod Routing
 pub mod Seen
 pub mod Index
 pub mod Held
+pub mod Above
+pub mod Inner
+pub mod Made
 pub mod Kept
+pub mod Drafted
 pub mod Admitted
 pub mod Translating
 pub mod Worked

@@ -42,15 +42,19 @@ takes_words d at None more = Err (Syntax at)
 takes_words d at (Some []) more = Ok (d, 0)
 takes_words d at (Some (w ∷ ws)) more = takes_line d at (form (w ∷ ws)) more
 
+-- a line is skipped that was taken with one above
+abbrev pub takes_next : Draft → ℕ → ℕ → List ℕ → List (List ℕ) → Taken
+takes_next d (suc skip) at line more = Ok (d, skip)
+takes_next d zero at line more = takes_words d at (words line) more
+
 -- the lines in turn, the first of this number behind those that are skipped, or the fault of the first that has one
 abbrev pub reads : Draft → ℕ → ℕ → List (List ℕ) → Result Draft PlanFault
 reads d skip at [] = Ok d
-reads d (suc skip) at (line ∷ more) = reads d skip (at + 1) more
-reads d zero at (line ∷ more) = takes_words d at (words line) more >>= λ next. reads next.0 next.1 (at + 1) more
+reads d skip at (line ∷ more) = takes_next d skip at line more >>= λ next. reads next.0 next.1 (at + 1) more
 
 -- the whole; at is the number of the line after the last
-abbrev pub whole : Draft → ℕ → Result PlanValue PlanFault
-whole d at = if d.begun then Ok (plan_of d) else Err (Syntax at)
+abbrev pub begun : Draft → ℕ → Result Draft PlanFault
+begun d at = if d.begun then Ok d else Err (Syntax at)
 
 abbrev pub most_bytes : ℕ
 most_bytes = 4194304
@@ -58,8 +62,12 @@ most_bytes = 4194304
 abbrev pub most_lines : ℕ
 most_lines = 40000
 
+-- what all lines of the text say together
+abbrev pub drafted : List ℕ → Result Draft PlanFault
+drafted text =
+    if is_too_large most_bytes most_lines text then Err TooLarge
+    else reads nothing 0 1 (lines text) >>= λ d. begun d (length (lines text) + 1)
+
 -- the plan that the text spells, or its one fault
 abbrev pub spelled : List ℕ → Result PlanValue PlanFault
-spelled text =
-    if is_too_large most_bytes most_lines text then Err TooLarge
-    else reads nothing 0 1 (lines text) >>= λ d. whole d (length (lines text) + 1)
+spelled text = drafted text >>= λ d. Ok (plan_of d)

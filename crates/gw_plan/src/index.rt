@@ -1,7 +1,7 @@
 //! Routes by code and event.
-ghost use Rattle.std.specs.Prelude.{◌≡◌, ◌++◌, ◌∷◌, [], List, IfOk, false};
+ghost use Rattle.std.specs.Prelude.{◌≡◌, [], List, OnOk, false};
 ghost use Rattle.std.specs.List.{list_any};
-ghost use Rattle.gw_plan.specs.Index.{Key, Indexes, number_for, is_key};
+ghost use Rattle.gw_plan.specs.Index.{Key, Indexes, number_for, is_key, with_key};
 
 use indexmap::IndexSet;
 use std::alloc::{AllocError, Global};
@@ -42,22 +42,20 @@ impl Index {
         }
     }
 
-    /// With one route more, behind the others.
-    pub fn push(self, alloc: Global, code: &[u8], event: &[u8]) -> Result<Index, AllocError>
-        ensures { IfOk result (λ new. (keys : List Key) → Indexes self keys → list_any (is_key code.now event.now) keys ≡ false → Indexes new (keys ++ record { code = code.now; event = event.now } ∷ [])) }
+    /// Whether a route is for this code and event. It takes no memory.
+    pub fn has(&self, code: &[u8], event: &[u8]) -> bool
+        ensures { (keys : List Key) → Indexes self.now keys → result ≡ list_any (is_key code.now event.now) keys }
     {
-        let Index {
-            mut codes,
-            mut events,
-            mut pairs,
-        } = self;
-        let (code, _) = codes.insert_full(Vec::from_slice(alloc, code)?)?;
-        let (event, _) = events.insert_full(Vec::from_slice(alloc, event)?)?;
-        pairs.insert((code, event))?;
-        Ok(Index {
-            codes,
-            events,
-            pairs,
-        })
+        self.find(code, event).is_ok()
+    }
+
+    /// Adds a route behind the others.
+    pub fn push(&mut self, alloc: Global, code: &[u8], event: &[u8]) -> Result<(), AllocError>
+        ensures { OnOk result ((keys : List Key) → Indexes self.old keys → list_any (is_key code.now event.now) keys ≡ false → Indexes self.new (with_key code.now event.now keys)) }
+    {
+        let (code, _) = self.codes.insert_full(Vec::from_slice(alloc, code)?)?;
+        let (event, _) = self.events.insert_full(Vec::from_slice(alloc, event)?)?;
+        self.pairs.insert((code, event))?;
+        Ok(())
     }
 }

@@ -1,8 +1,24 @@
-//! The profiles and maps of a plan: texts of their own.
-ghost use Rattle.std.specs.Prelude.{◌≡◌, map, IfOk};
+//! The profiles and maps of a plan: texts of their own between `begin` and `stop`.
+ghost use Rattle.std.specs.Prelude.{◌≡◌, ◌+◌, ◌<◌, ◌^◌, map, length, IfOk, is_some};
+ghost use Rattle.std.specs.Option.{option_map};
+ghost use Rattle.gw_lines.specs.Seen.{word};
+ghost use Rattle.gw_lines.specs.Words.{words};
+ghost use Rattle.gw_plan.specs.Inner as spec;
 ghost use Rattle.gw_plan.specs.Joined.{joined};
+ghost use Rattle.gw_plan.specs.Made.{inner, IsNumbered};
 
+use crate::fault::PlanFault;
+use crate::order::earliest;
+use gw_lines::{Word, words_of};
 use std::alloc::{AllocError, Global};
+
+/// The lines from behind a `begin` line, of this number, up to the `stop` line; or up to the text's end, where none follows.
+#[derive(Clone, Copy, Drop)]
+pub struct Inner<'x, 'a> {
+    pub at: u64,
+    pub lines: &'x [&'a [u8]],
+    pub stopped: bool,
+}
 
 /// Lines as one text again, each with its end.
 pub fn joined(alloc: Global, lines: &[&[u8]]) -> Result<Vec<u8>, AllocError>
@@ -14,4 +30,78 @@ pub fn joined(alloc: Global, lines: &[&[u8]]) -> Result<Vec<u8>, AllocError>
         text.push(b'\n')?;
     }
     Ok(text)
+}
+
+// Whether a line has only bytes and quotes that a line may have.
+fn is_lawful(alloc: Global, line: &[u8]) -> Result<bool, AllocError>
+    ensures { IfOk result (λ lawful. lawful ≡ is_some (words line.now)) }
+{
+    let words = words_of(alloc, line)?;
+    Ok(words.is_some())
+}
+
+// The first line, from this number on, that has a byte or a quote that no line may have.
+fn broken(alloc: Global, first: u64, lines: &[&[u8]]) -> Result<Option<PlanFault>, AllocError>
+    requires { first + length lines.now < 2 ^ 64 }
+    ensures { IfOk result (λ fault. fault ≡ spec.broken first (map (λ line. line.now) lines.now)) }
+{
+    let mut at = first;
+    for (i, line) in lines.iter().enumerate() {
+        if !is_lawful(alloc, line)? {
+            return Ok(Some(PlanFault::Syntax(at)));
+        }
+        at += 1;
+    }
+    Ok(None)
+}
+
+/// The number of the line after the last.
+pub(crate) fn line_after(part: &Inner<'_, '_>) -> u64
+    requires { IsNumbered (inner part.now) }
+    ensures { result ≡ part.now.at + length part.now.lines.now + 1 }
+{
+    part.at + part.lines.len() as u64 + 1
+}
+
+// No `stop` line follows.
+fn unstopped(part: &Inner<'_, '_>) -> Option<PlanFault>
+    requires { IsNumbered (inner part.now) }
+    ensures { result ≡ spec.unstopped (inner part.now) }
+{
+    if part.stopped {
+        None
+    } else {
+        Some(PlanFault::Syntax(line_after(part)))
+    }
+}
+
+/// The first fault of those that any inner text may have.
+pub(crate) fn common(alloc: Global, part: &Inner<'_, '_>) -> Result<Option<PlanFault>, AllocError>
+    requires { IsNumbered (inner part.now) }
+    ensures { IfOk result (λ fault. fault ≡ spec.common (inner part.now)) }
+{
+    let found = broken(alloc, part.at + 1, part.lines)?;
+    Ok(earliest(found, unstopped(part)))
+}
+
+/// The words of the first line, from this number on, that isn't passed over, with its number; nothing where it is broken.
+pub(crate) fn first_said<'a>(
+    alloc: Global,
+    first: u64,
+    lines: &[&'a [u8]],
+) -> Result<Option<(u64, Vec<Word<'a>>)>, AllocError>
+    requires { first + length lines.now < 2 ^ 64 }
+    ensures { IfOk result (λ said. option_map (λ s. (s.0, map word s.1.items)) said ≡ spec.first_said first (map (λ line. line.now) lines.now)) }
+{
+    let mut at = first;
+    for (i, line) in lines.iter().enumerate() {
+        let Some(words) = words_of(alloc, line)? else {
+            return Ok(None);
+        };
+        if !words.is_empty() {
+            return Ok(Some((at, words)));
+        }
+        at += 1;
+    }
+    Ok(None)
 }

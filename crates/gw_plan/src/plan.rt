@@ -1,14 +1,20 @@
 //! Plans.
-ghost use Rattle.std.specs.Prelude.{◌≡◌, ◌↔◌, ◌<◌, IsTrue, map, length, slice_get, Some, bytes_eq};
+ghost use Rattle.std.specs.Prelude.{◌≡◌, ◌↔◌, ◌<◌, IsTrue, IfOk, map, length, slice_get, Some, Ok, bytes_eq};
 ghost use Rattle.std.specs.List.{list_any};
 ghost use Rattle.gw_plan.specs.Routing.{header_text, is_accepted, routed};
 ghost use Rattle.gw_plan.specs.Held.{plan_value, lent, tested, FoundAt};
 ghost use Rattle.gw_plan.specs.Seen.{receiver_value};
+ghost use Rattle.gw_plan.specs.Draft.{plan_of};
+ghost use Rattle.gw_plan.specs.Drafted.{draft_value, IsKept};
+ghost use Rattle.gw_plan.specs.Whole.{spelled};
 
+use crate::draft::Draft;
 use crate::index::Index;
 use crate::route::Route;
+use crate::route_list::RouteList;
 use gw_er7::same::{Part, are_same, same_bytes};
 use gw_er7::{Message, Place};
+use std::alloc::{AllocError, Global};
 use std::marker::Model;
 
 /// A receiver: its name, and the address where it is reached.
@@ -92,6 +98,34 @@ fn accepts(words: &[Vec<u8>], text: &[u8]) -> bool
 }
 
 impl Plan {
+    // The plan that these lines say, which the text spells.
+    pub(crate) fn of(alloc: Global, draft: Draft, text: Vec<u8>) -> Result<Plan, AllocError>
+        requires kept { IsKept draft }
+        requires meaning { spelled text.items ≡ Ok (plan_of (draft_value draft)) }
+        ensures value { IfOk result (λ p. plan_value p ≡ plan_of (draft_value draft)) }
+        ensures text { IfOk result (λ p. p.text ≡ text.items) }
+    {
+        let mut draft = draft;
+        draft.close()?;
+        let Draft {
+            receivers,
+            versions,
+            processing,
+            routes,
+            ..
+        } = draft;
+        let RouteList { closed, index, .. } = routes;
+        let receivers = receivers.into_all(alloc)?;
+        Ok(Plan {
+            text,
+            receivers,
+            versions,
+            processing,
+            index,
+            routes: closed,
+        })
+    }
+
     /// The text. It takes no memory.
     pub fn text(&self) -> &[u8]
         ensures { result.now ≡ self.now.text }

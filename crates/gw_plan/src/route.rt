@@ -1,14 +1,16 @@
 //! Routes.
-ghost use Rattle.std.specs.Prelude.{◌≡◌, ◌<◌, IfSome, Some, length, map, nat_eq, slice_get};
+ghost use Rattle.std.specs.Prelude.{◌≡◌, ◌<◌, [], IfOk, IfSome, OnOk, Some, length, map, nat_eq, slice_get};
 ghost use Rattle.std.specs.List.{list_any};
 ghost use Rattle.std.specs.Arc.{arc_value};
 ghost use Rattle.std.specs.Map.{lookup};
 ghost use Rattle.std.specs.Option.{option_map};
 ghost use Rattle.gw_profile.specs.Seen.{profile_value};
+ghost use Rattle.gw_plan.specs.Held.{longer, IsNewLeg};
 
 use gw_check::CheckedMap;
 use gw_profile::Profile;
 use indexmap::IndexMap;
+use std::alloc::{AllocError, Global};
 use std::marker::Model;
 use std::sync::Arc;
 
@@ -41,6 +43,36 @@ impl Model for Route {
 }
 
 impl Route {
+    // A route without receivers.
+    pub(crate) fn new(
+        alloc: Global,
+        code: &[u8],
+        event: &[u8],
+        profile: Arc<Profile>,
+    ) -> Result<Route, AllocError>
+        ensures { IfOk result (λ r. r ≡ record { code = code.now; event = event.now; profile = arc_value profile; legs = [] }) }
+    {
+        Ok(Route {
+            code: Vec::from_slice(alloc, code)?,
+            event: Vec::from_slice(alloc, event)?,
+            profile,
+            legs: IndexMap::new(alloc),
+        })
+    }
+
+    // Goes to a receiver more.
+    pub(crate) fn add_leg(
+        &mut self,
+        receiver: usize,
+        map: Arc<CheckedMap>,
+    ) -> Result<(), AllocError>
+        requires { IsNewLeg receiver (arc_value map) self.old }
+        ensures { OnOk result (self.new ≡ longer receiver (arc_value map) self.old) }
+    {
+        self.legs.insert(receiver, map)?;
+        Ok(())
+    }
+
     /// The profile. It takes no memory.
     pub fn profile(&self) -> &Arc<Profile>
         ensures { arc_value result.now ≡ self.now.profile }

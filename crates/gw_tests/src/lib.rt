@@ -12,9 +12,13 @@ mod desks;
 #[cfg(test)]
 mod failures;
 #[cfg(test)]
+mod hospital;
+#[cfg(test)]
 mod maps;
 #[cfg(test)]
 mod messages;
+#[cfg(test)]
+mod plans;
 #[cfg(test)]
 mod profiles;
 #[cfg(test)]

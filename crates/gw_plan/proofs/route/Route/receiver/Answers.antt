@@ -1,7 +1,7 @@
 use Rattle.std.proofs.Common.{ap, sym}
 use Rattle.std.specs.Arc.{arc_value}
 use Rattle.gw_plan.specs.Held.{RouteHeld}
-use Rattle.gw_plan.proofs.Receivers.{number_at}
+use Rattle.gw_plan.proofs.Alike.{number_at}
 use Rattle.gw_plan.proofs.route.Route.receiver.Goals as goal
 
 pub returns : goal.returns

@@ -1,0 +1,6 @@
+use Rattle.std.proofs.Common.{◌≡◌, ◌++◌, map, take}
+use Rattle.gw_plan.specs.Seen.{now_all}
+use Rattle.gw_plan.proofs.accepted.accept.Given as goal
+
+abbrev pub invariant-loop-i : goal.invariant-loop-i
+invariant-loop-i l = map (λ w. w.items) l.accepted.items ≡ map (λ w. w.items) l.fn.accepted.items ++ now_all (take l.i l.words)

@@ -1,0 +1,6 @@
+use Rattle.std.proofs.Common.{◌≡◌, ◌+◌, drop, map}
+use Rattle.gw_plan.specs.Inner.{broken}
+use Rattle.gw_plan.proofs.inner.broken.Given as goal
+
+abbrev pub invariant-loop-i : goal.invariant-loop-i
+invariant-loop-i l = (l.at ≡ l.first + l.i) × (broken l.at (map (λ line. line.now) (drop l.i l.lines)) ≡ broken l.first (map (λ line. line.now) l.lines))

@@ -1,0 +1,16 @@
+//! The words that a plan accepts.
+ghost use Rattle.std.specs.Prelude.{◌≡◌, ◌++◌, OnOk};
+ghost use Rattle.gw_plan.specs.Seen.{now_all, bytes_all};
+
+use std::alloc::{AllocError, Global};
+
+/// Puts copies of these words behind the others.
+pub fn accept(alloc: Global, accepted: &mut Vec<Vec<u8>>, words: &[&[u8]]) -> Result<(), AllocError>
+    ensures { OnOk result (bytes_all accepted.new.items ≡ bytes_all accepted.old.items ++ now_all words.now) }
+{
+    for (i, word) in words.iter().enumerate() {
+        let copy = Vec::from_slice(alloc, word)?;
+        accepted.push(copy)?;
+    }
+    Ok(())
+}

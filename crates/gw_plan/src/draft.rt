@@ -1,0 +1,237 @@
+//! A plan so far, line by line.
+ghost use Rattle.std.specs.Prelude.{◌≡◌, IfOk, IfErr, OnOk, None, Err};
+ghost use Rattle.std.specs.Arc.{arc_value};
+ghost use Rattle.gw_lines.specs.Reading.{Gives};
+ghost use Rattle.gw_plan.specs.declared.fault.PlanFault.TheVariants as fault;
+ghost use Rattle.gw_plan.specs.Draft as spec;
+ghost use Rattle.gw_plan.specs.Drafted.{draft_value, IsKept, Leads};
+ghost use Rattle.gw_plan.specs.Inner.{takes_profile, takes_map};
+ghost use Rattle.gw_plan.specs.Made.{inner, IsNumbered};
+ghost use Rattle.gw_plan.specs.Seen.{now_all, line};
+
+use crate::above::Above;
+use crate::accepted::accept;
+use crate::fault::PlanFault;
+use crate::form::Line;
+use crate::inner::Inner;
+use crate::inner_map::take_map;
+use crate::inner_profile::take_profile;
+use crate::receivers::Receivers;
+use crate::route_list::RouteList;
+use gw_check::CheckedMap;
+use std::alloc::{AllocError, Global};
+use std::sync::Arc;
+
+/// A plan so far: what the lines above say together.
+#[derive(Drop)]
+pub struct Draft {
+    pub begun: bool,
+    pub receivers: Receivers,
+    pub versions: Vec<Vec<u8>>,
+    pub processing: Vec<Vec<u8>>,
+    pub above: Above,
+    pub routes: RouteList,
+}
+
+impl Draft {
+    /// The plan of no lines.
+    pub fn new(alloc: Global) -> Draft
+        ensures value { draft_value result ≡ spec.nothing }
+        ensures kept { IsKept result }
+    {
+        Draft {
+            begun: false,
+            receivers: Receivers::new(alloc),
+            versions: Vec::new(alloc),
+            processing: Vec::new(alloc),
+            above: Above::new(alloc),
+            routes: RouteList::new(alloc),
+        }
+    }
+
+    /// Closes the current route.
+    pub fn close(&mut self) -> Result<(), AllocError>
+        requires { IsKept self.old }
+        ensures value { OnOk result (draft_value self.new ≡ spec.closed (draft_value self.old)) }
+        ensures current { OnOk result (self.new.routes.current ≡ None) }
+        ensures kept { OnOk result (IsKept self.new) }
+    {
+        self.routes.close()
+    }
+
+    // receiver NAME ADDRESS
+    fn receive(
+        &mut self,
+        alloc: Global,
+        at: u64,
+        name: &[u8],
+        address: &[u8],
+    ) -> Result<(), PlanFault>
+        requires { IsKept self.old }
+        ensures value { Gives fault.Memory (λ _. draft_value self.new) result (spec.with_receiver (spec.closed (draft_value self.old)) at name.now address.now) }
+        ensures kept { OnOk result (IsKept self.new) }
+    {
+        self.close()?;
+        if self.receivers.number(name).is_some() {
+            return Err(PlanFault::Duplicate(at));
+        }
+        self.receivers.put(alloc, name, address)?;
+        Ok(())
+    }
+
+    // accept version WORD ...
+    fn accept_versions(&mut self, alloc: Global, words: &[&[u8]]) -> Result<(), AllocError>
+        requires { IsKept self.old }
+        ensures value { OnOk result (draft_value self.new ≡ spec.with_versions (draft_value self.old) (now_all words.now)) }
+        ensures kept { OnOk result (IsKept self.new) }
+    {
+        self.close()?;
+        accept(alloc, &mut self.versions, words)
+    }
+
+    // accept processing WORD ...
+    fn accept_processing(&mut self, alloc: Global, words: &[&[u8]]) -> Result<(), AllocError>
+        requires { IsKept self.old }
+        ensures value { OnOk result (draft_value self.new ≡ spec.with_processing (draft_value self.old) (now_all words.now)) }
+        ensures kept { OnOk result (IsKept self.new) }
+    {
+        self.close()?;
+        accept(alloc, &mut self.processing, words)
+    }
+
+    // route CODE EVENT from PROFILE
+    fn open_route(
+        &mut self,
+        alloc: Global,
+        at: u64,
+        code: &[u8],
+        event: &[u8],
+        profile: &[u8],
+    ) -> Result<(), PlanFault>
+        requires { IsKept self.old }
+        ensures value { Gives fault.Memory (λ _. draft_value self.new) result (spec.with_route (spec.closed (draft_value self.old)) at code.now event.now (spec.profile_named (draft_value self.old) profile.now)) }
+        ensures kept { OnOk result (IsKept self.new) }
+    {
+        self.close()?;
+        if self.routes.has(code, event) {
+            return Err(PlanFault::Duplicate(at));
+        }
+        let Some(profile) = self.above.profile(profile) else {
+            return Err(PlanFault::UnknownName(at));
+        };
+        let profile = Arc::try_clone(profile)?;
+        self.routes.open(alloc, code, event, profile)?;
+        Ok(())
+    }
+
+    // What `to RECEIVER by MAP` adds to the current route.
+    fn leg(
+        &self,
+        at: u64,
+        receiver: &[u8],
+        map: &[u8],
+    ) -> Result<(usize, &Arc<CheckedMap>), PlanFault>
+        requires { IsKept self.now }
+        ensures fault { IfErr result (λ e. spec.delivered (draft_value self.now) at (draft_value self.now).current receiver.now map.now ≡ Err e) }
+        ensures leads { IfOk result (λ l. Leads self.now at receiver.now map.now l.0 (arc_value l.1.now)) }
+    {
+        let Some(route) = &self.routes.current else {
+            return Err(PlanFault::Syntax(at));
+        };
+        let Some(number) = self.receivers.number(receiver) else {
+            return Err(PlanFault::UnknownName(at));
+        };
+        if route.goes_to(number) {
+            return Err(PlanFault::Duplicate(at));
+        }
+        let Some(map) = self.above.map(map) else {
+            return Err(PlanFault::UnknownName(at));
+        };
+        if map.source().name() != route.profile().name() {
+            return Err(PlanFault::WrongMap(at));
+        }
+        Ok((number, map))
+    }
+
+    // to RECEIVER by MAP
+    fn deliver(&mut self, at: u64, receiver: &[u8], map: &[u8]) -> Result<(), PlanFault>
+        requires { IsKept self.old }
+        ensures value { Gives fault.Memory (λ _. draft_value self.new) result (spec.delivered (draft_value self.old) at (draft_value self.old).current receiver.now map.now) }
+        ensures kept { OnOk result (IsKept self.new) }
+    {
+        let (number, map) = self.leg(at, receiver, map)?;
+        let map = Arc::try_clone(map)?;
+        self.routes.add_leg(number, map)?;
+        Ok(())
+    }
+
+    // A line below the first.
+    fn below(&mut self, alloc: Global, at: u64, whole: &Line<'_>) -> Result<(), PlanFault>
+        requires { IsKept self.old }
+        ensures value { Gives fault.Memory (λ _. draft_value self.new) result (spec.below (draft_value self.old) at (line whole.now)) }
+        ensures kept { OnOk result (IsKept self.new) }
+    {
+        match whole {
+            Line::Begins(_) => Err(PlanFault::Syntax(at)),
+            Line::Receives(name, address) => self.receive(alloc, at, name, address),
+            Line::Versions(words) => Ok(self.accept_versions(alloc, words)?),
+            Line::Processing(words) => Ok(self.accept_processing(alloc, words)?),
+            Line::OpensProfile => Err(PlanFault::Syntax(at)),
+            Line::OpensMap => Err(PlanFault::Syntax(at)),
+            Line::Routes(code, event, profile) => self.open_route(alloc, at, code, event, profile),
+            Line::Delivers(receiver, map) => self.deliver(at, receiver, map),
+        }
+    }
+
+    // The first line.
+    fn begin(&mut self, at: u64, whole: &Line<'_>) -> Result<(), PlanFault>
+        requires { IsKept self.old }
+        ensures value { Gives fault.Memory (λ _. draft_value self.new) result (spec.first (draft_value self.old) at (line whole.now)) }
+        ensures kept { OnOk result (IsKept self.new) }
+    {
+        let Line::Begins(_) = whole else {
+            return Err(PlanFault::Syntax(at));
+        };
+        self.begun = true;
+        Ok(())
+    }
+
+    /// Takes a line of the plan's own; `at` is its number.
+    pub fn take(&mut self, alloc: Global, at: u64, whole: &Line<'_>) -> Result<(), PlanFault>
+        requires { IsKept self.old }
+        ensures value { Gives fault.Memory (λ _. draft_value self.new) result (spec.takes (draft_value self.old) at (line whole.now)) }
+        ensures kept { OnOk result (IsKept self.new) }
+    {
+        if self.begun {
+            self.below(alloc, at, whole)
+        } else {
+            self.begin(at, whole)
+        }
+    }
+
+    /// Takes a profile of the plan.
+    pub fn add_profile(&mut self, alloc: Global, part: &Inner<'_, '_>) -> Result<(), PlanFault>
+        requires kept { IsKept self.old }
+        requires numbered { IsNumbered (inner part.now) }
+        ensures value { Gives fault.Memory (λ _. draft_value self.new) result (takes_profile (draft_value self.old) (inner part.now)) }
+        ensures kept { OnOk result (IsKept self.new) }
+    {
+        self.close()?;
+        let profile = take_profile(alloc, &self.above, part)?;
+        self.above.add_profile(alloc, profile)?;
+        Ok(())
+    }
+
+    /// Takes a map of the plan.
+    pub fn add_map(&mut self, alloc: Global, part: &Inner<'_, '_>) -> Result<(), PlanFault>
+        requires kept { IsKept self.old }
+        requires numbered { IsNumbered (inner part.now) }
+        ensures value { Gives fault.Memory (λ _. draft_value self.new) result (takes_map (draft_value self.old) (inner part.now)) }
+        ensures kept { OnOk result (IsKept self.new) }
+    {
+        self.close()?;
+        let map = take_map(alloc, &self.above, part)?;
+        self.above.add_map(alloc, map)?;
+        Ok(())
+    }
+}

@@ -1,0 +1,226 @@
+//! The plan of a text.
+ghost use Rattle.std.specs.Prelude.{◌≡◌, ◌<◌, ◌≤◌, ◌+◌, ◌∷◌, ℕ, map, length, IfOk, OnOk, Some};
+ghost use Rattle.gw_lines.specs.Reading.{Gives};
+ghost use Rattle.gw_lines.specs.Seen.{word};
+ghost use Rattle.gw_lines.specs.Words.{words};
+ghost use Rattle.gw_plan.specs.declared.fault.PlanFault.TheVariants as fault;
+ghost use Rattle.gw_plan.specs.Draft.{nothing};
+ghost use Rattle.gw_plan.specs.Drafted.{draft_value, IsKept, counted};
+ghost use Rattle.gw_plan.specs.Held.{plan_value};
+ghost use Rattle.gw_plan.specs.Inner as inners;
+ghost use Rattle.gw_plan.specs.Line as lines;
+ghost use Rattle.gw_plan.specs.Made.{inner};
+ghost use Rattle.gw_plan.specs.Seen.{line, now_all};
+ghost use Rattle.gw_plan.specs.Whole as spec;
+
+use crate::draft::Draft;
+use crate::fault::PlanFault;
+use crate::form::{Line, form, is_stop};
+use crate::inner::Inner;
+use crate::plan::Plan;
+use gw_lines::{Word, lines_of, words_of};
+use std::alloc::{AllocError, Global};
+
+const MOST_BYTES: usize = 4_194_304;
+
+const MOST_LINES: usize = 40_000;
+
+// Whether a line is the word `stop`.
+fn stops(alloc: Global, bytes: &[u8]) -> Result<bool, AllocError>
+    ensures { IfOk result (λ b. b ≡ lines.is_stop bytes.now) }
+{
+    let words = words_of(alloc, bytes)?;
+    Ok(is_stop(&words))
+}
+
+// What stands behind a `begin` line of this number, among the lines that follow.
+fn inner_at<'x, 'a>(
+    alloc: Global,
+    at: u64,
+    more: &'x [&'a [u8]],
+) -> Result<Inner<'x, 'a>, AllocError>
+    ensures { IfOk result (λ p. inner p ≡ spec.inner at (now_all more.now)) }
+{
+    for (i, bytes) in more.iter().enumerate() {
+        if stops(alloc, bytes)? {
+            return Ok(Inner {
+                at,
+                lines: &more[..i],
+                stopped: true,
+            });
+        }
+    }
+    Ok(Inner {
+        at,
+        lines: more,
+        stopped: false,
+    })
+}
+
+// Takes a profile; how many of the lines that follow say it.
+fn take_profile(
+    alloc: Global,
+    draft: &mut Draft,
+    at: u64,
+    more: &[&[u8]],
+) -> Result<usize, PlanFault>
+    requires kept { IsKept draft.old }
+    requires few { at + length more.now < 4294967296 }
+    ensures value { Gives fault.Memory (counted draft.new) result (spec.begun_inner (draft_value draft.old) at (now_all more.now) (inners.takes_profile (draft_value draft.old) (spec.inner at (now_all more.now)))) }
+    ensures kept { OnOk result (IsKept draft.new) }
+{
+    if !draft.begun {
+        return Err(PlanFault::Syntax(at));
+    }
+    let part = inner_at(alloc, at, more)?;
+    draft.add_profile(alloc, &part)?;
+    Ok(part.lines.len() + 1)
+}
+
+// Takes a map; how many of the lines that follow say it.
+fn take_map(alloc: Global, draft: &mut Draft, at: u64, more: &[&[u8]]) -> Result<usize, PlanFault>
+    requires kept { IsKept draft.old }
+    requires few { at + length more.now < 4294967296 }
+    ensures value { Gives fault.Memory (counted draft.new) result (spec.begun_inner (draft_value draft.old) at (now_all more.now) (inners.takes_map (draft_value draft.old) (spec.inner at (now_all more.now)))) }
+    ensures kept { OnOk result (IsKept draft.new) }
+{
+    if !draft.begun {
+        return Err(PlanFault::Syntax(at));
+    }
+    let part = inner_at(alloc, at, more)?;
+    draft.add_map(alloc, &part)?;
+    Ok(part.lines.len() + 1)
+}
+
+// Takes a line; how many of the lines that follow it says with it.
+fn take_line(
+    alloc: Global,
+    draft: &mut Draft,
+    at: u64,
+    whole: &Line<'_>,
+    more: &[&[u8]],
+) -> Result<usize, PlanFault>
+    requires kept { IsKept draft.old }
+    requires few { at + length more.now < 4294967296 }
+    ensures value { Gives fault.Memory (counted draft.new) result (spec.takes_line (draft_value draft.old) at (Some (line whole.now)) (now_all more.now)) }
+    ensures kept { OnOk result (IsKept draft.new) }
+{
+    match whole {
+        Line::OpensProfile => take_profile(alloc, draft, at, more),
+        Line::OpensMap => take_map(alloc, draft, at, more),
+        _ => {
+            draft.take(alloc, at, whole)?;
+            Ok(0)
+        }
+    }
+}
+
+// Takes the words of a line that isn't passed over.
+fn take_words(
+    alloc: Global,
+    draft: &mut Draft,
+    at: u64,
+    words: &[Word<'_>],
+    more: &[&[u8]],
+) -> Result<usize, PlanFault>
+    requires kept { IsKept draft.old }
+    requires few { at + length more.now < 4294967296 }
+    ensures value { Gives fault.Memory (counted draft.new) result (spec.takes_line (draft_value draft.old) at (lines.form (map word words.now)) (now_all more.now)) }
+    ensures kept { OnOk result (IsKept draft.new) }
+{
+    let Some(whole) = form(alloc, words)? else {
+        return Err(PlanFault::Syntax(at));
+    };
+    take_line(alloc, draft, at, &whole, more)
+}
+
+// Takes the bytes of a line.
+fn take_bytes(
+    alloc: Global,
+    draft: &mut Draft,
+    at: u64,
+    bytes: &[u8],
+    more: &[&[u8]],
+) -> Result<usize, PlanFault>
+    requires kept { IsKept draft.old }
+    requires few { at + length more.now < 4294967296 }
+    ensures value { Gives fault.Memory (counted draft.new) result (spec.takes_words (draft_value draft.old) at (words bytes.now) (now_all more.now)) }
+    ensures kept { OnOk result (IsKept draft.new) }
+{
+    let Some(words) = words_of(alloc, bytes)? else {
+        return Err(PlanFault::Syntax(at));
+    };
+    if words.is_empty() {
+        return Ok(0);
+    }
+    take_words(alloc, draft, at, &words, more)
+}
+
+// Takes a line, or skips it where so many are to be skipped; how many of the lines that follow are to be.
+fn take_next(
+    alloc: Global,
+    draft: &mut Draft,
+    skip: usize,
+    at: u64,
+    bytes: &[u8],
+    more: &[&[u8]],
+) -> Result<usize, PlanFault>
+    requires kept { IsKept draft.old }
+    requires few { at + length more.now < 4294967296 }
+    ensures value { Gives fault.Memory (counted draft.new) result (spec.takes_next (draft_value draft.old) skip at bytes.now (now_all more.now)) }
+    ensures kept { OnOk result (IsKept draft.new) }
+{
+    if skip > 0 {
+        return Ok(skip - 1);
+    }
+    take_bytes(alloc, draft, at, bytes, more)
+}
+
+// Takes all lines.
+fn take_lines(alloc: Global, draft: &mut Draft, all: &[&[u8]]) -> Result<(), PlanFault>
+    requires kept { IsKept draft.old }
+    requires few { length all.now ≤ spec.most_lines }
+    ensures value { Gives fault.Memory (λ _. draft_value draft.new) result (spec.reads (draft_value draft.old) 0 1 (now_all all.now)) }
+    ensures kept { OnOk result (IsKept draft.new) }
+{
+    let mut skip: usize = 0;
+    for (i, bytes) in all.iter().enumerate() {
+        skip = take_next(alloc, draft, skip, i as u64 + 1, bytes, &all[i + 1..])?;
+    }
+    Ok(())
+}
+
+// Takes the lines of a text, which is begun by the first.
+fn take_text(alloc: Global, draft: &mut Draft, text: &[u8]) -> Result<(), PlanFault>
+    requires kept { IsKept draft.old }
+    requires nothing { draft_value draft.old ≡ nothing }
+    ensures value { Gives fault.Memory (λ _. draft_value draft.new) result (spec.drafted text.now) }
+    ensures kept { OnOk result (IsKept draft.new) }
+{
+    if text.len() > MOST_BYTES {
+        return Err(PlanFault::TooLarge);
+    }
+    let all = lines_of(alloc, text)?;
+    if all.len() > MOST_LINES {
+        return Err(PlanFault::TooLarge);
+    }
+    take_lines(alloc, draft, &all)?;
+    if !draft.begun {
+        return Err(PlanFault::Syntax(all.len() as u64 + 1));
+    }
+    Ok(())
+}
+
+impl Plan {
+    /// The plan that the text spells, or its one fault.
+    pub fn parse(alloc: Global, text: &[u8]) -> Result<Plan, PlanFault>
+        ensures value { Gives fault.Memory plan_value result (spec.spelled text.now) }
+        ensures text { IfOk result (λ p. p.text ≡ text.now) }
+    {
+        let mut draft = Draft::new(alloc);
+        take_text(alloc, &mut draft, text)?;
+        let text = Vec::from_slice(alloc, text)?;
+        let plan = Plan::of(alloc, draft, text)?;
+        Ok(plan)
+    }
+}
