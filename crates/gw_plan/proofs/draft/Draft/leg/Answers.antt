@@ -55,12 +55,12 @@ returns-clause-leads c =
       new =
           subst (λ (o : Option RouteHeld). IfSome o (IsNewLeg c.in-Some-number.number (arc_value c.in-Some-map.map.now))) (sym c.in-Some.is)
           (
-            record {
-              new = sym c.goes_to.ensures ∙ c.if-goes_to.false;
-              source =
-                  same_source (profiles_of c.args.self.now.above) (arc_value c.in-Some-map.map.now) c.in-Some.route c.in-Some-map.ensures.source
-                  (subst (λ (o : Option RouteHeld). IfSome o (StandsAmong (profiles_of c.args.self.now.above))) c.in-Some.is c.requires.above) ((bytes_eq-Decides _ _).0 same);
-            }
+          record {
+            new = sym c.goes_to.ensures ∙ c.if-goes_to.false;
+            source =
+                same_source (profiles_of c.args.self.now.above) (arc_value c.in-Some-map.map.now) c.in-Some.route c.in-Some-map.ensures.source
+                (subst (λ (o : Option RouteHeld). IfSome o (StandsAmong (profiles_of c.args.self.now.above))) c.in-Some.is c.requires.above) ((bytes_eq-Decides _ _).0 same);
+          }
           );
       delivers =
           leads (draft_value c.args.self.now) c.args.at _ c.args.receiver.now c.args.map.now (route_value c.in-Some.route) (ap (option_map route_value) c.in-Some.is) c.in-Some-number.number
