@@ -6,10 +6,10 @@ use Rattle.gw_profile.specs.Shapes.{ProfileValue}
 use Rattle.gw_maplang.specs.Seen as maps
 use Rattle.gw_maplang.specs.Seen.{map_value}
 use Rattle.gw_maplang.specs.Shapes.{MapValue}
-use Rattle.gw_check.specs.declared.failure.Failure as failures
+use Rattle.gw_resolve.specs.declared.failure.Failure as failures
 use Rattle.gw_check.specs.CheckedMap.{CheckedValue}
 use Rattle.gw_check.specs.Checked.{all_failures, least}
-use Rattle.gw_check.specs.Seen.{failure}
+use Rattle.gw_resolve.specs.Seen.{failure}
 use Rattle.gw_plan.specs.declared.inner.Inner as declared
 use Rattle.gw_plan.specs.declared.heads.MapHead as heads
 use Rattle.gw_plan.specs.Shapes.{MapBetween}
