@@ -7,12 +7,13 @@ use Rattle.gw_profile.specs.Shapes.{ProfileValue}
 use Rattle.gw_check.specs.CheckedMap.{CheckedValue}
 use Rattle.gw_plan.specs.declared.fault.PlanFault.{PlanFault}
 use Rattle.gw_plan.specs.declared.fault.PlanFault.TheVariants.{Syntax, Duplicate, UnknownName, WrongMap}
-use Rattle.gw_plan.specs.Shapes.{MapBetween, RouteValue}
+use Rattle.gw_plan.specs.Shapes.{MapBetween, RouteValue, named}
 use Rattle.gw_plan.specs.Held.{RouteHeld, IsNewLeg, map_between, route_value, longer, leg}
 use Rattle.gw_plan.specs.Above.{BeginsAt, named_profile}
 use Rattle.gw_plan.specs.Drafted.{StandsAmong}
 use Rattle.gw_plan.specs.Draft.{Draft, receiver_number, map_named, goes, with_leg, with_map, delivered}
 use Rattle.std.proofs.lemmas.List.{map-append}
+use Rattle.std.proofs.lemmas.Slice.Eq.{bytes_eq-Decides}
 use Rattle.gw_plan.proofs.Keys.{some_same}
 
 abbrev outcome : Draft → ℕ → Option RouteValue → Option ℕ → Option MapBetween → Result Draft PlanFault
@@ -66,3 +67,16 @@ same_source profiles by r begins stands same = some_same (sym begins ∙ ap (λ 
 -- one leg more, seen from outside
 pub longer_value : (number : ℕ) (by : CheckedValue) (r : RouteHeld) → route_value (longer number by r) ≡ record (route_value r) { legs = (route_value r).legs ++ (number, map_between by) ∷ [] }
 longer_value number by r = ap (λ (ls : List (ℕ × MapBetween)). record (route_value r) { legs = ls }) (map-append leg r.legs ((number, by) ∷ []))
+
+-- what was found by a name has it
+named_name : {A : Type 0} (name_of : A → List ℕ) (name : List ℕ) (xs : List A) (x : A) → named name_of name xs ≡ Some x → name ≡ name_of x
+named_name name_of name [] x e = absurd (cc)
+named_name {A} name_of name (y ∷ xs) x e = by (bytes_eq name (name_of y)) refl e (named_name name_of name xs x)
+  where
+    by : (b : Bool) → bytes_eq name (name_of y) ≡ b → (if b then Some y else named name_of name xs) ≡ Some x → (named name_of name xs ≡ Some x → name ≡ name_of x) → name ≡ name_of x
+    by true same e next = (bytes_eq-Decides name (name_of y)).0 same ∙ ap name_of (some_same e)
+    by false same e next = next e
+
+pub stands_named : (profiles : List ProfileValue) (name : List ℕ) (r : RouteHeld) → named_profile name profiles ≡ Some (profile_value r.profile) → StandsAmong profiles r
+stands_named profiles name r e =
+    subst (λ n. named_profile n profiles ≡ Some (profile_value r.profile)) (named_name (λ (p : ProfileValue). p.name) name profiles (profile_value r.profile) e) e

@@ -211,6 +211,18 @@ fn take_text(alloc: Global, draft: &mut Draft, text: &[u8]) -> Result<(), PlanFa
     Ok(())
 }
 
+// Takes the lines of a text; a copy of it.
+fn take_copy(alloc: Global, draft: &mut Draft, text: &[u8]) -> Result<Vec<u8>, PlanFault>
+    requires kept { IsKept draft.old }
+    requires nothing { draft_value draft.old ≡ nothing }
+    ensures value { Gives fault.Memory (λ _. draft_value draft.new) result (spec.drafted text.now) }
+    ensures copy { IfOk result (λ copy. copy.items ≡ text.now) }
+    ensures kept { OnOk result (IsKept draft.new) }
+{
+    take_text(alloc, draft, text)?;
+    Ok(Vec::from_slice(alloc, text)?)
+}
+
 impl Plan {
     /// The plan that the text spells, or its one fault.
     pub fn parse(alloc: Global, text: &[u8]) -> Result<Plan, PlanFault>
@@ -218,9 +230,9 @@ impl Plan {
         ensures text { IfOk result (λ p. p.text ≡ text.now) }
     {
         let mut draft = Draft::new(alloc);
-        take_text(alloc, &mut draft, text)?;
-        let text = Vec::from_slice(alloc, text)?;
-        let plan = Plan::of(alloc, draft, text)?;
-        Ok(plan)
+        match take_copy(alloc, &mut draft, text) {
+            Err(fault) => Err(fault),
+            Ok(copy) => Ok(Plan::of(alloc, draft, copy)?),
+        }
     }
 }
