@@ -1,0 +1,4 @@
+//! The gate: one journal, one step.
+#![tactic(auto)]
+
+pub mod laws;
