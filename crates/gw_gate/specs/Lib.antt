@@ -1,7 +1,10 @@
 pub mod Parts
+pub mod Seen
 pub mod Journal
 pub mod Replies
+pub mod Values
 pub mod Lawful
 pub mod Meaning
 pub mod Headline
+pub mod Desks
 pub mod Toy

@@ -1,4 +1,9 @@
 //! The gate: one journal, one step.
 #![tactic(auto)]
 
+mod desks;
+mod event;
 pub mod laws;
+mod plans;
+
+pub use event::{Entry, Event, Reply};
