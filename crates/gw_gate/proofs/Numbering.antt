@@ -10,13 +10,13 @@ use Rattle.gw_gate.specs.Headline.{CountFrom, RiseFrom, Numbered, IsTranslated}
 use Rattle.gw_gate.proofs.Journals.{swapped-append, accepted-append, current-append}
 use Rattle.gw_gate.proofs.Releasing.{journal, Next, next, unlimited}
 
-abbrev n_of : Acceptance → ℕ
+abbrev pub n_of : Acceptance → ℕ
 n_of a = a.n
 
 abbrev number_of : Version → ℕ
 number_of v = v.number
 
-count_last : (first : ℕ) (ns : List ℕ) (n : ℕ) → n ≡ first + length ns → CountFrom first ns → CountFrom first (ns ++ n ∷ [])
+pub count_last : (first : ℕ) (ns : List ℕ) (n : ℕ) → n ≡ first + length ns → CountFrom first ns → CountFrom first (ns ++ n ∷ [])
 count_last first [] n is all = (omega (arith, is), tt)
 count_last first (m ∷ ns) n is all = (all.0, count_last (first + 1) ns n (omega (arith, is)) all.1)
 
@@ -25,7 +25,7 @@ rise_lower low high [] under all = tt
 rise_lower low high (n ∷ ns) under all = (let a = all.0 in omega (arith, a), all.1)
 
 -- numbers that count on, of those that pass a test
-rise_among : (test : Acceptance → Bool) (first : ℕ) (xs : List Acceptance) → CountFrom first (map n_of xs) → RiseFrom first (map n_of (filter test xs))
+pub rise_among : (test : Acceptance → Bool) (first : ℕ) (xs : List Acceptance) → CountFrom first (map n_of xs) → RiseFrom first (map n_of (filter test xs))
 rise_among test first [] all = tt
 rise_among test first (x ∷ xs) all =
     let is = all.0 in

@@ -348,7 +348,7 @@ module _ (Means : List ℕ → MessageSeen → ℕ → MessageSeen → Type 0) w
 
 -- ---- the entry that a reply adds
 
-added_full : (event : EventSeen) → added event (IsFull event) ≡ None
+pub added_full : (event : EventSeen) → added event (IsFull event) ≡ None
 added_full Looks = refl
 added_full (Arrives c) = refl
 added_full (Refuses code) = refl

@@ -7,4 +7,5 @@ pub mod Lawful
 pub mod Meaning
 pub mod Headline
 pub mod Desks
+pub mod Books
 pub mod Toy

@@ -4,8 +4,9 @@ use Rattle.std.specs.Arc.{arc_value}
 use Rattle.gw_gate.specs.declared.event.Event as event
 use Rattle.gw_gate.specs.declared.event.Reply as reply
 use Rattle.gw_gate.specs.declared.event.Entry as entry
+use Rattle.gw_gate.specs.declared.books.Pair as books
 use Rattle.gw_gate.specs.Seen.{plan_seen, conforming_seen, translated_seen}
-use Rattle.gw_gate.specs.Journal.{EntrySeen, WasAccepted, WasRefused, WasSwapped, WasTaken, WasKept, WasIssued, WasOut}
+use Rattle.gw_gate.specs.Journal.{Pair, pair, EntrySeen, WasAccepted, WasRefused, WasSwapped, WasTaken, WasKept, WasIssued, WasOut}
 use Rattle.gw_gate.specs.Replies.{EventSeen, Looks, Arrives, Refuses, Swaps, Takes, Puts, Reissues, Releases, ReplySeen, IsCurrent, IsAccepted, IsStale, IsRefused, IsSwapped, IsUnlike, IsJob, IsIdle, IsKept, IsRepeat, IsStranger, IsIssued, IsDone, IsOut, IsNothing, IsFull}
 
 abbrev pub event_seen : event.Event → EventSeen
@@ -60,3 +61,6 @@ answer_seen (Err back) = Err (event_seen back)
 abbrev pub noted_seen : Result (reply.Reply × Option entry.Entry) event.Event → Result (ReplySeen × Option EntrySeen) EventSeen
 noted_seen (Ok given) = Ok (reply_seen given.0, note_seen given.1)
 noted_seen (Err back) = Err (event_seen back)
+
+abbrev pub pair_seen : books.Pair → Pair
+pair_seen p = pair p.n p.receiver

@@ -4,7 +4,7 @@ ghost use Rattle.gw_reorder.specs.State.{SameButRoom, with_due};
 ghost use Rattle.gw_reorder.specs.Calls.{status_of, after_holding, next_of, after_giving};
 ghost use Rattle.gw_reorder.specs.declared.desk.Status.TheVariants as status;
 ghost use Rattle.gw_gate.specs.Seen.{conforming_seen};
-ghost use Rattle.gw_gate.specs.Desks.{desk_at, value_seen, given_seen, AreRoomier, HasRoomFor, due_to};
+ghost use Rattle.gw_gate.specs.Desks.{desk_at, value_seen, AreRoomier, HasRoomFor, due_to};
 
 use crate::plans::{goes_to, receiver_at, receiver_count};
 use gw_plan::{Conforming, Translated};
@@ -130,17 +130,12 @@ pub(crate) fn hold_at(
     desks[receiver].hold(n, translated);
 }
 
-// What this receiver's desk gives leaves it.
-pub(crate) fn release_at(
-    desks: &mut [Desk<Arc<Translated>>],
-    receiver: usize,
-) -> Option<(u64, Arc<Translated>)>
-    ensures given { given_seen result ≡ next_of (desk_at desks.old receiver) }
+// What this receiver's desk would give leaves it.
+pub(crate) fn release_at(desks: &mut [Desk<Arc<Translated>>], receiver: usize)
     ensures this { SameButRoom (after_giving (desk_at desks.old receiver) (next_of (desk_at desks.old receiver))) (desk_at desks.new receiver) }
     ensures others { (r : ℕ) → r ≢ receiver → desk_at desks.new r ≡ desk_at desks.old r }
 {
-    if receiver >= desks.len() {
-        return None;
+    if receiver < desks.len() {
+        desks[receiver].release();
     }
-    desks[receiver].release()
 }
