@@ -1,19 +1,21 @@
 -- Books that fit their journal.
-use Rattle.std.proofs.Common.{◌≡◌, ◌≢◌, ◌==◌, ◌&&◌, ℕ, ◌+◌, ◌<◌, ◌≤◌, true, false, List, [], ◌∷◌, ◌++◌, None, length, map, refl, sym, ap, subst, ◌∙◌, arith, append-nil, length-append}
+use Rattle.std.proofs.Common.{◌≡◌, ◌≢◌, ◌==◌, ◌&&◌, ℕ, ◌+◌, ◌<◌, ◌≤◌, true, false, List, [], ◌∷◌, ◌++◌, None, Some, ◌⊎◌, inl, inr, length, map, refl, sym, ap, subst, ◌∙◌, arith, append-nil, length-append}
 use Rattle.std.proofs.lemmas.List.{map-append, length-map}
-use Rattle.gw_reorder.specs.State.{DeskState}
+use Rattle.gw_reorder.specs.State.{DeskState, SameButRoom}
+use Rattle.gw_reorder.specs.Calls.{after_holding, next_of, after_giving}
+use Rattle.std.proofs.lemmas.Bool.{cases_eq}
 use Rattle.gw_gate.specs.Parts.{PlanSeen, ConformingSeen, TranslatedSeen}
-use Rattle.gw_gate.specs.Journal.{EntrySeen, WasAccepted, WasRefused, WasSwapped, WasTaken, WasKept, WasIssued, WasOut, Pair, pair, Acceptance, Version, opening, swapped, accepted, arrivals, issued, jobs, kept, released, current, last_of}
+use Rattle.gw_gate.specs.Journal.{EntrySeen, WasAccepted, WasRefused, WasSwapped, WasTaken, WasKept, WasIssued, WasOut, Pair, pair, Acceptance, Version, opening, swapped, accepted, arrivals, issued, jobs, due, is_due, kept, released, current, last_of}
 use Rattle.gw_gate.specs.Replies.{most}
 use Rattle.gw_gate.specs.Headline.{CountFrom}
 use Rattle.gw_gate.specs.Desks.{due_to}
-use Rattle.gw_gate.specs.Books.{BooksSeen, journal_of, StandsAt, FitsPlan, FitsArrivals, FitsQueue, Fits}
+use Rattle.gw_gate.specs.Books.{given, BooksSeen, journal_of, StandsAt, FitsPlan, FitsArrivals, FitsQueue, Fits}
 use Rattle.gw_gate.proofs.Journals.{accepted-append, current-append}
 use Rattle.gw_gate.proofs.Numbering.{n_of, count_last}
 use Rattle.gw_gate.specs.declared.event.Entry.{Entry}
 use Rattle.gw_gate.specs.Values.{entry_seen, entries_seen}
 use Rattle.gw_gate.proofs.Entering.{entered, as_long, arrivals-append, jobs-append, issued-append}
-use Rattle.gw_gate.proofs.Standing.{desk_same, desk_accepted}
+use Rattle.gw_gate.proofs.Standing.{desk_same, desk_accepted, desk_kept, desk_kept_other, desk_out, desk_out_other, stands_same}
 
 -- ---- what an entry leaves as it was
 
@@ -136,3 +138,45 @@ fits_accepted p h b n arrival c desk is due room was =
       desks = λ r. desk_accepted h n arrival r c (b.desk r) (desk r) was.queue.numbered is (due r) (was.desks r);
       within = within_more h e room;
     }
+
+pub fits_kept : (p : PlanSeen) (h : List EntrySeen) (b : BooksSeen) (m r : ℕ) (t : TranslatedSeen) (desk : ℕ → DeskState TranslatedSeen) → t.receiver ≡ r → is_due h m r ≡ true → desk r ≡ after_holding (b.desk r) m t → ((q : ℕ) → q ≢ r → desk q ≡ b.desk q) → length h < most
+    → Fits p h b → Fits p (h ++ WasKept m t ∷ []) (record b { desk = desk })
+fits_kept p h b m r t desk to due this others room was =
+    let e = WasKept m t in
+    record {
+      plans = plans_same p h e b.version b.plan refl was.plans;
+      arrivals = arrivals_same h e b.arrivals refl was.arrivals;
+      queue = queue_same h e b.accepted b.issued b.jobs refl refl refl was.queue;
+      desks = λ q. by q (cases_eq q r);
+      within = within_more h e room;
+    }
+  where
+    by : (q : ℕ) → (q ≡ r) ⊎ (q ≢ r) → StandsAt (h ++ WasKept m t ∷ []) q (desk q)
+    by q (inl same) = subst (λ z. StandsAt (h ++ WasKept m t ∷ []) z (desk z)) (sym same) (desk_kept h m r t (b.desk r) (desk r) was.queue.numbered to due this (was.desks r))
+    by q (inr other) = desk_kept_other h m q t (b.desk q) (desk q) (λ e. other (sym e ∙ to)) (others q other) (was.desks q)
+
+pub fits_out : (p : PlanSeen) (h : List EntrySeen) (b : BooksSeen) (n r : ℕ) (t : TranslatedSeen) (desk : ℕ → DeskState TranslatedSeen) → next_of (b.desk r) ≡ Some (n, t) → SameButRoom (after_giving (b.desk r) (next_of (b.desk r))) (desk r) → ((q : ℕ) → q ≢ r → desk q ≡ b.desk q) → length h < most
+    → Fits p h b → Fits p (h ++ WasOut n r t ∷ []) (record b { desk = desk })
+fits_out p h b n r t desk next this others room was =
+    let e = WasOut n r t in
+    record {
+      plans = plans_same p h e b.version b.plan refl was.plans;
+      arrivals = arrivals_same h e b.arrivals refl was.arrivals;
+      queue = queue_same h e b.accepted b.issued b.jobs refl refl refl was.queue;
+      desks = λ q. by q (cases_eq q r);
+      within = within_more h e room;
+    }
+  where
+    by : (q : ℕ) → (q ≡ r) ⊎ (q ≢ r) → StandsAt (h ++ WasOut n r t ∷ []) q (desk q)
+    by q (inl same) = subst (λ z. StandsAt (h ++ WasOut n r t ∷ []) z (desk z)) (sym same) (desk_out h n r t (b.desk r) (desk r) next this (was.desks r))
+    by q (inr other) = desk_out_other h n r q t (b.desk q) (desk q) (λ e. other (sym e)) (others q other) (was.desks q)
+
+-- more room changes nothing
+pub fits_roomier : (p : PlanSeen) (h : List EntrySeen) (b : BooksSeen) (desk : ℕ → DeskState TranslatedSeen) → ((r : ℕ) → SameButRoom (b.desk r) (desk r)) → Fits p h b → Fits p h (record b { desk = desk })
+fits_roomier p h b desk same was = record {
+  plans = was.plans;
+  arrivals = was.arrivals;
+  queue = was.queue;
+  desks = λ r. stands_same (b.desk r) (desk r) (due h r) (map given (released h r)) (λ n. kept h n r) (same r) (was.desks r);
+  within = was.within;
+}

@@ -64,7 +64,7 @@ order_more h g r none was =
           ∙ ap (λ k. take k (due h r ++ due g r)) (sym (ap length o)) ∙ ap (take (length (released (h ++ g) r))) (sym d);
     }
 
-take_next : (xs : List ℕ) (k n : ℕ) → slice_get xs k ≡ Some n → (k < length xs) × (take (k + 1) xs ≡ take k xs ++ n ∷ [])
+pub take_next : (xs : List ℕ) (k n : ℕ) → slice_get xs k ≡ Some n → (k < length xs) × (take (k + 1) xs ≡ take k xs ++ n ∷ [])
 take_next xs k n is = (grind (arith, common_steps, gets), grind (arith, common_steps, gets))
 
 -- the next due number was released to r

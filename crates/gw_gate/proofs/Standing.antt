@@ -1,13 +1,20 @@
 -- Desks that stand as the journal says.
-use Rattle.std.proofs.Common.{◌≡◌, ◌≢◌, ◌==◌, ◌&&◌, ℕ, zero, suc, ◌+◌, ◌<◌, ◌≤◌, Bool, true, false, if◌then◌else◌, List, [], ◌∷◌, ◌++◌, Option, None, Some, is_some, position, get_or, length, map, All, refl, sym, ap, subst, ◌∙◌, arith, append-nil, length-append}
-use Rattle.std.specs.Prelude.{filter, cond}
+use Rattle.std.proofs.Common.{◌≡◌, ◌≢◌, ◌==◌, ◌&&◌, ℕ, zero, suc, ◌+◌, ◌<◌, ◌≤◌, Bool, true, false, if◌then◌else◌, List, [], ◌∷◌, ◌++◌, Option, None, Some, is_some, position, get_or, slice_get, ◌-◌, ◌⊎◌, inl, inr, length, map, All, refl, sym, ap, subst, ◌∙◌, arith, append-nil, length-append}
+use Rattle.std.specs.Prelude.{filter, cond, ◌||◌}
 use Rattle.std.specs.Option.{option_to_list}
 use Rattle.std.specs.List.Sorted.{IsStrictlyIncreasing}
 use Rattle.std.proofs.lemmas.List.{map-append, length-map}
 use Rattle.std.proofs.lemmas.List.Elements.{All-nil, All-cons, All-weaker}
 use Rattle.std.proofs.lemmas.Grind.{common_steps}
+use Rattle.std.proofs.lemmas.Bool.{cases_lt, false≢true}
+use Rattle.std.proofs.lemmas.Option.{slice_get-get_or, none-some}
+use Rattle.std.proofs.lemmas.List.Quantifiers.{position-Some}
+use Rattle.std.proofs.lemmas.List.Folds.{list_any_at}
+use Rattle.std.specs.List.{list_any}
+use Rattle.gw_reorder.specs.declared.desk.Status.{Status}
+use Rattle.gw_reorder.proofs.Slots.{status_here}
 use Rattle.gw_reorder.specs.State.{DeskState, SameButRoom, with_due}
-use Rattle.gw_reorder.specs.Calls.{status_of, after_holding, next_of, after_giving}
+use Rattle.gw_reorder.specs.Calls.{place_of, status_of, status_at, slot_status, after_holding, next_of, after_giving}
 use Rattle.gw_reorder.specs.Runs.{earlier, brought_for}
 use Rattle.gw_reorder.specs.declared.desk.Status.TheVariants.{Waiting, Repeat, Stranger}
 use Rattle.gw_reorder.proofs.Places.{rising_more, equal_numbers, equals, differs}
@@ -97,3 +104,122 @@ desk_accepted h n arrival r c s t counted is same old = by (delivers c r) refl
         (ap (map given) (released-append h e r ∙ append-nil (released h r)))
         (λ m. kept-append h e m r ∙ or_none (kept h m r))
         (stands b f))
+
+-- ---- what a desk tells
+
+-- what a number is, by whether it is due and whether a value was kept for it
+abbrev pub status_by : Bool → Bool → Status
+status_by false kept = Stranger
+status_by true false = Waiting
+status_by true true = Repeat
+
+any_none : (xs : List ℕ) (n : ℕ) → position (λ m. m == n) xs ≡ None → list_any (λ m. m == n) xs ≡ false
+any_none [] n none = refl
+any_none (x ∷ xs) n none = by (any_none xs n) (x == n) refl
+  where
+    first : (x == n) ≡ true → position (λ m. m == n) (x ∷ xs) ≡ Some 0
+    first e = grind (arith, common_steps)
+
+    later : (x == n) ≡ false → position (λ m. m == n) xs ≡ None
+    later e = grind (arith, common_steps, none)
+
+    by : (position (λ m. m == n) xs ≡ None → list_any (λ m. m == n) xs ≡ false) → (b : Bool) → (x == n) ≡ b → list_any (λ m. m == n) (x ∷ xs) ≡ false
+    by more true e = absurd (none-some 0 (sym none ∙ first e))
+    by more false e = ap (λ b. b || list_any (λ m. m == n) xs) e ∙ more (later e)
+
+any_some : (xs : List ℕ) (n p : ℕ) → position (λ m. m == n) xs ≡ Some p → list_any (λ m. m == n) xs ≡ true
+any_some xs n p some = let found = position-Some (λ m. m == n) xs p 0 some in list_any_at (λ m. m == n) xs p 0 found.0 found.1
+
+slot_by : {T : Type 0} (o : Option T) → slot_status (Some o) ≡ status_by true (is_some o)
+slot_by None = refl
+slot_by (Some x) = refl
+
+module _ {T : Type 0} where
+  told_at : (s : DeskState T) (d : List ℕ) (g : List (ℕ × T)) (f : ℕ → Option T) (n p : ℕ) → Stands s d g f → position (λ m. m == n) d ≡ Some p → (p < s.released) ⊎ (s.released ≤ p) → status_of s n ≡ status_by true (is_some (f n))
+  told_at s d g f n p old here (inl early) =
+      let found = position-Some (λ m. m == n) d p 0 here in
+      let there = old.past p early in
+      let place : place_of s n ≡ Some p = ap (position (λ m. m == n)) old.due_is ∙ here in
+      let some : f n ≡ Some there.0 = ap f (sym (equal_numbers (get_or d p 0) n found.1)) ∙ there.1 in
+      let repeat : status_at s (Some p) ≡ Repeat = grind (arith, common_steps) in
+      ap (status_at s) place ∙ repeat ∙ ap (λ o. status_by true (is_some o)) (sym some)
+  told_at s d g f n p old here (inr late) =
+      let found = position-Some (λ m. m == n) d p 0 here in
+      let place : place_of s n ≡ Some p = ap (position (λ m. m == n)) old.due_is ∙ here in
+      let inside : p - s.released < length s.kept = omega (arith, found.0, old.places) in
+      let same : s.released + (p - s.released) ≡ p = omega arith in
+      let value : get_or s.kept (p - s.released) None ≡ f n =
+      old.slots (p - s.released) inside ∙ ap (λ i. f (get_or d i 0)) same ∙ ap f (equal_numbers (get_or d p 0) n found.1) in
+      status_here s n p place late ∙ ap slot_status (slice_get-get_or s.kept (p - s.released) None inside) ∙ slot_by (get_or s.kept (p - s.released) None) ∙ ap (λ o. status_by true (is_some o)) value
+
+  pub status_stands : (s : DeskState T) (d : List ℕ) (g : List (ℕ × T)) (f : ℕ → Option T) (n : ℕ) → Stands s d g f → status_of s n ≡ status_by (list_any (λ m. m == n) d) (is_some (f n))
+  status_stands s d g f n old = by (position (λ m. m == n) d) refl
+    where
+      by : (o : Option ℕ) → position (λ m. m == n) d ≡ o → status_of s n ≡ status_by (list_any (λ m. m == n) d) (is_some (f n))
+      by None e = ap (status_at s) (ap (position (λ m. m == n)) old.due_is ∙ e) ∙ ap (λ b. status_by b (is_some (f n))) (sym (any_none d n e))
+      by (Some p) e = told_at s d g f n p old e (cases_lt p s.released) ∙ ap (λ b. status_by b (is_some (f n))) (sym (any_some d n p e))
+
+-- ---- what is put and what is given out
+
+same_pair : (t : TranslatedSeen) (m n r : ℕ) → t.receiver ≡ r → ((m == n) && (t.receiver == r)) ≡ (m == n)
+same_pair t m n r is = ap (λ b. (m == n) && b) (equals t.receiver r is) ∙ all (m == n)
+  where
+    all : (b : Bool) → (b && true) ≡ b
+    all true = refl
+    all false = refl
+
+brought : (d : List ℕ) (m : ℕ) (t : TranslatedSeen) (n : ℕ) → list_any (λ k. k == m) d ≡ true → brought_for d m t n ≡ (if m == n then Some t else None)
+brought d m t n wanted = by (m == n) refl
+  where
+    there : (o : Option ℕ) → position (λ k. k == m) d ≡ o → is_some (position (λ k. k == m) d) ≡ true
+    there None e = absurd (false≢true (sym (any_none d m e) ∙ wanted))
+    there (Some p) e = ap is_some e
+
+    by : (b : Bool) → (m == n) ≡ b → (if (m == n) && is_some (position (λ k. k == n) d) then Some t else None) ≡ (if m == n then Some t else None)
+    by true e =
+        let place : is_some (position (λ k. k == n) d) ≡ true = subst (λ j. is_some (position (λ k. k == j) d) ≡ true) (equal_numbers m n e) (there (position (λ k. k == m) d) refl) in
+        ap (λ b. if (m == n) && b then Some t else None) place ∙ ap (λ b. if b && true then Some t else None) e ∙ sym (ap (λ b. if b then Some t else None) e)
+    by false e = ap (λ b. if b && is_some (position (λ k. k == n) d) then Some t else None) e ∙ sym (ap (λ b. if b then Some t else None) e)
+
+either_earlier : {X : Type 0} (o p : Option X) → either o p ≡ earlier o p
+either_earlier None p = refl
+either_earlier (Some x) p = refl
+
+pub desk_kept : (h : List EntrySeen) (m r : ℕ) (t : TranslatedSeen) (s u : Desk) → CountFrom 0 (map n_of (accepted h)) → t.receiver ≡ r → list_any (λ k. k == m) (due h r) ≡ true → u ≡ after_holding s m t → StandsAt h r s → StandsAt (h ++ WasKept m t ∷ []) r u
+desk_kept h m r t s u counted to wanted is old =
+    let e : List EntrySeen = WasKept m t ∷ [] in
+    subst (StandsAt (h ++ e) r) (sym is)
+    (restand (after_holding s m t) (due h r) (due (h ++ e) r) (map given (released h r)) (map given (released (h ++ e) r)) (λ n. earlier (kept h n r) (brought_for (due h r) m t n)) (λ n. kept (h ++ e) n r)
+    (due-append h e r ∙ append-nil (due h r))
+    (ap (map given) (released-append h e r ∙ append-nil (released h r)))
+    (λ n. kept-append h e n r ∙ ap (λ b. either (kept h n r) (if b then Some t else None)) (same_pair t m n r to) ∙ ap (either (kept h n r)) (sym (brought (due h r) m t n wanted)) ∙ either_earlier (kept h n r) (brought_for (due h r) m t n))
+    (after_hold s (due h r) (map given (released h r)) (λ n. kept h n r) m t old (due_rises h r counted)))
+
+-- what is put for another receiver
+pub desk_kept_other : (h : List EntrySeen) (m r : ℕ) (t : TranslatedSeen) (s u : Desk) → t.receiver ≢ r → u ≡ s → StandsAt h r s → StandsAt (h ++ WasKept m t ∷ []) r u
+desk_kept_other h m r t s u other is old =
+    subst (StandsAt (h ++ WasKept m t ∷ []) r) (sym is)
+    (desk_same h (WasKept m t ∷ []) r s refl refl (λ n. ap (λ b. if (m == n) && b then Some t else None) (differs t.receiver r other) ∙ ap (λ b. if b then Some t else None) (none (m == n))) old)
+  where
+    none : (b : Bool) → (b && false) ≡ false
+    none true = refl
+    none false = refl
+
+pub desk_out : (h : List EntrySeen) (n r : ℕ) (t : TranslatedSeen) (s u : Desk) → next_of s ≡ Some (n, t) → SameButRoom (after_giving s (next_of s)) u → StandsAt h r s → StandsAt (h ++ WasOut n r t ∷ []) r u
+desk_out h n r t s u next same old =
+    let e : List EntrySeen = WasOut n r t ∷ [] in
+    let out : Release = record { n = n; translated = t } in
+    let gs = map given (released h r) in
+    let one : released e r ≡ out ∷ [] = ap (λ b. if b then out ∷ [] else []) (equals r r refl) in
+    stands_same (after_giving s (next_of s)) u (due (h ++ e) r) (map given (released (h ++ e) r)) (λ m. kept (h ++ e) m r) same
+    (restand (after_giving s (next_of s)) (due h r) (due (h ++ e) r) (gs ++ option_to_list (next_of s)) (map given (released (h ++ e) r)) (λ m. kept h m r) (λ m. kept (h ++ e) m r)
+    (due-append h e r ∙ append-nil (due h r))
+    (ap (map given) (released-append h e r ∙ ap (λ l. released h r ++ l) one) ∙ map-append given (released h r) (out ∷ []) ∙ ap (λ o. gs ++ option_to_list o) (sym next))
+    (λ m. kept-append h e m r ∙ or_none (kept h m r))
+    (after_release s (due h r) gs (λ m. kept h m r) old))
+
+-- what is given out to another receiver
+pub desk_out_other : (h : List EntrySeen) (n to r : ℕ) (t : TranslatedSeen) (s u : Desk) → to ≢ r → u ≡ s → StandsAt h r s → StandsAt (h ++ WasOut n to t ∷ []) r u
+desk_out_other h n to r t s u other is old =
+    let out : Release = record { n = n; translated = t } in
+    subst (StandsAt (h ++ WasOut n to t ∷ []) r) (sym is) (desk_same h (WasOut n to t ∷ []) r s refl (ap (λ b. if b then out ∷ [] else []) (differs to r other)) (λ m. refl) old)

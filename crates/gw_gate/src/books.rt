@@ -1,10 +1,11 @@
 //! A journal with the books that are kept of it, so that a step needs no look at what is behind it.
-ghost use Rattle.std.specs.Prelude.{◌≡◌, ◌<◌, ◌≢◌, ℕ, true, false, length, map, slice_get, Ok, Err, Some, None, []};
+ghost use Rattle.std.specs.Prelude.{◌≡◌, ◌+◌, ◌++◌, ◌≤◌, OnOk, vec_len, vec_capacity, ◌<◌, ◌≢◌, ℕ, true, false, length, map, slice_get, Ok, Err, Some, None, []};
 ghost use Rattle.std.specs.Option.{option_map};
 ghost use Rattle.std.specs.Arc.{arc_value};
 ghost use Rattle.gw_gate.specs.Parts.{is_under};
 ghost use Rattle.gw_gate.specs.Seen.{plan_seen, conforming_seen, translated_seen};
-ghost use Rattle.gw_gate.specs.Journal.{Journal, opening};
+ghost use Rattle.gw_gate.specs.Journal.{Journal, current, opening, pair};
+ghost use Rattle.gw_gate.specs.Desks.{AreRoomier, HasRoomFor};
 ghost use Rattle.gw_gate.specs.Replies.{Looks, Arrives, Refuses, Swaps, Takes, Puts, Reissues, Releases, IsKept, IsIssued, Steps, StepsNoted, most, reply_to};
 ghost use Rattle.gw_gate.specs.Books.{issue_reply, job_reply, next_job, put_reply, release_reply};
 ghost use Rattle.gw_gate.specs.Values.{entries_seen, event_seen, answer_seen, noted_seen, pair_seen};
@@ -32,6 +33,13 @@ pub(crate) struct Pair {
 // A reply, with the note of its entry; or the event, for want of memory.
 pub(crate) type Answer = Result<(Reply, Option<Entry>), Event>;
 
+// What was accepted under this number.
+fn accepted_at(accepted: &[Arc<Conforming>], n: u64) -> Option<&Arc<Conforming>>
+    ensures { option_map (λ c. conforming_seen (arc_value c.now)) result ≡ slice_get (map (λ c. conforming_seen (arc_value c)) accepted.now) n }
+{
+    accepted.get(n as usize)
+}
+
 // The next pair, with what was accepted under its number.
 fn next_job<'a>(
     accepted: &'a [Arc<Conforming>],
@@ -43,10 +51,41 @@ fn next_job<'a>(
     let Some(pair) = issued.get(jobs) else {
         return None;
     };
-    let Some(conforming) = accepted.get(pair.n as usize) else {
+    let Some(conforming) = accepted_at(accepted, pair.n) else {
         return None;
     };
     Some((*pair, conforming))
+}
+
+// Room for an acceptance: the message, its pairs, and its number at each desk to which it goes.
+fn make_rooms(
+    accepted: &mut Vec<Arc<Conforming>>,
+    issued: &mut Vec<Pair>,
+    desks: &mut Vec<Desk<Arc<Translated>>>,
+    alloc: Global,
+    conforming: &Conforming,
+) -> Result<(), AllocError>
+    ensures accepted { accepted.new.items ≡ accepted.old.items }
+    ensures issued { issued.new.items ≡ issued.old.items }
+    ensures desks { AreRoomier desks.old.items desks.new.items }
+    ensures message { OnOk result (vec_len accepted.new < vec_capacity accepted.new) }
+    ensures pairs { OnOk result (vec_len issued.new + length (conforming_seen conforming.now).receivers ≤ vec_capacity issued.new) }
+    ensures numbers { OnOk result (HasRoomFor desks.new.items (conforming_seen conforming.now)) }
+{
+    accepted.reserve(1)?;
+    issued.reserve(receiver_count(conforming))?;
+    make_room(desks, alloc, conforming)
+}
+
+// A pair for each receiver of the message's route.
+fn issue_all(issued: &mut Vec<Pair>, conforming: &Conforming, n: u64)
+    requires { vec_len issued.old + length (conforming_seen conforming.now).receivers ≤ vec_capacity issued.old }
+    ensures { map pair_seen issued.new.items ≡ map pair_seen issued.old.items ++ map (pair n) (conforming_seen conforming.now).receivers }
+{
+    for place in 0..receiver_count(conforming) {
+        let receiver = receiver_at(conforming, place);
+        issued.push_reserved(Pair { n, receiver });
+    }
 }
 
 #[derive(Drop)]
@@ -218,12 +257,13 @@ impl Books {
         ensures { reply_to self.now (Puts n (translated_seen translated.now)) ≡ put_reply result (translated_seen translated.now) }
     {
         let receiver = translated.receiver();
-        match self.accepted.get(n as usize) {
-            Some(conforming) if is_of(translated, conforming) => {
-                status_at(&self.desks, receiver, n)
-            }
-            _ => Status::Stranger,
+        let Some(conforming) = accepted_at(&self.accepted, n) else {
+            return Status::Stranger;
+        };
+        if !is_of(translated, conforming) {
+            return Status::Stranger;
         }
+        status_at(&self.desks, receiver, n)
     }
 
     // A translation is put.
@@ -330,5 +370,65 @@ impl Books {
         release_at(&mut self.desks, receiver);
         self.journal.push_reserved(entry);
         Ok((Reply::Out { n, translated }, note))
+    }
+
+    // Whether the message was admitted under the version and plan in force.
+    fn in_force(&self, conforming: &Conforming) -> bool
+        ensures { result ≡ is_under (conforming_seen conforming.now) (current self.now).number (current self.now).plan }
+    {
+        is_under(conforming, self.version, &self.plan)
+    }
+
+    // A message that was admitted arrives.
+    fn arrive(&mut self, conforming: Arc<Conforming>, takes: bool) -> Answer
+        ensures { StepsNoted takes self.old (Arrives (conforming_seen (arc_value conforming))) (noted_seen result) self.new }
+    {
+        if self.in_force(&conforming) {
+            return self.accept(conforming, takes);
+        }
+        let reply = Reply::Stale {
+            version: self.version,
+            conforming,
+        };
+        Ok((reply, None))
+    }
+
+    // A message of the plan in force is accepted.
+    fn accept(&mut self, conforming: Arc<Conforming>, takes: bool) -> Answer
+        requires { is_under (conforming_seen (arc_value conforming)) (current self.old).number (current self.old).plan ≡ true }
+        ensures { StepsNoted takes self.old (Arrives (conforming_seen (arc_value conforming))) (noted_seen result) self.new }
+    {
+        if self.journal.len() == MOST {
+            return Ok((Reply::Full(Event::Arrive(conforming)), None));
+        }
+        let Ok(copy) = Arc::try_clone(&conforming) else {
+            return Err(Event::Arrive(conforming));
+        };
+        let n = self.accepted.len() as u64;
+        let arrival = self.arrivals + 1;
+        let entry = Entry::Accepted {
+            n,
+            arrival,
+            conforming: copy,
+        };
+        let Ok(note) = prepared(&mut self.journal, takes, &entry) else {
+            return Err(Event::Arrive(conforming));
+        };
+        let grown = make_rooms(
+            &mut self.accepted,
+            &mut self.issued,
+            &mut self.desks,
+            self.alloc,
+            &conforming,
+        );
+        if grown.is_err() {
+            return Err(Event::Arrive(conforming));
+        }
+        issue_all(&mut self.issued, &conforming, n);
+        make_due(&mut self.desks, &conforming, n);
+        self.arrivals = arrival;
+        self.accepted.push_reserved(conforming);
+        self.journal.push_reserved(entry);
+        Ok((Reply::Accepted { n, arrival }, note))
     }
 }

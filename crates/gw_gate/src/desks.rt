@@ -85,29 +85,28 @@ pub(crate) fn make_room(
     ensures ok { OnOk result (HasRoomFor desks.new.items (conforming_seen conforming.now)) }
 {
     for place in 0..receiver_count(conforming) {
-        if let Some(receiver) = receiver_at(conforming, place) {
-            room_at(desks, alloc, receiver)?;
-        }
+        let receiver = receiver_at(conforming, place);
+        room_at(desks, alloc, receiver)?;
     }
     Ok(())
 }
 
 // The number is due at this desk.
-fn due_at(desks: &mut [Desk<Arc<Translated>>], receiver: usize, n: u64)
-    requires within { receiver < length desks.old }
-    requires room { 0 < (desk_at desks.old receiver).room }
-    requires above { All (λ m. m < n) (desk_at desks.old receiver).due }
-    ensures this { desk_at desks.new receiver ≡ with_due (desk_at desks.old receiver) n }
-    ensures others { (r : ℕ) → r ≢ receiver → desk_at desks.new r ≡ desk_at desks.old r }
+fn due_at(desks: &mut Vec<Desk<Arc<Translated>>>, receiver: usize, n: u64)
+    requires within { receiver < length desks.old.items }
+    requires room { 0 < (desk_at desks.old.items receiver).room }
+    requires above { All (λ m. m < n) (desk_at desks.old.items receiver).due }
+    ensures this { desk_at desks.new.items receiver ≡ with_due (desk_at desks.old.items receiver) n }
+    ensures others { (r : ℕ) → r ≢ receiver → desk_at desks.new.items r ≡ desk_at desks.old.items r }
 {
     desks[receiver].due(n);
 }
 
 // The number is due at the desks to which the message goes.
-pub(crate) fn make_due(desks: &mut [Desk<Arc<Translated>>], conforming: &Conforming, n: u64)
-    requires room { HasRoomFor desks.old (conforming_seen conforming.now) }
-    requires above { (r : ℕ) → All (λ m. m < n) (desk_at desks.old r).due }
-    ensures { (r : ℕ) → desk_at desks.new r ≡ due_to (conforming_seen conforming.now) n r (desk_at desks.old r) }
+pub(crate) fn make_due(desks: &mut Vec<Desk<Arc<Translated>>>, conforming: &Conforming, n: u64)
+    requires room { HasRoomFor desks.old.items (conforming_seen conforming.now) }
+    requires above { (r : ℕ) → All (λ m. m < n) (desk_at desks.old.items r).due }
+    ensures { (r : ℕ) → desk_at desks.new.items r ≡ due_to (conforming_seen conforming.now) n r (desk_at desks.old.items r) }
 {
     for receiver in 0..desks.len() {
         if goes_to(conforming, receiver) {
@@ -118,22 +117,22 @@ pub(crate) fn make_due(desks: &mut [Desk<Arc<Translated>>], conforming: &Conform
 
 // The translation is kept at this receiver's desk, where its number waits for one.
 pub(crate) fn hold_at(
-    desks: &mut [Desk<Arc<Translated>>],
+    desks: &mut Vec<Desk<Arc<Translated>>>,
     receiver: usize,
     n: u64,
     translated: Arc<Translated>,
 )
-    requires { status_of (desk_at desks.old receiver) n ≡ status.Waiting }
-    ensures this { desk_at desks.new receiver ≡ after_holding (desk_at desks.old receiver) n (value_seen translated) }
-    ensures others { (r : ℕ) → r ≢ receiver → desk_at desks.new r ≡ desk_at desks.old r }
+    requires { status_of (desk_at desks.old.items receiver) n ≡ status.Waiting }
+    ensures this { desk_at desks.new.items receiver ≡ after_holding (desk_at desks.old.items receiver) n (value_seen translated) }
+    ensures others { (r : ℕ) → r ≢ receiver → desk_at desks.new.items r ≡ desk_at desks.old.items r }
 {
     desks[receiver].hold(n, translated);
 }
 
 // What this receiver's desk would give leaves it.
-pub(crate) fn release_at(desks: &mut [Desk<Arc<Translated>>], receiver: usize)
-    ensures this { SameButRoom (after_giving (desk_at desks.old receiver) (next_of (desk_at desks.old receiver))) (desk_at desks.new receiver) }
-    ensures others { (r : ℕ) → r ≢ receiver → desk_at desks.new r ≡ desk_at desks.old r }
+pub(crate) fn release_at(desks: &mut Vec<Desk<Arc<Translated>>>, receiver: usize)
+    ensures this { SameButRoom (after_giving (desk_at desks.old.items receiver) (next_of (desk_at desks.old.items receiver))) (desk_at desks.new.items receiver) }
+    ensures others { (r : ℕ) → r ≢ receiver → desk_at desks.new.items r ≡ desk_at desks.old.items r }
 {
     if receiver < desks.len() {
         desks[receiver].release();
