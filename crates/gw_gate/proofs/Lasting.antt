@@ -1,9 +1,9 @@
 -- Journals stay lawful.
-use Rattle.std.proofs.Common.{◌≡◌, List, [], ◌∷◌, Option, None, Some, refl, sym, subst}
+use Rattle.std.proofs.Common.{◌≡◌, Bool, List, [], ◌∷◌, Option, None, Some, refl, sym, subst}
 use Rattle.std.specs.Prelude.{Result, Ok, Err}
 use Rattle.gw_gate.specs.Parts.{TranslatedSeen}
 use Rattle.gw_gate.specs.Journal.{EntrySeen, Journal}
-use Rattle.gw_gate.specs.Replies.{EventSeen, ReplySeen, added, most, reply, with_added, after, run, Steps}
+use Rattle.gw_gate.specs.Replies.{EventSeen, ReplySeen, added, most, reply, with_added, after, run, Steps, StepsNoted}
 use Rattle.gw_gate.specs.Lawful.{IsEvent, AreEvents, more, IsLawful}
 
 module _ (IsTranslated : TranslatedSeen → Type 0) where
@@ -23,3 +23,8 @@ module _ (IsTranslated : TranslatedSeen → Type 0) where
       → IsLawful IsTranslated old → IsLawful IsTranslated new
   lawful_step old new event (Ok given) fact steps lawful = subst (IsLawful IsTranslated) (sym steps.new_is) (lawful_after old event fact lawful)
   lawful_step old new event (Err back) fact steps lawful = subst (IsLawful IsTranslated) (sym steps.new_is) lawful
+
+  pub lawful_noted : (takes : Bool) (old new : Journal) (event : EventSeen) (result : Result (ReplySeen × Option EntrySeen) EventSeen) → IsEvent IsTranslated event → StepsNoted takes old event result new
+      → IsLawful IsTranslated old → IsLawful IsTranslated new
+  lawful_noted takes old new event (Ok given) fact steps lawful = subst (IsLawful IsTranslated) (sym steps.replied.new_is) (lawful_after old event fact lawful)
+  lawful_noted takes old new event (Err back) fact steps lawful = subst (IsLawful IsTranslated) (sym steps.new_is) lawful

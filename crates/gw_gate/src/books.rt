@@ -431,4 +431,23 @@ impl Books {
         self.journal.push_reserved(entry);
         Ok((Reply::Accepted { n, arrival }, note))
     }
+
+    // One step, of whose entry a note may be taken.
+    pub(crate) fn step(&mut self, event: Event, takes: bool) -> Answer
+        ensures { StepsNoted takes self.old (event_seen event) (noted_seen result) self.new }
+    {
+        match event {
+            Event::Look => match self.look() {
+                Ok(reply) => Ok((reply, None)),
+                Err(event) => Err(event),
+            },
+            Event::Arrive(conforming) => self.arrive(conforming, takes),
+            Event::Refuse(code) => self.refuse(code, takes),
+            Event::Swap(plan) => self.swap(plan, takes),
+            Event::Take => self.take(takes),
+            Event::Put { n, translated } => self.put(n, translated, takes),
+            Event::Reissue { n, receiver } => self.reissue(n, receiver, takes),
+            Event::Release(receiver) => self.release(receiver, takes),
+        }
+    }
 }

@@ -5,8 +5,10 @@ mod books;
 mod copies;
 mod desks;
 mod event;
+mod gate;
 pub mod laws;
 mod plans;
 
 pub use books::MOST;
 pub use event::{Entry, Event, Reply};
+pub use gate::Gate;
