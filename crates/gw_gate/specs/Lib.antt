@@ -3,6 +3,8 @@ pub mod Seen
 pub mod Journal
 pub mod Replies
 pub mod Values
+pub mod Same
+pub mod Replay
 pub mod Lawful
 pub mod Meaning
 pub mod Headline

@@ -4,9 +4,12 @@ use Rattle.std.specs.Arc.{arc_value}
 use Rattle.gw_gate.specs.declared.event.Event as event
 use Rattle.gw_gate.specs.declared.event.Reply as reply
 use Rattle.gw_gate.specs.declared.event.Entry as entry
+use Rattle.std.specs.declared.alloc.Global.{Global}
+use Rattle.std.specs.declared.vec.Vec.{Vec}
+use Rattle.gw_gate.specs.declared.replays.ReplayFault as fault
 use Rattle.gw_gate.specs.declared.books.Pair as books
 use Rattle.gw_gate.specs.Seen.{plan_seen, conforming_seen, translated_seen}
-use Rattle.gw_gate.specs.Journal.{Pair, pair, EntrySeen, WasAccepted, WasRefused, WasSwapped, WasTaken, WasKept, WasIssued, WasOut}
+use Rattle.gw_gate.specs.Journal.{Journal, Pair, pair, EntrySeen, WasAccepted, WasRefused, WasSwapped, WasTaken, WasKept, WasIssued, WasOut}
 use Rattle.gw_gate.specs.Replies.{EventSeen, Looks, Arrives, Refuses, Swaps, Takes, Puts, Reissues, Releases, ReplySeen, IsCurrent, IsAccepted, IsStale, IsRefused, IsSwapped, IsUnlike, IsJob, IsIdle, IsKept, IsRepeat, IsStranger, IsIssued, IsDone, IsOut, IsNothing, IsFull}
 
 abbrev pub event_seen : event.Event → EventSeen
@@ -64,3 +67,12 @@ noted_seen (Err back) = Err (event_seen back)
 
 abbrev pub pair_seen : books.Pair → Pair
 pair_seen p = pair p.n p.receiver
+
+-- a gate's journal, with replies
+abbrev pub answered_seen : Journal × List reply.Reply → Journal × List ReplySeen
+answered_seen r = (r.0, map reply_seen r.1)
+
+-- what a replay gives
+abbrev pub replay_seen : Result (Journal × Vec reply.Reply Global) fault.ReplayFault → Result (Journal × List ReplySeen) fault.ReplayFault
+replay_seen (Ok r) = Ok (answered_seen (r.0, r.1.items))
+replay_seen (Err e) = Err e
