@@ -138,14 +138,8 @@ receivers_are c route e = ap receivers_by e ∙ numbers_of route.legs
 pub as_many : (c : ConformingHeld) (route : RouteHeld) → routed (plan_value c.plan) c.tree.message ≡ Ok (route_value route) → length route.legs ≡ length (conforming_seen c).receivers
 as_many c route e = sym (ap length (receivers_are c route e) ∙ length-map route.legs (λ l. l.0))
 
-pub receiver_is : (c : ConformingHeld) (route : RouteHeld) (place : ℕ) (o : Option ℕ) → routed (plan_value c.plan) c.tree.message ≡ Ok (route_value route) → o ≡ option_map (λ l. l.0) (slice_get route.legs place) → slice_get (conforming_seen c).receivers place ≡ o
-receiver_is c route place o e is = ap (λ l. slice_get l place) (receivers_are c route e) ∙ slice_get-map (λ l. l.0) route.legs place ∙ sym is
-
-pub none_past : (xs : List ℕ) (place : ℕ) → place < length xs → slice_get xs place ≡ None → ⊥
-none_past xs place lt none = omega (arith, slice_get_past_is xs place none)
-  where
-    slice_get_past_is : (xs : List ℕ) (place : ℕ) → slice_get xs place ≡ None → length xs ≤ place
-    slice_get_past_is xs place none = grind (arith, common_steps, gets)
+pub receiver_is : (c : ConformingHeld) (route : RouteHeld) (place r : ℕ) → routed (plan_value c.plan) c.tree.message ≡ Ok (route_value route) → slice_get (map (λ l. l.0) route.legs) place ≡ Some r → slice_get (conforming_seen c).receivers place ≡ Some r
+receiver_is c route place r e is = ap (λ l. slice_get l place) (receivers_are c route e) ∙ is
 
 -- ---- what a plan makes
 

@@ -68,11 +68,7 @@ pub(crate) fn receiver_at(conforming: &Conforming, place: usize) -> usize
     requires { place < length (conforming_seen conforming.now).receivers }
     ensures { slice_get (conforming_seen conforming.now).receivers place ≡ Some result }
 {
-    match conforming.route().receiver(place) {
-        Some(receiver) => receiver,
-        // (it doesn't come: the route has that many)
-        None => 0,
-    }
+    conforming.route().receiver(place)
 }
 
 // A translation is what the plan of its source's text makes of it, by its type.

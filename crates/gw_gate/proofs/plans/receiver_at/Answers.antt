@@ -1,8 +1,9 @@
-use Rattle.gw_gate.proofs.Asking.{receiver_is, none_past}
+use Rattle.std.proofs.Common.{arith}
+use Rattle.gw_gate.proofs.Asking.{as_many, receiver_is}
 use Rattle.gw_gate.proofs.plans.receiver_at.Goals as goal
 
-pub returns-in-Some : goal.returns-in-Some
-returns-in-Some c = ?
+pub receiver-requires : goal.receiver-requires
+receiver-requires c = omega (arith, as_many c.args.conforming.now c.route.result.now c.route.ensures.route, c.requires)
 
-pub returns-in-None : goal.returns-in-None
-returns-in-None c = ?
+pub returns : goal.returns
+returns c = receiver_is c.args.conforming.now c.route.result.now c.args.place c.receiver.result c.route.ensures.route c.receiver.ensures
