@@ -9,7 +9,7 @@ use Rattle.std.proofs.lemmas.List.Folds.{list_any-append}
 use Rattle.gw_profile.proofs.Facts.{both}
 use Rattle.gw_check.specs.declared.accounted.FieldAt.{FieldAt}
 use Rattle.gw_check.specs.declared.accounted.Accounted.{Accounted}
-use Rattle.gw_check.specs.Resolved.{Drop}
+use Rattle.gw_resolve.specs.Resolved.{Drop}
 use Rattle.gw_check.specs.Reads.{Position, SourceField, is_read}
 use Rattle.gw_check.specs.Collected.{field_at, fields_at, has_field, has_element, drops_field, drops_element, Gains, no_element, Accounts}
 

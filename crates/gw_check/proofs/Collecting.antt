@@ -5,20 +5,20 @@ use Rattle.std.specs.Global.{Vec}
 use Rattle.std.proofs.lemmas.List.{append-nil, append_assoc}
 use Rattle.gw_maplang.specs.Shapes.{TableValue}
 use Rattle.gw_check.specs.declared.accounted.FieldAt.{FieldAt}
-use Rattle.gw_check.specs.declared.resolved.At.{At}
-use Rattle.gw_check.specs.declared.resolved.Reference.{Reference}
-use Rattle.gw_check.specs.declared.resolved.Making as makings
-use Rattle.gw_check.specs.declared.resolved.GroupItem.{GroupItem}
-use Rattle.gw_check.specs.declared.resolved.FlatItem.{FlatItem}
-use Rattle.gw_check.specs.declared.resolved.Item.{Item, Segment, Group, Flat, Group', Flat'}
-use Rattle.gw_check.specs.Resolved.{Items, no_items}
-use Rattle.gw_check.specs.declared.resolved.Place as places
-use Rattle.gw_check.specs.declared.resolved.Rule as rules_of
-use Rattle.gw_check.specs.declared.resolved.SegmentItem.{SegmentItem}
+use Rattle.gw_resolve.specs.declared.resolved.At.{At}
+use Rattle.gw_resolve.specs.declared.resolved.Reference.{Reference}
+use Rattle.gw_resolve.specs.declared.resolved.Making as makings
+use Rattle.gw_resolve.specs.declared.resolved.GroupItem.{GroupItem}
+use Rattle.gw_resolve.specs.declared.resolved.FlatItem.{FlatItem}
+use Rattle.gw_resolve.specs.declared.resolved.Item.{Item, Segment, Group, Flat, Group', Flat'}
+use Rattle.gw_resolve.specs.Resolved.{Items, no_items}
+use Rattle.gw_resolve.specs.declared.resolved.Place as places
+use Rattle.gw_resolve.specs.declared.resolved.Rule as rules_of
+use Rattle.gw_resolve.specs.declared.resolved.SegmentItem.{SegmentItem}
 use Rattle.gw_check.specs.Reads.{Position, SourceField, read_by, at_reads, making_reads, rules_read, inner, inner_if, items_read}
 use Rattle.gw_check.specs.Collected.{fields_at, positions, Adds}
-use Rattle.gw_check.specs.Seen.{place, reference, at_leaf, making, rule, with_item, all_items}
-use Rattle.gw_check.proofs.Rows.{group_items, flat_items}
+use Rattle.gw_resolve.specs.Seen.{place, reference, at_leaf, making, rule, with_item, all_items}
+use Rattle.gw_resolve.proofs.Rows.{group_items, flat_items}
 
 pub on_ok : {A E : Type 0} (r : Result A E) (P Q : Type 0) → (P → Q) → OnOk r P → OnOk r Q
 on_ok (Ok x) P Q f h = f h

@@ -2,20 +2,20 @@
 use Rattle.std.proofs.lemmas.List.{take_more, drop_all}
 use Rattle.std.proofs.Common.{◌≡◌, inl, inr, ◌==◌, ℕ, ◌+◌, ◌++◌, take, true, false, List, [], ◌∷◌, Option, Some, refl, sym, ap, ◌∙◌, drop, length, ◌<◌, ◌≤◌, suc, ◌-◌, get_or, subst, arith, drop-cons}
 use Rattle.gw_maplang.specs.Shapes.{TableValue}
-use Rattle.gw_check.specs.declared.resolved.GroupItem.{GroupItem}
-use Rattle.gw_check.specs.declared.resolved.FlatItem.{FlatItem}
-use Rattle.gw_check.specs.declared.resolved.Item.{Item, Segment, Group, Flat, Group', Flat'}
-use Rattle.gw_check.specs.declared.interval.Interval as declared
-use Rattle.gw_check.specs.Intervals.{sum, product}
-use Rattle.gw_check.specs.Places.{Element, count_at, within}
-use Rattle.gw_check.specs.Resolved.{Items, no_items, first_child}
+use Rattle.gw_resolve.specs.declared.resolved.GroupItem.{GroupItem}
+use Rattle.gw_resolve.specs.declared.resolved.FlatItem.{FlatItem}
+use Rattle.gw_resolve.specs.declared.resolved.Item.{Item, Segment, Group, Flat, Group', Flat'}
+use Rattle.gw_resolve.specs.declared.interval.Interval as declared
+use Rattle.gw_resolve.specs.Intervals.{sum, product}
+use Rattle.gw_resolve.specs.Places.{Element, count_at, within}
+use Rattle.gw_resolve.specs.Resolved.{Items, no_items, first_child}
 use Rattle.gw_check.specs.Counts.{items_count}
-use Rattle.gw_check.specs.Seen.{interval, saturated, place, with_item, all_items}
+use Rattle.gw_resolve.specs.Seen.{interval, saturated, place, with_item, all_items}
 use Rattle.gw_check.specs.Counted.{first_count, CountsOne, CountsAll, FirstChild, ChildOf, Leads}
 use Rattle.gw_check.specs.Levels.{is_of, its, beyond, has_no_item}
 use Rattle.std.proofs.lemmas.Bool.Decides.{eqb_tells}
-use Rattle.gw_check.proofs.Saturation.{sum_saturated, product_saturated}
-use Rattle.gw_check.proofs.Rows.{group_items, flat_items}
+use Rattle.gw_resolve.proofs.Saturation.{sum_saturated, product_saturated}
+use Rattle.gw_resolve.proofs.Rows.{group_items, flat_items}
 
 -- one item more
 pub count_more : (scope : List Element) (i : Item) (is : List Item) (one more total : declared.Interval) → CountsOne scope i one → CountsAll scope is more → interval total ≡ saturated (sum (interval one) (interval more)) → CountsAll scope (i ∷ is) total

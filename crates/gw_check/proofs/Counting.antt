@@ -1,11 +1,11 @@
 -- Counts that end at the cap: what is asked of them is the same.
 use Rattle.std.proofs.Common.{◌≡◌, Bool, true, false, List, refl}
 use Rattle.std.specs.Prelude.{if◌then◌else◌}
-use Rattle.gw_check.specs.Intervals.{Interval, never}
-use Rattle.gw_check.specs.Resolved.{At}
+use Rattle.gw_resolve.specs.Intervals.{Interval, never}
+use Rattle.gw_resolve.specs.Resolved.{At}
 use Rattle.gw_check.specs.Leaves.{Sources}
 use Rattle.gw_check.specs.Counts.{leaves_count, all_absent, some_always}
-use Rattle.gw_check.specs.Seen.{saturated}
+use Rattle.gw_resolve.specs.Seen.{saturated}
 
 chosen : (a b : Bool) (c : Interval) → saturated (if a then never else if b then c else record { least = 0; greatest = c.greatest }) ≡ (if a then never else if b then saturated c else record { least = 0; greatest = (saturated c).greatest })
 chosen true b c = refl

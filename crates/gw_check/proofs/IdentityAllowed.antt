@@ -3,12 +3,12 @@ use Rattle.std.proofs.Common.{◌≡◌, [], ◌∷◌, refl, ap, ◌∙◌, ari
 use Rattle.gw_profile.specs.Shapes.{ProfileValue}
 use Rattle.gw_profile.specs.WellFormed.{WellFormed, table_names}
 use Rattle.gw_maplang.specs.Identity.{identity, same_items}
-use Rattle.gw_check.specs.Places.{the_whole}
-use Rattle.gw_check.specs.Resolved.{Items}
-use Rattle.gw_check.specs.Naming.{naming_failures, resolved_items, resolved}
+use Rattle.gw_resolve.specs.Places.{the_whole}
+use Rattle.gw_resolve.specs.Resolved.{Items}
+use Rattle.gw_resolve.specs.Naming.{naming_failures, resolved_items, resolved}
 use Rattle.gw_check.specs.Reads.{items_read}
 use Rattle.gw_check.specs.Typed.{failures}
-use Rattle.gw_check.specs.Failures.{or_later}
+use Rattle.gw_resolve.specs.Failures.{or_later}
 use Rattle.gw_check.specs.Checked.{all_failures}
 use Rattle.gw_check.proofs.IdentityItems.{same}
 use Rattle.gw_check.proofs.IdentityNamed.{no_more, holds, from_the_first, paths_hold, targets_hold, items_are}

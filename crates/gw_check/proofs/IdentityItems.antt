@@ -2,9 +2,9 @@
 use Rattle.std.specs.Prelude.{ℕ, suc, if◌then◌else◌, List, [], ◌∷◌, Some}
 use Rattle.gw_profile.specs.Line.{is_forbidden}
 use Rattle.gw_profile.specs.Shapes.{FieldValue, Forest, nothing, segment, group}
-use Rattle.gw_check.specs.Places.{Place}
-use Rattle.gw_check.specs.Naming.{itself}
-use Rattle.gw_check.specs.Resolved.{copy, Rule, Items, no_items, segment_item, group_item}
+use Rattle.gw_resolve.specs.Places.{Place}
+use Rattle.gw_resolve.specs.Naming.{itself}
+use Rattle.gw_resolve.specs.Resolved.{copy, Rule, Items, no_items, segment_item, group_item}
 
 -- the node of this number, of the innermost element that is walked
 abbrev pub at_node : ℕ → Place

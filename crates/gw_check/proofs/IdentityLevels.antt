@@ -12,13 +12,13 @@ use Rattle.gw_profile.specs.WellFormed.{Agrees, LawfulSegment, LawfulGroup, Each
 use Rattle.gw_profile.specs.WellFormed as formed
 use Rattle.gw_profile.proofs.Facts.{tells}
 use Rattle.gw_validate.specs.Breaches.{is_forbidden}
-use Rattle.gw_check.specs.Failures.{Failure}
-use Rattle.gw_check.specs.Intervals.{Interval, never, once, of_card, add, multiply, sum, product, is_never, is_within}
-use Rattle.gw_check.specs.Places.{Element, a_segment, a_group, nodes_of, child, fields_of, count_of, count_at, within_if}
-use Rattle.gw_check.specs.Resolved.{SegmentItem, GroupItem, Items, no_items, segment_item, group_item}
+use Rattle.gw_resolve.specs.Failures.{Failure}
+use Rattle.gw_resolve.specs.Intervals.{Interval, never, once, of_card, add, multiply, sum, product, is_never, is_within}
+use Rattle.gw_resolve.specs.Places.{Element, a_segment, a_group, nodes_of, child, fields_of, count_of, count_at, within_if}
+use Rattle.gw_resolve.specs.Resolved.{SegmentItem, GroupItem, Items, no_items, segment_item, group_item}
 use Rattle.gw_check.specs.Counts.{items_count}
 use Rattle.gw_check.specs.Fields.{is_expected, segment_failures}
-use Rattle.gw_check.specs.Founds as founds
+use Rattle.gw_resolve.specs.Founds as founds
 use Rattle.gw_check.specs.Levels.{its, beyond, has_no_item, node_failures, level_failures, items_failures, sources}
 use Rattle.gw_check.proofs.IdentityItems.{at_node, same_rules, same}
 use Rattle.gw_check.proofs.IdentityNamed.{no_more, holds, Standing, Stands, from_the_first, behind_segment, behind_group, segment_stands, group_stands, nodes_there, found_there, within_there}

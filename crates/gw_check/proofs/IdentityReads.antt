@@ -9,7 +9,7 @@ use Rattle.std.proofs.lemmas.Slice.Eq.{bytes_eq-Decides}
 use Rattle.gw_profile.specs.Line as line
 use Rattle.gw_profile.specs.Shapes.{FieldValue, Forest, nothing, segment, group}
 use Rattle.gw_profile.proofs.Facts.{and_of, or_left, or_right, both_false}
-use Rattle.gw_check.specs.Resolved.{SegmentItem, segment_item}
+use Rattle.gw_resolve.specs.Resolved.{SegmentItem, segment_item}
 use Rattle.gw_check.specs.Reads.{Position, SourceField, rules_read, items_read, is_read, may_hold, is_passed_over, some_passed_over}
 use Rattle.gw_check.proofs.IdentityItems.{at_node, same_rule, same_rules, same}
 use Rattle.gw_check.proofs.IdentityFields.{forbidden_is, not_and, x_is}

@@ -2,8 +2,8 @@
 use Rattle.std.proofs.Common.{◌≡◌, Result, Ok, Err, IfOk}
 use Rattle.gw_profile.specs.Shapes.{Forest, ProfileValue}
 use Rattle.gw_maplang.specs.Shapes.{MapValue}
-use Rattle.gw_check.specs.Resolving.{Resolves, ResolvesBy}
-use Rattle.gw_check.specs.declared.resolve.Resolving as resolving
+use Rattle.gw_resolve.specs.Resolving.{Resolves, ResolvesBy}
+use Rattle.gw_resolve.specs.declared.named.Resolving as resolving
 
 -- what the levels of two profiles give is what the profiles give
 pub resolves_both : {E : Type 0} (from to : ProfileValue) (m : MapValue) (source target : Forest) (r : Result resolving.Resolving E) → from.nodes ≡ source → to.nodes ≡ target → IfOk r (ResolvesBy source target m) → IfOk r (Resolves from to m)

@@ -15,12 +15,12 @@ use Rattle.gw_maplang.specs.Among.{Distinct}
 use Rattle.gw_maplang.specs.Shapes as raw
 use Rattle.gw_maplang.specs.Shapes.{TableValue, Rows, table_of, MapValue}
 use Rattle.gw_maplang.specs.Lawful as theirs
-use Rattle.gw_check.specs.Places.{Element, the_whole, child, nodes_of_child, name_of, within}
-use Rattle.gw_check.specs.Resolved.{Rule}
-use Rattle.gw_check.specs.Placed.{is_segment, is_group, are_placed}
-use Rattle.gw_check.specs.Lawful.{LawfulRows, LawfulSource, LawfulLeaf, LawfulAt, LawfulLeaves, LawfulMaking, LawfulRule, LawfulItems, places}
+use Rattle.gw_resolve.specs.Places.{Element, the_whole, child, nodes_of_child, name_of, within}
+use Rattle.gw_resolve.specs.Resolved.{Rule}
+use Rattle.gw_resolve.specs.Placed.{is_segment, is_group, are_placed}
+use Rattle.gw_resolve.specs.Lawful.{LawfulRows, LawfulSource, LawfulLeaf, LawfulAt, LawfulLeaves, LawfulMaking, LawfulRule, LawfulItems, places}
 use Rattle.gw_profile.specs.Labels.{labelled}
-use Rattle.gw_check.specs.Naming.{node_or, walked_if, place_or, target_failures, naming_failures, no_rows, source, leaf, at_leaf, making, rule, resolved_items, resolved}
+use Rattle.gw_resolve.specs.Naming.{node_or, walked_if, place_or, target_failures, naming_failures, no_rows, source, leaf, at_leaf, making, rule, resolved_items, resolved}
 use Rattle.gw_check.proofs.Placing.{nil_both, named, number_is, segment_parts, group_parts, flat_parts, placed_where_named}
 
 -- ---- fields of target segments

@@ -3,10 +3,10 @@ use Rattle.std.proofs.Common.{◌≡◌, ℕ, ◌==◌, ◌&&◌, not, List, map
 use Rattle.std.specs.Prelude.{◌||◌, ◌++◌, flat_map}
 use Rattle.gw_profile.specs.Shapes.{SubValue, CompValue}
 use Rattle.gw_validate.specs.Breaches.{is_required}
-use Rattle.gw_check.specs.Failures.{fails}
+use Rattle.gw_resolve.specs.Failures.{fails}
 use Rattle.gw_check.specs.Fields.{made_sub, made_comp}
 use Rattle.gw_check.specs.Leaves.{Sources, is_always, is_absent}
-use Rattle.gw_check.specs.Resolved.{At}
+use Rattle.gw_resolve.specs.Resolved.{At}
 use Rattle.gw_check.specs.Lacking.{There, there_of, sub_lacks, all_lacks}
 use Rattle.gw_check.proofs.Lists.{any_map, all_map}
 

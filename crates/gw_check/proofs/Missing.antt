@@ -10,7 +10,7 @@ use Rattle.gw_profile.proofs.Rows.{group_forest}
 use Rattle.gw_validate.specs.Breaches.{is_forbidden}
 use Rattle.gw_check.specs.declared.accounted.Accounted.{Accounted}
 use Rattle.gw_check.specs.declared.accounted.FieldAt.{FieldAt}
-use Rattle.gw_check.specs.Resolved.{Drop}
+use Rattle.gw_resolve.specs.Resolved.{Drop}
 use Rattle.gw_check.specs.Reads.{Position, SourceField}
 use Rattle.gw_check.specs.Collected.{Adds, Accounts, has_element, drops_element, fields_at}
 use Rattle.gw_check.specs.Unread.{passed_field, passed_over, missed_field, segment_missed, all_missed, within_missed, node_missed}

@@ -10,7 +10,7 @@ use Rattle.gw_profile.proofs.Rows.{group_forest}
 use Rattle.gw_profile.proofs.Facts.{both_false}
 use Rattle.gw_validate.specs.Breaches.{is_forbidden}
 use Rattle.gw_check.specs.declared.accounted.Accounted.{Accounted}
-use Rattle.gw_check.specs.Resolved.{Drop}
+use Rattle.gw_resolve.specs.Resolved.{Drop}
 use Rattle.gw_check.specs.Reads.{Position, SourceField, is_read, is_dropped, may_hold, is_passed_over, some_passed_over}
 use Rattle.gw_check.specs.Collected.{has_element, drops_field, drops_element, is_missed, segment_misses, some_missed, within_misses, node_misses, Accounts}
 use Rattle.gw_check.proofs.Accounting.{or_assoc}

@@ -7,9 +7,9 @@ use Rattle.gw_profile.specs.Shapes.{SubValue, CompValue, FieldValue}
 use Rattle.gw_profile.proofs.Facts.{le_is, le_test}
 use Rattle.gw_check.specs.declared.shape.Presence.{Presence}
 use Rattle.gw_check.specs.declared.shape.Presence.TheVariants.{Always, Maybe, Never}
-use Rattle.gw_check.specs.Intervals.{is_sure, is_never}
-use Rattle.gw_check.specs.Places.{Known, known}
-use Rattle.gw_check.specs.Resolved.{Reference, of_field}
+use Rattle.gw_resolve.specs.Intervals.{is_sure, is_never}
+use Rattle.gw_resolve.specs.Places.{Known, known}
+use Rattle.gw_resolve.specs.Resolved.{Reference, of_field}
 use Rattle.gw_check.specs.Leaves.{Sources, at_field, comp_of, sub_of, by_usage, both, comp_presence, sub_usage, field_presence, source_shape}
 
 -- ---- usage

@@ -7,17 +7,17 @@ use Rattle.gw_profile.specs.Nodes.{card_of}
 use Rattle.gw_profile.specs.Shapes.{Forest}
 use Rattle.gw_profile.specs.Seen.{forest, node_forest}
 use Rattle.gw_maplang.specs.Shapes.{TableValue}
-use Rattle.gw_check.specs.declared.resolved.Item.{Item}
-use Rattle.gw_check.specs.declared.failure.Failure as declared
-use Rattle.gw_check.specs.Places.{Element}
-use Rattle.gw_check.specs.Resolved.{Items}
+use Rattle.gw_resolve.specs.declared.resolved.Item.{Item}
+use Rattle.gw_resolve.specs.declared.failure.Failure as declared
+use Rattle.gw_resolve.specs.Places.{Element}
+use Rattle.gw_resolve.specs.Resolved.{Items}
 use Rattle.gw_check.specs.Counts.{items_count}
 use Rattle.gw_check.specs.Levels.{its, beyond, node_failures, level_failures}
-use Rattle.gw_check.specs.Failures.{Failure}
+use Rattle.gw_resolve.specs.Failures.{Failure}
 use Rattle.gw_check.specs.Counted.{Leads}
-use Rattle.gw_check.specs.Seen.{failures, all_items}
+use Rattle.gw_resolve.specs.Seen.{failures, all_items}
 use Rattle.gw_check.specs.Checking.{NotesNode, usage_of}
-use Rattle.gw_check.proofs.Noting.{added_one}
+use Rattle.gw_resolve.proofs.Noting.{added_one}
 
 drop_drop : {X : Type 0} (a b : ℕ) (l : List X) → drop b (drop a l) ≡ drop (a + b) l
 drop_drop zero b l = let same : 0 + b ≡ b = omega arith in ap (λ n. drop n l) (sym same)

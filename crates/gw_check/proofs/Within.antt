@@ -5,19 +5,19 @@ use Rattle.std.specs.Global.{Vec}
 use Rattle.gw_profile.specs.Shapes as profiles
 use Rattle.gw_profile.specs.Shapes.{Forest}
 use Rattle.gw_maplang.specs.Shapes.{TableValue}
-use Rattle.gw_check.specs.declared.resolved.GroupItem.{GroupItem}
-use Rattle.gw_check.specs.declared.resolved.FlatItem.{FlatItem}
-use Rattle.gw_check.specs.declared.resolved.Item.{Item, Segment, Group, Flat, Group', Flat'}
-use Rattle.gw_check.specs.declared.failure.Failure as declared
-use Rattle.gw_check.specs.Failures.{Failure}
-use Rattle.gw_check.specs.Places.{Element, nodes_of_child, within}
-use Rattle.gw_check.specs.Resolved.{Items, no_items}
+use Rattle.gw_resolve.specs.declared.resolved.GroupItem.{GroupItem}
+use Rattle.gw_resolve.specs.declared.resolved.FlatItem.{FlatItem}
+use Rattle.gw_resolve.specs.declared.resolved.Item.{Item, Segment, Group, Flat, Group', Flat'}
+use Rattle.gw_resolve.specs.declared.failure.Failure as declared
+use Rattle.gw_resolve.specs.Failures.{Failure}
+use Rattle.gw_resolve.specs.Places.{Element, nodes_of_child, within}
+use Rattle.gw_resolve.specs.Resolved.{Items, no_items}
 use Rattle.gw_check.specs.Levels.{level_failures, items_failures}
-use Rattle.gw_check.specs.declared.element.Element as elements
-use Rattle.gw_check.specs.Seen.{failures, place, with_item, all_items, scope}
+use Rattle.gw_resolve.specs.declared.element.Element as elements
+use Rattle.gw_resolve.specs.Seen.{failures, place, with_item, all_items, scope}
 use Rattle.gw_check.specs.Checking.{weight, weight_one, weight_all, NotesLevel, NotesItem, NotesItems}
-use Rattle.gw_check.proofs.Noting.{front, added_one}
-use Rattle.gw_check.proofs.Rows.{group_items, flat_items}
+use Rattle.gw_resolve.proofs.Noting.{front, added_one}
+use Rattle.gw_resolve.proofs.Rows.{group_items, flat_items}
 
 pub where_ok : {A E : Type 0} (P Q : A → Type 0) (r : Result A E) → ((x : A) → P x → Q x) → IfOk r P → IfOk r Q
 where_ok P Q (Ok x) f h = f x h

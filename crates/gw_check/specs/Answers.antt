@@ -6,12 +6,14 @@ use Rattle.gw_maplang.specs.Shapes.{MapValue}
 use Rattle.gw_maplang.specs.Seen.{Contents}
 use Rattle.gw_check.specs.declared.checker.Judged as judged
 use Rattle.gw_check.specs.declared.checker.CheckFault as faults
-use Rattle.gw_check.specs.declared.resolved.Item.{Item}
-use Rattle.gw_check.specs.declared.resolved.LeftOut.{LeftOut}
-use Rattle.gw_check.specs.Resolved.{Resolved}
-use Rattle.gw_check.specs.Naming.{resolved}
+use Rattle.gw_check.specs.declared.checker.Refusal as refusals
+use Rattle.gw_resolve.specs.declared.failure.Failure.{Failure}
+use Rattle.gw_resolve.specs.declared.resolved.Item.{Item}
+use Rattle.gw_resolve.specs.declared.resolved.LeftOut.{LeftOut}
+use Rattle.gw_resolve.specs.Resolved.{Resolved}
+use Rattle.gw_resolve.specs.Naming.{resolved}
 use Rattle.gw_check.specs.Checked.{all_failures, least}
-use Rattle.gw_check.specs.Seen.{failure, all_items, left_out}
+use Rattle.gw_resolve.specs.Seen.{failure, failures, all_items, left_out}
 
 -- a map without labels, as the program holds it
 abbrev pub unlabelled : MapValue → List Item → List LeftOut → Resolved
@@ -29,10 +31,20 @@ pub record IsAllowed (from to : ProfileValue) (m : MapValue) (is : List Item) : 
   pub none : all_failures from to m ≡ []
   pub items : all_items m.tables is ≡ (resolved from to m).items
 
--- no rule fails, or the least failure
+-- some rule fails: the least failure, and all of them
+pub record IsBroken (from to : ProfileValue) (m : MapValue) (f : Failure) (found : List Failure) : Type 0 where
+  pub least : Some (failure f) ≡ least (all_failures from to m)
+  pub all : failures found ≡ all_failures from to m
+
+-- no rule fails, or the failures
 abbrev pub Judges : ProfileValue → ProfileValue → MapValue → judged.Judged → Type 0
 Judges from to m (judged.TheVariants.Allowed is) = IsAllowed from to m is.items
-Judges from to m (judged.TheVariants.Refused f) = Some (failure f) ≡ least (all_failures from to m)
+Judges from to m (judged.TheVariants.Refused f found) = IsBroken from to m f found.items
+
+-- all failures, or want of memory; the map is handed back
+abbrev pub IsTold : ProfileValue → ProfileValue → MapValue → Contents → refusals.Refusal → Type 0
+IsTold from to m given (refusals.TheVariants.Memory back) = back ≡ given
+IsTold from to m given (refusals.TheVariants.Rules first found back) = IsBroken from to m first found.items × (back ≡ given)
 
 -- the least failing rule at its least line, or want of memory; the map is handed back
 abbrev pub IsRefusal : ProfileValue → ProfileValue → MapValue → Contents → faults.CheckFault → Type 0

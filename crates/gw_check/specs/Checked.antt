@@ -2,8 +2,8 @@
 use Rattle.std.specs.Prelude.{Bool, ◌==◌, ◌&&◌, ◌||◌, nat_lt, if◌then◌else◌, List, [], ◌∷◌, Option, Some, None}
 use Rattle.gw_profile.specs.Shapes.{ProfileValue}
 use Rattle.gw_maplang.specs.Shapes.{MapValue}
-use Rattle.gw_check.specs.Failures.{Failure, or_later}
-use Rattle.gw_check.specs.Naming.{naming_failures, resolved}
+use Rattle.gw_resolve.specs.Failures.{Failure, or_later}
+use Rattle.gw_resolve.specs.Naming.{naming_failures, resolved}
 use Rattle.gw_check.specs.Typed.{failures}
 
 -- the rules 4 to 12 are looked at only where 1 to 3 hold

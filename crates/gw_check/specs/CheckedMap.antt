@@ -5,11 +5,11 @@ use Rattle.gw_profile.specs.Seen as profiles
 use Rattle.gw_profile.specs.Seen.{profile_value}
 use Rattle.gw_maplang.specs.Seen as maps
 use Rattle.gw_maplang.specs.Seen.{map_value}
-use Rattle.gw_check.specs.declared.resolved.Item.{Item}
-use Rattle.gw_check.specs.Resolved.{Resolved}
-use Rattle.gw_check.specs.Naming.{resolved}
+use Rattle.gw_resolve.specs.declared.resolved.Item.{Item}
+use Rattle.gw_resolve.specs.Resolved.{Resolved}
+use Rattle.gw_resolve.specs.Naming.{resolved}
 use Rattle.gw_check.specs.Checked.{all_failures}
-use Rattle.gw_check.specs.Seen.{all_items}
+use Rattle.gw_resolve.specs.Seen.{all_items}
 
 -- a map with the profiles of its source and its target, and its items without labels
 pub record CheckedValue : Type 0 where

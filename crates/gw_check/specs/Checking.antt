@@ -6,16 +6,16 @@ use Rattle.gw_profile.specs.declared.node.Node.{Node, Seg, Group'}
 use Rattle.gw_profile.specs.Nodes.{card_of}
 use Rattle.std.specs.Global.{Vec}
 use Rattle.gw_maplang.specs.Shapes.{TableValue}
-use Rattle.gw_check.specs.declared.resolved.Item.{Item}
-use Rattle.gw_check.specs.declared.failure.Failure as declared
-use Rattle.gw_check.specs.Places.{Element, child, fields_of, within_if}
+use Rattle.gw_resolve.specs.declared.resolved.Item.{Item}
+use Rattle.gw_resolve.specs.declared.failure.Failure as declared
+use Rattle.gw_resolve.specs.Places.{Element, child, fields_of, within_if}
 use Rattle.gw_check.specs.Fields.{segment_failures}
-use Rattle.gw_check.specs.declared.resolved.SegmentItem.{SegmentItem}
+use Rattle.gw_resolve.specs.declared.resolved.SegmentItem.{SegmentItem}
 use Rattle.gw_check.specs.Counts.{items_count}
 use Rattle.gw_check.specs.Levels.{sources, node_failures, level_failures, items_failures}
-use Rattle.gw_check.specs.Resolved.{Items, no_items, segment_item, group_item, flat_item}
-use Rattle.gw_check.specs.Noted.{Notes}
-use Rattle.gw_check.specs.Seen.{place, rule, with_item, all_items}
+use Rattle.gw_resolve.specs.Resolved.{Items, no_items, segment_item, group_item, flat_item}
+use Rattle.gw_resolve.specs.Noted.{Notes}
+use Rattle.gw_resolve.specs.Seen.{place, rule, with_item, all_items}
 
 abbrev pub usage_of : Node → Usage
 usage_of (Seg s) = s.usage

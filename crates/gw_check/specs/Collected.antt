@@ -8,7 +8,7 @@ use Rattle.gw_profile.specs.declared.node.Node.{Node, Seg, Group'}
 use Rattle.gw_profile.specs.Shapes.{FieldValue, SegmentValue, Forest, nothing, segment, group}
 use Rattle.gw_profile.specs.Seen.{segment_value, row_forest}
 use Rattle.gw_validate.specs.Breaches.{is_forbidden}
-use Rattle.gw_check.specs.Resolved.{Drop}
+use Rattle.gw_resolve.specs.Resolved.{Drop}
 use Rattle.gw_check.specs.Reads.{Position, SourceField, is_read, may_hold}
 
 abbrev pub field_at : FieldAt → SourceField

@@ -1,14 +1,14 @@
 -- The items of a level one by one, as the program counts them.
 use Rattle.std.specs.Prelude.{◌≡◌, ℕ, ◌≤◌, List, length, take, drop, Option}
 use Rattle.gw_maplang.specs.Shapes.{TableValue}
-use Rattle.gw_check.specs.declared.resolved.Item.{Item}
-use Rattle.gw_check.specs.Intervals.{Interval, never, product}
-use Rattle.gw_check.specs.Places.{Element, count_at, count_if, within}
-use Rattle.gw_check.specs.Resolved.{Items, no_items, segment_item, group_item, flat_item, first_child}
+use Rattle.gw_resolve.specs.declared.resolved.Item.{Item}
+use Rattle.gw_resolve.specs.Intervals.{Interval, never, product}
+use Rattle.gw_resolve.specs.Places.{Element, count_at, count_if, within}
+use Rattle.gw_resolve.specs.Resolved.{Items, no_items, segment_item, group_item, flat_item, first_child}
 use Rattle.gw_check.specs.Counts.{items_count}
 use Rattle.gw_check.specs.Levels.{its, beyond}
-use Rattle.gw_check.specs.Seen.{interval, saturated, with_item, all_items}
-use Rattle.gw_check.specs.declared.interval.Interval as declared
+use Rattle.gw_resolve.specs.Seen.{interval, saturated, with_item, all_items}
+use Rattle.gw_resolve.specs.declared.interval.Interval as declared
 
 -- how often the first item comes
 abbrev pub first_count : List Element → Items → Interval

@@ -2,9 +2,9 @@
 use Rattle.std.specs.Prelude.{Bool, if◌then◌else◌, List, Option, Some, None}
 use Rattle.std.specs.List.{list_any, list_all}
 use Rattle.gw_profile.specs.Shapes.{FieldValue}
-use Rattle.gw_check.specs.Intervals.{Interval, never, once, any_number, of_card, sum, product, is_sure, is_never, at_most_one}
-use Rattle.gw_check.specs.Places.{Element, Known, known, count_at, count_if, within}
-use Rattle.gw_check.specs.Resolved.{Reference, At, Making, copy, first, repeat, build, Rule, Items, no_items, segment_item, group_item, flat_item}
+use Rattle.gw_resolve.specs.Intervals.{Interval, never, once, any_number, of_card, sum, product, is_sure, is_never, at_most_one}
+use Rattle.gw_resolve.specs.Places.{Element, Known, known, count_at, count_if, within}
+use Rattle.gw_resolve.specs.Resolved.{Reference, At, Making, copy, first, repeat, build, Rule, Items, no_items, segment_item, group_item, flat_item}
 use Rattle.gw_check.specs.Leaves.{Sources, at_field, leaf_shape, is_always, is_absent}
 
 -- ---- fields

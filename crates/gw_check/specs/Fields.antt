@@ -8,12 +8,12 @@ use Rattle.gw_profile.specs.Shapes.{SubValue, CompValue, FieldValue, TableValue,
 use Rattle.gw_profile.specs.Lengths.{len_count}
 use Rattle.gw_profile.specs.Value.{table_of}
 use Rattle.gw_validate.specs.Breaches.{is_required, is_forbidden, is_null}
-use Rattle.gw_check.specs.Intervals.{Interval, is_never, is_within}
+use Rattle.gw_resolve.specs.Intervals.{Interval, is_never, is_within}
 use Rattle.gw_maplang.specs.Shapes.{Rows}
-use Rattle.gw_check.specs.Resolved.{Reference, Source, Leaf, const, copied, looked_up, At, Making, copy, first, repeat, build, Rule, rule_of}
+use Rattle.gw_resolve.specs.Resolved.{Reference, Source, Leaf, const, copied, looked_up, At, Making, copy, first, repeat, build, Rule, rule_of}
 use Rattle.gw_check.specs.Leaves.{Sources, Shape, at_field, comp_of, sub_of, comp_presence, sub_presence, sub_values, source_shape, leaf_shape, is_always, is_absent, has_no_row, may_be_unlisted, may_be_long}
 use Rattle.gw_check.specs.Counts.{walking, rule_count}
-use Rattle.gw_check.specs.Failures.{Failure, fails}
+use Rattle.gw_resolve.specs.Failures.{Failure, fails}
 
 -- ---- a subcomponent
 

@@ -5,9 +5,9 @@ use Rattle.gw_profile.specs.Shapes.{SubValue, CompValue}
 use Rattle.gw_validate.specs.Breaches.{is_required}
 use Rattle.gw_check.specs.declared.made.There as declared
 use Rattle.gw_check.specs.declared.shape.Presence.{Presence}
-use Rattle.gw_check.specs.Failures.{Failure, fails}
+use Rattle.gw_resolve.specs.Failures.{Failure, fails}
 use Rattle.gw_check.specs.Leaves.{Sources, leaf_shape, is_always, is_absent}
-use Rattle.gw_check.specs.Resolved.{At}
+use Rattle.gw_resolve.specs.Resolved.{At}
 
 -- the place of a leaf, and whether a text stands there
 pub record There : Type 0 where

@@ -10,10 +10,10 @@ use Rattle.gw_profile.specs.Fault.{is_among}
 use Rattle.gw_profile.specs.Value.{table_of}
 use Rattle.gw_check.specs.declared.shape.Presence.{Presence}
 use Rattle.gw_check.specs.declared.shape.Presence.TheVariants.{Always, Maybe, Never}
-use Rattle.gw_check.specs.Intervals.{is_sure, is_never}
-use Rattle.gw_check.specs.Places.{Element, Known, known}
+use Rattle.gw_resolve.specs.Intervals.{is_sure, is_never}
+use Rattle.gw_resolve.specs.Places.{Element, Known, known}
 use Rattle.gw_maplang.specs.Shapes.{Row, Rows, second_of}
-use Rattle.gw_check.specs.Resolved.{Source, of_field, of_current, Reference, Leaf, const, copied, looked_up}
+use Rattle.gw_resolve.specs.Resolved.{Source, of_field, of_current, Reference, Leaf, const, copied, looked_up}
 
 -- ---- the elements of these numbers
 

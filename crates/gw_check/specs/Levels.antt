@@ -3,12 +3,12 @@ use Rattle.std.specs.Prelude.{ℕ, suc, Bool, true, false, ◌==◌, if◌then�
 use Rattle.gw_profile.specs.declared.shape.Usage.{Usage}
 use Rattle.gw_profile.specs.declared.shape.Card.{Card}
 use Rattle.gw_profile.specs.Shapes.{ProfileValue, Forest, nothing, segment, group}
-use Rattle.gw_check.specs.Intervals.{Interval}
-use Rattle.gw_check.specs.Places.{Element, child, nodes_of_child, fields_of, within, within_if}
-use Rattle.gw_check.specs.Resolved.{Items, no_items, segment_item, group_item, flat_item, first_child}
+use Rattle.gw_resolve.specs.Intervals.{Interval}
+use Rattle.gw_resolve.specs.Places.{Element, child, nodes_of_child, fields_of, within, within_if}
+use Rattle.gw_resolve.specs.Resolved.{Items, no_items, segment_item, group_item, flat_item, first_child}
 use Rattle.gw_check.specs.Leaves.{Sources}
 use Rattle.gw_check.specs.Counts.{items_count}
-use Rattle.gw_check.specs.Failures.{Failure}
+use Rattle.gw_resolve.specs.Failures.{Failure}
 use Rattle.gw_check.specs.Fields.{often_failures, segment_failures}
 
 -- ---- the items of one node; items stand in the order of the nodes

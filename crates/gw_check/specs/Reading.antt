@@ -7,13 +7,13 @@ use Rattle.gw_profile.specs.declared.shape.FieldShape.{FieldShape}
 use Rattle.gw_profile.specs.Shapes.{SubValue, CompValue, FieldValue}
 use Rattle.gw_profile.specs.Seen.{field, comp, sub, profile_value}
 use Rattle.gw_maplang.specs.Shapes.{TableValue}
-use Rattle.gw_check.specs.declared.resolved.Rule as rules_of
+use Rattle.gw_resolve.specs.declared.resolved.Rule as rules_of
 use Rattle.gw_check.specs.declared.sources.Sources as declared
 use Rattle.gw_check.specs.declared.known.Known as the_known
-use Rattle.gw_check.specs.Places.{Known}
-use Rattle.gw_check.specs.Resolved.{Rule}
+use Rattle.gw_resolve.specs.Places.{Known}
+use Rattle.gw_resolve.specs.Resolved.{Rule}
 use Rattle.gw_check.specs.Leaves.{Sources}
-use Rattle.gw_check.specs.Seen.{scope, interval, saturated, rule}
+use Rattle.gw_resolve.specs.Seen.{scope, interval, saturated, rule}
 
 abbrev pub sources_value : declared.Sources → Sources
 sources_value s = record { profile = profile_value s.profile.now; scope = scope s.scope.now; current = option_map (λ f. field f.now) s.current }

@@ -5,8 +5,8 @@ use Rattle.gw_profile.specs.declared.shape.Usage.{Usage}
 use Rattle.gw_profile.specs.declared.shape.Usage.TheVariants.{R, RE, O, X}
 use Rattle.gw_profile.specs.Shapes.{FieldValue, Forest, nothing, segment, group}
 use Rattle.gw_validate.specs.Breaches.{is_forbidden}
-use Rattle.gw_check.specs.Places.{Place}
-use Rattle.gw_check.specs.Resolved.{Reference, Source, of_field, of_current, Leaf, const, copied, looked_up, At, Making, copy, first, repeat, build, Rule, Items, no_items, segment_item, group_item, flat_item, Drop}
+use Rattle.gw_resolve.specs.Places.{Place}
+use Rattle.gw_resolve.specs.Resolved.{Reference, Source, of_field, of_current, Leaf, const, copied, looked_up, At, Making, copy, first, repeat, build, Rule, Items, no_items, segment_item, group_item, flat_item, Drop}
 
 -- where a node stands in a profile: the numbers of the nodes from the top on
 abbrev pub Position : Type 0

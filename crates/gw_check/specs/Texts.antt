@@ -14,7 +14,7 @@ use Rattle.gw_check.specs.declared.texts.Test as tests
 use Rattle.gw_check.specs.declared.shape.Presence.{Presence}
 use Rattle.gw_check.specs.declared.shape.Values as values_of
 use Rattle.gw_check.specs.declared.shape.Shape as shapes
-use Rattle.gw_check.specs.Naming.{no_rows}
+use Rattle.gw_resolve.specs.Naming.{no_rows}
 use Rattle.gw_check.specs.Leaves.{Values, Shape, any, listed, is_short, is_always, is_absent, given_values, may_exceed}
 
 abbrev pub items_all : List (Vec ℕ) → List (List ℕ)

@@ -1,12 +1,12 @@
 -- Which maps the rules allow.
 use Rattle.std.specs.Prelude.{◌≡◌, true, List, [], ◌∷◌, ◌++◌}
 use Rattle.gw_profile.specs.Shapes.{ProfileValue}
-use Rattle.gw_check.specs.Places.{the_whole}
-use Rattle.gw_check.specs.Resolved.{Resolved}
-use Rattle.gw_check.specs.Failures.{Failure, fails}
+use Rattle.gw_resolve.specs.Places.{the_whole}
+use Rattle.gw_resolve.specs.Resolved.{Resolved}
+use Rattle.gw_resolve.specs.Failures.{Failure, fails}
 use Rattle.gw_check.specs.Levels.{level_failures, items_failures}
 use Rattle.gw_check.specs.Reads.{items_read, some_passed_over}
-use Rattle.gw_check.specs.Placed.{are_placed}
+use Rattle.gw_resolve.specs.Placed.{are_placed}
 
 -- the failures of the rules 4 to 12
 abbrev pub failures : ProfileValue → ProfileValue → Resolved → List Failure

@@ -6,9 +6,9 @@ use Rattle.gw_profile.specs.Seen.{segment_value, row_forest}
 use Rattle.gw_validate.specs.Breaches.{is_forbidden}
 use Rattle.gw_maplang.specs.Shapes.{MapValue}
 use Rattle.gw_check.specs.declared.accounted.Accounted.{Accounted}
-use Rattle.gw_check.specs.Failures.{Failure}
-use Rattle.gw_check.specs.Naming.{naming_failures, resolved}
-use Rattle.gw_check.specs.Resolved.{Drop}
+use Rattle.gw_resolve.specs.Failures.{Failure}
+use Rattle.gw_resolve.specs.Naming.{naming_failures, resolved}
+use Rattle.gw_resolve.specs.Resolved.{Drop}
 use Rattle.gw_check.specs.Reads.{Position, SourceField, items_read, is_passed_over}
 use Rattle.gw_check.specs.Collected.{has_element, is_missed}
 

@@ -2,9 +2,9 @@
 ghost use Rattle.std.specs.Prelude.{◌≡◌, ◌∷◌, [], false, bytes_eq, IfOk, OnOk, map};
 ghost use Rattle.gw_check.specs.Reads.{is_read};
 ghost use Rattle.gw_check.specs.Collected.{Accounts, Gains, no_element, drops_field, drops_element, field_at, fields_at, has_field, has_element};
-ghost use Rattle.gw_check.specs.Seen.{left_out as seen_drop};
+ghost use Rattle.gw_resolve.specs.Seen.{left_out as seen_drop};
 
-use crate::resolved::LeftOut;
+use gw_resolve::LeftOut;
 use indexmap::IndexSet;
 use std::alloc::{AllocError, Global};
 

@@ -1,7 +1,7 @@
 //! Maps that the rules allow.
-use crate::resolved::Item;
 use gw_maplang::Map;
 use gw_profile::Profile;
+use gw_resolve::Item;
 use gw_validate::Tree;
 use std::marker::Model;
 use std::sync::Arc;
@@ -20,7 +20,7 @@ impl Model for CheckedMap {
     ghost use Rattle.std.specs.Arc.{arc_value};
     ghost use Rattle.gw_profile.specs.contracts.node.Node as node;
     ghost use Rattle.gw_maplang.specs.contracts.item.Item as raw_item;
-    ghost use Rattle.gw_check.specs.contracts.resolved.Item as item;
+    ghost use Rattle.gw_resolve.specs.contracts.resolved.Item as item;
     ghost use Rattle.gw_check.specs.CheckedMap.{CheckedValue, IsChecked};
 
     ghost Value = { CheckedValue };

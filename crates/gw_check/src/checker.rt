@@ -3,23 +3,24 @@ ghost use Rattle.std.specs.Prelude.{◌≡◌, [], IfOk, IfErr, OnOk};
 ghost use Rattle.std.specs.Arc.{arc_value};
 ghost use Rattle.gw_profile.specs.Seen.{profile_value};
 ghost use Rattle.gw_profile.specs.WellFormed.{WellFormed};
-ghost use Rattle.gw_maplang.specs.Seen.{map_value};
-ghost use Rattle.gw_check.specs.Answers.{unlabelled, Judges, IsUnlabelled, IsRefusal};
+ghost use Rattle.gw_profile.specs.Shapes.{ProfileValue};
+ghost use Rattle.gw_maplang.specs.Seen.{map_value, Contents};
+ghost use Rattle.gw_maplang.specs.Shapes.{MapValue};
+ghost use Rattle.gw_check.specs.Answers.{unlabelled, Judges, IsUnlabelled, IsRefusal, IsTold};
 ghost use Rattle.gw_check.specs.Checked.{all_failures};
-ghost use Rattle.gw_check.specs.Noted.{Notes};
-ghost use Rattle.gw_check.specs.Seen.{failures as seen_failures};
+ghost use Rattle.gw_resolve.specs.Noted.{Notes};
+ghost use Rattle.gw_resolve.specs.Seen.{failures as seen_failures};
 ghost use Rattle.gw_check.specs.Typed as typed;
 
 use crate::checked::CheckedMap;
-use crate::element::Element;
-use crate::failure::{Failure, least, note};
+use crate::failure::least;
 use crate::inside::{Sides, check_items};
+use crate::labels::look_up;
 use crate::level::check_level;
 use crate::reads::passes_over;
-use crate::resolve::{Resolving, resolve};
-use crate::resolved::{Item, LeftOut};
 use gw_maplang::Map;
-use gw_profile::Profile;
+use gw_profile::{Level, Profile};
+use gw_resolve::{Element, Failure, Item, LeftOut, Resolving, note};
 use std::alloc::{AllocError, Global};
 use std::sync::Arc;
 
@@ -30,6 +31,19 @@ pub enum CheckFault {
     Memory(Map),
     /// The least rule that fails, at the least line where it fails.
     Rule { rule: u8, line: u32, map: Map },
+}
+
+/// Why a map isn't checked, with all that fails. The map is handed back.
+#[derive(Drop)]
+pub enum Refusal {
+    /// Want of memory.
+    Memory(Map),
+    /// The least failure, and all of them in the order of the definition.
+    Rules {
+        least: Failure,
+        found: Vec<Failure>,
+        map: Map,
+    },
 }
 
 /// What the rules say of a map.
@@ -46,7 +60,8 @@ struct Examined {
 enum Judged {
     /// No rule fails, and these are its items without labels.
     Allowed(Vec<Item>),
-    Refused(Failure),
+    /// The least failure, and all.
+    Refused(Failure, Vec<Failure>),
 }
 
 // Adds the failures of the rules 4 to 12.
@@ -54,16 +69,18 @@ fn add_failures(
     alloc: Global,
     found: &mut Vec<Failure>,
     sides: Sides<'_, '_, '_>,
+    level: &Level<'_>,
     items: &[Item],
     drops: &[LeftOut],
 ) -> Result<(), AllocError>
+    requires { level.now ≡ sides.source.now.nodes }
     ensures source { WellFormed (profile_value sides.entry.source.now) }
     ensures target { WellFormed (profile_value sides.entry.target.now) }
     ensures found { OnOk result (Notes found.old found.new (typed.failures (profile_value sides.entry.source.now) (profile_value sides.entry.target.now) (unlabelled (map_value sides.entry.map.now) items.now drops.now))) }
 {
     let whole = sides.source.nodes();
     let nodes = sides.target.nodes();
-    let scope = [Element::Whole(whole)];
+    let scope = [Element::Whole(Some(level))];
     check_level(alloc, found, &scope, sides.map.line(), nodes, items)?;
     check_items(alloc, found, sides, &scope, nodes, items)?;
     let passed = passes_over(alloc, whole, items, drops)?;
@@ -71,7 +88,7 @@ fn add_failures(
 }
 
 // What the rules say of a map; 4 to 12 are looked at only where 1 to 3 hold.
-fn examine(
+fn look(
     alloc: Global,
     source: &Profile,
     target: &Profile,
@@ -80,7 +97,9 @@ fn examine(
     ensures found { IfOk result (λ e. seen_failures e.found.items ≡ all_failures (profile_value source.now) (profile_value target.now) (map_value map.now)) }
     ensures items { IfOk result (λ e. e.found.items ≡ [] → IsUnlabelled (profile_value source.now) (profile_value target.now) (map_value map.now) e.items.items) }
 {
-    match resolve(alloc, source, target, map)? {
+    let from = Level::of(alloc, source)?;
+    let to = Level::of(alloc, target)?;
+    match look_up(alloc, source, target, &from, &to, map)? {
         Resolving::Refused(found) => Ok(Examined {
             found,
             items: Vec::new(alloc),
@@ -92,7 +111,7 @@ fn examine(
                 target,
                 map,
             };
-            add_failures(alloc, &mut found, sides, &named.items, &named.drops)?;
+            add_failures(alloc, &mut found, sides, &from, &named.items, &named.drops)?;
             Ok(Examined {
                 found,
                 items: named.items,
@@ -112,7 +131,7 @@ pub fn failures(
 ) -> Result<Vec<Failure>, AllocError>
     ensures { IfOk result (λ found. seen_failures found.items ≡ all_failures (profile_value source.now) (profile_value target.now) (map_value map.now)) }
 {
-    let examined = examine(alloc, source, target, map)?;
+    let examined = look(alloc, source, target, map)?;
     Ok(examined.found)
 }
 
@@ -120,10 +139,44 @@ pub fn failures(
 fn judge(alloc: Global, source: &Profile, target: &Profile, map: &Map) -> Result<Judged, AllocError>
     ensures { IfOk result (Judges (profile_value source.now) (profile_value target.now) (map_value map.now)) }
 {
-    let examined = examine(alloc, source, target, map)?;
+    let examined = look(alloc, source, target, map)?;
     match least(&examined.found) {
-        Some(failure) => Ok(Judged::Refused(failure)),
+        Some(failure) => Ok(Judged::Refused(failure, examined.found)),
         None => Ok(Judged::Allowed(examined.items)),
+    }
+}
+
+/// The map with its profiles, where no rule fails, and else all failures: what `check` and `failures` answer, by one look at the map.
+pub fn examine(
+    alloc: Global,
+    source: Arc<Profile>,
+    target: Arc<Profile>,
+    map: Map,
+) -> Result<CheckedMap, Refusal>
+    ensures allowed { IfOk result (λ c. all_failures (profile_value (arc_value source)) (profile_value (arc_value target)) (map_value map) ≡ []) }
+    ensures source { IfOk result (λ c. c.source ≡ arc_value source) }
+    ensures target { IfOk result (λ c. c.target ≡ arc_value target) }
+    ensures map { IfOk result (λ c. c.map ≡ map) }
+    ensures refused { IfErr result (IsTold (profile_value (arc_value source)) (profile_value (arc_value target)) (map_value map) map) }
+{
+    match judge(alloc, &source, &target, &map) {
+        Err(_) => Err(Refusal::Memory(map)),
+        Ok(Judged::Refused(least, found)) => Err(Refusal::Rules { least, found, map }),
+        Ok(Judged::Allowed(items)) => Ok(CheckedMap::of(source, target, map, items)),
+    }
+}
+
+// The least of what fails.
+fn least_of(refusal: Refusal) -> CheckFault
+    ensures { (from to : ProfileValue) (m : MapValue) (given : Contents) → IsTold from to m given refusal → IsRefusal from to m given result }
+{
+    match refusal {
+        Refusal::Memory(map) => CheckFault::Memory(map),
+        Refusal::Rules { least, map, .. } => CheckFault::Rule {
+            rule: least.rule,
+            line: least.line,
+            map,
+        },
     }
 }
 
@@ -140,13 +193,8 @@ pub fn check(
     ensures map { IfOk result (λ c. c.map ≡ map) }
     ensures refused { IfErr result (IsRefusal (profile_value (arc_value source)) (profile_value (arc_value target)) (map_value map) map) }
 {
-    match judge(alloc, &source, &target, &map) {
-        Err(_) => Err(CheckFault::Memory(map)),
-        Ok(Judged::Refused(failure)) => Err(CheckFault::Rule {
-            rule: failure.rule,
-            line: failure.line,
-            map,
-        }),
-        Ok(Judged::Allowed(items)) => Ok(CheckedMap::of(source, target, map, items)),
+    match examine(alloc, source, target, map) {
+        Ok(checked) => Ok(checked),
+        Err(refusal) => Err(least_of(refusal)),
     }
 }

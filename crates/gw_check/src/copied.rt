@@ -2,19 +2,18 @@
 ghost use Rattle.std.specs.Prelude.{◌≡◌, map, flat_map, OnOk};
 ghost use Rattle.gw_profile.specs.Seen.{sub as sub_value, comp as comp_value, field as field_value, profile_value};
 ghost use Rattle.gw_check.specs.Fields as spec;
-ghost use Rattle.gw_check.specs.Noted.{Notes};
+ghost use Rattle.gw_resolve.specs.Noted.{Notes};
 ghost use Rattle.gw_check.specs.Reading.{sources_value, some_field, some_comp};
-ghost use Rattle.gw_check.specs.Seen.{reference};
+ghost use Rattle.gw_resolve.specs.Seen.{reference};
 
-use crate::failure::Failure;
 use crate::known::{at_field, comp_of, sub_of};
 use crate::leaf::sub_texts;
 use crate::presence::{comp_presence, sub_presence};
-use crate::resolved::Reference;
 use crate::sources::Sources;
 use crate::texts::Texts;
 use crate::values::{check_forbidden, check_required, check_values};
 use gw_profile::{CompShape, FieldShape, Profile, SubShape};
+use gw_resolve::{Failure, Reference};
 use std::alloc::AllocError;
 
 fn check_sub(
@@ -93,7 +92,7 @@ fn check_comps(
 /// The failures of a field that is copied from this one.
 pub(crate) fn check_copied(
     found: &mut Vec<Failure>,
-    sources: Sources<'_, '_, '_, '_>,
+    sources: Sources<'_, '_, '_, '_, '_>,
     target: &Profile,
     line: u32,
     from: &Reference,

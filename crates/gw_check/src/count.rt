@@ -2,14 +2,13 @@
 ghost use Rattle.std.specs.Prelude.{◌≡◌, map};
 ghost use Rattle.gw_check.specs.Counts as spec;
 ghost use Rattle.gw_check.specs.Reading.{sources_value, map_tables, some_field, some_rule, known_value};
-ghost use Rattle.gw_check.specs.Seen.{interval, saturated, reference, at_leaf, making as seen_making};
+ghost use Rattle.gw_resolve.specs.Seen.{interval, saturated, reference, at_leaf, making as seen_making};
 
-use crate::interval::{Interval, any_number, never, once};
 use crate::known::{Known, at_field, field_of, segment_at};
 use crate::presence::{is_absent, is_always, leaf_presence};
-use crate::resolved::{At, Making, Reference, Rule};
 use crate::sources::Sources;
 use gw_profile::FieldShape;
+use gw_resolve::{At, Interval, Making, Reference, Rule, any_number, never, once};
 
 fn repetitions(field: Option<&FieldShape>) -> Interval
     ensures { interval result ≡ saturated (spec.repetitions (some_field field.entry)) }
@@ -34,7 +33,7 @@ fn reference_count(known: Known<'_>, field: Option<&FieldShape>) -> Interval
 }
 
 // Of the source field of a reference.
-fn field_count(sources: Sources<'_, '_, '_, '_>, from: &Reference) -> Interval
+fn field_count(sources: Sources<'_, '_, '_, '_, '_>, from: &Reference) -> Interval
     ensures { interval result ≡ saturated (spec.field_count (sources_value sources.entry) (reference from.now)) }
 {
     let known = segment_at(sources.scope, &from.place);
@@ -42,10 +41,10 @@ fn field_count(sources: Sources<'_, '_, '_, '_>, from: &Reference) -> Interval
 }
 
 /// The same below `repeat`, where the field of the reference is walked.
-pub(crate) fn walking<'p, 'm, 's, 'e>(
-    sources: Sources<'p, 'm, 's, 'e>,
+pub(crate) fn walking<'p, 'm, 's, 'e, 'l>(
+    sources: Sources<'p, 'm, 's, 'e, 'l>,
     from: &Reference,
-) -> Sources<'p, 'm, 's, 'e>
+) -> Sources<'p, 'm, 's, 'e, 'l>
     ensures same { map_tables result ≡ map_tables sources.entry }
     ensures walking { sources_value result ≡ spec.walking (sources_value sources.entry) (reference from.now) }
 {
@@ -56,7 +55,7 @@ pub(crate) fn walking<'p, 'm, 's, 'e>(
 }
 
 // Whether some leaf is always there.
-fn some_always(sources: Sources<'_, '_, '_, '_>, leaves: &[At]) -> bool
+fn some_always(sources: Sources<'_, '_, '_, '_, '_>, leaves: &[At]) -> bool
     ensures { result ≡ spec.some_always (sources_value sources.entry) (map (at_leaf (map_tables sources.entry)) leaves.now) }
 {
     for (i, at) in leaves.iter().enumerate() {
@@ -68,7 +67,7 @@ fn some_always(sources: Sources<'_, '_, '_, '_>, leaves: &[At]) -> bool
 }
 
 // Whether no leaf ever is.
-fn all_absent(sources: Sources<'_, '_, '_, '_>, leaves: &[At]) -> bool
+fn all_absent(sources: Sources<'_, '_, '_, '_, '_>, leaves: &[At]) -> bool
     ensures { result ≡ spec.all_absent (sources_value sources.entry) (map (at_leaf (map_tables sources.entry)) leaves.now) }
 {
     for (i, at) in leaves.iter().enumerate() {
@@ -80,7 +79,7 @@ fn all_absent(sources: Sources<'_, '_, '_, '_>, leaves: &[At]) -> bool
 }
 
 // What leaves give where there is something to give them for.
-fn leaves_count(sources: Sources<'_, '_, '_, '_>, leaves: &[At], count: Interval) -> Interval
+fn leaves_count(sources: Sources<'_, '_, '_, '_, '_>, leaves: &[At], count: Interval) -> Interval
     ensures { interval result ≡ spec.leaves_count (sources_value sources.entry) (map (at_leaf (map_tables sources.entry)) leaves.now) (interval count) }
 {
     if all_absent(sources, leaves) {
@@ -92,7 +91,7 @@ fn leaves_count(sources: Sources<'_, '_, '_, '_>, leaves: &[At], count: Interval
     count.or_none()
 }
 
-fn making_count(sources: Sources<'_, '_, '_, '_>, making: &Making) -> Interval
+fn making_count(sources: Sources<'_, '_, '_, '_, '_>, making: &Making) -> Interval
     ensures { interval result ≡ saturated (spec.making_count (sources_value sources.entry) (seen_making (map_tables sources.entry) making.now)) }
 {
     match making {
@@ -108,7 +107,7 @@ fn making_count(sources: Sources<'_, '_, '_, '_>, making: &Making) -> Interval
 }
 
 /// How often a rule gives its field.
-pub(crate) fn rule_count(sources: Sources<'_, '_, '_, '_>, rule: Option<&Rule>) -> Interval
+pub(crate) fn rule_count(sources: Sources<'_, '_, '_, '_, '_>, rule: Option<&Rule>) -> Interval
     ensures { interval result ≡ saturated (spec.rule_count (sources_value sources.entry) (some_rule (map_tables sources.entry) rule.entry)) }
 {
     match rule {

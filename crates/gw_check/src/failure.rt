@@ -1,18 +1,9 @@
-//! Failures of rules.
-ghost use Rattle.std.specs.Prelude.{◌≡◌, OnOk, option_map};
+//! The least of failures.
+ghost use Rattle.std.specs.Prelude.{◌≡◌, option_map};
 ghost use Rattle.gw_check.specs.Checked.{is_before, lesser, least};
-ghost use Rattle.gw_check.specs.Failures.{fails};
-ghost use Rattle.gw_check.specs.Noted.{Notes};
-ghost use Rattle.gw_check.specs.Seen.{failure, failures};
+ghost use Rattle.gw_resolve.specs.Seen.{failure, failures};
 
-use std::alloc::AllocError;
-
-/// The number of a rule, and the line at which the map breaks it.
-#[derive(Clone, Copy, Drop)]
-pub struct Failure {
-    pub rule: u8,
-    pub line: u32,
-}
+use gw_resolve::Failure;
 
 fn is_before(a: Failure, b: Failure) -> bool
     ensures { result ≡ is_before (failure a) (failure b) }
@@ -46,20 +37,4 @@ pub(crate) fn least(found: &[Failure]) -> Option<Failure>
         least = Some(lesser(found[left], least));
     }
     least
-}
-
-/// Takes note of the rule's failure at the line, where it is broken.
-pub(crate) fn note(
-    found: &mut Vec<Failure>,
-    rule: u8,
-    line: u32,
-    broken: bool,
-) -> Result<(), AllocError>
-    ensures { OnOk result (Notes found.old found.new (fails rule line broken)) }
-{
-    if !broken {
-        return Ok(());
-    }
-    found.push(Failure { rule, line })?;
-    Ok(())
 }

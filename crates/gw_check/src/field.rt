@@ -4,28 +4,26 @@ ghost use Rattle.gw_profile.specs.Seen.{field as field_value, profile_value};
 ghost use Rattle.gw_maplang.specs.Shapes.{TableValue};
 ghost use Rattle.gw_check.specs.Counts as counts;
 ghost use Rattle.gw_check.specs.Fields as spec;
-ghost use Rattle.gw_check.specs.Noted.{Notes};
+ghost use Rattle.gw_resolve.specs.Noted.{Notes};
 ghost use Rattle.gw_check.specs.Reading.{sources_value, map_tables, some_rule};
-ghost use Rattle.gw_check.specs.Seen.{interval, saturated, rule as seen_rule, making as seen_making};
+ghost use Rattle.gw_resolve.specs.Seen.{interval, saturated, rule as seen_rule, making as seen_making};
 
 use crate::copied::check_copied;
 use crate::count::{rule_count, walking};
-use crate::failure::Failure;
-use crate::interval::Interval;
 use crate::known::rule_of;
 use crate::lookup::check_rules;
 use crate::made::check_made;
 use crate::often::{Asked, check_often};
-use crate::resolved::{Making, Rule};
 use crate::sources::Sources;
 use gw_profile::{FieldShape, Profile};
+use gw_resolve::{Failure, Interval, Making, Rule};
 use std::alloc::AllocError;
 
 // ---- what the field has in it
 
 fn check_making(
     found: &mut Vec<Failure>,
-    sources: Sources<'_, '_, '_, '_>,
+    sources: Sources<'_, '_, '_, '_, '_>,
     target: &Profile,
     line: u32,
     making: &Making,
@@ -51,7 +49,7 @@ fn check_making(
 // The failures of what the rule gives, which comes so often.
 fn check_content(
     found: &mut Vec<Failure>,
-    sources: Sources<'_, '_, '_, '_>,
+    sources: Sources<'_, '_, '_, '_, '_>,
     target: &Profile,
     field: &FieldShape,
     rule: Option<&Rule>,
@@ -109,7 +107,7 @@ fn asked(holder: u32, rule: Option<&Rule>, field: &FieldShape) -> Asked
 // The failures of a field by its rule.
 fn check_by(
     found: &mut Vec<Failure>,
-    sources: Sources<'_, '_, '_, '_>,
+    sources: Sources<'_, '_, '_, '_, '_>,
     target: &Profile,
     holder: u32,
     rule: Option<&Rule>,
@@ -124,7 +122,7 @@ fn check_by(
 
 fn check_field(
     found: &mut Vec<Failure>,
-    sources: Sources<'_, '_, '_, '_>,
+    sources: Sources<'_, '_, '_, '_, '_>,
     target: &Profile,
     holder: u32,
     rules: &[Rule],
@@ -144,7 +142,7 @@ fn check_field(
 
 fn check_fields(
     found: &mut Vec<Failure>,
-    sources: Sources<'_, '_, '_, '_>,
+    sources: Sources<'_, '_, '_, '_, '_>,
     target: &Profile,
     holder: u32,
     rules: &[Rule],
@@ -161,7 +159,7 @@ fn check_fields(
 /// The failures of the rules on the fields of a target segment, which an item at this line gives by these rules.
 pub(crate) fn check_segment(
     found: &mut Vec<Failure>,
-    sources: Sources<'_, '_, '_, '_>,
+    sources: Sources<'_, '_, '_, '_, '_>,
     target: &Profile,
     holder: u32,
     rules: &[Rule],

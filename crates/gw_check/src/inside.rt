@@ -1,18 +1,17 @@
 //! The rules within the items of a map.
 ghost use Rattle.std.specs.Prelude.{◌≡◌, map, IfOk, OnOk, option_map};
-ghost use Rattle.gw_profile.specs.Seen.{forest, field, profile_value};
-ghost use Rattle.gw_check.specs.Places as places;
+ghost use Rattle.gw_profile.specs.Seen.{forest, node_forest, field, profile_value};
+ghost use Rattle.gw_profile.specs.Shapes.{nothing};
+ghost use Rattle.gw_resolve.specs.Places as places;
 ghost use Rattle.gw_check.specs.Checking.{NotesSegment, NotesItem, NotesItems};
-ghost use Rattle.gw_check.specs.Seen.{scope as walked, place as seen_place};
+ghost use Rattle.gw_resolve.specs.Seen.{scope as walked, place as seen_place};
 
-use crate::element::{Element, child, nodes_of_child};
-use crate::failure::Failure;
 use crate::field::check_segment;
-use crate::level::{check_level, within};
-use crate::resolved::{Item, Place, SegmentItem};
+use crate::level::check_level;
 use crate::sources::Sources;
 use gw_maplang::Map;
 use gw_profile::{FieldShape, Node, Profile};
+use gw_resolve::{Element, Failure, Item, Place, SegmentItem, nodes_within, within};
 use std::alloc::{AllocError, Global};
 
 /// A map with its profiles, while it is checked.
@@ -23,22 +22,31 @@ pub(crate) struct Sides<'s, 't, 'm> {
     pub(crate) map: &'m Map,
 }
 
-/// The fields of the segment of this number.
-pub(crate) fn fields_at(nodes: &[Node], number: usize) -> &[FieldShape]
-    ensures { map field result.now ≡ places.fields_of (places.child (forest nodes.now) number) }
+fn fields_of(node: &Node) -> &[FieldShape]
+    ensures { map field result.now ≡ places.fields_of (places.child (node_forest node.now nothing) 0) }
 {
-    match child(nodes, number) {
-        Some(Element::Segment(segment)) => &segment.fields,
-        _ => &[],
+    match node {
+        Node::Seg(segment) => &segment.fields,
+        Node::Group(_) => &[],
     }
 }
 
-/// The scope of what is walked at a place; where none is said nothing more is walked.
-fn within_if<'a>(
+// The fields of the segment of this number.
+fn fields_at(nodes: &[Node], number: usize) -> &[FieldShape]
+    ensures { map field result.now ≡ places.fields_of (places.child (forest nodes.now) number) }
+{
+    match nodes.get(number) {
+        None => &[],
+        Some(node) => fields_of(node),
+    }
+}
+
+// The scope of what is walked at a place; where none is said nothing more is walked.
+fn within_if<'a, 'l>(
     alloc: Global,
-    scope: &[Element<'a>],
+    scope: &[Element<'a, 'l>],
     place: &Option<Place>,
-) -> Result<Vec<Element<'a>>, AllocError>
+) -> Result<Vec<Element<'a, 'l>>, AllocError>
     ensures { IfOk result (λ es. walked es.items ≡ places.within_if (walked scope.now) (option_map seen_place place.now)) }
 {
     match place {
@@ -52,7 +60,7 @@ fn check_given(
     alloc: Global,
     found: &mut Vec<Failure>,
     sides: Sides<'_, '_, '_>,
-    scope: &[Element<'_>],
+    scope: &[Element<'_, '_>],
     nodes: &[Node],
     segment: &SegmentItem,
 ) -> Result<(), AllocError>
@@ -82,7 +90,7 @@ fn check_item(
     alloc: Global,
     found: &mut Vec<Failure>,
     sides: Sides<'_, '_, '_>,
-    scope: &[Element<'_>],
+    scope: &[Element<'_, '_>],
     nodes: &[Node],
     item: &Item,
 ) -> Result<(), AllocError>
@@ -92,7 +100,7 @@ fn check_item(
         Item::Segment(segment) => check_given(alloc, found, sides, scope, nodes, segment),
         Item::Group(group) => {
             let inner = within(alloc, scope, &group.place)?;
-            let below = nodes_of_child(nodes, group.child);
+            let below = nodes_within(nodes, group.child);
             check_level(alloc, found, &inner, group.line, below, &group.items)?;
             check_items(alloc, found, sides, &inner, below, &group.items)
         }
@@ -109,7 +117,7 @@ pub(crate) fn check_items(
     alloc: Global,
     found: &mut Vec<Failure>,
     sides: Sides<'_, '_, '_>,
-    scope: &[Element<'_>],
+    scope: &[Element<'_, '_>],
     nodes: &[Node],
     items: &[Item],
 ) -> Result<(), AllocError>

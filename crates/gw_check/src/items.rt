@@ -2,17 +2,15 @@
 ghost use Rattle.std.specs.Prelude.{◌≡◌, ◌++◌, IfOk};
 ghost use Rattle.gw_check.specs.Counted.{CountsOne, CountsAll, FirstChild, ChildOf, Leads};
 ghost use Rattle.gw_check.specs.Levels.{is_of};
-ghost use Rattle.gw_check.specs.Seen.{scope as walked};
+ghost use Rattle.gw_resolve.specs.Seen.{scope as walked};
 
-use crate::element::Element;
-use crate::interval::{Interval, never};
-use crate::level::{count_at, count_if, within};
-use crate::resolved::Item;
+use crate::level::{count_at, count_if};
+use gw_resolve::{Element, Interval, Item, never, within};
 use std::alloc::{AllocError, Global};
 
 // How often one item comes.
 #[cycle(count)]
-fn item_count(alloc: Global, scope: &[Element<'_>], item: &Item) -> Result<Interval, AllocError>
+fn item_count(alloc: Global, scope: &[Element<'_, '_>], item: &Item) -> Result<Interval, AllocError>
     ensures { IfOk result (λ c. CountsOne (walked scope.now) item.now c) }
 {
     match item {
@@ -30,7 +28,7 @@ fn item_count(alloc: Global, scope: &[Element<'_>], item: &Item) -> Result<Inter
 #[cycle(count)]
 pub(crate) fn items_count(
     alloc: Global,
-    scope: &[Element<'_>],
+    scope: &[Element<'_, '_>],
     items: &[Item],
 ) -> Result<Interval, AllocError>
     ensures { IfOk result (λ c. CountsAll (walked scope.now) items.now c) }

@@ -1,20 +1,17 @@
 //! The segments at the places of a map, and their fields.
 ghost use Rattle.std.specs.Prelude.{◌≡◌, ◌==◌, map, find, List, [], Some, None};
 ghost use Rattle.gw_profile.specs.Seen.{field, comp, sub};
-ghost use Rattle.gw_check.specs.Founds.{found_value};
+ghost use Rattle.gw_resolve.specs.Founds.{found_value};
 ghost use Rattle.gw_check.specs.Leaves as spec;
-ghost use Rattle.gw_check.specs.Places as places;
+ghost use Rattle.gw_resolve.specs.Places as places;
 ghost use Rattle.gw_check.specs.Reading.{sources_value, some_field, some_comp, some_sub, some_rule, known_value, saturated_known};
-ghost use Rattle.gw_check.specs.Resolved as resolved;
-ghost use Rattle.gw_check.specs.Seen.{scope as walked, place as seen_place, reference, rule as seen_rule};
+ghost use Rattle.gw_resolve.specs.Resolved as resolved;
+ghost use Rattle.gw_resolve.specs.Seen.{scope as walked, place as seen_place, reference, rule as seen_rule};
 ghost use Rattle.gw_maplang.specs.Shapes.{TableValue};
 
-use crate::element::Element;
-use crate::interval::{Interval, never};
-use crate::place::{Found, find};
-use crate::resolved::{Place, Reference, Rule};
 use crate::sources::Sources;
 use gw_profile::{CompShape, FieldShape, SubShape};
+use gw_resolve::{Element, Found, Interval, Place, Reference, Rule, find, never};
 
 /// The segment at a place: how often it is there, and its fields.
 #[derive(Clone, Copy)]
@@ -33,7 +30,7 @@ fn nothing_known<'a>() -> Known<'a>
     }
 }
 
-fn known_of<'a>(found: Found<'a>) -> Known<'a>
+fn known_of<'a>(found: Found<'a, '_>) -> Known<'a>
     ensures { known_value result ≡ places.known_of (found_value (Some found.entry)) }
 {
     match found.element {
@@ -46,7 +43,7 @@ fn known_of<'a>(found: Found<'a>) -> Known<'a>
 }
 
 /// The segment at a place.
-pub(crate) fn segment_at<'a>(scope: &[Element<'a>], place: &Place) -> Known<'a>
+pub(crate) fn segment_at<'a>(scope: &[Element<'a, '_>], place: &Place) -> Known<'a>
     ensures { known_value result ≡ saturated_known (places.known (walked scope.now) (seen_place place.now)) }
 {
     match find(scope, place) {
@@ -123,7 +120,7 @@ pub(crate) fn rule_of(rules: &[Rule], number: u32) -> Option<&Rule>
 
 /// The source field of this reference.
 pub(crate) fn at_field<'e>(
-    sources: Sources<'_, '_, '_, 'e>,
+    sources: Sources<'_, '_, '_, 'e, '_>,
     from: &Reference,
 ) -> Option<&'e FieldShape>
     ensures { some_field result ≡ spec.at_field (sources_value sources.entry) (reference from.now) }

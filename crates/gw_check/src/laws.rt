@@ -7,11 +7,11 @@ ghost use Rattle.gw_profile.specs.Lengths.{Count, measure};
 ghost use Rattle.gw_profile.specs.WellFormed.{WellFormed};
 ghost use Rattle.gw_maplang.specs.Identity.{identity};
 ghost use Rattle.gw_check.specs.declared.shape.Presence.TheVariants.{Always, Never};
-ghost use Rattle.gw_check.specs.Intervals.{Interval, sum, product, is_sure, is_never, is_within};
-ghost use Rattle.gw_check.specs.Places.{known};
-ghost use Rattle.gw_check.specs.Resolved.{Reference, of_field};
+ghost use Rattle.gw_resolve.specs.Intervals.{Interval, sum, product, is_sure, is_never, is_within};
+ghost use Rattle.gw_resolve.specs.Places.{known};
+ghost use Rattle.gw_resolve.specs.Resolved.{Reference, of_field};
 ghost use Rattle.gw_check.specs.Leaves.{Sources, Values, IsOf, Shape, listed, at_field, comp_of, sub_of, source_shape, may_be_unlisted, may_be_long, is_included};
-ghost use Rattle.gw_check.specs.Seen.{saturated};
+ghost use Rattle.gw_resolve.specs.Seen.{saturated};
 ghost use Rattle.gw_check.specs.Checked.{all_failures, least};
 ghost use Rattle.gw_check.specs.Worked.{p1, p2, p3, t1, m1, m4, kin, contacts, both_kinds, oru, any_orders, two_orders, m3, failure};
 

@@ -6,16 +6,16 @@ ghost use Rattle.gw_profile.specs.Lengths.{octets};
 ghost use Rattle.gw_check.specs.Fields.{table_values};
 ghost use Rattle.gw_check.specs.Leaves as spec;
 ghost use Rattle.gw_check.specs.Reading.{sources_value, map_tables, some_sub};
-ghost use Rattle.gw_check.specs.Seen.{source as seen_source, leaf as seen_leaf};
+ghost use Rattle.gw_resolve.specs.Seen.{source as seen_source, leaf as seen_leaf};
 ghost use Rattle.gw_check.specs.Texts.{read_value, texts_value, items_all, values_value, shape_value, some_items, meets};
 
 use crate::known::{at_field, comp_of, sub_of};
 use crate::presence::{is_absent, is_always};
-use crate::resolved::{Leaf, Source};
 use crate::shape::{Presence, Shape, Values};
 use crate::sources::Sources;
 use crate::texts::{Read, Texts, may_be_long, may_be_outside};
 use gw_profile::{Profile, SubShape, Table, Usage};
+use gw_resolve::{Leaf, Source};
 
 /// The table that a subcomponent names.
 pub(crate) fn table_of<'a>(profile: &'a Profile, sub: &SubShape) -> Option<&'a Table>
@@ -57,7 +57,7 @@ fn listed_texts<'a>(profile: &'a Profile, sub: &SubShape) -> Read<'a>
 }
 
 /// The texts of a source.
-pub(crate) fn source_texts<'p>(sources: Sources<'p, '_, '_, '_>, source: &Source) -> Read<'p>
+pub(crate) fn source_texts<'p>(sources: Sources<'p, '_, '_, '_, '_>, source: &Source) -> Read<'p>
     ensures { read_value result ≡ (spec.source_shape (sources_value sources.entry) (seen_source source.now)).values }
 {
     match source {
@@ -73,7 +73,7 @@ pub(crate) fn source_texts<'p>(sources: Sources<'p, '_, '_, '_>, source: &Source
 }
 
 /// The texts of a leaf.
-pub(crate) fn leaf_texts<'a>(sources: Sources<'a, 'a, '_, '_>, leaf: &'a Leaf) -> Texts<'a>
+pub(crate) fn leaf_texts<'a>(sources: Sources<'a, 'a, '_, '_, '_>, leaf: &'a Leaf) -> Texts<'a>
     ensures { texts_value result ≡ (spec.leaf_shape (sources_value sources.entry) (seen_leaf (map_tables sources.entry) leaf.now)).values }
 {
     match leaf {

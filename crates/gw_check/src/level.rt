@@ -1,41 +1,21 @@
 //! The rules on target segments and groups.
-ghost use Rattle.std.specs.Prelude.{◌≡◌, ℕ, List, IfOk, OnOk, option_map};
+ghost use Rattle.std.specs.Prelude.{◌≡◌, ℕ, List, OnOk, option_map};
 ghost use Rattle.gw_profile.specs.Seen.{forest};
 ghost use Rattle.gw_check.specs.Levels as spec;
-ghost use Rattle.gw_check.specs.Resolved as resolved;
-ghost use Rattle.gw_check.specs.Places as places;
-ghost use Rattle.gw_check.specs.Seen.{interval, saturated, scope as walked, place as seen_place, with_item, all_items};
+ghost use Rattle.gw_resolve.specs.Resolved as resolved;
+ghost use Rattle.gw_resolve.specs.Places as places;
+ghost use Rattle.gw_resolve.specs.Seen.{interval, saturated, scope as walked, place as seen_place, with_item, all_items};
 ghost use Rattle.gw_check.specs.Checking.{NotesNode, NotesLevel, usage_of};
 ghost use Rattle.gw_maplang.specs.Shapes.{TableValue};
 
-use crate::element::Element;
-use crate::failure::Failure;
-use crate::interval::{Interval, never, once};
 use crate::items::{items_count, leading};
 use crate::often::{Asked, check_often};
-use crate::place::find;
-use crate::resolved::{Item, Place};
 use gw_profile::{Node, Usage};
+use gw_resolve::{Element, Failure, Interval, Item, Place, find, never, once};
 use std::alloc::{AllocError, Global};
 
-/// The scope of what is walked at a place.
-pub(crate) fn within<'a>(
-    alloc: Global,
-    scope: &[Element<'a>],
-    place: &Place,
-) -> Result<Vec<Element<'a>>, AllocError>
-    ensures { IfOk result (λ es. walked es.items ≡ places.within (walked scope.now) (seen_place place.now)) }
-{
-    let mut inner = Vec::from_slice(alloc, scope)?;
-    match find(scope, place) {
-        None => inner.push(Element::Whole(&[]))?,
-        Some(found) => inner.push(found.element)?,
-    }
-    Ok(inner)
-}
-
 /// How often a place is there.
-pub(crate) fn count_at(scope: &[Element<'_>], place: &Place) -> Interval
+pub(crate) fn count_at(scope: &[Element<'_, '_>], place: &Place) -> Interval
     ensures { interval result ≡ saturated (places.count_at (walked scope.now) (seen_place place.now)) }
 {
     match find(scope, place) {
@@ -45,7 +25,7 @@ pub(crate) fn count_at(scope: &[Element<'_>], place: &Place) -> Interval
 }
 
 /// How often a place is there, once where none is said.
-pub(crate) fn count_if(scope: &[Element<'_>], place: &Option<Place>) -> Interval
+pub(crate) fn count_if(scope: &[Element<'_, '_>], place: &Option<Place>) -> Interval
     ensures { interval result ≡ saturated (places.count_if (walked scope.now) (option_map seen_place place.now)) }
 {
     match place {
@@ -94,7 +74,7 @@ fn usage_of(node: &Node) -> Usage
 fn check_node(
     alloc: Global,
     found: &mut Vec<Failure>,
-    scope: &[Element<'_>],
+    scope: &[Element<'_, '_>],
     holder: u32,
     node: &Node,
     items: &[Item],
@@ -115,7 +95,7 @@ fn check_node(
 pub(crate) fn check_level(
     alloc: Global,
     found: &mut Vec<Failure>,
-    scope: &[Element<'_>],
+    scope: &[Element<'_, '_>],
     holder: u32,
     nodes: &[Node],
     items: &[Item],

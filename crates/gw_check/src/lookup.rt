@@ -1,25 +1,24 @@
 //! The rule on lookups: without a value for texts that have no row, each text of the source needs one.
 ghost use Rattle.std.specs.Prelude.{◌≡◌, map, flat_map, OnOk};
 ghost use Rattle.gw_check.specs.Fields as spec;
-ghost use Rattle.gw_check.specs.Noted.{Notes};
+ghost use Rattle.gw_resolve.specs.Noted.{Notes};
 ghost use Rattle.gw_check.specs.Reading.{sources_value, map_tables};
-ghost use Rattle.gw_check.specs.Resolved.{looked_up};
-ghost use Rattle.gw_check.specs.Seen.{at_leaf, source as seen_source, rule as seen_rule};
+ghost use Rattle.gw_resolve.specs.Resolved.{looked_up};
+ghost use Rattle.gw_resolve.specs.Seen.{at_leaf, source as seen_source, rule as seen_rule};
 ghost use Rattle.gw_check.specs.Texts.{rows_value};
 
 use crate::count::walking;
-use crate::failure::{Failure, note};
 use crate::leaf::source_texts;
-use crate::resolved::{At, Leaf, Making, Rule, Source};
 use crate::sources::Sources;
 use crate::texts::{has_no_row, other};
 use gw_maplang::Table as Rows;
+use gw_resolve::{At, Failure, Leaf, Making, Rule, Source, note};
 use std::alloc::AllocError;
 
 // A leaf that is looked up in this table.
 fn check_rows(
     found: &mut Vec<Failure>,
-    sources: Sources<'_, '_, '_, '_>,
+    sources: Sources<'_, '_, '_, '_, '_>,
     at: &At,
     table: Option<&Rows>,
     source: &Source,
@@ -39,7 +38,7 @@ fn check_rows(
 
 fn check_lookup(
     found: &mut Vec<Failure>,
-    sources: Sources<'_, '_, '_, '_>,
+    sources: Sources<'_, '_, '_, '_, '_>,
     at: &At,
 ) -> Result<(), AllocError>
     ensures { OnOk result (Notes found.old found.new (spec.lookup_failures (sources_value sources.entry) (at_leaf (map_tables sources.entry) at.now))) }
@@ -55,7 +54,7 @@ fn check_lookup(
 
 fn check_lookups(
     found: &mut Vec<Failure>,
-    sources: Sources<'_, '_, '_, '_>,
+    sources: Sources<'_, '_, '_, '_, '_>,
     leaves: &[At],
 ) -> Result<(), AllocError>
     ensures { OnOk result (Notes found.old found.new (flat_map (spec.lookup_failures (sources_value sources.entry)) (map (at_leaf (map_tables sources.entry)) leaves.now))) }
@@ -68,7 +67,7 @@ fn check_lookups(
 
 fn check_rule(
     found: &mut Vec<Failure>,
-    sources: Sources<'_, '_, '_, '_>,
+    sources: Sources<'_, '_, '_, '_, '_>,
     rule: &Rule,
 ) -> Result<(), AllocError>
     ensures { OnOk result (Notes found.old found.new (spec.rule_lookups (sources_value sources.entry) (seen_rule (map_tables sources.entry) rule.now))) }
@@ -84,7 +83,7 @@ fn check_rule(
 /// The failures of the lookups of these rules.
 pub(crate) fn check_rules(
     found: &mut Vec<Failure>,
-    sources: Sources<'_, '_, '_, '_>,
+    sources: Sources<'_, '_, '_, '_, '_>,
     rules: &[Rule],
 ) -> Result<(), AllocError>
     ensures { OnOk result (Notes found.old found.new (flat_map (spec.rule_lookups (sources_value sources.entry)) (map (seen_rule (map_tables sources.entry)) rules.now))) }

@@ -3,26 +3,25 @@ ghost use Rattle.std.specs.Prelude.{◌≡◌, ◌&&◌, ◌||◌, not, map, fla
 ghost use Rattle.gw_profile.specs.Seen.{sub as sub_value, comp as comp_value, field as field_value, profile_value};
 ghost use Rattle.gw_profile.specs.Lengths.{octets};
 ghost use Rattle.gw_validate.specs.Breaches.{is_null};
-ghost use Rattle.gw_check.specs.Failures.{fails};
+ghost use Rattle.gw_resolve.specs.Failures.{fails};
 ghost use Rattle.gw_check.specs.Fields as spec;
 ghost use Rattle.gw_check.specs.Lacking.{there_of, there_value, has_comp, has_only_comp, has_sub, has_only_sub, sub_lacks, comp_lacks, all_lacks};
 ghost use Rattle.gw_check.specs.Leaves as leaves_spec;
-ghost use Rattle.gw_check.specs.Noted.{Notes};
+ghost use Rattle.gw_resolve.specs.Noted.{Notes};
 ghost use Rattle.gw_check.specs.Reading.{sources_value, map_tables, some_comp, some_sub};
-ghost use Rattle.gw_check.specs.Seen.{at_leaf, leaf as seen_leaf};
+ghost use Rattle.gw_resolve.specs.Seen.{at_leaf, leaf as seen_leaf};
 ghost use Rattle.gw_check.specs.Texts.{texts_value};
 
-use crate::failure::{Failure, note};
 use crate::known::{comp_of, sub_of};
 use crate::leaf::{leaf_texts, table_of};
 use crate::presence::{is_absent, is_always, leaf_presence};
-use crate::resolved::{At, Leaf};
 use crate::shape::Presence;
 use crate::sources::Sources;
 use crate::texts::{Texts, may_be_long, may_be_unlisted};
 use crate::values::{check_values, is_forbidden, is_required};
 use gw_maplang::LeafPlace;
 use gw_profile::{CompShape, FieldShape, Profile, SubShape};
+use gw_resolve::{At, Failure, Leaf, note};
 use std::alloc::AllocError;
 
 /// The place of a leaf, and whether a text stands there.
@@ -33,7 +32,7 @@ struct There {
 }
 
 // The leaves, each with its presence.
-fn all_there(sources: Sources<'_, '_, '_, '_>, leaves: &[At]) -> Result<Vec<There>, AllocError>
+fn all_there(sources: Sources<'_, '_, '_, '_, '_>, leaves: &[At]) -> Result<Vec<There>, AllocError>
     ensures { IfOk result (λ v. map there_value v.items ≡ map (there_of (sources_value sources.entry)) (map (at_leaf (map_tables sources.entry)) leaves.now)) }
 {
     let mut all = Vec::new(sources.alloc);
@@ -184,7 +183,7 @@ fn check_comps(
 // What the leaves of a rule don't give.
 fn check_lacking(
     found: &mut Vec<Failure>,
-    sources: Sources<'_, '_, '_, '_>,
+    sources: Sources<'_, '_, '_, '_, '_>,
     line: u32,
     leaves: &[At],
     comps: &[CompShape],
@@ -227,7 +226,7 @@ fn check_const(
 
 fn check_source(
     found: &mut Vec<Failure>,
-    sources: Sources<'_, '_, '_, '_>,
+    sources: Sources<'_, '_, '_, '_, '_>,
     target: &Profile,
     line: u32,
     leaf: &Leaf,
@@ -247,7 +246,7 @@ fn check_source(
 
 fn check_leaf(
     found: &mut Vec<Failure>,
-    sources: Sources<'_, '_, '_, '_>,
+    sources: Sources<'_, '_, '_, '_, '_>,
     target: &Profile,
     line: u32,
     leaf: &Leaf,
@@ -265,7 +264,7 @@ fn check_leaf(
 // A leaf at a place that the target may list.
 fn check_placed(
     found: &mut Vec<Failure>,
-    sources: Sources<'_, '_, '_, '_>,
+    sources: Sources<'_, '_, '_, '_, '_>,
     target: &Profile,
     at: &At,
     sub: Option<&SubShape>,
@@ -318,7 +317,7 @@ fn check_barred(
 
 fn check_at(
     found: &mut Vec<Failure>,
-    sources: Sources<'_, '_, '_, '_>,
+    sources: Sources<'_, '_, '_, '_, '_>,
     target: &Profile,
     field: &FieldShape,
     at: &At,
@@ -334,7 +333,7 @@ fn check_at(
 
 fn check_leaves(
     found: &mut Vec<Failure>,
-    sources: Sources<'_, '_, '_, '_>,
+    sources: Sources<'_, '_, '_, '_, '_>,
     target: &Profile,
     field: &FieldShape,
     leaves: &[At],
@@ -350,7 +349,7 @@ fn check_leaves(
 /// The failures of a field that is made of these leaves.
 pub(crate) fn check_made(
     found: &mut Vec<Failure>,
-    sources: Sources<'_, '_, '_, '_>,
+    sources: Sources<'_, '_, '_, '_, '_>,
     target: &Profile,
     line: u32,
     leaves: &[At],

@@ -2,14 +2,13 @@
 ghost use Rattle.std.specs.Prelude.{◌≡◌, ◌&&◌, not, OnOk};
 ghost use Rattle.gw_validate.specs.Breaches.{is_forbidden};
 ghost use Rattle.gw_check.specs.Fields.{is_expected, often_failures};
-ghost use Rattle.gw_check.specs.Intervals as intervals;
-ghost use Rattle.gw_check.specs.Noted.{Notes};
-ghost use Rattle.gw_check.specs.Seen.{interval, saturated};
+ghost use Rattle.gw_resolve.specs.Intervals as intervals;
+ghost use Rattle.gw_resolve.specs.Noted.{Notes};
+ghost use Rattle.gw_resolve.specs.Seen.{interval, saturated};
 
-use crate::failure::{Failure, note};
-use crate::interval::Interval;
 use crate::values::is_forbidden;
 use gw_profile::{Card, Usage};
+use gw_resolve::{Failure, Interval, note};
 use std::alloc::AllocError;
 
 /// What a target asks of how often something comes, and where that is told.

@@ -5,16 +5,16 @@ ghost use Rattle.gw_maplang.specs.Seen.{map_value};
 ghost use Rattle.gw_maplang.specs.Shapes.{TableValue};
 ghost use Rattle.gw_check.specs.Collected.{Adds, fields_at};
 ghost use Rattle.gw_check.specs.Reads.{items_read};
-ghost use Rattle.gw_check.specs.Seen.{all_items, left_out as seen_drop};
+ghost use Rattle.gw_resolve.specs.Seen.{all_items, left_out as seen_drop};
 ghost use Rattle.gw_check.specs.Unread as spec;
 
 use crate::accounted::{Accounted, FieldAt};
+use crate::labels::look_up;
 use crate::reads::{all_read, is_missed};
-use crate::resolve::{Resolving, resolve};
-use crate::resolved::{Item, LeftOut};
 use crate::values::is_forbidden;
 use gw_maplang::Map;
-use gw_profile::{FieldShape, Node, Profile, SegNode};
+use gw_profile::{FieldShape, Level, Node, Profile, SegNode};
+use gw_resolve::{Item, LeftOut, Resolving};
 use std::alloc::{AllocError, Global};
 
 // Adds a field, where it is missed.
@@ -153,7 +153,9 @@ pub fn unread(
 ) -> Result<Vec<FieldAt>, AllocError>
     ensures { IfOk result (λ found. fields_at found.items ≡ spec.unread (profile_value source.now) (profile_value target.now) (map_value map.now)) }
 {
-    match resolve(alloc, source, target, map)? {
+    let from = Level::of(alloc, source)?;
+    let to = Level::of(alloc, target)?;
+    match look_up(alloc, source, target, &from, &to, map)? {
         Resolving::Refused(_) => Ok(Vec::new(alloc)),
         Resolving::Resolved(named) => passed_over(
             alloc,

@@ -1,18 +1,17 @@
 //! Whether a text stands at a place.
 ghost use Rattle.std.specs.Prelude.{◌≡◌, ◌&&◌, nat_le, if◌then◌else◌};
-ghost use Rattle.gw_check.specs.Intervals.{is_sure};
+ghost use Rattle.gw_resolve.specs.Intervals.{is_sure};
 ghost use Rattle.gw_check.specs.Leaves as spec;
-ghost use Rattle.gw_check.specs.Places.{known};
+ghost use Rattle.gw_resolve.specs.Places.{known};
 ghost use Rattle.gw_check.specs.Reading.{sources_value, map_tables, some_field, some_comp, some_sub, known_value};
-ghost use Rattle.gw_check.specs.Seen.{interval, scope as walked, place as seen_place, reference, source as seen_source, leaf as seen_leaf};
+ghost use Rattle.gw_resolve.specs.Seen.{interval, scope as walked, place as seen_place, reference, source as seen_source, leaf as seen_leaf};
 ghost use Rattle.gw_check.specs.declared.shape.Presence.TheVariants as presences;
 
-use crate::interval::Interval;
 use crate::known::{Known, at_field, comp_of, field_of, segment_at, sub_of};
-use crate::resolved::{Leaf, Reference, Source};
 use crate::shape::Presence;
 use crate::sources::Sources;
 use gw_profile::{Card, CompShape, FieldShape, SubShape, Usage};
+use gw_resolve::{Interval, Leaf, Reference, Source};
 
 fn by_usage(usage: Option<Usage>) -> Presence
     ensures { result ≡ spec.by_usage usage }
@@ -118,7 +117,7 @@ fn field_presence(known: Known<'_>, field: Option<&FieldShape>) -> Presence
 }
 
 // Of the first repetition of the field of a reference.
-fn reference_presence(sources: Sources<'_, '_, '_, '_>, from: &Reference) -> Presence
+fn reference_presence(sources: Sources<'_, '_, '_, '_, '_>, from: &Reference) -> Presence
     ensures { result ≡ spec.field_presence (known (walked sources.entry.scope.now) (seen_place from.now.place)) (spec.at_field (sources_value sources.entry) (reference from.now)) }
 {
     let known = segment_at(sources.scope, &from.place);
@@ -126,7 +125,7 @@ fn reference_presence(sources: Sources<'_, '_, '_, '_>, from: &Reference) -> Pre
 }
 
 /// Of the text of a source.
-pub(crate) fn source_presence(sources: Sources<'_, '_, '_, '_>, source: &Source) -> Presence
+pub(crate) fn source_presence(sources: Sources<'_, '_, '_, '_, '_>, source: &Source) -> Presence
     ensures { result ≡ (spec.source_shape (sources_value sources.entry) (seen_source source.now)).presence }
 {
     match source {
@@ -139,7 +138,7 @@ pub(crate) fn source_presence(sources: Sources<'_, '_, '_, '_>, source: &Source)
 }
 
 /// Of the text of a leaf.
-pub(crate) fn leaf_presence(sources: Sources<'_, '_, '_, '_>, leaf: &Leaf) -> Presence
+pub(crate) fn leaf_presence(sources: Sources<'_, '_, '_, '_, '_>, leaf: &Leaf) -> Presence
     ensures { result ≡ (spec.leaf_shape (sources_value sources.entry) (seen_leaf (map_tables sources.entry) leaf.now)).presence }
 {
     match leaf {

@@ -4,16 +4,14 @@ ghost use Rattle.std.specs.List.{list_any};
 ghost use Rattle.gw_profile.specs.Seen.{forest, segment_value, field as seen_field};
 ghost use Rattle.gw_check.specs.Reads as spec;
 ghost use Rattle.gw_check.specs.Collected.{Adds, fields_at, positions, is_missed, segment_misses, some_missed, within_misses, node_misses};
-ghost use Rattle.gw_check.specs.Seen.{place as seen_place, reference, source, leaf, at_leaf, making, rule, with_item, all_items, left_out as seen_drop};
+ghost use Rattle.gw_resolve.specs.Seen.{place as seen_place, reference, source, leaf, at_leaf, making, rule, with_item, all_items, left_out as seen_drop};
 ghost use Rattle.gw_maplang.specs.Shapes.{TableValue};
-ghost use Rattle.gw_check.specs.Resolved.{no_items};
+ghost use Rattle.gw_resolve.specs.Resolved.{no_items};
 
 use crate::accounted::{Accounted, FieldAt};
-use crate::resolved::{
-    At, Item, Leaf, LeftOut, Making, Place, Reference, Rule, SegmentItem, Source,
-};
 use crate::values::is_forbidden;
 use gw_profile::{FieldShape, Node, SegNode, Usage};
+use gw_resolve::{At, Item, Leaf, LeftOut, Making, Place, Reference, Rule, SegmentItem, Source};
 use std::alloc::{AllocError, Global};
 
 /// The position of a place, seen from the positions that are walked, the innermost last.

@@ -3,18 +3,18 @@ ghost use Rattle.std.specs.Prelude.{◌≡◌, ◌&&◌, not, OnOk};
 ghost use Rattle.gw_profile.specs.Seen.{sub as sub_value, profile_value};
 ghost use Rattle.gw_profile.specs.Lengths.{octets};
 ghost use Rattle.gw_validate.specs.Breaches.{is_required, is_forbidden};
-ghost use Rattle.gw_check.specs.Failures.{fails};
+ghost use Rattle.gw_resolve.specs.Failures.{fails};
 ghost use Rattle.gw_check.specs.Fields as spec;
 ghost use Rattle.gw_check.specs.Leaves as leaves_spec;
-ghost use Rattle.gw_check.specs.Noted.{Notes};
+ghost use Rattle.gw_resolve.specs.Noted.{Notes};
 ghost use Rattle.gw_check.specs.Texts.{texts_value};
 
-use crate::failure::{Failure, note};
 use crate::leaf::table_of;
 use crate::presence::{is_absent, is_always};
 use crate::shape::Presence;
 use crate::texts::{Texts, may_be_long, may_be_unlisted};
 use gw_profile::{Profile, SubShape, Usage};
+use gw_resolve::{Failure, note};
 use std::alloc::AllocError;
 
 pub(crate) fn is_required(usage: Usage) -> bool

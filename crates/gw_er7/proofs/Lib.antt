@@ -27,3 +27,4 @@ pub mod Writings
 pub mod Total
 pub mod Drafts
 pub mod Builds
+pub mod Sames

@@ -15,6 +15,7 @@ mod message;
 mod place;
 mod reader;
 mod reading;
+pub mod same;
 mod search;
 mod segment;
 mod text;

@@ -2,6 +2,7 @@
 ghost use Rattle.std.specs.Prelude.{◌≡◌};
 
 use crate::place::Place;
+use crate::same::are_same;
 use crate::segment::StoredSegment;
 use crate::view::Segment;
 use std::alloc::{AllocError, Global};
@@ -28,7 +29,7 @@ impl Model for Message {
 }
 
 impl Message {
-    ghost use Rattle.std.specs.Prelude.{◌≡◌, ◌<◌, Some, IfOk, slice_get, length};
+    ghost use Rattle.std.specs.Prelude.{◌≡◌, ◌↔◌, ◌<◌, IsTrue, Some, IfOk, slice_get, length};
     ghost use Rattle.gw_er7.specs.Message.{IsMessage};
 
     /// The message of these segments.
@@ -65,6 +66,13 @@ impl Message {
             segments.push(copy)?;
         }
         Ok(Message::of(segments))
+    }
+
+    /// Whether the messages are equal: the same segments in the same order, each with the same texts at the same places. It takes no memory.
+    pub fn same(&self, other: &Message) -> bool
+        ensures { IsTrue result ↔ (self.now ≡ other.now) }
+    {
+        are_same(&self.segments, &other.segments)
     }
 
     /// The segment of this number, from 0. It takes no memory.

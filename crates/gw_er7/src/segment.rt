@@ -44,8 +44,8 @@ fn copy_leaves(alloc: Global, leaves: &[Leaf]) -> Result<Vec<Leaf>, AllocError>
 /// A name, and texts at places in rising order.
 #[derive(Debug, Drop)]
 pub(crate) struct StoredSegment {
-    name: [u8; 3],
-    leaves: Vec<Leaf>,
+    pub(crate) name: [u8; 3],
+    pub(crate) leaves: Vec<Leaf>,
 }
 
 impl Model for StoredSegment {

@@ -5,7 +5,7 @@ use Rattle.gw_er7.specs.Message.{SegmentValue}
 use Rattle.gw_validate.specs.Conforming.{Conforms}
 use Rattle.gw_validate.specs.Broken.{IsTreeOf}
 use Rattle.gw_validate.specs.Trees.{Tree}
-use Rattle.gw_check.specs.Naming.{resolved}
+use Rattle.gw_resolve.specs.Naming.{resolved}
 use Rattle.gw_interp.specs.Meaning.{Means}
 use Rattle.gw_plan.specs.Shapes.{PlanValue, RouteValue, MapBetween}
 use Rattle.gw_plan.specs.Routing.{routed}

@@ -7,9 +7,9 @@ use Rattle.gw_maplang.specs.Shapes.{MapValue}
 use Rattle.gw_check.specs.Checked.{all_failures}
 use Rattle.gw_maplang.specs.Lawful.{Lawful}
 use Rattle.gw_maplang.specs.Seen.{map_value}
-use Rattle.gw_check.specs.Naming.{naming_failures, resolved}
+use Rattle.gw_resolve.specs.Naming.{naming_failures, resolved}
 use Rattle.gw_check.specs.Typed.{failures}
-use Rattle.gw_check.specs.Failures.{Failure, or_later}
+use Rattle.gw_resolve.specs.Failures.{Failure, or_later}
 use Rattle.gw_check.specs.CheckedMap.{CheckedValue, resolved_map, IsChecked}
 use Rattle.gw_check.proofs.Keeping.{placed_items, lawful_items}
 use Rattle.gw_interp.proofs.Typed.{Allows}

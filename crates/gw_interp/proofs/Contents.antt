@@ -7,7 +7,7 @@ use Rattle.gw_er7.specs.Presence.{CompAt, RepAt}
 use Rattle.gw_profile.specs.Shapes.{SubValue, CompValue, FieldValue, ProfileValue}
 use Rattle.gw_profile.proofs.Facts.{no_clash}
 use Rattle.gw_validate.specs.Breaches.{is_required, is_forbidden, is_null, SubBreach, sub_absent, sub_forbidden, too_long, not_listed, InAny, in_first, in_later, CompBreach, comp_absent, comp_forbidden, in_sub}
-use Rattle.gw_check.specs.Failures.{fails}
+use Rattle.gw_resolve.specs.Failures.{fails}
 use Rattle.gw_check.specs.Leaves.{Shape, is_always, is_absent, comp_of, sub_of, comp_presence, sub_presence, sub_values}
 use Rattle.gw_check.specs.Fields.{value_failures, copied_sub, copied_comp}
 use Rattle.gw_interp.proofs.Lists.{all_as, none_fails, three_empty, each_empty}

@@ -6,7 +6,7 @@ use Rattle.std.proofs.lemmas.Bool.Decides.{eqb_tells, Decides-eqb}
 use Rattle.gw_er7.specs.Names.{IsName}
 use Rattle.gw_er7.specs.Message.{Texts, text_of, SegmentValue, first_field, IsEntry, IsSegment}
 use Rattle.gw_er7.specs.Presence.{RepAt}
-use Rattle.gw_check.specs.Resolved.{Source, of_field, of_current, Leaf, const, copied, looked_up, At, leaf_at, Making, copy, first, repeat, build, Rule, rule_of}
+use Rattle.gw_resolve.specs.Resolved.{Source, of_field, of_current, Leaf, const, copied, looked_up, At, leaf_at, Making, copy, first, repeat, build, Rule, rule_of}
 use Rattle.gw_maplang.specs.Among.{Among}
 use Rattle.gw_maplang.specs.Shapes.{Rows}
 use Rattle.gw_interp.specs.Occurrences.{texts_at}

@@ -12,15 +12,15 @@ use Rattle.gw_profile.specs.WellFormed.{LawfulField, table_names}
 use Rattle.gw_profile.proofs.Facts.{le_is, no_clash}
 use Rattle.std.proofs.lemmas.Slice.Eq.{bytes_eq-Decides}
 use Rattle.gw_validate.specs.Breaches.{is_forbidden, InAny, CompBreach, one_too_many, in_comp, in_rep, FieldBreach, too_few, field_forbidden, in_reps, Meets}
-use Rattle.gw_check.specs.Intervals.{Interval, once, is_never, is_within}
-use Rattle.gw_check.specs.Places.{known}
-use Rattle.gw_check.specs.Failures.{fails}
-use Rattle.gw_check.specs.Resolved.{Making, copy, first, repeat, build, Rule, rule_of}
+use Rattle.gw_resolve.specs.Intervals.{Interval, once, is_never, is_within}
+use Rattle.gw_resolve.specs.Places.{known}
+use Rattle.gw_resolve.specs.Failures.{fails}
+use Rattle.gw_resolve.specs.Resolved.{Making, copy, first, repeat, build, Rule, rule_of}
 use Rattle.gw_check.specs.Leaves.{Sources, at_field}
 use Rattle.gw_check.specs.Counts as counts
 use Rattle.gw_check.specs.Counts.{making_count, rule_count}
 use Rattle.gw_check.specs.Fields.{is_expected, has_no_rule, line_of_rule, making_failures, content_failures, count_failures, field_failures, rule_lookups, segment_failures}
-use Rattle.gw_check.specs.Lawful.{LawfulMaking, LawfulRule, LawfulRules}
+use Rattle.gw_resolve.specs.Lawful.{LawfulMaking, LawfulRule, LawfulRules}
 use Rattle.gw_interp.specs.Occurrences.{texts_at}
 use Rattle.gw_interp.specs.Meaning.{Walked, walking, MakingMeans, RuleMeans, IsImage}
 use Rattle.gw_interp.specs.Ready.{NoFaultIn}

@@ -6,7 +6,7 @@ use Rattle.std.specs.FinMap as texts
 use Rattle.gw_er7.specs.Message.{Texts, SegmentValue}
 use Rattle.gw_er7.specs.Building.{with_last}
 use Rattle.gw_maplang.specs.Among.{Among}
-use Rattle.gw_check.specs.Resolved.{At}
+use Rattle.gw_resolve.specs.Resolved.{At}
 use Rattle.gw_interp.specs.Meaning.{Walked, LeafMeans}
 use Rattle.gw_interp.specs.Putting.{last_name, last_texts}
 use Rattle.gw_interp.specs.Filling.{key_of, MayHold, IsHeld, MayFill, AreFilled}

@@ -11,8 +11,8 @@ use Rattle.gw_er7.specs.Message.{text_of, SegmentValue, first_field, IsEntry, Is
 use Rattle.gw_er7.specs.Building.{IsBegun, with_last}
 use Rattle.gw_er7.proofs.Builds.{begun_segment}
 use Rattle.gw_maplang.specs.Among.{Among}
-use Rattle.gw_check.specs.Lawful.{LawfulRule}
-use Rattle.gw_check.specs.Resolved.{Rule, rule_of}
+use Rattle.gw_resolve.specs.Lawful.{LawfulRule}
+use Rattle.gw_resolve.specs.Resolved.{Rule, rule_of}
 use Rattle.gw_interp.specs.Meaning.{Walked, MakingMeans, RuleMeans, IsImage, IsOne}
 use Rattle.gw_interp.specs.Putting.{last_name, last_texts}
 use Rattle.gw_interp.specs.Ready.{NoFaultIn, MayImage, IsOtherName, MayBegin, Adds}

@@ -14,9 +14,9 @@ use Rattle.gw_er7.proofs.Builds.{entry_at, canonical_of}
 use Rattle.gw_er7.proofs.Once.{get_kept}
 use Rattle.gw_lines.specs.Values.{is_value}
 use Rattle.gw_validate.specs.Conforming.{segment_at}
-use Rattle.gw_check.specs.Places.{Place}
-use Rattle.gw_check.specs.Resolved.{Source, of_field, of_current, Leaf, const, copied, looked_up, At, leaf_at, Making, copy, first, repeat, build, Rule, rule_of}
-use Rattle.gw_check.specs.Lawful.{LawfulSource, LawfulLeaf, LawfulAt, LawfulLeaves, LawfulMaking, LawfulRule, LawfulRules}
+use Rattle.gw_resolve.specs.Places.{Place}
+use Rattle.gw_resolve.specs.Resolved.{Source, of_field, of_current, Leaf, const, copied, looked_up, At, leaf_at, Making, copy, first, repeat, build, Rule, rule_of}
+use Rattle.gw_resolve.specs.Lawful.{LawfulSource, LawfulLeaf, LawfulAt, LawfulLeaves, LawfulMaking, LawfulRule, LawfulRules}
 use Rattle.gw_interp.specs.Occurrences.{Occurrence, a_segment, nodes, at_place, texts_of_first, texts_at}
 use Rattle.gw_interp.specs.Meaning.{InFirst, Walked, walking, SourceMeans, LeafMeans, AtMeans, Where, MakingMeans, RuleMeans, IsImage}
 use Rattle.gw_interp.proofs.Lists.{found_test, found_all}

@@ -10,9 +10,9 @@ use Rattle.gw_profile.specs.Shapes as shapes
 use Rattle.gw_profile.specs.Shapes.{ProfileValue}
 use Rattle.gw_profile.specs.Deterministic.{AtMost}
 use Rattle.gw_profile.specs.WellFormed.{LawfulField}
-use Rattle.gw_check.specs.Intervals.{Interval, never, is_never}
-use Rattle.gw_check.specs.Places as elements
-use Rattle.gw_check.specs.Places.{Element, Found, found, known_of, element_of}
+use Rattle.gw_resolve.specs.Intervals.{Interval, never, is_never}
+use Rattle.gw_resolve.specs.Places as elements
+use Rattle.gw_resolve.specs.Places.{Element, Found, found, known_of, element_of}
 use Rattle.gw_interp.specs.Occurrences.{Occurrence, a_segment, nodes, at_place, texts_of_first}
 use Rattle.gw_interp.specs.Meaning.{walked}
 use Rattle.gw_check.specs.Levels.{sources}

@@ -8,13 +8,13 @@ use Rattle.gw_er7.specs.Building.{IsBegun}
 use Rattle.gw_profile.specs.Shapes.{Forest}
 use Rattle.gw_validate.specs.Fitting.{OccValue}
 use Rattle.gw_maplang.specs.Shapes.{TableValue}
-use Rattle.gw_check.specs.declared.resolved.Item.{Item, Segment, Group, Flat, Group', Flat'}
-use Rattle.gw_check.specs.declared.resolved.GroupItem.{GroupItem}
-use Rattle.gw_check.specs.declared.resolved.FlatItem.{FlatItem}
-use Rattle.gw_check.specs.Places.{nodes_of_child}
-use Rattle.gw_check.specs.Resolved.{Items, no_items, group_item, flat_item}
-use Rattle.gw_check.specs.Seen.{place, with_item, all_items}
-use Rattle.gw_check.proofs.Rows.{group_items, flat_items}
+use Rattle.gw_resolve.specs.declared.resolved.Item.{Item, Segment, Group, Flat, Group', Flat'}
+use Rattle.gw_resolve.specs.declared.resolved.GroupItem.{GroupItem}
+use Rattle.gw_resolve.specs.declared.resolved.FlatItem.{FlatItem}
+use Rattle.gw_resolve.specs.Places.{nodes_of_child}
+use Rattle.gw_resolve.specs.Resolved.{Items, no_items, group_item, flat_item}
+use Rattle.gw_resolve.specs.Seen.{place, with_item, all_items}
+use Rattle.gw_resolve.proofs.Rows.{group_items, flat_items}
 use Rattle.gw_interp.specs.Occurrences.{Occurrence, at_place}
 use Rattle.gw_interp.specs.Lent.{occurrence, scope}
 use Rattle.gw_interp.specs.Filling.{message_of}

@@ -9,15 +9,15 @@ use Rattle.gw_profile.specs.Shapes.{FieldValue, GroupValue, Forest, ProfileValue
 use Rattle.gw_profile.specs.WellFormed.{Rising, field_numbers, LawfulField, LawfulSegment, LawfulGroup, EachSegment, EachGroup}
 use Rattle.gw_profile.specs.Fault.{least_field}
 use Rattle.gw_validate.specs.Conforming.{One, Seq}
-use Rattle.gw_check.specs.Intervals.{never, product}
-use Rattle.gw_check.specs.Places.{Element, a_segment, a_group, the_whole, Place, Found, times, child_found, found_below, found_in, found, child, nodes_of, nodes_of_child, fields_of, name_of, count_of, count_at, count_if, element_of, within, within_if}
-use Rattle.gw_check.specs.Resolved.{Rule, Items, no_items, segment_item, group_item, flat_item}
+use Rattle.gw_resolve.specs.Intervals.{never, product}
+use Rattle.gw_resolve.specs.Places.{Element, a_segment, a_group, the_whole, Place, Found, times, child_found, found_below, found_in, found, child, nodes_of, nodes_of_child, fields_of, name_of, count_of, count_at, count_if, element_of, within, within_if}
+use Rattle.gw_resolve.specs.Resolved.{Rule, Items, no_items, segment_item, group_item, flat_item}
 use Rattle.gw_check.specs.Counts.{items_count}
-use Rattle.gw_check.specs.Failures.{fails}
+use Rattle.gw_resolve.specs.Failures.{fails}
 use Rattle.gw_check.specs.Fields.{segment_failures}
 use Rattle.gw_check.specs.Levels.{sources, level_failures, items_failures}
-use Rattle.gw_check.specs.Placed.{is_segment, is_group, all_for, are_placed}
-use Rattle.gw_check.specs.Lawful.{LawfulRules, LawfulItems}
+use Rattle.gw_resolve.specs.Placed.{is_segment, is_group, all_for, are_placed}
+use Rattle.gw_resolve.specs.Lawful.{LawfulRules, LawfulItems}
 use Rattle.gw_interp.specs.Occurrences.{Occurrence, at_place}
 use Rattle.gw_interp.specs.Meaning.{Walked, IsOne, walked, SegmentsBy, GiveBy}
 use Rattle.gw_interp.proofs.Walks.{IsOccurrence, InScope}

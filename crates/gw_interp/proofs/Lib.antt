@@ -37,7 +37,6 @@ mod Copies
 mod Placed
 mod Ruled
 mod Imaged
-mod Nodes
 mod Inner
 mod Giving
 mod Levels

@@ -5,7 +5,7 @@ use Rattle.std.specs.List.{AllByRecursion, list_any, list_all}
 use Rattle.gw_profile.specs.WellFormed.{Rising}
 use Rattle.gw_profile.proofs.Facts.{both}
 use Rattle.gw_maplang.specs.Among.{Among, Distinct}
-use Rattle.gw_check.specs.Failures.{fails}
+use Rattle.gw_resolve.specs.Failures.{fails}
 
 -- ---- each element
 

@@ -8,8 +8,8 @@ use Rattle.gw_validate.specs.Cuts.{Cut}
 use Rattle.gw_validate.specs.Conforming.{Conforms}
 use Rattle.gw_validate.specs.Trees.{Tree}
 use Rattle.gw_validate.specs.Broken.{IsTreeOf}
-use Rattle.gw_check.specs.Places.{Place, child, nodes_of_child, name_of}
-use Rattle.gw_check.specs.Resolved.{Rule, Items, no_items, segment_item, group_item, flat_item, Resolved}
+use Rattle.gw_resolve.specs.Places.{Place, child, nodes_of_child, name_of}
+use Rattle.gw_resolve.specs.Resolved.{Rule, Items, no_items, segment_item, group_item, flat_item, Resolved}
 use Rattle.gw_interp.specs.Occurrences as occurrences
 use Rattle.gw_interp.specs.Occurrences.{Occurrence, at_place}
 use Rattle.gw_interp.specs.Meaning.{Walked, IsImage, IsOne, ForEach, walked, Segments, Give}

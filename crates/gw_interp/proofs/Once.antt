@@ -12,8 +12,8 @@ use Rattle.gw_er7.proofs.Once.{get_kept}
 use Rattle.gw_profile.specs.Shapes.{Forest, ProfileValue}
 use Rattle.gw_validate.specs.Cuts.{Cut}
 use Rattle.gw_validate.specs.Trees.{Tree}
-use Rattle.gw_check.specs.Places.{Place, child, nodes_of_child, name_of}
-use Rattle.gw_check.specs.Resolved.{Source, of_field, of_current, Leaf, const, copied, looked_up, At, leaf_at, Making, copy, first, repeat, build, Rule, rule_of, Items, no_items, segment_item, group_item, flat_item, Resolved}
+use Rattle.gw_resolve.specs.Places.{Place, child, nodes_of_child, name_of}
+use Rattle.gw_resolve.specs.Resolved.{Source, of_field, of_current, Leaf, const, copied, looked_up, At, leaf_at, Making, copy, first, repeat, build, Rule, rule_of, Items, no_items, segment_item, group_item, flat_item, Resolved}
 use Rattle.gw_interp.specs.Occurrences as occurrences
 use Rattle.gw_interp.specs.Occurrences.{Occurrence, at_place, texts_at}
 use Rattle.gw_interp.specs.Meaning.{IsFirst, InFirst, Walked, SourceMeans, look_up, LeafMeans, AtMeans, Where, walking, MakingMeans, RuleMeans, IsImage, ForEach, IsOne, walked, Segments, Give, Means}

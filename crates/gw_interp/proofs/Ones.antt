@@ -5,7 +5,7 @@ use Rattle.gw_er7.specs.Message.{SegmentValue}
 use Rattle.gw_er7.specs.Building.{IsBegun}
 use Rattle.gw_profile.specs.Shapes.{Forest}
 use Rattle.gw_validate.specs.Fitting.{OccValue}
-use Rattle.gw_check.specs.Resolved.{Rule, Items}
+use Rattle.gw_resolve.specs.Resolved.{Rule, Items}
 use Rattle.gw_interp.specs.Occurrences.{Occurrence}
 use Rattle.gw_interp.specs.Lent.{occurrence}
 use Rattle.gw_interp.specs.Meaning.{walked, IsOne, IsImage, ForEach, Give}

@@ -7,8 +7,8 @@ use Rattle.gw_er7.specs.Message.{SegmentValue}
 use Rattle.gw_profile.specs.Shapes.{ProfileValue}
 use Rattle.gw_profile.specs.Deterministic.{AtMost}
 use Rattle.gw_validate.specs.Cuts.{Many}
-use Rattle.gw_check.specs.Intervals.{Interval, never, once, add, multiply, sum, product}
-use Rattle.gw_check.specs.Places.{Element}
+use Rattle.gw_resolve.specs.Intervals.{Interval, never, once, add, multiply, sum, product}
+use Rattle.gw_resolve.specs.Places.{Element}
 use Rattle.gw_interp.specs.Occurrences.{Occurrence}
 use Rattle.gw_interp.specs.Meaning.{ForEach}
 use Rattle.gw_interp.proofs.Walks.{IsOccurrence}

@@ -9,9 +9,9 @@ use Rattle.gw_profile.specs.declared.shape.Card.{Card}
 use Rattle.gw_profile.specs.Shapes.{FieldValue, Forest, ProfileValue, nothing, segment, group}
 use Rattle.gw_profile.specs.Deterministic.{AtMost}
 use Rattle.gw_validate.specs.Trees.{Tree, leaf, segments, groups, Trees, no_trees, trees, count_of}
-use Rattle.gw_check.specs.Intervals.{Interval, of_card, multiply, product}
-use Rattle.gw_check.specs.Places as elements
-use Rattle.gw_check.specs.Places.{Element, nodes_of, Place, Found, times, child_found, found_below, found_in, found}
+use Rattle.gw_resolve.specs.Intervals.{Interval, of_card, multiply, product}
+use Rattle.gw_resolve.specs.Places as elements
+use Rattle.gw_resolve.specs.Places.{Element, nodes_of, Place, Found, times, child_found, found_below, found_in, found}
 use Rattle.gw_interp.specs.Occurrences.{Occurrence, a_segment, nodes, list_of, level_at, below, in_scope, at_place}
 use Rattle.gw_interp.proofs.Walks.{IsSegmentOf, IsLevel, AreLevels, IsOccurrence, InScope}
 

@@ -8,8 +8,8 @@ use Rattle.gw_er7.specs.Message.{SegmentValue}
 use Rattle.gw_profile.proofs.Facts.{and_of}
 use Rattle.gw_maplang.specs.declared.rule.LeafPlace.{LeafPlace}
 use Rattle.gw_maplang.specs.Among.{Among, Distinct}
-use Rattle.gw_check.specs.Lawful.{place, places}
-use Rattle.gw_check.specs.Resolved.{At, leaf_at}
+use Rattle.gw_resolve.specs.Lawful.{place, places}
+use Rattle.gw_resolve.specs.Resolved.{At, leaf_at}
 use Rattle.gw_interp.specs.Meaning.{Walked, LeafMeans, AtMeans}
 use Rattle.gw_interp.specs.Sourced.{IsFault}
 use Rattle.gw_interp.specs.Putting.{last_name, last_texts}

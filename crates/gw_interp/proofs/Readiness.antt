@@ -6,11 +6,11 @@ use Rattle.gw_profile.specs.WellFormed.{table_names}
 use Rattle.gw_validate.specs.Conforming.{Conforms}
 use Rattle.gw_validate.specs.Trees.{Tree}
 use Rattle.gw_validate.specs.Broken.{IsTreeOf}
-use Rattle.gw_check.specs.Places.{Element, the_whole, Place, child, nodes_of_child, fields_of, name_of, element_of, found, within, within_if}
-use Rattle.gw_check.specs.Resolved.{Rule, Items, no_items, segment_item, group_item, flat_item, Resolved}
+use Rattle.gw_resolve.specs.Places.{Element, the_whole, Place, child, nodes_of_child, fields_of, name_of, element_of, found, within, within_if}
+use Rattle.gw_resolve.specs.Resolved.{Rule, Items, no_items, segment_item, group_item, flat_item, Resolved}
 use Rattle.gw_check.specs.Fields.{segment_failures}
 use Rattle.gw_check.specs.Levels.{sources, level_failures, items_failures}
-use Rattle.gw_check.specs.Lawful.{LawfulRules, LawfulItems}
+use Rattle.gw_resolve.specs.Lawful.{LawfulRules, LawfulItems}
 use Rattle.gw_interp.specs.Occurrences as occurrences
 use Rattle.gw_interp.specs.Occurrences.{Occurrence, at_place}
 use Rattle.gw_interp.specs.Meaning.{walked}

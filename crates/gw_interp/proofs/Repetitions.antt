@@ -3,7 +3,7 @@ use Rattle.std.proofs.Common.{◌≡◌, ℕ, zero, suc, ◌-◌, ◌<◌, ◌�
 use Rattle.std.proofs.lemmas.Bool.{cases_lt}
 use Rattle.gw_er7.specs.Presence.{IsLast}
 use Rattle.gw_validate.specs.Breaches.{Counted}
-use Rattle.gw_check.specs.Intervals.{Interval, never}
+use Rattle.gw_resolve.specs.Intervals.{Interval, never}
 use Rattle.gw_interp.specs.Meaning.{IsFirst}
 
 -- no fewer and no more of the numbers from 1 on than an interval says

@@ -6,7 +6,7 @@ use Rattle.std.specs.Cmp.Lexicographic.{slice_cmp}
 use Rattle.std.specs.FinMap as texts
 use Rattle.gw_er7.specs.Message.{Texts, text_of, SegmentValue}
 use Rattle.gw_er7.specs.Presence.{RepAt, IsLast}
-use Rattle.gw_check.specs.Resolved.{Reference, At, leaf_at, copy, first, repeat, build}
+use Rattle.gw_resolve.specs.Resolved.{Reference, At, leaf_at, copy, first, repeat, build}
 use Rattle.gw_interp.specs.Occurrences.{texts_at}
 use Rattle.gw_interp.specs.Meaning.{Walked, walking, AtMeans, InFirst, Where, MakingMeans}
 use Rattle.gw_interp.specs.Sourced.{IsFirstRep}

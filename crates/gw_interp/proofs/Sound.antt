@@ -10,7 +10,7 @@ use Rattle.gw_profile.specs.Names.{stands}
 use Rattle.gw_validate.specs.Conforming.{Seq, listed, Conforms}
 use Rattle.gw_validate.specs.Trees.{Tree}
 use Rattle.gw_validate.specs.Broken.{IsTreeOf}
-use Rattle.gw_check.specs.Resolved.{Resolved}
+use Rattle.gw_resolve.specs.Resolved.{Resolved}
 use Rattle.gw_check.specs.Levels.{sources}
 use Rattle.gw_interp.specs.Meaning.{IsImage, walked, Means}
 use Rattle.gw_interp.proofs.FieldSound.{field_sound}

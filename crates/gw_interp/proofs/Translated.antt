@@ -11,7 +11,7 @@ use Rattle.gw_validate.specs.Conforming.{Conforms}
 use Rattle.gw_validate.specs.Broken.{IsTreeOf}
 use Rattle.gw_maplang.specs.Lawful.{Lawful}
 use Rattle.gw_maplang.specs.Seen.{map_value}
-use Rattle.gw_check.specs.Resolved.{Items}
+use Rattle.gw_resolve.specs.Resolved.{Items}
 use Rattle.gw_check.specs.CheckedMap.{CheckedValue, resolved_map, IsChecked}
 use Rattle.gw_interp.specs.Occurrences.{Occurrence}
 use Rattle.gw_interp.specs.Lent.{scope}

@@ -2,7 +2,7 @@
 use Rattle.std.proofs.Common.{get_or, ◌≡◌, ℕ, ◌+◌, ◌≤◌, ◌<◌, List, [], ◌∷◌, sym, subst, length, map, drop}
 use Rattle.std.proofs.lemmas.List.{drop_all}
 use Rattle.gw_er7.specs.Message.{SegmentValue}
-use Rattle.gw_check.specs.Resolved.{At, Rule}
+use Rattle.gw_resolve.specs.Resolved.{At, Rule}
 use Rattle.gw_interp.specs.Meaning.{Walked}
 use Rattle.gw_interp.specs.Filling.{IsHeld, MayFill, AreFilled}
 use Rattle.gw_interp.specs.Making.{IsRuleMade, MayMakeRules, AreRulesMade}

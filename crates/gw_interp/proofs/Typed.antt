@@ -7,11 +7,11 @@ use Rattle.gw_validate.specs.Conforming.{Seq, Conforms, numbers}
 use Rattle.gw_validate.specs.Trees.{Tree}
 use Rattle.gw_validate.specs.Broken.{IsTreeOf}
 use Rattle.gw_validate.proofs.Judged.{message_decided}
-use Rattle.gw_check.specs.Places.{the_whole}
-use Rattle.gw_check.specs.Resolved.{Rule, Resolved}
+use Rattle.gw_resolve.specs.Places.{the_whole}
+use Rattle.gw_resolve.specs.Resolved.{Rule, Resolved}
 use Rattle.gw_check.specs.Levels.{level_failures, items_failures}
 use Rattle.gw_check.specs.Typed.{IsTyped}
-use Rattle.gw_check.specs.Lawful.{LawfulItems}
+use Rattle.gw_resolve.specs.Lawful.{LawfulItems}
 use Rattle.gw_interp.specs.Occurrences as occurrences
 use Rattle.gw_interp.specs.Meaning.{Walked, GiveBy}
 use Rattle.gw_interp.proofs.Splits.{nil_left, nil_right}

@@ -9,9 +9,9 @@ use Rattle.gw_profile.specs.Deterministic.{AtMost}
 use Rattle.gw_validate.specs.Breaches.{Meets, FieldBreach}
 use Rattle.gw_validate.specs.Trees.{Tree, leaf, segments, groups, Trees, no_trees, trees, count_of}
 use Rattle.gw_validate.specs.Conforming.{named, segment_at}
-use Rattle.gw_check.specs.Intervals.{is_sure, is_never}
-use Rattle.gw_check.specs.Places as elements
-use Rattle.gw_check.specs.Places.{Element, Place, Known, known}
+use Rattle.gw_resolve.specs.Intervals.{is_sure, is_never}
+use Rattle.gw_resolve.specs.Places as elements
+use Rattle.gw_resolve.specs.Places.{Element, Place, Known, known}
 use Rattle.gw_check.specs.Leaves.{Sources}
 use Rattle.gw_interp.specs.Occurrences.{Occurrence, a_segment, nodes, texts_at}
 use Rattle.gw_interp.specs.Meaning.{Walked}

@@ -12,15 +12,15 @@ use Rattle.gw_profile.specs.WellFormed.{Agrees}
 use Rattle.gw_validate.specs.Breaches.{is_forbidden}
 use Rattle.gw_validate.specs.Cuts.{Times}
 use Rattle.gw_validate.specs.Conforming.{Seq}
-use Rattle.gw_check.specs.Intervals.{Interval, is_never, is_within}
-use Rattle.gw_check.specs.Places.{Element, a_segment, a_group, child, nodes_of_child}
-use Rattle.gw_check.specs.Resolved.{Rule, Items, no_items, segment_item, group_item, flat_item, first_child}
+use Rattle.gw_resolve.specs.Intervals.{Interval, is_never, is_within}
+use Rattle.gw_resolve.specs.Places.{Element, a_segment, a_group, child, nodes_of_child}
+use Rattle.gw_resolve.specs.Resolved.{Rule, Items, no_items, segment_item, group_item, flat_item, first_child}
 use Rattle.gw_check.specs.Counts.{items_count}
-use Rattle.gw_check.specs.Failures.{fails}
+use Rattle.gw_resolve.specs.Failures.{fails}
 use Rattle.gw_check.specs.Fields.{is_expected}
 use Rattle.gw_check.specs.Levels.{its, beyond, first_line, has_no_item, node_failures, level_failures, items_failures}
-use Rattle.gw_check.specs.Placed.{is_segment, is_group, follows, number_or, all_for, are_placed}
-use Rattle.gw_check.specs.Lawful.{LawfulItems}
+use Rattle.gw_resolve.specs.Placed.{is_segment, is_group, follows, number_or, all_for, are_placed}
+use Rattle.gw_resolve.specs.Lawful.{LawfulItems}
 use Rattle.gw_interp.specs.Occurrences.{Occurrence}
 use Rattle.gw_interp.specs.Meaning.{Walked, GiveBy}
 use Rattle.gw_interp.proofs.Parts.{Given}

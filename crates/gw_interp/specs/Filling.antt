@@ -6,7 +6,7 @@ use Rattle.gw_er7.specs.Message.{SegmentValue, first_field, IsEntry}
 use Rattle.gw_er7.specs.Building.{IsBegun, with_last}
 use Rattle.gw_validate.specs.Fitting.{OccValue}
 use Rattle.gw_maplang.specs.Among.{Among, Distinct}
-use Rattle.gw_check.specs.Resolved.{At}
+use Rattle.gw_resolve.specs.Resolved.{At}
 use Rattle.gw_interp.specs.declared.reading.Reading.{Reading}
 use Rattle.gw_interp.specs.Meaning.{Walked, LeafMeans}
 use Rattle.gw_interp.specs.Sourced.{walks, IsFault}

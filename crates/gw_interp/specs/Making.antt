@@ -6,8 +6,8 @@ use Rattle.gw_er7.specs.Message.{Texts, text_of, SegmentValue, first_field, IsEn
 use Rattle.gw_er7.specs.Building.{IsBegun, with_last}
 use Rattle.gw_validate.specs.Fitting.{OccValue}
 use Rattle.gw_maplang.specs.Among.{Among, Distinct}
-use Rattle.gw_check.specs.Lawful.{LawfulMaking, places}
-use Rattle.gw_check.specs.Resolved.{At, leaf_at, Making, Rule}
+use Rattle.gw_resolve.specs.Lawful.{LawfulMaking, places}
+use Rattle.gw_resolve.specs.Resolved.{At, leaf_at, Making, Rule}
 use Rattle.gw_interp.specs.declared.copying.Spot.{Spot}
 use Rattle.gw_interp.specs.Lent.{scope}
 use Rattle.gw_interp.specs.Meaning.{Walked, walked, AtMeans, MakingMeans}

@@ -4,7 +4,7 @@ use Rattle.std.specs.FinMap as texts
 use Rattle.gw_er7.specs.Message.{Texts, SegmentValue}
 use Rattle.gw_validate.specs.Trees.{Tree, leaf, segments, groups, Trees, no_trees, trees}
 use Rattle.gw_validate.specs.Conforming.{segment_at}
-use Rattle.gw_check.specs.Places.{Place}
+use Rattle.gw_resolve.specs.Places.{Place}
 
 -- a segment of the message, by its number; a group, or the whole message, with the occurrences of its nodes
 pub data Occurrence : Type 0 where

@@ -5,9 +5,9 @@ use Rattle.gw_er7.specs.Names.{IsName, header_name}
 use Rattle.gw_er7.specs.Message.{SegmentValue, first_field, IsEntry}
 use Rattle.gw_er7.specs.Presence.{RepAt}
 use Rattle.gw_profile.specs.Shapes.{Forest}
-use Rattle.gw_check.specs.Places.{Place, child, nodes_of_child, name_of}
-use Rattle.gw_check.specs.Resolved.{At, Making, copy, first, repeat, build, Rule, rule_of, Items, no_items, segment_item, group_item, flat_item}
-use Rattle.gw_check.specs.Lawful.{LawfulRules}
+use Rattle.gw_resolve.specs.Places.{Place, child, nodes_of_child, name_of}
+use Rattle.gw_resolve.specs.Resolved.{At, Making, copy, first, repeat, build, Rule, rule_of, Items, no_items, segment_item, group_item, flat_item}
+use Rattle.gw_resolve.specs.Lawful.{LawfulRules}
 use Rattle.gw_interp.specs.Occurrences.{Occurrence, at_place, texts_at}
 use Rattle.gw_interp.specs.Meaning.{Walked, walking, walked, RuleMeans}
 use Rattle.gw_interp.specs.Sourced.{IsFault}

@@ -5,7 +5,7 @@ use Rattle.gw_profile.specs.Shapes.{ProfileValue}
 use Rattle.gw_validate.specs.Trees.{Tree}
 use Rattle.gw_validate.specs.Broken.{IsTreeOf}
 use Rattle.gw_validate.specs.Conforming.{Conforms}
-use Rattle.gw_check.specs.Resolved.{Resolved}
+use Rattle.gw_resolve.specs.Resolved.{Resolved}
 use Rattle.gw_interp.specs.Meaning.{Means}
 
 -- what the map makes of any message that conforms to the source conforms to the target

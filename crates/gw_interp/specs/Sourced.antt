@@ -5,7 +5,7 @@ use Rattle.gw_er7.specs.Message.{Texts, text_of, SegmentValue}
 use Rattle.gw_er7.specs.Presence.{RepAt, FieldAt}
 use Rattle.gw_interp.specs.declared.reading.Repetition.{Repetition}
 use Rattle.gw_interp.specs.declared.reading.Reading.{Reading}
-use Rattle.gw_check.specs.Resolved.{Leaf, const, copied, looked_up}
+use Rattle.gw_resolve.specs.Resolved.{Leaf, const, copied, looked_up}
 use Rattle.gw_interp.specs.Meaning.{IsFirst, Walked, SourceMeans, look_up, LeafMeans}
 use Rattle.gw_interp.specs.Lent.{scope}
 

@@ -1,7 +1,7 @@
 //! Leaves put at a repetition of a field.
 ghost use Rattle.std.specs.Prelude.{◌≡◌, ◌<◌, length, None, OnOk, map};
 ghost use Rattle.std.specs.FinMap as texts;
-ghost use Rattle.gw_check.specs.Seen.{at_leaf};
+ghost use Rattle.gw_resolve.specs.Seen.{at_leaf};
 ghost use Rattle.gw_interp.specs.Lent.{AreOf};
 ghost use Rattle.gw_interp.specs.Putting.{last_name, last_texts};
 ghost use Rattle.gw_interp.specs.Filling.{message_of, read_by, key_of, MayHold, IsHeld, MayFill, AreFilled};
@@ -10,9 +10,9 @@ ghost use Rattle.gw_interp.specs.Making.{MayFillRep, IsRepFilled};
 use crate::lookup::leaf_text;
 use crate::putting::put_text;
 use crate::reading::Reading;
-use gw_check::At;
 use gw_er7::{Builder, Place};
 use gw_maplang::Map;
+use gw_resolve::At;
 use std::alloc::AllocError;
 
 // Puts the text of a leaf at its place.

@@ -4,9 +4,9 @@ ghost use Rattle.std.specs.List.{AllByRecursion};
 ghost use Rattle.gw_er7.specs.Building.{IsBegun};
 ghost use Rattle.gw_profile.specs.Shapes.{nothing};
 ghost use Rattle.gw_profile.specs.Seen.{forest, node_forest};
-ghost use Rattle.gw_check.specs.Places.{child, name_of, nodes_of_child};
-ghost use Rattle.gw_check.specs.Resolved.{no_items};
-ghost use Rattle.gw_check.specs.Seen.{place as seen_place, rule as seen_rule, with_item, all_items};
+ghost use Rattle.gw_resolve.specs.Places.{child, name_of};
+ghost use Rattle.gw_resolve.specs.Resolved.{no_items};
+ghost use Rattle.gw_resolve.specs.Seen.{place as seen_place, rule as seen_rule, with_item, all_items};
 ghost use Rattle.gw_interp.specs.Lent.{occurrence, scope as walked_in, AreOf};
 ghost use Rattle.gw_interp.specs.Meaning.{walked, IsOne, IsImage, ForEach, Segments, Give};
 ghost use Rattle.gw_interp.specs.Filling.{message_of};
@@ -16,10 +16,10 @@ ghost use Rattle.gw_interp.specs.Within.{IsWithin};
 
 use crate::places::at_place;
 use crate::segments::put_segment;
-use gw_check::{Item, SegmentItem};
 use gw_er7::Builder;
 use gw_maplang::Map;
 use gw_profile::Node;
+use gw_resolve::{Item, SegmentItem, nodes_within};
 use gw_validate::Occ;
 use std::alloc::{AllocError, Global};
 
@@ -54,26 +54,6 @@ fn name_at(nodes: &[Node], number: usize) -> Option<[u8; 3]>
     match nodes.get(number) {
         None => None,
         Some(node) => name_of_node(node),
-    }
-}
-
-// The nodes within a node.
-fn nodes_of(node: &Node) -> &[Node]
-    ensures { forest result.now ≡ nodes_of_child (node_forest node.now nothing) 0 }
-{
-    match node {
-        Node::Seg(_) => &[],
-        Node::Group(group) => &group.nodes,
-    }
-}
-
-// The nodes within the node of this number.
-fn nodes_within(nodes: &[Node], number: usize) -> &[Node]
-    ensures { forest result.now ≡ nodes_of_child (forest nodes.now) number }
-{
-    match nodes.get(number) {
-        None => &[],
-        Some(node) => nodes_of(node),
     }
 }
 

@@ -5,9 +5,9 @@ ghost use Rattle.gw_profile.specs.WellFormed.{WellFormed};
 ghost use Rattle.gw_maplang.specs.Lawful.{Lawful};
 ghost use Rattle.gw_maplang.specs.Shapes.{MapValue};
 ghost use Rattle.gw_check.specs.Checked.{all_failures};
-ghost use Rattle.gw_check.specs.Naming.{resolved};
-ghost use Rattle.gw_check.specs.Resolved.{Resolved};
-ghost use Rattle.gw_check.specs.Lawful.{LawfulItems};
+ghost use Rattle.gw_resolve.specs.Naming.{resolved};
+ghost use Rattle.gw_resolve.specs.Resolved.{Resolved};
+ghost use Rattle.gw_resolve.specs.Lawful.{LawfulItems};
 ghost use Rattle.gw_check.specs.Typed.{IsTyped};
 ghost use Rattle.gw_interp.specs.Sound.{MakesConforming, MakesOne, MakesSome, MakesTheOne};
 

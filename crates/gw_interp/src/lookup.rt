@@ -3,17 +3,17 @@ ghost use Rattle.std.specs.Prelude.{◌≡◌, List, unwrap_or};
 ghost use Rattle.gw_er7.specs.Message.{SegmentValue};
 ghost use Rattle.gw_maplang.specs.Shapes.{table_of};
 ghost use Rattle.gw_maplang.specs.Seen.{now};
-ghost use Rattle.gw_check.specs.Naming.{no_rows};
+ghost use Rattle.gw_resolve.specs.Naming.{no_rows};
 ghost use Rattle.gw_check.specs.Leaves.{given};
-ghost use Rattle.gw_check.specs.Seen.{leaf as seen_leaf};
+ghost use Rattle.gw_resolve.specs.Seen.{leaf as seen_leaf};
 ghost use Rattle.gw_validate.specs.Breaches.{is_null};
 ghost use Rattle.gw_interp.specs.Lent.{AreOf};
 ghost use Rattle.gw_interp.specs.Meaning.{look_up};
 ghost use Rattle.gw_interp.specs.Sourced.{walks, LeafGives};
 
 use crate::reading::{Reading, source_text};
-use gw_check::Leaf;
 use gw_maplang::{Map, Table};
+use gw_resolve::Leaf;
 
 fn is_null(text: &[u8]) -> bool
     ensures { result ≡ is_null text.now }

@@ -1,7 +1,7 @@
 //! Fields of the last segment, made by their rules.
 ghost use Rattle.std.specs.Prelude.{◌≡◌, ℕ, OnOk, map};
-ghost use Rattle.gw_check.specs.Resolved.{copy, first, repeat, build};
-ghost use Rattle.gw_check.specs.Seen.{reference, at_leaf, rule as seen_rule};
+ghost use Rattle.gw_resolve.specs.Resolved.{copy, first, repeat, build};
+ghost use Rattle.gw_resolve.specs.Seen.{reference, at_leaf, rule as seen_rule};
 ghost use Rattle.gw_interp.specs.Lent.{AreOf};
 ghost use Rattle.gw_interp.specs.Meaning.{walking as walking_in};
 ghost use Rattle.gw_interp.specs.Sourced.{current_texts};
@@ -11,9 +11,9 @@ ghost use Rattle.gw_interp.specs.Making.{seen_from, MayFillRep, IsRepFilled, May
 use crate::copying::{Spot, copy_rep, copy_reps};
 use crate::filling::fill_rep;
 use crate::reading::{Reading, Repetition, first_rep, next_rep, segment_at};
-use gw_check::{At, Making, Reference, Rule};
 use gw_er7::Builder;
 use gw_maplang::Map;
+use gw_resolve::{At, Making, Reference, Rule};
 use gw_validate::Occ;
 use std::alloc::AllocError;
 

@@ -1,11 +1,11 @@
 //! The occurrences at the places of a map.
 ghost use Rattle.std.specs.Prelude.{◌≡◌, ◌++◌, List, IfOk, OnOk, IfSome, map, flat_map};
 ghost use Rattle.gw_er7.specs.Message.{SegmentValue};
-ghost use Rattle.gw_check.specs.Seen.{place as seen_place};
+ghost use Rattle.gw_resolve.specs.Seen.{place as seen_place};
 ghost use Rattle.gw_interp.specs.Occurrences as spec;
 ghost use Rattle.gw_interp.specs.Lent.{occurrence, scope as walked, AreOf, IsFirstOf};
 
-use gw_check::Place;
+use gw_resolve::Place;
 use gw_validate::Occ;
 use std::alloc::{AllocError, Global};
 

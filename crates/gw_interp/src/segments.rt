@@ -1,7 +1,7 @@
 //! Segments made by their rules.
 ghost use Rattle.std.specs.Prelude.{◌≡◌, OnOk, map, ◌∷◌, []};
 ghost use Rattle.gw_er7.specs.Building.{IsBegun};
-ghost use Rattle.gw_check.specs.Seen.{rule as seen_rule};
+ghost use Rattle.gw_resolve.specs.Seen.{rule as seen_rule};
 ghost use Rattle.gw_interp.specs.Lent.{AreOf};
 ghost use Rattle.gw_interp.specs.Meaning.{IsImage, IsOne};
 ghost use Rattle.gw_interp.specs.Filling.{message_of};
@@ -9,9 +9,9 @@ ghost use Rattle.gw_interp.specs.Ready.{MayImage, MayBegin, Adds};
 ghost use Rattle.gw_interp.specs.Making.{seen_from, MayMakeRules, AreRulesMade};
 
 use crate::making::make_rule;
-use gw_check::Rule;
 use gw_er7::Builder;
 use gw_maplang::Map;
+use gw_resolve::Rule;
 use gw_validate::Occ;
 use std::alloc::AllocError;
 

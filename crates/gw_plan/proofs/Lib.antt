@@ -1,3 +1,4 @@
 pub mod Keys
 pub mod Routes
 pub mod Sendings
+pub mod Receivers

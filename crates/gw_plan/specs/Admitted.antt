@@ -37,6 +37,12 @@ pub record IsUnder (c : ConformingHeld) (version : ℕ) (plan : PlanHeld) : Type
   pub same_version : c.version ≡ version
   pub same_text : c.plan.text ≡ plan.text
 
+-- the same message, admitted under the same version and plan
+pub record IsSameSource (c d : ConformingHeld) : Type 0 where
+  pub message : c.tree.message ≡ d.tree.message
+  pub version : c.version ≡ d.version
+  pub text : c.plan.text ≡ d.plan.text
+
 -- the plan has a route for the message, and it conforms to the route's profile
 pub record IsAdmitted (plan : PlanHeld) (version : ℕ) (m : List SegmentValue) (c : ConformingHeld) : Type 0 where
   pub by_plan : c.plan ≡ plan

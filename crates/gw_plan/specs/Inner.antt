@@ -11,7 +11,7 @@ use Rattle.gw_maplang.specs.Shapes.{MapValue}
 use Rattle.gw_maplang.specs.Whole as maps
 use Rattle.gw_maplang.specs.Numbers as map_numbers
 use Rattle.gw_maplang.specs.declared.fault.MapFault as map_faults
-use Rattle.gw_check.specs.Failures.{Failure}
+use Rattle.gw_resolve.specs.Failures.{Failure}
 use Rattle.gw_check.specs.Checked.{all_failures, least}
 use Rattle.gw_plan.specs.declared.fault.PlanFault.{PlanFault}
 use Rattle.gw_plan.specs.declared.fault.PlanFault.TheVariants.{Syntax, Profile, Map, Check, Duplicate, UnknownName}

@@ -5,12 +5,12 @@ use Rattle.gw_er7.specs.Message.{SegmentValue}
 use Rattle.gw_validate.specs.Conforming.{Conforms}
 use Rattle.gw_validate.specs.Broken.{IsTreeOf}
 use Rattle.gw_validate.specs.Trees.{Tree}
-use Rattle.gw_check.specs.Naming.{resolved}
+use Rattle.gw_resolve.specs.Naming.{resolved}
 use Rattle.gw_interp.specs.Meaning.{Means}
 use Rattle.gw_plan.specs.Shapes.{MapBetween, RouteValue}
 use Rattle.gw_plan.specs.Held.{plan_value}
 use Rattle.gw_plan.specs.Routing.{routed}
-use Rattle.gw_plan.specs.Admitted.{ConformingHeld}
+use Rattle.gw_plan.specs.Admitted.{ConformingHeld, IsSameSource}
 
 -- It is what the map of the message's route for this receiver makes of the message and its tree, and it conforms to that map's target.
 pub record Translates (c : ConformingHeld) (receiver : ℕ) (made : List SegmentValue) : Type 0 where
@@ -29,3 +29,9 @@ pub record TranslatedHeld : Type 0 where
   pub source : ConformingHeld
   pub receiver : ℕ
   pub message : List SegmentValue
+
+-- the same, made of the same admitted message for the same receiver
+pub record IsSameTranslated (a b : TranslatedHeld) : Type 0 where
+  pub source : IsSameSource a.source b.source
+  pub receiver : a.receiver ≡ b.receiver
+  pub message : a.message ≡ b.message

@@ -4,7 +4,7 @@ ghost use Rattle.std.specs.Arc.{arc_value};
 ghost use Rattle.gw_profile.specs.Seen.{profile_value};
 ghost use Rattle.gw_plan.specs.Held.{plan_value, route_value};
 ghost use Rattle.gw_plan.specs.Routing.{routed};
-ghost use Rattle.gw_plan.specs.Admitted.{ConformingHeld, IsConforming, IsAdmitted, IsRefused, IsUnder, IsOf};
+ghost use Rattle.gw_plan.specs.Admitted.{ConformingHeld, IsConforming, IsAdmitted, IsRefused, IsSameSource, IsUnder, IsOf};
 ghost use Rattle.gw_plan.specs.Translating.{Translates};
 
 use crate::plan::Plan;
@@ -32,7 +32,7 @@ impl Model for Conforming {
     ghost use Rattle.gw_profile.specs.contracts.node.Node as node;
     ghost use Rattle.gw_validate.specs.contracts.occurrences.Occurrences as occurrences;
     ghost use Rattle.gw_maplang.specs.contracts.item.Item as raw_item;
-    ghost use Rattle.gw_check.specs.contracts.resolved.Item as item;
+    ghost use Rattle.gw_resolve.specs.contracts.resolved.Item as item;
     ghost use Rattle.gw_plan.specs.Admitted.{ConformingHeld, IsConforming};
 
     ghost Value = { ConformingHeld };
@@ -83,6 +83,16 @@ impl Conforming {
         ensures { IsTrue result ↔ IsUnder self.now version plan.now }
     {
         self.version == version && self.plan.text() == plan.text()
+    }
+
+    /// Whether these are the same: message, version and the plan's text. It takes no memory.
+    pub fn same(&self, other: &Conforming) -> bool
+        ensures { IsTrue result ↔ IsSameSource self.now other.now }
+    {
+        if !other.under(self.version, &self.plan) {
+            return false;
+        }
+        self.message().same(other.message())
     }
 }
 

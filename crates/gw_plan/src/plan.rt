@@ -1,5 +1,5 @@
 //! Plans.
-ghost use Rattle.std.specs.Prelude.{◌≡◌, ◌<◌, map, length, slice_get, Some, bytes_eq};
+ghost use Rattle.std.specs.Prelude.{◌≡◌, ◌↔◌, ◌<◌, IsTrue, map, length, slice_get, Some, bytes_eq};
 ghost use Rattle.std.specs.List.{list_any};
 ghost use Rattle.gw_plan.specs.Routing.{header_text, is_accepted, routed};
 ghost use Rattle.gw_plan.specs.Held.{plan_value, lent, tested, FoundAt};
@@ -7,6 +7,7 @@ ghost use Rattle.gw_plan.specs.Seen.{receiver_value};
 
 use crate::index::Index;
 use crate::route::Route;
+use gw_er7::same::{Part, are_same, same_bytes};
 use gw_er7::{Message, Place};
 use std::marker::Model;
 
@@ -28,12 +29,26 @@ pub struct Plan {
     routes: Vec<Route>,
 }
 
+impl Part for Receiver {
+    ghost use Rattle.std.specs.Prelude.{◌≡◌};
+    ghost use Rattle.gw_plan.specs.Seen.{receiver_value};
+
+    ghost same = { λ one other. receiver_value one ≡ receiver_value other };
+
+    fn is(&self, other: &Receiver) -> bool {
+        if !same_bytes(&self.name, &other.name) {
+            return false;
+        }
+        same_bytes(&self.address, &other.address)
+    }
+}
+
 impl Model for Plan {
     ghost use Rattle.std.specs.Coded.{codes};
     ghost use Rattle.std.specs.Prelude.{map};
     ghost use Rattle.gw_profile.specs.contracts.node.Node as node;
     ghost use Rattle.gw_maplang.specs.contracts.item.Item as raw_item;
-    ghost use Rattle.gw_check.specs.contracts.resolved.Item as item;
+    ghost use Rattle.gw_resolve.specs.contracts.resolved.Item as item;
     ghost use Rattle.gw_plan.specs.Seen.{receiver_value};
     ghost use Rattle.gw_plan.specs.Held.{PlanHeld};
     ghost use Rattle.gw_plan.specs.Kept.{IsPlan};
@@ -89,6 +104,13 @@ impl Plan {
         ensures { map receiver_value result.now ≡ self.now.receivers }
     {
         self.receivers.as_slice()
+    }
+
+    /// Whether the plans have the same receivers, by name and address, in the same order. It takes no memory.
+    pub fn same_receivers(&self, other: &Plan) -> bool
+        ensures { IsTrue result ↔ (self.now.receivers ≡ other.now.receivers) }
+    {
+        are_same(&self.receivers, &other.receivers)
     }
 
     // The tests of version and processing id, for a route of this number.

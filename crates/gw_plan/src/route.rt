@@ -1,5 +1,5 @@
 //! Routes.
-ghost use Rattle.std.specs.Prelude.{◌≡◌, IfSome, length, nat_eq};
+ghost use Rattle.std.specs.Prelude.{◌≡◌, ◌<◌, IfSome, Some, length, map, nat_eq, slice_get};
 ghost use Rattle.std.specs.List.{list_any};
 ghost use Rattle.std.specs.Arc.{arc_value};
 ghost use Rattle.std.specs.Map.{lookup};
@@ -28,7 +28,7 @@ impl Model for Route {
     ghost use Rattle.std.specs.Arc.{arc_value};
     ghost use Rattle.gw_profile.specs.contracts.node.Node as node;
     ghost use Rattle.gw_maplang.specs.contracts.item.Item as raw_item;
-    ghost use Rattle.gw_check.specs.contracts.resolved.Item as item;
+    ghost use Rattle.gw_resolve.specs.contracts.resolved.Item as item;
     ghost use Rattle.gw_plan.specs.Held.{RouteHeld, IsRoute};
 
     ghost Value = { RouteHeld };
@@ -53,6 +53,17 @@ impl Route {
         ensures { result ≡ length self.now.legs }
     {
         self.legs.len()
+    }
+
+    /// The number of the receiver of its `to` line of this place, from 0. It takes no memory.
+    pub fn receiver(&self, i: usize) -> usize
+        requires { i < length self.now.legs }
+        ensures { slice_get (map (λ l. l.0) self.now.legs) i ≡ Some result }
+    {
+        match self.legs.get_index(i) {
+            Some((receiver, _)) => *receiver,
+            None => unreachable!(),
+        }
     }
 
     /// Whether it goes to this receiver. It takes no memory.

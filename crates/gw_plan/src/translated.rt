@@ -1,8 +1,8 @@
 //! What receivers are sent.
-ghost use Rattle.std.specs.Prelude.{◌≡◌, IfOk};
+ghost use Rattle.std.specs.Prelude.{◌≡◌, ◌↔◌, IsTrue, IfOk};
 ghost use Rattle.std.specs.Arc.{arc_value};
-ghost use Rattle.gw_plan.specs.Admitted.{IsOf};
-ghost use Rattle.gw_plan.specs.Translating.{Translates};
+ghost use Rattle.gw_plan.specs.Admitted.{IsOf, IsSameSource};
+ghost use Rattle.gw_plan.specs.Translating.{IsSameTranslated, Translates};
 
 use crate::conforming::Conforming;
 use gw_er7::Message;
@@ -25,7 +25,7 @@ impl Model for Translated {
     ghost use Rattle.gw_profile.specs.contracts.node.Node as node;
     ghost use Rattle.gw_validate.specs.contracts.occurrences.Occurrences as occurrences;
     ghost use Rattle.gw_maplang.specs.contracts.item.Item as raw_item;
-    ghost use Rattle.gw_check.specs.contracts.resolved.Item as item;
+    ghost use Rattle.gw_resolve.specs.contracts.resolved.Item as item;
     ghost use Rattle.gw_plan.specs.Translating.{TranslatedHeld, Translates};
 
     ghost Value = { TranslatedHeld };
@@ -51,6 +51,26 @@ impl Translated {
         ensures translates { Translates self.now.source self.now.receiver self.now.message }
     {
         &self.message
+    }
+
+    /// Whether it was made of this admitted message: the same message under the same version and plan's text. It takes no memory.
+    pub fn same_source(&self, conforming: &Conforming) -> bool
+        ensures { IsTrue result ↔ IsSameSource self.now.source conforming.now }
+    {
+        self.source.same(conforming)
+    }
+
+    /// Whether these are the same: source, receiver and message. It takes no memory.
+    pub fn same(&self, other: &Translated) -> bool
+        ensures { IsTrue result ↔ IsSameTranslated self.now other.now }
+    {
+        if self.receiver != other.receiver {
+            return false;
+        }
+        if !self.same_source(&other.source) {
+            return false;
+        }
+        self.message.same(&other.message)
     }
 }
 

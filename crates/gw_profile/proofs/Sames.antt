@@ -3,6 +3,7 @@ use Rattle.std.proofs.Common.{◌≡◌, ◌↔◌, ℕ, suc, ◌+◌, ◌<◌, 
 use Rattle.std.specs.List.{AllZip}
 use Rattle.std.specs.Global.{Vec}
 use Rattle.std.proofs.lemmas.Option.{slice_get-get_or}
+use Rattle.gw_er7.proofs.Sames.{zip_maps}
 use Rattle.gw_profile.specs.declared.shape.SubShape.{SubShape}
 use Rattle.gw_profile.specs.declared.shape.CompShape.{CompShape}
 use Rattle.gw_profile.specs.declared.shape.FieldShape.{FieldShape}
@@ -13,13 +14,6 @@ use Rattle.gw_profile.specs.Shapes.{Forest, nothing, segment, group, SegmentValu
 use Rattle.gw_profile.specs.Seen.{sub, comp, field, segment_value, node_forest, row_forest, forest}
 use Rattle.gw_profile.specs.Same.{SameNode, group_of}
 use Rattle.gw_profile.proofs.Rows.{group_forest}
-
-zip_maps : {A B : Type 0} (f : A → B) (xs ys : List A) → AllZip (λ x y. f x ≡ f y) xs ys ↔ (map f xs ≡ map f ys)
-zip_maps f [] [] = (λ h. refl, λ e. tt)
-zip_maps f [] (y ∷ ys) = (λ h. absurd h, λ e. absurd (cc))
-zip_maps f (x ∷ xs) [] = (λ h. absurd h, λ e. absurd (cc))
-zip_maps f (x ∷ xs) (y ∷ ys) =
-    (λ h. let e = (zip_maps f xs ys).0 h.1 in λ i. h.0 i ∷ e i, λ e. let k : f x ≡ f y = cc in let t : map f xs ≡ map f ys = cc in (k, (zip_maps f xs ys).1 t))
 
 moved : {A : Type 0} (R : A → A → Type 0) (r : Bool) (xs ys zs ws : List A) → xs ≡ zs → ys ≡ ws → IsTrue r ↔ AllZip R xs ys → IsTrue r ↔ AllZip R zs ws
 moved R r xs ys zs ws p q h = subst (λ l. IsTrue r ↔ AllZip R l ws) p (subst (λ l. IsTrue r ↔ AllZip R xs l) q h)

@@ -1,6 +1,5 @@
 //! Whether two profiles are one.
 ghost use Rattle.std.specs.Prelude.{◌≡◌, ◌↔◌, IsTrue, map, slice_get};
-ghost use Rattle.std.specs.List.{AllZip};
 ghost use Rattle.std.specs.Option.{option_map};
 ghost use Rattle.gw_profile.specs.Seen.{segment_value, table, forest};
 ghost use Rattle.gw_profile.specs.Same.{SameNode, group_of, lent_table};
@@ -9,32 +8,8 @@ ghost use Rattle.gw_profile.specs.declared.node.Node.{Seg, Group};
 use crate::node::{GroupNode, Node, SegNode};
 use crate::shape::{Card, CompShape, FieldShape, SubShape, Usage};
 use crate::table::Table;
+use gw_er7::same::{Part, are_same, same_bytes};
 use indexmap::IndexMap;
-
-/// A part that can be compared.
-trait Part {
-    ghost use Rattle.std.specs.Prelude.{◌≡◌, ◌↔◌, IsTrue};
-
-    ghost same: { Self → Self → Type 0 };
-
-    fn is(&self, other: &Self) -> bool
-        ensures { IsTrue result ↔ same self.now other.now };
-}
-
-// Whether these are the same parts in the same order.
-fn are_same<T: Part>(parts: &[T], others: &[T]) -> bool
-    ensures { IsTrue result ↔ AllZip T.same parts.now others.now }
-{
-    if parts.len() != others.len() {
-        return false;
-    }
-    for (i, part) in parts.iter().enumerate() {
-        if !part.is(&others[i]) {
-            return false;
-        }
-    }
-    true
-}
 
 fn same_usage(one: Usage, other: Usage) -> bool
     ensures { IsTrue result ↔ (one ≡ other) }
@@ -44,12 +19,6 @@ fn same_usage(one: Usage, other: Usage) -> bool
 
 fn same_card(one: Card, other: Card) -> bool
     ensures { IsTrue result ↔ (one ≡ other) }
-{
-    one == other
-}
-
-fn same_bytes(one: &[u8], other: &[u8]) -> bool
-    ensures { IsTrue result ↔ (one.now ≡ other.now) }
 {
     one == other
 }
@@ -181,16 +150,6 @@ pub fn same_nodes(nodes: &[Node], others: &[Node]) -> bool
         }
     }
     true
-}
-
-impl Part for Vec<u8> {
-    ghost use Rattle.std.specs.Prelude.{◌≡◌};
-
-    ghost same = { λ one other. one.items ≡ other.items };
-
-    fn is(&self, other: &Vec<u8>) -> bool {
-        same_bytes(self, other)
-    }
 }
 
 // The table of this number: its name and its values.

@@ -95,3 +95,16 @@ fn a_message_is_built(rt: HostRuntime) -> Result<(), Fail> {
     assert_eq!(rt; again.as_slice(), want);
     Ok(())
 }
+
+// The same values with separators that say nothing, and one value less.
+const SAME: &[u8] = b"MSH|^~\\&\rPID||x|a^b&c~~d||\r";
+const LESS: &[u8] = b"MSH|^~\\&\rPID||x|a^b&c\r";
+
+#[test]
+fn equal_messages_are_the_same(rt: HostRuntime) -> Result<(), Fail> {
+    let message = read(rt.alloc(), CONTENT)?;
+    let same = read(rt.alloc(), SAME)?;
+    let less = read(rt.alloc(), LESS)?;
+    assert!(rt; message.same(&same) && !message.same(&less));
+    Ok(())
+}

@@ -1,7 +1,8 @@
 //! What a person needs of a map that a rule refuses: the file and its line, what the rule demands, and what to do.
 use crate::maps::Sides;
-use gw_check::{Failure, FieldAt};
+use gw_check::FieldAt;
 use gw_profile::Node;
+use gw_resolve::Failure;
 use std::alloc::{AllocError, Global};
 use std::collections::BTreeSet;
 use std::io::Write;
@@ -24,8 +25,7 @@ pub(crate) struct Found {
 /// A rule that refuses a map: the least, at its least line.
 #[derive(Drop)]
 pub(crate) struct Refusal<'a> {
-    pub(crate) rule: u8,
-    pub(crate) line: u32,
+    pub(crate) least: Failure,
     pub(crate) written: Written<'a>,
     pub(crate) sides: Sides,
     pub(crate) found: Found,
@@ -128,7 +128,7 @@ impl Refusal<'_> {
     fn others(&self, alloc: Global) -> Result<BTreeSet<(u32, u8)>, AllocError> {
         let mut others = BTreeSet::new(alloc);
         for failure in &self.found.failures {
-            if failure.rule != self.rule || failure.line != self.line {
+            if failure.rule != self.least.rule || failure.line != self.least.line {
                 others.insert((failure.line, failure.rule))?;
             }
         }
@@ -153,10 +153,10 @@ impl Refusal<'_> {
     /// Tells the file with its line, what the rule demands, each field that is passed over, and what fails as well.
     pub(crate) fn tell<E: Write>(&self, alloc: Global, errors: &mut E) -> Result<(), AllocError> {
         let Written { path, text } = &self.written;
-        let line = self.line;
+        let Failure { rule, line } = self.least;
         let _ = write!(errors, "{path}:{line}: ");
         let _ = errors.write_all(line_at(text, line));
-        let advice = advice(self.rule);
+        let advice = advice(rule);
         let _ = writeln!(errors, "\n{advice}");
         for field in &self.found.unread {
             tell_field(errors, self.sides.source.nodes(), field);

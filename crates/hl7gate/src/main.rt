@@ -21,7 +21,13 @@ use std::process::ExitCode;
 
 fn main(rt: HostRuntime) -> ExitCode {
     let status = match process_words(&rt) {
-        Ok(words) => command(&rt, words.as_slice(), rt.stdin(), rt.stdout(), rt.stderr()),
+        Ok(words) => command(
+            &rt,
+            words.as_slice(),
+            &mut rt.stdin(),
+            &mut rt.stdout(),
+            &mut rt.stderr(),
+        ),
         Err(error) => tell_unread_words(&mut rt.stderr(), &error),
     };
     ExitCode::from(status)

@@ -9,10 +9,11 @@ use crate::expected;
 use crate::files::{read_all, read_text};
 use crate::report::write_all;
 use clap::ArgMatches;
-use gw_check::{CheckFault, CheckedMap, FieldAt, failures, unread};
+use gw_check::{CheckedMap, FieldAt, unread};
 use gw_er7::Message;
 use gw_maplang::Map;
 use gw_profile::Profile;
+use gw_resolve::Failure;
 use gw_run::RunFault;
 use gw_validate::{Tree, Verdict};
 use std::alloc::{AllocError, Global};
@@ -112,13 +113,6 @@ fn passed_over(
     Ok(Vec::new(alloc))
 }
 
-/// All that fails of a map that a rule refuses.
-fn all_that_fails(alloc: Global, rule: u8, sides: &Sides, map: &Map) -> Result<Found, AllocError> {
-    let unread = passed_over(alloc, rule, sides, map)?;
-    let failures = failures(alloc, &sides.source, &sides.target, map)?;
-    Ok(Found { unread, failures })
-}
-
 /// A map by the rules.
 fn judge<'a>(
     alloc: Global,
@@ -127,17 +121,19 @@ fn judge<'a>(
     map: Map,
 ) -> Result<Checked<'a>, Ended<'a>> {
     let Sides { source, target } = sides.shared()?;
-    match gw_check::check(alloc, source, target, map) {
+    match gw_check::examine(alloc, source, target, map) {
         Ok(checked) => Ok(Checked::Allowed(checked)),
-        Err(CheckFault::Memory(_)) => Err(Ended::Run(RunFault::Memory)),
-        Err(CheckFault::Rule { rule, line, map }) => {
-            let found = all_that_fails(alloc, rule, &sides, &map)?;
+        Err(gw_check::Refusal::Memory(_)) => Err(Ended::Run(RunFault::Memory)),
+        Err(gw_check::Refusal::Rules { least, found, map }) => {
+            let unread = passed_over(alloc, least.rule, &sides, &map)?;
             Ok(Checked::Refused(Refusal {
-                rule,
-                line,
+                least,
                 written,
                 sides,
-                found,
+                found: Found {
+                    unread,
+                    failures: found,
+                },
             }))
         }
     }
@@ -161,7 +157,7 @@ fn write_refusal<'a, O: Write, E: Write>(
     output: &mut O,
     errors: &mut E,
 ) -> Result<(), Ended<'a>> {
-    let Refusal { rule, line, .. } = refusal;
+    let Failure { rule, line } = refusal.least;
     let said = format!(in alloc; "refused K{rule} line {line}\n")?;
     write_all(output, said.as_bytes())?;
     refusal.tell(alloc, errors)?;
@@ -240,10 +236,10 @@ fn write_message<'a, O: Write>(
 }
 
 /// Writes the translation of the content on standard input, which has no frame.
-fn write_translation<'a, R: AllocGlobal, I: Read + Drop, O: Write>(
+fn write_translation<'a, R: AllocGlobal, I: Read, O: Write>(
     rt: &R,
     map: &CheckedMap,
-    input: I,
+    input: &mut I,
     output: &mut O,
 ) -> Result<(), Ended<'a>> {
     let content = read_all(rt, input)?;
@@ -257,17 +253,17 @@ fn tell_refusal<'a, E: Write>(
     refusal: &Refusal<'a>,
     errors: &mut E,
 ) -> Result<(), Ended<'a>> {
-    let Refusal { rule, line, .. } = refusal;
+    let Failure { rule, line } = refusal.least;
     let _ = writeln!(errors, "refused K{rule} line {line}");
     refusal.tell(alloc, errors)?;
     Ok(())
 }
 
 // Writes the translation by a map that the rules allow, and else tells the rule that refuses it: then it answers false.
-fn translate_by<'a, R: AllocGlobal, I: Read + Drop, O: Write, E: Write>(
+fn translate_by<'a, R: AllocGlobal, I: Read, O: Write, E: Write>(
     rt: &R,
     checked: &Checked<'a>,
-    input: I,
+    input: &mut I,
     output: &mut O,
     errors: &mut E,
 ) -> Result<bool, Ended<'a>> {
@@ -284,10 +280,10 @@ fn translate_by<'a, R: AllocGlobal, I: Read + Drop, O: Write, E: Write>(
 }
 
 /// Prints the translation of the content on standard input. A map that is refused is told before that is read: then it answers false.
-pub(crate) fn translate<'a, R: Files + AllocGlobal, I: Read + Drop, O: Write, E: Write>(
+pub(crate) fn translate<'a, R: Files + AllocGlobal, I: Read, O: Write, E: Write>(
     rt: &R,
     words: &ArgMatches<'a>,
-    input: I,
+    input: &mut I,
     output: &mut O,
     errors: &mut E,
 ) -> Result<bool, Ended<'a>> {

@@ -11,11 +11,11 @@ use std::rt::Files;
 use std::time::Clock;
 
 /// Answers each message of a stream by a profile.
-fn validate<'a, R: Files + Clock + AllocGlobal, I: Read + Drop, O: Write + Drop>(
+fn validate<'a, R: Files + Clock + AllocGlobal, I: Read, O: Write>(
     rt: &R,
     words: &ArgMatches<'a>,
-    input: I,
-    output: O,
+    input: &mut I,
+    output: &mut O,
 ) -> Result<Counts, Ended<'a>> {
     let Some(stamp) = stamp_of(rt, words.get_str("stamp")) else {
         return Err(Ended::Stamp);
@@ -28,11 +28,11 @@ fn validate<'a, R: Files + Clock + AllocGlobal, I: Read + Drop, O: Write + Drop>
 }
 
 /// Does the command of these words, and answers the status.
-fn done<'a, R: Files + Clock + AllocGlobal, I: Read + Drop, O: Write + Drop, E: Write>(
+fn done<'a, R: Files + Clock + AllocGlobal, I: Read, O: Write, E: Write>(
     rt: &R,
     words: &ArgMatches<'a>,
-    input: I,
-    mut output: O,
+    input: &mut I,
+    output: &mut O,
     errors: &mut E,
 ) -> Result<u8, Ended<'a>> {
     match words.subcommand() {
@@ -41,11 +41,11 @@ fn done<'a, R: Files + Clock + AllocGlobal, I: Read + Drop, O: Write + Drop, E: 
             Ok(tell_counts(errors, counts))
         }
         Some(("check", words)) => {
-            let accepted = check(rt, words, &mut output, errors)?;
+            let accepted = check(rt, words, output, errors)?;
             Ok(status_if(accepted))
         }
         Some(("translate", words)) => {
-            let accepted = translate(rt, words, input, &mut output, errors)?;
+            let accepted = translate(rt, words, input, output, errors)?;
             Ok(status_if(accepted))
         }
         _ => Ok(USAGE),
@@ -53,18 +53,18 @@ fn done<'a, R: Files + Clock + AllocGlobal, I: Read + Drop, O: Write + Drop, E: 
 }
 
 /// Does what the words say, and answers the status: 0 done, 1 refused, 2 usage, 3 a fault of a device, a frame or a run, 4 want of memory.
-pub fn command<R: Files + Clock + AllocGlobal, I: Read + Drop, O: Write + Drop, E: Write + Drop>(
+pub fn command<R: Files + Clock + AllocGlobal, I: Read, O: Write, E: Write>(
     rt: &R,
     words: &[String],
-    input: I,
-    mut output: O,
-    mut errors: E,
+    input: &mut I,
+    output: &mut O,
+    errors: &mut E,
 ) -> u8 {
     match parse(rt.alloc(), words) {
-        Err(error) => tell_words(&mut output, &mut errors, &error),
-        Ok(matches) => match done(rt, &matches, input, output, &mut errors) {
+        Err(error) => tell_words(output, errors, &error),
+        Ok(matches) => match done(rt, &matches, input, output, errors) {
             Ok(status) => status,
-            Err(ended) => tell(&mut errors, ended),
+            Err(ended) => tell(errors, &ended),
         },
     }
 }

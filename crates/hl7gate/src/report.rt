@@ -67,7 +67,7 @@ fn text_of(said: &Option<String>) -> Option<&str> {
 }
 
 /// Tells why a command wasn't done.
-pub(crate) fn tell<E: Write>(errors: &mut E, ended: Ended<'_>) -> u8 {
+pub(crate) fn tell<E: Write>(errors: &mut E, ended: &Ended<'_>) -> u8 {
     match ended {
         Ended::Stamp => {
             let _ = writeln!(errors, "error: the value of '--stamp' is fourteen digits");
@@ -82,15 +82,15 @@ pub(crate) fn tell<E: Write>(errors: &mut E, ended: Ended<'_>) -> u8 {
             path,
             fault,
             expected,
-        } => tell_profile(errors, path, fault, text_of(&expected)),
+        } => tell_profile(errors, path, *fault, text_of(expected)),
         Ended::Map {
             path,
             fault,
             expected,
-        } => tell_map(errors, path, fault, text_of(&expected)),
-        Ended::Message { fault } => tell_message(errors, fault),
-        Ended::Breaks(breach) => tell_breach(errors, breach),
-        Ended::Run(fault) => tell_fault(errors, fault),
+        } => tell_map(errors, path, *fault, text_of(expected)),
+        Ended::Message { fault } => tell_message(errors, *fault),
+        Ended::Breaks(breach) => tell_breach(errors, *breach),
+        Ended::Run(fault) => tell_fault(errors, *fault),
     }
 }
 

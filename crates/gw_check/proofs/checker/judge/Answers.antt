@@ -1,11 +1,15 @@
 use Rattle.std.proofs.Common.{sym, ap, ◌∙◌, option_map}
 use Rattle.gw_check.specs.Checked.{least}
-use Rattle.gw_check.specs.Seen.{failure, failures}
+use Rattle.gw_resolve.specs.Seen.{failure, failures}
 use Rattle.gw_check.proofs.Least.{none_least}
 use Rattle.gw_check.proofs.checker.judge.Goals as goal
 
 pub returns-in-Some : goal.returns-in-Some
-returns-in-Some c = sym (ap (option_map failure) c.in-Some.is) ∙ c.least.ensures ∙ ap (λ l. least (failures l)) c.deref.ensures.value ∙ ap least c.in_ok-examined.ensures.found
+returns-in-Some c =
+    record {
+      least = sym (ap (option_map failure) c.in-Some.is) ∙ c.least.ensures ∙ ap (λ l. least (failures l)) c.deref.ensures.value ∙ ap least c.in_ok-examined.ensures.found;
+      all = c.in_ok-examined.ensures.found;
+    }
 
 pub returns-in-None : goal.returns-in-None
 returns-in-None c =

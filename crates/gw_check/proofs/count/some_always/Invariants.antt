@@ -1,7 +1,7 @@
 use Rattle.std.proofs.Common.{◌≡◌, drop, map}
 use Rattle.gw_check.specs.Counts as spec
 use Rattle.gw_check.specs.Reading.{sources_value, map_tables}
-use Rattle.gw_check.specs.Seen.{at_leaf}
+use Rattle.gw_resolve.specs.Seen.{at_leaf}
 use Rattle.gw_check.proofs.count.some_always.Given as goal
 
 abbrev pub invariant-loop-i : goal.invariant-loop-i

@@ -1,6 +1,6 @@
 use Rattle.std.proofs.Common.{◌≡◌, ◌≤◌, length, drop, option_map}
 use Rattle.gw_check.specs.Checked.{least}
-use Rattle.gw_check.specs.Seen.{failure, failures}
+use Rattle.gw_resolve.specs.Seen.{failure, failures}
 use Rattle.gw_check.proofs.failure.least.Given as goal
 
 abbrev pub invariant-loop-left : goal.invariant-loop-left

@@ -1,6 +1,6 @@
 use Rattle.std.proofs.Common.{rules, ◌<◌, ◌≤◌, sym, ap, ◌∙◌}
 use Rattle.gw_profile.specs.Seen.{forest, profile_value}
-use Rattle.gw_check.specs.Seen.{failures, scope}
+use Rattle.gw_resolve.specs.Seen.{failures, scope}
 use Rattle.gw_check.specs.Checking.{weight_one, weight_all}
 use Rattle.gw_check.proofs.Collecting.{on_ok}
 use Rattle.gw_check.proofs.Within.{items_more, group_noted, flat_noted, lighter_group, lighter_flat, not_heavier, level_same}
@@ -31,9 +31,9 @@ check_item-returns-in_ok-check_level-in-Group t c =
     let tables = c.args.sides.map.now.tables in
     let inner = scope c.deref-in-Group-2.result.now in
     on_ok c.check_items.result _ _
-    (group_noted tables (profile_value c.args.sides.source.now) (profile_value c.args.sides.target.now) (scope c.args.scope.now) inner (forest c.args.nodes.now) (forest c.nodes_of_child-below.result.now) c.args.item.now c.in-Group.group c.deref-in-Group-3.result.now
-    c.args.found.now c.check_level.new.found c.check_items.new.found c.in-Group.is c.deref-in-Group-3.ensures.value (ap scope c.deref-in-Group-2.ensures.value ∙ c.in_ok-inner-in-Group.ensures) c.nodes_of_child-below.ensures
-    (level_same c.deref.result.now c.deref-in-Group-2.result.now c.deref-in-Group.result.now c.deref-in-Group-3.result.now (c.deref.ensures.value ∙ sym c.deref-in-Group-2.ensures.value) (c.deref-in-Group.ensures.value ∙ sym c.deref-in-Group-3.ensures.value) tables c.in-Group.group.line (forest c.nodes_of_child-below.result.now) c.args.found.now c.check_level.new.found (c.in_ok-check_level-in-Group.ensures tables)))
+    (group_noted tables (profile_value c.args.sides.source.now) (profile_value c.args.sides.target.now) (scope c.args.scope.now) inner (forest c.args.nodes.now) (forest c.nodes_within-below.result.now) c.args.item.now c.in-Group.group c.deref-in-Group-3.result.now
+    c.args.found.now c.check_level.new.found c.check_items.new.found c.in-Group.is c.deref-in-Group-3.ensures.value (ap scope c.deref-in-Group-2.ensures.value ∙ c.in_ok-inner-in-Group.ensures) c.nodes_within-below.ensures
+    (level_same c.deref.result.now c.deref-in-Group-2.result.now c.deref-in-Group.result.now c.deref-in-Group-3.result.now (c.deref.ensures.value ∙ sym c.deref-in-Group-2.ensures.value) (c.deref-in-Group.ensures.value ∙ sym c.deref-in-Group-3.ensures.value) tables c.in-Group.group.line (forest c.nodes_within-below.result.now) c.args.found.now c.check_level.new.found (c.in_ok-check_level-in-Group.ensures tables)))
     c.check_items.ensures
 
 pub check_item-returns-in_ok-inner-in-Flat : goal.check_item-returns-in_ok-inner-in-Flat

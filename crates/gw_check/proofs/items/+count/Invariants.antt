@@ -1,7 +1,7 @@
 use Rattle.std.proofs.Common.{◌≤◌, ◌+◌, ◌*◌, drop, length}
-use Rattle.gw_check.specs.declared.resolved.Item.{size-Item}
+use Rattle.gw_resolve.specs.declared.resolved.Item.{size-Item}
 use Rattle.gw_check.specs.Counted.{CountsAll}
-use Rattle.gw_check.specs.Seen.{scope}
+use Rattle.gw_resolve.specs.Seen.{scope}
 use Rattle.gw_check.proofs.items.+count.Given as goal
 
 abbrev pub decreases-item_count : goal.decreases-item_count

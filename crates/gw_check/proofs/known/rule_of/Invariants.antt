@@ -1,7 +1,7 @@
 use Rattle.std.proofs.Common.{◌≡◌, drop, map, List}
 use Rattle.gw_maplang.specs.Shapes.{TableValue}
-use Rattle.gw_check.specs.Resolved as resolved
-use Rattle.gw_check.specs.Seen.{rule}
+use Rattle.gw_resolve.specs.Resolved as resolved
+use Rattle.gw_resolve.specs.Seen.{rule}
 use Rattle.gw_check.proofs.known.rule_of.Given as goal
 
 abbrev pub invariant-loop-i : goal.invariant-loop-i

@@ -1,4 +1,4 @@
-use Rattle.gw_check.proofs.Saturation.{product_saturated}
+use Rattle.gw_resolve.proofs.Saturation.{product_saturated}
 use Rattle.gw_check.proofs.laws.counts_at_the_cap.Goals as goal
 
 pub returns-clause-products : goal.returns-clause-products

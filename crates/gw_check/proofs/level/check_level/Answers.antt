@@ -1,5 +1,5 @@
 use Rattle.std.proofs.Common.{subst, take, ◌≤◌, length}
-use Rattle.gw_check.specs.Seen.{failures, scope}
+use Rattle.gw_resolve.specs.Seen.{failures, scope}
 use Rattle.gw_check.specs.Counted.{Leads}
 use Rattle.gw_check.specs.Checking.{NotesNode}
 use Rattle.gw_check.proofs.Stepped.{level_more, from_there, more_within}

@@ -1,5 +1,5 @@
 use Rattle.std.proofs.Common.{◌≤◌, length}
-use Rattle.gw_check.specs.Seen.{failures, scope}
+use Rattle.gw_resolve.specs.Seen.{failures, scope}
 use Rattle.gw_check.proofs.Stepped.{LevelSoFar}
 use Rattle.gw_check.proofs.level.check_level.Given as goal
 

@@ -3,7 +3,7 @@ use Rattle.std.specs.Prelude.{flat_map}
 use Rattle.gw_maplang.specs.Shapes.{TableValue}
 use Rattle.gw_check.specs.Reads.{at_reads}
 use Rattle.gw_check.specs.Collected.{fields_at, positions}
-use Rattle.gw_check.specs.Seen.{at_leaf}
+use Rattle.gw_resolve.specs.Seen.{at_leaf}
 use Rattle.gw_check.proofs.reads.add_leaves.Given as goal
 
 abbrev pub invariant-loop-i : goal.invariant-loop-i

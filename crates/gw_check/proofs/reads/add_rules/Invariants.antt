@@ -2,7 +2,7 @@ use Rattle.std.proofs.Common.{◌≡◌, ◌++◌, drop, map, List}
 use Rattle.gw_maplang.specs.Shapes.{TableValue}
 use Rattle.gw_check.specs.Reads.{rules_read}
 use Rattle.gw_check.specs.Collected.{fields_at, positions}
-use Rattle.gw_check.specs.Seen.{rule}
+use Rattle.gw_resolve.specs.Seen.{rule}
 use Rattle.gw_check.proofs.reads.add_rules.Given as goal
 
 abbrev pub invariant-loop-i : goal.invariant-loop-i

@@ -2,7 +2,7 @@ use Rattle.std.proofs.Common.{[], ap, ◌∙◌, map}
 use Rattle.gw_profile.specs.Seen.{forest}
 use Rattle.gw_check.specs.Collected.{fields_at}
 use Rattle.gw_check.specs.Reads.{some_passed_over}
-use Rattle.gw_check.specs.Seen.{left_out}
+use Rattle.gw_resolve.specs.Seen.{left_out}
 use Rattle.gw_check.proofs.Within.{where_ok}
 use Rattle.gw_check.proofs.Passing.{missed_is}
 use Rattle.gw_check.proofs.reads.passes_over.Goals as goal

@@ -1,6 +1,6 @@
 use Rattle.std.proofs.Common.{subst}
 use Rattle.gw_maplang.specs.Seen.{now}
-use Rattle.gw_check.specs.Seen.{leaf}
+use Rattle.gw_resolve.specs.Seen.{leaf}
 use Rattle.gw_interp.specs.Sourced.{LeafGives}
 use Rattle.gw_interp.specs.Filling.{message_of, read_by}
 use Rattle.gw_interp.proofs.Fills.{on_ok}

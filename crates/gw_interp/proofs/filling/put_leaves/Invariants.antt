@@ -1,4 +1,4 @@
-use Rattle.gw_check.specs.Seen.{at_leaf}
+use Rattle.gw_resolve.specs.Seen.{at_leaf}
 use Rattle.gw_interp.specs.Filling.{read_by}
 use Rattle.gw_interp.proofs.Turns.{LeavesInTurn}
 use Rattle.gw_interp.proofs.filling.put_leaves.Given as goal

@@ -1,7 +1,7 @@
 use Rattle.std.proofs.Common.{rules, sym, ap, ◌∙◌, map, subst, ◌∷◌, ◌<◌, ◌≤◌}
 use Rattle.gw_profile.specs.Seen.{forest}
 use Rattle.gw_check.specs.Checking.{weight_one, weight_all}
-use Rattle.gw_check.specs.Seen.{all_items}
+use Rattle.gw_resolve.specs.Seen.{all_items}
 use Rattle.gw_check.proofs.Within.{lighter_group, lighter_flat, not_heavier}
 use Rattle.gw_interp.specs.Lent.{occurrence, scope, AreOf}
 use Rattle.gw_interp.specs.Filling.{message_of}

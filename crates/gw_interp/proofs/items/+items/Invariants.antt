@@ -1,6 +1,6 @@
 use Rattle.std.proofs.Common.{◌+◌, ◌*◌}
 use Rattle.gw_check.specs.Checking.{weight_one, weight_all}
-use Rattle.gw_check.specs.Seen.{all_items}
+use Rattle.gw_resolve.specs.Seen.{all_items}
 use Rattle.gw_profile.specs.Seen.{forest}
 use Rattle.gw_interp.specs.Lent.{scope}
 use Rattle.gw_interp.specs.Filling.{message_of}

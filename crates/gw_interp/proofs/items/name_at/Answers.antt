@@ -1,6 +1,6 @@
 use Rattle.std.proofs.Common.{sym, ap, ◌∙◌}
-use Rattle.gw_check.specs.Places.{name_of}
-use Rattle.gw_check.proofs.Children.{child_at, child_past}
+use Rattle.gw_resolve.specs.Places.{name_of}
+use Rattle.gw_resolve.proofs.Children.{child_at, child_past}
 use Rattle.gw_interp.proofs.items.name_at.Goals as goal
 
 pub returns-in-None : goal.returns-in-None

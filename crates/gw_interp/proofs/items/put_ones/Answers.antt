@@ -1,7 +1,7 @@
 use Rattle.std.proofs.Common.{sym, map, subst, ◌∷◌}
 use Rattle.gw_profile.specs.Seen.{forest}
-use Rattle.gw_check.specs.Places.{child, name_of}
-use Rattle.gw_check.specs.Seen.{rule}
+use Rattle.gw_resolve.specs.Places.{child, name_of}
+use Rattle.gw_resolve.specs.Seen.{rule}
 use Rattle.gw_interp.specs.Lent.{scope}
 use Rattle.gw_interp.specs.Filling.{message_of}
 use Rattle.gw_interp.specs.Meaning.{walked, IsOne, IsImage}

@@ -1,8 +1,8 @@
 use Rattle.std.proofs.Common.{sym, ap, ◌∙◌, subst, map, option_map, ◌∷◌}
 use Rattle.std.specs.List.{AllByRecursion}
 use Rattle.gw_profile.specs.Seen.{forest}
-use Rattle.gw_check.specs.Places.{child, name_of}
-use Rattle.gw_check.specs.Seen.{place, rule}
+use Rattle.gw_resolve.specs.Places.{child, name_of}
+use Rattle.gw_resolve.specs.Seen.{place, rule}
 use Rattle.gw_interp.specs.Lent.{occurrence, scope, AreOf}
 use Rattle.gw_interp.specs.Meaning.{walked}
 use Rattle.gw_interp.specs.Filling.{message_of}

@@ -1,4 +1,4 @@
-use Rattle.gw_check.specs.Naming.{resolved}
+use Rattle.gw_resolve.specs.Naming.{resolved}
 use Rattle.gw_interp.proofs.Checked.{allowed}
 use Rattle.gw_interp.proofs.Makes.{makes_some}
 use Rattle.gw_interp.proofs.Once.{means_once}

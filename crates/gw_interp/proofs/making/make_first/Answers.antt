@@ -1,5 +1,5 @@
 use Rattle.std.proofs.Common.{sym, ap, ◌∙◌}
-use Rattle.gw_check.specs.Seen.{reference}
+use Rattle.gw_resolve.specs.Seen.{reference}
 use Rattle.gw_interp.specs.Sourced.{texts_of}
 use Rattle.gw_interp.specs.Filling.{message_of}
 use Rattle.gw_interp.specs.Making.{seen_from}

@@ -1,5 +1,5 @@
 use Rattle.std.proofs.Common.{map, sym, subst}
-use Rattle.gw_check.specs.Seen.{reference, at_leaf}
+use Rattle.gw_resolve.specs.Seen.{reference, at_leaf}
 use Rattle.gw_interp.specs.Sourced.{current_texts}
 use Rattle.gw_interp.specs.Making.{seen_from, MayFillRep, IsRepFilled}
 use Rattle.gw_interp.proofs.Fills.{on_ok}

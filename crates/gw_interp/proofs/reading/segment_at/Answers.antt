@@ -1,7 +1,7 @@
 use Rattle.std.proofs.Common.{ap, subst, ◌∙◌, Option}
 use Rattle.std.specs.Prelude.{IfSome, ◌≡◌}
 use Rattle.gw_validate.specs.Fitting.{OccValue}
-use Rattle.gw_check.specs.Seen.{place as seen_place}
+use Rattle.gw_resolve.specs.Seen.{place as seen_place}
 use Rattle.gw_interp.specs.Occurrences.{at_place}
 use Rattle.gw_interp.specs.Lent.{scope, IsFirstOf}
 use Rattle.gw_interp.specs.Sourced.{texts_of}

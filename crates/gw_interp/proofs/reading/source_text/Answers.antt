@@ -1,5 +1,5 @@
 use Rattle.std.proofs.Common.{sym, subst}
-use Rattle.gw_check.specs.Seen.{source as seen_source}
+use Rattle.gw_resolve.specs.Seen.{source as seen_source}
 use Rattle.gw_interp.specs.Meaning.{InFirst, SourceMeans}
 use Rattle.gw_interp.specs.Sourced.{walks}
 use Rattle.gw_interp.proofs.reading.source_text.Goals as goal

@@ -1,4 +1,4 @@
-use Rattle.gw_check.specs.Seen.{rule}
+use Rattle.gw_resolve.specs.Seen.{rule}
 use Rattle.gw_interp.specs.Making.{seen_from}
 use Rattle.gw_interp.proofs.Turns.{RulesInTurn}
 use Rattle.gw_interp.proofs.segments.make_rules.Given as goal

@@ -1,6 +1,6 @@
 use Rattle.std.proofs.Common.{◌++◌, ◌∷◌, [], sym, ap, ◌∙◌, subst}
 use Rattle.gw_profile.specs.Seen.{profile_value, forest}
-use Rattle.gw_check.specs.Seen.{all_items}
+use Rattle.gw_resolve.specs.Seen.{all_items}
 use Rattle.gw_validate.specs.Conforming.{Conforms}
 use Rattle.gw_interp.proofs.Translated.{may_begin, may_give, some_made, conforms_made}
 use Rattle.gw_interp.proofs.translating.translate.Goals as goal

@@ -1,9 +1,0 @@
-use Rattle.std.proofs.Common.{sym, ◌∙◌}
-use Rattle.gw_check.proofs.Children.{child_at, child_past}
-use Rattle.gw_check.proofs.element.child.Goals as goal
-
-pub returns-in-None : goal.returns-in-None
-returns-in-None c = sym (child_past c.args.nodes.now c.args.number (sym c.in-None.ensures.lookup.0))
-
-pub returns-in-Some : goal.returns-in-Some
-returns-in-Some c = sym (child_at c.args.nodes.now c.args.number c.in-Some.node.now c.in-Some.ensures.lookup.3.0 c.in-Some.ensures.lookup.3.1 ∙ c.of_node.ensures)

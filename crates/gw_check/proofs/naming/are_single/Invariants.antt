@@ -1,7 +1,0 @@
-use Rattle.std.proofs.Common.{◌≡◌, drop}
-use Rattle.gw_check.specs.Naming as spec
-use Rattle.gw_profile.specs.Labels.{nodes_in}
-use Rattle.gw_check.proofs.naming.are_single.Given as goal
-
-abbrev pub invariant-loop-i : goal.invariant-loop-i
-invariant-loop-i l = spec.are_single (nodes_in l.fn.level) l.steps ≡ spec.are_single (nodes_in l.level) (drop l.i l.steps)

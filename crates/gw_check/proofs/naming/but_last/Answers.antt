@@ -1,5 +1,0 @@
-use Rattle.gw_check.proofs.Noting.{all_but_last}
-use Rattle.gw_check.proofs.naming.but_last.Goals as goal
-
-pub returns : goal.returns
-returns c = all_but_last c.args.steps.now c.in-len1-up.len_at_least

@@ -1,8 +1,0 @@
-use Rattle.std.proofs.Common.{◌≡◌, ◌++◌, drop, option_map}
-use Rattle.gw_maplang.specs.Seen.{items_all}
-use Rattle.gw_check.specs.Naming as spec
-use Rattle.gw_profile.specs.Labels.{nodes_in}
-use Rattle.gw_check.proofs.paths.follow.Given as goal
-
-abbrev pub invariant-loop-i : goal.invariant-loop-i
-invariant-loop-i l = option_map (λ more. l.fn.steps.items ++ more) (spec.steps_of (nodes_in l.fn.level) (items_all l.path)) ≡ option_map (λ more. l.steps.items ++ more) (spec.steps_of (nodes_in l.level) (items_all (drop l.i l.path)))

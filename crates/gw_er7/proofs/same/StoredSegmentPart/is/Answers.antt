@@ -1,0 +1,8 @@
+use Rattle.std.proofs.Common.{refl, sym}
+use Rattle.gw_er7.proofs.Sames.{segments_same}
+use Rattle.gw_er7.proofs.same.StoredSegmentPart.is.Goals as goal
+
+pub returns : goal.returns
+returns c =
+    segments_same c.self.inside.name c.other.inside.name c.self.inside.leaves.items c.other.inside.leaves.items _ _ c.are_same.result _ _ (sym c.self.view_is) (sym c.other.view_is) c.self.invariant c.other.invariant
+    c.deref.ensures.value c.deref-2.ensures.value (c.if-not-same_bytes.ensures.0 refl) c.are_same.ensures

@@ -1,0 +1,97 @@
+-- Lists and items made one after the other.
+use Rattle.std.proofs.Common.{◌≡◌, ℕ, ◌+◌, ◌<◌, ◌≤◌, List, [], ◌∷◌, ◌++◌, map, drop, get_or, length, refl, sym, ap, ◌∙◌}
+use Rattle.gw_maplang.specs.Shapes.{TableValue}
+use Rattle.gw_maplang.specs.Shapes as raw
+use Rattle.gw_maplang.specs.Seen as raws
+use Rattle.gw_maplang.specs.declared.item.Item as their
+use Rattle.std.proofs.Math.ListN.{drop_of_length-le}
+use Rattle.std.specs.Global.{Vec}
+use Rattle.gw_maplang.specs.declared.item.GroupItem as their_group
+use Rattle.gw_maplang.specs.declared.item.FlatItem as their_flat
+use Rattle.gw_maplang.proofs.Rows as their_rows
+use Rattle.gw_profile.specs.Shapes.{Forest}
+use Rattle.gw_resolve.specs.declared.resolved.Item.{Item, Group, Flat}
+use Rattle.gw_resolve.specs.declared.resolved.GroupItem.{GroupItem}
+use Rattle.gw_resolve.specs.declared.resolved.FlatItem.{FlatItem}
+use Rattle.gw_resolve.specs.Places.{Element, nodes_of_child, within}
+use Rattle.gw_resolve.specs.Resolved.{Items, no_items, group_item, flat_item}
+use Rattle.gw_resolve.specs.Seen.{place, with_item, all_items}
+use Rattle.gw_resolve.specs.Naming.{node_or, place_or, resolved_items}
+use Rattle.gw_resolve.proofs.Rows.{group_items, flat_items}
+use Rattle.gw_resolve.proofs.Noting.{front}
+
+map_more : {A B : Type 0} (f : A → B) (xs : List A) (x : A) → map f (xs ++ x ∷ []) ≡ map f xs ++ f x ∷ []
+map_more f [] x = refl
+map_more f (y ∷ xs) x = ap (λ l. f y ∷ l) (map_more f xs x)
+
+behind : {B : Type 0} (xs : List B) (x : B) (ys : List B) → xs ++ x ∷ ys ≡ (xs ++ x ∷ []) ++ ys
+behind [] x ys = refl
+behind (y ∷ xs) x ys = ap (λ l. y ∷ l) (behind xs x ys)
+
+-- one more of those that are made
+pub made_next : {A B C D : Type 0} (f : B → C) (view : A → B) (seen : D → C) (whole : List C) (xs : List A) (i : ℕ) (x : A) (ys zs : List D) (y : D) → i < length xs → x ≡ get_or xs i x → zs ≡ ys ++ y ∷ [] → seen y ≡ f (view x) → whole ≡ map seen ys ++ map f (map view (drop i xs)) → whole ≡ map seen zs ++ map f (map view (drop (i + 1) xs))
+made_next f view seen whole xs i x ys zs y m e pushed one so_far =
+    so_far ∙ ap (λ l. map seen ys ++ map f (map view l)) (front xs i x m e)
+    ∙ ap (λ z. map seen ys ++ z ∷ map f (map view (drop (i + 1) xs))) (sym one)
+    ∙ behind (map seen ys) (seen y) (map f (map view (drop (i + 1) xs)))
+    ∙ ap (λ l. l ++ map f (map view (drop (i + 1) xs))) (sym (map_more seen ys y) ∙ ap (map seen) (sym pushed))
+
+-- ---- items
+
+-- items with others behind them
+abbrev pub with_items : List TableValue → List Item → Items → Items
+with_items tables [] rest = rest
+with_items tables (i ∷ items) rest = with_item tables i (with_items tables items rest)
+
+pub with_none : (tables : List TableValue) (xs : List Item) → with_items tables xs no_items ≡ all_items tables xs
+with_none tables [] = refl
+with_none tables (x ∷ xs) = ap (with_item tables x) (with_none tables xs)
+
+with_more : (tables : List TableValue) (xs : List Item) (x : Item) (rest : Items) → with_items tables (xs ++ x ∷ []) rest ≡ with_items tables xs (with_item tables x rest)
+with_more tables [] x rest = refl
+with_more tables (y ∷ xs) x rest = ap (with_item tables y) (with_more tables xs x rest)
+
+-- one more of the items that are made
+pub items_made : (tables : List TableValue) (scope : List Element) (nodes : Forest) (whole : Items) (xs : List their.Item) (i : ℕ) (x : their.Item) (ys zs : List Item) (y : Item) → i < length xs → x ≡ get_or xs i x → zs ≡ ys ++ y ∷ []
+    → ((tables : List TableValue) (rest : raw.Items) → with_item tables y (resolved_items tables scope nodes rest) ≡ resolved_items tables scope nodes (raws.with_item x rest))
+    → whole ≡ with_items tables ys (resolved_items tables scope nodes (raws.all_items (drop i xs))) → whole ≡ with_items tables zs (resolved_items tables scope nodes (raws.all_items (drop (i + 1) xs)))
+items_made tables scope nodes whole xs i x ys zs y m e pushed one so_far =
+    so_far ∙ ap (λ l. with_items tables ys (resolved_items tables scope nodes (raws.all_items l))) (front xs i x m e)
+    ∙ ap (with_items tables ys) (sym (one tables (raws.all_items (drop (i + 1) xs))))
+    ∙ sym (with_more tables ys y (resolved_items tables scope nodes (raws.all_items (drop (i + 1) xs))))
+    ∙ ap (λ l. with_items tables l (resolved_items tables scope nodes (raws.all_items (drop (i + 1) xs)))) (sym pushed)
+
+-- none is left
+pub items_done : (tables : List TableValue) (scope : List Element) (nodes : Forest) (whole : Items) (xs : List their.Item) (i : ℕ) (ys : List Item) → length xs ≤ i → whole ≡ with_items tables ys (resolved_items tables scope nodes (raws.all_items (drop i xs))) → all_items tables ys ≡ whole
+items_done tables scope nodes whole xs i ys le so_far =
+    sym (so_far ∙ ap (λ l. with_items tables ys (resolved_items tables scope nodes (raws.all_items l))) (drop_of_length-le xs le) ∙ with_none tables ys)
+
+-- a group with its items
+pub made_group : (tables : List TableValue) (scope inner : List Element) (nodes below : Forest) (g : their_group.GroupItem) (made : GroupItem) (p q : List (Vec ℕ)) (label : List ℕ) (xs : List their.Item) (rest : raw.Items) → p ≡ g.path.items → q ≡ g.path.items → label ≡ g.label.items → xs ≡ g.items.items
+    → made.line ≡ g.line → place made.place ≡ place_or scope (raws.items_all p) → inner ≡ within scope (place_or scope (raws.items_all q)) → made.child ≡ node_or 0 nodes label → below ≡ nodes_of_child nodes made.child
+    → ((tables : List TableValue) → all_items tables made.items.items ≡ resolved_items tables inner below (raws.all_items xs))
+    → with_item tables (Group made) (resolved_items tables scope nodes rest) ≡ resolved_items tables scope nodes (raws.with_item (their.EachAs g) rest)
+made_group tables scope inner nodes below g made p q label xs rest a b c d line at walks child lower items =
+    let child' : made.child ≡ node_or 0 nodes g.label.items = child ∙ ap (node_or 0 nodes) c in
+    let at' : place made.place ≡ place_or scope (raws.path g.path) = at ∙ ap (λ x. place_or scope (raws.items_all x)) a in
+    let inner' : inner ≡ within scope (place_or scope (raws.path g.path)) = walks ∙ ap (λ x. within scope (place_or scope (raws.items_all x))) b in
+    let lower' : below ≡ nodes_of_child nodes (node_or 0 nodes g.label.items) = lower ∙ ap (nodes_of_child nodes) child' in
+    let others = resolved_items tables scope nodes rest in
+    let held : all_items tables made.items.items ≡ resolved_items tables (within scope (place_or scope (raws.path g.path))) (nodes_of_child nodes (node_or 0 nodes g.label.items)) (raws.all_items g.items.items) =
+    items tables ∙ (λ i. resolved_items tables (inner' i) (lower' i) (raws.all_items (d i))) in
+    group_items tables made others ∙ (λ i. group_item (record { line = line i; child = child' i; place = at' i }) (held i) others)
+    ∙ ap (resolved_items tables scope nodes) (sym (their_rows.group_items g rest))
+
+-- a flat with its items
+pub made_flat : (tables : List TableValue) (scope inner : List Element) (nodes : Forest) (f : their_flat.FlatItem) (made : FlatItem) (p q : List (Vec ℕ)) (xs : List their.Item) (rest : raw.Items) → p ≡ f.path.items → q ≡ f.path.items → xs ≡ f.items.items
+    → made.line ≡ f.line → place made.place ≡ place_or scope (raws.items_all p) → inner ≡ within scope (place_or scope (raws.items_all q))
+    → ((tables : List TableValue) → all_items tables made.items.items ≡ resolved_items tables inner nodes (raws.all_items xs))
+    → with_item tables (Flat made) (resolved_items tables scope nodes rest) ≡ resolved_items tables scope nodes (raws.with_item (their.EachFlat f) rest)
+made_flat tables scope inner nodes f made p q xs rest a b d line at walks items =
+    let at' : place made.place ≡ place_or scope (raws.path f.path) = at ∙ ap (λ x. place_or scope (raws.items_all x)) a in
+    let inner' : inner ≡ within scope (place_or scope (raws.path f.path)) = walks ∙ ap (λ x. within scope (place_or scope (raws.items_all x))) b in
+    let others = resolved_items tables scope nodes rest in
+    let held : all_items tables made.items.items ≡ resolved_items tables (within scope (place_or scope (raws.path f.path))) nodes (raws.all_items f.items.items) =
+    items tables ∙ (λ i. resolved_items tables (inner' i) nodes (raws.all_items (d i))) in
+    flat_items tables made others ∙ (λ i. flat_item (record { line = line i; place = at' i }) (held i) others)
+    ∙ ap (resolved_items tables scope nodes) (sym (their_rows.flat_items f rest))

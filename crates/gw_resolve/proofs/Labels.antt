@@ -1,0 +1,61 @@
+-- The labels of items.
+use Rattle.std.proofs.Common.{◌≡◌, ℕ, ◌+◌, ◌<◌, Bool, true, false, List, [], ◌∷◌, ◌++◌, drop, get_or, length, slice_get, Option, Some, None, Bor, refl, sym, ap, ◌∙◌}
+use Rattle.std.specs.Prelude.{◌&&◌, is_some}
+use Rattle.std.specs.List.{list_all}
+use Rattle.std.proofs.lemmas.List.{append-nil}
+use Rattle.gw_maplang.specs.declared.item.FlatItem.{FlatItem}
+use Rattle.gw_maplang.specs.declared.item.Item.{Item, SegFrom, SegAlways, EachFlat, EachAs', EachFlat'}
+use Rattle.gw_maplang.specs.Shapes.{Items, nothing}
+use Rattle.gw_maplang.specs.Seen.{now, with_item, row_items, all_items}
+use Rattle.gw_maplang.proofs.Rows.{flat_items}
+use Rattle.gw_resolve.specs.Naming.{labels}
+use Rattle.gw_resolve.proofs.Noting.{front}
+
+pub item_labels : (x : Item) (rest : Items) → labels (with_item x rest) ≡ labels (with_item x nothing) ++ labels rest
+item_labels (SegFrom s) rest = refl
+item_labels (SegAlways s) rest = refl
+item_labels (EachAs' line label from shape row) rest = refl
+item_labels (EachFlat' line from shape row) rest = ap (λ l. l ++ labels rest) (sym (append-nil (labels (row_items row))))
+
+pub flat_labels : (item : Item) (f : FlatItem) (items : List Item) → item ≡ EachFlat f → items ≡ f.items.items → labels (all_items items) ≡ labels (with_item item nothing)
+flat_labels item f items is e =
+    ap (λ l. labels (all_items l)) e ∙ sym (append-nil (labels (all_items f.items.items))) ∙ sym (ap labels (ap (λ x. with_item x nothing) is ∙ flat_items f nothing))
+
+pub labels_front : (xs : List Item) (i : ℕ) (x : Item) → i < length xs → x ≡ get_or xs i x → labels (all_items (drop i xs)) ≡ labels (with_item x nothing) ++ labels (all_items (drop (i + 1) xs))
+labels_front xs i x m e = ap (λ l. labels (all_items l)) (front xs i x m e) ∙ item_labels x (all_items (drop (i + 1) xs))
+
+-- ---- the first
+
+there : {A : Type 0} (o : Option A) (a b : List A) → is_some o ≡ true → o ≡ slice_get a 0 → o ≡ slice_get (a ++ b) 0
+there o [] b some e = absurd (let n : false ≡ true = ap is_some (sym e) ∙ some in cc)
+there o (x ∷ a) b some e = e
+
+missing : {A : Type 0} (o : Option A) (a b : List A) → is_some o ≡ false → o ≡ slice_get a 0 → slice_get (a ++ b) 0 ≡ slice_get b 0
+missing o [] b none e = refl
+missing o (x ∷ a) b none e = absurd (let n : true ≡ false = ap is_some (sym e) ∙ none in cc)
+
+some_now : (o : Option (Bor (List ℕ))) → is_some (now o) ≡ is_some o
+some_now None = refl
+some_now (Some x) = refl
+
+pub first_there : (o : Option (Bor (List ℕ))) (whole a b : List (List ℕ)) (l : List (List ℕ)) → true ≡ is_some o → l ≡ a ++ b → slice_get whole 0 ≡ slice_get l 0 → now o ≡ slice_get a 0 → now o ≡ slice_get whole 0
+first_there o whole a b l some is so_far e = there (now o) a b (some_now o ∙ sym some) e ∙ sym (so_far ∙ ap (λ k. slice_get k 0) is)
+
+pub first_missing : (o : Option (Bor (List ℕ))) (whole a b : List (List ℕ)) (l : List (List ℕ)) → false ≡ is_some o → l ≡ a ++ b → slice_get whole 0 ≡ slice_get l 0 → now o ≡ slice_get a 0 → slice_get whole 0 ≡ slice_get b 0
+first_missing o whole a b l none is so_far e = so_far ∙ ap (λ k. slice_get k 0) is ∙ missing (now o) a b (some_now o ∙ sym none) e
+
+-- ---- all
+
+all_of_both : (test : List ℕ → Bool) (a b : List (List ℕ)) → list_all test (a ++ b) ≡ list_all test a && list_all test b
+all_of_both test [] b = refl
+all_of_both test (x ∷ a) b = ap (λ t. test x && t) (all_of_both test a b) ∙ grouped (test x) (list_all test a) (list_all test b)
+  where
+    grouped : (p q r : Bool) → p && (q && r) ≡ p && q && r
+    grouped true q r = refl
+    grouped false q r = refl
+
+pub one_other : (test : List ℕ → Bool) (whole : Bool) (a b l : List (List ℕ)) → false ≡ list_all test a → l ≡ a ++ b → whole ≡ list_all test l → false ≡ whole
+one_other test whole a b l here is so_far = sym (so_far ∙ ap (list_all test) is ∙ all_of_both test a b ∙ ap (λ t. t && list_all test b) (sym here))
+
+pub one_more : (test : List ℕ → Bool) (whole : Bool) (a b l : List (List ℕ)) → true ≡ list_all test a → l ≡ a ++ b → whole ≡ list_all test l → whole ≡ list_all test b
+one_more test whole a b l here is so_far = so_far ∙ ap (list_all test) is ∙ all_of_both test a b ∙ ap (λ t. t && list_all test b) (sym here)

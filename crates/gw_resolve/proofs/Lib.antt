@@ -1,0 +1,10 @@
+pub mod Children
+pub mod Inner
+pub mod Rows
+pub mod Saturation
+pub mod Finding
+pub mod Noting
+pub mod Labels
+pub mod Targeting
+pub mod Built
+pub mod Inside

@@ -1,0 +1,148 @@
+-- Failures found one list after the other.
+use Rattle.std.proofs.Common.{◌≡◌, ℕ, zero, suc, Bool, true, false, ◌+◌, ◌-◌, ◌<◌, ◌≤◌, add-one, List, [], ◌∷◌, ◌++◌, map, flat_map, take, drop, drop-cons, get_or, length, Some, refl, sym, ap, ◌∙◌, inl, inr, ◌==◌, arith}
+use Rattle.std.proofs.Math.Seq.{take-append_seam}
+use Rattle.std.proofs.lemmas.List.{append-nil, append_assoc, take-map, length-append, length-map}
+use Rattle.std.specs.Prelude.{not}
+use Rattle.std.proofs.lemmas.Bool.Decides.{eqb_tells}
+use Rattle.std.specs.Global.{Vec}
+use Rattle.std.proofs.Common.{ap₂}
+use Rattle.gw_maplang.specs.declared.item.FromItem.{FromItem}
+use Rattle.gw_maplang.specs.declared.rule.Rule.{Rule}
+use Rattle.gw_maplang.specs.declared.item.GroupItem.{GroupItem}
+use Rattle.gw_maplang.specs.declared.item.FlatItem.{FlatItem}
+use Rattle.gw_maplang.specs.declared.item.Item.{Item, SegFrom, SegAlways, EachAs, EachFlat, EachAs', EachFlat'}
+use Rattle.gw_maplang.proofs.Rows.{group_items, flat_items}
+use Rattle.gw_maplang.specs.Shapes.{Items, nothing}
+use Rattle.gw_maplang.specs.Seen.{path, items_all, with_item, row_items, all_items, rule}
+use Rattle.gw_resolve.specs.Places.{Element, within}
+use Rattle.gw_resolve.specs.Failures.{Failure, fails, or_later}
+use Rattle.gw_resolve.specs.Looking.{each_within}
+use Rattle.gw_resolve.specs.Naming.{but_last, place_of, place_or, has_place, ends_at_segment, is_single_place, walked_if, source_failures, rule_failures, path_failures}
+
+-- one more, and those behind it
+pub added_one : {A : Type 0} (old new a b whole : List A) → whole ≡ a ++ b → new ≡ old ++ a → old ++ whole ≡ new ++ b
+added_one old new a b whole e made = ap (λ l. old ++ l) e ∙ sym (append_assoc old a b) ∙ ap (λ l. l ++ b) (sym made)
+
+-- one element of a list, and those behind it
+pub front : {A : Type 0} (xs : List A) (i : ℕ) (x : A) → i < length xs → x ≡ get_or xs i x → drop i xs ≡ x ∷ drop (i + 1) xs
+front xs i x m e = drop-cons xs i x m ∙ ap (λ z. z ∷ drop (suc i) xs) (sym e) ∙ ap (λ (k : ℕ). x ∷ drop k xs) (sym (add-one i))
+
+-- ---- steps but the last
+
+before_last : (n : ℕ) (xs : List ℕ) → length xs ≡ suc n → take n xs ≡ but_last xs
+before_last zero [] e = refl
+before_last (suc n) [] e = absurd (omega (arith, e))
+before_last zero (x ∷ []) e = refl
+before_last (suc n) (x ∷ []) e = absurd (omega (arith, e))
+before_last zero (x ∷ y ∷ xs) e = absurd (omega (arith, e))
+before_last (suc n) (x ∷ y ∷ xs) e = ap (λ l. x ∷ l) (before_last n (y ∷ xs) (omega (arith, e)))
+
+pub all_but_last : (xs : List ℕ) → 1 ≤ length xs → take (length xs - 1) xs ≡ but_last xs
+all_but_last xs h = before_last (length xs - 1) xs (omega (arith, h))
+
+-- ---- items
+
+pub joined : (a c : List Failure) → a ++ c ≡ a ++ [] ++ c
+joined a c = ap (λ l. l ++ c) (sym (append-nil a))
+
+-- an item, and those behind it
+pub one_item : (scope : List Element) (x : Item) (rest : Items) → path_failures scope (with_item x rest) ≡ path_failures scope (with_item x nothing) ++ path_failures scope rest
+one_item scope (SegFrom s) rest = joined (or_later (source_failures scope s.line (Some (path s.path))) (flat_map (rule_failures (walked_if scope (Some (path s.path)))) (map rule s.rules.items))) (path_failures scope rest)
+one_item scope (SegAlways s) rest = joined (flat_map (rule_failures scope) (map rule s.rules.items)) (path_failures scope rest)
+one_item scope (EachAs' line label from shape row) rest = joined (each_within scope line (path from) (row_items row)) (path_failures scope rest)
+one_item scope (EachFlat' line from shape row) rest = joined (each_within scope line (path from) (row_items row)) (path_failures scope rest)
+
+pub items_next : (scope : List Element) (xs : List Item) (i : ℕ) (x : Item) (old new : List Failure) → i < length xs → x ≡ get_or xs i x → new ≡ old ++ path_failures scope (with_item x nothing) → old ++ path_failures scope (all_items (drop i xs)) ≡ new ++ path_failures scope (all_items (drop (i + 1) xs))
+items_next scope xs i x old new m e made =
+    added_one old new (path_failures scope (with_item x nothing)) (path_failures scope (all_items (drop (i + 1) xs))) (path_failures scope (all_items (drop i xs)))
+    (ap (λ l. path_failures scope (all_items l)) (front xs i x m e) ∙ one_item scope x (all_items (drop (i + 1) xs))) made
+
+abbrev each : List Element → ℕ → List (Vec ℕ) → List Item → List Failure
+each scope line p items = each_within scope line (items_all p) (all_items items)
+
+pub group_failures : (scope : List Element) (item : Item) (g : GroupItem) (p : List (Vec ℕ)) (items : List Item) → item ≡ EachAs g → p ≡ g.path.items → items ≡ g.items.items → each scope g.line p items ≡ path_failures scope (with_item item nothing)
+group_failures scope item g p items is e f =
+    ap₂ (each scope g.line) e f ∙ sym (append-nil (each scope g.line g.path.items g.items.items))
+    ∙ sym (ap (path_failures scope) (ap (λ x. with_item x nothing) is ∙ group_items g nothing))
+
+pub flat_failures : (scope : List Element) (item : Item) (g : FlatItem) (p : List (Vec ℕ)) (items : List Item) → item ≡ EachFlat g → p ≡ g.path.items → items ≡ g.items.items → each scope g.line p items ≡ path_failures scope (with_item item nothing)
+flat_failures scope item g p items is e f =
+    ap₂ (each scope g.line) e f ∙ sym (append-nil (each scope g.line g.path.items g.items.items))
+    ∙ sym (ap (path_failures scope) (ap (λ x. with_item x nothing) is ∙ flat_items g nothing))
+
+-- ---- what hides the later ones
+
+-- some of the kept ones stand behind the first ones
+pub later_hidden : {A : Type 0} (first own later : List Failure) (f : A → Failure) (all new : List A) (before kept : ℕ) → before < kept → length first ≡ before → length (first ++ own) ≡ kept → new ≡ take kept all → map f all ≡ (first ++ own) ++ later → map f new ≡ first ++ or_later own later
+later_hidden first [] later f all new before kept less a b made is =
+    let same : length (first ++ []) ≡ length first = ap length (append-nil first) in
+    absurd (omega (arith, less, a, b, same))
+later_hidden first (o ∷ own) later f all new before kept less a b made is =
+    ap (map f) made ∙ sym (take-map f kept all) ∙ ap (take kept) is
+    ∙ ap (λ n. take n ((first ++ o ∷ own) ++ later)) (sym b) ∙ take-append_seam (first ++ o ∷ own) later
+
+-- none does
+pub later_shown : {A : Type 0} (first own later : List Failure) (f : A → Failure) (all : List A) (before kept : ℕ) → kept ≤ before → length first ≡ before → length (first ++ own) ≡ kept → map f all ≡ (first ++ own) ++ later → map f all ≡ first ++ or_later own later
+later_shown first [] later f all before kept less a b is = is ∙ ap (λ l. l ++ later) (append-nil first)
+later_shown first (o ∷ own) later f all before kept less a b is =
+    let more : length (first ++ o ∷ own) ≡ length first + length (o ∷ own) = length-append first (o ∷ own) in
+    absurd (omega (arith, less, a, b, more))
+
+-- two lists found one after the other
+pub found_both : {A : Type 0} (f : A → Failure) (old : List Failure) (more new : List A) (own later : List Failure) → map f more ≡ old ++ own → map f new ≡ map f more ++ later → map f new ≡ (old ++ own) ++ later
+found_both f old more new own later a b = b ∙ ap (λ l. l ++ later) a
+
+pub as_many : {A : Type 0} (f : A → Failure) (xs : List A) (own : List Failure) (n : ℕ) → n ≡ length xs → map f xs ≡ own → length own ≡ n
+as_many f xs own n e made = ap length (sym made) ∙ length-map xs f ∙ sym e
+
+pub empty : {A : Type 0} (l k : List A) → k ≡ l → (length k == 0) ≡ true → l ≡ []
+empty [] k same e = refl
+empty (f ∷ fs) k same e = absurd (let h : (length (f ∷ fs) == 0) ≡ true = ap (λ x. length x == 0) (sym same) ∙ e in omega (arith, told (length (f ∷ fs)) h))
+  where
+    told : (n : ℕ) → (n == 0) ≡ true → n ≡ 0
+    told n h = elim (eqb_tells n 0) [ inl k ↦ k.1 | inr k ↦ absurd (let no : false ≡ true = sym k.0 ∙ h in cc) ]
+
+-- those of paths, of what is left out, and of targets
+pub named_all : (found p0 paths more t0 targets p d t : List Failure) → found ≡ more ++ targets → p0 ≡ [] → t0 ≡ [] → paths ≡ p0 ++ p → more ≡ paths ++ d → targets ≡ t0 ++ t → found ≡ p ++ d ++ t
+named_all found p0 paths more t0 targets p d t a b e f g h =
+    let there : more ≡ p ++ d = g ∙ ap (λ l. l ++ d) (f ∙ ap (λ l. l ++ p) b) in
+    let behind : targets ≡ t = h ∙ ap (λ l. l ++ t) e in
+    a ∙ (λ i. there i ++ behind i)
+
+-- ---- the failures of one item
+
+abbrev led : ℕ → Bool → Bool → List Failure
+led line leads once = fails 1 line (not leads) ++ fails 2 line (not once)
+
+-- of a segment for each that is walked
+pub from_paths : (scope inner : List Element) (s : FromItem) (leads once : Bool) (p : List (Vec ℕ)) (rules : List Rule) → p ≡ s.path.items → rules ≡ s.rules.items
+    → leads ≡ ends_at_segment scope (place_of scope (items_all p)) → once ≡ is_single_place scope but_last (place_of scope (items_all p)) → inner ≡ within scope (place_or scope (items_all p))
+    → or_later (led s.line leads once) (flat_map (rule_failures inner) (map rule rules)) ≡ path_failures scope (with_item (SegFrom s) nothing)
+from_paths scope inner s leads once p rules a b c d e =
+    (λ i. or_later (led s.line (leads' i) (once' i)) (flat_map (rule_failures (inner' i)) (map rule (b i))))
+    ∙ sym (append-nil (or_later (source_failures scope s.line (Some (path s.path))) (flat_map (rule_failures (walked_if scope (Some (path s.path)))) (map rule s.rules.items))))
+  where
+    leads' : leads ≡ ends_at_segment scope (place_of scope (path s.path))
+    leads' = c ∙ ap (λ x. ends_at_segment scope (place_of scope (items_all x))) a
+
+    once' : once ≡ is_single_place scope but_last (place_of scope (path s.path))
+    once' = d ∙ ap (λ x. is_single_place scope but_last (place_of scope (items_all x))) a
+
+    inner' : inner ≡ within scope (place_or scope (path s.path))
+    inner' = e ∙ ap (λ x. within scope (place_or scope (items_all x))) a
+
+-- of what is walked, and of the items within
+walked : (scope inner : List Element) (line : ℕ) (leads once : Bool) (p : List (Vec ℕ)) (items : List Item)
+    → leads ≡ has_place (place_of scope (items_all p)) → once ≡ is_single_place scope but_last (place_of scope (items_all p)) → inner ≡ within scope (place_or scope (items_all p))
+    → or_later (led line leads once) (path_failures inner (all_items items)) ≡ each scope line p items
+walked scope inner line leads once p items c d e = λ i. or_later (led line (c i) (d i)) (path_failures (e i) (all_items items))
+
+pub group_paths : (scope inner : List Element) (g : GroupItem) (leads once : Bool) (p : List (Vec ℕ)) (items : List Item) → p ≡ g.path.items → items ≡ g.items.items
+    → leads ≡ has_place (place_of scope (items_all p)) → once ≡ is_single_place scope but_last (place_of scope (items_all p)) → inner ≡ within scope (place_or scope (items_all p))
+    → or_later (led g.line leads once) (path_failures inner (all_items items)) ≡ path_failures scope (with_item (EachAs g) nothing)
+group_paths scope inner g leads once p items a b c d e = walked scope inner g.line leads once p items c d e ∙ group_failures scope (EachAs g) g p items refl a b
+
+pub flat_paths : (scope inner : List Element) (g : FlatItem) (leads once : Bool) (p : List (Vec ℕ)) (items : List Item) → p ≡ g.path.items → items ≡ g.items.items
+    → leads ≡ has_place (place_of scope (items_all p)) → once ≡ is_single_place scope but_last (place_of scope (items_all p)) → inner ≡ within scope (place_or scope (items_all p))
+    → or_later (led g.line leads once) (path_failures inner (all_items items)) ≡ path_failures scope (with_item (EachFlat g) nothing)
+flat_paths scope inner g leads once p items a b c d e = walked scope inner g.line leads once p items c d e ∙ flat_failures scope (EachFlat g) g p items refl a b

@@ -1,0 +1,106 @@
+use Rattle.std.proofs.Common.{ap, ◌∙◌, ◌++◌, not, refl}
+use Rattle.gw_maplang.specs.Seen as raw
+use Rattle.gw_profile.specs.Labels.{nodes_in}
+use Rattle.gw_resolve.specs.Failures.{fails}
+use Rattle.gw_resolve.specs.Naming as spec
+use Rattle.gw_resolve.specs.Placed.{is_group}
+use Rattle.gw_resolve.specs.Places.{within}
+use Rattle.gw_resolve.specs.Seen.{scope as walked, failure, failures}
+use Rattle.gw_resolve.proofs.Built.{items_made, items_done, made_group, made_flat}
+use Rattle.gw_resolve.proofs.Noting.{as_many, found_both, group_paths, flat_paths, items_next}
+use Rattle.gw_resolve.proofs.Targeting.{targets_next, group_targets, flat_targets, flat_reached}
+use Rattle.gw_resolve.proofs.items.+items.Goals as goal
+
+-- ---- a group
+
+pub group-returns-clause-item : goal.group-returns-clause-item
+group-returns-clause-item t c = λ tables rest.
+    made_group tables (walked c.args.scope.now) (walked c.deref-3.result.now) (nodes_in c.args.level) (nodes_in c.nodes_of_child-below.result) c.args.made.now
+    (record { line = c.args.made.now.line; child = c.in_ok-aimed.aimed.child; place = c.in_ok-led.led.place; items = c.in_ok-items.items }) _ _ _ _ rest
+    c.deref.ensures.value c.deref.ensures.value c.deref-2.ensures.value c.deref-4.ensures.value refl c.in_ok-led.ensures.place
+    (ap walked c.deref-3.ensures.value ∙ c.in_ok-inner.ensures ∙ ap (within (walked c.args.scope.now)) c.in_ok-led.ensures.place)
+    c.in_ok-aimed.ensures.child c.nodes_of_child-below.ensures c.in_ok-items.ensures.items
+
+pub group-returns-clause-paths : goal.group-returns-clause-paths
+group-returns-clause-paths t c =
+    let first = failures c.args.lost.now.paths.items in
+    let own = fails 1 c.args.made.now.line (not c.in_ok-led.led.leads) ++ fails 2 c.args.made.now.line (not c.in_ok-led.led.once) in
+    let later = spec.path_failures (walked c.deref-3.result.now) (raw.all_items c.deref-4.result.now) in
+    c.hide_both.ensures.paths first own later
+    (as_many failure c.args.lost.now.paths.items first _ c.mark-before.ensures.paths refl)
+    (as_many failure c.note_led.new.found.items (first ++ own) _ c.mark-kept.ensures.paths c.in_ok-note_led.ensures)
+    (found_both failure first c.note_led.new.found.items c.resolve_items.new.lost.paths.items own later c.in_ok-note_led.ensures c.in_ok-items.ensures.paths)
+    ∙ ap (λ l. first ++ l)
+    (group_paths (walked c.args.scope.now) (walked c.deref-3.result.now) c.args.made.now c.in_ok-led.led.leads c.in_ok-led.led.once c.deref.result.now c.deref-4.result.now
+    c.deref.ensures.value c.deref-4.ensures.value c.in_ok-led.ensures.leads c.in_ok-led.ensures.once
+    (ap walked c.deref-3.ensures.value ∙ c.in_ok-inner.ensures ∙ ap (within (walked c.args.scope.now)) c.in_ok-led.ensures.place))
+
+pub group-returns-clause-targets : goal.group-returns-clause-targets
+group-returns-clause-targets t c =
+    let first = failures c.args.lost.now.targets.items in
+    let own = spec.label_failures (nodes_in c.args.level) is_group c.args.j c.args.made.now.line c.deref-2.result.now in
+    let later = spec.target_failures (nodes_in c.nodes_of_child-below.result) 0 (raw.all_items c.deref-4.result.now) in
+    c.hide_both.ensures.targets first own later
+    (as_many failure c.args.lost.now.targets.items first _ c.mark-before.ensures.targets refl)
+    (as_many failure c.group_target.new.found.items (first ++ own) _ c.mark-kept.ensures.targets c.in_ok-aimed.ensures.failures)
+    (found_both failure first c.group_target.new.found.items c.resolve_items.new.lost.targets.items own later c.in_ok-aimed.ensures.failures c.in_ok-items.ensures.targets)
+    ∙ ap (λ l. first ++ l)
+    (group_targets (nodes_in c.args.level) (nodes_in c.nodes_of_child-below.result) c.args.j c.in_ok-aimed.aimed.child c.args.made.now c.deref-2.result.now c.deref-4.result.now
+    c.deref-2.ensures.value c.deref-4.ensures.value c.in_ok-aimed.ensures.child c.nodes_of_child-below.ensures)
+
+-- ---- a flat
+
+pub flat-returns-clause-item : goal.flat-returns-clause-item
+flat-returns-clause-item t c = λ tables rest.
+    made_flat tables (walked c.args.scope.now) (walked c.deref-3.result.now) (nodes_in c.args.level) c.args.made.now
+    (record { line = c.args.made.now.line; place = c.in_ok-led.led.place; items = c.in_ok-items.items }) _ _ _ rest
+    c.deref.ensures.value c.deref.ensures.value c.deref-4.ensures.value refl c.in_ok-led.ensures.place
+    (ap walked c.deref-3.ensures.value ∙ c.in_ok-inner.ensures ∙ ap (within (walked c.args.scope.now)) c.in_ok-led.ensures.place) c.in_ok-items.ensures.items
+
+pub flat-returns-clause-node : goal.flat-returns-clause-node
+flat-returns-clause-node t c = flat_reached (nodes_in c.args.level) c.args.j c.in_ok-node.node c.args.made.now c.deref-2.result.now c.deref-2.ensures.value c.in_ok-node.ensures.node
+
+pub flat-returns-clause-paths : goal.flat-returns-clause-paths
+flat-returns-clause-paths t c =
+    let first = failures c.args.lost.now.paths.items in
+    let own = fails 1 c.args.made.now.line (not c.in_ok-led.led.leads) ++ fails 2 c.args.made.now.line (not c.in_ok-led.led.once) in
+    let later = spec.path_failures (walked c.deref-3.result.now) (raw.all_items c.deref-4.result.now) in
+    c.hide_both.ensures.paths first own later
+    (as_many failure c.args.lost.now.paths.items first _ c.mark-before.ensures.paths refl)
+    (as_many failure c.note_led.new.found.items (first ++ own) _ c.mark-kept.ensures.paths c.in_ok-note_led.ensures)
+    (found_both failure first c.note_led.new.found.items c.resolve_items.new.lost.paths.items own later c.in_ok-note_led.ensures c.in_ok-items.ensures.paths)
+    ∙ ap (λ l. first ++ l)
+    (flat_paths (walked c.args.scope.now) (walked c.deref-3.result.now) c.args.made.now c.in_ok-led.led.leads c.in_ok-led.led.once c.deref.result.now c.deref-4.result.now
+    c.deref.ensures.value c.deref-4.ensures.value c.in_ok-led.ensures.leads c.in_ok-led.ensures.once
+    (ap walked c.deref-3.ensures.value ∙ c.in_ok-inner.ensures ∙ ap (within (walked c.args.scope.now)) c.in_ok-led.ensures.place))
+
+pub flat-returns-clause-targets : goal.flat-returns-clause-targets
+flat-returns-clause-targets t c =
+    let first = failures c.args.lost.now.targets.items in
+    let own = spec.flat_failures (nodes_in c.args.level) c.args.j c.args.made.now.line (spec.labels (raw.all_items c.deref-2.result.now)) in
+    let later = spec.target_failures (nodes_in c.args.level) 0 (raw.all_items c.deref-4.result.now) in
+    c.hide_both.ensures.targets first own later
+    (as_many failure c.args.lost.now.targets.items first _ c.mark-before.ensures.targets refl)
+    (as_many failure c.flat_target.new.found.items (first ++ own) _ c.mark-kept.ensures.targets c.in_ok-node.ensures.failures)
+    (found_both failure first c.flat_target.new.found.items c.resolve_items.new.lost.targets.items own later c.in_ok-node.ensures.failures c.in_ok-items.ensures.targets)
+    ∙ ap (λ l. first ++ l)
+    (flat_targets (nodes_in c.args.level) c.args.j c.args.made.now c.deref-2.result.now c.deref-4.result.now c.deref-2.ensures.value c.deref-4.ensures.value)
+
+-- ---- one item after the other
+
+pub resolve_items-loop-i-preserved : goal.resolve_items-loop-i-preserved
+resolve_items-loop-i-preserved t c =
+    record {
+      items = λ tables.
+          items_made tables (walked c.args.scope.now) (nodes_in c.args.level) _ c.args.items.now c.loop-i.i c.index-items-i.result c.loop-i.built.items _ c.in_ok-looked.looked.item c.loop-i-test.true c.index-items-i.is c.in_ok-push.ensures.items c.in_ok-looked.ensures.item (c.loop-i.invariant.items tables);
+      paths =
+          c.loop-i.invariant.paths
+          ∙ items_next (walked c.args.scope.now) c.args.items.now c.loop-i.i c.index-items-i.result (failures c.loop-i.lost.paths.items) (failures c.resolve_item.new.lost.paths.items) c.loop-i-test.true c.index-items-i.is c.in_ok-looked.ensures.paths;
+      targets =
+          c.loop-i.invariant.targets
+          ∙ targets_next (nodes_in c.args.level) c.args.items.now c.loop-i.i c.index-items-i.result (failures c.loop-i.lost.targets.items) (failures c.resolve_item.new.lost.targets.items) c.loop-i.node c.in_ok-looked.looked.node c.loop-i-test.true c.index-items-i.is c.in_ok-looked.ensures.targets c.in_ok-looked.ensures.node;
+    }
+
+pub resolve_items-returns-clause-items : goal.resolve_items-returns-clause-items
+resolve_items-returns-clause-items t c = λ tables.
+    items_done tables (walked c.args.scope.now) (nodes_in c.args.level) (spec.resolved_items tables (walked c.args.scope.now) (nodes_in c.args.level) (raw.all_items c.args.items.now)) c.args.items.now c.loop-i.i c.loop-i.built.items c.loop-i-test.false (c.loop-i.invariant.items tables)

@@ -1,0 +1,13 @@
+use Rattle.std.proofs.Common.{◌≡◌, List, ◌++◌, drop, map, flat_map}
+use Rattle.gw_maplang.specs.Shapes.{TableValue}
+use Rattle.gw_maplang.specs.Seen as raw
+use Rattle.gw_resolve.specs.Naming as spec
+use Rattle.gw_resolve.specs.Seen as seen
+use Rattle.gw_resolve.specs.Seen.{scope as walked}
+use Rattle.gw_resolve.proofs.rules.rules.Given as goal
+
+abbrev pub invariant-loop-i : goal.invariant-loop-i
+invariant-loop-i l = record {
+  made : (tables : List TableValue) → map (spec.rule tables (walked l.scope)) (map raw.rule l.all) ≡ map (seen.rule tables) l.built.items ++ map (spec.rule tables (walked l.scope)) (map raw.rule (drop l.i l.all));
+  failures : seen.failures l.initial.found.items ++ (flat_map (spec.rule_failures (walked l.scope)) (map raw.rule l.all)) ≡ seen.failures l.found.items ++ (flat_map (spec.rule_failures (walked l.scope)) (map raw.rule (drop l.i l.all)));
+}

@@ -1,0 +1,67 @@
+-- What every map keeps, told of a map whose labels were looked up.
+use Rattle.std.specs.Prelude.{◌≡◌, ℕ, ◌≤◌, Bool, true, false, List, map, IfSome}
+use Rattle.std.specs.List.{AllByRecursion}
+use Rattle.gw_er7.specs.Message.{first_field}
+use Rattle.gw_lines.specs.Values.{is_value}
+use Rattle.gw_profile.specs.Shapes.{Forest}
+use Rattle.gw_maplang.specs.declared.rule.LeafPlace.{LeafPlace}
+use Rattle.gw_maplang.specs.Among.{Distinct}
+use Rattle.gw_maplang.specs.Shapes.{Rows}
+use Rattle.gw_maplang.specs.Lawful.{LawfulRow}
+use Rattle.gw_resolve.specs.Places.{child, nodes_of_child, name_of}
+use Rattle.gw_resolve.specs.Resolved.{Source, of_field, of_current, Leaf, const, copied, looked_up, At, Making, copy, first, repeat, build, Rule, Items, no_items, segment_item, group_item, flat_item}
+
+-- what rows give is canonical and not empty
+pub record LawfulRows (table : Rows) : Type 0 where
+  pub each : AllByRecursion LawfulRow table.rows
+  pub other : IfSome table.other (λ value. is_value value ≡ true)
+
+-- the repetition that is walked is read below `repeat` alone
+abbrev pub LawfulSource : Bool → Source → Type 0
+LawfulSource repeated (of_field from comp sub) = Unit {0}
+LawfulSource repeated (of_current comp sub) = repeated ≡ true
+
+-- a constant is canonical and not empty
+abbrev pub LawfulLeaf : Bool → Leaf → Type 0
+LawfulLeaf repeated (const text) = is_value text ≡ true
+LawfulLeaf repeated (copied source) = LawfulSource repeated source
+LawfulLeaf repeated (looked_up table source) = LawfulRows table × LawfulSource repeated source
+
+pub record LawfulAt (repeated : Bool) (a : At) : Type 0 where
+  pub comp : 1 ≤ a.comp
+  pub sub : 1 ≤ a.sub
+  pub leaf : LawfulLeaf repeated a.leaf
+
+abbrev pub place : At → LeafPlace
+place a = record { comp = a.comp; sub = a.sub }
+
+abbrev pub places : List At → List LeafPlace
+places = map place
+
+-- one leaf for each component and subcomponent
+pub record LawfulLeaves (repeated : Bool) (leaves : List At) : Type 0 where
+  pub each : AllByRecursion (LawfulAt repeated) leaves
+  pub distinct : Distinct (places leaves)
+
+abbrev pub LawfulMaking : Making → Type 0
+LawfulMaking (copy from) = Unit {0}
+LawfulMaking (first from) = Unit {0}
+LawfulMaking (repeat from leaves) = LawfulLeaves true leaves
+LawfulMaking (build leaves) = LawfulLeaves false leaves
+
+-- a field of a segment of this name; fields 1 and 2 of MSH are its delimiters
+pub record LawfulRule (name : List ℕ) (r : Rule) : Type 0 where
+  pub field : first_field name ≤ r.field
+  pub making : LawfulMaking r.making
+
+-- one rule for each field
+pub record LawfulRules (name : List ℕ) (rules : List Rule) : Type 0 where
+  pub each : AllByRecursion (LawfulRule name) rules
+  pub distinct : Distinct (map (λ (r : Rule). r.field) rules)
+
+-- items whose target nodes are these
+abbrev pub LawfulItems : Forest → Items → Type 0
+LawfulItems nodes no_items = Unit {0}
+LawfulItems nodes (segment_item s rest) = LawfulRules (name_of (child nodes s.child)) s.rules × LawfulItems nodes rest
+LawfulItems nodes (group_item g items rest) = LawfulItems (nodes_of_child nodes g.child) items × LawfulItems nodes rest
+LawfulItems nodes (flat_item f items rest) = LawfulItems nodes items × LawfulItems nodes rest

@@ -1,0 +1,88 @@
+-- A map whose labels were looked up: it names target nodes by their numbers, and source places by steps.
+use Rattle.std.specs.Prelude.{ℕ, ◌==◌, ◌&&◌, List, Option, Some, None, find}
+use Rattle.gw_maplang.specs.Shapes.{Rows}
+use Rattle.gw_resolve.specs.Places.{Place}
+
+-- a field of the segment at a place
+pub record Reference : Type 0 where
+  pub place : Place
+  pub field : ℕ
+
+-- a subcomponent: of the first present repetition of a field, or of the repetition that is walked
+pub data Source : Type 0 where
+  of_field : (from : Reference) (comp sub : ℕ) → Source
+  of_current : (comp sub : ℕ) → Source
+
+-- a text, the text of a source, or what the rows of a table give for that
+pub data Leaf : Type 0 where
+  const : (text : List ℕ) → Leaf
+  copied : (source : Source) → Leaf
+  looked_up : (table : Rows) (source : Source) → Leaf
+
+-- the leaf of a component and subcomponent
+pub record At : Type 0 where
+  pub line : ℕ
+  pub comp : ℕ
+  pub sub : ℕ
+  pub leaf : Leaf
+
+-- how a field is made: as another, as its first repetition, a repetition of leaves for each of its own, or one of leaves
+pub data Making : Type 0 where
+  copy : (from : Reference) → Making
+  first : (from : Reference) → Making
+  repeat : (from : Reference) (leaves : List At) → Making
+  build : (leaves : List At) → Making
+
+-- the rule of a target field
+pub record Rule : Type 0 where
+  pub line : ℕ
+  pub field : ℕ
+  pub making : Making
+
+-- a target segment for each occurrence at a place, or one where no place is said
+pub record SegmentItem : Type 0 where
+  pub line : ℕ
+  pub child : ℕ
+  pub place : Option Place
+  pub rules : List Rule
+
+-- a target group for each occurrence at a place
+pub record GroupItem : Type 0 where
+  pub line : ℕ
+  pub child : ℕ
+  pub place : Place
+
+-- the occurrences at a place, without a target group
+pub record FlatItem : Type 0 where
+  pub line : ℕ
+  pub place : Place
+
+-- a list of items: each a segment, or a group or flat with its own items
+pub data Items : Type 0 where
+  no_items : Items
+  segment_item : (s : SegmentItem) (rest : Items) → Items
+  group_item : (g : GroupItem) (items rest : Items) → Items
+  flat_item : (f : FlatItem) (items rest : Items) → Items
+
+-- a source element that is left out on purpose, or one field of it
+pub record Drop : Type 0 where
+  pub steps : List ℕ
+  pub field : Option ℕ
+
+pub record Resolved : Type 0 where
+  pub line : ℕ
+  pub items : Items
+  pub drops : List Drop
+
+abbrev pub rule_of : List Rule → ℕ → Option Rule
+rule_of rules field = find (λ r. r.field == field) rules
+
+abbrev pub leaf_at : List At → ℕ → ℕ → Option At
+leaf_at leaves comp sub = find (λ a. a.comp == comp && a.sub == sub) leaves
+
+-- the target node of the first item; all items of a flat have one
+abbrev pub first_child : Items → Option ℕ
+first_child no_items = None
+first_child (segment_item s rest) = Some s.child
+first_child (group_item g items rest) = Some g.child
+first_child (flat_item f items rest) = first_child items

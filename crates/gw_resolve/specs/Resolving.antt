@@ -1,0 +1,88 @@
+-- What looking up the labels of a map gives.
+use Rattle.std.specs.Prelude.{◌≡◌, ℕ, List, [], ◌++◌, length, map}
+use Rattle.gw_profile.specs.Shapes.{Forest, ProfileValue}
+use Rattle.gw_maplang.specs.Seen as raw
+use Rattle.gw_maplang.specs.Shapes.{MapValue, TableValue, Items, nothing}
+use Rattle.gw_maplang.specs.declared.item.Item.{Item as TheirItem}
+use Rattle.gw_maplang.specs.declared.rule.LeafRule.{LeafRule}
+use Rattle.gw_maplang.specs.declared.rule.Rule.{Rule as TheirRule}
+use Rattle.gw_resolve.specs.declared.named.Named.{Named}
+use Rattle.gw_resolve.specs.declared.named.Resolving as declared
+use Rattle.gw_resolve.specs.declared.failure.Failure.{Failure}
+use Rattle.gw_resolve.specs.declared.resolved.At.{At}
+use Rattle.gw_resolve.specs.declared.resolved.Item.{Item}
+use Rattle.gw_resolve.specs.declared.resolved.Making.{Making}
+use Rattle.gw_resolve.specs.declared.resolved.Rule.{Rule}
+use Rattle.gw_resolve.specs.Failures.{Failure as Told, or_later}
+use Rattle.gw_resolve.specs.Places.{Element}
+use Rattle.gw_resolve.specs.Naming as spec
+use Rattle.gw_resolve.specs.Naming.{naming_failures, resolved}
+use Rattle.gw_resolve.specs.Seen as seen
+use Rattle.gw_resolve.specs.Seen.{failures, with_item, all_items, left_out}
+
+-- ---- parts, whatever the map's tables are
+
+abbrev pub MakesLeaf : List Element → LeafRule → At → Type 0
+MakesLeaf scope from made = (tables : List TableValue) → seen.at_leaf tables made ≡ spec.at_leaf tables scope (raw.leaf_value from)
+
+abbrev pub MakesLeaves : List Element → List LeafRule → List At → Type 0
+MakesLeaves scope from made = (tables : List TableValue) → map (seen.at_leaf tables) made ≡ map (spec.at_leaf tables scope) (map raw.leaf_value from)
+
+abbrev pub MakesMaking : List Element → TheirRule → Making → Type 0
+MakesMaking scope from made = (tables : List TableValue) → seen.making tables made ≡ spec.making tables scope ((raw.rule from).making)
+
+abbrev pub MakesRule : List Element → TheirRule → Rule → Type 0
+MakesRule scope from made = (tables : List TableValue) → seen.rule tables made ≡ spec.rule tables scope (raw.rule from)
+
+abbrev pub MakesRules : List Element → List TheirRule → List Rule → Type 0
+MakesRules scope from made = (tables : List TableValue) → map (seen.rule tables) made ≡ map (spec.rule tables scope) (map raw.rule from)
+
+-- an item of a level with these target nodes, before any others
+abbrev pub MakesItem : List Element → Forest → TheirItem → Item → Type 0
+MakesItem scope nodes from made =
+    (tables : List TableValue) (rest : Items)
+    → with_item tables made (spec.resolved_items tables scope nodes rest) ≡ spec.resolved_items tables scope nodes (raw.with_item from rest)
+
+abbrev pub MakesItems : List Element → Forest → List TheirItem → List Item → Type 0
+MakesItems scope nodes from made = (tables : List TableValue) → all_items tables made ≡ spec.resolved_items tables scope nodes (raw.all_items from)
+
+-- ---- failures
+
+-- those of an item's own
+abbrev pub path_failures : List Element → TheirItem → List Told
+path_failures scope from = spec.path_failures scope (raw.with_item from nothing)
+
+-- behind an item of node j
+abbrev pub target_failures : Forest → ℕ → TheirItem → List Told
+target_failures nodes j from = spec.target_failures nodes j (raw.with_item from nothing)
+
+-- the number of the node of an item, j where it has none
+abbrev pub reached : Forest → ℕ → TheirItem → ℕ
+reached nodes j from = spec.node_or j nodes (spec.first_or (spec.labels (raw.with_item from nothing)))
+
+-- behind so many failures stand some more, up to the kept ones: where there are any, those behind them are taken back
+abbrev pub Hides : List Failure → List Failure → ℕ → ℕ → Type 0
+Hides old new before kept =
+    (first own later : List Told) → length first ≡ before → length (first ++ own) ≡ kept → failures old ≡ (first ++ own) ++ later → failures new ≡ first ++ or_later own later
+
+-- ---- the whole
+
+-- no rule on labels fails, and this is the map without them
+pub record IsNamed (from to : ProfileValue) (m : MapValue) (made : Named) : Type 0 where
+  pub none : naming_failures from to m ≡ []
+  pub items : all_items m.tables made.items.items ≡ (resolved from to m).items
+  pub drops : map left_out made.drops.items ≡ (resolved from to m).drops
+
+-- some rule on labels fails, and these are the failures
+pub record IsLost (from to : ProfileValue) (m : MapValue) (found : List Failure) : Type 0 where
+  pub all : failures found ≡ naming_failures from to m
+  pub some : found ≡ [] → ⊥
+
+-- the map without labels, or the failures of the rules on them
+abbrev pub Resolves : ProfileValue → ProfileValue → MapValue → declared.Resolving → Type 0
+Resolves from to m (declared.TheVariants.Refused found) = IsLost from to m found.items
+Resolves from to m (declared.TheVariants.Resolved made) = IsNamed from to m made
+
+-- for all profiles with these nodes
+abbrev pub ResolvesBy : Forest → Forest → MapValue → declared.Resolving → Type 0
+ResolvesBy source target m made = (from to : ProfileValue) → from.nodes ≡ source → to.nodes ≡ target → Resolves from to m made

@@ -1,0 +1,102 @@
+-- Parts of the program, without where they lie in memory.
+use Rattle.std.specs.Prelude.{ℕ, min, List, [], ◌∷◌, map, reverse, option_map, unwrap_or}
+use Rattle.gw_profile.specs.Labels.{nodes_in}
+use Rattle.gw_profile.specs.Seen.{segment_value}
+use Rattle.gw_resolve.specs.declared.failure.Failure as failures_of
+use Rattle.gw_resolve.specs.declared.interval.Interval as intervals
+use Rattle.gw_resolve.specs.declared.element.Element as elements
+use Rattle.gw_resolve.specs.Failures.{Failure}
+use Rattle.gw_resolve.specs.Intervals.{Interval}
+use Rattle.gw_resolve.specs.declared.resolved.Place as places
+use Rattle.gw_resolve.specs.declared.resolved.Reference as references
+use Rattle.gw_resolve.specs.declared.resolved.Source as sources_of
+use Rattle.gw_resolve.specs.declared.resolved.Leaf as leaves
+use Rattle.gw_resolve.specs.declared.resolved.At as ats
+use Rattle.gw_resolve.specs.declared.resolved.Making as makings
+use Rattle.gw_resolve.specs.declared.resolved.Rule as rules_of
+use Rattle.gw_resolve.specs.declared.resolved.Item.{Item, Segment, Group', Flat', Row_of-Item, end_of-Item, more_of-Item}
+use Rattle.gw_resolve.specs.declared.resolved.LeftOut.{LeftOut}
+use Rattle.gw_maplang.specs.Shapes.{TableValue, table_of}
+use Rattle.gw_resolve.specs.Naming.{no_rows}
+use Rattle.gw_resolve.specs.Places.{Element, a_segment, a_group, the_whole, Place}
+use Rattle.gw_resolve.specs.Resolved.{Reference, Source, of_field, of_current, Leaf, const, copied, looked_up, At, Making, copy, first, repeat, build, Rule, Items, no_items, segment_item, group_item, flat_item, Drop}
+
+abbrev pub failure : failures_of.Failure → Failure
+failure f = record { rule = f.rule; line = f.line }
+
+abbrev pub failures : List failures_of.Failure → List Failure
+failures = map failure
+
+-- ---- counts
+
+abbrev pub interval : intervals.Interval → Interval
+interval i = record { least = i.least; greatest = i.greatest }
+
+-- above every number that a cardinality can name
+abbrev pub cap : ℕ
+cap = 4294967296
+
+-- numbers from the cap on are one
+abbrev pub saturated : Interval → Interval
+saturated i = record { least = min i.least cap; greatest = option_map (λ n. min n cap) i.greatest }
+
+-- ---- elements
+
+-- a group's nodes are those of its level
+abbrev pub element : elements.Element → Element
+element (elements.TheVariants.Segment s) = a_segment (segment_value s.now)
+element (elements.TheVariants.Group g level) = a_group (record { label = g.now.label.items; usage = g.now.usage; card = g.now.card }) (nodes_in level)
+element (elements.TheVariants.Whole level) = the_whole (nodes_in level)
+
+-- the elements that are walked, the innermost last in the program
+abbrev pub scope : List elements.Element → List Element
+scope es = reverse (map element es)
+
+-- ---- a map without labels; its tables stand apart
+
+abbrev pub place : places.Place → Place
+place p = record { out = p.out; steps = p.steps.items }
+
+abbrev pub reference : references.Reference → Reference
+reference r = record { place = place r.place; field = r.field }
+
+abbrev pub source : sources_of.Source → Source
+source (sources_of.TheVariants.OfField from at) = of_field (reference from) at.comp at.sub
+source (sources_of.TheVariants.OfCurrent at) = of_current at.comp at.sub
+
+abbrev pub leaf : List TableValue → leaves.Leaf → Leaf
+leaf tables (leaves.TheVariants.Const text) = const text.items
+leaf tables (leaves.TheVariants.Copied from) = copied (source from)
+leaf tables (leaves.TheVariants.LookedUp name from) = looked_up (unwrap_or (table_of name.items tables) no_rows) (source from)
+
+abbrev pub at_leaf : List TableValue → ats.At → At
+at_leaf tables a = record { line = a.line; comp = a.place.comp; sub = a.place.sub; leaf = leaf tables a.leaf }
+
+abbrev pub making : List TableValue → makings.Making → Making
+making tables (makings.TheVariants.Copy from) = copy (reference from)
+making tables (makings.TheVariants.First from) = first (reference from)
+making tables (makings.TheVariants.Repeat from each) = repeat (reference from) (map (at_leaf tables) each.items)
+making tables (makings.TheVariants.Build each) = build (map (at_leaf tables) each.items)
+
+abbrev pub rule : List TableValue → rules_of.Rule → Rule
+rule tables r = record { line = r.line; field = r.field; making = making tables r.making }
+
+abbrev mutual
+  -- an item with the items behind it
+  pub with_item : List TableValue → Item → Items → Items
+  with_item tables (Segment s) rest =
+      segment_item (record { line = s.line; child = s.child; place = option_map place s.place; rules = map (rule tables) s.rules.items }) rest
+  with_item tables (Group' line child from shape row) rest =
+      group_item (record { line = line; child = child; place = place from }) (row_items tables row) rest
+  with_item tables (Flat' line from shape row) rest = flat_item (record { line = line; place = place from }) (row_items tables row) rest
+
+  pub row_items : {n : _} → List TableValue → Row_of-Item n → Items
+  row_items tables end_of-Item = no_items
+  row_items tables (more_of-Item i rest) = with_item tables i (row_items tables rest)
+
+abbrev pub all_items : List TableValue → List Item → Items
+all_items tables [] = no_items
+all_items tables (i ∷ rest) = with_item tables i (all_items tables rest)
+
+abbrev pub left_out : LeftOut → Drop
+left_out d = record { steps = d.steps.items; field = d.field }

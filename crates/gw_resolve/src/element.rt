@@ -1,0 +1,169 @@
+//! Elements of a profile, and what stands at the places of a map.
+ghost use Rattle.std.specs.Prelude.{◌≡◌, ◌∷◌, Option, Some, IfOk, option_map};
+ghost use Rattle.gw_profile.specs.Labels.{inner, nodes_in};
+ghost use Rattle.gw_profile.specs.Seen.{forest, node_forest};
+ghost use Rattle.gw_profile.specs.Shapes.{nothing};
+ghost use Rattle.gw_resolve.specs.Places as spec;
+ghost use Rattle.gw_resolve.specs.Seen.{element as seen, scope as walked, place as seen_place, interval, saturated};
+ghost use Rattle.gw_resolve.specs.Founds.{count_of, saturated_found, found_value, times_element};
+
+use crate::interval::{Interval, once};
+use crate::resolved::Place;
+use gw_profile::{GroupNode, Level, Node, SegNode};
+use std::alloc::{AllocError, Global};
+
+/// A segment, a group with its level, or the level of the whole profile, None where nothing stands.
+#[derive(Clone, Copy)]
+pub enum Element<'a, 'p> {
+    Segment(&'a SegNode),
+    Group(&'a GroupNode, Option<&'a Level<'p>>),
+    Whole(Option<&'a Level<'p>>),
+}
+
+/// An element, and how often it is there below where the steps began.
+#[derive(Clone, Copy)]
+pub struct Found<'a, 'p> {
+    pub element: Element<'a, 'p>,
+    pub count: Interval,
+}
+
+// ---- nodes
+
+// The node, with the level of what is within it.
+fn of_node<'a, 'p>(node: &'a Node, level: Option<&'a Level<'p>>) -> Element<'a, 'p>
+    requires { nodes_in level ≡ inner node.now }
+    ensures { spec.child (node_forest node.now nothing) 0 ≡ Some (seen result) }
+{
+    match node {
+        Node::Seg(segment) => Element::Segment(segment),
+        Node::Group(group) => Element::Group(group, level),
+    }
+}
+
+// The node of this number.
+fn node_at<'a, 'p>(level: &'a Level<'p>, number: usize) -> Option<Element<'a, 'p>>
+    ensures { option_map seen result ≡ spec.child (forest level.now) number }
+{
+    match level.nodes().get(number) {
+        None => None,
+        Some(node) => Some(of_node(node, level.within(number))),
+    }
+}
+
+/// The node of this number.
+pub(crate) fn child<'a, 'p>(level: Option<&'a Level<'p>>, number: usize) -> Option<Element<'a, 'p>>
+    ensures { option_map seen result ≡ spec.child (nodes_in level.entry) number }
+{
+    match level {
+        None => None,
+        Some(level) => node_at(level, number),
+    }
+}
+
+/// The level within an element.
+pub(crate) fn nodes_of<'a, 'p>(element: Element<'a, 'p>) -> Option<&'a Level<'p>>
+    ensures { nodes_in result ≡ spec.nodes_of (seen element.entry) }
+{
+    match element {
+        Element::Segment(_) => None,
+        Element::Group(_, level) => level,
+        Element::Whole(level) => level,
+    }
+}
+
+/// The level within the node of this number.
+pub(crate) fn nodes_of_child<'a, 'p>(
+    level: Option<&'a Level<'p>>,
+    number: usize,
+) -> Option<&'a Level<'p>>
+    ensures { nodes_in result ≡ spec.nodes_of_child (nodes_in level.entry) number }
+{
+    match child(level, number) {
+        None => None,
+        Some(element) => nodes_of(element),
+    }
+}
+
+// How often an element comes; the whole comes once.
+fn count_of(element: Element<'_, '_>) -> Interval
+    ensures { interval result ≡ saturated (count_of (seen element.entry)) }
+{
+    match element {
+        Element::Segment(segment) => Interval::of(segment.card),
+        Element::Group(group, _) => Interval::of(group.card),
+        Element::Whole(_) => once(),
+    }
+}
+
+// ---- places
+
+// So many times as the element comes.
+fn times<'a, 'p>(element: Element<'a, 'p>, below: Option<Found<'a, 'p>>) -> Option<Found<'a, 'p>>
+    ensures { (f : Option spec.Found) → found_value below.entry ≡ saturated_found f → found_value result ≡ saturated_found (times_element (seen element.entry) f) }
+{
+    match below {
+        None => None,
+        Some(below) => Some(Found {
+            element: below.element,
+            count: count_of(element).times(below.count),
+        }),
+    }
+}
+
+// What stands where this step and the others lead.
+#[cycle(below)]
+fn step<'a, 'p>(element: Element<'a, 'p>, first: usize, rest: &[usize]) -> Option<Found<'a, 'p>>
+    ensures { found_value result ≡ saturated_found (spec.found_below (first ∷ rest.now) (seen element.entry)) }
+{
+    match child(nodes_of(element), first) {
+        None => None,
+        Some(next) => times(next, found_below(next, rest)),
+    }
+}
+
+// What stands where the steps lead.
+#[cycle(below)]
+fn found_below<'a, 'p>(element: Element<'a, 'p>, steps: &[usize]) -> Option<Found<'a, 'p>>
+    ensures { found_value result ≡ saturated_found (spec.found_below steps.now (seen element.entry)) }
+{
+    let [first, rest @ ..] = steps else {
+        return Some(Found {
+            element,
+            count: once(),
+        });
+    };
+    step(element, *first, rest)
+}
+
+/// What stands at a place, seen from the elements that are walked, the innermost last. It takes no memory.
+pub fn find<'a, 'p>(scope: &[Element<'a, 'p>], place: &Place) -> Option<Found<'a, 'p>>
+    ensures { found_value result ≡ saturated_found (spec.found (walked scope.now) (seen_place place.now)) }
+{
+    if place.out >= scope.len() {
+        return None;
+    }
+    found_below(scope[scope.len() - 1 - place.out], &place.steps)
+}
+
+/// The element at a place, where one is.
+pub(crate) fn element_at<'a, 'p>(scope: &[Element<'a, 'p>], place: &Place) -> Element<'a, 'p>
+    ensures { seen result ≡ spec.element_of (spec.found (walked scope.now) (seen_place place.now)) }
+{
+    match find(scope, place) {
+        None => Element::Whole(None),
+        Some(found) => found.element,
+    }
+}
+
+/// The scope of what is walked at a place. The one error is want of memory.
+pub fn within<'a, 'p>(
+    alloc: Global,
+    scope: &[Element<'a, 'p>],
+    place: &Place,
+) -> Result<Vec<Element<'a, 'p>>, AllocError>
+    ensures { IfOk result (λ inner. walked inner.items ≡ spec.within (walked scope.now) (seen_place place.now)) }
+{
+    let mut inner = Vec::from_slice(alloc, scope)?;
+    inner.push(element_at(scope, place))?;
+    Ok(inner)
+}

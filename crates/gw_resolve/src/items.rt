@@ -1,0 +1,224 @@
+//! The items of a map without labels: one walk that finds the failures of what they name.
+ghost use Rattle.std.specs.Prelude.{◌≡◌, IfOk, OnOk, map, Option, Some, None};
+ghost use Rattle.gw_maplang.specs.Seen as raw;
+ghost use Rattle.gw_maplang.specs.declared.item.Item.{SegFrom, SegAlways, EachAs, EachFlat};
+ghost use Rattle.gw_profile.specs.Labels.{nodes_in};
+ghost use Rattle.gw_resolve.specs.Naming as spec;
+ghost use Rattle.gw_resolve.specs.Noted.{Notes};
+ghost use Rattle.gw_resolve.specs.Resolving.{MakesItem, MakesItems, MakesRules, path_failures, target_failures, reached};
+ghost use Rattle.gw_resolve.specs.Seen.{scope as walked, place as seen_place};
+
+use crate::element::{Element, nodes_of_child, within};
+use crate::failure::Failure;
+use crate::led::{note_led, segments_led, walk_led};
+use crate::lost::{Lost, hide, hide_both, mark};
+use crate::resolved::{FlatItem, GroupItem, Item, Place, Rule, SegmentItem};
+use crate::rules::rules;
+use crate::targets::{Aimed, flat_target, group_target, segment_target};
+use gw_profile::Level;
+use std::alloc::{AllocError, Global};
+
+/// An item without labels, and the node behind which the next one stands.
+#[derive(Drop)]
+pub(crate) struct Looked {
+    item: Item,
+    node: usize,
+}
+
+/// The place that an item walks, and the rules there.
+#[derive(Drop)]
+struct Ruled {
+    place: Place,
+    rules: Vec<Rule>,
+}
+
+// What a segment item walks, and its rules.
+fn rules_walked(
+    alloc: Global,
+    paths: &mut Vec<Failure>,
+    scope: &[Element<'_, '_>],
+    made: &gw_maplang::FromItem,
+) -> Result<Ruled, AllocError>
+    ensures place { IfOk result (λ r. seen_place r.place ≡ spec.place_or (walked scope.now) (raw.path made.now.path)) }
+    ensures rules { IfOk result (λ r. MakesRules (spec.walked_if (walked scope.now) (Some (raw.path made.now.path))) made.now.rules.items r.rules.items) }
+    ensures failures { OnOk result (Notes paths.old paths.new (path_failures (walked scope.now) (SegFrom made.now))) }
+{
+    let before = paths.len();
+    let led = segments_led(alloc, scope, &made.path)?;
+    note_led(paths, made.line, &led)?;
+    let kept = paths.len();
+    let inner = within(alloc, scope, &led.place)?;
+    let rules = rules(alloc, paths, &inner, &made.rules)?;
+    hide(paths, before, kept);
+    Ok(Ruled {
+        place: led.place,
+        rules,
+    })
+}
+
+// A segment item.
+fn segment(line: u32, aimed: Aimed, place: Option<Place>, rules: Vec<Rule>) -> Looked
+    ensures item { result.item ≡ Item.Segment (record { line = line; child = aimed.child; place = place; rules = rules }) }
+    ensures node { result.node ≡ aimed.node }
+{
+    Looked {
+        item: Item::Segment(SegmentItem {
+            line,
+            child: aimed.child,
+            place,
+            rules,
+        }),
+        node: aimed.node,
+    }
+}
+
+// An item of a segment for each that is walked.
+fn segment_from(
+    alloc: Global,
+    lost: &mut Lost,
+    scope: &[Element<'_, '_>],
+    level: Option<&Level<'_>>,
+    j: usize,
+    made: &gw_maplang::FromItem,
+) -> Result<Looked, AllocError>
+    ensures item { IfOk result (λ l. MakesItem (walked scope.now) (nodes_in level.entry) (SegFrom made.now) l.item) }
+    ensures node { IfOk result (λ l. l.node ≡ reached (nodes_in level.entry) j (SegFrom made.now)) }
+    ensures paths { OnOk result (Notes lost.old.paths lost.new.paths (path_failures (walked scope.now) (SegFrom made.now))) }
+    ensures targets { OnOk result (Notes lost.old.targets lost.new.targets (target_failures (nodes_in level.entry) j (SegFrom made.now))) }
+{
+    let aimed = segment_target(&mut lost.targets, level, j, made.line, &made.label)?;
+    let ruled = rules_walked(alloc, &mut lost.paths, scope, made)?;
+    Ok(segment(made.line, aimed, Some(ruled.place), ruled.rules))
+}
+
+// An item of one segment.
+fn segment_always(
+    alloc: Global,
+    lost: &mut Lost,
+    scope: &[Element<'_, '_>],
+    level: Option<&Level<'_>>,
+    j: usize,
+    made: &gw_maplang::AlwaysItem,
+) -> Result<Looked, AllocError>
+    ensures item { IfOk result (λ l. MakesItem (walked scope.now) (nodes_in level.entry) (SegAlways made.now) l.item) }
+    ensures node { IfOk result (λ l. l.node ≡ reached (nodes_in level.entry) j (SegAlways made.now)) }
+    ensures paths { OnOk result (Notes lost.old.paths lost.new.paths (path_failures (walked scope.now) (SegAlways made.now))) }
+    ensures targets { OnOk result (Notes lost.old.targets lost.new.targets (target_failures (nodes_in level.entry) j (SegAlways made.now))) }
+{
+    let aimed = segment_target(&mut lost.targets, level, j, made.line, &made.label)?;
+    let rules = rules(alloc, &mut lost.paths, scope, &made.rules)?;
+    Ok(segment(made.line, aimed, None, rules))
+}
+
+// A group for each that is walked. What it names wrongly hides what is within it.
+#[cycle(items)]
+fn group(
+    alloc: Global,
+    lost: &mut Lost,
+    scope: &[Element<'_, '_>],
+    level: Option<&Level<'_>>,
+    j: usize,
+    made: &gw_maplang::GroupItem,
+) -> Result<Looked, AllocError>
+    ensures item { IfOk result (λ l. MakesItem (walked scope.now) (nodes_in level.entry) (EachAs made.now) l.item) }
+    ensures node { IfOk result (λ l. l.node ≡ reached (nodes_in level.entry) j (EachAs made.now)) }
+    ensures paths { OnOk result (Notes lost.old.paths lost.new.paths (path_failures (walked scope.now) (EachAs made.now))) }
+    ensures targets { OnOk result (Notes lost.old.targets lost.new.targets (target_failures (nodes_in level.entry) j (EachAs made.now))) }
+{
+    let before = mark(lost);
+    let led = walk_led(alloc, scope, &made.path)?;
+    note_led(&mut lost.paths, made.line, &led)?;
+    let aimed = group_target(&mut lost.targets, level, j, made.line, &made.label)?;
+    let kept = mark(lost);
+    let inner = within(alloc, scope, &led.place)?;
+    let below = nodes_of_child(level, aimed.child);
+    let items = resolve_items(alloc, lost, &inner, below, &made.items)?;
+    hide_both(lost, before, kept);
+    Ok(Looked {
+        item: Item::Group(GroupItem {
+            line: made.line,
+            child: aimed.child,
+            place: led.place,
+            items,
+        }),
+        node: aimed.node,
+    })
+}
+
+// What is walked, without a group. What it names wrongly hides what is within it.
+#[cycle(items)]
+fn flat(
+    alloc: Global,
+    lost: &mut Lost,
+    scope: &[Element<'_, '_>],
+    level: Option<&Level<'_>>,
+    j: usize,
+    made: &gw_maplang::FlatItem,
+) -> Result<Looked, AllocError>
+    ensures item { IfOk result (λ l. MakesItem (walked scope.now) (nodes_in level.entry) (EachFlat made.now) l.item) }
+    ensures node { IfOk result (λ l. l.node ≡ reached (nodes_in level.entry) j (EachFlat made.now)) }
+    ensures paths { OnOk result (Notes lost.old.paths lost.new.paths (path_failures (walked scope.now) (EachFlat made.now))) }
+    ensures targets { OnOk result (Notes lost.old.targets lost.new.targets (target_failures (nodes_in level.entry) j (EachFlat made.now))) }
+{
+    let before = mark(lost);
+    let led = walk_led(alloc, scope, &made.path)?;
+    note_led(&mut lost.paths, made.line, &led)?;
+    let node = flat_target(&mut lost.targets, level, j, made.line, &made.items)?;
+    let kept = mark(lost);
+    let inner = within(alloc, scope, &led.place)?;
+    let items = resolve_items(alloc, lost, &inner, level, &made.items)?;
+    hide_both(lost, before, kept);
+    Ok(Looked {
+        item: Item::Flat(FlatItem {
+            line: made.line,
+            place: led.place,
+            items,
+        }),
+        node,
+    })
+}
+
+#[cycle(items)]
+fn resolve_item(
+    alloc: Global,
+    lost: &mut Lost,
+    scope: &[Element<'_, '_>],
+    level: Option<&Level<'_>>,
+    j: usize,
+    item: &gw_maplang::Item,
+) -> Result<Looked, AllocError>
+    ensures item { IfOk result (λ l. MakesItem (walked scope.now) (nodes_in level.entry) item.now l.item) }
+    ensures node { IfOk result (λ l. l.node ≡ reached (nodes_in level.entry) j item.now) }
+    ensures paths { OnOk result (Notes lost.old.paths lost.new.paths (path_failures (walked scope.now) item.now)) }
+    ensures targets { OnOk result (Notes lost.old.targets lost.new.targets (target_failures (nodes_in level.entry) j item.now)) }
+{
+    match item {
+        gw_maplang::Item::SegFrom(made) => segment_from(alloc, lost, scope, level, j, made),
+        gw_maplang::Item::SegAlways(made) => segment_always(alloc, lost, scope, level, j, made),
+        gw_maplang::Item::EachAs(made) => group(alloc, lost, scope, level, j, made),
+        gw_maplang::Item::EachFlat(made) => flat(alloc, lost, scope, level, j, made),
+    }
+}
+
+/// Items of a level with these target nodes, without labels, and the failures of what they name.
+#[cycle(items)]
+pub(crate) fn resolve_items(
+    alloc: Global,
+    lost: &mut Lost,
+    scope: &[Element<'_, '_>],
+    level: Option<&Level<'_>>,
+    items: &[gw_maplang::Item],
+) -> Result<Vec<Item>, AllocError>
+    ensures items { IfOk result (λ v. MakesItems (walked scope.now) (nodes_in level.entry) items.now v.items) }
+    ensures paths { OnOk result (Notes lost.old.paths lost.new.paths (spec.path_failures (walked scope.now) (raw.all_items items.now))) }
+    ensures targets { OnOk result (Notes lost.old.targets lost.new.targets (spec.target_failures (nodes_in level.entry) 0 (raw.all_items items.now))) }
+{
+    let mut built = Vec::new(alloc);
+    let mut node = 0;
+    for (i, item) in items.iter().enumerate() {
+        let looked = resolve_item(alloc, lost, scope, level, node, item)?;
+        node = looked.node;
+        built.push(looked.item)?;
+    }
+    Ok(built)
+}

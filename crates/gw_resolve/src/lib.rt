@@ -1,0 +1,25 @@
+//! Looks the labels of a map up in its profiles, once: the map without labels, or the failures of what it names.
+#![tactic(auto)]
+
+mod element;
+mod failure;
+mod interval;
+mod items;
+mod led;
+mod lost;
+mod named;
+mod nodes;
+mod paths;
+mod resolved;
+mod rules;
+mod targets;
+
+pub use element::{Element, Found, find, within};
+pub use failure::{Failure, note};
+pub use interval::{CAP, Interval, any_number, never, once};
+pub use named::{Named, Resolving, resolve};
+pub use nodes::nodes_within;
+pub use resolved::{
+    At, FlatItem, GroupItem, Item, Leaf, LeftOut, Making, Place, Reference, Rule, SegmentItem,
+    Source,
+};

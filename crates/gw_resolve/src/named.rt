@@ -1,0 +1,116 @@
+//! The looking up of the labels of a map.
+ghost use Rattle.std.specs.Prelude.{◌≡◌, ◌++◌, if◌then◌else◌, is_some, not, map, flat_map, IfOk, OnOk};
+ghost use Rattle.gw_profile.specs.Seen.{forest};
+ghost use Rattle.gw_maplang.specs.Seen as raw;
+ghost use Rattle.gw_maplang.specs.Seen.{map_value};
+ghost use Rattle.gw_resolve.specs.Looking.{place_there};
+ghost use Rattle.gw_resolve.specs.Naming as spec;
+ghost use Rattle.gw_resolve.specs.Noted.{Notes};
+ghost use Rattle.gw_resolve.specs.Resolving.{ResolvesBy};
+ghost use Rattle.gw_resolve.specs.Seen.{element as seen, scope as walked, failures, left_out};
+
+use crate::element::Element;
+use crate::failure::{Failure, note};
+use crate::items::resolve_items;
+use crate::led::ends_at_segment;
+use crate::lost::Lost;
+use crate::paths::{or_itself, place_of};
+use crate::resolved::{Item, LeftOut, Place};
+use gw_maplang::{Dropped, Map};
+use gw_profile::Level;
+use std::alloc::{AllocError, Global};
+
+/// The items of a map and what it leaves out, without labels.
+#[derive(Drop)]
+pub struct Named {
+    pub items: Vec<Item>,
+    pub drops: Vec<LeftOut>,
+}
+
+/// The map without labels, or the failures of the rules on them (1 to 3).
+#[derive(Drop)]
+pub enum Resolving {
+    Refused(Vec<Failure>),
+    Resolved(Named),
+}
+
+// Whether what is left out is there, and a segment where a field of it is named.
+fn leads(scope: &[Element<'_, '_>], field: Option<u32>, place: Option<&Place>) -> bool
+    ensures { result ≡ (if is_some field then spec.ends_at_segment (walked scope.now) (place_there place.entry) else spec.has_place (place_there place.entry)) }
+{
+    match field {
+        None => place.is_some(),
+        Some(_) => ends_at_segment(scope, place),
+    }
+}
+
+// What is left out without labels, and the failure of what it names.
+fn left_out(
+    alloc: Global,
+    found: &mut Vec<Failure>,
+    message: Element<'_, '_>,
+    dropped: &Dropped,
+) -> Result<LeftOut, AllocError>
+    ensures made { IfOk result (λ d. left_out d ≡ spec.drop (seen message.entry) (raw.dropped dropped.now)) }
+    ensures failures { OnOk result (Notes found.old found.new (spec.drop_failures (seen message.entry) (raw.dropped dropped.now))) }
+{
+    let scope = [message];
+    let place = place_of(alloc, &scope, &dropped.path)?;
+    let there = leads(&scope, dropped.field, place.as_ref());
+    note(found, 1, dropped.line, !there)?;
+    let place = or_itself(alloc, place);
+    Ok(LeftOut {
+        steps: place.steps,
+        field: dropped.field,
+    })
+}
+
+// What is left out without labels, and the failures of what it names.
+fn all_left_out(
+    alloc: Global,
+    found: &mut Vec<Failure>,
+    message: Element<'_, '_>,
+    drops: &[Dropped],
+) -> Result<Vec<LeftOut>, AllocError>
+    ensures made { IfOk result (λ v. map left_out v.items ≡ map (spec.drop (seen message.entry)) (map raw.dropped drops.now)) }
+    ensures failures { OnOk result (Notes found.old found.new (flat_map (spec.drop_failures (seen message.entry)) (map raw.dropped drops.now))) }
+{
+    let mut built = Vec::new(alloc);
+    for (i, dropped) in drops.iter().enumerate() {
+        let one = left_out(alloc, found, message, dropped)?;
+        built.push(one)?;
+    }
+    Ok(built)
+}
+
+// The failures of source paths, and behind them those of target labels.
+fn all_lost(lost: Lost) -> Result<Vec<Failure>, AllocError>
+    ensures { IfOk result (λ found. failures found.items ≡ failures lost.paths.items ++ failures lost.targets.items) }
+{
+    let mut found = lost.paths;
+    found.extend_from_slice(&lost.targets)?;
+    Ok(found)
+}
+
+/// Looks the labels of a map up in the levels of its profiles, each once. The one error is want of memory.
+pub fn resolve(
+    alloc: Global,
+    source: &Level<'_>,
+    target: &Level<'_>,
+    map: &Map,
+) -> Result<Resolving, AllocError>
+    ensures { IfOk result (ResolvesBy (forest source.now) (forest target.now) (map_value map.now)) }
+{
+    let mut lost = Lost {
+        paths: Vec::new(alloc),
+        targets: Vec::new(alloc),
+    };
+    let message = Element::Whole(Some(source));
+    let items = resolve_items(alloc, &mut lost, &[message], Some(target), map.items())?;
+    let drops = all_left_out(alloc, &mut lost.paths, message, map.drops())?;
+    let found = all_lost(lost)?;
+    if found.as_slice().is_empty() {
+        return Ok(Resolving::Resolved(Named { items, drops }));
+    }
+    Ok(Resolving::Refused(found))
+}

@@ -1,0 +1,162 @@
+//! The places to which the paths of a map lead.
+ghost use Rattle.std.specs.Prelude.{◌≡◌, ℕ, ◌++◌, IfOk, option_map, unwrap_or, bytes_eq};
+ghost use Rattle.std.specs.Global.{Vec};
+ghost use Rattle.gw_maplang.specs.Seen.{items_all};
+ghost use Rattle.gw_resolve.specs.Naming as spec;
+ghost use Rattle.gw_resolve.specs.Looking.{inwards, further, begun, onwards};
+ghost use Rattle.gw_profile.specs.Labels.{nodes_in, labelled as spec_labelled};
+ghost use Rattle.gw_resolve.specs.Seen.{element as seen, scope as walked, place as seen_place};
+
+use crate::element::{Element, element_at, nodes_of, nodes_of_child};
+use crate::resolved::Place;
+use gw_profile::Level;
+use std::alloc::{AllocError, Global};
+
+/// Whether the two are the same octets.
+pub(crate) fn same(one: &[u8], other: &[u8]) -> bool
+    ensures { result ≡ bytes_eq one.now other.now }
+{
+    one == other
+}
+
+/// The number of the node with this label.
+pub(crate) fn labelled<'a, 'p>(level: Option<&'a Level<'p>>, label: &[u8]) -> Option<usize>
+    ensures { result ≡ spec_labelled (nodes_in level.entry) label.now }
+{
+    match level {
+        None => None,
+        Some(level) => level.number_of(label),
+    }
+}
+
+// Whether this is the element's own label.
+fn has_label(element: Element<'_, '_>, label: &[u8]) -> bool
+    ensures { result ≡ spec.has_label label.now (seen element.entry) }
+{
+    match element {
+        Element::Segment(segment) => same(&segment.label, label),
+        Element::Group(group, _) => same(&group.label, label),
+        Element::Whole(_) => false,
+    }
+}
+
+fn itself(alloc: Global, out: usize) -> Place
+    ensures { seen_place result ≡ further out spec.itself }
+{
+    Place {
+        out,
+        steps: Vec::new(alloc),
+    }
+}
+
+fn one_step(alloc: Global, out: usize, number: usize) -> Result<Place, AllocError>
+    ensures { IfOk result (λ p. seen_place p ≡ further out (inwards number)) }
+{
+    let mut steps = Vec::new(alloc);
+    steps.push(number)?;
+    Ok(Place { out, steps })
+}
+
+// The label among the nodes of an element so far outwards, or its own.
+fn begin(
+    alloc: Global,
+    element: Element<'_, '_>,
+    out: usize,
+    label: &[u8],
+) -> Result<Option<Place>, AllocError>
+    ensures { IfOk result (λ p. option_map seen_place p ≡ option_map (further out) (begun (seen element.entry) label.now)) }
+{
+    if let Some(number) = labelled(nodes_of(element), label) {
+        let place = one_step(alloc, out, number)?;
+        return Ok(Some(place));
+    }
+    if has_label(element, label) {
+        return Ok(Some(itself(alloc, out)));
+    }
+    Ok(None)
+}
+
+// From the innermost element outwards.
+fn first_label(
+    alloc: Global,
+    scope: &[Element<'_, '_>],
+    label: &[u8],
+) -> Result<Option<Place>, AllocError>
+    ensures { IfOk result (λ p. option_map seen_place p ≡ spec.first_label (walked scope.now) label.now) }
+{
+    let mut left = scope;
+    while let [outer @ .., element] = left {
+        let found = begin(alloc, *element, scope.len() - left.len(), label)?;
+        if found.is_some() {
+            return Ok(found);
+        }
+        left = outer;
+    }
+    Ok(None)
+}
+
+// The numbers of nodes to which the labels lead, each within the one before it, behind these.
+fn follow<'a, 'p>(
+    level: Option<&'a Level<'p>>,
+    path: &[Vec<u8>],
+    steps: Vec<usize>,
+) -> Result<Option<Vec<usize>>, AllocError>
+    ensures { IfOk result (λ found. option_map (λ (v : Vec ℕ). v.items) found ≡ option_map (λ more. steps.items ++ more) (spec.steps_of (nodes_in level.entry) (items_all path.now))) }
+{
+    let mut level = level;
+    let mut steps = steps;
+    for (i, label) in path.iter().enumerate() {
+        let Some(number) = labelled(level, label) else {
+            return Ok(None);
+        };
+        steps.push(number)?;
+        level = nodes_of_child(level, number);
+    }
+    Ok(Some(steps))
+}
+
+// The place to which the labels lead from here.
+fn follow_from(
+    scope: &[Element<'_, '_>],
+    path: &[Vec<u8>],
+    place: Place,
+) -> Result<Option<Place>, AllocError>
+    ensures { IfOk result (λ p. option_map seen_place p ≡ onwards (walked scope.now) (items_all path.now) (seen_place place)) }
+{
+    let level = nodes_of(element_at(scope, &place));
+    let steps = follow(level, path, place.steps)?;
+    match steps {
+        None => Ok(None),
+        Some(steps) => Ok(Some(Place {
+            out: place.out,
+            steps,
+        })),
+    }
+}
+
+/// The place to which a path leads.
+pub(crate) fn place_of(
+    alloc: Global,
+    scope: &[Element<'_, '_>],
+    path: &[Vec<u8>],
+) -> Result<Option<Place>, AllocError>
+    ensures { IfOk result (λ p. option_map seen_place p ≡ spec.place_of (walked scope.now) (items_all path.now)) }
+{
+    let [label, labels @ ..] = path else {
+        return Ok(None);
+    };
+    match first_label(alloc, scope, label)? {
+        None => Ok(None),
+        Some(place) => follow_from(scope, labels, place),
+    }
+}
+
+/// The place, or that of the innermost element itself where there is none.
+pub(crate) fn or_itself(alloc: Global, place: Option<Place>) -> Place
+    ensures { seen_place result ≡ unwrap_or (option_map seen_place place) spec.itself }
+{
+    match place {
+        None => itself(alloc, 0),
+        Some(place) => place,
+    }
+}

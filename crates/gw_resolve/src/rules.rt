@@ -1,0 +1,185 @@
+//! The rules of a map without labels, and the failures of what they read.
+ghost use Rattle.std.specs.Prelude.{◌≡◌, List, map, flat_map, IfOk, OnOk};
+ghost use Rattle.gw_maplang.specs.Seen as raw;
+ghost use Rattle.gw_maplang.specs.Shapes.{TableValue};
+ghost use Rattle.gw_resolve.specs.Naming as spec;
+ghost use Rattle.gw_resolve.specs.Noted.{Notes};
+ghost use Rattle.gw_resolve.specs.Resolving.{MakesLeaf, MakesLeaves, MakesMaking, MakesRule, MakesRules};
+ghost use Rattle.gw_resolve.specs.Seen as seen;
+ghost use Rattle.gw_resolve.specs.Seen.{scope as walked};
+
+use crate::element::Element;
+use crate::failure::Failure;
+use crate::led::{note_led, read_led};
+use crate::resolved::{At, Leaf, Making, Reference, Rule, Source};
+use gw_maplang::{FieldPath, LeafRule, Ref};
+use std::alloc::{AllocError, Global};
+
+fn reference(
+    alloc: Global,
+    found: &mut Vec<Failure>,
+    scope: &[Element<'_, '_>],
+    line: u32,
+    from: &FieldPath,
+) -> Result<Reference, AllocError>
+    ensures made { IfOk result (λ r. seen.reference r ≡ spec.reference (walked scope.now) (raw.field_path from.now)) }
+    ensures failures { OnOk result (Notes found.old found.new (spec.read_failures (walked scope.now) line (raw.field_path from.now))) }
+{
+    let led = read_led(alloc, scope, &from.path)?;
+    note_led(found, line, &led)?;
+    Ok(Reference {
+        place: led.place,
+        field: from.field,
+    })
+}
+
+fn source(
+    alloc: Global,
+    found: &mut Vec<Failure>,
+    scope: &[Element<'_, '_>],
+    line: u32,
+    from: &Ref,
+) -> Result<Source, AllocError>
+    ensures made { IfOk result (λ s. seen.source s ≡ spec.source (walked scope.now) (raw.ref from.now)) }
+    ensures failures { OnOk result (Notes found.old found.new (spec.ref_failures (walked scope.now) line (raw.ref from.now))) }
+{
+    match from {
+        Ref::Field(from, place) => {
+            let reference = reference(alloc, found, scope, line, from)?;
+            Ok(Source::OfField(reference, *place))
+        }
+        Ref::Current(place) => Ok(Source::OfCurrent(*place)),
+    }
+}
+
+fn copy_of(alloc: Global, bytes: &[u8]) -> Result<Vec<u8>, AllocError>
+    ensures { IfOk result (λ v. v.items ≡ bytes.now) }
+{
+    Vec::from_slice(alloc, bytes)
+}
+
+fn leaf(
+    alloc: Global,
+    found: &mut Vec<Failure>,
+    scope: &[Element<'_, '_>],
+    line: u32,
+    made: &gw_maplang::Leaf,
+) -> Result<Leaf, AllocError>
+    ensures made { IfOk result (λ l. (tables : List TableValue) → seen.leaf tables l ≡ spec.leaf tables (walked scope.now) (raw.leaf made.now)) }
+    ensures failures { OnOk result (Notes found.old found.new (spec.text_failures (walked scope.now) line (raw.leaf made.now))) }
+{
+    match made {
+        gw_maplang::Leaf::Const(text) => {
+            let text = copy_of(alloc, text)?;
+            Ok(Leaf::Const(text))
+        }
+        gw_maplang::Leaf::Copy(from) => {
+            let from = source(alloc, found, scope, line, from)?;
+            Ok(Leaf::Copied(from))
+        }
+        gw_maplang::Leaf::Lookup(name, from) => {
+            let name = copy_of(alloc, name)?;
+            let from = source(alloc, found, scope, line, from)?;
+            Ok(Leaf::LookedUp(name, from))
+        }
+    }
+}
+
+fn at_leaf(
+    alloc: Global,
+    found: &mut Vec<Failure>,
+    scope: &[Element<'_, '_>],
+    made: &LeafRule,
+) -> Result<At, AllocError>
+    ensures made { IfOk result (MakesLeaf (walked scope.now) made.now) }
+    ensures failures { OnOk result (Notes found.old found.new (spec.leaf_failures (walked scope.now) (raw.leaf_value made.now))) }
+{
+    let leaf = leaf(alloc, found, scope, made.line, &made.leaf)?;
+    Ok(At {
+        line: made.line,
+        place: made.place,
+        leaf,
+    })
+}
+
+fn leaves(
+    alloc: Global,
+    found: &mut Vec<Failure>,
+    scope: &[Element<'_, '_>],
+    all: &[LeafRule],
+) -> Result<Vec<At>, AllocError>
+    ensures made { IfOk result (λ v. MakesLeaves (walked scope.now) all.now v.items) }
+    ensures failures { OnOk result (Notes found.old found.new (flat_map (spec.leaf_failures (walked scope.now)) (map raw.leaf_value all.now))) }
+{
+    let mut built = Vec::new(alloc);
+    for (i, made) in all.iter().enumerate() {
+        let one = at_leaf(alloc, found, scope, made)?;
+        built.push(one)?;
+    }
+    Ok(built)
+}
+
+fn making(
+    alloc: Global,
+    found: &mut Vec<Failure>,
+    scope: &[Element<'_, '_>],
+    made: &gw_maplang::Rule,
+) -> Result<Making, AllocError>
+    ensures made { IfOk result (MakesMaking (walked scope.now) made.now) }
+    ensures failures { OnOk result (Notes found.old found.new (spec.rule_failures (walked scope.now) (raw.rule made.now))) }
+{
+    match made {
+        gw_maplang::Rule::CopyField(made) => {
+            let from = reference(alloc, found, scope, made.line, &made.from)?;
+            Ok(Making::Copy(from))
+        }
+        gw_maplang::Rule::FirstRep(made) => {
+            let from = reference(alloc, found, scope, made.line, &made.from)?;
+            Ok(Making::First(from))
+        }
+        gw_maplang::Rule::RepeatField(made) => {
+            let from = reference(alloc, found, scope, made.line, &made.from)?;
+            let each = leaves(alloc, found, scope, &made.leaves)?;
+            Ok(Making::Repeat(from, each))
+        }
+        gw_maplang::Rule::Build(made) => {
+            let each = leaves(alloc, found, scope, &made.leaves)?;
+            Ok(Making::Build(each))
+        }
+    }
+}
+
+fn rule(
+    alloc: Global,
+    found: &mut Vec<Failure>,
+    scope: &[Element<'_, '_>],
+    made: &gw_maplang::Rule,
+) -> Result<Rule, AllocError>
+    ensures made { IfOk result (MakesRule (walked scope.now) made.now) }
+    ensures failures { OnOk result (Notes found.old found.new (spec.rule_failures (walked scope.now) (raw.rule made.now))) }
+{
+    let making = making(alloc, found, scope, made)?;
+    Ok(Rule {
+        line: made.line(),
+        field: made.field(),
+        making,
+    })
+}
+
+/// Rules without labels, and the failures of what they read.
+pub(crate) fn rules(
+    alloc: Global,
+    found: &mut Vec<Failure>,
+    scope: &[Element<'_, '_>],
+    all: &[gw_maplang::Rule],
+) -> Result<Vec<Rule>, AllocError>
+    ensures made { IfOk result (λ v. MakesRules (walked scope.now) all.now v.items) }
+    ensures failures { OnOk result (Notes found.old found.new (flat_map (spec.rule_failures (walked scope.now)) (map raw.rule all.now))) }
+{
+    let mut built = Vec::new(alloc);
+    for (i, made) in all.iter().enumerate() {
+        let one = rule(alloc, found, scope, made)?;
+        built.push(one)?;
+    }
+    Ok(built)
+}

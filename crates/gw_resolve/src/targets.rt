@@ -1,0 +1,214 @@
+//! The target nodes of items, and whether they stand in order (3).
+ghost use Rattle.std.specs.Prelude.{◌≡◌, ◌++◌, not, nat_lt, slice_get, bytes_eq, unwrap_or, option_map, option_and_then, IfOk, OnOk};
+ghost use Rattle.std.specs.List.{list_all};
+ghost use Rattle.gw_maplang.specs.Seen.{now, with_item, all_items};
+ghost use Rattle.gw_maplang.specs.Shapes.{nothing};
+ghost use Rattle.gw_profile.specs.Labels.{nodes_in};
+ghost use Rattle.gw_resolve.specs.Failures.{fails};
+ghost use Rattle.gw_resolve.specs.Naming as spec;
+ghost use Rattle.gw_resolve.specs.Noted.{Notes};
+ghost use Rattle.gw_resolve.specs.Placed.{is_segment, is_group};
+ghost use Rattle.gw_resolve.specs.Places as places;
+ghost use Rattle.gw_resolve.specs.Seen.{element as seen};
+
+use crate::element::{Element, child};
+use crate::failure::{Failure, note};
+use crate::paths::{labelled, same};
+use gw_maplang::Item;
+use gw_profile::Level;
+use std::alloc::AllocError;
+
+// ---- labels
+
+#[cycle(first)]
+fn first_of_item(item: &Item) -> Option<&[u8]>
+    ensures { now result ≡ slice_get (spec.labels (with_item item.now nothing)) 0 }
+{
+    match item {
+        Item::SegFrom(made) => Some(&made.label),
+        Item::SegAlways(made) => Some(&made.label),
+        Item::EachAs(made) => Some(&made.label),
+        Item::EachFlat(made) => first_of(&made.items),
+    }
+}
+
+// The first label of items, with those of items in a flat.
+#[cycle(first)]
+fn first_of(items: &[Item]) -> Option<&[u8]>
+    ensures { now result ≡ slice_get (spec.labels (all_items items.now)) 0 }
+{
+    for (i, item) in items.iter().enumerate() {
+        let first = first_of_item(item);
+        if first.is_some() {
+            return first;
+        }
+    }
+    None
+}
+
+#[cycle(all)]
+fn item_has(item: &Item, label: &[u8]) -> bool
+    ensures { result ≡ list_all (bytes_eq label.now) (spec.labels (with_item item.now nothing)) }
+{
+    match item {
+        Item::SegFrom(made) => same(label, &made.label),
+        Item::SegAlways(made) => same(label, &made.label),
+        Item::EachAs(made) => same(label, &made.label),
+        Item::EachFlat(made) => all_have(&made.items, label),
+    }
+}
+
+// Whether this is the label of all items, and of all in a flat.
+#[cycle(all)]
+fn all_have(items: &[Item], label: &[u8]) -> bool
+    ensures { result ≡ list_all (bytes_eq label.now) (spec.labels (all_items items.now)) }
+{
+    for (i, item) in items.iter().enumerate() {
+        if !item_has(item, label) {
+            return false;
+        }
+    }
+    true
+}
+
+// Whether all items have one label.
+fn are_one(items: &[Item]) -> bool
+    ensures { result ≡ spec.are_one (spec.labels (all_items items.now)) }
+{
+    match first_of(items) {
+        None => true,
+        Some(label) => all_have(items, label),
+    }
+}
+
+// The first label, empty where there is none.
+fn first_or(items: &[Item]) -> &[u8]
+    ensures { result.now ≡ spec.first_or (spec.labels (all_items items.now)) }
+{
+    match first_of(items) {
+        None => &[],
+        Some(label) => label,
+    }
+}
+
+// ---- target nodes
+
+/// The target node of a label: its number in the map without labels, and the one behind which the next item stands.
+#[derive(Clone, Copy)]
+pub(crate) struct Aimed {
+    pub(crate) child: usize,
+    pub(crate) node: usize,
+}
+
+// The number, j where there is none.
+fn number_or(j: usize, number: Option<usize>) -> usize
+    ensures { result ≡ unwrap_or number j }
+{
+    match number {
+        None => j,
+        Some(number) => number,
+    }
+}
+
+fn child_if<'a, 'p>(level: Option<&'a Level<'p>>, number: Option<usize>) -> Option<Element<'a, 'p>>
+    ensures { option_map seen result ≡ option_and_then (places.child (nodes_in level.entry)) number }
+{
+    match number {
+        None => None,
+        Some(number) => child(level, number),
+    }
+}
+
+fn is_segment_at(level: Option<&Level<'_>>, number: Option<usize>) -> bool
+    ensures { result ≡ is_segment (option_and_then (places.child (nodes_in level.entry)) number) }
+{
+    match child_if(level, number) {
+        None => false,
+        Some(Element::Segment(_)) => true,
+        Some(Element::Group(_, _)) => false,
+        Some(Element::Whole(_)) => false,
+    }
+}
+
+fn is_group_at(level: Option<&Level<'_>>, number: Option<usize>) -> bool
+    ensures { result ≡ is_group (option_and_then (places.child (nodes_in level.entry)) number) }
+{
+    match child_if(level, number) {
+        None => false,
+        Some(Element::Segment(_)) => false,
+        Some(Element::Group(_, _)) => true,
+        Some(Element::Whole(_)) => false,
+    }
+}
+
+// Takes note of what is wrong with the nodes of an item, or of one that comes behind one of a later node.
+fn note_target(
+    found: &mut Vec<Failure>,
+    line: u32,
+    fits: bool,
+    j: usize,
+    node: usize,
+) -> Result<(), AllocError>
+    ensures { OnOk result (Notes found.old found.new (fails 3 line (not fits) ++ fails 3 line (nat_lt node j))) }
+{
+    note(found, 3, line, !fits)?;
+    note(found, 3, line, node < j)
+}
+
+/// The target node of a segment that comes behind one of node j.
+pub(crate) fn segment_target(
+    found: &mut Vec<Failure>,
+    level: Option<&Level<'_>>,
+    j: usize,
+    line: u32,
+    label: &[u8],
+) -> Result<Aimed, AllocError>
+    ensures failures { OnOk result (Notes found.old found.new (spec.label_failures (nodes_in level.entry) is_segment j line label.now)) }
+    ensures child { IfOk result (λ a. a.child ≡ spec.node_or 0 (nodes_in level.entry) label.now) }
+    ensures node { IfOk result (λ a. a.node ≡ spec.node_or j (nodes_in level.entry) label.now) }
+{
+    let number = labelled(level, label);
+    let node = number_or(j, number);
+    note_target(found, line, is_segment_at(level, number), j, node)?;
+    Ok(Aimed {
+        child: number_or(0, number),
+        node,
+    })
+}
+
+/// The target node of a group that comes behind one of node j.
+pub(crate) fn group_target(
+    found: &mut Vec<Failure>,
+    level: Option<&Level<'_>>,
+    j: usize,
+    line: u32,
+    label: &[u8],
+) -> Result<Aimed, AllocError>
+    ensures failures { OnOk result (Notes found.old found.new (spec.label_failures (nodes_in level.entry) is_group j line label.now)) }
+    ensures child { IfOk result (λ a. a.child ≡ spec.node_or 0 (nodes_in level.entry) label.now) }
+    ensures node { IfOk result (λ a. a.node ≡ spec.node_or j (nodes_in level.entry) label.now) }
+{
+    let number = labelled(level, label);
+    let node = number_or(j, number);
+    note_target(found, line, is_group_at(level, number), j, node)?;
+    Ok(Aimed {
+        child: number_or(0, number),
+        node,
+    })
+}
+
+/// The target node of the items of a flat that comes behind one of node j.
+pub(crate) fn flat_target(
+    found: &mut Vec<Failure>,
+    level: Option<&Level<'_>>,
+    j: usize,
+    line: u32,
+    items: &[Item],
+) -> Result<usize, AllocError>
+    ensures failures { OnOk result (Notes found.old found.new (spec.flat_failures (nodes_in level.entry) j line (spec.labels (all_items items.now)))) }
+    ensures node { IfOk result (λ node. node ≡ spec.node_or j (nodes_in level.entry) (spec.first_or (spec.labels (all_items items.now)))) }
+{
+    let node = number_or(j, labelled(level, first_or(items)));
+    note_target(found, line, are_one(items), j, node)?;
+    Ok(node)
+}
