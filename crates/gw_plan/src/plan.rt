@@ -1,9 +1,10 @@
 //! Plans.
-ghost use Rattle.std.specs.Prelude.{◌≡◌, ◌↔◌, ◌<◌, IsTrue, map, length, slice_get, Some, bytes_eq};
+ghost use Rattle.std.specs.Prelude.{◌≡◌, ◌↔◌, ◌<◌, IsTrue, map, length, slice_get, Some, Ok, bytes_eq};
 ghost use Rattle.std.specs.List.{list_any};
 ghost use Rattle.gw_plan.specs.Routing.{header_text, is_accepted, routed};
 ghost use Rattle.gw_plan.specs.Held.{plan_value, lent, tested, FoundAt};
 ghost use Rattle.gw_plan.specs.Seen.{receiver_value};
+ghost use Rattle.gw_plan.specs.Whole.{spelled};
 
 use crate::index::Index;
 use crate::route::Route;
@@ -111,6 +112,13 @@ impl Plan {
         ensures { IsTrue result ↔ (self.now.receivers ≡ other.now.receivers) }
     {
         are_same(&self.receivers, &other.receivers)
+    }
+
+    // It is the meaning of its text, by its type.
+    pub(crate) fn is_spelled(&self)
+        ensures { spelled self.now.text ≡ Ok (plan_value self.now) }
+    {
+        let _ = &self.text;
     }
 
     // The tests of version and processing id, for a route of this number.
