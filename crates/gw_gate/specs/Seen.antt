@@ -7,6 +7,8 @@ use Rattle.gw_plan.specs.Held.{PlanHeld, plan_value}
 use Rattle.gw_plan.specs.Routing.{routed}
 use Rattle.gw_plan.specs.Admitted.{ConformingHeld}
 use Rattle.gw_plan.specs.Translating.{TranslatedHeld}
+pub use Rattle.gw_plan.specs.declared.conforming.Conforming.{Conforming}
+pub use Rattle.gw_plan.specs.declared.translated.Translated.{Translated}
 use Rattle.gw_gate.specs.Parts.{SegmentSeen, MessageSeen, PlanSeen, ConformingSeen, TranslatedSeen}
 
 abbrev pub segment_seen : SegmentValue → SegmentSeen
