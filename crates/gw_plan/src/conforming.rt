@@ -4,6 +4,7 @@ ghost use Rattle.std.specs.Arc.{arc_value};
 ghost use Rattle.gw_profile.specs.Seen.{profile_value};
 ghost use Rattle.gw_plan.specs.Held.{plan_value, route_value};
 ghost use Rattle.gw_plan.specs.Routing.{routed};
+ghost use Rattle.gw_plan.specs.Whole.{spelled};
 ghost use Rattle.gw_plan.specs.Admitted.{ConformingHeld, IsConforming, IsAdmitted, IsRefused, IsSameSource, IsUnder, IsOf};
 ghost use Rattle.gw_plan.specs.Translating.{Translates};
 
@@ -97,6 +98,13 @@ impl Conforming {
 }
 
 impl Conforming {
+    // Its plan is the meaning of its text.
+    pub(crate) fn is_spelled(&self)
+        ensures { spelled self.now.plan.text ≡ Ok (plan_value self.now.plan) }
+    {
+        self.plan.is_spelled();
+    }
+
     // What the route's map for a receiver makes of the message.
     pub(crate) fn translation(&self, alloc: Global, receiver: usize) -> Result<Message, AllocError>
         requires { IsOf self.now receiver }

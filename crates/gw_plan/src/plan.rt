@@ -147,6 +147,13 @@ impl Plan {
         are_same(&self.receivers, &other.receivers)
     }
 
+    // It is the meaning of its text, by its type.
+    pub(crate) fn is_spelled(&self)
+        ensures { spelled self.now.text ≡ Ok (plan_value self.now) }
+    {
+        let _ = &self.text;
+    }
+
     // The tests of version and processing id, for a route of this number.
     fn tested(&self, message: &Message, number: usize) -> Result<usize, u16>
         ensures { result ≡ tested (is_accepted self.now.versions (header_text message.now 12 1)) (is_accepted self.now.processing (header_text message.now 11 1)) number }

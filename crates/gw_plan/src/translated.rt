@@ -1,6 +1,8 @@
 //! What receivers are sent.
-ghost use Rattle.std.specs.Prelude.{◌≡◌, ◌↔◌, IsTrue, IfOk};
+ghost use Rattle.std.specs.Prelude.{◌≡◌, ◌↔◌, IsTrue, IfOk, Ok};
 ghost use Rattle.std.specs.Arc.{arc_value};
+ghost use Rattle.gw_plan.specs.Held.{plan_value};
+ghost use Rattle.gw_plan.specs.Whole.{spelled};
 ghost use Rattle.gw_plan.specs.Admitted.{IsOf, IsSameSource};
 ghost use Rattle.gw_plan.specs.Translating.{IsSameTranslated, Translates};
 
@@ -49,7 +51,9 @@ impl Translated {
     pub fn message(&self) -> &Message
         ensures message { result.now ≡ self.now.message }
         ensures translates { Translates self.now.source self.now.receiver self.now.message }
+        ensures plan { spelled self.now.source.plan.text ≡ Ok (plan_value self.now.source.plan) }
     {
+        self.source.is_spelled();
         &self.message
     }
 

@@ -1,0 +1,78 @@
+use Rattle.std.proofs.Common.{◌≡◌, ◌++◌, ◌∷◌, [], ◌+◌, ◌<◌, ℕ, All, Some, arith, refl, ap, sym, subst, ◌∙◌, map, length}
+use Rattle.std.proofs.lemmas.List.{map-append, length-map}
+use Rattle.std.specs.Arc.{arc_value}
+use Rattle.std.specs.declared.alloc.Global.{Global}
+use Rattle.std.specs.declared.sync.Arc.{Arc}
+use Rattle.gw_gate.specs.declared.event.Entry as entry
+use Rattle.gw_gate.specs.Parts.{ConformingSeen, is_under}
+use Rattle.gw_gate.specs.Seen.{Conforming, plan_seen, conforming_seen}
+use Rattle.gw_gate.specs.Journal.{WasAccepted, pair, current}
+use Rattle.gw_gate.specs.Replies.{Arrives, IsAccepted, reply_to}
+use Rattle.gw_gate.specs.Values.{entries_seen, pair_seen}
+use Rattle.gw_gate.specs.Desks.{desk_at, due_to}
+use Rattle.gw_gate.proofs.Standing.{due_below}
+use Rattle.gw_gate.proofs.Fitting.{fits_more, fits_accepted, fits_roomier}
+use Rattle.gw_gate.proofs.Accounts.{number_is, accept_is, room_left}
+use Rattle.gw_gate.proofs.Answering.{done}
+use Rattle.gw_gate.proofs.books.Books.accept.Goals as goal
+
+abbrev seen : Arc Conforming Global → ConformingSeen
+seen a = conforming_seen (arc_value a)
+
+pub invariant_of-self-then-is_err : goal.invariant_of-self-then-is_err
+invariant_of-self-then-is_err c =
+    let s = c.self.inside in
+    rw (c.prepared.ensures.same, c.make_rooms-grown.ensures.accepted, c.make_rooms-grown.ensures.issued)
+    (fits_roomier (plan_seen (arc_value s.opening)) (entries_seen s.journal.items) _ (desk_at c.make_rooms-grown.new.desks.items) (λ r. (c.make_rooms-grown.ensures.desks r).same) c.self.invariant)
+
+pub make_due-requires-clause-above : goal.make_due-requires-clause-above
+make_due-requires-clause-above c r =
+    let s = c.self.inside in
+    let h = entries_seen s.journal.items in
+    let n = c.len-n.result in
+    let ok = s.accepted.ok in
+    let long : n ≡ length (map seen s.accepted.items) = (let l = length-map s.accepted.items seen in omega (arith, c.len-n.ensures)) in
+    let is = number_is h (map seen s.accepted.items) (map pair_seen s.issued.items) s.jobs n c.self.invariant.queue long in
+    subst (All (λ m. m < n)) (sym ((c.make_rooms-grown.ensures.desks r).same.due ∙ (c.self.invariant.desks r).due_is)) (due_below h r n c.self.invariant.queue.numbered is)
+
+pub invariant_of-self-2 : goal.invariant_of-self-2
+invariant_of-self-2 c =
+    let jok = c.self.inside.journal.ok in
+    let ok = c.self.inside.accepted.ok in
+    let s = c.self.inside in
+    let p = plan_seen (arc_value s.opening) in
+    let h = entries_seen s.journal.items in
+    let n = c.len-n.result in
+    let m = seen c.args.conforming in
+    let long : n ≡ length (map seen s.accepted.items) = (let l = length-map s.accepted.items seen in omega (arith, c.len-n.ensures)) in
+    let is = number_is h (map seen s.accepted.items) (map pair_seen s.issued.items) s.jobs n c.self.invariant.queue long in
+    let all : map seen c.push_reserved.new.self.items ≡ map seen s.accepted.items ++ m ∷ [] =
+    ap (map seen) (c.push_reserved.ensures.items ∙ ap (λ l. l ++ c.args.conforming ∷ []) c.make_rooms-grown.ensures.accepted) ∙ map-append seen s.accepted.items _ in
+    let pairs : map pair_seen c.issue_all.new.issued.items ≡ map pair_seen s.issued.items ++ map (pair n) m.receivers =
+    c.issue_all.ensures ∙ ap (λ l. map pair_seen l ++ map (pair n) (conforming_seen c.deref-2.result.now).receivers) c.make_rooms-grown.ensures.issued
+    ∙ ap (λ x. map pair_seen s.issued.items ++ map (pair n) (conforming_seen x).receivers) c.deref-2.ensures in
+    let grown = fits_roomier p h _ (desk_at c.make_rooms-grown.new.desks.items) (λ r. (c.make_rooms-grown.ensures.desks r).same) c.self.invariant in
+    fits_more p s.journal.items c.prepared.new.journal.items c.push_reserved-2.new.self.items (entry.TheVariants.Accepted n (s.arrivals + 1) c.in-Ok.copy) _ _
+    c.prepared.ensures.same c.push_reserved-2.ensures.items (λ e. c.if-len-eq-MOST.false (omega (arith, c.len.ensures))) c.self.invariant
+    (λ room. rw (c.in-Ok.ensures, all, pairs)
+    (fits_accepted p h _ n (s.arrivals + 1) m (desk_at c.make_due.new.desks.items) is
+    (λ r. c.make_due.ensures r ∙ ap (λ x. due_to (conforming_seen x) n r (desk_at c.make_rooms-grown.new.desks.items r)) c.deref-3.ensures)
+    room grown))
+
+pub returns : goal.returns
+returns c =
+    let jok = c.self.inside.journal.ok in
+    let ok = c.self.inside.accepted.ok in
+    let s = c.self.inside in
+    let p = plan_seen (arc_value s.opening) in
+    let h = entries_seen s.journal.items in
+    let n = c.len-n.result in
+    let a = s.arrivals + 1 in
+    let m = seen c.args.conforming in
+    let long : n ≡ length (map seen s.accepted.items) = (let l = length-map s.accepted.items seen in omega (arith, c.len-n.ensures)) in
+    let is = number_is h (map seen s.accepted.items) (map pair_seen s.issued.items) s.jobs n c.self.invariant.queue long in
+    done p s.journal.items c.args.self.now c.self.view_is c.args.takes c.prepared.new.journal.items c.push_reserved-2.new.self.items (entry.TheVariants.Accepted n a c.in-Ok.copy) (Arrives m) (IsAccepted n a) _
+    (ap (λ j. reply_to j (Arrives m)) (sym c.self.view_is) ∙ accept_is p h _ n a m c.self.invariant is refl (ap (λ j. is_under m (current j).number (current j).plan) c.self.view_is ∙ c.requires))
+    (ap (λ x. Some (WasAccepted n a (conforming_seen x))) (sym c.in-Ok.ensures))
+    (room_left p s.journal.items _ c.self.invariant (λ e. c.if-len-eq-MOST.false (omega (arith, c.len.ensures))))
+    c.prepared.ensures.same c.push_reserved-2.ensures.items c.in-Ok-prepared.ensures.note

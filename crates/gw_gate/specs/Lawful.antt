@@ -1,0 +1,24 @@
+-- Journals that events lead to.
+use Rattle.std.specs.Prelude.{◌≡◌, List, [], ◌∷◌, ◌++◌, Some, ⊤}
+use Rattle.std.specs.List.{AllByRecursion}
+use Rattle.gw_gate.specs.Parts.{TranslatedSeen}
+use Rattle.gw_gate.specs.Journal.{EntrySeen, Start, Journal}
+use Rattle.gw_gate.specs.Replies.{EventSeen, Puts, reply, added}
+
+-- Given: what holds of a translation by its type.
+module _ (IsTranslated : TranslatedSeen → Type 0) where
+  -- what is put is a translation
+  abbrev pub IsEvent : EventSeen → Type 0
+  IsEvent (Puts n t) = IsTranslated t
+  IsEvent event = ⊤
+
+  -- A journal is lawful from its start: it is empty, or lawful but for one last entry, which the reply to some event added.
+  pub data Lawful (start : Start) : List EntrySeen → Type 0 where
+    empty : Lawful start []
+    more : (h : List EntrySeen) → (event : EventSeen) → (e : EntrySeen) → Lawful start h → IsEvent event → added event (reply (record { start = start; entries = h }) event) ≡ Some e → Lawful start (h ++ e ∷ [])
+
+  abbrev pub IsLawful : Journal → Type 0
+  IsLawful j = Lawful j.start j.entries
+
+  abbrev pub AreEvents : List EventSeen → Type 0
+  AreEvents events = AllByRecursion IsEvent events

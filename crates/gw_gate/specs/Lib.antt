@@ -1,0 +1,13 @@
+pub mod Parts
+pub mod Seen
+pub mod Journal
+pub mod Replies
+pub mod Values
+pub mod Same
+pub mod Replay
+pub mod Lawful
+pub mod Meaning
+pub mod Headline
+pub mod Desks
+pub mod Books
+pub mod Toy

@@ -1,0 +1,453 @@
+//! A journal with the books that are kept of it, so that a step needs no look at what is behind it.
+ghost use Rattle.std.specs.Prelude.{◌≡◌, ◌+◌, ◌++◌, ◌≤◌, OnOk, vec_len, vec_capacity, ◌<◌, ◌≢◌, ℕ, true, false, length, map, slice_get, Ok, Err, Some, None, []};
+ghost use Rattle.std.specs.Option.{option_map};
+ghost use Rattle.std.specs.Arc.{arc_value};
+ghost use Rattle.gw_gate.specs.Parts.{is_under};
+ghost use Rattle.gw_gate.specs.Seen.{plan_seen, conforming_seen, translated_seen};
+ghost use Rattle.gw_gate.specs.Journal.{Journal, current, opening, pair};
+ghost use Rattle.gw_gate.specs.Desks.{AreRoomier, HasRoomFor};
+ghost use Rattle.gw_gate.specs.Replies.{Looks, Arrives, Refuses, Swaps, Takes, Puts, Reissues, Releases, IsKept, IsIssued, Steps, StepsNoted, most, reply_to};
+ghost use Rattle.gw_gate.specs.Books.{issue_reply, job_reply, next_job, put_reply, release_reply};
+ghost use Rattle.gw_gate.specs.Values.{entries_seen, event_seen, answer_seen, noted_seen, pair_seen};
+
+use crate::copies::prepared;
+use crate::desks::{hold_at, make_due, make_room, next_at, release_at, status_at};
+use crate::event::{Entry, Event, Reply};
+use crate::plans::{are_alike, is_of, is_under, receiver_at, receiver_count};
+use gw_plan::{Conforming, Plan, Translated};
+use gw_reorder::{Desk, Status};
+use std::alloc::{AllocError, Global};
+use std::marker::Model;
+use std::sync::Arc;
+
+/// The most entries of a journal.
+pub const MOST: usize = 262_144;
+
+// A number with a receiver.
+#[derive(Clone, Copy)]
+pub(crate) struct Pair {
+    n: u64,
+    receiver: usize,
+}
+
+// A reply, with the note of its entry; or the event, for want of memory.
+pub(crate) type Answer = Result<(Reply, Option<Entry>), Event>;
+
+// What was accepted under this number.
+fn accepted_at(accepted: &[Arc<Conforming>], n: u64) -> Option<&Arc<Conforming>>
+    ensures { option_map (λ c. conforming_seen (arc_value c.now)) result ≡ slice_get (map (λ c. conforming_seen (arc_value c)) accepted.now) n }
+{
+    accepted.get(n as usize)
+}
+
+// The next pair, with what was accepted under its number.
+fn next_job<'a>(
+    accepted: &'a [Arc<Conforming>],
+    issued: &[Pair],
+    jobs: usize,
+) -> Option<(Pair, &'a Arc<Conforming>)>
+    ensures { option_map (λ j. (pair_seen j.0, conforming_seen (arc_value j.1.now))) result ≡ next_job (map (λ c. conforming_seen (arc_value c)) accepted.now) (map pair_seen issued.now) jobs }
+{
+    let Some(pair) = issued.get(jobs) else {
+        return None;
+    };
+    let Some(conforming) = accepted_at(accepted, pair.n) else {
+        return None;
+    };
+    Some((*pair, conforming))
+}
+
+// Room for an acceptance: the message, its pairs, and its number at each desk to which it goes.
+fn make_rooms(
+    accepted: &mut Vec<Arc<Conforming>>,
+    issued: &mut Vec<Pair>,
+    desks: &mut Vec<Desk<Arc<Translated>>>,
+    alloc: Global,
+    conforming: &Conforming,
+) -> Result<(), AllocError>
+    ensures accepted { accepted.new.items ≡ accepted.old.items }
+    ensures issued { issued.new.items ≡ issued.old.items }
+    ensures desks { AreRoomier desks.old.items desks.new.items }
+    ensures message { OnOk result (vec_len accepted.new < vec_capacity accepted.new) }
+    ensures pairs { OnOk result (vec_len issued.new + length (conforming_seen conforming.now).receivers ≤ vec_capacity issued.new) }
+    ensures numbers { OnOk result (HasRoomFor desks.new.items (conforming_seen conforming.now)) }
+{
+    accepted.reserve(1)?;
+    issued.reserve(receiver_count(conforming))?;
+    make_room(desks, alloc, conforming)
+}
+
+// A pair for each receiver of the message's route.
+fn issue_all(issued: &mut Vec<Pair>, conforming: &Conforming, n: u64)
+    requires { vec_len issued.old + length (conforming_seen conforming.now).receivers ≤ vec_capacity issued.old }
+    ensures { map pair_seen issued.new.items ≡ map pair_seen issued.old.items ++ map (pair n) (conforming_seen conforming.now).receivers }
+{
+    for place in 0..receiver_count(conforming) {
+        let receiver = receiver_at(conforming, place);
+        issued.push_reserved(Pair { n, receiver });
+    }
+}
+
+#[derive(Drop)]
+pub(crate) struct Books {
+    alloc: Global,
+    opening: Arc<Plan>,
+    journal: Vec<Entry>,
+    version: u64,
+    plan: Arc<Plan>,
+    arrivals: u64,
+    accepted: Vec<Arc<Conforming>>,
+    issued: Vec<Pair>,
+    jobs: usize,
+    desks: Vec<Desk<Arc<Translated>>>,
+}
+
+impl Model for Books {
+    ghost use Rattle.std.specs.Prelude.{map};
+    ghost use Rattle.std.specs.Arc.{arc_value};
+    ghost use Rattle.gw_gate.specs.Journal.{Journal};
+    ghost use Rattle.gw_gate.specs.Seen.{plan_seen, conforming_seen};
+    ghost use Rattle.gw_gate.specs.Values.{entries_seen, pair_seen};
+    ghost use Rattle.gw_gate.specs.Desks.{desk_at};
+    ghost use Rattle.gw_gate.specs.Books.{Fits, journal_of};
+
+    ghost Value = { Journal };
+
+    ghost view = { λ b. journal_of (plan_seen (arc_value b.opening)) (entries_seen b.journal.items) };
+
+    ghost invariant = { λ b. Fits (plan_seen (arc_value b.opening)) (entries_seen b.journal.items) (record {
+      version = b.version;
+      plan = plan_seen (arc_value b.plan);
+      arrivals = b.arrivals;
+      accepted = map (λ c. conforming_seen (arc_value c)) b.accepted.items;
+      issued = map pair_seen b.issued.items;
+      jobs = b.jobs;
+      desk = desk_at b.desks.items;
+    }) };
+}
+
+impl Books {
+    // The books of a gate that opens with this plan.
+    pub(crate) fn open(alloc: Global, first: Arc<Plan>, plan: Arc<Plan>) -> Self
+        requires { arc_value plan ≡ arc_value first }
+        ensures { result ≡ record { start = opening (plan_seen (arc_value first)); entries = [] } }
+    {
+        Books {
+            alloc,
+            opening: first,
+            journal: Vec::new(alloc),
+            version: 0,
+            plan,
+            arrivals: 0,
+            accepted: Vec::new(alloc),
+            issued: Vec::new(alloc),
+            jobs: 0,
+            desks: Vec::new(alloc),
+        }
+    }
+
+    // The entries so far.
+    pub(crate) fn journal(&self) -> &[Entry]
+        ensures { entries_seen result.now ≡ self.now.entries }
+    {
+        self.journal.as_slice()
+    }
+
+    // The opening plan.
+    pub(crate) fn opening(&self) -> &Arc<Plan>
+        ensures { opening (plan_seen (arc_value result.now)) ≡ self.now.start }
+    {
+        &self.opening
+    }
+
+    // The plan in force.
+    fn look(&self) -> Result<Reply, Event>
+        ensures { Steps self.now Looks (answer_seen result) self.now }
+    {
+        match Arc::try_clone(&self.plan) {
+            Ok(plan) => Ok(Reply::Current {
+                version: self.version,
+                plan,
+            }),
+            Err(_) => Err(Event::Look),
+        }
+    }
+
+    // A content arrived that was refused.
+    fn refuse(&mut self, code: u16, takes: bool) -> Answer
+        ensures { StepsNoted takes self.old (Refuses code) (noted_seen result) self.new }
+    {
+        if self.journal.len() == MOST {
+            return Ok((Reply::Full(Event::Refuse(code)), None));
+        }
+        let arrival = self.arrivals + 1;
+        let entry = Entry::Refused { arrival, code };
+        let Ok(note) = prepared(&mut self.journal, takes, &entry) else {
+            return Err(Event::Refuse(code));
+        };
+        self.arrivals = arrival;
+        self.journal.push_reserved(entry);
+        Ok((Reply::Refused { arrival }, note))
+    }
+
+    // A plan is to take the place of the one in force.
+    fn swap(&mut self, plan: Arc<Plan>, takes: bool) -> Answer
+        ensures { StepsNoted takes self.old (Swaps (plan_seen (arc_value plan))) (noted_seen result) self.new }
+    {
+        if !are_alike(&plan, &self.opening) {
+            return Ok((Reply::Unlike(plan), None));
+        }
+        if self.journal.len() == MOST {
+            return Ok((Reply::Full(Event::Swap(plan)), None));
+        }
+        let Ok(copy) = Arc::try_clone(&plan) else {
+            return Err(Event::Swap(plan));
+        };
+        let version = self.version + 1;
+        let entry = Entry::Swapped {
+            version,
+            plan: copy,
+        };
+        let Ok(note) = prepared(&mut self.journal, takes, &entry) else {
+            return Err(Event::Swap(plan));
+        };
+        self.version = version;
+        self.plan = plan;
+        self.journal.push_reserved(entry);
+        Ok((Reply::Swapped { version }, note))
+    }
+
+    // The next pair, with what was accepted under its number.
+    fn next(&self) -> Option<(Pair, &Arc<Conforming>)>
+        ensures { reply_to self.now Takes ≡ job_reply (option_map (λ j. (pair_seen j.0, conforming_seen (arc_value j.1.now))) result) }
+    {
+        next_job(&self.accepted, &self.issued, self.jobs)
+    }
+
+    // The next pair is taken.
+    fn take(&mut self, takes: bool) -> Answer
+        ensures { StepsNoted takes self.old Takes (noted_seen result) self.new }
+    {
+        let Some((pair, accepted)) = self.next() else {
+            return Ok((Reply::Idle, None));
+        };
+        if self.journal.len() == MOST {
+            return Ok((Reply::Full(Event::Take), None));
+        }
+        let Ok(conforming) = Arc::try_clone(accepted) else {
+            return Err(Event::Take);
+        };
+        let Pair { n, receiver } = pair;
+        let entry = Entry::Job { n, receiver };
+        let Ok(note) = prepared(&mut self.journal, takes, &entry) else {
+            return Err(Event::Take);
+        };
+        self.jobs += 1;
+        self.journal.push_reserved(entry);
+        let reply = Reply::Job {
+            n,
+            receiver,
+            conforming,
+        };
+        Ok((reply, note))
+    }
+
+    // What the pair is of a translation that is put: `Stranger` too where it is of another message than the accepted one.
+    fn put_status(&self, n: u64, translated: &Translated) -> Status
+        ensures { reply_to self.now (Puts n (translated_seen translated.now)) ≡ put_reply result (translated_seen translated.now) }
+    {
+        let receiver = translated.receiver();
+        let Some(conforming) = accepted_at(&self.accepted, n) else {
+            return Status::Stranger;
+        };
+        if !is_of(translated, conforming) {
+            return Status::Stranger;
+        }
+        status_at(&self.desks, receiver, n)
+    }
+
+    // A translation is put.
+    fn put(&mut self, n: u64, translated: Arc<Translated>, takes: bool) -> Answer
+        ensures { StepsNoted takes self.old (Puts n (translated_seen (arc_value translated))) (noted_seen result) self.new }
+    {
+        match self.put_status(n, &translated) {
+            Status::Stranger => Ok((Reply::Stranger(Some(translated)), None)),
+            Status::Repeat => Ok((Reply::Repeat(translated), None)),
+            Status::Waiting => self.keep(n, translated, takes),
+        }
+    }
+
+    // A translation that its pair waits for is kept.
+    fn keep(&mut self, n: u64, translated: Arc<Translated>, takes: bool) -> Answer
+        requires { reply_to self.old (Puts n (translated_seen (arc_value translated))) ≡ IsKept }
+        ensures { StepsNoted takes self.old (Puts n (translated_seen (arc_value translated))) (noted_seen result) self.new }
+    {
+        if self.journal.len() == MOST {
+            return Ok((Reply::Full(Event::Put { n, translated }), None));
+        }
+        let Ok(copy) = Arc::try_clone(&translated) else {
+            return Err(Event::Put { n, translated });
+        };
+        let entry = Entry::Kept {
+            n,
+            translated: copy,
+        };
+        let Ok(note) = prepared(&mut self.journal, takes, &entry) else {
+            return Err(Event::Put { n, translated });
+        };
+        let receiver = translated.receiver();
+        hold_at(&mut self.desks, receiver, n, translated);
+        self.journal.push_reserved(entry);
+        Ok((Reply::Kept, note))
+    }
+
+    // What the pair is.
+    fn pair_status(&self, n: u64, receiver: usize) -> Status
+        ensures { reply_to self.now (Reissues n receiver) ≡ issue_reply result }
+    {
+        status_at(&self.desks, receiver, n)
+    }
+
+    // A pair is to be worked on again.
+    fn reissue(&mut self, n: u64, receiver: usize, takes: bool) -> Answer
+        ensures { StepsNoted takes self.old (Reissues n receiver) (noted_seen result) self.new }
+    {
+        match self.pair_status(n, receiver) {
+            Status::Stranger => Ok((Reply::Stranger(None), None)),
+            Status::Repeat => Ok((Reply::Done, None)),
+            Status::Waiting => self.issue(n, receiver, takes),
+        }
+    }
+
+    // A pair that waits for a translation is issued once more.
+    fn issue(&mut self, n: u64, receiver: usize, takes: bool) -> Answer
+        requires { reply_to self.old (Reissues n receiver) ≡ IsIssued }
+        ensures { StepsNoted takes self.old (Reissues n receiver) (noted_seen result) self.new }
+    {
+        if self.journal.len() == MOST {
+            return Ok((Reply::Full(Event::Reissue { n, receiver }), None));
+        }
+        if self.issued.reserve(1).is_err() {
+            return Err(Event::Reissue { n, receiver });
+        }
+        let entry = Entry::Issued { n, receiver };
+        let Ok(note) = prepared(&mut self.journal, takes, &entry) else {
+            return Err(Event::Reissue { n, receiver });
+        };
+        self.issued.push_reserved(Pair { n, receiver });
+        self.journal.push_reserved(entry);
+        Ok((Reply::Issued, note))
+    }
+
+    // What is next for a receiver, where it is kept.
+    fn waiting(&self, receiver: usize) -> Option<(u64, &Arc<Translated>)>
+        ensures { reply_to self.now (Releases receiver) ≡ release_reply (option_map (λ g. (g.0, translated_seen (arc_value g.1.now))) result) }
+    {
+        next_at(&self.desks, receiver)
+    }
+
+    // What is next for a receiver is given out.
+    fn release(&mut self, receiver: usize, takes: bool) -> Answer
+        ensures { StepsNoted takes self.old (Releases receiver) (noted_seen result) self.new }
+    {
+        let Some((n, next)) = self.waiting(receiver) else {
+            return Ok((Reply::Nothing, None));
+        };
+        if self.journal.len() == MOST {
+            return Ok((Reply::Full(Event::Release(receiver)), None));
+        }
+        let (Ok(translated), Ok(copy)) = (Arc::try_clone(next), Arc::try_clone(next)) else {
+            return Err(Event::Release(receiver));
+        };
+        let entry = Entry::Out {
+            n,
+            receiver,
+            translated: copy,
+        };
+        let Ok(note) = prepared(&mut self.journal, takes, &entry) else {
+            return Err(Event::Release(receiver));
+        };
+        release_at(&mut self.desks, receiver);
+        self.journal.push_reserved(entry);
+        Ok((Reply::Out { n, translated }, note))
+    }
+
+    // Whether the message was admitted under the version and plan in force.
+    fn in_force(&self, conforming: &Conforming) -> bool
+        ensures { result ≡ is_under (conforming_seen conforming.now) (current self.now).number (current self.now).plan }
+    {
+        is_under(conforming, self.version, &self.plan)
+    }
+
+    // A message that was admitted arrives.
+    fn arrive(&mut self, conforming: Arc<Conforming>, takes: bool) -> Answer
+        ensures { StepsNoted takes self.old (Arrives (conforming_seen (arc_value conforming))) (noted_seen result) self.new }
+    {
+        if self.in_force(&conforming) {
+            return self.accept(conforming, takes);
+        }
+        let reply = Reply::Stale {
+            version: self.version,
+            conforming,
+        };
+        Ok((reply, None))
+    }
+
+    // A message of the plan in force is accepted.
+    fn accept(&mut self, conforming: Arc<Conforming>, takes: bool) -> Answer
+        requires { is_under (conforming_seen (arc_value conforming)) (current self.old).number (current self.old).plan ≡ true }
+        ensures { StepsNoted takes self.old (Arrives (conforming_seen (arc_value conforming))) (noted_seen result) self.new }
+    {
+        if self.journal.len() == MOST {
+            return Ok((Reply::Full(Event::Arrive(conforming)), None));
+        }
+        let Ok(copy) = Arc::try_clone(&conforming) else {
+            return Err(Event::Arrive(conforming));
+        };
+        let n = self.accepted.len() as u64;
+        let arrival = self.arrivals + 1;
+        let entry = Entry::Accepted {
+            n,
+            arrival,
+            conforming: copy,
+        };
+        let Ok(note) = prepared(&mut self.journal, takes, &entry) else {
+            return Err(Event::Arrive(conforming));
+        };
+        let grown = make_rooms(
+            &mut self.accepted,
+            &mut self.issued,
+            &mut self.desks,
+            self.alloc,
+            &conforming,
+        );
+        if grown.is_err() {
+            return Err(Event::Arrive(conforming));
+        }
+        issue_all(&mut self.issued, &conforming, n);
+        make_due(&mut self.desks, &conforming, n);
+        self.arrivals = arrival;
+        self.accepted.push_reserved(conforming);
+        self.journal.push_reserved(entry);
+        Ok((Reply::Accepted { n, arrival }, note))
+    }
+
+    // One step, of whose entry a note may be taken.
+    pub(crate) fn step(&mut self, event: Event, takes: bool) -> Answer
+        ensures { StepsNoted takes self.old (event_seen event) (noted_seen result) self.new }
+    {
+        match event {
+            Event::Look => match self.look() {
+                Ok(reply) => Ok((reply, None)),
+                Err(event) => Err(event),
+            },
+            Event::Arrive(conforming) => self.arrive(conforming, takes),
+            Event::Refuse(code) => self.refuse(code, takes),
+            Event::Swap(plan) => self.swap(plan, takes),
+            Event::Take => self.take(takes),
+            Event::Put { n, translated } => self.put(n, translated, takes),
+            Event::Reissue { n, receiver } => self.reissue(n, receiver, takes),
+            Event::Release(receiver) => self.release(receiver, takes),
+        }
+    }
+}

@@ -1,0 +1,88 @@
+//! What comes to a gate, what it replies, and what it enters in its journal.
+use gw_plan::{Conforming, Plan, Translated};
+use std::sync::Arc;
+
+/// What comes to a gate.
+#[derive(Drop)]
+pub enum Event {
+    /// Asks for the plan that is in force.
+    Look,
+    /// A message that was admitted arrives.
+    Arrive(Arc<Conforming>),
+    /// A content arrives that was refused under this code (HL7 table 0357).
+    Refuse(u16),
+    /// A plan is to take the place of the one in force.
+    Swap(Arc<Plan>),
+    /// Asks for the next pair to be worked on.
+    Take,
+    /// What was made of the message that was accepted under this number.
+    Put { n: u64, translated: Arc<Translated> },
+    /// A pair is to be worked on again.
+    Reissue { n: u64, receiver: usize },
+    /// Asks for the next translation for this receiver.
+    Release(usize),
+}
+
+/// What a gate replies.
+#[derive(Drop)]
+pub enum Reply {
+    /// To Look: the plan in force, with its version.
+    Current { version: u64, plan: Arc<Plan> },
+    /// To Arrive: the number of the acceptance, from 0, and of the arrival, from 1.
+    Accepted { n: u64, arrival: u64 },
+    /// To Arrive: the message was admitted under another plan or version than this.
+    Stale {
+        version: u64,
+        conforming: Arc<Conforming>,
+    },
+    /// To Refuse: the number of the arrival, from 1.
+    Refused { arrival: u64 },
+    /// To Swap: the version of the plan, which is in force now.
+    Swapped { version: u64 },
+    /// To Swap: the plan's receivers aren't the gate's.
+    Unlike(Arc<Plan>),
+    /// To Take: the receiver, and the message that was accepted under the number.
+    Job {
+        n: u64,
+        receiver: usize,
+        conforming: Arc<Conforming>,
+    },
+    /// To Take: every pair was taken.
+    Idle,
+    /// To Put: it is kept until its turn.
+    Kept,
+    /// To Put: one was kept for the pair before.
+    Repeat(Arc<Translated>),
+    /// To Put and Reissue: the pair isn't due, or the translation is of another message, version or plan.
+    Stranger(Option<Arc<Translated>>),
+    /// To Reissue: the pair will be taken again.
+    Issued,
+    /// To Reissue: a translation was kept for the pair.
+    Done,
+    /// To Release: the translation of the message accepted under the number.
+    Out { n: u64, translated: Arc<Translated> },
+    /// To Release: none was kept for the next number.
+    Nothing,
+    /// To an event whose entry the journal has no room for.
+    Full(Event),
+}
+
+/// What a gate enters in its journal.
+#[derive(Drop)]
+pub enum Entry {
+    Accepted {
+        n: u64,
+        arrival: u64,
+        conforming: Arc<Conforming>,
+    },
+    Refused { arrival: u64, code: u16 },
+    Swapped { version: u64, plan: Arc<Plan> },
+    Job { n: u64, receiver: usize },
+    Kept { n: u64, translated: Arc<Translated> },
+    Issued { n: u64, receiver: usize },
+    Out {
+        n: u64,
+        receiver: usize,
+        translated: Arc<Translated>,
+    },
+}

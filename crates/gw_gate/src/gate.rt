@@ -1,0 +1,96 @@
+//! The gate: a journal, and the one step by which it grows.
+ghost use Rattle.std.specs.Prelude.{◌≡◌, [], ◌∷◌, map, true, IfOk, IfErr};
+ghost use Rattle.std.specs.Arc.{arc_value};
+ghost use Rattle.gw_gate.specs.Seen.{plan_seen};
+ghost use Rattle.gw_gate.specs.Journal.{opening, from};
+ghost use Rattle.gw_gate.specs.Replies.{Steps, StepsNoted};
+ghost use Rattle.gw_gate.specs.Lawful.{IsLawful, IsEvent};
+ghost use Rattle.gw_gate.specs.Headline.{IsTranslated};
+ghost use Rattle.gw_gate.specs.Meaning.{Makes};
+ghost use Rattle.gw_gate.specs.Values.{entries_seen, event_seen, answer_seen, noted_seen};
+
+use crate::books::Books;
+use crate::event::{Entry, Event, Reply};
+use crate::plans::made_by_plan;
+use gw_plan::Plan;
+use std::alloc::Global;
+use std::marker::Model;
+use std::sync::Arc;
+
+/// A gate: what it entered in its journal since it opened with a plan. Its journal is lawful by its type.
+#[derive(Drop)]
+pub struct Gate {
+    books: Books,
+}
+
+impl Model for Gate {
+    ghost use Rattle.gw_gate.specs.Journal.{Journal};
+    ghost use Rattle.gw_gate.specs.Lawful.{IsLawful};
+    ghost use Rattle.gw_gate.specs.Headline.{IsTranslated};
+    ghost use Rattle.gw_gate.specs.Meaning.{Makes};
+
+    ghost Value = { Journal };
+
+    ghost view = { λ g. g.books };
+
+    ghost invariant = { λ g. IsLawful (IsTranslated Makes) g.books };
+}
+
+// What is put is what a plan makes, by its type.
+fn known(event: &Event)
+    ensures { IsEvent (IsTranslated Makes) (event_seen event.now) }
+{
+    if let Event::Put { translated, .. } = event {
+        made_by_plan(translated);
+    }
+}
+
+impl Gate {
+    /// A gate that opens with this plan, as version 0. The one error is want of memory, and hands the plan back.
+    pub fn begin(alloc: Global, plan: Arc<Plan>) -> Result<Self, Arc<Plan>>
+        ensures gate { IfOk result (λ g. g ≡ from (opening (plan_seen (arc_value plan)))) }
+        ensures back { IfErr result (λ p. p ≡ plan) }
+    {
+        match Arc::try_clone(&plan) {
+            Ok(copy) => Ok(Gate {
+                books: Books::open(alloc, plan, copy),
+            }),
+            Err(_) => Err(plan),
+        }
+    }
+
+    /// The entries so far. The journal is lawful. It takes no memory.
+    pub fn journal(&self) -> &[Entry]
+        ensures entries { entries_seen result.now ≡ self.now.entries }
+        ensures lawful { IsLawful (IsTranslated Makes) self.now }
+    {
+        self.books.journal()
+    }
+
+    /// The plan that the gate opened with. It takes no memory.
+    pub fn opening(&self) -> &Arc<Plan>
+        ensures { opening (plan_seen (arc_value result.now)) ≡ self.now.start }
+    {
+        self.books.opening()
+    }
+
+    /// One step: the reply to the event, whose entry is added. An error is want of memory: the event comes back, and nothing changed.
+    /// Only a reply that adds an entry, and Current, is refused so. It takes no more time where the journal is longer, but for finding a number among those due.
+    pub fn step(&mut self, event: Event) -> Result<Reply, Event>
+        ensures { Steps self.old (event_seen event) (answer_seen result) self.new }
+    {
+        known(&event);
+        match self.books.step(event, false) {
+            Ok((reply, _)) => Ok(reply),
+            Err(event) => Err(event),
+        }
+    }
+
+    /// The same step, with a copy of the entry that it adds, which is made before anything changes.
+    pub fn step_noted(&mut self, event: Event) -> Result<(Reply, Option<Entry>), Event>
+        ensures { StepsNoted true self.old (event_seen event) (noted_seen result) self.new }
+    {
+        known(&event);
+        self.books.step(event, true)
+    }
+}

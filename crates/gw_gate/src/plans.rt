@@ -1,0 +1,79 @@
+//! Plans, messages and translations, asked in the gate's words.
+ghost use Rattle.std.specs.Prelude.{◌≡◌, ◌<◌, length, slice_get, Some, bytes_eq};
+ghost use Rattle.gw_gate.specs.Parts.{delivers, is_under, same_receivers, same_source, same_translated};
+ghost use Rattle.gw_gate.specs.Seen.{plan_seen, conforming_seen, translated_seen};
+ghost use Rattle.gw_gate.specs.Headline.{IsTranslated};
+ghost use Rattle.gw_gate.specs.Meaning.{Makes};
+
+use gw_plan::{Conforming, Plan, Translated};
+
+// Whether the message was admitted under this version, by a plan of this one's text.
+pub(crate) fn is_under(conforming: &Conforming, version: u64, plan: &Plan) -> bool
+    ensures { result ≡ is_under (conforming_seen conforming.now) version (plan_seen plan.now) }
+{
+    conforming.under(version, plan)
+}
+
+// Whether the plans have the same lines of receivers.
+pub(crate) fn are_alike(plan: &Plan, other: &Plan) -> bool
+    ensures { result ≡ same_receivers (plan_seen plan.now) (plan_seen other.now) }
+{
+    plan.same_receivers(other)
+}
+
+// Whether the plans have the same text.
+pub(crate) fn have_same_text(plan: &Plan, other: &Plan) -> bool
+    ensures { result ≡ bytes_eq (plan_seen plan.now).text (plan_seen other.now).text }
+{
+    plan.text() == other.text()
+}
+
+// Whether these are the same: message, version and the plan's text.
+pub(crate) fn are_same(conforming: &Conforming, other: &Conforming) -> bool
+    ensures { result ≡ same_source (conforming_seen conforming.now) (conforming_seen other.now) }
+{
+    conforming.same(other)
+}
+
+// Whether these are the same: source, receiver and message.
+pub(crate) fn are_same_translated(translated: &Translated, other: &Translated) -> bool
+    ensures { result ≡ same_translated (translated_seen translated.now) (translated_seen other.now) }
+{
+    translated.same(other)
+}
+
+// Whether the translation is of this message, under the same version and plan.
+pub(crate) fn is_of(translated: &Translated, conforming: &Conforming) -> bool
+    ensures { result ≡ same_source (translated_seen translated.now).source (conforming_seen conforming.now) }
+{
+    translated.same_source(conforming)
+}
+
+// Whether the message's route goes to this receiver.
+pub(crate) fn goes_to(conforming: &Conforming, receiver: usize) -> bool
+    ensures { result ≡ delivers (conforming_seen conforming.now) receiver }
+{
+    conforming.goes_to(receiver)
+}
+
+// How many receivers the message's route has.
+pub(crate) fn receiver_count(conforming: &Conforming) -> usize
+    ensures { result ≡ length (conforming_seen conforming.now).receivers }
+{
+    conforming.route().len()
+}
+
+// The receiver at this place of the message's route.
+pub(crate) fn receiver_at(conforming: &Conforming, place: usize) -> usize
+    requires { place < length (conforming_seen conforming.now).receivers }
+    ensures { slice_get (conforming_seen conforming.now).receivers place ≡ Some result }
+{
+    conforming.route().receiver(place)
+}
+
+// A translation is what the plan of its source's text makes of it, by its type.
+pub(crate) fn made_by_plan(translated: &Translated)
+    ensures { IsTranslated Makes (translated_seen translated.now) }
+{
+    let _ = translated.message();
+}

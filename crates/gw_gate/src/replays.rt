@@ -1,0 +1,60 @@
+//! Events, replayed.
+ghost use Rattle.std.specs.Prelude.{◌≡◌, map, IfOk, IfErr};
+ghost use Rattle.std.specs.Vec.Iter.{into_iter_items};
+ghost use Rattle.gw_gate.specs.Lawful.{IsLawful};
+ghost use Rattle.gw_gate.specs.Headline.{IsTranslated};
+ghost use Rattle.gw_gate.specs.Meaning.{Makes};
+ghost use Rattle.gw_gate.specs.Replay.{Leads, Replays};
+ghost use Rattle.gw_gate.specs.Values.{answered_seen, event_seen, replay_seen};
+ghost use Rattle.gw_gate.specs.declared.replays.ReplayFault.TheVariants as fault;
+
+use crate::event::{Event, Reply};
+use crate::gate::Gate;
+use std::alloc::{Global};
+use std::vec::IntoIter;
+use thiserror::Error;
+
+/// Why events aren't replayed.
+#[derive(Clone, Copy, PartialEq, Eq, Debug, Error)]
+pub enum ReplayFault {
+    #[error("out of memory")]
+    Memory,
+    #[error("the first event does not bring a plan")]
+    NoPlan,
+}
+
+// The gate's replies to these events in turn.
+fn follow(alloc: Global, mut gate: Gate, events: IntoIter<Event>) -> Result<(Gate, Vec<Reply>), ReplayFault>
+    ensures gate { IfOk result (λ r. Leads gate (map event_seen (into_iter_items events)) (answered_seen (r.0, r.1.items))) }
+    ensures lawful { IfOk result (λ r. IsLawful (IsTranslated Makes) r.0) }
+    ensures memory { IfErr result (λ e. e ≡ fault.Memory) }
+{
+    let mut replies = Vec::new(alloc);
+    for event in events {
+        let Ok(reply) = gate.step(event) else {
+            return Err(ReplayFault::Memory);
+        };
+        if replies.push(reply).is_err() {
+            return Err(ReplayFault::Memory);
+        }
+    }
+    // (its clause tells that the journal is lawful)
+    let _ = gate.journal();
+    Ok((gate, replies))
+}
+
+/// The replies to these events, and the gate that they lead to: the first event is a Swap, whose plan opens the gate, and it has no reply.
+/// For any other list the fault is NoPlan. Want of memory is the only other fault. The events aren't handed back.
+pub fn replay(alloc: Global, events: Vec<Event>) -> Result<(Gate, Vec<Reply>), ReplayFault>
+    ensures replies { Replays (map event_seen events.items) (replay_seen result) }
+    ensures lawful { IfOk result (λ r. IsLawful (IsTranslated Makes) r.0) }
+{
+    let mut events = events.into_iter();
+    let Some(Event::Swap(plan)) = events.next() else {
+        return Err(ReplayFault::NoPlan);
+    };
+    match Gate::begin(alloc, plan) {
+        Ok(gate) => follow(alloc, gate, events),
+        Err(_) => Err(ReplayFault::Memory),
+    }
+}
