@@ -19,7 +19,7 @@ use Rattle.gw_resolve.specs.Seen.{failures, all_items}
 use Rattle.gw_check.specs.Checking.{NotesNode, usage_of}
 use Rattle.gw_resolve.proofs.Noting.{added_one}
 
-drop_drop : {X : Type 0} (a b : ℕ) (l : List X) → drop b (drop a l) ≡ drop (a + b) l
+pub drop_drop : {X : Type 0} (a b : ℕ) (l : List X) → drop b (drop a l) ≡ drop (a + b) l
 drop_drop zero b l = let same : 0 + b ≡ b = omega arith in ap (λ n. drop n l) (sym same)
 drop_drop (suc a) b [] = drop_all b [] (omega arith) ∙ sym (drop_all (suc a + b) [] (omega arith))
 drop_drop (suc a) b (x ∷ l) = let same : suc (a + b) ≡ suc a + b = omega arith in drop_drop a b l ∙ ap (λ n. drop n (x ∷ l)) same

@@ -11,6 +11,8 @@ pub mod Counted
 pub mod Checking
 pub mod Collected
 pub mod Unread
+pub mod Gaps
+pub mod Gathered
 pub mod CheckedMap
 pub mod Texts
 pub mod Answers

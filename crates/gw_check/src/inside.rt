@@ -31,8 +31,8 @@ fn fields_of(node: &Node) -> &[FieldShape]
     }
 }
 
-// The fields of the segment of this number.
-fn fields_at(nodes: &[Node], number: usize) -> &[FieldShape]
+/// The fields of the segment of this number.
+pub(crate) fn fields_at(nodes: &[Node], number: usize) -> &[FieldShape]
     ensures { map field result.now ≡ places.fields_of (places.child (forest nodes.now) number) }
 {
     match nodes.get(number) {

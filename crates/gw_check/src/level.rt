@@ -55,13 +55,13 @@ fn first_line(holder: u32, items: &[Item]) -> u32
     line_of(item)
 }
 
-fn has_no_item(items: &[Item]) -> bool
+pub(crate) fn has_no_item(items: &[Item]) -> bool
     ensures { (tables : List TableValue) → result ≡ spec.has_no_item (all_items tables items.now) }
 {
     items.is_empty()
 }
 
-fn usage_of(node: &Node) -> Usage
+pub(crate) fn usage_of(node: &Node) -> Usage
     ensures { result ≡ usage_of node.now }
 {
     match node {

@@ -24,7 +24,7 @@ pub(crate) struct Asked {
     pub(crate) is_missing: bool,
 }
 
-fn is_expected(usage: Usage) -> bool
+pub(crate) fn is_expected(usage: Usage) -> bool
     ensures { result ≡ is_expected usage }
 {
     match usage {

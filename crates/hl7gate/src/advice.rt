@@ -1,6 +1,6 @@
 //! What a person needs of a map that a rule refuses: the file and its line, what the rule demands, and what to do.
 use crate::maps::Sides;
-use gw_check::FieldAt;
+use gw_check::{FieldAt, Gap};
 use gw_profile::Node;
 use gw_resolve::Failure;
 use std::alloc::{AllocError, Global};
@@ -19,6 +19,8 @@ pub(crate) struct Written<'a> {
 pub(crate) struct Found {
     /// The fields that the map passes over, where rule 9 is the least that fails.
     pub(crate) unread: Vec<FieldAt>,
+    /// What the target asks for and the map says nothing of, where rule 5 or 8 is the least that fails.
+    pub(crate) gaps: Vec<Gap>,
     pub(crate) failures: Vec<Failure>,
 }
 
@@ -106,10 +108,10 @@ fn nodes_of(node: &Node) -> &[Node] {
     }
 }
 
-/// Tells a field that the map passes over by its path.
-fn tell_field<E: Write>(errors: &mut E, nodes: &[Node], field: &FieldAt) {
+/// Tells the labels that lead to a node.
+fn tell_path<E: Write>(errors: &mut E, nodes: &[Node], at: &[usize]) {
     let mut level = nodes;
-    for (i, number) in field.at.iter().enumerate() {
+    for (i, number) in at.iter().enumerate() {
         let Some(node) = level.get(*number) else {
             return;
         };
@@ -119,8 +121,22 @@ fn tell_field<E: Write>(errors: &mut E, nodes: &[Node], field: &FieldAt) {
         let _ = errors.write_all(label_of(node));
         level = nodes_of(node);
     }
+}
+
+/// Tells a field that the map passes over by its path.
+fn tell_field<E: Write>(errors: &mut E, nodes: &[Node], field: &FieldAt) {
+    tell_path(errors, nodes, &field.at);
     let number = field.field;
     let _ = writeln!(errors, "-{number}: neither read nor dropped");
+}
+
+/// Tells a segment, group or field that the map gives by nothing.
+fn tell_gap<E: Write>(errors: &mut E, nodes: &[Node], gap: &Gap) {
+    tell_path(errors, nodes, &gap.at);
+    if let Some(number) = gap.field {
+        let _ = write!(errors, "-{number}");
+    }
+    let _ = writeln!(errors, ": no item and no rule gives it");
 }
 
 impl Refusal<'_> {
@@ -150,7 +166,7 @@ impl Refusal<'_> {
         Ok(())
     }
 
-    /// Tells the file with its line, what the rule demands, each field that is passed over, and what fails as well.
+    /// Tells the file with its line, what the rule demands, each field that is passed over, what is given by nothing, and what fails as well.
     pub(crate) fn tell<E: Write>(&self, alloc: Global, errors: &mut E) -> Result<(), AllocError> {
         let Written { path, text } = &self.written;
         let Failure { rule, line } = self.least;
@@ -160,6 +176,11 @@ impl Refusal<'_> {
         let _ = writeln!(errors, "\n{advice}");
         for field in &self.found.unread {
             tell_field(errors, self.sides.source.nodes(), field);
+        }
+        for gap in &self.found.gaps {
+            if gap.line == line {
+                tell_gap(errors, self.sides.target.nodes(), gap);
+            }
         }
         self.tell_others(alloc, errors)
     }

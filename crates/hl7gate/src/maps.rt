@@ -9,7 +9,7 @@ use crate::expected;
 use crate::files::{read_all, read_text};
 use crate::report::write_all;
 use clap::ArgMatches;
-use gw_check::{CheckedMap, FieldAt, unread};
+use gw_check::{CheckedMap, FieldAt, Gap, gaps, unread};
 use gw_er7::Message;
 use gw_maplang::Map;
 use gw_profile::Profile;
@@ -113,6 +113,36 @@ fn passed_over(
     Ok(Vec::new(alloc))
 }
 
+/// What the rules 5 and 8 fail of where nothing is said, where one of them is the least.
+fn not_given(
+    alloc: Global,
+    rule: u8,
+    sides: &Sides,
+    map: &Map,
+) -> Result<Vec<Gap>, AllocError> {
+    if rule == 5 || rule == 8 {
+        return gaps(alloc, &sides.source, &sides.target, map);
+    }
+    Ok(Vec::new(alloc))
+}
+
+/// All that fails of a map that a rule refuses, and what it fails of.
+fn found_of(
+    alloc: Global,
+    failures: Vec<Failure>,
+    rule: u8,
+    sides: &Sides,
+    map: &Map,
+) -> Result<Found, AllocError> {
+    let unread = passed_over(alloc, rule, sides, map)?;
+    let gaps = not_given(alloc, rule, sides, map)?;
+    Ok(Found {
+        unread,
+        gaps,
+        failures,
+    })
+}
+
 /// A map by the rules.
 fn judge<'a>(
     alloc: Global,
@@ -125,15 +155,12 @@ fn judge<'a>(
         Ok(checked) => Ok(Checked::Allowed(checked)),
         Err(gw_check::Refusal::Memory(_)) => Err(Ended::Run(RunFault::Memory)),
         Err(gw_check::Refusal::Rules { least, found, map }) => {
-            let unread = passed_over(alloc, least.rule, &sides, &map)?;
+            let found = found_of(alloc, found, least.rule, &sides, &map)?;
             Ok(Checked::Refused(Refusal {
                 least,
                 written,
                 sides,
-                found: Found {
-                    unread,
-                    failures: found,
-                },
+                found,
             }))
         }
     }

@@ -1,0 +1,36 @@
+-- Gaps of a map, as the program gathers them.
+use Rattle.std.specs.Prelude.{◌≡◌, ◌++◌, ℕ, List, map, option_map}
+use Rattle.gw_profile.specs.declared.node.Node.{Node}
+use Rattle.gw_profile.specs.Nodes.{card_of}
+use Rattle.gw_profile.specs.Shapes.{Forest}
+use Rattle.gw_maplang.specs.Shapes.{TableValue}
+use Rattle.gw_resolve.specs.declared.resolved.Item.{Item}
+use Rattle.gw_resolve.specs.Resolved.{no_items}
+use Rattle.gw_resolve.specs.Seen.{with_item, all_items}
+use Rattle.gw_check.specs.Checking.{usage_of}
+use Rattle.gw_check.specs.Gaps.{Gap, node_gaps, level_gaps, items_gaps}
+use Rattle.gw_check.specs.Reads.{Position}
+use Rattle.gw_check.specs.declared.gap.Gap as declared
+
+abbrev pub gap : declared.Gap → Gap
+gap g = record { line = g.line; at = g.at.items; field = g.field }
+
+abbrev pub all_gaps : List declared.Gap → List Gap
+all_gaps = map gap
+
+-- these were found as well
+abbrev pub Finds : List declared.Gap → List declared.Gap → List Gap → Type 0
+Finds old new more = all_gaps new ≡ all_gaps old ++ more
+
+-- whatever the map's tables are
+abbrev pub FindsNode : List TableValue → ℕ → Position → Node → List Item → List declared.Gap → List declared.Gap → Type 0
+FindsNode tables holder at node is old new = Finds old new (node_gaps holder at (usage_of node) (card_of node) (all_items tables is))
+
+abbrev pub FindsLevel : List TableValue → ℕ → Position → Forest → List Item → List declared.Gap → List declared.Gap → Type 0
+FindsLevel tables holder above nodes is old new = Finds old new (level_gaps holder above 0 nodes (all_items tables is))
+
+abbrev pub FindsItem : List TableValue → Position → Forest → Item → List declared.Gap → List declared.Gap → Type 0
+FindsItem tables above nodes i old new = Finds old new (items_gaps above nodes (with_item tables i no_items))
+
+abbrev pub FindsItems : List TableValue → Position → Forest → List Item → List declared.Gap → List declared.Gap → Type 0
+FindsItems tables above nodes is old new = Finds old new (items_gaps above nodes (all_items tables is))

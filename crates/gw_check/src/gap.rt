@@ -1,0 +1,232 @@
+//! What a target asks for and a map gives by no item and no rule.
+ghost use Rattle.std.specs.Prelude.{◌≡◌, ◌∷◌, ◌++◌, [], List, Some, map, flat_map, IfOk, OnOk};
+ghost use Rattle.gw_maplang.specs.Seen.{map_value};
+ghost use Rattle.gw_maplang.specs.Shapes.{TableValue};
+ghost use Rattle.gw_profile.specs.Seen.{forest, field as field_value, profile_value};
+ghost use Rattle.gw_resolve.specs.Places as places;
+ghost use Rattle.gw_resolve.specs.Seen.{rule as seen_rule, all_items};
+ghost use Rattle.gw_check.specs.Gaps as spec;
+ghost use Rattle.gw_check.specs.Gathered.{Finds, FindsNode, FindsLevel, FindsItem, FindsItems, all_gaps};
+
+use crate::field::is_missing;
+use crate::inside::fields_at;
+use crate::items::leading;
+use crate::known::rule_of;
+use crate::labels::look_up;
+use crate::level::{has_no_item, usage_of};
+use crate::often::is_expected;
+use gw_maplang::Map;
+use gw_profile::{Card, FieldShape, Level, Node, Profile, Usage};
+use gw_resolve::{Item, Resolving, Rule, SegmentItem, nodes_within};
+use std::alloc::{AllocError, Global};
+
+/// A node that no item gives, by the numbers of the nodes that lead to it from the target's top on and each from 0, or a field of it that no rule gives; and the line of what should hold it.
+#[derive(Drop)]
+pub struct Gap {
+    pub line: u32,
+    pub at: Vec<usize>,
+    pub field: Option<u32>,
+}
+
+fn is_asked(usage: Usage, card: Card) -> bool
+    ensures { result ≡ spec.is_asked usage card }
+{
+    card.min > 0 || is_expected(usage)
+}
+
+// Takes note of a gap, where it is one.
+fn add_if(
+    alloc: Global,
+    found: &mut Vec<Gap>,
+    line: u32,
+    at: &[usize],
+    field: Option<u32>,
+    is_gap: bool,
+) -> Result<(), AllocError>
+    ensures { OnOk result (Finds found.old.items found.new.items (spec.gap_if line at.now field is_gap)) }
+{
+    if !is_gap {
+        return Ok(());
+    }
+    let at = Vec::from_slice(alloc, at)?;
+    found.push(Gap { line, at, field })?;
+    Ok(())
+}
+
+// ---- fields
+
+fn add_field(
+    alloc: Global,
+    found: &mut Vec<Gap>,
+    line: u32,
+    at: &[usize],
+    rules: &[Rule],
+    field: &FieldShape,
+) -> Result<(), AllocError>
+    ensures { (tables : List TableValue) → OnOk result (Finds found.old.items found.new.items (spec.field_gaps line at.now (map (seen_rule tables) rules.now) (field_value field.now))) }
+{
+    let asked = is_asked(field.usage, field.card);
+    let missing = is_missing(rule_of(rules, field.number));
+    add_if(alloc, found, line, at, Some(field.number), asked && missing)
+}
+
+fn add_fields(
+    alloc: Global,
+    found: &mut Vec<Gap>,
+    line: u32,
+    at: &[usize],
+    rules: &[Rule],
+    fields: &[FieldShape],
+) -> Result<(), AllocError>
+    ensures { (tables : List TableValue) → OnOk result (Finds found.old.items found.new.items (flat_map (spec.field_gaps line at.now (map (seen_rule tables) rules.now)) (map field_value fields.now))) }
+{
+    for (i, field) in fields.iter().enumerate() {
+        add_field(alloc, found, line, at, rules, field)?;
+    }
+    Ok(())
+}
+
+// ---- nodes
+
+// The node of this number below a position.
+fn below(alloc: Global, above: &[usize], number: usize) -> Result<Vec<usize>, AllocError>
+    ensures { IfOk result (λ at. at.items ≡ above.now ++ number ∷ []) }
+{
+    let mut at = Vec::from_slice(alloc, above)?;
+    at.push(number)?;
+    Ok(at)
+}
+
+// A node, of which these are the items.
+fn add_node(
+    alloc: Global,
+    found: &mut Vec<Gap>,
+    holder: u32,
+    at: &[usize],
+    node: &Node,
+    items: &[Item],
+) -> Result<(), AllocError>
+    ensures { (tables : List TableValue) → OnOk result (FindsNode tables holder at.now node.now items.now found.old.items found.new.items) }
+{
+    let asked = is_asked(usage_of(node), node.card());
+    let missing = has_no_item(items);
+    add_if(alloc, found, holder, at, None, asked && missing)
+}
+
+// The nodes of a level whose items stand in the group, or the map, at this line.
+fn add_level(
+    alloc: Global,
+    found: &mut Vec<Gap>,
+    holder: u32,
+    above: &[usize],
+    nodes: &[Node],
+    items: &[Item],
+) -> Result<(), AllocError>
+    ensures { (tables : List TableValue) → OnOk result (FindsLevel tables holder above.now (forest nodes.now) items.now found.old.items found.new.items) }
+{
+    let mut done = 0;
+    for (j, node) in nodes.iter().enumerate() {
+        let rest = &items[done..];
+        let count = leading(rest, j);
+        let at = below(alloc, above, j)?;
+        add_node(alloc, found, holder, &at, node, &rest[..count])?;
+        done += count;
+    }
+    Ok(())
+}
+
+// ---- items
+
+// The fields of the segments that an item gives.
+fn add_segment(
+    alloc: Global,
+    found: &mut Vec<Gap>,
+    above: &[usize],
+    nodes: &[Node],
+    segment: &SegmentItem,
+) -> Result<(), AllocError>
+    ensures { (tables : List TableValue) → OnOk result (Finds found.old.items found.new.items (flat_map (spec.field_gaps segment.now.line (above.now ++ segment.now.child ∷ []) (map (seen_rule tables) segment.now.rules.items)) (places.fields_of (places.child (forest nodes.now) segment.now.child)))) }
+{
+    let at = below(alloc, above, segment.child)?;
+    add_fields(
+        alloc,
+        found,
+        segment.line,
+        &at,
+        &segment.rules,
+        fields_at(nodes, segment.child),
+    )
+}
+
+#[cycle(inner)]
+fn add_item(
+    alloc: Global,
+    found: &mut Vec<Gap>,
+    above: &[usize],
+    nodes: &[Node],
+    item: &Item,
+) -> Result<(), AllocError>
+    ensures { (tables : List TableValue) → OnOk result (FindsItem tables above.now (forest nodes.now) item.now found.old.items found.new.items) }
+{
+    match item {
+        Item::Segment(segment) => add_segment(alloc, found, above, nodes, segment),
+        Item::Group(group) => {
+            let at = below(alloc, above, group.child)?;
+            let within = nodes_within(nodes, group.child);
+            add_level(alloc, found, group.line, &at, within, &group.items)?;
+            add_items(alloc, found, &at, within, &group.items)
+        }
+        Item::Flat(flat) => add_items(alloc, found, above, nodes, &flat.items),
+    }
+}
+
+// What is missing within the items of a level with these target nodes.
+#[cycle(inner)]
+fn add_items(
+    alloc: Global,
+    found: &mut Vec<Gap>,
+    above: &[usize],
+    nodes: &[Node],
+    items: &[Item],
+) -> Result<(), AllocError>
+    ensures { (tables : List TableValue) → OnOk result (FindsItems tables above.now (forest nodes.now) items.now found.old.items found.new.items) }
+{
+    for (i, item) in items.iter().enumerate() {
+        add_item(alloc, found, above, nodes, item)?;
+    }
+    Ok(())
+}
+
+// The gaps of a map at this line with these items, between which and these target nodes.
+fn all_found(
+    alloc: Global,
+    line: u32,
+    nodes: &[Node],
+    items: &[Item],
+) -> Result<Vec<Gap>, AllocError>
+    ensures { IfOk result (λ found. (tables : List TableValue) → all_gaps found.items ≡ spec.level_gaps line [] 0 (forest nodes.now) (all_items tables items.now) ++ spec.items_gaps [] (forest nodes.now) (all_items tables items.now)) }
+{
+    let mut found = Vec::new(alloc);
+    add_level(alloc, &mut found, line, &[], nodes, items)?;
+    add_items(alloc, &mut found, &[], nodes, items)?;
+    Ok(found)
+}
+
+/// The segments, groups and fields that the target asks for (at least once, or RE) and to which the map gives no item and no rule: what the rules 5 and 8 fail of where nothing is said.
+///
+/// None are told where the rules on labels (1 to 3) fail. It takes time by the sizes of the profiles and the map. The one error is want of memory.
+pub fn gaps(
+    alloc: Global,
+    source: &Profile,
+    target: &Profile,
+    map: &Map,
+) -> Result<Vec<Gap>, AllocError>
+    ensures { IfOk result (λ found. all_gaps found.items ≡ spec.gaps (profile_value source.now) (profile_value target.now) (map_value map.now)) }
+{
+    let from = Level::of(alloc, source)?;
+    let to = Level::of(alloc, target)?;
+    match look_up(alloc, source, target, &from, &to, map)? {
+        Resolving::Refused(_) => Ok(Vec::new(alloc)),
+        Resolving::Resolved(named) => all_found(alloc, map.line(), target.nodes(), &named.items),
+    }
+}
