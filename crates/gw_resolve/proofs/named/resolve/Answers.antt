@@ -13,8 +13,8 @@ returns-then-is_empty c = λ from to source target.
     let here = sym source in
     let there = sym target in
     let told =
-        named_all (failures c.in_ok-found.found.items) (failures c.new.result.items) (failures c.resolve_items.new.lost.paths.items) (failures c.all_left_out.new.found.items) (failures c.new-2.result.items) (failures c.resolve_items.new.lost.targets.items) _ _ _
-        c.in_ok-found.ensures (ap failures c.new.ensures.items) (ap failures c.new-2.ensures.items) c.in_ok-items.ensures.paths c.in_ok-drops.ensures.failures c.in_ok-items.ensures.targets in
+    named_all (failures c.in_ok-found.found.items) (failures c.new.result.items) (failures c.resolve_items.new.lost.paths.items) (failures c.all_left_out.new.found.items) (failures c.new-2.result.items) (failures c.resolve_items.new.lost.targets.items) _ _ _
+    c.in_ok-found.ensures (ap failures c.new.ensures.items) (ap failures c.new-2.ensures.items) c.in_ok-items.ensures.paths c.in_ok-drops.ensures.failures c.in_ok-items.ensures.targets in
     record {
       none =
           sym
@@ -32,8 +32,8 @@ returns c = λ from to source target.
     let here = sym source in
     let there = sym target in
     let told =
-        named_all (failures c.in_ok-found.found.items) (failures c.new.result.items) (failures c.resolve_items.new.lost.paths.items) (failures c.all_left_out.new.found.items) (failures c.new-2.result.items) (failures c.resolve_items.new.lost.targets.items) _ _ _
-        c.in_ok-found.ensures (ap failures c.new.ensures.items) (ap failures c.new-2.ensures.items) c.in_ok-items.ensures.paths c.in_ok-drops.ensures.failures c.in_ok-items.ensures.targets in
+    named_all (failures c.in_ok-found.found.items) (failures c.new.result.items) (failures c.resolve_items.new.lost.paths.items) (failures c.all_left_out.new.found.items) (failures c.new-2.result.items) (failures c.resolve_items.new.lost.targets.items) _ _ _
+    c.in_ok-found.ensures (ap failures c.new.ensures.items) (ap failures c.new-2.ensures.items) c.in_ok-items.ensures.paths c.in_ok-drops.ensures.failures c.in_ok-items.ensures.targets in
     record {
       all =
           told
