@@ -1,7 +1,5 @@
-use Rattle.std.proofs.Common.{◌≡◌, [], ◌∷◌, ◌++◌, ◌==◌, length, map, flat_map, sym, ap, ◌∙◌, true≢false}
-use Rattle.gw_profile.specs.Seen.{forest}
-use Rattle.gw_profile.specs.Shapes.{ProfileValue}
-use Rattle.gw_maplang.specs.Seen.{all_items, map_value}
+use Rattle.std.proofs.Common.{[], ◌∷◌, ◌++◌, ◌==◌, length, map, flat_map, sym, ap, ◌∙◌, true≢false}
+use Rattle.gw_maplang.specs.Seen.{all_items}
 use Rattle.gw_resolve.specs.Places.{the_whole}
 use Rattle.gw_resolve.specs.Naming as spec
 use Rattle.gw_resolve.specs.Seen.{failures}
