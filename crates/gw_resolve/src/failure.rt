@@ -13,12 +13,7 @@ pub struct Failure {
 }
 
 /// Takes note of the rule's failure at the line, where it is broken. The one error is want of memory.
-pub fn note(
-    found: &mut Vec<Failure>,
-    rule: u8,
-    line: u32,
-    broken: bool,
-) -> Result<(), AllocError>
+pub fn note(found: &mut Vec<Failure>, rule: u8, line: u32, broken: bool) -> Result<(), AllocError>
     ensures { OnOk result (Notes found.old found.new (fails rule line broken)) }
 {
     if !broken {

@@ -187,11 +187,7 @@ pub(crate) fn read_led(
 }
 
 /// Takes note of a path that leads nowhere, or by steps that come often.
-pub(crate) fn note_led(
-    found: &mut Vec<Failure>,
-    line: u32,
-    led: &Led,
-) -> Result<(), AllocError>
+pub(crate) fn note_led(found: &mut Vec<Failure>, line: u32, led: &Led) -> Result<(), AllocError>
     ensures { OnOk result (Notes found.old found.new (fails 1 line (not led.now.leads) ++ fails 2 line (not led.now.once))) }
 {
     note(found, 1, line, !led.leads)?;

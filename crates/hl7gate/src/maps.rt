@@ -114,12 +114,7 @@ fn passed_over(
 }
 
 /// What the rules 5 and 8 fail of where nothing is said, where one of them is the least.
-fn not_given(
-    alloc: Global,
-    rule: u8,
-    sides: &Sides,
-    map: &Map,
-) -> Result<Vec<Gap>, AllocError> {
+fn not_given(alloc: Global, rule: u8, sides: &Sides, map: &Map) -> Result<Vec<Gap>, AllocError> {
     if rule == 5 || rule == 8 {
         return gaps(alloc, &sides.source, &sides.target, map);
     }

@@ -1,7 +1,5 @@
-use Rattle.std.proofs.Common.{◌≡◌, [], ◌∷◌, ◌++◌, ◌==◌, length, map, flat_map, sym, ap, ◌∙◌, true≢false}
-use Rattle.gw_profile.specs.Seen.{forest}
-use Rattle.gw_profile.specs.Shapes.{ProfileValue}
-use Rattle.gw_maplang.specs.Seen.{all_items, map_value}
+use Rattle.std.proofs.Common.{[], ◌∷◌, ◌++◌, ◌==◌, length, map, flat_map, sym, ap, ◌∙◌, true≢false}
+use Rattle.gw_maplang.specs.Seen.{all_items}
 use Rattle.gw_resolve.specs.Places.{the_whole}
 use Rattle.gw_resolve.specs.Naming as spec
 use Rattle.gw_resolve.specs.Seen.{failures}
@@ -13,8 +11,8 @@ returns-then-is_empty c = λ from to source target.
     let here = sym source in
     let there = sym target in
     let told =
-        named_all (failures c.in_ok-found.found.items) (failures c.new.result.items) (failures c.resolve_items.new.lost.paths.items) (failures c.all_left_out.new.found.items) (failures c.new-2.result.items) (failures c.resolve_items.new.lost.targets.items) _ _ _
-        c.in_ok-found.ensures (ap failures c.new.ensures.items) (ap failures c.new-2.ensures.items) c.in_ok-items.ensures.paths c.in_ok-drops.ensures.failures c.in_ok-items.ensures.targets in
+    named_all (failures c.in_ok-found.found.items) (failures c.new.result.items) (failures c.resolve_items.new.lost.paths.items) (failures c.all_left_out.new.found.items) (failures c.new-2.result.items) (failures c.resolve_items.new.lost.targets.items) _ _ _
+    c.in_ok-found.ensures (ap failures c.new.ensures.items) (ap failures c.new-2.ensures.items) c.in_ok-items.ensures.paths c.in_ok-drops.ensures.failures c.in_ok-items.ensures.targets in
     record {
       none =
           sym
@@ -32,8 +30,8 @@ returns c = λ from to source target.
     let here = sym source in
     let there = sym target in
     let told =
-        named_all (failures c.in_ok-found.found.items) (failures c.new.result.items) (failures c.resolve_items.new.lost.paths.items) (failures c.all_left_out.new.found.items) (failures c.new-2.result.items) (failures c.resolve_items.new.lost.targets.items) _ _ _
-        c.in_ok-found.ensures (ap failures c.new.ensures.items) (ap failures c.new-2.ensures.items) c.in_ok-items.ensures.paths c.in_ok-drops.ensures.failures c.in_ok-items.ensures.targets in
+    named_all (failures c.in_ok-found.found.items) (failures c.new.result.items) (failures c.resolve_items.new.lost.paths.items) (failures c.all_left_out.new.found.items) (failures c.new-2.result.items) (failures c.resolve_items.new.lost.targets.items) _ _ _
+    c.in_ok-found.ensures (ap failures c.new.ensures.items) (ap failures c.new-2.ensures.items) c.in_ok-items.ensures.paths c.in_ok-drops.ensures.failures c.in_ok-items.ensures.targets in
     record {
       all =
           told
