@@ -1,5 +1,5 @@
 -- A map has the name that its first line says.
-use Rattle.std.proofs.Common.{◌≡◌, ◌⊎◌, inl, inr, ℕ, ◌+◌, Bool, true, false, List, [], ◌∷◌, ◌++◌, length, reverse, Option, Some, None, Result, Ok, Err, refl, sym, ap, ◌∙◌, subst}
+use Rattle.std.proofs.Common.{◌≡◌, inl, inr, ℕ, ◌+◌, Bool, true, false, List, [], ◌∷◌, length, reverse, Option, Some, None, Result, Ok, Err, refl, sym, ap, ◌∙◌, subst}
 use Rattle.std.specs.Prelude.{if◌then◌else◌, IfSome, codes}
 use Rattle.std.specs.Option.{is_some}
 use Rattle.gw_lines.specs.Words.{Word, lines}
@@ -17,7 +17,6 @@ use Rattle.gw_maplang.specs.Fault.{grammar, tests, takes}
 use Rattle.gw_maplang.specs.Value.{head}
 use Rattle.gw_maplang.specs.Whole.{is_unclosed, map_of, whole, most_bytes, most_lines, spelled}
 use Rattle.gw_profile.proofs.Shaped.{any, gives, map_gives, either_gives, with_all_is}
-use Rattle.gw_plan.specs.declared.fault.PlanFault.{PlanFault}
 use Rattle.gw_plan.specs.declared.fault.PlanFault.TheVariants.{Duplicate}
 use Rattle.gw_plan.specs.Shapes.{MapBetween}
 use Rattle.gw_profile.specs.Shapes.{ProfileValue}

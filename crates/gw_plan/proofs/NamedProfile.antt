@@ -1,8 +1,8 @@
 -- A profile has the name that its first line says.
-use Rattle.std.proofs.Common.{◌≡◌, ◌⊎◌, inl, inr, ℕ, ◌+◌, Bool, true, false, List, [], ◌∷◌, ◌++◌, reverse, Option, Some, None, Result, Ok, Err, refl, sym, ap, ◌∙◌, subst}
+use Rattle.std.proofs.Common.{◌≡◌, inl, inr, ℕ, ◌+◌, Bool, true, false, List, [], ◌∷◌, reverse, Option, Some, None, Ok, refl, sym, ap, ◌∙◌, subst}
 use Rattle.std.specs.Prelude.{if◌then◌else◌, IfSome, codes}
 use Rattle.std.specs.Option.{is_some}
-use Rattle.gw_lines.specs.Words.{Word, lines}
+use Rattle.gw_lines.specs.Words.{Word}
 use Rattle.gw_lines.specs.Spelled.{is_keyword}
 use Rattle.gw_lines.specs.Parts.{◌>>=◌, name_at, segment_at, number_at, some_values, with_all}
 use Rattle.gw_lines.specs.Reading.{first_of, accepted}
@@ -12,11 +12,10 @@ use Rattle.gw_profile.specs.Shapes.{ProfileValue}
 use Rattle.gw_profile.specs.Line.{Line, Begins, Table, Segment, Field, Comp, Sub, Group, End, profile_form, table_form, segment_form, field_form, comp_form, sub_form, group_form, form}
 use Rattle.gw_profile.specs.Line.{label_at, usage_at, card_at, options, leaf_options}
 use Rattle.gw_profile.specs.Fault.{grammar, tests, takes}
-use Rattle.gw_profile.specs.Value.{name_of, profile}
+use Rattle.gw_profile.specs.Value.{name_of}
 use Rattle.gw_profile.specs.Whole.{is_unclosed, spelled}
 use Rattle.gw_profile.proofs.Plain.{spelled_read}
 use Rattle.gw_profile.proofs.Shaped.{any, gives, either_gives, with_all_is}
-use Rattle.gw_plan.specs.declared.fault.PlanFault.{PlanFault}
 use Rattle.gw_plan.specs.declared.fault.PlanFault.TheVariants.{Duplicate}
 use Rattle.gw_plan.specs.Above.{named_profile}
 use Rattle.gw_plan.specs.Inner.{Inner, text, broken, common, first_said, profile_head_of, profile_head, profile_again, profile_faults_beside}

@@ -1,16 +1,15 @@
 -- Lines that are joined are cut again.
-use Rattle.std.proofs.Common.{◌≡◌, ℕ, zero, suc, ◌+◌, ◌-◌, Bool, true, false, List, [], ◌∷◌, ◌++◌, length, get_or, take, Option, Some, None, refl, sym, ap, ◌∙◌, subst, arith, append_assoc}
+use Rattle.std.proofs.Common.{◌≡◌, ℕ, zero, suc, ◌+◌, ◌-◌, Bool, true, false, List, [], ◌∷◌, ◌++◌, length, get_or, take, Some, None, refl, sym, ap, ◌∙◌, subst, arith, append_assoc}
 use Rattle.std.proofs.Common.{length-append}
-use Rattle.std.specs.Prelude.{◌&&◌, ◌==◌, not, cond, slice_index, if◌then◌else◌}
-use Rattle.std.specs.List.{AllByRecursion, list_all, flat_map, slice_split, onto_first}
+use Rattle.std.specs.Prelude.{◌==◌, not, cond, slice_index, if◌then◌else◌}
+use Rattle.std.specs.List.{AllByRecursion, list_all, slice_split, onto_first}
 use Rattle.std.specs.Option.{is_some}
 use Rattle.std.proofs.lemmas.List.{append-nil, get_or-append-add}
 use Rattle.std.proofs.lemmas.Bool.Decides.{Decides-eqb}
 use Rattle.std.proofs.Math.Seq.{take-append_seam}
-use Rattle.gw_lines.specs.Words.{Word, without_last, is_line_end, lines, is_lawful, is_comment, words_from, words_within, words}
+use Rattle.gw_lines.specs.Words.{without_last, is_line_end, lines, is_lawful, is_comment, words_from, words}
 use Rattle.gw_profile.proofs.Facts.{both, and_of, not_is, true_not, if_true}
 use Rattle.gw_profile.proofs.Numerals.{all_map}
-use Rattle.gw_plan.specs.declared.fault.PlanFault.{PlanFault}
 use Rattle.gw_plan.specs.declared.fault.PlanFault.TheVariants.{Syntax}
 use Rattle.gw_plan.specs.Joined.{joined}
 use Rattle.gw_plan.specs.Inner.{broken}

@@ -1,4 +1,4 @@
-use Rattle.std.proofs.Common.{◌≡◌, ◌∙◌, ap, map, List, ◌++◌, ◌∷◌, [], sym, subst}
+use Rattle.std.proofs.Common.{◌≡◌, ◌∙◌, ap, map, List, sym, subst}
 use Rattle.std.specs.Arc.{arc_value}
 use Rattle.gw_maplang.specs.Seen as maps
 use Rattle.gw_check.specs.CheckedMap.{CheckedValue}

@@ -1,4 +1,4 @@
-use Rattle.std.proofs.Common.{◌≡◌, ◌∙◌, ap, map, List, ◌++◌, ◌∷◌, []}
+use Rattle.std.proofs.Common.{◌≡◌, ◌∙◌, ap, map, List}
 use Rattle.std.specs.Arc.{arc_value}
 use Rattle.gw_profile.specs.Seen as profiles
 use Rattle.gw_plan.specs.Above.{AboveHeld, profiles_of, with_profile, named_profile}

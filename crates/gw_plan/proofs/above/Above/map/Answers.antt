@@ -1,9 +1,8 @@
-use Rattle.std.proofs.Common.{◌∙◌, ap, map, subst, List}
+use Rattle.std.proofs.Common.{◌∙◌, ap, subst, List}
 use Rattle.std.specs.Arc.{arc_value}
 use Rattle.std.specs.Option.{IfSome}
 use Rattle.gw_profile.specs.Seen.{profile_value}
 use Rattle.gw_profile.specs.Shapes.{ProfileValue}
-use Rattle.gw_check.specs.CheckedMap.{CheckedValue}
 use Rattle.gw_plan.specs.Shapes.{MapBetween}
 use Rattle.gw_plan.specs.Held.{map_between}
 use Rattle.gw_plan.specs.Above.{AboveHeld, BeginsAt, profiles_of, maps_of, named_map}
