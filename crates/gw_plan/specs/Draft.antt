@@ -91,16 +91,26 @@ abbrev pub delivered : Draft → ℕ → Option RouteValue → List ℕ → List
 delivered d at None receiver map = Err (Syntax at)
 delivered d at (Some route) receiver map = with_leg d at route (receiver_number d receiver) (map_named d map)
 
+-- a receiver, a route and a leg more
+abbrev pub adds_receiver : Draft → ℕ → List ℕ → List ℕ → Result Draft PlanFault
+adds_receiver d at name address = with_receiver (closed d) at name address
+
+abbrev pub adds_route : Draft → ℕ → List ℕ → List ℕ → List ℕ → Result Draft PlanFault
+adds_route d at code event profile = with_route (closed d) at code event (profile_named d profile)
+
+abbrev pub adds_leg : Draft → ℕ → List ℕ → List ℕ → Result Draft PlanFault
+adds_leg d at receiver map = delivered d at d.current receiver map
+
 -- what a line makes of a plan that is begun; lines that open an inner text are not among them
 abbrev pub below : Draft → ℕ → Line → Result Draft PlanFault
 below d at (Begins name) = Err (Syntax at)
-below d at (Receives name address) = with_receiver (closed d) at name address
+below d at (Receives name address) = adds_receiver d at name address
 below d at (Versions accepted) = Ok (with_versions d accepted)
 below d at (Processing accepted) = Ok (with_processing d accepted)
 below d at OpensProfile = Err (Syntax at)
 below d at OpensMap = Err (Syntax at)
-below d at (Routes code event profile) = with_route (closed d) at code event (profile_named d profile)
-below d at (Delivers receiver map) = delivered d at d.current receiver map
+below d at (Routes code event profile) = adds_route d at code event profile
+below d at (Delivers receiver map) = adds_leg d at receiver map
 
 -- the first line says that the text is a plan, and no other does
 abbrev pub first : Draft → ℕ → Line → Result Draft PlanFault

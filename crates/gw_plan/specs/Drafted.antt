@@ -1,10 +1,13 @@
 -- What the program holds of a plan so far, and what it stands for.
-use Rattle.std.specs.Prelude.{◌≡◌, ℕ, List, ◌++◌, map, Some, Ok}
+use Rattle.std.specs.Prelude.{◌≡◌, ℕ, List, ◌++◌, map, Some, Result, Ok}
 use Rattle.std.specs.Option.{option_map, option_to_list, IfSome}
+use Rattle.gw_lines.specs.Reading.{Gives}
 use Rattle.gw_profile.specs.Shapes.{ProfileValue}
 use Rattle.gw_profile.specs.Seen.{profile_value}
 use Rattle.gw_check.specs.CheckedMap.{CheckedValue}
 use Rattle.gw_plan.specs.declared.draft.Draft as declared
+use Rattle.gw_plan.specs.declared.fault.PlanFault.{PlanFault}
+use Rattle.gw_plan.specs.declared.fault.PlanFault.TheVariants.{Memory}
 use Rattle.gw_plan.specs.declared.route_list.RouteList.{RouteList}
 use Rattle.gw_plan.specs.Held.{RouteHeld, route_value, longer, IsNewLeg}
 use Rattle.gw_plan.specs.Above.{profiles_of, maps_of, named_profile}
@@ -12,7 +15,7 @@ use Rattle.gw_plan.specs.Index.{Indexes}
 use Rattle.gw_plan.specs.Seen.{bytes_all}
 use Rattle.gw_plan.specs.Kept.{key_of}
 use Rattle.gw_plan.specs.Draft as Spec
-use Rattle.gw_plan.specs.Draft.{delivered}
+use Rattle.gw_plan.specs.Draft.{adds_leg}
 
 -- ---- routes
 
@@ -50,9 +53,13 @@ pub record IsKept (d : declared.Draft) : Type 0 where
 -- a `to` line leads from the current route to this receiver by this map
 pub record Leads (d : declared.Draft) (at : ℕ) (receiver map : List ℕ) (number : ℕ) (by : CheckedValue) : Type 0 where
   pub new : IfSome d.routes.current (IsNewLeg number by)
-  pub delivers : delivered (draft_value d) at (draft_value d).current receiver map
+  pub delivers : adds_leg (draft_value d) at receiver map
       ≡ Ok (record (draft_value d) { current = option_map (λ r. route_value (longer number by r)) d.routes.current })
 
--- a plan so far, with how many lines more were taken
-abbrev pub counted : declared.Draft → ℕ → Spec.Draft × ℕ
-counted d count = (draft_value d, count)
+-- what a call made of a plan so far is what was said, unless memory ran out
+abbrev pub Makes : {X : Type 0} → declared.Draft → Result X PlanFault → Result Spec.Draft PlanFault → Type 0
+Makes {X} new result said = Gives Memory (λ (_ : X). draft_value new) result said
+
+-- the same with how many of the lines that follow were taken
+abbrev pub MakesBy : declared.Draft → Result ℕ PlanFault → Result (Spec.Draft × ℕ) PlanFault → Type 0
+MakesBy new result said = Gives Memory (λ count. (draft_value new, count)) result said

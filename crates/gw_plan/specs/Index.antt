@@ -1,5 +1,5 @@
 -- How a route is found by its code and event.
-use Rattle.std.specs.Prelude.{◌≡◌, ℕ, true, Bool, ◌&&◌, if◌then◌else◌, List, [], ◌∷◌, ◌++◌, Option, Some, None, bytes_eq, Result, Ok, Err}
+use Rattle.std.specs.Prelude.{◌≡◌, ℕ, true, false, Bool, ◌&&◌, if◌then◌else◌, List, [], ◌∷◌, ◌++◌, Option, Some, None, bytes_eq, Result, Ok, Err}
 use Rattle.std.specs.List.{list_any, position_from, AllZip, AllByRecursion}
 use Rattle.std.specs.Global.{Vec}
 use Rattle.gw_plan.specs.declared.index.Index.{Index}
@@ -41,3 +41,7 @@ pub record IsIndexed (codes events : List (Vec ℕ)) (pairs : List (ℕ × ℕ))
 
 abbrev pub Indexes : Index → List Key → Type 0
 Indexes index keys = IsIndexed index.codes.keys index.events.keys index.pairs.keys keys
+
+-- a key more that is new
+abbrev pub Adds : List ℕ → List ℕ → Index → Index → Type 0
+Adds code event old new = (keys : List Key) → Indexes old keys → list_any (is_key code event) keys ≡ false → Indexes new (with_key code event keys)

@@ -30,10 +30,17 @@ and_lines count (Err fault) = Err fault
 abbrev pub begun_inner : Draft → ℕ → List (List ℕ) → Result Draft PlanFault → Taken
 begun_inner d at more taken = if d.begun then and_lines (lines_of_inner more) taken else Err (Syntax at)
 
+-- begin profile, begin map
+abbrev pub takes_inner_profile : Draft → ℕ → List (List ℕ) → Taken
+takes_inner_profile d at more = begun_inner d at more (takes_profile d (inner at more))
+
+abbrev pub takes_inner_map : Draft → ℕ → List (List ℕ) → Taken
+takes_inner_map d at more = begun_inner d at more (takes_map d (inner at more))
+
 abbrev pub takes_line : Draft → ℕ → Option Line → List (List ℕ) → Taken
 takes_line d at None more = Err (Syntax at)
-takes_line d at (Some OpensProfile) more = begun_inner d at more (takes_profile d (inner at more))
-takes_line d at (Some OpensMap) more = begun_inner d at more (takes_map d (inner at more))
+takes_line d at (Some OpensProfile) more = takes_inner_profile d at more
+takes_line d at (Some OpensMap) more = takes_inner_map d at more
 takes_line d at (Some line) more = and_lines 0 (takes d at line)
 
 -- a line is broken, or passed over, or taken with those of its inner text

@@ -1,10 +1,8 @@
 //! A plan so far, line by line.
 ghost use Rattle.std.specs.Prelude.{◌≡◌, IfOk, IfErr, OnOk, None, Err};
 ghost use Rattle.std.specs.Arc.{arc_value};
-ghost use Rattle.gw_lines.specs.Reading.{Gives};
-ghost use Rattle.gw_plan.specs.declared.fault.PlanFault.TheVariants as fault;
 ghost use Rattle.gw_plan.specs.Draft as spec;
-ghost use Rattle.gw_plan.specs.Drafted.{draft_value, IsKept, Leads};
+ghost use Rattle.gw_plan.specs.Drafted.{draft_value, IsKept, Leads, Makes};
 ghost use Rattle.gw_plan.specs.Inner.{takes_profile, takes_map};
 ghost use Rattle.gw_plan.specs.Made.{inner, IsNumbered};
 ghost use Rattle.gw_plan.specs.Seen.{now_all, line};
@@ -68,7 +66,7 @@ impl Draft {
         address: &[u8],
     ) -> Result<(), PlanFault>
         requires { IsKept self.old }
-        ensures value { Gives fault.Memory (λ _. draft_value self.new) result (spec.with_receiver (spec.closed (draft_value self.old)) at name.now address.now) }
+        ensures value { Makes self.new result (spec.adds_receiver (draft_value self.old) at name.now address.now) }
         ensures kept { OnOk result (IsKept self.new) }
     {
         self.close()?;
@@ -109,7 +107,7 @@ impl Draft {
         profile: &[u8],
     ) -> Result<(), PlanFault>
         requires { IsKept self.old }
-        ensures value { Gives fault.Memory (λ _. draft_value self.new) result (spec.with_route (spec.closed (draft_value self.old)) at code.now event.now (spec.profile_named (draft_value self.old) profile.now)) }
+        ensures value { Makes self.new result (spec.adds_route (draft_value self.old) at code.now event.now profile.now) }
         ensures kept { OnOk result (IsKept self.new) }
     {
         self.close()?;
@@ -132,7 +130,7 @@ impl Draft {
         map: &[u8],
     ) -> Result<(usize, &Arc<CheckedMap>), PlanFault>
         requires { IsKept self.now }
-        ensures fault { IfErr result (λ e. spec.delivered (draft_value self.now) at (draft_value self.now).current receiver.now map.now ≡ Err e) }
+        ensures fault { IfErr result (λ e. spec.adds_leg (draft_value self.now) at receiver.now map.now ≡ Err e) }
         ensures leads { IfOk result (λ l. Leads self.now at receiver.now map.now l.0 (arc_value l.1.now)) }
     {
         let Some(route) = &self.routes.current else {
@@ -156,7 +154,7 @@ impl Draft {
     // to RECEIVER by MAP
     fn deliver(&mut self, at: u64, receiver: &[u8], map: &[u8]) -> Result<(), PlanFault>
         requires { IsKept self.old }
-        ensures value { Gives fault.Memory (λ _. draft_value self.new) result (spec.delivered (draft_value self.old) at (draft_value self.old).current receiver.now map.now) }
+        ensures value { Makes self.new result (spec.adds_leg (draft_value self.old) at receiver.now map.now) }
         ensures kept { OnOk result (IsKept self.new) }
     {
         let (number, map) = self.leg(at, receiver, map)?;
@@ -168,7 +166,7 @@ impl Draft {
     // A line below the first.
     fn below(&mut self, alloc: Global, at: u64, whole: &Line<'_>) -> Result<(), PlanFault>
         requires { IsKept self.old }
-        ensures value { Gives fault.Memory (λ _. draft_value self.new) result (spec.below (draft_value self.old) at (line whole.now)) }
+        ensures value { Makes self.new result (spec.below (draft_value self.old) at (line whole.now)) }
         ensures kept { OnOk result (IsKept self.new) }
     {
         match whole {
@@ -186,7 +184,7 @@ impl Draft {
     // The first line.
     fn begin(&mut self, at: u64, whole: &Line<'_>) -> Result<(), PlanFault>
         requires { IsKept self.old }
-        ensures value { Gives fault.Memory (λ _. draft_value self.new) result (spec.first (draft_value self.old) at (line whole.now)) }
+        ensures value { Makes self.new result (spec.first (draft_value self.old) at (line whole.now)) }
         ensures kept { OnOk result (IsKept self.new) }
     {
         let Line::Begins(_) = whole else {
@@ -199,7 +197,7 @@ impl Draft {
     /// Takes a line of the plan's own; `at` is its number.
     pub fn take(&mut self, alloc: Global, at: u64, whole: &Line<'_>) -> Result<(), PlanFault>
         requires { IsKept self.old }
-        ensures value { Gives fault.Memory (λ _. draft_value self.new) result (spec.takes (draft_value self.old) at (line whole.now)) }
+        ensures value { Makes self.new result (spec.takes (draft_value self.old) at (line whole.now)) }
         ensures kept { OnOk result (IsKept self.new) }
     {
         if self.begun {
@@ -213,7 +211,7 @@ impl Draft {
     pub fn add_profile(&mut self, alloc: Global, part: &Inner<'_, '_>) -> Result<(), PlanFault>
         requires kept { IsKept self.old }
         requires numbered { IsNumbered (inner part.now) }
-        ensures value { Gives fault.Memory (λ _. draft_value self.new) result (takes_profile (draft_value self.old) (inner part.now)) }
+        ensures value { Makes self.new result (takes_profile (draft_value self.old) (inner part.now)) }
         ensures kept { OnOk result (IsKept self.new) }
     {
         self.close()?;
@@ -226,7 +224,7 @@ impl Draft {
     pub fn add_map(&mut self, alloc: Global, part: &Inner<'_, '_>) -> Result<(), PlanFault>
         requires kept { IsKept self.old }
         requires numbered { IsNumbered (inner part.now) }
-        ensures value { Gives fault.Memory (λ _. draft_value self.new) result (takes_map (draft_value self.old) (inner part.now)) }
+        ensures value { Makes self.new result (takes_map (draft_value self.old) (inner part.now)) }
         ensures kept { OnOk result (IsKept self.new) }
     {
         self.close()?;

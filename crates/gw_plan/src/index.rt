@@ -1,7 +1,7 @@
 //! Routes by code and event.
-ghost use Rattle.std.specs.Prelude.{◌≡◌, [], List, OnOk, false};
+ghost use Rattle.std.specs.Prelude.{◌≡◌, [], List, OnOk};
 ghost use Rattle.std.specs.List.{list_any};
-ghost use Rattle.gw_plan.specs.Index.{Key, Indexes, number_for, is_key, with_key};
+ghost use Rattle.gw_plan.specs.Index.{Key, Indexes, Adds, number_for, is_key};
 
 use indexmap::IndexSet;
 use std::alloc::{AllocError, Global};
@@ -51,7 +51,7 @@ impl Index {
 
     /// Adds a route behind the others.
     pub fn push(&mut self, alloc: Global, code: &[u8], event: &[u8]) -> Result<(), AllocError>
-        ensures { OnOk result ((keys : List Key) → Indexes self.old keys → list_any (is_key code.now event.now) keys ≡ false → Indexes self.new (with_key code.now event.now keys)) }
+        ensures { OnOk result (Adds code.now event.now self.old self.new) }
     {
         let (code, _) = self.codes.insert_full(Vec::from_slice(alloc, code)?)?;
         let (event, _) = self.events.insert_full(Vec::from_slice(alloc, event)?)?;

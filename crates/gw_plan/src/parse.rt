@@ -5,9 +5,8 @@ ghost use Rattle.gw_lines.specs.Seen.{word};
 ghost use Rattle.gw_lines.specs.Words.{words};
 ghost use Rattle.gw_plan.specs.declared.fault.PlanFault.TheVariants as fault;
 ghost use Rattle.gw_plan.specs.Draft.{nothing};
-ghost use Rattle.gw_plan.specs.Drafted.{draft_value, IsKept, counted};
+ghost use Rattle.gw_plan.specs.Drafted.{draft_value, IsKept, Makes, MakesBy};
 ghost use Rattle.gw_plan.specs.Held.{plan_value};
-ghost use Rattle.gw_plan.specs.Inner as inners;
 ghost use Rattle.gw_plan.specs.Line as lines;
 ghost use Rattle.gw_plan.specs.Made.{inner};
 ghost use Rattle.gw_plan.specs.Seen.{line, now_all};
@@ -66,7 +65,7 @@ fn take_profile(
 ) -> Result<usize, PlanFault>
     requires kept { IsKept draft.old }
     requires few { at + length more.now < 4294967296 }
-    ensures value { Gives fault.Memory (counted draft.new) result (spec.begun_inner (draft_value draft.old) at (now_all more.now) (inners.takes_profile (draft_value draft.old) (spec.inner at (now_all more.now)))) }
+    ensures value { MakesBy draft.new result (spec.takes_inner_profile (draft_value draft.old) at (now_all more.now)) }
     ensures kept { OnOk result (IsKept draft.new) }
 {
     if !draft.begun {
@@ -81,7 +80,7 @@ fn take_profile(
 fn take_map(alloc: Global, draft: &mut Draft, at: u64, more: &[&[u8]]) -> Result<usize, PlanFault>
     requires kept { IsKept draft.old }
     requires few { at + length more.now < 4294967296 }
-    ensures value { Gives fault.Memory (counted draft.new) result (spec.begun_inner (draft_value draft.old) at (now_all more.now) (inners.takes_map (draft_value draft.old) (spec.inner at (now_all more.now)))) }
+    ensures value { MakesBy draft.new result (spec.takes_inner_map (draft_value draft.old) at (now_all more.now)) }
     ensures kept { OnOk result (IsKept draft.new) }
 {
     if !draft.begun {
@@ -102,7 +101,7 @@ fn take_line(
 ) -> Result<usize, PlanFault>
     requires kept { IsKept draft.old }
     requires few { at + length more.now < 4294967296 }
-    ensures value { Gives fault.Memory (counted draft.new) result (spec.takes_line (draft_value draft.old) at (Some (line whole.now)) (now_all more.now)) }
+    ensures value { MakesBy draft.new result (spec.takes_line (draft_value draft.old) at (Some (line whole.now)) (now_all more.now)) }
     ensures kept { OnOk result (IsKept draft.new) }
 {
     match whole {
@@ -125,7 +124,7 @@ fn take_words(
 ) -> Result<usize, PlanFault>
     requires kept { IsKept draft.old }
     requires few { at + length more.now < 4294967296 }
-    ensures value { Gives fault.Memory (counted draft.new) result (spec.takes_line (draft_value draft.old) at (lines.form (map word words.now)) (now_all more.now)) }
+    ensures value { MakesBy draft.new result (spec.takes_line (draft_value draft.old) at (lines.form (map word words.now)) (now_all more.now)) }
     ensures kept { OnOk result (IsKept draft.new) }
 {
     let Some(whole) = form(alloc, words)? else {
@@ -144,7 +143,7 @@ fn take_bytes(
 ) -> Result<usize, PlanFault>
     requires kept { IsKept draft.old }
     requires few { at + length more.now < 4294967296 }
-    ensures value { Gives fault.Memory (counted draft.new) result (spec.takes_words (draft_value draft.old) at (words bytes.now) (now_all more.now)) }
+    ensures value { MakesBy draft.new result (spec.takes_words (draft_value draft.old) at (words bytes.now) (now_all more.now)) }
     ensures kept { OnOk result (IsKept draft.new) }
 {
     let Some(words) = words_of(alloc, bytes)? else {
@@ -167,7 +166,7 @@ fn take_next(
 ) -> Result<usize, PlanFault>
     requires kept { IsKept draft.old }
     requires few { at + length more.now < 4294967296 }
-    ensures value { Gives fault.Memory (counted draft.new) result (spec.takes_next (draft_value draft.old) skip at bytes.now (now_all more.now)) }
+    ensures value { MakesBy draft.new result (spec.takes_next (draft_value draft.old) skip at bytes.now (now_all more.now)) }
     ensures kept { OnOk result (IsKept draft.new) }
 {
     if skip > 0 {
@@ -180,7 +179,7 @@ fn take_next(
 fn take_lines(alloc: Global, draft: &mut Draft, all: &[&[u8]]) -> Result<(), PlanFault>
     requires kept { IsKept draft.old }
     requires few { length all.now ≤ spec.most_lines }
-    ensures value { Gives fault.Memory (λ _. draft_value draft.new) result (spec.reads (draft_value draft.old) 0 1 (now_all all.now)) }
+    ensures value { Makes draft.new result (spec.reads (draft_value draft.old) 0 1 (now_all all.now)) }
     ensures kept { OnOk result (IsKept draft.new) }
 {
     let mut skip: usize = 0;
@@ -194,7 +193,7 @@ fn take_lines(alloc: Global, draft: &mut Draft, all: &[&[u8]]) -> Result<(), Pla
 fn take_text(alloc: Global, draft: &mut Draft, text: &[u8]) -> Result<(), PlanFault>
     requires kept { IsKept draft.old }
     requires nothing { draft_value draft.old ≡ nothing }
-    ensures value { Gives fault.Memory (λ _. draft_value draft.new) result (spec.drafted text.now) }
+    ensures value { Makes draft.new result (spec.drafted text.now) }
     ensures kept { OnOk result (IsKept draft.new) }
 {
     if text.len() > MOST_BYTES {
@@ -215,7 +214,7 @@ fn take_text(alloc: Global, draft: &mut Draft, text: &[u8]) -> Result<(), PlanFa
 fn take_copy(alloc: Global, draft: &mut Draft, text: &[u8]) -> Result<Vec<u8>, PlanFault>
     requires kept { IsKept draft.old }
     requires nothing { draft_value draft.old ≡ nothing }
-    ensures value { Gives fault.Memory (λ _. draft_value draft.new) result (spec.drafted text.now) }
+    ensures value { Makes draft.new result (spec.drafted text.now) }
     ensures copy { IfOk result (λ copy. copy.items ≡ text.now) }
     ensures kept { OnOk result (IsKept draft.new) }
 {
