@@ -12,6 +12,8 @@ mod desks;
 #[cfg(test)]
 mod failures;
 #[cfg(test)]
+mod gates;
+#[cfg(test)]
 mod hospital;
 #[cfg(test)]
 mod maps;
