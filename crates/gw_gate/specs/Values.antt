@@ -1,5 +1,5 @@
 -- Events, replies and entries, without where their parts lie in memory.
-use Rattle.std.specs.Prelude.{List, map, Option, None, Some, Result, Ok, Err, option_map}
+use Rattle.std.specs.Prelude.{List, map, Option, Result, Ok, Err, option_map}
 use Rattle.std.specs.Arc.{arc_value}
 use Rattle.gw_gate.specs.declared.event.Event as event
 use Rattle.gw_gate.specs.declared.event.Reply as reply

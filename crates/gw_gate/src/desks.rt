@@ -51,10 +51,7 @@ fn widen(
 }
 
 // Room at a receiver's desk for one more due number.
-fn reserve_at(
-    desks: &mut Vec<Desk<Arc<Translated>>>,
-    receiver: usize,
-) -> Result<(), AllocError>
+fn reserve_at(desks: &mut Vec<Desk<Arc<Translated>>>, receiver: usize) -> Result<(), AllocError>
     requires { receiver < length desks.old.items }
     ensures roomier { AreRoomier desks.old.items desks.new.items }
     ensures ok { OnOk result (0 < (desk_at desks.new.items receiver).room) }
