@@ -11,7 +11,7 @@ use Rattle.gw_reorder.specs.declared.desk.Status.TheVariants.{Waiting}
 use Rattle.gw_reorder.proofs.Steps.{more_given}
 use Rattle.gw_reorder.proofs.Places.{equals, differs}
 use Rattle.gw_gate.specs.Parts.{PlanSeen, ConformingSeen, TranslatedSeen, is_under, same_source}
-use Rattle.gw_gate.specs.Journal.{EntrySeen, Pair, Acceptance, accepted, acceptance, issued, jobs, due, is_due, kept, released, current, next_number, next_arrival}
+use Rattle.gw_gate.specs.Journal.{EntrySeen, Pair, Acceptance, accepted, acceptance, issued, due, is_due, kept, released, current, next_number, next_arrival}
 use Rattle.gw_gate.specs.Replies.{ReplySeen, Arrives, IsAccepted, IsStale, most, Takes, Puts, Reissues, Releases, IsStranger, IsRepeat, IsKept, IsDone, IsIssued, IsOut, IsNothing, job_with, job_of, is_of, is_kept, out_with, out_of, reply_to}
 use Rattle.gw_gate.specs.Headline.{CountFrom}
 use Rattle.gw_gate.specs.Books.{given, StandsAt, BooksSeen, Fits, journal_of, FitsQueue, job_by, next_job, job_reply, put_reply, issue_reply, release_reply}

@@ -1,11 +1,11 @@
 -- What a step answers, by the row of its event.
-use Rattle.std.proofs.Common.{◌≡◌, ◌≢◌, ◌<◌, ◌≤◌, ◌&&◌, ◌∙◌, ℕ, Bool, true, false, if◌then◌else◌, List, [], ◌∷◌, ◌++◌, Option, None, Some, is_some, length, refl, sym, ap, subst, arith}
+use Rattle.std.proofs.Common.{◌≡◌, ◌<◌, ◌&&◌, ◌∙◌, ℕ, Bool, true, false, if◌then◌else◌, List, [], ◌∷◌, ◌++◌, Option, None, Some, is_some, length, refl, sym, ap, subst, arith}
 use Rattle.std.specs.Prelude.{nat_le, IsTrue}
 use Rattle.std.proofs.lemmas.Grind.{common_steps}
 use Rattle.gw_gate.specs.declared.event.Entry.{Entry}
 use Rattle.gw_gate.specs.Parts.{PlanSeen}
 use Rattle.gw_gate.specs.Journal.{EntrySeen, Journal, with_entry}
-use Rattle.gw_gate.specs.Replies.{EventSeen, ReplySeen, IsCurrent, IsFull, reply_to, added, most, limited, reply, with_added, after, takes_memory, Replied, Refused, noted, Noted}
+use Rattle.gw_gate.specs.Replies.{EventSeen, ReplySeen, IsCurrent, IsFull, reply_to, added, most, limited, reply, with_added, takes_memory, Refused, noted, Noted}
 use Rattle.gw_gate.specs.Values.{entry_seen, entries_seen}
 use Rattle.gw_gate.specs.Books.{journal_of}
 use Rattle.gw_gate.proofs.Entering.{entered, as_long}

@@ -1,12 +1,10 @@
 -- What the calls of plans, messages and translations answer, in the gate's words.
-use Rattle.std.proofs.Common.{◌≡◌, ◌↔◌, ◌&&◌, ◌==◌, ◌<◌, ◌≤◌, ◌∙◌, ℕ, Bool, true, false, IsTrue, List, [], ◌∷◌, map, length, slice_get, Option, None, Some, option_map, refl, sym, ap, subst, eq-eqb, eqb-true, arith}
+use Rattle.std.proofs.Common.{◌≡◌, ◌↔◌, ◌&&◌, ◌==◌, ◌∙◌, ℕ, Bool, true, false, IsTrue, List, [], ◌∷◌, map, length, slice_get, Some, refl, sym, ap, arith}
 use Rattle.std.specs.Prelude.{Result, Ok, Err, bytes_eq, nat_eq, ◌||◌}
 use Rattle.std.specs.List.{list_any}
-use Rattle.std.specs.FinMap as texts
 use Rattle.std.specs.FinMap.{same_entries_map}
 use Rattle.std.proofs.lemmas.Grind.{common_steps}
 use Rattle.std.proofs.lemmas.List.{length-map}
-use Rattle.std.proofs.lemmas.Option.{slice_get-map, gets}
 use Rattle.std.proofs.lemmas.Bool.{false≢true}
 use Rattle.std.proofs.lemmas.Slice.Eq.{bytes_eq-Decides}
 use Rattle.gw_er7.specs.Message.{SegmentValue}
@@ -17,7 +15,7 @@ use Rattle.gw_plan.specs.Routing.{routed}
 use Rattle.gw_plan.specs.Whole.{spelled}
 use Rattle.gw_plan.specs.Admitted.{ConformingHeld, IsOf, IsUnder, IsSameSource}
 use Rattle.gw_plan.specs.Translating.{TranslatedHeld, IsSameTranslated, Translates}
-use Rattle.gw_gate.specs.Parts.{MessageSeen, SegmentSeen, delivers, is_under, same_message, same_receivers, same_source, same_translated}
+use Rattle.gw_gate.specs.Parts.{MessageSeen, delivers, is_under, same_message, same_receivers, same_source, same_translated}
 use Rattle.gw_gate.specs.Seen.{segment_seen, message_seen, plan_seen, receivers_by, conforming_seen, translated_seen}
 use Rattle.gw_gate.specs.Meaning.{Makes}
 use Rattle.gw_gate.proofs.Sames.{and_both, and_true, message_decides, receivers_decide}
@@ -66,7 +64,7 @@ under_is c version plan r h =
     one_answer r (is_under (conforming_seen c) version (plan_seen plan))
     (λ e. let u = h.0 e in and_true (c.version == version) (bytes_eq c.plan.text plan.text) (number_same c.version version u.same_version) ((bytes_eq-Decides c.plan.text plan.text).1 u.same_text))
     (λ e. let both = and_both (c.version == version) (bytes_eq c.plan.text plan.text) e in
-        h.1 (record { same_version = same_number c.version version both.0; same_text = (bytes_eq-Decides c.plan.text plan.text).0 both.1 }))
+    h.1 (record { same_version = same_number c.version version both.0; same_text = (bytes_eq-Decides c.plan.text plan.text).0 both.1 }))
 
 pub alike_is : (p q : PlanHeld) (r : Bool) → IsTrue r ↔ (p.receivers ≡ q.receivers) → r ≡ same_receivers (plan_seen p) (plan_seen q)
 alike_is p q r h =
@@ -98,16 +96,16 @@ translated_is t u r h =
     let m = same_message (message_seen t.message) (message_seen u.message) in
     one_answer r (same_translated (translated_seen t) (translated_seen u))
     (λ e. let same = h.0 e in
-        and_true (s && (t.receiver == u.receiver)) m
-        (and_true s (t.receiver == u.receiver) (source_true t.source u.source same.source) (number_same t.receiver u.receiver same.receiver))
-        ((message_decides (message_seen t.message) (message_seen u.message)).1 (ap message_seen same.message)))
+    and_true (s && (t.receiver == u.receiver)) m
+    (and_true s (t.receiver == u.receiver) (source_true t.source u.source same.source) (number_same t.receiver u.receiver same.receiver))
+    ((message_decides (message_seen t.message) (message_seen u.message)).1 (ap message_seen same.message)))
     (λ e. let both = and_both (s && (t.receiver == u.receiver)) m e in
-        let rest = and_both s (t.receiver == u.receiver) both.0 in
-        h.1 (record {
-          source = true_source t.source u.source rest.0;
-          receiver = same_number t.receiver u.receiver rest.1;
-          message = same_messages t.message u.message ((message_decides (message_seen t.message) (message_seen u.message)).0 both.1);
-        }))
+    let rest = and_both s (t.receiver == u.receiver) both.0 in
+    h.1 (record {
+      source = true_source t.source u.source rest.0;
+      receiver = same_number t.receiver u.receiver rest.1;
+      message = same_messages t.message u.message ((message_decides (message_seen t.message) (message_seen u.message)).0 both.1);
+    }))
 
 -- ---- routes
 

@@ -1,9 +1,8 @@
 -- What the functions of a journal are of one with more entries, where the books count.
-use Rattle.std.proofs.Common.{◌≡◌, ℕ, ◌+◌, List, [], ◌∷◌, ◌++◌, length, map, refl, sym, ap, ◌∙◌, arith, zero-add, append_assoc, length-append}
+use Rattle.std.proofs.Common.{◌≡◌, ◌+◌, List, [], ◌∷◌, ◌++◌, length, map, refl, sym, ap, ◌∙◌, arith, zero-add, append_assoc}
 use Rattle.std.proofs.lemmas.List.{map-append, length-map}
 use Rattle.gw_gate.specs.declared.event.Entry.{Entry}
-use Rattle.gw_gate.specs.Journal.{EntrySeen, WasAccepted, WasRefused, WasSwapped, WasTaken, WasKept, WasIssued, WasOut, pair, arrivals, issued, jobs}
-use Rattle.gw_gate.specs.Replies.{most}
+use Rattle.gw_gate.specs.Journal.{EntrySeen, WasAccepted, WasRefused, WasTaken, WasIssued, pair, arrivals, issued, jobs}
 use Rattle.gw_gate.specs.Values.{entry_seen, entries_seen}
 
 pub arrivals-append : (g h : List EntrySeen) → arrivals (g ++ h) ≡ arrivals g + arrivals h

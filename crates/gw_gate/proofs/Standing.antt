@@ -1,9 +1,9 @@
 -- Desks that stand as the journal says.
-use Rattle.std.proofs.Common.{◌≡◌, ◌≢◌, ◌==◌, ◌&&◌, ℕ, zero, suc, ◌+◌, ◌<◌, ◌≤◌, Bool, true, false, if◌then◌else◌, List, [], ◌∷◌, ◌++◌, Option, None, Some, is_some, position, get_or, slice_get, ◌-◌, ◌⊎◌, inl, inr, length, map, All, refl, sym, ap, subst, ◌∙◌, arith, append-nil, length-append}
+use Rattle.std.proofs.Common.{◌≡◌, ◌≢◌, ◌==◌, ◌&&◌, ℕ, zero, suc, ◌+◌, ◌<◌, ◌≤◌, Bool, true, false, if◌then◌else◌, List, [], ◌∷◌, ◌++◌, Option, None, Some, is_some, position, get_or, ◌-◌, ◌⊎◌, inl, inr, length, map, All, refl, sym, ap, subst, ◌∙◌, arith, append-nil}
 use Rattle.std.specs.Prelude.{filter, cond, ◌||◌}
 use Rattle.std.specs.Option.{option_to_list}
 use Rattle.std.specs.List.Sorted.{IsStrictlyIncreasing}
-use Rattle.std.proofs.lemmas.List.{map-append, length-map}
+use Rattle.std.proofs.lemmas.List.{map-append}
 use Rattle.std.proofs.lemmas.List.Elements.{All-nil, All-cons, All-weaker}
 use Rattle.std.proofs.lemmas.Grind.{common_steps}
 use Rattle.std.proofs.lemmas.Bool.{cases_lt, false≢true}
@@ -24,7 +24,7 @@ use Rattle.gw_gate.specs.Journal.{EntrySeen, WasAccepted, WasKept, WasOut, Accep
 use Rattle.gw_gate.specs.Headline.{CountFrom, RiseFrom}
 use Rattle.gw_gate.specs.Books.{given, StandsAt}
 use Rattle.gw_gate.specs.Desks.{due_to}
-use Rattle.gw_gate.proofs.Journals.{either, accepted-append, due-append, kept-append, released-append}
+use Rattle.gw_gate.proofs.Journals.{either, due-append, kept-append, released-append}
 use Rattle.gw_gate.proofs.Numbering.{n_of, rise_among}
 
 abbrev Desk : Type 0

@@ -3,7 +3,6 @@ use Rattle.std.proofs.Common.{◌≡◌, ◌≢◌, ◌==◌, ℕ, zero, suc, �
 use Rattle.std.proofs.lemmas.Grind.{common_steps}
 use Rattle.std.proofs.lemmas.List.{map-append}
 use Rattle.std.proofs.lemmas.Option.{slice_get-map, gets}
-use Rattle.std.specs.Arc.{arc_value}
 use Rattle.std.specs.declared.alloc.Global.{Global}
 use Rattle.std.specs.declared.sync.Arc.{Arc}
 use Rattle.gw_reorder.specs.State.{DeskState, SameButRoom, nothing_due, with_due}
@@ -16,7 +15,7 @@ use Rattle.std.specs.List.{list_any}
 use Rattle.gw_reorder.proofs.Places.{equal_numbers}
 use Rattle.gw_gate.specs.Parts.{TranslatedSeen}
 use Rattle.gw_gate.specs.Seen.{Translated}
-use Rattle.gw_gate.specs.Desks.{Held, value_seen, desk_seen, desk_at, given_seen, IsRoomier, AreRoomier}
+use Rattle.gw_gate.specs.Desks.{Held, value_seen, desk_seen, desk_at, given_seen, IsRoomier}
 
 abbrev slot_seen : Option (Arc Translated Global) → Option TranslatedSeen
 slot_seen o = option_map value_seen o

@@ -1,9 +1,10 @@
 -- What the desks of a gate hold, by the receivers' numbers.
-use Rattle.std.specs.Prelude.{◌≡◌, ℕ, ◌<◌, ◌≤◌, ◌==◌, true, if◌then◌else◌, List, map, slice_index_or, Option, option_map}
+use Rattle.std.specs.Prelude.{◌≡◌, ℕ, ◌<◌, ◌≤◌, true, if◌then◌else◌, List, map, slice_index_or, Option, option_map}
 use Rattle.std.specs.Arc.{arc_value}
 use Rattle.std.specs.declared.alloc.Global.{Global}
 use Rattle.std.specs.declared.sync.Arc.{Arc}
 use Rattle.gw_reorder.specs.State.{DeskState, SameButRoom, nothing_due, with_due}
+use Rattle.gw_reorder.specs.Calls.{next_of, after_giving}
 use Rattle.gw_gate.specs.Parts.{ConformingSeen, TranslatedSeen, delivers}
 use Rattle.gw_gate.specs.Seen.{Translated, translated_seen}
 
@@ -37,6 +38,10 @@ HasRoomFor desks c = (r : ℕ) → delivers c r ≡ true → 0 < (desk_at desks 
 -- the number is due at the desks to which the message goes
 abbrev pub due_to : ConformingSeen → ℕ → ℕ → DeskState TranslatedSeen → DeskState TranslatedSeen
 due_to c n r s = if delivers c r then with_due s n else s
+
+-- what is next was given out
+abbrev pub given_out : DeskState TranslatedSeen → DeskState TranslatedSeen
+given_out s = after_giving s (next_of s)
 
 -- a value that was given out, with its number
 abbrev pub given_seen : Option (ℕ × Arc Translated Global) → Option (ℕ × TranslatedSeen)

@@ -11,3 +11,4 @@ pub mod Headline
 pub mod Desks
 pub mod Books
 pub mod Toy
+pub mod Rows

@@ -1,8 +1,7 @@
 -- Events that are replayed.
-use Rattle.std.specs.Prelude.{◌≡◌, List, [], ◌∷◌, map, Result, Ok, Err, MatchResult}
+use Rattle.std.specs.Prelude.{◌≡◌, List, ◌∷◌, Result, Err, MatchResult}
 use Rattle.gw_gate.specs.declared.replays.ReplayFault.{ReplayFault}
 use Rattle.gw_gate.specs.declared.replays.ReplayFault.TheVariants.{Memory, NoPlan}
-use Rattle.gw_gate.specs.Parts.{PlanSeen}
 use Rattle.gw_gate.specs.Journal.{Journal, opening, from}
 use Rattle.gw_gate.specs.Replies.{EventSeen, Swaps, ReplySeen, most, replies, run}
 

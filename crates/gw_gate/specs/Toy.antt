@@ -1,5 +1,5 @@
 -- A toy: one receiver, two plans, messages of one segment.
-use Rattle.std.specs.Prelude.{ℕ, ◌+◌, List, [], ◌∷◌}
+use Rattle.std.specs.Prelude.{ℕ, ◌+◌, [], ◌∷◌}
 use Rattle.gw_gate.specs.Parts.{MessageSeen, PlanSeen, ConformingSeen, TranslatedSeen}
 use Rattle.gw_gate.specs.Journal.{Journal, opening, from}
 use Rattle.gw_gate.specs.Replies.{Arrives, Takes, Puts, run, most}

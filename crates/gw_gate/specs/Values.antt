@@ -1,5 +1,5 @@
 -- Events, replies and entries, without where their parts lie in memory.
-use Rattle.std.specs.Prelude.{List, map, Option, None, Some, Result, Ok, Err, option_map}
+use Rattle.std.specs.Prelude.{List, map, Option, Result, Ok, Err, option_map}
 use Rattle.std.specs.Arc.{arc_value}
 use Rattle.gw_gate.specs.declared.event.Event as event
 use Rattle.gw_gate.specs.declared.event.Reply as reply
@@ -8,7 +8,10 @@ use Rattle.std.specs.declared.alloc.Global.{Global}
 use Rattle.std.specs.declared.vec.Vec.{Vec}
 use Rattle.gw_gate.specs.declared.replays.ReplayFault as fault
 use Rattle.gw_gate.specs.declared.books.Pair as books
-use Rattle.gw_gate.specs.Seen.{plan_seen, conforming_seen, translated_seen}
+use denote.Ref.{Bor}
+use Rattle.std.specs.declared.sync.Arc.{Arc}
+use Rattle.gw_gate.specs.Parts.{ConformingSeen}
+use Rattle.gw_gate.specs.Seen.{Conforming, plan_seen, conforming_seen, translated_seen}
 use Rattle.gw_gate.specs.Journal.{Journal, Pair, pair, EntrySeen, WasAccepted, WasRefused, WasSwapped, WasTaken, WasKept, WasIssued, WasOut}
 use Rattle.gw_gate.specs.Replies.{EventSeen, Looks, Arrives, Refuses, Swaps, Takes, Puts, Reissues, Releases, ReplySeen, IsCurrent, IsAccepted, IsStale, IsRefused, IsSwapped, IsUnlike, IsJob, IsIdle, IsKept, IsRepeat, IsStranger, IsIssued, IsDone, IsOut, IsNothing, IsFull}
 
@@ -55,6 +58,17 @@ entries_seen entries = map entry_seen entries
 abbrev pub note_seen : Option entry.Entry → Option EntrySeen
 note_seen o = option_map entry_seen o
 
+-- an admitted message that is shared
+abbrev pub conforming_at : Arc Conforming Global → ConformingSeen
+conforming_at c = conforming_seen (arc_value c)
+
+abbrev pub pair_seen : books.Pair → Pair
+pair_seen p = pair p.n p.receiver
+
+-- a pair that is lent with what was accepted under its number
+abbrev pub job_seen : books.Pair × Bor (Arc Conforming Global) → Pair × ConformingSeen
+job_seen job = (pair_seen job.0, conforming_at job.1.now)
+
 -- what a step answers
 abbrev pub answer_seen : Result reply.Reply event.Event → Result ReplySeen EventSeen
 answer_seen (Ok given) = Ok (reply_seen given)
@@ -64,9 +78,6 @@ answer_seen (Err back) = Err (event_seen back)
 abbrev pub noted_seen : Result (reply.Reply × Option entry.Entry) event.Event → Result (ReplySeen × Option EntrySeen) EventSeen
 noted_seen (Ok given) = Ok (reply_seen given.0, note_seen given.1)
 noted_seen (Err back) = Err (event_seen back)
-
-abbrev pub pair_seen : books.Pair → Pair
-pair_seen p = pair p.n p.receiver
 
 -- a gate's journal, with replies
 abbrev pub answered_seen : Journal × List reply.Reply → Journal × List ReplySeen

@@ -8,7 +8,7 @@ ghost use Rattle.gw_gate.specs.Journal.{Journal, current, opening, pair};
 ghost use Rattle.gw_gate.specs.Desks.{AreRoomier, HasRoomFor};
 ghost use Rattle.gw_gate.specs.Replies.{Looks, Arrives, Refuses, Swaps, Takes, Puts, Reissues, Releases, IsKept, IsIssued, Steps, StepsNoted, most, reply_to};
 ghost use Rattle.gw_gate.specs.Books.{issue_reply, job_reply, next_job, put_reply, release_reply};
-ghost use Rattle.gw_gate.specs.Values.{entries_seen, event_seen, answer_seen, noted_seen, pair_seen};
+ghost use Rattle.gw_gate.specs.Values.{entries_seen, event_seen, answer_seen, conforming_at, job_seen, noted_seen, pair_seen};
 
 use crate::copies::prepared;
 use crate::desks::{hold_at, make_due, make_room, next_at, release_at, status_at};
@@ -35,7 +35,7 @@ pub(crate) type Answer = Result<(Reply, Option<Entry>), Event>;
 
 // What was accepted under this number.
 fn accepted_at(accepted: &[Arc<Conforming>], n: u64) -> Option<&Arc<Conforming>>
-    ensures { option_map (λ c. conforming_seen (arc_value c.now)) result ≡ slice_get (map (λ c. conforming_seen (arc_value c)) accepted.now) n }
+    ensures { option_map (λ c. conforming_at c.now) result ≡ slice_get (map conforming_at accepted.now) n }
 {
     accepted.get(n as usize)
 }
@@ -46,7 +46,7 @@ fn next_job<'a>(
     issued: &[Pair],
     jobs: usize,
 ) -> Option<(Pair, &'a Arc<Conforming>)>
-    ensures { option_map (λ j. (pair_seen j.0, conforming_seen (arc_value j.1.now))) result ≡ next_job (map (λ c. conforming_seen (arc_value c)) accepted.now) (map pair_seen issued.now) jobs }
+    ensures { option_map job_seen result ≡ next_job (map conforming_at accepted.now) (map pair_seen issued.now) jobs }
 {
     let Some(pair) = issued.get(jobs) else {
         return None;
@@ -219,7 +219,7 @@ impl Books {
 
     // The next pair, with what was accepted under its number.
     fn next(&self) -> Option<(Pair, &Arc<Conforming>)>
-        ensures { reply_to self.now Takes ≡ job_reply (option_map (λ j. (pair_seen j.0, conforming_seen (arc_value j.1.now))) result) }
+        ensures { reply_to self.now Takes ≡ job_reply (option_map job_seen result) }
     {
         next_job(&self.accepted, &self.issued, self.jobs)
     }

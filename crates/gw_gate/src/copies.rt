@@ -13,7 +13,11 @@ impl Entry {
         ensures { IfOk result (λ e. entry_seen e ≡ entry_seen self.now) }
     {
         match self {
-            Entry::Accepted { n, arrival, conforming } => Ok(Entry::Accepted {
+            Entry::Accepted {
+                n,
+                arrival,
+                conforming,
+            } => Ok(Entry::Accepted {
                 n: *n,
                 arrival: *arrival,
                 conforming: Arc::try_clone(conforming)?,
@@ -38,7 +42,11 @@ impl Entry {
                 n: *n,
                 receiver: *receiver,
             }),
-            Entry::Out { n, receiver, translated } => Ok(Entry::Out {
+            Entry::Out {
+                n,
+                receiver,
+                translated,
+            } => Ok(Entry::Out {
                 n: *n,
                 receiver: *receiver,
                 translated: Arc::try_clone(translated)?,

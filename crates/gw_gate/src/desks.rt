@@ -1,10 +1,10 @@
 //! The desks of a gate, by the receivers' numbers.
 ghost use Rattle.std.specs.Prelude.{◌≡◌, ◌≢◌, ℕ, ◌<◌, ◌≤◌, length, option_map, OnOk, All};
 ghost use Rattle.gw_reorder.specs.State.{SameButRoom, with_due};
-ghost use Rattle.gw_reorder.specs.Calls.{status_of, after_holding, next_of, after_giving};
+ghost use Rattle.gw_reorder.specs.Calls.{status_of, after_holding, next_of};
 ghost use Rattle.gw_reorder.specs.declared.desk.Status.TheVariants as status;
 ghost use Rattle.gw_gate.specs.Seen.{conforming_seen};
-ghost use Rattle.gw_gate.specs.Desks.{desk_at, value_seen, AreRoomier, HasRoomFor, due_to};
+ghost use Rattle.gw_gate.specs.Desks.{desk_at, given_out, value_seen, AreRoomier, HasRoomFor, due_to};
 
 use crate::plans::{goes_to, receiver_at, receiver_count};
 use gw_plan::{Conforming, Translated};
@@ -51,10 +51,7 @@ fn widen(
 }
 
 // Room at a receiver's desk for one more due number.
-fn reserve_at(
-    desks: &mut Vec<Desk<Arc<Translated>>>,
-    receiver: usize,
-) -> Result<(), AllocError>
+fn reserve_at(desks: &mut Vec<Desk<Arc<Translated>>>, receiver: usize) -> Result<(), AllocError>
     requires { receiver < length desks.old.items }
     ensures roomier { AreRoomier desks.old.items desks.new.items }
     ensures ok { OnOk result (0 < (desk_at desks.new.items receiver).room) }
@@ -131,7 +128,7 @@ pub(crate) fn hold_at(
 
 // What this receiver's desk would give leaves it.
 pub(crate) fn release_at(desks: &mut Vec<Desk<Arc<Translated>>>, receiver: usize)
-    ensures this { SameButRoom (after_giving (desk_at desks.old.items receiver) (next_of (desk_at desks.old.items receiver))) (desk_at desks.new.items receiver) }
+    ensures this { SameButRoom (given_out (desk_at desks.old.items receiver)) (desk_at desks.new.items receiver) }
     ensures others { (r : ℕ) → r ≢ receiver → desk_at desks.new.items r ≡ desk_at desks.old.items r }
 {
     if receiver < desks.len() {

@@ -27,18 +27,28 @@ pub enum Event {
 #[derive(Drop)]
 pub enum Reply {
     /// To Look: the plan in force, with its version.
-    Current { version: u64, plan: Arc<Plan> },
+    Current {
+        version: u64,
+        plan: Arc<Plan>,
+    },
     /// To Arrive: the number of the acceptance, from 0, and of the arrival, from 1.
-    Accepted { n: u64, arrival: u64 },
+    Accepted {
+        n: u64,
+        arrival: u64,
+    },
     /// To Arrive: the message was admitted under another plan or version than this.
     Stale {
         version: u64,
         conforming: Arc<Conforming>,
     },
     /// To Refuse: the number of the arrival, from 1.
-    Refused { arrival: u64 },
+    Refused {
+        arrival: u64,
+    },
     /// To Swap: the version of the plan, which is in force now.
-    Swapped { version: u64 },
+    Swapped {
+        version: u64,
+    },
     /// To Swap: the plan's receivers aren't the gate's.
     Unlike(Arc<Plan>),
     /// To Take: the receiver, and the message that was accepted under the number.
@@ -60,7 +70,10 @@ pub enum Reply {
     /// To Reissue: a translation was kept for the pair.
     Done,
     /// To Release: the translation of the message accepted under the number.
-    Out { n: u64, translated: Arc<Translated> },
+    Out {
+        n: u64,
+        translated: Arc<Translated>,
+    },
     /// To Release: none was kept for the next number.
     Nothing,
     /// To an event whose entry the journal has no room for.
@@ -75,11 +88,26 @@ pub enum Entry {
         arrival: u64,
         conforming: Arc<Conforming>,
     },
-    Refused { arrival: u64, code: u16 },
-    Swapped { version: u64, plan: Arc<Plan> },
-    Job { n: u64, receiver: usize },
-    Kept { n: u64, translated: Arc<Translated> },
-    Issued { n: u64, receiver: usize },
+    Refused {
+        arrival: u64,
+        code: u16,
+    },
+    Swapped {
+        version: u64,
+        plan: Arc<Plan>,
+    },
+    Job {
+        n: u64,
+        receiver: usize,
+    },
+    Kept {
+        n: u64,
+        translated: Arc<Translated>,
+    },
+    Issued {
+        n: u64,
+        receiver: usize,
+    },
     Out {
         n: u64,
         receiver: usize,

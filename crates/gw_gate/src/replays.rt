@@ -10,7 +10,7 @@ ghost use Rattle.gw_gate.specs.declared.replays.ReplayFault.TheVariants as fault
 
 use crate::event::{Event, Reply};
 use crate::gate::Gate;
-use std::alloc::{Global};
+use std::alloc::Global;
 use std::vec::IntoIter;
 use thiserror::Error;
 
@@ -24,7 +24,11 @@ pub enum ReplayFault {
 }
 
 // The gate's replies to these events in turn.
-fn follow(alloc: Global, mut gate: Gate, events: IntoIter<Event>) -> Result<(Gate, Vec<Reply>), ReplayFault>
+fn follow(
+    alloc: Global,
+    mut gate: Gate,
+    events: IntoIter<Event>,
+) -> Result<(Gate, Vec<Reply>), ReplayFault>
     ensures gate { IfOk result (λ r. Leads gate (map event_seen (into_iter_items events)) (answered_seen (r.0, r.1.items))) }
     ensures lawful { IfOk result (λ r. IsLawful (IsTranslated Makes) r.0) }
     ensures memory { IfErr result (λ e. e ≡ fault.Memory) }

@@ -1,4 +1,4 @@
-use Rattle.std.proofs.Common.{◌≡◌, ◌++◌, ◌∷◌, [], ◌∙◌, ap, sym, arith, append_assoc, map, take}
+use Rattle.std.proofs.Common.{◌++◌, ◌∷◌, [], ◌∙◌, ap, sym, arith, append_assoc, map, take}
 use Rattle.std.proofs.lemmas.List.{map-append}
 use Rattle.gw_gate.specs.Seen.{conforming_seen}
 use Rattle.gw_gate.specs.Journal.{pair}

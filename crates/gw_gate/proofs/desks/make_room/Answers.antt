@@ -1,4 +1,4 @@
-use Rattle.std.proofs.Common.{◌<◌, ℕ, arith, slice_get, Some}
+use Rattle.std.proofs.Common.{◌<◌, arith}
 use Rattle.gw_gate.specs.Seen.{conforming_seen}
 use Rattle.gw_gate.specs.Desks.{desk_at}
 use Rattle.gw_gate.proofs.Windows.{at_places}

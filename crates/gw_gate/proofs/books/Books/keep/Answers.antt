@@ -1,10 +1,9 @@
-use Rattle.std.proofs.Common.{◌≡◌, ℕ, arith, refl, ap, sym, subst, ◌∙◌}
+use Rattle.std.proofs.Common.{◌≡◌, arith, ap, sym, ◌∙◌}
 use Rattle.std.specs.Arc.{arc_value}
 use Rattle.gw_reorder.specs.Calls.{status_of}
-use Rattle.gw_reorder.specs.declared.desk.Status.TheVariants.{Waiting}
 use Rattle.gw_gate.specs.declared.event.Entry as entry
 use Rattle.gw_gate.specs.Seen.{plan_seen, translated_seen}
-use Rattle.gw_gate.specs.Replies.{Puts, IsKept, reply_to}
+use Rattle.gw_gate.specs.Replies.{Puts, reply_to}
 use Rattle.gw_gate.specs.Journal.{is_due}
 use Rattle.gw_gate.specs.Values.{entries_seen}
 use Rattle.gw_gate.specs.Desks.{desk_at}
