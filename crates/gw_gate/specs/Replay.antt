@@ -1,9 +1,14 @@
 -- Events that are replayed.
-use Rattle.std.specs.Prelude.{◌≡◌, List, ◌∷◌, Result, Err, MatchResult}
+use Rattle.std.specs.Prelude.{◌≡◌, ℕ, List, ◌∷◌, Result, Err, MatchResult}
 use Rattle.gw_gate.specs.declared.replays.ReplayFault.{ReplayFault}
 use Rattle.gw_gate.specs.declared.replays.ReplayFault.TheVariants.{Memory, NoPlan}
 use Rattle.gw_gate.specs.Journal.{Journal, opening, from}
 use Rattle.gw_gate.specs.Replies.{EventSeen, Swaps, ReplySeen, most, replies, run}
+
+-- the number of a fault
+abbrev pub number_of : ReplayFault → ℕ
+number_of Memory = 1
+number_of NoPlan = 2
 
 -- a journal with the replies that led to it
 abbrev pub Answered : Type 0

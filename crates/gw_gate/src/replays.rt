@@ -4,7 +4,7 @@ ghost use Rattle.std.specs.Vec.Iter.{into_iter_items};
 ghost use Rattle.gw_gate.specs.Lawful.{IsLawful};
 ghost use Rattle.gw_gate.specs.Headline.{IsTranslated};
 ghost use Rattle.gw_gate.specs.Meaning.{Makes};
-ghost use Rattle.gw_gate.specs.Replay.{Leads, Replays};
+ghost use Rattle.gw_gate.specs.Replay.{Leads, Replays, number_of};
 ghost use Rattle.gw_gate.specs.Values.{answered_seen, event_seen, replay_seen};
 ghost use Rattle.gw_gate.specs.declared.replays.ReplayFault.TheVariants as fault;
 
@@ -14,13 +14,25 @@ use std::alloc::Global;
 use std::vec::IntoIter;
 use thiserror::Error;
 
-/// Why events aren't replayed.
+/// Why events aren't replayed. The numbers are 1 and 2, in this order.
 #[derive(Clone, Copy, PartialEq, Eq, Debug, Error)]
 pub enum ReplayFault {
     #[error("out of memory")]
     Memory,
     #[error("the first event does not bring a plan")]
     NoPlan,
+}
+
+impl ReplayFault {
+    /// The number of the fault. It takes no memory.
+    pub fn number(&self) -> u8
+        ensures { result ≡ number_of self.now }
+    {
+        match self {
+            ReplayFault::Memory => 1,
+            ReplayFault::NoPlan => 2,
+        }
+    }
 }
 
 // The gate's replies to these events in turn.

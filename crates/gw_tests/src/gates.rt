@@ -1,6 +1,6 @@
 //! What a gate replies, and what its receivers are sent.
 use gw_er7::{read, write};
-use gw_gate::{Event, Gate, MOST, Reply};
+use gw_gate::{Event, Gate, MOST, Reply, replay};
 use gw_plan::{Conforming, Plan, Translated, admit, translate_for};
 use std::alloc::Global;
 use std::sync::Arc;
@@ -95,6 +95,77 @@ fn results_are_given_in_order(rt: HostRuntime) -> Result<(), Fail> {
     }
     for expected in [("Out", 0), ("Out", 1), ("Out", 2), ("Nothing", 0)] {
         assert_eq!(rt; told(&mut gate, Event::Release(0))?, expected);
+    }
+    Ok(())
+}
+
+// Plans are swapped over a message that was accepted: the plan that opens the gate, and what comes then.
+fn swapping(alloc: Global) -> Result<Vec<Event>, Fail> {
+    let (one, two) = (plan(alloc, "ONE")?, plan(alloc, "TWO")?);
+    let first = admitted(alloc, &one, 0, 7)?;
+    let second = admitted(alloc, &one, 0, 8)?;
+    let translated = made(alloc, &first)?;
+    let mut events = Vec::new(alloc);
+    for event in [
+        Event::Swap(one),
+        Event::Look,
+        Event::Arrive(first),
+        Event::Swap(two),
+        Event::Arrive(second),
+        Event::Look,
+        Event::Take,
+        Event::Put { n: 0, translated },
+        Event::Release(0),
+    ] {
+        events.push(event)?;
+    }
+    Ok(events)
+}
+
+/// The replies to them, behind the opening plan.
+const SWAPPED: [(&str, u64); 8] = [
+    ("Current", 0),
+    ("Accepted", 0),
+    ("Swapped", 1),
+    ("Stale", 1),
+    ("Current", 1),
+    ("Job", 0),
+    ("Kept", 0),
+    ("Out", 0),
+];
+
+// What is sent, where the reply sends something.
+fn sent(alloc: Global, reply: Option<&Reply>) -> Result<Vec<u8>, Fail> {
+    let Some(Reply::Out { translated, .. }) = reply else {
+        return Err("nothing is sent".into());
+    };
+    let written = write(alloc, translated.message())?;
+    Ok(written)
+}
+
+#[test]
+fn a_message_stays_under_its_plan(rt: HostRuntime) -> Result<(), Fail> {
+    let Ok((gate, replies)) = replay(rt.alloc(), swapping(rt.alloc())?) else {
+        return Err("it is no replay".into());
+    };
+    assert_eq!(rt; (gate.journal().len(), replies.len()), (5, SWAPPED.len()));
+    for (reply, expected) in replies.iter().zip(SWAPPED) {
+        assert_eq!(rt; said(reply), expected);
+    }
+    let text = sent(rt.alloc(), replies.last())?;
+    assert_eq!(rt; text.as_slice(), b"MSH|^~\\&|||ONE|||||7\r".as_slice());
+    Ok(())
+}
+
+#[test]
+fn steps_reply_as_a_replay(rt: HostRuntime) -> Result<(), Fail> {
+    let mut events = swapping(rt.alloc())?.into_iter();
+    let Some(Event::Swap(plan)) = events.next() else {
+        return Err("no plan".into());
+    };
+    let mut gate = begun(rt.alloc(), &plan)?;
+    for (event, expected) in events.zip(SWAPPED) {
+        assert_eq!(rt; told(&mut gate, event)?, expected);
     }
     Ok(())
 }
