@@ -1,5 +1,5 @@
 -- Gaps of a map, as the program gathers them.
-use Rattle.std.specs.Prelude.{◌≡◌, ◌++◌, ℕ, List, map, option_map}
+use Rattle.std.specs.Prelude.{◌≡◌, ◌++◌, ℕ, List, map}
 use Rattle.gw_profile.specs.declared.node.Node.{Node}
 use Rattle.gw_profile.specs.Nodes.{card_of}
 use Rattle.gw_profile.specs.Shapes.{Forest}

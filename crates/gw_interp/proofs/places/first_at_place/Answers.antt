@@ -1,4 +1,4 @@
-use Rattle.std.proofs.Common.{◌∙◌, sym, ap, arith, append-nil, subst, List, ℕ}
+use Rattle.std.proofs.Common.{◌∙◌, sym, ap, append-nil, subst, List, ℕ}
 use Rattle.std.specs.Prelude.{flat_map}
 use Rattle.gw_interp.specs.Occurrences.{Occurrence, below}
 use Rattle.gw_interp.specs.Lent.{occurrence, IsFirstOf}
