@@ -9,6 +9,5 @@ pub mod NamedProfile
 pub mod NamedMap
 pub mod Leading
 pub mod Listing
-pub mod Planning
 pub mod Receiving
 pub mod Stopping
