@@ -11,3 +11,4 @@ pub mod Leading
 pub mod Listing
 pub mod Receiving
 pub mod Stopping
+pub mod Receivable
