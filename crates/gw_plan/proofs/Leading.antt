@@ -1,6 +1,6 @@
 -- What a `to` line makes of a plan, case by case.
 use Rattle.std.proofs.Common.{◌≡◌, ℕ, List, [], ◌∷◌, ◌++◌, map, Option, Some, None, Bool, true, false, refl, sym, ap, ◌∙◌, subst}
-use Rattle.std.specs.Prelude.{Result, Ok, Err, bytes_eq, nat_eq, if◌then◌else◌}
+use Rattle.std.specs.Prelude.{Result, Ok, Err, bytes_eq, if◌then◌else◌}
 use Rattle.std.specs.List.{list_any}
 use Rattle.gw_profile.specs.Seen.{profile_value}
 use Rattle.gw_profile.specs.Shapes.{ProfileValue}
@@ -8,7 +8,7 @@ use Rattle.gw_check.specs.CheckedMap.{CheckedValue}
 use Rattle.gw_plan.specs.declared.fault.PlanFault.{PlanFault}
 use Rattle.gw_plan.specs.declared.fault.PlanFault.TheVariants.{Syntax, Duplicate, UnknownName, WrongMap}
 use Rattle.gw_plan.specs.Shapes.{MapBetween, RouteValue, named}
-use Rattle.gw_plan.specs.Held.{RouteHeld, IsNewLeg, map_between, route_value, longer, leg}
+use Rattle.gw_plan.specs.Held.{RouteHeld, map_between, route_value, longer, leg}
 use Rattle.gw_plan.specs.Above.{BeginsAt, named_profile}
 use Rattle.gw_plan.specs.Drafted.{StandsAmong}
 use Rattle.gw_plan.specs.Draft.{Draft, receiver_number, map_named, goes, with_leg, with_map, delivered}
@@ -24,15 +24,9 @@ by_outcome : (d : Draft) (at : ℕ) (current : Option RouteValue) (receiver map 
 by_outcome d at None receiver map = refl
 by_outcome d at (Some route) receiver map = refl
 
-pub no_route : (d : Draft) (at : ℕ) (current : Option RouteValue) (receiver map : List ℕ) → current ≡ None → delivered d at current receiver map ≡ Err (Syntax at)
-no_route d at current receiver map none = ap (λ o. delivered d at o receiver map) none
-
 module _ (d : Draft) (at : ℕ) (current : Option RouteValue) (receiver map : List ℕ) (route : RouteValue) (is : current ≡ Some route) where
   of_route : delivered d at current receiver map ≡ with_leg d at route (receiver_number d receiver) (map_named d map)
   of_route = by_outcome d at current receiver map ∙ ap (λ o. outcome d at o (receiver_number d receiver) (map_named d map)) is
-
-  pub no_receiver : receiver_number d receiver ≡ None → delivered d at current receiver map ≡ Err (UnknownName at)
-  no_receiver none = of_route ∙ ap (λ o. with_leg d at route o (map_named d map)) none
 
   pub again : (number : ℕ) → receiver_number d receiver ≡ Some number → list_any (goes number) route.legs ≡ true → delivered d at current receiver map ≡ Err (Duplicate at)
   again number found stands =

@@ -10,6 +10,6 @@ pub mod NamedProfile
 pub mod NamedMap
 pub mod Leading
 pub mod Listing
-pub mod Planning
 pub mod Receiving
 pub mod Stopping
+pub mod Receivable

@@ -1,5 +1,5 @@
 -- The routes of a plan so far, with their keys.
-use Rattle.std.proofs.Common.{◌≡◌, ℕ, List, [], ◌∷◌, ◌++◌, map, Option, Some, None, Bool, false, refl, sym, ap, ◌∙◌, subst}
+use Rattle.std.proofs.Common.{◌≡◌, ℕ, List, [], ◌∷◌, ◌++◌, map, Option, None, refl, ap, ◌∙◌, subst}
 use Rattle.std.specs.Prelude.{bytes_eq, ◌&&◌, ◌||◌}
 use Rattle.std.specs.List.{list_any}
 use Rattle.std.specs.Option.{option_to_list}
@@ -7,7 +7,7 @@ use Rattle.std.proofs.lemmas.List.{append-nil, map-append}
 use Rattle.gw_plan.specs.declared.index.Index.{Index}
 use Rattle.gw_plan.specs.Held.{RouteHeld, route_value}
 use Rattle.gw_plan.specs.Draft.{is_for}
-use Rattle.gw_plan.specs.Index.{Key, Indexes, is_key, with_key}
+use Rattle.gw_plan.specs.Index.{Indexes, is_key, with_key}
 use Rattle.gw_plan.specs.Kept.{key_of}
 
 -- whether a route is for a code and event, by its key
@@ -15,10 +15,7 @@ pub any_key : (code event : List ℕ) (routes : List RouteHeld) → list_any (is
 any_key code event [] = refl
 any_key code event (r ∷ routes) = ap (λ b. (bytes_eq code r.code && bytes_eq event r.event) || b) (any_key code event routes)
 
--- an index of closed routes is one of all, where none is current
-pub indexed_all : (index : Index) (closed : List RouteHeld) (current : Option RouteHeld) → current ≡ None → Indexes index (map key_of closed) → Indexes index (map key_of (closed ++ option_to_list current))
-indexed_all index closed current none x = subst (λ rs. Indexes index (map key_of rs)) (sym (append-nil closed) ∙ ap (λ o. closed ++ option_to_list o) (sym none)) x
-
+-- an index of all routes is one of the closed ones, where none is current
 pub indexed_closed : (index : Index) (closed : List RouteHeld) (current : Option RouteHeld) → current ≡ None → Indexes index (map key_of (closed ++ option_to_list current)) → Indexes index (map key_of closed)
 indexed_closed index closed current none x = subst (λ rs. Indexes index (map key_of rs)) (ap (λ o. closed ++ option_to_list o) none ∙ append-nil closed) x
 

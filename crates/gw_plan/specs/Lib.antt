@@ -5,6 +5,7 @@ pub mod Draft
 pub mod Joined
 pub mod Whole
 pub mod Routing
+pub mod Within
 pub mod Seen
 pub mod Index
 pub mod Held

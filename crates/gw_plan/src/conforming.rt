@@ -1,14 +1,16 @@
 //! Messages that a plan admits.
-ghost use Rattle.std.specs.Prelude.{◌≡◌, ◌↔◌, IsTrue, IfOk, IfErr, Ok};
+ghost use Rattle.std.specs.Prelude.{◌≡◌, ◌<◌, ◌↔◌, map, length, IsTrue, IfOk, IfErr, Ok};
 ghost use Rattle.std.specs.Arc.{arc_value};
 ghost use Rattle.gw_profile.specs.Seen.{profile_value};
 ghost use Rattle.gw_plan.specs.Held.{plan_value, route_value};
 ghost use Rattle.gw_plan.specs.Routing.{routed};
+ghost use Rattle.gw_plan.specs.Seen.{receiver_value};
 ghost use Rattle.gw_plan.specs.Whole.{spelled};
+ghost use Rattle.gw_plan.specs.Within.{IsWithin};
 ghost use Rattle.gw_plan.specs.Admitted.{ConformingHeld, IsConforming, IsAdmitted, IsRefused, IsSameSource, IsUnder, IsOf};
 ghost use Rattle.gw_plan.specs.Translating.{Translates};
 
-use crate::plan::Plan;
+use crate::plan::{Plan, Receiver};
 use crate::route::Route;
 use gw_er7::Message;
 use gw_interp::translate;
@@ -65,10 +67,21 @@ impl Conforming {
         self.plan.route_at(self.number)
     }
 
-    /// Whether its route goes to this receiver. It takes no memory.
-    pub fn goes_to(&self, receiver: usize) -> bool
-        ensures { IsTrue result ↔ IsOf self.now receiver }
+    /// The receivers of its plan. It takes no memory.
+    pub fn receivers(&self) -> &[Receiver]
+        ensures value { map receiver_value result.now ≡ self.now.plan.receivers }
+        ensures within { IsWithin (plan_value self.now.plan) }
     {
+        self.plan.receivers()
+    }
+
+    /// Whether its route goes to this receiver, which is then one of its plan's. It takes no memory.
+    pub fn goes_to(&self, receiver: usize) -> bool
+        ensures goes { IsTrue result ↔ IsOf self.now receiver }
+        ensures stands { IsTrue result → receiver < length self.now.plan.receivers }
+    {
+        // (its clause tells that the route goes to receivers of the plan alone)
+        let _receivers = self.receivers();
         self.route().goes_to(receiver)
     }
 

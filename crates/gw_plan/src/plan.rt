@@ -7,6 +7,7 @@ ghost use Rattle.gw_plan.specs.Seen.{receiver_value};
 ghost use Rattle.gw_plan.specs.Draft.{plan_of};
 ghost use Rattle.gw_plan.specs.Drafted.{draft_value, IsKept};
 ghost use Rattle.gw_plan.specs.Whole.{spelled};
+ghost use Rattle.gw_plan.specs.Within.{IsWithin};
 
 use crate::draft::Draft;
 use crate::index::Index;
@@ -134,8 +135,10 @@ impl Plan {
     }
 
     /// The receivers in the order of their lines, by which they are numbered from 0. It takes no memory.
+    /// Each leg of its routes goes to one of them.
     pub fn receivers(&self) -> &[Receiver]
-        ensures { map receiver_value result.now ≡ self.now.receivers }
+        ensures value { map receiver_value result.now ≡ self.now.receivers }
+        ensures within { IsWithin (plan_value self.now) }
     {
         self.receivers.as_slice()
     }

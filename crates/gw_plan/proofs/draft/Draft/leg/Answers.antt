@@ -5,7 +5,7 @@ use Rattle.std.specs.Arc.{arc_value}
 use Rattle.std.proofs.lemmas.Slice.Eq.{bytes_eq-Decides}
 use Rattle.gw_profile.specs.Seen as profiles
 use Rattle.gw_check.specs.CheckedMap.{CheckedValue}
-use Rattle.gw_plan.specs.Shapes.{RouteValue, MapBetween}
+use Rattle.gw_plan.specs.Shapes.{RouteValue}
 use Rattle.gw_plan.specs.Held.{RouteHeld, IsNewLeg, map_between, route_value, longer}
 use Rattle.gw_plan.specs.Above.{profiles_of}
 use Rattle.gw_plan.specs.Drafted.{draft_value, StandsAmong}

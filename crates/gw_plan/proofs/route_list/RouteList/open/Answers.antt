@@ -1,7 +1,7 @@
-use Rattle.std.proofs.Common.{◌∙◌, sym, subst, [], ◌∷◌, ◌++◌, map, List}
+use Rattle.std.proofs.Common.{◌∙◌, sym, subst, [], ◌∷◌, ◌++◌, map}
 use Rattle.std.specs.Arc.{arc_value}
 use Rattle.gw_plan.specs.Held.{RouteHeld}
-use Rattle.gw_plan.specs.Index.{Key, Indexes}
+use Rattle.gw_plan.specs.Index.{Indexes}
 use Rattle.gw_plan.specs.Kept.{key_of}
 use Rattle.gw_plan.proofs.Listing.{indexed_closed, any_key, keys_more}
 use Rattle.gw_plan.proofs.route_list.RouteList.open.Goals as goal
