@@ -1,14 +1,17 @@
 -- Gaps of a map, as the program gathers them.
-use Rattle.std.specs.Prelude.{◌≡◌, ◌++◌, ℕ, List, map}
+use Rattle.std.specs.Prelude.{◌≡◌, ◌++◌, ◌∷◌, [], ℕ, List, flat_map, map}
 use Rattle.gw_profile.specs.declared.node.Node.{Node}
 use Rattle.gw_profile.specs.Nodes.{card_of}
-use Rattle.gw_profile.specs.Shapes.{Forest}
+use Rattle.gw_profile.specs.Shapes.{FieldValue, Forest}
 use Rattle.gw_maplang.specs.Shapes.{TableValue}
 use Rattle.gw_resolve.specs.declared.resolved.Item.{Item}
+use Rattle.gw_resolve.specs.declared.resolved.Rule.{Rule}
+use Rattle.gw_resolve.specs.declared.resolved.SegmentItem.{SegmentItem}
+use Rattle.gw_resolve.specs.Places.{child, fields_of}
 use Rattle.gw_resolve.specs.Resolved.{no_items}
-use Rattle.gw_resolve.specs.Seen.{with_item, all_items}
+use Rattle.gw_resolve.specs.Seen.{with_item, all_items, rule as seen_rule}
 use Rattle.gw_check.specs.Checking.{usage_of}
-use Rattle.gw_check.specs.Gaps.{Gap, node_gaps, level_gaps, items_gaps}
+use Rattle.gw_check.specs.Gaps.{Gap, field_gaps, node_gaps, level_gaps, items_gaps}
 use Rattle.gw_check.specs.Reads.{Position}
 use Rattle.gw_check.specs.declared.gap.Gap as declared
 
@@ -34,3 +37,14 @@ FindsItem tables above nodes i old new = Finds old new (items_gaps above nodes (
 
 abbrev pub FindsItems : List TableValue → Position → Forest → List Item → List declared.Gap → List declared.Gap → Type 0
 FindsItems tables above nodes is old new = Finds old new (items_gaps above nodes (all_items tables is))
+
+abbrev pub FindsFields : List TableValue → ℕ → Position → List Rule → List FieldValue → List declared.Gap → List declared.Gap → Type 0
+FindsFields tables line at rules fields old new = Finds old new (flat_map (field_gaps line at (map (seen_rule tables) rules)) fields)
+
+abbrev pub FindsSegment : List TableValue → Position → Forest → SegmentItem → List declared.Gap → List declared.Gap → Type 0
+FindsSegment tables above nodes s old new =
+    FindsFields tables s.line (above ++ s.child ∷ []) s.rules.items (fields_of (child nodes s.child)) old new
+
+-- these are all gaps between the items and the nodes of the top, whatever the map's tables are
+abbrev pub FindsAll : List TableValue → ℕ → Forest → List Item → List declared.Gap → Type 0
+FindsAll tables line nodes is found = all_gaps found ≡ level_gaps line [] 0 nodes (all_items tables is) ++ items_gaps [] nodes (all_items tables is)

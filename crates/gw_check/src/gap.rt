@@ -6,7 +6,7 @@ ghost use Rattle.gw_profile.specs.Seen.{forest, field as field_value, profile_va
 ghost use Rattle.gw_resolve.specs.Places as places;
 ghost use Rattle.gw_resolve.specs.Seen.{rule as seen_rule, all_items};
 ghost use Rattle.gw_check.specs.Gaps as spec;
-ghost use Rattle.gw_check.specs.Gathered.{Finds, FindsNode, FindsLevel, FindsItem, FindsItems, all_gaps};
+ghost use Rattle.gw_check.specs.Gathered.{Finds, FindsAll, FindsFields, FindsItem, FindsItems, FindsLevel, FindsNode, FindsSegment, all_gaps};
 
 use crate::field::is_missing;
 use crate::inside::fields_at;
@@ -78,7 +78,7 @@ fn add_fields(
     rules: &[Rule],
     fields: &[FieldShape],
 ) -> Result<(), AllocError>
-    ensures { (tables : List TableValue) → OnOk result (Finds found.old.items found.new.items (flat_map (spec.field_gaps line at.now (map (seen_rule tables) rules.now)) (map field_value fields.now))) }
+    ensures { (tables : List TableValue) → OnOk result (FindsFields tables line at.now rules.now (map field_value fields.now) found.old.items found.new.items) }
 {
     for (i, field) in fields.iter().enumerate() {
         add_field(alloc, found, line, at, rules, field)?;
@@ -145,7 +145,7 @@ fn add_segment(
     nodes: &[Node],
     segment: &SegmentItem,
 ) -> Result<(), AllocError>
-    ensures { (tables : List TableValue) → OnOk result (Finds found.old.items found.new.items (flat_map (spec.field_gaps segment.now.line (above.now ++ segment.now.child ∷ []) (map (seen_rule tables) segment.now.rules.items)) (places.fields_of (places.child (forest nodes.now) segment.now.child)))) }
+    ensures { (tables : List TableValue) → OnOk result (FindsSegment tables above.now (forest nodes.now) segment.now found.old.items found.new.items) }
 {
     let at = below(alloc, above, segment.child)?;
     add_fields(
@@ -204,7 +204,7 @@ fn all_found(
     nodes: &[Node],
     items: &[Item],
 ) -> Result<Vec<Gap>, AllocError>
-    ensures { IfOk result (λ found. (tables : List TableValue) → all_gaps found.items ≡ spec.level_gaps line [] 0 (forest nodes.now) (all_items tables items.now) ++ spec.items_gaps [] (forest nodes.now) (all_items tables items.now)) }
+    ensures { IfOk result (λ found. (tables : List TableValue) → FindsAll tables line (forest nodes.now) items.now found.items) }
 {
     let mut found = Vec::new(alloc);
     add_level(alloc, &mut found, line, &[], nodes, items)?;

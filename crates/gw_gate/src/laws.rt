@@ -31,7 +31,8 @@ pub fn full()
     ensures { replies 2 opened filling ≡ filled }
 {}
 
-/// In a lawful journal each receiver was sent the first of what was due to it, in order of acceptance, each once, and each is what the plan of the version makes of the message under which it was accepted.
+/// In a lawful journal each receiver was sent the first of what was due to it, in order of acceptance, each once;
+/// and each is what the plan of the version under which its message was accepted makes of it.
 pub fn sent_in_order()
     ensures { (j : Journal) (r : ℕ) → IsLawful (IsTranslated Makes) j → InOrder Makes j r }
 {}
