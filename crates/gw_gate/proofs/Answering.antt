@@ -74,7 +74,7 @@ module _ (p : PlanSeen) (items : List Entry) (old : Journal) (view : journal_of 
   -- it added its entry
   pub done : (takes : Bool) (mid more : List Entry) (e : Entry) (event : EventSeen) (given : ReplySeen) (note : Option EntrySeen) → reply_to old event ≡ given → added event given ≡ Some (entry_seen e) → length items < most → mid ≡ items → more ≡ mid ++ e ∷ []
       → note ≡ noted takes (Some (entry_seen e)) → Noted takes old event given note (journal_of p (entries_seen more))
-  done takes mid more e event given note row one lt same is told =
+  done takes mid more e event given n row one lt same is told =
       let r = room_reply old event given (entry_seen e) row one (let l = long in omega arith) in
       let o : added event (reply old event) ≡ Some (entry_seen e) = ap (added event) r ∙ one in
       record {
