@@ -24,7 +24,12 @@ fn plan(alloc: Global, word: &str) -> Result<Arc<Plan>, Fail> {
 }
 
 // A message with this control id, admitted under this version of the plan.
-fn admitted(alloc: Global, plan: &Arc<Plan>, version: u64, control: u64) -> Result<Arc<Conforming>, Fail> {
+fn admitted(
+    alloc: Global,
+    plan: &Arc<Plan>,
+    version: u64,
+    control: u64,
+) -> Result<Arc<Conforming>, Fail> {
     let content = format!(in alloc; "MSH|^~\\&|||||||ADT^A01|{control}\r")?;
     let message = read(alloc, content.as_bytes())?;
     match admit(alloc, plan, version, message) {
@@ -91,7 +96,10 @@ fn results_are_given_in_order(rt: HostRuntime) -> Result<(), Fail> {
     }
     for (n, expected) in [(2, "Kept"), (0, "Kept"), (0, "Repeat"), (1, "Kept")] {
         let translated = made(alloc, &admitted(alloc, &plan, 0, n)?)?;
-        assert_eq!(rt; told(&mut gate, Event::Put { n, translated })?, (expected, 0));
+        assert_eq!(rt;
+            told(&mut gate, Event::Put { n, translated })?,
+            (expected, 0)
+        );
     }
     for expected in [("Out", 0), ("Out", 1), ("Out", 2), ("Nothing", 0)] {
         assert_eq!(rt; told(&mut gate, Event::Release(0))?, expected);
@@ -183,8 +191,20 @@ fn a_pair_is_issued_again(rt: HostRuntime) -> Result<(), Fail> {
         (Event::Take, "Idle"),
         (Event::Reissue { n: 0, receiver: 0 }, "Issued"),
         (Event::Take, "Job"),
-        (Event::Put { n: 0, translated: once }, "Kept"),
-        (Event::Put { n: 0, translated: again }, "Repeat"),
+        (
+            Event::Put {
+                n: 0,
+                translated: once,
+            },
+            "Kept",
+        ),
+        (
+            Event::Put {
+                n: 0,
+                translated: again,
+            },
+            "Repeat",
+        ),
         (Event::Reissue { n: 0, receiver: 0 }, "Done"),
         (Event::Reissue { n: 5, receiver: 0 }, "Stranger"),
     ] {

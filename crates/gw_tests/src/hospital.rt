@@ -5,7 +5,8 @@ use std::alloc::Global;
 use std::test::Fail;
 
 /// The file's text.
-const HOSPITAL: &str = r#"# A hospital: its laboratory and its registration desk send, its wards and its archive receive.
+const HOSPITAL: &str =
+    r#"# A hospital: its laboratory and its registration desk send, its wards and its archive receive.
 plan HOSPITAL
 receiver WARDS wards.hospital.example:2575
 receiver ARCHIVE archive.hospital.example:2575
@@ -337,7 +338,10 @@ route ADT A08 from ADMISSION
 "#;
 
 /// What stands before the code and event of a message, and behind them.
-const MESSAGE: [&str; 2] = ["MSH|^~\\&|LAB|CORELAB|GATEWAY|HUB|20241113233637||", "|7|P|2.5.1\r"];
+const MESSAGE: [&str; 2] = [
+    "MSH|^~\\&|LAB|CORELAB|GATEWAY|HUB|20241113233637||",
+    "|7|P|2.5.1\r",
+];
 
 // To how many receivers a message of this code and event goes, or the code of the condition that it goes nowhere.
 fn receivers(alloc: Global, plan: &Plan, event: &str) -> Result<Result<usize, u16>, Fail> {
@@ -356,7 +360,12 @@ fn a_hospital_has_its_routes(rt: HostRuntime) -> Result<(), Fail> {
         return Err("no plan".into());
     };
     assert_eq!(rt; plan.receivers().len(), 2);
-    for (event, expected) in [("ORU^R01", Ok(2)), ("ADT^A04", Ok(1)), ("ADT^A02", Err(201)), ("SIU^S12", Err(200))] {
+    for (event, expected) in [
+        ("ORU^R01", Ok(2)),
+        ("ADT^A04", Ok(1)),
+        ("ADT^A02", Err(201)),
+        ("SIU^S12", Err(200)),
+    ] {
         assert_eq!(rt; receivers(rt.alloc(), &plan, event)?, expected, "{event}");
     }
     Ok(())

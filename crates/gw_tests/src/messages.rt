@@ -98,6 +98,7 @@ fn a_message_is_built(rt: HostRuntime) -> Result<(), Fail> {
 
 // The same values with separators that say nothing, and one value less.
 const SAME: &[u8] = b"MSH|^~\\&\rPID||x|a^b&c~~d||\r";
+
 const LESS: &[u8] = b"MSH|^~\\&\rPID||x|a^b&c\r";
 
 #[test]
