@@ -245,6 +245,9 @@ fn a_message_is_refused(rt: HostRuntime) -> Result<(), Fail> {
         return Err("it is admitted".into());
     };
     assert_eq!(rt; plan.receivers().len(), 1);
-    let _ = breach;
+    assert_eq!(rt;
+        (breach.code(), breach.segment, breach.field),
+        (101, *b"PID", 8)
+    );
     Ok(())
 }
