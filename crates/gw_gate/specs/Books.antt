@@ -3,7 +3,7 @@ use Rattle.std.specs.Prelude.{◌≡◌, ℕ, ◌≤◌, List, map, length, slic
 use Rattle.gw_reorder.specs.State.{DeskState}
 use Rattle.gw_reorder.specs.declared.desk.Status.{Status}
 use Rattle.gw_reorder.specs.declared.desk.Status.TheVariants.{Waiting, Repeat, Stranger}
-use Rattle.gw_reorder.proofs.Steps.{Stands}
+use Rattle.gw_reorder.specs.Standing.{Stands}
 use Rattle.gw_gate.specs.Parts.{PlanSeen, ConformingSeen, TranslatedSeen}
 use Rattle.gw_gate.specs.Journal.{EntrySeen, Journal, Pair, Release, opening, current, accepted, arrivals, due, issued, jobs, kept, released}
 use Rattle.gw_gate.specs.Replies.{ReplySeen, IsJob, IsIdle, IsKept, IsRepeat, IsStranger, IsIssued, IsDone, IsOut, IsNothing, most}

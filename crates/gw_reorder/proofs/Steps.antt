@@ -11,22 +11,12 @@ use Rattle.std.proofs.lemmas.Bool.{cases_lt, cases_eq}
 use Rattle.std.proofs.lemmas.List.Kept.{AllPairs-from_increasing}
 use Rattle.gw_reorder.specs.State.{DeskState, with_due, nothing_due}
 use Rattle.gw_reorder.specs.Calls.{place_of, status_of, status_at, slot_status, after_holding, after_bringing, next_of, after_giving, kept_with, kept_pair}
+use Rattle.gw_reorder.specs.Standing.{Stands}
 use Rattle.gw_reorder.specs.Runs.{earlier, brought_for, with_its_value}
 use Rattle.gw_reorder.specs.declared.desk.Status.{Status}
 use Rattle.gw_reorder.specs.declared.desk.Status.TheVariants.{Waiting, Repeat, Stranger}
 use Rattle.gw_reorder.proofs.Places.{equals, differs, equal_numbers, rising_differ}
 use Rattle.gw_reorder.proofs.Slots.{status_here}
-
--- what was given out and what was kept, in a desk's own terms
-pub record Stands {T : Type 0} (s : DeskState T) (due : List ℕ) (given : List (ℕ × T)) (kept : ℕ → Option T) : Type 0 where
-  pub due_is : s.due ≡ due
-  pub places : s.released + length s.kept ≡ length due
-  pub count : length given ≡ s.released
-  pub slots : (i : ℕ) → i < length s.kept → get_or s.kept i None ≡ kept (get_or due (s.released + i) 0)
-  pub past : (i : ℕ) → i < s.released → (x : T) × (kept (get_or due i 0) ≡ Some x)
-  pub strangers : (n : ℕ) → ((k : ℕ) → k < length due → get_or due k 0 ≢ n) → kept n ≡ None
-  pub numbers : map (λ p. p.0) given ≡ take s.released due
-  pub values : All (λ p. kept p.0 ≡ Some p.1) given
 
 -- a number is due, or it isn't among those that are
 found_or_not : (due : List ℕ) (n : ℕ) → ((p : ℕ) × (position (λ m. m == n) due ≡ Some p)) ⊎ (position (λ m. m == n) due ≡ None)
