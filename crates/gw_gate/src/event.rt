@@ -1,5 +1,6 @@
 //! What comes to a gate, what it replies, and what it enters in its journal.
 use gw_plan::{Conforming, Plan, Translated};
+use std::mem::size_of;
 use std::sync::Arc;
 
 /// What comes to a gate.
@@ -114,3 +115,6 @@ pub enum Entry {
         translated: Arc<Translated>,
     },
 }
+
+// An entry takes no more memory than this, beside what its Arcs share.
+const _: () = prove!(size_of::<Entry>() <= 64);
