@@ -128,27 +128,24 @@ fn put_table(
     Ok(())
 }
 
-/// The tables, with that of this line.
+/// Puts the table of this line behind the others.
 pub fn tables_below(
     alloc: Global,
-    mut tables: IndexMap<Vec<u8>, Table>,
+    tables: &mut IndexMap<Vec<u8>, Table>,
     whole: &Line,
     found: Option<Table>,
-) -> Result<IndexMap<Vec<u8>, Table>, AllocError>
+) -> Result<(), AllocError>
     requires found { found ≡ made (line whole.now) }
-    requires new { IsNewTable (map table tables.entries) (line whole.now) }
-    ensures kept { IfOk result (λ new. map table new.entries ≡ with_table (map table tables.entries) (line whole.now)) }
-    ensures names { IfOk result (λ new. NamesFollow (map table tables.entries) (map table new.entries) (line whole.now)) }
+    requires new { IsNewTable (map table tables.old.entries) (line whole.now) }
+    ensures kept { OnOk result (map table tables.new.entries ≡ with_table (map table tables.old.entries) (line whole.now)) }
+    ensures names { OnOk result (NamesFollow (map table tables.old.entries) (map table tables.new.entries) (line whole.now)) }
 {
     match whole {
-        Line::Table(name, _) => {
-            let Some(found) = found else {
-                return Ok(tables);
-            };
-            put_table(alloc, &mut tables, name, found)?;
-            Ok(tables)
-        }
-        _ => Ok(tables),
+        Line::Table(name, _) => match found {
+            None => Ok(()),
+            Some(found) => put_table(alloc, tables, name, found),
+        },
+        _ => Ok(()),
     }
 }
 

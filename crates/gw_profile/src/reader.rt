@@ -1,12 +1,13 @@
 //! Reading of a profile, line by line.
-ghost use Rattle.std.specs.Prelude.{◌≡◌, ◌∷◌, ◌||◌, [], not, IfOk};
+ghost use Rattle.std.specs.Prelude.{◌≡◌, ◌∷◌, ◌||◌, [], map, not, IfOk, OnOk};
 ghost use Rattle.gw_lines.specs.Seen.{word};
 ghost use Rattle.gw_lines.specs.Reading.{Gives, first_of, added};
 ghost use Rattle.gw_profile.specs.declared.fault.ProfileFault.TheVariants as fault;
 ghost use Rattle.gw_profile.specs.Fault as spec;
 ghost use Rattle.gw_profile.specs.Line as form;
 ghost use Rattle.gw_lines.specs.Grammar.{Taken};
-ghost use Rattle.gw_profile.specs.Seen.{line, made, profile_value};
+ghost use Rattle.gw_profile.specs.Seen.{line, above, made, profile_value, table, with_table, IsNewTable, NamesFollow};
+ghost use Rattle.gw_profile.specs.declared.reader.Tested.{Tested};
 ghost use Rattle.gw_profile.specs.Whole.{whole};
 
 use crate::context::{
@@ -34,6 +35,13 @@ pub struct Reader<'a> {
     parents: Parents,
     tables: IndexMap<Vec<u8>, Table>,
     levels: Levels<'a>,
+}
+
+// A line that has no fault, with its table.
+#[derive(Drop)]
+struct Tested<'a> {
+    whole: Line<'a>,
+    found: Option<Table>,
 }
 
 impl<'a> Model for Reader<'a> {
@@ -182,6 +190,21 @@ impl<'a> Reader<'a> {
         }
     }
 
+    // The line that the words are below these, with its table, or its fault.
+    fn tested(&self, at: u32, words: &[Word<'a>]) -> Result<Tested<'a>, ProfileFault>
+        ensures line { Gives fault.Memory (λ (t : Tested). line t.whole) result (spec.takes self.now at (map word words.now)) }
+        ensures found { IfOk result (λ (t : Tested). t.found ≡ made (line t.whole)) }
+    {
+        let Some(whole) = form(self.alloc, at, words)? else {
+            return Err(ProfileFault::Syntax(at));
+        };
+        let found = made(self.alloc, &whole)?;
+        match self.fault_of(at, &whole, &found) {
+            Some(fault) => Err(fault),
+            None => Ok(Tested { whole, found }),
+        }
+    }
+
     // Takes a line in, with its table.
     fn add(self, whole: Line<'a>, found: Option<Table>) -> Result<Reader<'a>, AllocError>
         requires found { found ≡ made (line whole) }
@@ -192,13 +215,12 @@ impl<'a> Reader<'a> {
             alloc,
             mut lines,
             parents,
-            tables,
+            mut tables,
             levels,
         } = self;
         let parents = parents_below(parents, &whole);
-        let tables = tables_below(alloc, tables, &whole, found)?;
         let levels = levels_below(alloc, levels, &whole)?;
-        lines.push(whole)?;
+        take_in(alloc, &mut lines, &mut tables, whole, found)?;
         Ok(Reader {
             alloc,
             lines,
@@ -207,6 +229,25 @@ impl<'a> Reader<'a> {
             levels,
         })
     }
+}
+
+// Takes a line in: its table, and the line.
+fn take_in<'a>(
+    alloc: Global,
+    lines: &mut Vec<Line<'a>>,
+    tables: &mut IndexMap<Vec<u8>, Table>,
+    whole: Line<'a>,
+    found: Option<Table>,
+) -> Result<(), AllocError>
+    requires found { found ≡ made (line whole) }
+    requires table { IsNewTable (map table tables.old.entries) (line whole) }
+    ensures lines { OnOk result (above lines.new.items ≡ line whole.entry ∷ above lines.old.items) }
+    ensures tables { OnOk result (map table tables.new.entries ≡ with_table (map table tables.old.entries) (line whole.entry)) }
+    ensures names { OnOk result (NamesFollow (map table tables.old.entries) (map table tables.new.entries) (line whole.entry)) }
+{
+    tables_below(alloc, tables, &whole, found)?;
+    lines.push(whole)?;
+    Ok(())
 }
 
 impl<'a> Form<'a> for Reader<'a> {
@@ -226,13 +267,7 @@ impl<'a> Form<'a> for Reader<'a> {
     ghost gives = { λ above at result. Gives fault.Memory profile_value result (whole above at) };
 
     fn take(self, at: u32, words: &[Word<'a>]) -> Result<Reader<'a>, ProfileFault> {
-        let Some(whole) = form(self.alloc, at, words)? else {
-            return Err(ProfileFault::Syntax(at));
-        };
-        let found = made(self.alloc, &whole)?;
-        if let Some(fault) = self.fault_of(at, &whole, &found) {
-            return Err(fault);
-        }
+        let Tested { whole, found } = self.tested(at, words)?;
         let reader = self.add(whole, found)?;
         Ok(reader)
     }

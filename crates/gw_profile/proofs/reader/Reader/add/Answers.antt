@@ -5,8 +5,8 @@ use Rattle.gw_profile.specs.Seen.{line}
 use Rattle.gw_profile.proofs.Kept.{new_table, new_label}
 use Rattle.gw_profile.proofs.reader.Reader.add.Goals as goal
 
-pub tables_below-requires-clause-new : goal.tables_below-requires-clause-new
-tables_below-requires-clause-new c =
+pub take_in-requires-clause-table : goal.take_in-requires-clause-table
+take_in-requires-clause-table c =
     new_table _ (line c.args.whole) c.requires.taken _ (c.self.invariant.has_names ∙ ap Fault.tables c.self.view_is)
 
 pub levels_below-requires : goal.levels_below-requires
