@@ -84,16 +84,15 @@ pub fn standing_below(held: Standing, whole: &Line) -> Standing
     }
 }
 
-fn with_field(field: u32, held: Option<OpenSegment>) -> Result<Option<OpenSegment>, AllocError>
-    requires { spec.is_made field (open_segment held) ≡ false }
-    ensures { IfOk result (λ new. open_segment new ≡ spec.with_field field (open_segment held)) }
+fn with_field(field: u32, held: &mut Option<OpenSegment>) -> Result<(), AllocError>
+    requires { spec.is_made field (open_segment held.old) ≡ false }
+    ensures { OnOk result (open_segment held.new ≡ spec.with_field field (open_segment held.old)) }
 {
     match held {
-        None => Ok(None),
+        None => Ok(()),
         Some(open) => {
-            let OpenSegment { least, mut fields } = open;
-            fields.insert(field)?;
-            Ok(Some(OpenSegment { least, fields }))
+            open.fields.insert(field)?;
+            Ok(())
         }
     }
 }
@@ -101,20 +100,26 @@ fn with_field(field: u32, held: Option<OpenSegment>) -> Result<Option<OpenSegmen
 /// The segment to which a rule below this line would belong.
 pub fn segment_below(
     alloc: Global,
-    held: Option<OpenSegment>,
+    held: &mut Option<OpenSegment>,
     whole: &Line,
-) -> Result<Option<OpenSegment>, AllocError>
-    requires { IsNewField (open_segment held) (line whole.now) }
-    ensures { IfOk result (λ new. open_segment new ≡ spec.segment_below (line whole.now) (open_segment held)) }
+) -> Result<(), AllocError>
+    requires { IsNewField (open_segment held.old) (line whole.now) }
+    ensures { OnOk result (open_segment held.new ≡ spec.segment_below (line whole.now) (open_segment held.old)) }
 {
     match whole {
-        Line::Segment(_, label, _) => Ok(Some(OpenSegment {
-            least: least_field(label),
-            fields: IndexSet::new(alloc),
-        })),
+        Line::Segment(_, label, _) => {
+            *held = Some(OpenSegment {
+                least: least_field(label),
+                fields: IndexSet::new(alloc),
+            });
+            Ok(())
+        }
         Line::Makes(rule) => with_field(rule.field(), held),
-        Line::At(_) => Ok(held),
-        _ => Ok(None),
+        Line::At(_) => Ok(()),
+        _ => {
+            *held = None;
+            Ok(())
+        }
     }
 }
 
@@ -140,36 +145,34 @@ fn opened(alloc: Global, made: &Rule) -> Option<OpenRule>
     }
 }
 
-fn with_place(place: LeafPlace, held: Option<OpenRule>) -> Result<Option<OpenRule>, AllocError>
-    requires { spec.is_placed place (open_rule held) ≡ false }
-    ensures { IfOk result (λ new. open_rule new ≡ spec.with_place place (open_rule held)) }
+fn with_place(place: LeafPlace, held: &mut Option<OpenRule>) -> Result<(), AllocError>
+    requires { spec.is_placed place (open_rule held.old) ≡ false }
+    ensures { OnOk result (open_rule held.new ≡ spec.with_place place (open_rule held.old)) }
 {
     match held {
-        None => Ok(None),
+        None => Ok(()),
         Some(open) => {
-            let OpenRule {
-                repeated,
-                mut places,
-            } = open;
-            places.insert(place)?;
-            Ok(Some(OpenRule { repeated, places }))
+            open.places.insert(place)?;
+            Ok(())
         }
     }
 }
 
 /// The rule to which a leaf below this line would belong.
-pub fn rule_below(
-    alloc: Global,
-    held: Option<OpenRule>,
-    whole: &Line,
-) -> Result<Option<OpenRule>, AllocError>
-    requires { IsNewPlace (open_rule held) (line whole.now) }
-    ensures { IfOk result (λ new. open_rule new ≡ spec.rule_below (line whole.now) (open_rule held)) }
+pub fn rule_below(alloc: Global, held: &mut Option<OpenRule>, whole: &Line) -> Result<(), AllocError>
+    requires { IsNewPlace (open_rule held.old) (line whole.now) }
+    ensures { OnOk result (open_rule held.new ≡ spec.rule_below (line whole.now) (open_rule held.old)) }
 {
     match whole {
-        Line::Makes(rule) => Ok(opened(alloc, rule)),
+        Line::Makes(rule) => {
+            *held = opened(alloc, rule);
+            Ok(())
+        }
         Line::At(leaf) => with_place(leaf.place, held),
-        _ => Ok(None),
+        _ => {
+            *held = None;
+            Ok(())
+        }
     }
 }
 
@@ -244,28 +247,19 @@ fn put_other(
     }
 }
 
-/// The tables below a line.
+/// Takes the tables below a line.
 pub fn tables_below(
     alloc: Global,
-    mut tables: IndexMap<Vec<u8>, Table>,
+    tables: &mut IndexMap<Vec<u8>, Table>,
     whole: &Line,
-) -> Result<IndexMap<Vec<u8>, Table>, AllocError>
-    requires { IsNewTable (map table tables.entries) (line whole.now) }
-    ensures { IfOk result (λ new. map table new.entries ≡ spec.tables_below (line whole.now) (map table tables.entries)) }
+) -> Result<(), AllocError>
+    requires { IsNewTable (map table tables.old.entries) (line whole.now) }
+    ensures { OnOk result (map table tables.new.entries ≡ spec.tables_below (line whole.now) (map table tables.old.entries)) }
 {
     match whole {
-        Line::Table(name) => {
-            put_table(alloc, &mut tables, name)?;
-            Ok(tables)
-        }
-        Line::Rows(first, second) => {
-            put_row(alloc, &mut tables, first, second)?;
-            Ok(tables)
-        }
-        Line::Else(value) => {
-            put_other(alloc, &mut tables, value)?;
-            Ok(tables)
-        }
-        _ => Ok(tables),
+        Line::Table(name) => put_table(alloc, tables, name),
+        Line::Rows(first, second) => put_row(alloc, tables, first, second),
+        Line::Else(value) => put_other(alloc, tables, value),
+        _ => Ok(()),
     }
 }

@@ -1,5 +1,5 @@
 //! Reading of a map, line by line.
-ghost use Rattle.std.specs.Prelude.{◌≡◌, ◌∷◌, ◌||◌, ◌&&◌, [], not, map, IfOk, false};
+ghost use Rattle.std.specs.Prelude.{◌≡◌, ◌∷◌, ◌||◌, ◌&&◌, [], not, map, IfOk, OnOk, false};
 ghost use Rattle.std.specs.List.{list_any};
 ghost use Rattle.gw_lines.specs.Seen.{word};
 ghost use Rattle.gw_lines.specs.Reading.{Gives, first_of, added};
@@ -9,7 +9,7 @@ ghost use Rattle.gw_maplang.specs.Fault as spec;
 ghost use Rattle.gw_maplang.specs.Lawful.{table_names};
 ghost use Rattle.gw_maplang.specs.Line as form;
 ghost use Rattle.gw_lines.specs.Grammar.{Taken};
-ghost use Rattle.gw_maplang.specs.Seen.{line, rule, leaf, leaf_value, table, open_segment, open_rule, map_value};
+ghost use Rattle.gw_maplang.specs.Seen.{line, above, rule, leaf, leaf_value, table, open_segment, open_rule, map_value, IsNewField, IsNewPlace, IsNewTable};
 ghost use Rattle.gw_maplang.specs.Whole.{whole, is_unclosed};
 
 use crate::context::{
@@ -342,6 +342,19 @@ impl<'a> Reader<'a> {
         self.lines.is_empty() || self.standing.depth != 0
     }
 
+    // The line that the words are below these, or its fault.
+    fn tested(&self, at: u32, words: &[Word<'a>]) -> Result<Line<'a>, MapFault>
+        ensures { Gives fault.Memory line result (spec.takes self.now at (map word words.now)) }
+    {
+        let Some(whole) = form(self.alloc, at, words)? else {
+            return Err(MapFault::Syntax(at));
+        };
+        match self.fault_of(at, &whole) {
+            Some(fault) => Err(fault),
+            None => Ok(whole),
+        }
+    }
+
     // Takes a line in.
     fn add(self, whole: Line<'a>) -> Result<Reader<'a>, AllocError>
         requires { Taken spec.grammar self (line whole) }
@@ -351,15 +364,12 @@ impl<'a> Reader<'a> {
             alloc,
             mut lines,
             standing,
-            tables,
-            segment,
-            rule,
+            mut tables,
+            mut segment,
+            mut rule,
         } = self;
         let standing = standing_below(standing, &whole);
-        let tables = tables_below(alloc, tables, &whole)?;
-        let segment = segment_below(alloc, segment, &whole)?;
-        let rule = rule_below(alloc, rule, &whole)?;
-        lines.push(whole)?;
+        take_in(alloc, &mut lines, &mut tables, &mut segment, &mut rule, whole)?;
         Ok(Reader {
             alloc,
             lines,
@@ -369,6 +379,30 @@ impl<'a> Reader<'a> {
             rule,
         })
     }
+}
+
+// Takes a line in: what it puts into the tables, what it opens, and the line.
+fn take_in<'a>(
+    alloc: Global,
+    lines: &mut Vec<Line<'a>>,
+    tables: &mut IndexMap<Vec<u8>, Table>,
+    segment: &mut Option<OpenSegment>,
+    rule: &mut Option<OpenRule>,
+    whole: Line<'a>,
+) -> Result<(), AllocError>
+    requires table { IsNewTable (map table tables.old.entries) (line whole) }
+    requires field { IsNewField (open_segment segment.old) (line whole) }
+    requires place { IsNewPlace (open_rule rule.old) (line whole) }
+    ensures lines { OnOk result (above lines.new.items ≡ line whole.entry ∷ above lines.old.items) }
+    ensures tables { OnOk result (map table tables.new.entries ≡ spec.tables_below (line whole.entry) (map table tables.old.entries)) }
+    ensures segment { OnOk result (open_segment segment.new ≡ spec.segment_below (line whole.entry) (open_segment segment.old)) }
+    ensures rule { OnOk result (open_rule rule.new ≡ spec.rule_below (line whole.entry) (open_rule rule.old)) }
+{
+    tables_below(alloc, tables, &whole)?;
+    segment_below(alloc, segment, &whole)?;
+    rule_below(alloc, rule, &whole)?;
+    lines.push(whole)?;
+    Ok(())
 }
 
 impl<'a> Form<'a> for Reader<'a> {
@@ -388,12 +422,7 @@ impl<'a> Form<'a> for Reader<'a> {
     ghost gives = { λ above at result. Gives fault.Memory map_value result (whole above at) };
 
     fn take(self, at: u32, words: &[Word<'a>]) -> Result<Reader<'a>, MapFault> {
-        let Some(whole) = form(self.alloc, at, words)? else {
-            return Err(MapFault::Syntax(at));
-        };
-        if let Some(fault) = self.fault_of(at, &whole) {
-            return Err(fault);
-        }
+        let whole = self.tested(at, words)?;
         let reader = self.add(whole)?;
         Ok(reader)
     }

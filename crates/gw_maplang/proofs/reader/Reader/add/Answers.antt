@@ -11,14 +11,14 @@ standing_below-standing-requires c =
     subst (λ (d : ℕ). HasRoom d (line c.args.whole))
     (sym (ap (λ (s : Held.Standing.Standing). s.depth) c.self.invariant.has_standing ∙ ap Fault.depth c.self.view_is)) (has_room _ (line c.args.whole) c.requires)
 
-pub tables_below-requires : goal.tables_below-requires
-tables_below-requires c =
+pub take_in-requires-clause-table : goal.take_in-requires-clause-table
+take_in-requires-clause-table c =
     subst (λ (ts : List TableValue). IsNewTable ts (line c.args.whole)) (sym (c.self.invariant.has_tables ∙ ap Fault.tables c.self.view_is)) (new_table _ (line c.args.whole) c.requires)
 
-pub segment_below-requires : goal.segment_below-requires
-segment_below-requires c =
+pub take_in-requires-clause-field : goal.take_in-requires-clause-field
+take_in-requires-clause-field c =
     subst (λ s. IsNewField s (line c.args.whole)) (sym (c.self.invariant.has_segment ∙ ap Fault.open_segment c.self.view_is)) (new_field _ (line c.args.whole) c.requires)
 
-pub rule_below-requires : goal.rule_below-requires
-rule_below-requires c =
+pub take_in-requires-clause-place : goal.take_in-requires-clause-place
+take_in-requires-clause-place c =
     subst (λ r. IsNewPlace r (line c.args.whole)) (sym (c.self.invariant.has_rule ∙ ap Fault.open_rule c.self.view_is)) (new_place _ (line c.args.whole) c.requires)
