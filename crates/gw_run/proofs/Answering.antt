@@ -1,16 +1,16 @@
 -- Runs of answers, one after another.
-use Rattle.std.proofs.Common.{◌≡◌, ◌+◌, ℕ, List, Option, length, [], ◌∷◌, ◌++◌, arith, subst, sym, ap, ◌∙◌, refl, append_assoc, append-nil, length-append}
+use Rattle.std.proofs.Common.{◌≡◌, ◌+◌, ℕ, List, Option, length, [], ◌∷◌, ◌++◌, arith, subst, sym, ap, ◌∙◌, refl, append_assoc, append-nil}
 use Rattle.std.proofs.KnownBytes.{Appends-nil, Appends-trans}
 use Rattle.std.proofs.lemmas.Grind.{flat_map-append}
 use Rattle.std.specs.Io.KnownBytes.{Appends}
 use Rattle.gw_er7.specs.Message.{SegmentValue}
-use Rattle.gw_mllp.specs.Stream.{Held, block}
+use Rattle.gw_mllp.specs.Stream.{block}
 use Rattle.gw_run.specs.declared.counts.Counts.{Counts}
 use Rattle.gw_run.specs.Answers.{Reply, Answer, IsAnswer}
-use Rattle.gw_run.specs.Counted.{with_answer, with_answers, IsTotal}
+use Rattle.gw_run.specs.Counted.{with_answer, with_answers}
 use Rattle.gw_run.specs.Sent.{SendsPart}
-use Rattle.gw_run.specs.Streams.{AreAnswers, blocks_of, Answers, Breaks, Drains}
-use Rattle.gw_run.proofs.Counting.{counted_more, all_more, total_more}
+use Rattle.gw_run.specs.Streams.{AreAnswers, blocks_of, Answers, Breaks}
+use Rattle.gw_run.proofs.Counting.{counted_more, all_more}
 
 abbrev pub Judge : Type 1
 Judge = List SegmentValue → Reply → Type 0
@@ -81,16 +81,6 @@ breaks_join J s cs ds w0 w1 w2 c0 c1 p q = record {
   );
 }
 
-pub breaks_more : (J : Judge) (s : List ℕ) (cs ds : List (List ℕ)) (w0 w1 : Option (List ℕ)) (c : Counts) → Breaks J s cs w0 w1 c → Breaks J s (cs ++ ds) w0 w1 c
-breaks_more J s cs ds w0 w1 c p = record {
-  done = p.done;
-  others = p.others ++ ds;
-  whole = ap (λ l. l ++ ds) p.whole ∙ append_assoc p.done p.others ds;
-  answers = p.answers;
-  each = p.each;
-  part = p.part;
-}
-
 -- nothing is answered
 pub breaks_none : (J : Judge) (s : List ℕ) (cs : List (List ℕ)) (w : Option (List ℕ)) (c : Counts) → Breaks J s cs w w c
 breaks_none J s cs w c = record { done = []; others = cs; whole = refl; answers = []; each = tt; part = ([], Appends-nil w, ([], refl)) }
@@ -101,40 +91,10 @@ are_many J s n [] (a ∷ xs) p = absurd p
 are_many J s n (c ∷ cs) [] p = absurd p
 are_many J s n (c ∷ cs) (a ∷ xs) p = let e = are_many J s (n + 1) cs xs p.1 in omega arith
 
--- ---- decoders
-
-pub drains_none : (J : Judge) (s : List ℕ) (h : Held) (w : Option (List ℕ)) (c : Counts) → Drains J s h h w w c c
-drains_none J s h w c = record { done = []; waits = refl; tail = refl; answers = answers_none J s w c }
-
-pub drains_one : (J : Judge) (s content : List ℕ) (h h' : Held) (w w' : Option (List ℕ)) (c c' : Counts) → h ≡ record h' { waiting = content ∷ h'.waiting }
-    → Answers J s (content ∷ []) w w' c c' → Drains J s h h' w w' c c'
-drains_one J s content h h' w w' c c' is answers = record { done = content ∷ []; waits = ap (λ x. x.waiting) is; tail = sym (ap (λ x. x.tail) is); answers = answers }
-
-pub drains_join : (J : Judge) (s : List ℕ) (h0 h1 h2 : Held) (w0 w1 w2 : Option (List ℕ)) (c0 c1 c2 : Counts)
-    → Drains J s h0 h1 w0 w1 c0 c1 → Drains J s h1 h2 w1 w2 c1 c2 → Drains J s h0 h2 w0 w2 c0 c2
-drains_join J s h0 h1 h2 w0 w1 w2 c0 c1 c2 p q = record {
-  done = p.done ++ q.done;
-  waits = p.waits ∙ ap (λ l. p.done ++ l) q.waits ∙ sym (append_assoc p.done q.done h2.waiting);
-  tail = q.tail ∙ p.tail;
-  answers = answers_join J s p.done q.done w0 w1 w2 c0 c1 c2 p.answers q.answers;
-}
-
-pub drains_break : (J : Judge) (s : List ℕ) (h0 h1 : Held) (w0 w1 w2 : Option (List ℕ)) (c0 c1 : Counts)
-    → Drains J s h0 h1 w0 w1 c0 c1 → Breaks J s h1.waiting w1 w2 c1 → Breaks J s h0.waiting w0 w2 c0
-drains_break J s h0 h1 w0 w1 w2 c0 c1 p q = subst (λ l. Breaks J s l w0 w2 c0) (sym p.waits) (breaks_join J s p.done h1.waiting w0 w1 w2 c0 c1 p.answers q)
-
-pub first_breaks : (J : Judge) (s content : List ℕ) (h h' : Held) (w w' : Option (List ℕ)) (c : Counts) → h ≡ record h' { waiting = content ∷ h'.waiting }
-    → Breaks J s (content ∷ []) w w' c → Breaks J s h.waiting w w' c
-first_breaks J s content h h' w w' c is broken =
-    subst (λ l. Breaks J s l w w' c) (sym (ap (λ x. x.waiting) is)) (breaks_more J s (content ∷ []) h'.waiting w w' c broken)
-
-pub drains_total : (J : Judge) (s : List ℕ) (h h' : Held) (w w' : Option (List ℕ)) (c c' : Counts) → Drains J s h h' w w' c c' → IsTotal c → IsTotal c'
-drains_total J s h h' w w' c c' p total = subst IsTotal (sym p.answers.counted) (total_more p.answers.answers c total)
-
--- each answer takes one block
-pub drains_room : (J : Judge) (s : List ℕ) (h h' : Held) (w w' : Option (List ℕ)) (c c' : Counts) → Drains J s h h' w w' c c' → c'.answered + length h'.waiting ≡ c.answered + length h.waiting
-drains_room J s h h' w w' c c' p =
-    let same : length p.answers.answers ≡ length p.done = are_many J s (c.answered + 1) p.done p.answers.answers p.answers.each in
-    let counted : c'.answered ≡ c.answered + length p.answers.answers = ap (λ x. x.answered) p.answers.counted ∙ all_more p.answers.answers c in
-    let both : length h.waiting ≡ length p.done + length h'.waiting = ap length p.waits ∙ length-append p.done h'.waiting in
+-- each content has one answer
+pub answers_counted : (J : Judge) (s : List ℕ) (cs : List (List ℕ)) (w w' : Option (List ℕ)) (c c' : Counts) → Answers J s cs w w' c c'
+    → c'.answered ≡ c.answered + length cs
+answers_counted J s cs w w' c c' p =
+    let same : length p.answers ≡ length cs = are_many J s (c.answered + 1) cs p.answers p.each in
+    let counted : c'.answered ≡ c.answered + length p.answers = ap (λ x. x.answered) p.counted ∙ all_more p.answers c in
     omega arith

@@ -10,7 +10,7 @@ pub counted_more : (xs bs : List Answer) (c : Counts) → with_answers (xs ++ bs
 counted_more [] bs c = refl
 counted_more (a ∷ xs) bs c = counted_more xs bs (with_answer a.code c)
 
-one_more : (code : Ack) (c : Counts) → (with_answer code c).answered ≡ c.answered + 1
+pub one_more : (code : Ack) (c : Counts) → (with_answer code c).answered ≡ c.answered + 1
 one_more AA c = refl
 one_more AE c = refl
 one_more AR c = refl
@@ -19,7 +19,7 @@ pub all_more : (xs : List Answer) (c : Counts) → (with_answers xs c).answered 
 all_more [] c = omega arith
 all_more (a ∷ xs) c = let e = all_more xs (with_answer a.code c) in let f = one_more a.code c in omega arith
 
-total_one : (code : Ack) (c : Counts) → IsTotal c → IsTotal (with_answer code c)
+pub total_one : (code : Ack) (c : Counts) → IsTotal c → IsTotal (with_answer code c)
 total_one AA c t = omega arith
 total_one AE c t = omega arith
 total_one AR c t = omega arith

@@ -1,7 +1,11 @@
 pub mod Sending
-pub mod Framing
+pub mod Posting
 pub mod Replying
 pub mod Counting
 pub mod Answering
+pub mod Walking
 pub mod Progressing
 pub mod Unique
+pub mod Enclosing
+pub mod Bundling
+pub mod Serving

@@ -14,12 +14,13 @@ use Rattle.gw_er7.specs.Message.{SegmentValue, IsMessage}
 use Rattle.gw_er7.specs.Reading.{Reads}
 use Rattle.gw_er7.specs.Written.{written}
 use Rattle.gw_mllp.specs.Stream.{HasNoEnd}
-use Rattle.gw_profile.specs.Shapes.{ProfileValue}
-use Rattle.gw_run.specs.Answers.{Reply, reject, code_of, said_by, Validated, unreadable, readable, Answer, IsAnswer}
+use Rattle.gw_run.specs.Answers.{Reply, reject, code_of, said_by, unreadable, readable, Answer, IsAnswer}
+use Rattle.gw_run.proofs.Answering.{Judge}
 
-pub says : (p : ProfileValue) (s : List ℕ) (n : ℕ) (content : List ℕ) (m : List SegmentValue) (h : HeaderValue) (reply : Reply) (a : Answer)
-    → IsMessage m → Reads content m → Validated p m reply → h ≡ header_of m → a.code ≡ code_of reply → a.content ≡ written (said_by h s n reply) → IsAnswer (Validated p) s n content a
-says p s n content m h reply a lawful reads judged header code spelled = record {
+pub says : (J : Judge) (s : List ℕ) (n : ℕ) (content : List ℕ) (m : List SegmentValue) (h : HeaderValue) (reply : Reply) (a : Answer)
+    → IsMessage m → Reads content m → J m reply → h ≡ header_of m → a.code ≡ code_of reply → a.content ≡ written (said_by h s n reply)
+    → IsAnswer J s n content a
+says J s n content m h reply a lawful reads judged header code spelled = record {
   header = header_of m;
   reply = reply;
   replies = readable m lawful reads reply judged;
@@ -27,9 +28,15 @@ says p s n content m h reply a lawful reads judged header code spelled = record 
   spelled = spelled ∙ ap (λ x. written (said_by x s n reply)) header;
 }
 
-pub says_unreadable : (p : ProfileValue) (s : List ℕ) (n : ℕ) (content : List ℕ) (fault : ReadFault) (a : Answer) → Faulty content fault → a.code ≡ AR
-    → a.content ≡ written (rejected blank s n 207) → IsAnswer (Validated p) s n content a
-says_unreadable p s n content fault a faulty code spelled = record { header = blank; reply = reject 207; replies = unreadable fault faulty; code = code; spelled = spelled }
+pub says_unreadable : (J : Judge) (s : List ℕ) (n : ℕ) (content : List ℕ) (fault : ReadFault) (a : Answer) → Faulty content fault → a.code ≡ AR
+    → a.content ≡ written (rejected blank s n 207) → IsAnswer J s n content a
+says_unreadable J s n content fault a faulty code spelled = record {
+  header = blank;
+  reply = reject 207;
+  replies = unreadable fault faulty;
+  code = code;
+  spelled = spelled;
+}
 
 -- FS is a byte that isn't allowed
 bad_within : (before after : List ℕ) → prefix_len (λ b. not (not (is_allowed b))) (before ++ 28 ∷ 13 ∷ after) ≤ length before
@@ -55,10 +62,13 @@ readable_has_no_end content is before after e =
 pub acknowledges_has_no_end : (content control : List ℕ) (ack : Ack) → Acknowledges content control ack → HasNoEnd content
 acknowledges_has_no_end content control ack says = readable_has_no_end content says.reads.readable
 
-pub or_unreadable : {T E : Type 0} (code : T → Ack) (content_of : T → List ℕ) (r : Result T E) (p : ProfileValue) (s : List ℕ) (n : ℕ) (content : List ℕ) (fault : ReadFault) → Faulty content fault
-    → IfOk r (λ a. code a ≡ AR) → IfOk r (λ a. content_of a ≡ written (rejected blank s n 207)) → IfOk r (λ a. IsAnswer (Validated p) s n content (record { code = code a; content = content_of a }))
-or_unreadable code content_of (Ok a) p s n content fault faulty ar spelled = says_unreadable p s n content fault (record { code = code a; content = content_of a }) faulty ar spelled
-or_unreadable code content_of (Err e) p s n content fault faulty ar spelled = tt
+pub or_unreadable : {T E : Type 0} (code : T → Ack) (content_of : T → List ℕ) (r : Result T E) (J : Judge) (s : List ℕ) (n : ℕ) (content : List ℕ)
+    (fault : ReadFault) → Faulty content fault
+    → IfOk r (λ a. code a ≡ AR) → IfOk r (λ a. content_of a ≡ written (rejected blank s n 207))
+    → IfOk r (λ a. IsAnswer J s n content (record { code = code a; content = content_of a }))
+or_unreadable code content_of (Ok a) J s n content fault faulty ar spelled =
+    says_unreadable J s n content fault (record { code = code a; content = content_of a }) faulty ar spelled
+or_unreadable code content_of (Err e) J s n content fault faulty ar spelled = tt
 
 -- a fault that isn't want of memory is the content's
 pub is_faulty : (content : List ℕ) (fault : ReadFault) → ¬ (fault ≡ Memory) → (fault ≡ Memory) ⊎ Faulty content fault → Faulty content fault

@@ -1,5 +1,5 @@
 -- How many answers were written, by their codes.
-use Rattle.std.specs.Prelude.{◌≡◌, ◌+◌, List, [], ◌∷◌}
+use Rattle.std.specs.Prelude.{◌≡◌, ℕ, ◌+◌, ◌-◌, ◌^◌, min, List, [], ◌∷◌}
 use Rattle.gw_ack.specs.declared.receipt.Ack.{Ack}
 use Rattle.gw_ack.specs.declared.receipt.Ack.TheVariants.{AA, AE, AR}
 use Rattle.gw_run.specs.declared.counts.Counts.{Counts}
@@ -14,6 +14,10 @@ abbrev pub with_answer : Ack → Counts → Counts
 with_answer AA counts = record counts { answered = counts.answered + 1; aa = counts.aa + 1 }
 with_answer AE counts = record counts { answered = counts.answered + 1; ae = counts.ae + 1 }
 with_answer AR counts = record counts { answered = counts.answered + 1; ar = counts.ar + 1 }
+
+-- the same, and the blocks that were sent, as far as a count of 64 bits can tell
+abbrev pub with_one : Ack → ℕ → Counts → Counts
+with_one code blocks counts = record (with_answer code counts) { sent = min (counts.sent + blocks) (2 ^ 64 - 1) }
 
 -- these answers more
 abbrev pub with_answers : List Answer → Counts → Counts

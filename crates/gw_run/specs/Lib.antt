@@ -2,5 +2,9 @@ pub mod Sent
 pub mod Faults
 pub mod Answers
 pub mod Counted
-pub mod Streams
 pub mod Reading
+pub mod Walked
+pub mod Streams
+pub mod Posts
+pub mod Served
+pub mod Bundled

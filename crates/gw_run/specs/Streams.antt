@@ -1,13 +1,14 @@
 -- What is answered to the blocks of a stream, and what a writer holds of it.
-use Rattle.std.specs.Prelude.{◌≡◌, ℕ, ◌+◌, ◌*◌, ◌≤◌, List, [], ◌∷◌, ◌++◌, length, Option}
-use Rattle.std.specs.Io.KnownBytes.{Appends, Consumes}
+use Rattle.std.specs.Prelude.{◌≡◌, ℕ, ◌+◌, List, [], ◌∷◌, ◌++◌, Option}
+use Rattle.std.specs.Io.KnownBytes.{Appends}
 use Rattle.std.specs.List.{flat_map}
 use Rattle.gw_er7.specs.Message.{SegmentValue}
-use Rattle.gw_mllp.specs.Stream.{Blocks, Has, Held, Stands, Tail, block}
+use Rattle.gw_mllp.specs.Stream.{Blocks, Has, Tail, block}
 use Rattle.gw_run.specs.declared.counts.Counts.{Counts}
 use Rattle.gw_run.specs.Answers.{Reply, Answer, IsAnswer}
 use Rattle.gw_run.specs.Counted.{nothing, with_answers}
 use Rattle.gw_run.specs.Sent.{SendsPart}
+use Rattle.gw_run.specs.Walked.{Place, Walks}
 
 -- the answers to contents, one for each and in order, numbered from this number on
 abbrev pub AreAnswers : (List SegmentValue → Reply → Type 0) → List ℕ → ℕ → List (List ℕ) → List Answer → Type 0
@@ -64,20 +65,9 @@ pub record Breaks (Judged : List SegmentValue → Reply → Type 0) (stamp : Lis
   pub each : AreAnswers Judged stamp (old.answered + 1) done answers
   pub part : SendsPart before after (blocks_of answers)
 
--- a decoder gave its first blocks, and they were answered
-pub record Drains (Judged : List SegmentValue → Reply → Type 0) (stamp : List ℕ) (held holds : Held) (before after : Option (List ℕ)) (old new : Counts) : Type 0 where
-  pub done : List (List ℕ)
-  pub waits : held.waiting ≡ done ++ holds.waiting
-  pub tail : holds.tail ≡ held.tail
-  pub answers : Answers Judged stamp done before after old new
-
--- all blocks of what was read so far were answered
-pub record Progress (Judged : List SegmentValue → Reply → Type 0) (stamp : List ℕ) (unread left : Option (List ℕ)) (held : Held) (before after : Option (List ℕ)) (counts : Counts) (turn : ℕ) : Type 0 where
-  pub taken : List ℕ
-  pub takes : Consumes unread left taken
-  pub many : turn ≤ length taken
-  pub few : length taken ≤ turn * 65536
+-- all blocks that were given so far were answered
+pub record Progress (Judged : List SegmentValue → Reply → Type 0) (stamp : List ℕ) (left : Option (List ℕ)) (reads : ℕ) (here : Place)
+    (before after : Option (List ℕ)) (counts : Counts) : Type 0 where
   pub given : List (List ℕ)
-  pub stands : Stands taken given held
-  pub none : held.waiting ≡ []
+  pub walks : Walks left reads here given
   pub answers : Answers Judged stamp given before after nothing counts

@@ -47,7 +47,11 @@ fn answer_message(
 }
 
 /// The answer to a content that can't be read.
-fn answer_unreadable(alloc: Global, stamp: Stamp, number: u64) -> Result<(Ack, Vec<u8>), AllocError>
+pub(crate) fn answer_unreadable(
+    alloc: Global,
+    stamp: Stamp,
+    number: u64,
+) -> Result<(Ack, Vec<u8>), AllocError>
     ensures code { IfOk result (λ a. a.0 ≡ Ack.AR) }
     ensures content { IfOk result (λ a. a.1.items ≡ written (rejected blank stamp number 207)) }
     ensures lawful { IfOk result (λ a. HasNoEnd a.1.items) }

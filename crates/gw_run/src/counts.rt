@@ -1,5 +1,5 @@
 //! What a run did, in numbers.
-ghost use Rattle.std.specs.Prelude.{◌≡◌, ◌<◌, ◌^◌};
+ghost use Rattle.std.specs.Prelude.{◌≡◌, ◌<◌, ◌+◌, ◌-◌, ◌^◌, min};
 ghost use Rattle.gw_run.specs.Counted.{IsTotal, nothing, with_answer};
 
 use gw_ack::Ack;
@@ -42,5 +42,12 @@ impl Counts {
             Ack::AE => self.ae += 1,
             Ack::AR => self.ar += 1,
         }
+    }
+
+    /// Counts blocks that were sent to receivers, as far as 64 bits can tell.
+    pub(crate) fn add_sent(&mut self, blocks: usize)
+        ensures { self.new ≡ record self.old { sent = min (self.old.sent + blocks) (2 ^ 64 - 1) } }
+    {
+        self.sent = self.sent.saturating_add(blocks as u64);
     }
 }

@@ -3,6 +3,8 @@ ghost use Rattle.std.specs.Prelude.{◌≡◌, List, ℕ};
 ghost use Rattle.gw_profile.specs.Shapes.{ProfileValue};
 ghost use Rattle.gw_profile.specs.WellFormed.{WellFormed};
 ghost use Rattle.gw_run.specs.Answers.{Answer, IsAnswer, Validated};
+ghost use Rattle.gw_run.specs.Posts.{IsBeginning, Post, Whom, bytes_to};
+ghost use Rattle.gw_run.specs.Sent.{BeginsWith};
 
 use gw_er7::reads_once;
 use gw_validate::laws::{conforming_breaks_nothing, one_least};
@@ -15,3 +17,8 @@ pub fn one_answer()
     one_least();
     conforming_breaks_nothing();
 }
+
+/// Posts that were sent in part, in order, are for each one a beginning of what is meant for it.
+pub fn a_beginning_for_each()
+    ensures { (sent posts : List Post) (whom : Whom) → IsBeginning sent posts → BeginsWith (bytes_to whom posts) (bytes_to whom sent) }
+{}

@@ -1,102 +1,79 @@
-use Rattle.std.proofs.Common.{rules, ap, refl, sym, ◌∙◌, Ok, arith}
-use Rattle.std.proofs.lemmas.Grind.{common_steps}
-use Rattle.gw_run.specs.Faults.{memory, read, too_long, turns}
-use Rattle.gw_run.proofs.Progressing.{progress_begins, progress_goes, progress_ends, progress_long, progress_stops, progress_breaks, progress_total, progress_room, progress_turns, reads_none, reads_more, reads_all, between_goes_on, ends_well, ends_within, ends_of_stream, sends_of_stream}
+use Rattle.std.proofs.Common.{rules, arith}
+use Rattle.gw_mllp.specs.Stream.{Between}
+use Rattle.gw_run.proofs.Answering.{answers_counted}
+use Rattle.gw_run.proofs.Progressing.{progress_begins, progress_goes, progress_ends, progress_within, progress_long, progress_stops, progress_breaks, progress_total, progress_room, progress_turns, progress_counted, reading_of_stream, reading_not_write, sends_of_stream}
 use Rattle.gw_run.proofs.stream.answer_stream.Goals as goal
 
-pub reads-init : goal.reads-init
-reads-init g c = record {
+pub each-init : goal.each-init
+each-init g c = record {
   reads = c.requires.reads;
   writes = c.requires.writes;
-  counted = reads_none _;
-  on = between_goes_on _ (ap (λ h. h.tail) c.new-decoder.ensures.empty);
-  progress = progress_begins _ _ _ _ _ _ c.new-decoder.ensures.stands (ap (λ h. h.waiting) c.new-decoder.ensures.empty) c.none-counts.ensures;
+  progress =
+      progress_begins _ _ _ _ _ _ _ (c.new-blocks.ensures (g.R.Source.remaining c.args.reader.now) (g.R.Source.reads c.args.reader.now)) c.none-counts.ensures;
 }
 
-pub returns-in_default-clause-part : goal.returns-in_default-clause-part
-returns-in_default-clause-part g c = progress_stops _ _ _ _ _ _ _ _ _ c.reads.invariant.progress
+pub returns-in_err-content-clause-truncated : goal.returns-in_err-content-clause-truncated
+returns-in_err-content-clause-truncated g c err =
+    let within = c.in_err-content.ensures.truncated (search rules) in
+    progress_within _ _ _ _ _ _ _ _ within.0 c.each.invariant.progress within.1
 
-pub returns-in_default-clause-kinds : goal.returns-in_default-clause-kinds
-returns-in_default-clause-kinds g c = read
+pub returns-in_err-content-clause-too_long : goal.returns-in_err-content-clause-too_long
+returns-in_err-content-clause-too_long g c err = progress_long _ _ _ _ _ _ _ _ c.each.invariant.progress (c.in_err-content.ensures.too_long (search rules))
 
-pub returns-then-count-eq0-clause-all : goal.returns-then-count-eq0-clause-all
-returns-then-count-eq0-clause-all g c =
-    let eats = rw c.if-count-eq0.true at c.in-Ok.ensures.bytes in
-    let all = progress_ends _ _ _ _ _ _ _ _ _ _ c.reads.invariant.progress eats.0 (eats.1 refl (let long = c.read.auto.buf in search rules)) in
-    ends_well _ _ _ _ _ _ _ _ all c.end_of.ensures.ok
+pub returns-in_err-content-clause-part : goal.returns-in_err-content-clause-part
+returns-in_err-content-clause-part g c = let part = progress_stops _ _ _ _ _ _ _ _ c.each.invariant.progress in search rules
 
-pub returns-then-count-eq0-clause-truncated : goal.returns-then-count-eq0-clause-truncated
-returns-then-count-eq0-clause-truncated g c err =
-    let eats = rw c.if-count-eq0.true at c.in-Ok.ensures.bytes in
-    let all = progress_ends _ _ _ _ _ _ _ _ _ _ c.reads.invariant.progress eats.0 (eats.1 refl (let long = c.read.auto.buf in search rules)) in
-    ends_within _ _ _ _ _ _ _ _ all c.end_of.ensures.err err
+pub returns-in_err-content-clause-write : goal.returns-in_err-content-clause-write
+returns-in_err-content-clause-write g c = (λ err. absurd (reading_not_write c.next.result c.next.ensures.kinds (search rules)), λ failed. search rules)
 
-pub returns-then-count-eq0-clause-part : goal.returns-then-count-eq0-clause-part
-returns-then-count-eq0-clause-part g c = let part = progress_stops _ _ _ _ _ _ _ _ _ c.reads.invariant.progress in search rules
+pub returns-in_err-content-clause-turns : goal.returns-in_err-content-clause-turns
+returns-in_err-content-clause-turns g c err =
+    progress_turns _ _ _ _ _ _ _ _ _ c.each.invariant.progress (c.in_err-content.ensures.turned (search rules)) (c.in_err-content.ensures.turns (search rules))
 
-pub returns-then-count-eq0-clause-kinds : goal.returns-then-count-eq0-clause-kinds
-returns-then-count-eq0-clause-kinds g c = ends_of_stream _ _ c.end_of.ensures.err
+pub returns-in_err-content-clause-counted : goal.returns-in_err-content-clause-counted
+returns-in_err-content-clause-counted g c err =
+    progress_counted _ _ _ _ _ _ _ _ _ c.each.invariant.progress (c.in_err-content.ensures.turned (search rules))
+    (c.in_err-content.ensures.turns (search rules))
 
-pub returns-in_err-on-clause-part : goal.returns-in_err-on-clause-part
-returns-in_err-on-clause-part g c = let part = progress_stops _ _ _ _ _ _ _ _ _ c.reads.invariant.progress in search rules
+pub returns-in_err-content-clause-kinds : goal.returns-in_err-content-clause-kinds
+returns-in_err-content-clause-kinds g c = let kind = reading_of_stream _ c.in_err-content.ensures.kinds in search rules
 
-pub returns-in_err-on-clause-kinds : goal.returns-in_err-on-clause-kinds
-returns-in_err-on-clause-kinds g c = let kind = memory in search rules
+pub answer_content-requires-clause-total : goal.answer_content-requires-clause-total
+answer_content-requires-clause-total g c = progress_total _ _ _ _ _ _ _ _ c.each.invariant.progress
 
-pub answer_waiting-requires-clause-total : goal.answer_waiting-requires-clause-total
-answer_waiting-requires-clause-total g c = progress_total _ _ _ _ _ _ _ _ _ c.reads.invariant.progress
+pub answer_content-requires-clause-room : goal.answer_content-requires-clause-room
+answer_content-requires-clause-room g c =
+    let goes = rw c.in-Some.is at c.in_ok-content.ensures.goes in
+    let room = progress_room _ _ _ _ _ _ _ _ _ _ c.each.invariant.progress goes in
+    omega arith
 
-pub answer_waiting-requires-clause-room : goal.answer_waiting-requires-clause-room
-answer_waiting-requires-clause-room g c =
-    let long = c.read.auto.buf in
-    progress_room _ _ _ _ _ _ _ _ _ _ _ c.reads.invariant.progress (search rules) (grind (arith, common_steps)) c.in_ok-on.ensures.stands
+pub returns-in_err-answer_content-clause-part : goal.returns-in_err-answer_content-clause-part
+returns-in_err-answer_content-clause-part g c =
+    let goes = rw c.in-Some.is at c.in_ok-content.ensures.goes in
+    let off = rw c.deref.ensures.value at c.in_err-answer_content.ensures.part in
+    let part = progress_breaks _ _ _ _ _ _ _ _ _ _ _ c.each.invariant.progress goes off in search rules
 
-pub returns-in_err-answer_waiting-clause-part : goal.returns-in_err-answer_waiting-clause-part
-returns-in_err-answer_waiting-clause-part g c =
-    let part = progress_breaks _ _ _ _ _ _ _ _ _ _ _ _ _ c.reads.invariant.progress c.in-Ok.ensures.bytes.0 c.in_ok-on.ensures.stands c.in_err-answer_waiting.ensures.part in search rules
+pub returns-in_err-answer_content-clause-kinds : goal.returns-in_err-answer_content-clause-kinds
+returns-in_err-answer_content-clause-kinds g c = let kind = sends_of_stream _ c.in_err-answer_content.ensures.kinds in search rules
 
-pub returns-in_err-answer_waiting-clause-kinds : goal.returns-in_err-answer_waiting-clause-kinds
-returns-in_err-answer_waiting-clause-kinds g c = let kind = sends_of_stream _ c.in_err-answer_waiting.ensures.kinds in search rules
+pub each-smaller : goal.each-smaller
+each-smaller g c =
+    let goes = rw c.in-Some.is at c.in_ok-content.ensures.goes in
+    let room = progress_room _ _ _ _ _ _ _ _ _ _ c.each.invariant.progress goes in
+    let one = answers_counted _ _ _ _ _ _ _ c.in_ok-answer_content.ensures.ok in
+    omega arith
 
-pub returns-then-not-on-clause-too_long : goal.returns-then-not-on-clause-too_long
-returns-then-not-on-clause-too_long g c err =
-    let long = c.read.auto.buf in
-    let past = c.in_ok-answer_waiting.ensures.ok.tail ∙ c.in_ok-on.ensures.over (ap Ok c.if-not-on.true) in
-    progress_long _ _ _ _ _ _ _ _ _
-    (progress_goes _ _ _ _ _ _ _ _ _ _ _ _ _ _ _ c.reads.invariant.progress c.in-Ok.ensures.bytes.0 (grind (arith, common_steps)) (grind (arith, common_steps))
-    c.in_ok-on.ensures.stands c.in_ok-answer_waiting.ensures.ok c.in_ok-answer_waiting.ensures.none)
-    past
-
-pub returns-then-not-on-clause-part : goal.returns-then-not-on-clause-part
-returns-then-not-on-clause-part g c =
-    let long = c.read.auto.buf in
-    progress_stops _ _ _ _ _ _ _ _ _
-    (progress_goes _ _ _ _ _ _ _ _ _ _ _ _ _ _ _ c.reads.invariant.progress c.in-Ok.ensures.bytes.0 (grind (arith, common_steps)) (grind (arith, common_steps))
-    c.in_ok-on.ensures.stands c.in_ok-answer_waiting.ensures.ok c.in_ok-answer_waiting.ensures.none)
-
-pub returns-then-not-on-clause-kinds : goal.returns-then-not-on-clause-kinds
-returns-then-not-on-clause-kinds g c = too_long
-
-pub reads-preserved : goal.reads-preserved
-reads-preserved g c =
-    let long = c.read.auto.buf in
+pub each-preserved : goal.each-preserved
+each-preserved g c =
+    let goes = rw c.in-Some.is at c.in_ok-content.ensures.goes in
+    let answers = rw c.deref.ensures.value at c.in_ok-answer_content.ensures.ok in
     record {
       reads = search rules;
       writes = search rules;
-      on = λ past. c.in_ok-on.ensures.on (ap Ok c.if-not-on.false) (sym c.in_ok-answer_waiting.ensures.ok.tail ∙ past);
-      counted = reads_more _ _ _ _ c.reads.invariant.counted c.in-Ok.ensures.counted;
-      progress = progress_goes _ _ _ _ _ _ _ _ _ _ _ _ _ _ _ c.reads.invariant.progress c.in-Ok.ensures.bytes.0 (grind (arith, common_steps)) (grind (arith, common_steps))
-          c.in_ok-on.ensures.stands c.in_ok-answer_waiting.ensures.ok c.in_ok-answer_waiting.ensures.none;
+      progress = progress_goes _ _ _ _ _ _ _ _ _ _ _ _ c.each.invariant.progress goes answers;
     }
 
-pub returns-clause-part : goal.returns-clause-part
-returns-clause-part g c = progress_stops _ _ _ _ _ _ _ _ _ c.reads.invariant.progress
-
-pub returns-clause-turns : goal.returns-clause-turns
-returns-clause-turns g c err = progress_turns _ _ _ _ _ _ _ _ _ 1000000 c.reads.invariant.progress (search rules)
-
-pub returns-clause-counted : goal.returns-clause-counted
-returns-clause-counted g c err = reads_all _ 1000000 _ _ c.reads.invariant.counted (first_of (omega arith, search rules)) (first_of (omega arith, search rules))
-
-pub returns-clause-kinds : goal.returns-clause-kinds
-returns-clause-kinds g c = turns
+pub returns-clause-all : goal.returns-clause-all
+returns-clause-all g c =
+    let ends = rw c.in_default.is at c.in_ok-content.ensures.end in
+    progress_ends _ _ _ _ _ _ _ _ Between c.each.invariant.progress ends
