@@ -1,0 +1,374 @@
+-- A courier's rounds.
+use Rattle.std.proofs.Common.{◌≡◌, ◌≤◌, ◌<◌, ◌+◌, ℕ, Bool, true, false, List, [], ◌∷◌, ◌++◌, Option, None, Some, IfSome, Result, Ok, Err, IfErr, length, refl}
+use Rattle.std.proofs.Common.{sym, ap, subst, ◌∙◌, arith, append_assoc, append-nil, length-append}
+use Rattle.std.proofs.KnownBytes.{Appends-nil, Appends-trans, Consumes-nil, Consumes-trans, Consumes-whole}
+use Rattle.std.specs.Io.KnownBytes.{Appends, Consumes, IsAtEnd}
+use Rattle.gw_ack.specs.declared.receipt.Ack.{Ack}
+use Rattle.gw_ack.specs.declared.receipt.Ack.TheVariants.{AA, AE, AR}
+use Rattle.gw_ack.specs.Acknowledged.{Acknowledges}
+use Rattle.gw_er7.specs.Message.{SegmentValue}
+use Rattle.gw_er7.specs.Written.{written}
+use Rattle.gw_gate.specs.Journal.{WasOut}
+use Rattle.gw_gate.specs.Parts.{TranslatedSeen}
+use Rattle.gw_gate.specs.Seen.{message_seen}
+use Rattle.gw_mllp.specs.Stream.{Has, Held, Stands, Tail, Between, Within, Overlong, LongAfter, block}
+use Rattle.gw_run.specs.declared.counts.Counts.{Counts}
+use Rattle.gw_run.specs.declared.fault.RunFault.{RunFault}
+use Rattle.gw_run.specs.declared.fault.RunFault.TheVariants.{Memory, Line, Turns}
+use Rattle.gw_run.specs.Counted.{nothing}
+use Rattle.gw_run.specs.Reading.{ReadTimes}
+use Rattle.gw_run.specs.Sent.{BeginsWith, SendsPart}
+use Rattle.gw_run.specs.Streams.{HasFirst}
+use Rattle.gw_crew.specs.Notes.{NoteSeen, WasFull, WasNothing, Added}
+use Rattle.gw_crew.specs.Streams.{Reading, Feeds}
+use Rattle.gw_crew.specs.Turns.{Adds, Waits, never, again, ComesOut, ComesNone}
+use Rattle.gw_crew.specs.Carries.{Rounds, no_round, sent_one, waited, none_left, full, Carried, Carries, write, read, ended, denied, LineFails}
+use Rattle.gw_crew.specs.Carries.{memory, turns, line, Breaks, empty_handed, in_hand, GivesNext, GivesNone, Sent, Unsent, Unwritten, WriteFails}
+use Rattle.gw_crew.specs.Carries.{write_memory, write_line, Denies, no_memory, not_acknowledged, Progress, control_of, with_sent}
+
+-- ---- numbers
+
+total_one : (ack : Ack) (c : Counts) → c.aa + c.ae + c.ar ≡ c.sent → (with_sent ack c).aa + (with_sent ack c).ae + (with_sent ack c).ar ≡ (with_sent ack c).sent
+total_one AA c is = omega arith
+total_one AE c is = omega arith
+total_one AR c is = omega arith
+
+sent_once : (ack : Ack) (c : Counts) → (with_sent ack c).sent ≡ c.sent + 1
+sent_once AA c = refl
+sent_once AE c = refl
+sent_once AR c = refl
+
+record IsCount (notes : List NoteSeen) (c : Counts) : Type 0 where
+  total : c.aa + c.ae + c.ar ≡ c.sent
+  few : c.sent ≤ length notes
+
+counted : (r : ℕ) (notes : List NoteSeen) (sent : List ℕ) (blocks : List (List ℕ)) (c : Counts) → Rounds r notes sent blocks c → IsCount notes c
+counted r notes sent blocks c no_round = record { total = omega arith; few = omega arith }
+counted r notes sent blocks c (sent_one before bytes contents was at n t message content ack rounds is says) =
+    let had = counted r before bytes contents was rounds in
+    let one = sent_once ack was in
+    let few = had.few in
+    let long = length-append before (Added at (WasOut n r t) ∷ []) in
+    record { total = total_one ack was had.total; few = omega (arith, one, few, long) }
+counted r notes sent blocks c (waited before bytes contents was rounds) =
+    let had = counted r before bytes contents was rounds in
+    let few = had.few in
+    let long = length-append before (WasNothing r ∷ []) in
+    record { total = had.total; few = omega (arith, few, long) }
+
+-- ---- notes
+
+waits_on : (r : ℕ) (notes more : List NoteSeen) (sent : List ℕ) (blocks : List (List ℕ)) (c : Counts) → Rounds r notes sent blocks c → Waits r more
+    → Rounds r (notes ++ more) sent blocks c
+waits_on r notes more sent blocks c rounds never = subst (λ l. Rounds r l sent blocks c) (sym (append-nil notes)) rounds
+waits_on r notes more sent blocks c rounds (again before was) =
+    subst (λ l. Rounds r l sent blocks c) (append_assoc notes before (WasNothing r ∷ []))
+    (waited (notes ++ before) sent blocks c (waits_on r notes before sent blocks c rounds was))
+
+pub waits_none : (r : ℕ) (old : List NoteSeen) → Adds (Waits r) old old
+waits_none r old = record { more = []; holds = never; noted = sym (append-nil old) }
+
+pub waits_once : (r : ℕ) (old mid new : List NoteSeen) → Adds (Waits r) old mid → new ≡ mid ++ WasNothing r ∷ [] → Adds (Waits r) old new
+waits_once r old mid new was is = record {
+  more = was.more ++ WasNothing r ∷ [];
+  holds = again was.more was.holds;
+  noted = is ∙ ap (λ l. l ++ WasNothing r ∷ []) was.noted ∙ append_assoc old was.more (WasNothing r ∷ []);
+}
+
+pub carried_none : (r : ℕ) (w : Option (List ℕ)) (old : List NoteSeen) → Carried r w w old old [] nothing
+carried_none r w old = record { notes = []; sent = []; rounds = no_round; noted = sym (append-nil old); wrote = Appends-nil w }
+
+pub carried_waits : (r : ℕ) (w w' : Option (List ℕ)) (old mid new : List NoteSeen) (blocks : List (List ℕ)) (c : Counts) → Carried r w w' old mid blocks c
+    → Adds (Waits r) mid new → Carried r w w' old new blocks c
+carried_waits r w w' old mid new blocks c was waits = record {
+  notes = was.notes ++ waits.more;
+  sent = was.sent;
+  rounds = waits_on r was.notes waits.more was.sent blocks c was.rounds waits.holds;
+  noted = waits.noted ∙ ap (λ l. l ++ waits.more) was.noted ∙ append_assoc old was.notes waits.more;
+  wrote = was.wrote;
+}
+
+pub carried_one : (r n : ℕ) (w w1 w2 : Option (List ℕ)) (old mid new : List NoteSeen) (blocks : List (List ℕ)) (c : Counts) (at : ℕ) (t : TranslatedSeen)
+    (message : List SegmentValue) (content : List ℕ) (ack : Ack)
+    → Carried r w w1 old mid blocks c → new ≡ mid ++ Added at (WasOut n r t) ∷ [] → t.message ≡ message_seen message → Appends w1 w2 (block (written message)) →
+    Acknowledges content (control_of message) ack
+    → Carried r w w2 old new (blocks ++ content ∷ []) (with_sent ack c)
+carried_one r n w w1 w2 old mid new blocks c at t message content ack was is seen wrote says = record {
+  notes = was.notes ++ Added at (WasOut n r t) ∷ [];
+  sent = was.sent ++ block (written message);
+  rounds = sent_one was.notes was.sent blocks c at n t message content ack was.rounds seen says;
+  noted = is ∙ ap (λ l. l ++ Added at (WasOut n r t) ∷ []) was.noted ∙ append_assoc old was.notes (Added at (WasOut n r t) ∷ []);
+  wrote = Appends-trans w w1 w2 was.sent (block (written message)) was.wrote wrote;
+}
+
+-- ---- the stream
+
+pub reading_begins : (s : Option (List ℕ)) (h : Held) → Stands [] [] h → Reading s s [] h
+reading_begins s h stands = record { taken = []; takes = Consumes-nil s; stands = stands }
+
+first_of : (stream more : List ℕ) (blocks others : List (List ℕ)) (tail : Tail) → Has stream (blocks ++ others) tail → HasFirst (stream ++ more) blocks
+first_of stream more blocks others Between p = record { front = stream; more = more; whole = refl; others = others; left = None; cut = p.0 }
+first_of stream more blocks others (Within t) p = record { front = stream; more = more; whole = refl; others = others; left = Some t; cut = p.0 }
+first_of stream more blocks others Overlong p = record {
+  front = p.front;
+  more = p.more ++ more;
+  whole = ap (λ l. l ++ more) p.whole ∙ append_assoc p.front p.more more;
+  others = others;
+  left = Some p.left;
+  cut = p.cut;
+}
+
+-- what a decoder gave are the first blocks of the stream
+pub first_blocks : (s left : Option (List ℕ)) (blocks : List (List ℕ)) (h : Held) → Reading s left blocks h → IfSome s (λ bytes. HasFirst bytes blocks)
+first_blocks None left blocks h was = tt
+first_blocks (Some bytes) None blocks h was = absurd was.takes
+first_blocks (Some bytes) (Some rest) blocks h was = subst (λ l. HasFirst l blocks) (sym was.takes) (first_of was.taken rest blocks h.waiting h.tail was.stands)
+
+-- a piece was read and fed
+pub reading_more : (s left left' : Option (List ℕ)) (blocks : List (List ℕ)) (h h' : Held) (piece : List ℕ) → Reading s left blocks h
+    → Consumes left left' piece
+    → ((stream : List ℕ) (given : List (List ℕ)) → Stands stream given h → Stands (stream ++ piece) given h') → Reading s left' blocks h'
+reading_more s left left' blocks h h' piece was takes feeds = record {
+  taken = was.taken ++ piece;
+  takes = Consumes-trans s left left' was.taken piece was.takes takes;
+  stands = feeds was.taken blocks was.stands;
+}
+
+-- the decoder gave a block
+pub reading_gives : (s left : Option (List ℕ)) (blocks : List (List ℕ)) (h h' : Held) (content : List ℕ) → Reading s left blocks h
+    → ((stream : List ℕ) (given : List (List ℕ)) → Stands stream given h → Stands stream (given ++ content ∷ []) h') → Reading s left (blocks ++ content ∷ [])
+    h'
+reading_gives s left blocks h h' content was gives = record { taken = was.taken; takes = was.takes; stands = gives was.taken blocks was.stands }
+
+stands_all : (stream : List ℕ) (blocks : List (List ℕ)) (h : Held) → Stands stream blocks h → h.waiting ≡ [] → Has stream blocks h.tail
+stands_all stream blocks h stands none = subst (λ l. Has stream l h.tail) (ap (λ l. blocks ++ l) none ∙ append-nil blocks) stands
+
+-- the source is at its end, and no block waits
+pub reading_ends : (s left left' : Option (List ℕ)) (blocks : List (List ℕ)) (h : Held) → Reading s left blocks h → Consumes left left' [] → IsAtEnd left'
+    → h.waiting ≡ []
+    → (tail : Tail) × IfSome s (λ bytes. Has bytes blocks tail)
+reading_ends s left left' blocks h was none end empty = (
+  h.tail,
+  Consumes-whole s left' was.taken (λ bytes. Has bytes blocks h.tail)
+      (subst (Consumes s left') (append-nil was.taken) (Consumes-trans s left left' was.taken [] was.takes none)) end
+      (stands_all was.taken blocks h was.stands empty),
+)
+
+-- a block is too long, and none waits
+pub reading_long : (s left : Option (List ℕ)) (blocks : List (List ℕ)) (h : Held) → Reading s left blocks h → h.waiting ≡ [] → h.tail ≡ Overlong
+    → IfSome s (λ bytes. Has bytes blocks Overlong)
+reading_long None left blocks h was empty long = tt
+reading_long (Some bytes) None blocks h was empty long = absurd was.takes
+reading_long (Some bytes) (Some rest) blocks h was empty long =
+    let p = subst (Has was.taken blocks) long (stands_all was.taken blocks h was.stands empty) in
+    subst (λ l. LongAfter l blocks) (sym was.takes) (record {
+      front = p.front;
+      more = p.more ++ rest;
+      whole = ap (λ l. l ++ rest) p.whole ∙ append_assoc p.front p.more rest;
+      left = p.left;
+      cut = p.cut;
+      long = p.long;
+    })
+
+-- ---- waits
+
+pub out_so : (r n : ℕ) (t : TranslatedSeen) (old mid new : List NoteSeen) (at : ℕ) → Adds (Waits r) old mid → new ≡ mid ++ Added at (WasOut n r t) ∷ []
+    → ComesOut r n t old new
+out_so r n t old mid new at was is = record { mid = mid; waits = was; at = at; noted = is }
+
+pub full_so : (r : ℕ) (old mid new : List NoteSeen) → Adds (Waits r) old mid → new ≡ mid ++ WasFull ∷ [] → ComesNone r old new
+full_so r old mid new was is = record { mid = mid; waits = was; last = WasFull; ends = full; noted = is }
+
+pub none_so : (r : ℕ) (old mid asked new : List NoteSeen) → Adds (Waits r) old mid → asked ≡ mid ++ WasNothing r ∷ [] → new ≡ asked → ComesNone r old new
+none_so r old mid asked new was is same = record { mid = mid; waits = was; last = WasNothing r; ends = none_left; noted = same ∙ is }
+
+pub longer_by : (old mid : List NoteSeen) (note : NoteSeen) (new : List NoteSeen) → mid ≡ old ++ note ∷ [] → new ≡ mid → length old < length new
+longer_by old mid note new is same = let both = ap length is ∙ length-append old (note ∷ []) in let kept = ap length same in omega (arith, both, kept)
+
+-- ---- rounds
+
+pub progress_none : (r : ℕ) (s w : Option (List ℕ)) (h : Held) (old : List NoteSeen) (c : Counts) → Stands [] [] h → c ≡ nothing
+    → Progress r s s w w h old old c
+progress_none r s w h old c stands is = record {
+  blocks = [];
+  carried = subst (Carried r w w old old []) (sym is) (carried_none r w old);
+  reading = reading_begins s h stands;
+}
+
+pub carries_so : (r : ℕ) (s left w w' : Option (List ℕ)) (h : Held) (old mid new : List NoteSeen) (c : Counts) → Progress r s left w w' h old mid c
+    → ComesNone r mid new → Carries r s w w' old new c
+carries_so r s left w w' h old mid new c was comes = record {
+  mid = comes.mid;
+  blocks = was.blocks;
+  carried = carried_waits r w w' old mid comes.mid was.blocks c was.carried comes.waits;
+  last = comes.last;
+  ends = comes.ends;
+  noted = comes.noted;
+  first = first_blocks s left was.blocks h was.reading;
+}
+
+pub empty_so : (r : ℕ) (writer reader : Bool) (reads : ℕ) (s left w w' : Option (List ℕ)) (h : Held) (old mid new : List NoteSeen) (c : Counts)
+    (fault : RunFault)
+    → fault ≡ Memory → writer ≡ false → reader ≡ false
+    → Progress r s left w w' h old mid c → Adds (Waits r) mid new → Breaks r writer reader reads s w w' old new fault
+empty_so r writer reader reads s left w w' h old mid new c fault is writes works was waits =
+    subst (Breaks r writer reader reads s w w' old new) (sym is)
+    (empty_handed was.blocks c writes works (carried_waits r w w' old mid new was.blocks c was.carried waits))
+
+pub hand_so : (r n : ℕ) (writer reader : Bool) (reads : ℕ) (s left w w1 w2 : Option (List ℕ)) (h : Held) (old mid new : List NoteSeen) (c : Counts)
+    (t : TranslatedSeen) (message : List SegmentValue) (fault : RunFault)
+    → t.message ≡ message_seen message → Progress r s left w w1 h old mid c → ComesOut r n t mid new → Unsent n writer reader reads message w1 w2 left h fault →
+    Breaks r writer reader reads s w w2 old new fault
+hand_so r n writer reader reads s left w w1 w2 h old mid new c t message fault seen was comes unsent =
+    in_hand n (control_of message) was.blocks fault
+    (record {
+      mid = comes.mid;
+      between = w1;
+      counts = c;
+      carried = carried_waits r w w1 old mid comes.mid was.blocks c was.carried comes.waits;
+      at = comes.at;
+      t = t;
+      message = message;
+      message_is = seen;
+      control_is = refl;
+      noted = comes.noted;
+      part = unsent.part;
+      begins = unsent.begins;
+      wrote = unsent.wrote;
+    })
+    (unsent.fails s was.blocks was.reading)
+
+pub progress_more : (r n : ℕ) (s left left' w w1 w2 : Option (List ℕ)) (h h' : Held) (old mid new : List NoteSeen) (c c' : Counts) (t : TranslatedSeen)
+    (message : List SegmentValue) (ack : Ack)
+    → t.message ≡ message_seen message → Progress r s left w w1 h old mid c → ComesOut r n t mid new → Sent message w1 w2 left left' h h' ack → c' ≡ with_sent
+    ack c → Progress r s left' w w2 h' old new c'
+progress_more r n s left left' w w1 w2 h h' old mid new c c' t message ack seen was comes sent is = record {
+  blocks = was.blocks ++ sent.acked.content ∷ [];
+  carried = subst (Carried r w w2 old new (was.blocks ++ sent.acked.content ∷ [])) (sym is)
+      (carried_one r n w w1 w2 old comes.mid new was.blocks c comes.at t message sent.acked.content ack
+      (carried_waits r w w1 old mid comes.mid was.blocks c was.carried comes.waits) comes.noted seen sent.wrote sent.acked.says);
+  reading = sent.acked.next s was.blocks was.reading;
+}
+
+pub progress_total : (r : ℕ) (s left w w' : Option (List ℕ)) (h : Held) (old mid : List NoteSeen) (c : Counts) → Progress r s left w w' h old mid c
+    → c.aa + c.ae + c.ar ≡ c.sent
+progress_total r s left w w' h old mid c was = (counted r was.carried.notes was.carried.sent was.blocks c was.carried.rounds).total
+
+pub progress_few : (r : ℕ) (s left w w' : Option (List ℕ)) (h : Held) (old mid : List NoteSeen) (c : Counts) → Progress r s left w w' h old mid c
+    → c.sent ≤ length mid
+progress_few r s left w w' h old mid c was =
+    let few = (counted r was.carried.notes was.carried.sent was.blocks c was.carried.rounds).few in
+    let both = ap length was.carried.noted ∙ length-append old was.carried.notes in
+    omega (arith, few, both)
+
+waits_long : (r : ℕ) (old mid : List NoteSeen) → Adds (Waits r) old mid → length old ≤ length mid
+waits_long r old mid was = let both = ap length was.noted ∙ length-append old was.more in omega (arith, both)
+
+-- each round leaves a note
+pub comes_longer : (r n : ℕ) (t : TranslatedSeen) (old new : List NoteSeen) → ComesOut r n t old new → length old < length new
+comes_longer r n t old new comes =
+    let waits = waits_long r old comes.mid comes.waits in
+    let both = ap length comes.noted ∙ length-append comes.mid (Added comes.at (WasOut n r t) ∷ []) in
+    omega (arith, waits, both)
+
+-- ---- one message
+
+pub memory_unwritten : (n : ℕ) (writer : Bool) (m : List SegmentValue) (w : Option (List ℕ)) → writer ≡ false → Unwritten n writer m w w Memory
+memory_unwritten n writer m w is = record {
+  part = [];
+  begins = (block (written m), refl);
+  wrote = Appends-nil w;
+  why = subst (λ b. WriteFails n b Memory) (sym is) write_memory;
+}
+
+pub line_unwritten : (n : ℕ) (writer : Bool) (m : List SegmentValue) (w w' : Option (List ℕ)) (bytes : List ℕ) → writer ≡ true → bytes ≡ block (written m)
+    → SendsPart w w' bytes → Unwritten n writer m w w' (Line n)
+line_unwritten n writer m w w' bytes is same part = record {
+  part = part.0;
+  begins = subst (λ l. BeginsWith l part.0) same part.2;
+  wrote = part.1;
+  why = subst (λ b. WriteFails n b (Line n)) (sym is) write_line;
+}
+
+write_fails : (n : ℕ) (writer reader : Bool) (reads : ℕ) (s : Option (List ℕ)) (blocks : List (List ℕ)) (control : List ℕ) (fault : RunFault) → reader ≡ false
+    → WriteFails n writer fault → LineFails n writer reader reads s blocks control fault
+write_fails n writer reader reads s blocks control fault works write_memory = memory refl works
+write_fails n writer reader reads s blocks control fault works write_line = line (write refl)
+
+pub unsent_so : (n : ℕ) (writer reader : Bool) (reads : ℕ) (m : List SegmentValue) (w w' unread : Option (List ℕ)) (h : Held) (fault : RunFault)
+    → reader ≡ false → Unwritten n writer m w w' fault
+    → Unsent n writer reader reads m w w' unread h fault
+unsent_so n writer reader reads m w w' unread h fault works un = record {
+  part = un.part;
+  begins = un.begins;
+  wrote = un.wrote;
+  fails = λ s blocks was. write_fails n writer reader reads s blocks (control_of m) fault works un.why;
+}
+
+-- ---- the next block
+
+pub denied_none : (n : ℕ) (reader : Bool) (reads : ℕ) (unread left : Option (List ℕ)) (h h' : Held) (content control : List ℕ) (r : Result Ack RunFault)
+    → reader ≡ false → GivesNext unread left h h' content
+    → IfErr r (Denies n content control) → IfErr r (GivesNone n false reader reads unread h control)
+denied_none n reader reads unread left h h' content control (Ok ack) works next says = tt
+denied_none n reader reads unread left h h' content control (Err fault) works next says = λ s blocks was. by s blocks was fault says
+  where
+    by : (s : Option (List ℕ)) (blocks : List (List ℕ)) → Reading s unread blocks h → (fault : RunFault) → Denies n content control fault
+        → LineFails n false reader reads s blocks control fault
+    by s blocks was fault no_memory = memory refl works
+    by s blocks was fault (not_acknowledged others) = line (denied content (first_blocks s left (blocks ++ content ∷ []) h' (next s blocks was)) others)
+
+-- a run of reads from here to there
+abbrev pub Reads : Option (List ℕ) → Held → Option (List ℕ) → Held → Type 0
+Reads unread h left h' = (s : Option (List ℕ)) (blocks : List (List ℕ)) → Reading s unread blocks h → Reading s left blocks h'
+
+abbrev pub Gives : List ℕ → Held → Held → Type 0
+Gives content h h' = (stream : List ℕ) (given : List (List ℕ)) → Stands stream given h → Stands stream (given ++ content ∷ []) h'
+
+pub read_none : (n : ℕ) (reader : Bool) (reads : ℕ) (unread : Option (List ℕ)) (h : Held) (control : List ℕ) → reader ≡ true
+    → GivesNone n false reader reads unread h control (Line n)
+read_none n reader reads unread h control is = λ s blocks was. line (read is)
+
+pub memory_none : (n : ℕ) (reader : Bool) (reads : ℕ) (unread : Option (List ℕ)) (h : Held) (control : List ℕ) → reader ≡ false
+    → GivesNone n false reader reads unread h control Memory
+memory_none n reader reads unread h control is = λ s blocks was. memory refl is
+
+pub turns_none : (n : ℕ) (reader : Bool) (first reads : ℕ) (unread : Option (List ℕ)) (h : Held) (control : List ℕ) → reader ≡ false
+    → ReadTimes 1000000 first reads → GivesNone n false reader reads unread h control Turns
+turns_none n reader first reads unread h control is times = λ s blocks was. turns first refl is times
+
+pub ended_none : (n : ℕ) (reader : Bool) (reads : ℕ) (unread left left' : Option (List ℕ)) (h h' : Held) (control : List ℕ) → Reads unread h left h'
+    → Consumes left left' [] → IsAtEnd left' → h'.waiting ≡ []
+    → GivesNone n false reader reads unread h control (Line n)
+ended_none n reader reads unread left left' h h' control run none end empty =
+    λ s blocks was. let at_end = reading_ends s left left' blocks h' (run s blocks was) none end empty in line (ended at_end.0 at_end.1)
+
+pub reads_more : (unread left left' : Option (List ℕ)) (h h1 h2 h3 : Held) (piece : List ℕ) → Reads unread h left h1 → Consumes left left' piece
+    → Feeds piece h1 h2 → h3 ≡ h2 → Reads unread h left' h3
+reads_more unread left left' h h1 h2 h3 piece run takes feeds same =
+    λ s blocks was. subst (Reading s left' blocks) (sym same) (reading_more s left left' blocks h1 h2 piece (run s blocks was) takes feeds)
+
+pub long_none : (n : ℕ) (reader : Bool) (reads : ℕ) (unread left : Option (List ℕ)) (h h' : Held) (control : List ℕ) → Reads unread h left h' → h'.waiting ≡ []
+    → h'.tail ≡ Overlong
+    → GivesNone n false reader reads unread h control (Line n)
+long_none n reader reads unread left h h' control run empty long =
+    λ s blocks was. line (ended Overlong (reading_long s left blocks h' (run s blocks was) empty long))
+
+pub next_so : (unread left left' : Option (List ℕ)) (h h1 h2 h3 : Held) (piece content : List ℕ) → Reads unread h left h1 → Consumes left left' piece
+    → Feeds piece h1 h2 → Gives content h2 h3 → GivesNext unread left' h h3 content
+next_so unread left left' h h1 h2 h3 piece content run takes feeds gives =
+    λ s blocks was. reading_gives s left' blocks h2 h3 content (reading_more s left left' blocks h1 h2 piece (run s blocks was) takes feeds) gives
+
+-- ---- how often the source was read
+
+pub reads_none : (before : ℕ) → ReadTimes 0 before before
+reads_none before small = omega arith
+
+pub reads_once : (times before between after : ℕ) → ReadTimes times before between → ReadTimes 1 between after → ReadTimes (times + 1) before after
+reads_once times before between after many one small = let there = many (omega arith) in let more = one (omega arith) in omega arith
+
+pub reads_all : (times most before after : ℕ) → ReadTimes times before after → most ≤ times → times ≤ most → ReadTimes most before after
+reads_all times most before after many least greatest small = let there = many (omega arith) in omega arith
+
+pub waits_again : (r : ℕ) (old mid asked new : List NoteSeen) → Adds (Waits r) old mid → asked ≡ mid ++ WasNothing r ∷ [] → new ≡ asked → Adds (Waits r) old new
+waits_again r old mid asked new was is same = waits_once r old mid new was (same ∙ is)

@@ -1,0 +1,11 @@
+pub mod Going
+pub mod Jobs
+pub mod Rows
+pub mod Framing
+pub mod Ended
+pub mod Working
+pub mod Carrying
+pub mod Soloing
+pub mod Answering
+pub mod Swapped
+pub mod Bounds

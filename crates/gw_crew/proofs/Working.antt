@@ -1,0 +1,198 @@
+-- A worker's rounds.
+use Rattle.std.proofs.Common.{◌≡◌, ◌≤◌, ◌<◌, ◌+◌, ℕ, Bool, true, false, List, [], ◌∷◌, ◌++◌, Option, None, Some, length, refl, sym, ap, subst, ◌∙◌, arith}
+use Rattle.std.proofs.Common.{append_assoc, append-nil, length-append}
+use Rattle.std.specs.Prelude.{not}
+use Rattle.gw_gate.specs.Journal.{WasTaken, WasKept}
+use Rattle.gw_gate.specs.Parts.{TranslatedSeen}
+use Rattle.gw_gate.specs.Replies.{Puts, ReplySeen, IsCurrent, IsAccepted, IsStale, IsRefused, IsSwapped, IsUnlike, IsJob, IsIdle, IsKept, IsRepeat, IsStranger}
+use Rattle.gw_gate.specs.Replies.{IsIssued, IsDone, IsOut, IsNothing, IsFull}
+use Rattle.gw_crew.specs.declared.workers.Became.{Became}
+use Rattle.gw_crew.specs.declared.workers.Became.TheVariants as became
+use Rattle.gw_crew.specs.Notes.{NoteSeen, WasFull, WasIdle, Added, Notes}
+use Rattle.gw_crew.specs.Works.{Rounds, no_round, kept, dropped, waited, Ends, idle, full, full_in_hand, stopped, InHand, empty, job, Worked, Works, Breaks}
+use Rattle.gw_crew.specs.Turns.{Finishes, is_kept, is_dropped, is_full, is_stopped, Turn, keeps, drops, waits, ends, Adds, Put, became_of}
+use Rattle.gw_run.specs.declared.counts.Counts.{Counts}
+use Rattle.gw_run.specs.Counted.{nothing}
+
+-- ---- one round
+
+-- a job was taken, and then ended so
+turn_of : (at n r : ℕ) (k : Option ℕ) (s : Bool) (more : List NoteSeen) → Finishes n r k s more → Turn k s (Added at (WasTaken n r) ∷ more)
+turn_of at n r k s more (is_kept later t to) =
+    subst (λ q. Turn (Some 1) false (Added at (WasTaken n q) ∷ Added later (WasKept n t) ∷ [])) to (keeps at later n t)
+turn_of at n r k s more is_dropped = drops at n r
+turn_of at n r k s more is_full = ends false (Added at (WasTaken n r) ∷ WasFull ∷ []) (full_in_hand at n r)
+turn_of at n r k s more is_stopped = ends true (Added at (WasTaken n r) ∷ []) (stopped at n r)
+
+pub turns_so : (old mid new : List NoteSeen) (at n r : ℕ) (k : Option ℕ) (s : Bool) → mid ≡ old ++ Added at (WasTaken n r) ∷ []
+    → Adds (Finishes n r k s) mid new → Adds (Turn k s) old new
+turns_so old mid new at n r k s took done = record {
+  more = Added at (WasTaken n r) ∷ done.more;
+  holds = turn_of at n r k s done.more done.holds;
+  noted = done.noted ∙ ap (λ l. l ++ done.more) took ∙ append_assoc old (Added at (WasTaken n r) ∷ []) done.more;
+}
+
+-- ---- all rounds
+
+pub worked_none : (old : List NoteSeen) → Worked old old 0
+worked_none old = record { notes = []; rounds = no_round; noted = sym (append-nil old) }
+
+-- what a round does that goes on
+record Onward (notes : List NoteSeen) (k x : ℕ) (s : Bool) (more : List NoteSeen) : Type 0 where
+  rounds : Rounds notes k → Rounds (notes ++ more) (k + x)
+  running : s ≡ false
+  some : 0 < length more
+  few : x ≤ 1
+
+-- and one that doesn't
+abbrev Next : List NoteSeen → ℕ → Option ℕ → Bool → List NoteSeen → Type 0
+Next notes k None s more = Ends s more
+Next notes k (Some x) s more = Onward notes k x s more
+
+next_of : (notes : List NoteSeen) (k : ℕ) (o : Option ℕ) (s : Bool) (more : List NoteSeen) → Turn o s more → Next notes k o s more
+next_of notes k o s more (keeps at later n t) = record { rounds = kept notes k at later n t; running = refl; some = omega arith; few = omega arith }
+next_of notes k o s more (drops at n r) =
+    record {
+      rounds = λ was. subst (Rounds (notes ++ Added at (WasTaken n r) ∷ [])) (let e : k ≡ k + 0 = omega arith in e) (dropped notes k at n r was);
+      running
+          = refl;
+      some = omega arith;
+      few = omega arith;
+    }
+next_of notes k o s more waits =
+    record {
+      rounds = λ was. subst (Rounds (notes ++ WasIdle ∷ [])) (let e : k ≡ k + 0 = omega arith in e) (waited notes k was);
+      running = refl;
+      some = omega
+          arith;
+      few = omega arith;
+    }
+next_of notes k o s more (ends stop last is) = is
+
+-- the rounds go on
+pub worked_more : (old mid new : List NoteSeen) (k x : ℕ) (s : Bool) → Worked old mid k → Adds (Turn (Some x) s) mid new → Worked old new (k + x)
+worked_more old mid new k x s was turn = record {
+  notes = was.notes ++ turn.more;
+  rounds = (next_of was.notes k (Some x) s turn.more turn.holds).rounds was.rounds;
+  noted = turn.noted ∙ ap (λ l. l ++ turn.more) was.noted ∙ append_assoc old was.notes turn.more;
+}
+
+pub running : (mid new : List NoteSeen) (x : ℕ) (s : Bool) → Adds (Turn (Some x) s) mid new → s ≡ false
+running mid new x s turn = (next_of [] 0 (Some x) s turn.more turn.holds).running
+
+pub few_kept : (mid new : List NoteSeen) (x : ℕ) (s : Bool) → Adds (Turn (Some x) s) mid new → x ≤ 1
+few_kept mid new x s turn = (next_of [] 0 (Some x) s turn.more turn.holds).few
+
+-- each round leaves a note
+pub longer : (mid new : List NoteSeen) (x : ℕ) (s : Bool) → Adds (Turn (Some x) s) mid new → length mid < length new
+longer mid new x s turn =
+    let some = (next_of [] 0 (Some x) s turn.more turn.holds).some in
+    let both = ap length turn.noted ∙ length-append mid turn.more in
+    omega (arith, some, both)
+
+pub works_so : (old mid new : List NoteSeen) (k : ℕ) (s : Bool) (counts : Counts) → Worked old mid k → counts ≡ record nothing { put = k } → Adds (Turn None s)
+    mid new → Works s old new counts
+works_so old mid new k s counts was counted turn = record {
+  mid = mid;
+  kept = k;
+  worked = was;
+  last = turn.more;
+  ends = next_of [] 0 None s turn.more turn.holds;
+  noted = turn.noted;
+  counted = counted;
+}
+
+pub breaks_so : (old mid new : List NoteSeen) (k : ℕ) (o : Option (ℕ × ℕ)) → Worked old mid k → Adds (InHand o) mid new → Breaks o old new
+breaks_so old mid new k o was had = record { mid = mid; kept = k; worked = was; last = had.more; in_hand = had.holds; noted = had.noted }
+
+-- fewer results than notes
+rounds_few : (notes : List NoteSeen) (k : ℕ) → Rounds notes k → k + k ≤ length notes
+rounds_few notes k no_round = omega arith
+rounds_few notes k (kept before j at later n t was) =
+    let few = rounds_few before j was in let both = length-append before (Added at (WasTaken n t.receiver) ∷ Added later (WasKept n t) ∷ []) in omega
+    (arith, few, both)
+rounds_few notes k (dropped before j at n r was) =
+    let few = rounds_few before j was in let both = length-append before (Added at (WasTaken n r) ∷ []) in omega (arith, few, both)
+rounds_few notes k (waited before j was) = let few = rounds_few before j was in let both = length-append before (WasIdle ∷ []) in omega (arith, few, both)
+
+pub worked_few : (old mid : List NoteSeen) (k : ℕ) → Worked old mid k → k + k ≤ length mid
+worked_few old mid k was =
+    let few = rounds_few was.notes k was.rounds in let both = ap length was.noted ∙ length-append old was.notes in omega (arith, few, both)
+
+-- ---- what the functions of a worker tell
+
+pub put_so : (n r : ℕ) (t : TranslatedSeen) (given : ReplySeen) (b : Became) (old new : List NoteSeen) → t.receiver ≡ r → b ≡ became_of given
+    → Notes (Puts n t) given old new → Put n r b old new
+put_so n r t given b old new to is noted = subst (λ x. Put n r x old new) (sym is) (by given noted)
+  where
+    by : (given : ReplySeen) → Notes (Puts n t) given old new → Put n r (became_of given) old new
+    by (IsCurrent v p) noted = absurd noted.answers
+    by (IsAccepted m arrival) noted = absurd noted.answers
+    by (IsStale v c) noted = absurd noted.answers
+    by (IsRefused arrival) noted = absurd noted.answers
+    by (IsSwapped v) noted = absurd noted.answers
+    by (IsUnlike p) noted = absurd noted.answers
+    by (IsJob m q c) noted = absurd noted.answers
+    by IsIdle noted = absurd noted.answers
+    by IsKept noted = record { t = t; receiver = to; at = noted.at; noted = noted.notes }
+    by (IsRepeat u) noted = record { t = t; receiver = to; at = noted.at; noted = noted.notes }
+    by (IsStranger u) noted = record { t = t; receiver = to; at = noted.at; noted = noted.notes }
+    by IsIssued noted = absurd noted.answers
+    by IsDone noted = absurd noted.answers
+    by (IsOut m u) noted = absurd noted.answers
+    by IsNothing noted = absurd noted.answers
+    by (IsFull e) noted = record { t = t; receiver = to; at = noted.at; noted = noted.notes }
+
+pub stops_so : (n r : ℕ) (s : Bool) (old : List NoteSeen) → s ≡ true → Adds (Finishes n r None s) old old
+stops_so n r s old is = record { more = []; holds = subst (λ b. Finishes n r None b []) (sym is) is_stopped; noted = sym (append-nil old) }
+
+pub keeps_so : (n r : ℕ) (s : Bool) (old new : List NoteSeen) → s ≡ false → Put n r became.Kept old new → Adds (Finishes n r (Some 1) s) old new
+keeps_so n r s old new is put = record {
+  more = Added put.at (WasKept n put.t) ∷ [];
+  holds = subst (λ b. Finishes n r (Some 1) b (Added put.at (WasKept n put.t) ∷ [])) (sym is) (is_kept put.at put.t put.receiver);
+  noted = put.noted;
+}
+
+pub drops_so : (n r : ℕ) (s : Bool) (old new : List NoteSeen) → s ≡ false → Put n r became.Dropped old new → Adds (Finishes n r (Some 0) s) old new
+drops_so n r s old new is put = record { more = []; holds = subst (λ b. Finishes n r (Some 0) b []) (sym is) is_dropped; noted = put.noted }
+
+pub fills_so : (n r : ℕ) (s : Bool) (old new : List NoteSeen) → s ≡ false → Put n r became.Full old new → Adds (Finishes n r None s) old new
+fills_so n r s old new is put = record { more = WasFull ∷ []; holds = subst (λ b. Finishes n r None b (WasFull ∷ [])) (sym is) is_full; noted = put.noted }
+
+pub empty_so : (old new : List NoteSeen) → new ≡ old → Adds (InHand None) old new
+empty_so old new is = record { more = []; holds = empty; noted = is ∙ sym (append-nil old) }
+
+pub hand_so : (old mid new : List NoteSeen) (at n r : ℕ) → mid ≡ old ++ Added at (WasTaken n r) ∷ [] → new ≡ mid → Adds (InHand (Some (n, r))) old new
+hand_so old mid new at n r took is = record { more = Added at (WasTaken n r) ∷ []; holds = job at n r; noted = is ∙ took }
+
+pub full_turn : (s : Bool) (old new : List NoteSeen) → s ≡ false → new ≡ old ++ WasFull ∷ [] → Adds (Turn None s) old new
+full_turn s old new is noted =
+    record { more = WasFull ∷ []; holds = subst (λ b. Turn None b (WasFull ∷ [])) (sym is) (ends false (WasFull ∷ []) full); noted = noted }
+
+pub idle_turn : (s : Bool) (old mid new : List NoteSeen) → s ≡ false → mid ≡ old ++ WasIdle ∷ [] → new ≡ mid → Adds (Turn None s) old new
+idle_turn s old mid new is noted same =
+    record { more = WasIdle ∷ []; holds = subst (λ b. Turn None b (WasIdle ∷ [])) (sym is) (ends false (WasIdle ∷ []) idle); noted = same ∙ noted }
+
+pub waits_turn : (s : Bool) (old mid new : List NoteSeen) → s ≡ false → mid ≡ old ++ WasIdle ∷ [] → new ≡ mid → Adds (Turn (Some 0) s) old new
+waits_turn s old mid new is noted same =
+    record { more = WasIdle ∷ []; holds = subst (λ b. Turn (Some 0) b (WasIdle ∷ [])) (sym is) waits; noted = same ∙ noted }
+
+pub not_false : (b : Bool) → not b ≡ false → b ≡ true
+not_false true is = refl
+not_false false is = absurd (let no : true ≡ false = is in cc)
+
+pub not_true : (b : Bool) → not b ≡ true → b ≡ false
+not_true false is = refl
+not_true true is = absurd (let no : false ≡ true = is in cc)
+
+abbrev with_put : ℕ → Counts → Counts
+with_put p c = record c { put = p }
+
+pub fresh_counts : (c : Counts) → c ≡ nothing → c ≡ record nothing { put = c.put }
+fresh_counts c is = subst (λ (k : Counts). k ≡ record nothing { put = k.put }) (sym is) refl
+
+pub fresh_worked : (old : List NoteSeen) (c : Counts) → c ≡ nothing → Worked old old c.put
+fresh_worked old c is = subst (λ (k : Counts). Worked old old k.put) (sym is) (worked_none old)
+
+pub kept_more : (c : Counts) (x : ℕ) → c ≡ record nothing { put = c.put } → record c { put = c.put + x } ≡ record nothing { put = c.put + x }
+kept_more c x is = ap (with_put (c.put + x)) is

@@ -1,0 +1,170 @@
+-- What couriers note, write and read.
+use Rattle.std.specs.Prelude.{◌≡◌, ℕ, ◌+◌, Bool, true, false, List, [], ◌∷◌, ◌++◌, Option, IfSome}
+use Rattle.std.specs.Io.KnownBytes.{Appends}
+use Rattle.gw_ack.specs.declared.receipt.Ack.{Ack}
+use Rattle.gw_ack.specs.declared.receipt.Ack.TheVariants.{AA, AE, AR}
+use Rattle.gw_ack.specs.Acknowledged.{Acknowledges}
+use Rattle.gw_er7.specs.Message.{SegmentValue, text_of}
+use Rattle.gw_er7.specs.Written.{written}
+use Rattle.gw_gate.specs.Journal.{WasOut}
+use Rattle.gw_gate.specs.Parts.{TranslatedSeen}
+use Rattle.gw_gate.specs.Seen.{message_seen}
+use Rattle.gw_mllp.specs.Stream.{Has, Held, Tail, block}
+use Rattle.gw_run.specs.declared.counts.Counts.{Counts}
+use Rattle.gw_run.specs.declared.fault.RunFault.{RunFault}
+use Rattle.gw_run.specs.declared.fault.RunFault.TheVariants.{Memory, Line, Turns}
+use Rattle.gw_run.specs.Counted.{nothing}
+use Rattle.gw_run.specs.Reading.{ReadTimes}
+use Rattle.gw_run.specs.Sent.{BeginsWith}
+use Rattle.gw_run.specs.Streams.{HasFirst}
+use Rattle.gw_crew.specs.Notes.{NoteSeen, WasFull, WasNothing, Added}
+use Rattle.gw_crew.specs.Streams.{Reading}
+
+-- MSH-10 of a message: its control id, by its first subcomponent
+abbrev pub control_of : List SegmentValue → List ℕ
+control_of [] = []
+control_of (s ∷ ss) = text_of s.at 10 1 1 1
+
+-- one block more was sent, and acknowledged with this code
+abbrev pub with_sent : Ack → Counts → Counts
+with_sent AA counts = record counts { sent = counts.sent + 1; aa = counts.aa + 1 }
+with_sent AE counts = record counts { sent = counts.sent + 1; ae = counts.ae + 1 }
+with_sent AR counts = record counts { sent = counts.sent + 1; ar = counts.ar + 1 }
+
+-- The notes of a courier's rounds for a receiver, with the bytes that it wrote, the blocks that came back, and its counts:
+-- a translation is given out, its block written, and acknowledged by the next block; or there was none, and the courier waited.
+pub data Rounds (r : ℕ) : List NoteSeen → List ℕ → List (List ℕ) → Counts → Type 0 where
+  no_round : Rounds r [] [] [] nothing
+  sent_one : (notes : List NoteSeen) (sent : List ℕ) (blocks : List (List ℕ)) (counts : Counts) (at n : ℕ) (t : TranslatedSeen) (message : List SegmentValue)
+      (content : List ℕ) (ack : Ack)
+      → Rounds r notes sent blocks counts → t.message ≡ message_seen message → Acknowledges content (control_of message) ack
+      → Rounds r (notes ++ Added at (WasOut n r t) ∷ []) (sent ++ block (written message)) (blocks ++ content ∷ []) (with_sent ack counts)
+  waited : (notes : List NoteSeen) (sent : List ℕ) (blocks : List (List ℕ)) (counts : Counts) → Rounds r notes sent blocks counts
+      → Rounds r (notes ++ WasNothing r ∷ []) sent blocks counts
+
+-- the last note of a courier that ends without a fault
+pub data Ends (r : ℕ) : NoteSeen → Type 0 where
+  none_left : Ends r (WasNothing r)
+  full : Ends r WasFull
+
+-- only rounds were noted
+pub record Carried (r : ℕ) (before after : Option (List ℕ)) (old new : List NoteSeen) (blocks : List (List ℕ)) (counts : Counts) : Type 0 where
+  pub notes : List NoteSeen
+  pub sent : List ℕ
+  pub rounds : Rounds r notes sent blocks counts
+  pub noted : new ≡ old ++ notes
+  pub wrote : Appends before after sent
+
+-- A courier's rounds and its end were noted: it wrote the blocks of what it was given out, and the first blocks of the stream acknowledge them.
+pub record Carries (r : ℕ) (stream before after : Option (List ℕ)) (old new : List NoteSeen) (counts : Counts) : Type 0 where
+  pub mid : List NoteSeen
+  pub blocks : List (List ℕ)
+  pub carried : Carried r before after old mid blocks counts
+  pub last : NoteSeen
+  pub ends : Ends r last
+  pub noted : new ≡ mid ++ last ∷ []
+  pub first : IfSome stream (λ bytes. HasFirst bytes blocks)
+
+-- ---- faults
+
+-- what ends a courier that carries the message of this number: a fault of its line, which is told by the number, or another
+abbrev pub told_as : ℕ → RunFault → RunFault
+told_as n Memory = Memory
+told_as n Turns = Turns
+told_as n fault = Line n
+
+-- How the line fails behind these blocks: the writer or the reader failed, or the stream has no block more, or it isn't the acknowledgment of this control id.
+pub data Fails (writer reader : Bool) (stream : Option (List ℕ)) (blocks : List (List ℕ)) (control : List ℕ) : Type 0 where
+  write : writer ≡ true → Fails writer reader stream blocks control
+  read : reader ≡ true → Fails writer reader stream blocks control
+  ended : (tail : Tail) → IfSome stream (λ bytes. Has bytes blocks tail) → Fails writer reader stream blocks control
+  denied : (content : List ℕ) → IfSome stream (λ bytes. HasFirst bytes (blocks ++ content ∷ [])) → ((ack : Ack) → Acknowledges content control ack → ⊥)
+      → Fails writer reader stream blocks control
+
+-- why there is no acknowledgment of the message of this number: want of memory, too many reads, or a fault of its line; the reader was read so often in all
+pub data LineFails (n : ℕ) (writer reader : Bool) (reads : ℕ) (stream : Option (List ℕ)) (blocks : List (List ℕ)) (control : List ℕ) : RunFault → Type 0 where
+  memory : writer ≡ false → reader ≡ false → LineFails n writer reader reads stream blocks control Memory
+  turns : (first : ℕ) → writer ≡ false → reader ≡ false → ReadTimes 1000000 first reads → LineFails n writer reader reads stream blocks control Turns
+  line : Fails writer reader stream blocks control → LineFails n writer reader reads stream blocks control (Line n)
+
+-- What a courier had in hand behind these blocks: the message of this number was given out, and a beginning of its block written.
+pub record Hand (r n : ℕ) (control : List ℕ) (blocks : List (List ℕ)) (before after : Option (List ℕ)) (old new : List NoteSeen) : Type 0 where
+  pub mid : List NoteSeen
+  pub between : Option (List ℕ)
+  pub counts : Counts
+  pub carried : Carried r before between old mid blocks counts
+  pub at : ℕ
+  pub t : TranslatedSeen
+  pub message : List SegmentValue
+  pub message_is : t.message ≡ message_seen message
+  pub control_is : control ≡ control_of message
+  pub noted : new ≡ mid ++ Added at (WasOut n r t) ∷ []
+  pub part : List ℕ
+  pub begins : BeginsWith (block (written message)) part
+  pub wrote : Appends between after part
+
+-- A courier's rounds were noted, and what it had in hand when the fault came; or no message could be given out for want of memory.
+pub data Breaks (r : ℕ) (writer reader : Bool) (reads : ℕ) (stream before after : Option (List ℕ)) (old new : List NoteSeen) : RunFault → Type 0 where
+  empty_handed : (blocks : List (List ℕ)) (counts : Counts) → writer ≡ false → reader ≡ false → Carried r before after old new blocks counts
+      → Breaks r writer reader reads stream before after old new Memory
+  in_hand : (n : ℕ) (control : List ℕ) (blocks : List (List ℕ)) (fault : RunFault) → Hand r n control blocks before after old new
+      → LineFails n writer reader reads stream blocks control fault
+      → Breaks r writer reader reads stream before after old new fault
+
+-- ---- how a courier comes there
+
+-- the next block of a source that a decoder gave
+abbrev pub GivesNext : Option (List ℕ) → Option (List ℕ) → Held → Held → List ℕ → Type 0
+GivesNext unread left old new content =
+    (stream : Option (List ℕ)) (blocks : List (List ℕ)) → Reading stream unread blocks old → Reading stream left (blocks ++ content ∷ []) new
+
+-- it acknowledges the message of this control id
+pub record Acked (unread left : Option (List ℕ)) (old new : Held) (control : List ℕ) (ack : Ack) : Type 0 where
+  pub content : List ℕ
+  pub next : GivesNext unread left old new content
+  pub says : Acknowledges content control ack
+
+-- why it gave none
+abbrev pub GivesNone : ℕ → Bool → Bool → ℕ → Option (List ℕ) → Held → List ℕ → RunFault → Type 0
+GivesNone n writer reader reads unread old control fault =
+    (stream : Option (List ℕ)) (blocks : List (List ℕ)) → Reading stream unread blocks old → LineFails n writer reader reads stream blocks control fault
+
+-- the same whatever is to be acknowledged, where nothing was written
+abbrev pub GivesNoBlock : ℕ → Bool → ℕ → Option (List ℕ) → Held → RunFault → Type 0
+GivesNoBlock n reader reads unread old fault = (control : List ℕ) → GivesNone n false reader reads unread old control fault
+
+-- a message's block was written, and acknowledged
+pub record Sent (message : List SegmentValue) (before after unread left : Option (List ℕ)) (old new : Held) (ack : Ack) : Type 0 where
+  pub wrote : Appends before after (block (written message))
+  pub acked : Acked unread left old new (control_of message) ack
+
+-- a message's block was written in part or whole, and not acknowledged
+pub record Unsent (n : ℕ) (writer reader : Bool) (reads : ℕ) (message : List SegmentValue) (before after unread : Option (List ℕ)) (old : Held)
+    (fault : RunFault) : Type 0 where
+  pub part : List ℕ
+  pub begins : BeginsWith (block (written message)) part
+  pub wrote : Appends before after part
+  pub fails : GivesNone n writer reader reads unread old (control_of message) fault
+
+-- so far only rounds were noted, and the decoder has given the blocks that acknowledge them
+pub record Progress (r : ℕ) (stream left before after : Option (List ℕ)) (held : Held) (old new : List NoteSeen) (counts : Counts) : Type 0 where
+  pub blocks : List (List ℕ)
+  pub carried : Carried r before after old new blocks counts
+  pub reading : Reading stream left blocks held
+
+-- why a block can't be written for the message of this number
+pub data WriteFails (n : ℕ) : Bool → RunFault → Type 0 where
+  write_memory : WriteFails n false Memory
+  write_line : WriteFails n true (Line n)
+
+-- why a content isn't taken as the acknowledgment of the message of this number and control id
+pub data Denies (n : ℕ) (content control : List ℕ) : RunFault → Type 0 where
+  no_memory : Denies n content control Memory
+  not_acknowledged : ((ack : Ack) → Acknowledges content control ack → ⊥) → Denies n content control (Line n)
+
+-- why a message's block, which has this number, wasn't written whole
+pub record Unwritten (n : ℕ) (writer : Bool) (message : List SegmentValue) (before after : Option (List ℕ)) (fault : RunFault) : Type 0 where
+  pub part : List ℕ
+  pub begins : BeginsWith (block (written message)) part
+  pub wrote : Appends before after part
+  pub why : WriteFails n writer fault

@@ -1,0 +1,143 @@
+-- How workers and couriers come through a round.
+use Rattle.std.specs.Prelude.{◌≡◌, ℕ, Bool, true, false, List, [], ◌∷◌, ◌++◌, ⊤, IsTrue, Option, None, Some}
+use Rattle.std.specs.Arc.{arc_value}
+use Rattle.gw_gate.specs.Journal.{WasTaken, WasKept, WasOut}
+use Rattle.gw_gate.specs.Parts.{ConformingSeen, TranslatedSeen, delivers}
+use Rattle.gw_gate.specs.Replies.{ReplySeen, IsJob, IsIdle, IsKept, IsOut, IsNothing, IsFull}
+use Rattle.gw_gate.specs.Seen.{Translated, conforming_seen, translated_seen}
+use Rattle.gw_crew.specs.declared.workers.Taken as worker
+use Rattle.gw_crew.specs.declared.workers.Became.{Became}
+use Rattle.gw_crew.specs.declared.workers.Became.TheVariants as became
+use Rattle.gw_crew.specs.declared.couriers.Given as courier
+use Rattle.gw_crew.specs.Notes.{NoteSeen, WasFull, WasIdle, WasNothing, Added}
+use Rattle.gw_crew.specs.Works.{Ends}
+use Rattle.gw_crew.specs.Carries as carries
+use Rattle.std.specs.declared.alloc.Global.{Global}
+use Rattle.std.specs.declared.sync.Arc.{Arc}
+
+-- ---- what a worker is given
+
+pub data TakenSeen : Type 0 where
+  IsTaken : (n r : ℕ) → (conforming : ConformingSeen) → TakenSeen
+  NoneLeft : TakenSeen
+  NoRoom : TakenSeen
+
+abbrev pub taken_seen : worker.Taken → TakenSeen
+taken_seen (worker.TheVariants.Job job) = IsTaken job.n job.receiver (conforming_seen (arc_value job.conforming))
+taken_seen worker.TheVariants.Idle = NoneLeft
+taken_seen worker.TheVariants.Full = NoRoom
+
+abbrev pub taken_of : ReplySeen → TakenSeen
+taken_of (IsJob n r c) = IsTaken n r c
+taken_of IsIdle = NoneLeft
+taken_of given = NoRoom
+
+-- a job goes to a receiver of its message's route
+abbrev pub Goes : TakenSeen → Type 0
+Goes (IsTaken n r c) = IsTrue (delivers c r)
+Goes taken = ⊤
+
+-- what is noted of it
+abbrev pub taken_notes : ℕ → TakenSeen → List NoteSeen
+taken_notes at (IsTaken n r c) = Added at (WasTaken n r) ∷ []
+taken_notes at NoneLeft = WasIdle ∷ []
+taken_notes at NoRoom = WasFull ∷ []
+
+pub record Took (taken : TakenSeen) (old new : List NoteSeen) : Type 0 where
+  pub goes : Goes taken
+  pub at : ℕ
+  pub noted : new ≡ old ++ taken_notes at taken
+
+-- ---- what becomes of its result
+
+abbrev pub became_of : ReplySeen → Became
+became_of IsKept = became.Kept
+became_of (IsFull back) = became.Full
+became_of given = became.Dropped
+
+abbrev pub put_notes : ℕ → ℕ → TranslatedSeen → Became → List NoteSeen
+put_notes at n t became.Kept = Added at (WasKept n t) ∷ []
+put_notes at n t became.Full = WasFull ∷ []
+put_notes at n t became.Dropped = []
+
+pub record Put (n r : ℕ) (became : Became) (old new : List NoteSeen) : Type 0 where
+  pub t : TranslatedSeen
+  pub receiver : t.receiver ≡ r
+  pub at : ℕ
+  pub noted : new ≡ old ++ put_notes at n t became
+
+-- ---- a worker's round
+
+-- how a job ends: how many results were kept, if the worker goes on; whether its pause was stopped; and what was noted
+pub data Finishes (n r : ℕ) : Option ℕ → Bool → List NoteSeen → Type 0 where
+  is_kept : (at : ℕ) (t : TranslatedSeen) → t.receiver ≡ r → Finishes n r (Some 1) false (Added at (WasKept n t) ∷ [])
+  is_dropped : Finishes n r (Some 0) false []
+  is_full : Finishes n r None false (WasFull ∷ [])
+  is_stopped : Finishes n r None true []
+
+-- how a round ends
+pub data Turn : Option ℕ → Bool → List NoteSeen → Type 0 where
+  keeps : (at later n : ℕ) (t : TranslatedSeen) → Turn (Some 1) false (Added at (WasTaken n t.receiver) ∷ Added later (WasKept n t) ∷ [])
+  drops : (at n r : ℕ) → Turn (Some 0) false (Added at (WasTaken n r) ∷ [])
+  waits : Turn (Some 0) false (WasIdle ∷ [])
+  ends : (stopped : Bool) (last : List NoteSeen) → Ends stopped last → Turn None stopped last
+
+-- these notes were added, of which this holds
+pub record Adds (Holds : List NoteSeen → Type 0) (old new : List NoteSeen) : Type 0 where
+  pub more : List NoteSeen
+  pub holds : Holds more
+  pub noted : new ≡ old ++ more
+
+-- ---- what a courier is given
+
+pub data GivenSeen : Type 0 where
+  IsGiven : (n : ℕ) → (translated : TranslatedSeen) → GivenSeen
+  NoneKept : GivenSeen
+  NoSpace : GivenSeen
+
+abbrev pub given_seen : courier.Given → GivenSeen
+given_seen (courier.TheVariants.Out n t) = IsGiven n (translated_seen (arc_value t))
+given_seen courier.TheVariants.Nothing = NoneKept
+given_seen courier.TheVariants.Full = NoSpace
+
+abbrev pub given_of : ReplySeen → GivenSeen
+given_of (IsOut n t) = IsGiven n t
+given_of IsNothing = NoneKept
+given_of given = NoSpace
+
+-- what is noted of it
+abbrev pub given_notes : ℕ → ℕ → GivenSeen → List NoteSeen
+given_notes at r (IsGiven n t) = Added at (WasOut n r t) ∷ []
+given_notes at r NoneKept = WasNothing r ∷ []
+given_notes at r NoSpace = WasFull ∷ []
+
+pub record GaveOut (r : ℕ) (given : GivenSeen) (old new : List NoteSeen) : Type 0 where
+  pub at : ℕ
+  pub noted : new ≡ old ++ given_notes at r given
+
+-- that many times nothing was given out
+pub data Waits (r : ℕ) : List NoteSeen → Type 0 where
+  never : Waits r []
+  again : (notes : List NoteSeen) → Waits r notes → Waits r (notes ++ WasNothing r ∷ [])
+
+-- something was given out
+pub record ComesOut (r n : ℕ) (t : TranslatedSeen) (old new : List NoteSeen) : Type 0 where
+  pub mid : List NoteSeen
+  pub waits : Adds (Waits r) old mid
+  pub at : ℕ
+  pub noted : new ≡ mid ++ Added at (WasOut n r t) ∷ []
+
+-- nothing more is given out
+pub record ComesNone (r : ℕ) (old new : List NoteSeen) : Type 0 where
+  pub mid : List NoteSeen
+  pub waits : Adds (Waits r) old mid
+  pub last : NoteSeen
+  pub ends : carries.Ends r last
+  pub noted : new ≡ mid ++ last ∷ []
+
+abbrev pub Comes : ℕ → Option (ℕ × TranslatedSeen) → List NoteSeen → List NoteSeen → Type 0
+Comes r (Some out) old new = ComesOut r out.0 out.1 old new
+Comes r None old new = ComesNone r old new
+
+abbrev pub out_seen : ℕ × Arc Translated Global → ℕ × TranslatedSeen
+out_seen out = (out.0, translated_seen (arc_value out.1))

@@ -1,0 +1,187 @@
+//! Couriers.
+ghost use Rattle.std.specs.Prelude.{◌≡◌, ◌+◌, ◌<◌, ◌^◌, IfOk, IfErr, OnErr, OnOk, false};
+ghost use Rattle.std.specs.Io.KnownBytes.{Appends};
+ghost use Rattle.gw_er7.specs.Written.{written};
+ghost use Rattle.gw_gate.specs.Values.{reply_seen};
+ghost use Rattle.gw_mllp.specs.Stream.{block};
+ghost use Rattle.gw_run.specs.declared.fault.RunFault.TheVariants.{Memory};
+ghost use Rattle.gw_crew.specs.Carries.{Breaks, Carries, Sent, Unsent, Unwritten, control_of, with_sent};
+ghost use Rattle.gw_crew.specs.Turns.{Adds, Comes, GaveOut, Waits, given_of, given_seen, out_seen};
+ghost use Rattle.std.specs.Option.{option_map};
+
+use crate::blocks::answered;
+use crate::door::{Door, Phase};
+use gw_ack::Ack;
+use gw_er7::{Message, Place, write};
+use gw_gate::{Event, Reply};
+use gw_mllp::{Decoder, write_block};
+use gw_plan::Translated;
+use gw_run::{Counts, RunFault, Sink, Source, send_all};
+use std::alloc::{AllocError, Global};
+use std::sync::Arc;
+
+// What was given out for a receiver.
+#[derive(Drop)]
+enum Given {
+    Out(u64, Arc<Translated>),
+    Nothing,
+    Full,
+}
+
+// What a reply to Release gives.
+fn given_in(reply: Reply) -> Given
+    ensures { given_seen result ≡ given_of (reply_seen reply) }
+{
+    match reply {
+        Reply::Out { n, translated } => Given::Out(n, translated),
+        Reply::Nothing => Given::Nothing,
+        _ => Given::Full,
+    }
+}
+
+// Asks for what is next for a receiver.
+fn release<D: Door>(door: &mut D, receiver: usize) -> Result<Given, RunFault>
+    ensures gave { IfOk result (λ g. GaveOut receiver (given_seen g) (D.noted door.old) (D.noted door.new)) }
+    ensures err { OnErr result (D.noted door.new ≡ D.noted door.old) }
+    ensures memory { IfErr result (λ e. e ≡ Memory) }
+{
+    match door.call(Event::Release(receiver)) {
+        Ok(reply) => Ok(given_in(reply)),
+        Err(_) => Err(RunFault::Memory),
+    }
+}
+
+// The block of a message.
+fn block_of(alloc: Global, message: &Message) -> Result<Vec<u8>, AllocError>
+    ensures { IfOk result (λ bytes. bytes.items ≡ block (written message.now)) }
+{
+    // (its clause tells that a message's bytes are those of its segments)
+    let _count = message.segment_count();
+    let content = write(alloc, message)?;
+    let mut framed = Vec::new(alloc);
+    write_block(&mut framed, &content)?;
+    Ok(framed)
+}
+
+// Writes the block of the message of this number.
+fn send<W: Sink>(alloc: Global, message: &Message, writer: &mut W, n: u64) -> Result<(), RunFault>
+    requires { W.has_failed writer.old ≡ false }
+    ensures ok { OnOk result (Appends (W.contents writer.old) (W.contents writer.new) (block (written message.now))) }
+    ensures err { IfErr result (Unwritten n (W.has_failed writer.new) message.now (W.contents writer.old) (W.contents writer.new)) }
+    ensures works { OnOk result (W.has_failed writer.new ≡ false) }
+{
+    match block_of(alloc, message) {
+        Err(_) => Err(RunFault::Memory),
+        Ok(framed) => match send_all(writer, &framed) {
+            Ok(()) => Ok(()),
+            Err(_) => Err(RunFault::Line { n }),
+        },
+    }
+}
+
+// The control id of a message, by its first subcomponent.
+fn control_of(message: &Message) -> &[u8]
+    ensures { result.now ≡ control_of message.now }
+{
+    // (its clause tells that a message has a segment)
+    let _count = message.segment_count();
+    message.segment(0).text(Place {
+        field: 10,
+        rep: 1,
+        comp: 1,
+        sub: 1,
+    })
+}
+
+// Writes the block of the message of this number, and reads its acknowledgment.
+fn carry<R: Source, W: Sink>(
+    alloc: Global,
+    decoder: &mut Decoder,
+    reader: &mut R,
+    writer: &mut W,
+    message: &Message,
+    n: u64,
+) -> Result<Ack, RunFault>
+    requires reads { R.has_failed reader.old ≡ false }
+    requires writes { W.has_failed writer.old ≡ false }
+    ensures sent { IfOk result (Sent message.now (W.contents writer.old) (W.contents writer.new)
+        (R.remaining reader.old) (R.remaining reader.new) decoder.old decoder.new) }
+    ensures unsent { IfErr result (Unsent n (W.has_failed writer.new) (R.has_failed reader.new) (R.reads reader.new)
+        message.now (W.contents writer.old) (W.contents writer.new) (R.remaining reader.old) decoder.old) }
+    ensures reader { OnOk result (R.has_failed reader.new ≡ false) }
+    ensures writer { OnOk result (W.has_failed writer.new ≡ false) }
+{
+    match send(alloc, message, writer, n) {
+        Err(fault) => Err(fault),
+        Ok(()) => answered(alloc, decoder, reader, control_of(message), n),
+    }
+}
+
+// Counts a block that was sent and acknowledged with this code.
+fn count(counts: &mut Counts, ack: Ack)
+    requires sent { counts.old.sent + 1 < 2 ^ 64 }
+    requires codes { counts.old.aa + counts.old.ae + counts.old.ar ≡ counts.old.sent }
+    ensures { counts.new ≡ with_sent ack counts.old }
+{
+    counts.sent += 1;
+    match ack {
+        Ack::AA => counts.aa += 1,
+        Ack::AE => counts.ae += 1,
+        Ack::AR => counts.ar += 1,
+    }
+}
+
+// Waits for what is next for a receiver, with its number: None where the courier ends.
+fn next<D: Door>(door: &mut D, receiver: usize) -> Result<Option<(u64, Arc<Translated>)>, RunFault>
+    ensures comes { IfOk result (λ o. Comes receiver (option_map out_seen o) (D.noted door.old) (D.noted door.new)) }
+    ensures err { OnErr result (Adds (Waits receiver) (D.noted door.old) (D.noted door.new)) }
+    ensures memory { IfErr result (λ e. e ≡ Memory) }
+{
+    'waits: loop {
+        match release(door, receiver)? {
+            Given::Out(n, translated) => return Ok(Some((n, translated))),
+            Given::Full => return Ok(None),
+            Given::Nothing => {}
+        }
+        // (each turn leaves a note, and no more notes than this can be)
+        let _noted = door.notes().len();
+        if !door.wait(Phase::NoResults) {
+            return Ok(None);
+        }
+    }
+}
+
+/// Writes the block of each translation that is given out for a receiver, and reads its acknowledgment, until there is none;
+/// then it waits for results, and goes on.
+/// It counts the blocks that it wrote, and the acknowledgments by their codes. Where the gate is full it ends without a fault.
+///
+/// The faults are `Memory`, `Turns` after 1,000,000 reads for one acknowledgment, and `Line` with the message's number:
+/// the writer or the reader failed, the stream ended, or its next block isn't the acknowledgment.
+pub fn courier<D: Door, R: Source, W: Sink>(
+    alloc: Global,
+    door: &mut D,
+    receiver: usize,
+    reader: &mut R,
+    writer: &mut W,
+) -> Result<Counts, RunFault>
+    requires reads { R.has_failed reader.old ≡ false }
+    requires writes { W.has_failed writer.old ≡ false }
+    ensures carries { IfOk result (Carries receiver (R.remaining reader.old) (W.contents writer.old) (W.contents writer.new)
+        (D.noted door.old) (D.noted door.new)) }
+    ensures breaks { IfErr result (Breaks receiver (W.has_failed writer.new) (R.has_failed reader.new) (R.reads reader.new)
+        (R.remaining reader.old) (W.contents writer.old) (W.contents writer.new) (D.noted door.old) (D.noted door.new)) }
+    ensures reader { OnOk result (R.has_failed reader.new ≡ false) }
+    ensures writer { OnOk result (W.has_failed writer.new ≡ false) }
+{
+    let mut decoder = Decoder::new(alloc);
+    let mut counts = Counts::none();
+    'rounds: loop {
+        let Some((n, translated)) = next(door, receiver)? else {
+            return Ok(counts);
+        };
+        // (each round leaves a note, and no more notes than this can be)
+        let _noted = door.notes().len();
+        let ack = carry(alloc, &mut decoder, reader, writer, translated.message(), n)?;
+        count(&mut counts, ack);
+    }
+}

@@ -1,0 +1,164 @@
+//! A gate for one thread.
+ghost use Rattle.std.specs.Prelude.{◌≡◌, IsTrue, IfOk, IfErr, OnErr, map};
+ghost use Rattle.std.specs.Option.{option_map};
+ghost use Rattle.gw_gate.specs.Values.{event_seen, reply_seen};
+ghost use Rattle.gw_crew.specs.Seen.{note_seen, notes_seen};
+ghost use Rattle.gw_crew.specs.Solos.{StepsOnce, asked_for, event_of, is_copied, plain_by};
+
+use crate::door::{Door, Phase};
+use crate::note::{Note, Receipt};
+use gw_gate::{Event, Gate, Reply};
+use std::alloc::{AllocError, Global};
+use std::marker::Model;
+use std::sync::Arc;
+
+/// A gate for one thread, with the notes of its replies.
+#[derive(Drop)]
+pub struct Solo {
+    gate: Gate,
+    notes: Vec<Note>,
+}
+
+impl Model for Solo {
+    ghost use Rattle.gw_crew.specs.Seen.{notes_seen};
+    ghost use Rattle.gw_crew.specs.Solos.{SoloSeen};
+
+    ghost Value = { SoloSeen };
+
+    ghost view = { λ s. record { gate = s.gate; notes = notes_seen s.notes.items } };
+}
+
+// The receiver that the event asks for, 0 where it asks for none.
+fn asked_for(event: &Event) -> usize
+    ensures { result ≡ asked_for (event_seen event.now) }
+{
+    match event {
+        Event::Release(receiver) => *receiver,
+        _ => 0,
+    }
+}
+
+// The note of a reply that adds no entry, if it leaves one, by the receiver that was asked for.
+fn plain_note(receiver: usize, reply: &Reply) -> Result<Option<Note>, AllocError>
+    ensures note { IfOk result (λ note. option_map note_seen note ≡ plain_by receiver (reply_seen reply.now)) }
+    ensures copied { OnErr result (IsTrue (is_copied (reply_seen reply.now))) }
+{
+    match reply {
+        Reply::Current { version, plan } => {
+            let plan = Arc::try_clone(plan)?;
+            Ok(Some(Note::Look(*version, plan)))
+        }
+        Reply::Stale {
+            version,
+            conforming,
+        } => {
+            let conforming = Arc::try_clone(conforming)?;
+            Ok(Some(Note::Stale(*version, conforming)))
+        }
+        Reply::Full(_) => Ok(Some(Note::Full)),
+        Reply::Idle => Ok(Some(Note::Idle)),
+        Reply::Nothing => Ok(Some(Note::Nothing(receiver))),
+        _ => Ok(None),
+    }
+}
+
+// The event that had this reply, whose note has a copy.
+fn event_of(reply: Reply) -> Event
+    ensures { event_seen result ≡ event_of (reply_seen reply) }
+{
+    match reply {
+        Reply::Stale { conforming, .. } => Event::Arrive(conforming),
+        _ => Event::Look,
+    }
+}
+
+// One step of the gate, with its note.
+fn step(gate: &mut Gate, event: Event) -> Result<(Reply, Option<Note>), Event>
+    ensures { StepsOnce gate.old (event_seen event) result gate.new }
+{
+    // (their clauses tell that the journal starts at 0 and is lawful)
+    let _opening = gate.opening();
+    let at = gate.journal().len();
+    let receiver = asked_for(&event);
+    match gate.step_noted(event) {
+        Err(event) => Err(event),
+        Ok((reply, entry)) => match entry {
+            Some(entry) => Ok((reply, Some(Note::Added(Receipt { at, entry })))),
+            None => match plain_note(receiver, &reply) {
+                Ok(note) => Ok((reply, note)),
+                Err(_) => Err(event_of(reply)),
+            },
+        },
+    }
+}
+
+impl Solo {
+    ghost use Rattle.std.specs.Prelude.{◌≡◌, []};
+
+    /// A door to the gate, with no note. It takes no memory.
+    pub fn new(alloc: Global, gate: Gate) -> Self
+        ensures { result ≡ record { gate = gate; notes = [] } }
+    {
+        Solo {
+            gate,
+            notes: Vec::new(alloc),
+        }
+    }
+
+    /// The gate. It takes no memory.
+    pub fn gate(&self) -> &Gate
+        ensures { result.now ≡ self.now.gate }
+    {
+        &self.gate
+    }
+
+    /// The gate alone. It takes no memory.
+    pub fn into_gate(self) -> Gate
+        ensures { result ≡ self.gate }
+    {
+        self.gate
+    }
+}
+
+impl Door for Solo {
+    ghost use Rattle.std.specs.Prelude.{◌≡◌, IfOk, OnErr, false};
+    ghost use Rattle.gw_gate.specs.Replies.{Replied};
+    ghost use Rattle.gw_gate.specs.Values.{event_seen, reply_seen, answer_seen};
+    ghost use Rattle.gw_crew.specs.Notes.{Calls, NotesAt};
+
+    ghost noted = { λ s. s.notes };
+
+    /// One step of the gate, noted with the number of its entry. An error is want of memory: the event comes back, and nothing changed.
+    fn call(&mut self, event: Event) -> Result<Reply, Event>
+        ensures calls { Calls self.old.notes (event_seen event) (answer_seen result) self.new.notes }
+        ensures step { IfOk result (λ given. Replied self.old.gate (event_seen event) (reply_seen given) self.new.gate) }
+        ensures noted { NotesAt self.old.gate (event_seen event) (answer_seen result) self.old.notes self.new.notes }
+        ensures err { OnErr result (self.new.gate ≡ self.old.gate) }
+    {
+        if self.notes.reserve(1).is_err() {
+            return Err(event);
+        }
+        match step(&mut self.gate, event) {
+            Err(event) => Err(event),
+            Ok((reply, note)) => match note {
+                None => Ok(reply),
+                Some(note) => {
+                    self.notes.push_reserved(note);
+                    Ok(reply)
+                }
+            },
+        }
+    }
+
+    /// Nobody else adds an entry, so it doesn't wait.
+    fn wait(&mut self, _phase: Phase) -> bool
+        ensures never { result ≡ false }
+        ensures same { self.new ≡ self.old }
+    {
+        false
+    }
+
+    fn notes(&self) -> &[Note] {
+        self.notes.as_slice()
+    }
+}

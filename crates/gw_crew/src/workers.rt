@@ -1,0 +1,173 @@
+//! Workers.
+ghost use Rattle.std.specs.Prelude.{◌≡◌, IfOk, IfErr, OnErr, false};
+ghost use Rattle.std.specs.Arc.{arc_value};
+ghost use Rattle.gw_gate.specs.Values.{reply_seen};
+ghost use Rattle.gw_plan.specs.Admitted.{IsOf};
+ghost use Rattle.gw_run.specs.declared.fault.RunFault.TheVariants.{Memory};
+ghost use Rattle.gw_crew.specs.Turns.{Adds, Finishes, Put, Took, Turn, became_of, taken_of, taken_seen};
+ghost use Rattle.gw_crew.specs.Works.{Breaks, InHand, Works};
+
+use crate::door::{Door, Phase};
+use crate::pause::Pause;
+use gw_gate::{Event, Reply};
+use gw_plan::{Conforming, translate_for};
+use gw_run::{Counts, RunFault};
+use std::alloc::Global;
+use std::sync::Arc;
+
+// Want of memory, with the job that the worker had, if it had one: its number and receiver.
+type Fault = (RunFault, Option<(u64, usize)>);
+
+// A job: the number, the receiver and the message.
+#[derive(Drop)]
+struct Job {
+    n: u64,
+    receiver: usize,
+    conforming: Arc<Conforming>,
+}
+
+// What was given to be worked on.
+#[derive(Drop)]
+enum Taken {
+    Job(Job),
+    Idle,
+    Full,
+}
+
+// What became of a job.
+#[derive(Clone, Copy)]
+enum Became {
+    Kept,
+    Dropped,
+    Full,
+}
+
+// What a reply to Take gives.
+fn taken_in(reply: Reply) -> Taken
+    ensures { taken_seen result ≡ taken_of (reply_seen reply) }
+{
+    match reply {
+        Reply::Job {
+            n,
+            receiver,
+            conforming,
+        } => Taken::Job(Job {
+            n,
+            receiver,
+            conforming,
+        }),
+        Reply::Idle => Taken::Idle,
+        _ => Taken::Full,
+    }
+}
+
+// What a reply to Put makes of a job.
+fn became_in(reply: &Reply) -> Became
+    ensures { result ≡ became_of (reply_seen reply.now) }
+{
+    match reply {
+        Reply::Kept => Became::Kept,
+        Reply::Full(_) => Became::Full,
+        _ => Became::Dropped,
+    }
+}
+
+// Asks for the next job.
+fn take<D: Door>(door: &mut D) -> Result<Taken, RunFault>
+    ensures took { IfOk result (λ t. Took (taken_seen t) (D.noted door.old) (D.noted door.new)) }
+    ensures err { OnErr result (D.noted door.new ≡ D.noted door.old) }
+    ensures memory { IfErr result (λ e. e ≡ Memory) }
+{
+    match door.call(Event::Take) {
+        Ok(reply) => Ok(taken_in(reply)),
+        Err(_) => Err(RunFault::Memory),
+    }
+}
+
+// Brings the result of a job.
+fn put<D: Door>(alloc: Global, door: &mut D, job: &Job) -> Result<Became, RunFault>
+    requires { IsOf (arc_value job.now.conforming) job.now.receiver }
+    ensures put { IfOk result (λ b. Put job.now.n job.now.receiver b (D.noted door.old) (D.noted door.new)) }
+    ensures err { OnErr result (D.noted door.new ≡ D.noted door.old) }
+    ensures memory { IfErr result (λ e. e ≡ Memory) }
+{
+    let translated = translate_for(alloc, &job.conforming, job.receiver)?;
+    match door.call(Event::Put {
+        n: job.n,
+        translated,
+    }) {
+        Ok(reply) => Ok(became_in(&reply)),
+        Err(_) => Err(RunFault::Memory),
+    }
+}
+
+// Works on a job, unless the pause ends the worker. Says how many results were kept, where the worker goes on.
+fn finish<D: Door, P: Pause>(
+    alloc: Global,
+    door: &mut D,
+    pause: &mut P,
+    job: &Job,
+) -> Result<Option<u64>, RunFault>
+    requires { IsOf (arc_value job.now.conforming) job.now.receiver }
+    ensures finished { IfOk result (λ kept. Adds (Finishes job.now.n job.now.receiver kept (P.has_stopped pause.new)) (D.noted door.old) (D.noted door.new)) }
+    ensures err { OnErr result (D.noted door.new ≡ D.noted door.old) }
+    ensures memory { IfErr result (λ e. e ≡ Memory) }
+{
+    if !pause.pause(job.n) {
+        return Ok(None);
+    }
+    match put(alloc, door, job)? {
+        Became::Kept => Ok(Some(1)),
+        Became::Dropped => Ok(Some(0)),
+        Became::Full => Ok(None),
+    }
+}
+
+// One round. Says how many results were kept, where the worker goes on.
+fn turn<D: Door, P: Pause>(alloc: Global, door: &mut D, pause: &mut P) -> Result<Option<u64>, Fault>
+    requires { P.has_stopped pause.old ≡ false }
+    ensures turn { IfOk result (λ kept. Adds (Turn kept (P.has_stopped pause.new)) (D.noted door.old) (D.noted door.new)) }
+    ensures err { IfErr result (λ e. Adds (InHand e.1) (D.noted door.old) (D.noted door.new)) }
+    ensures memory { IfErr result (λ e. e.0 ≡ Memory) }
+{
+    match take(door) {
+        Err(fault) => Err((fault, None)),
+        Ok(Taken::Full) => Ok(None),
+        Ok(Taken::Idle) => {
+            if door.wait(Phase::NoArrivals) {
+                Ok(Some(0))
+            } else {
+                Ok(None)
+            }
+        }
+        Ok(Taken::Job(job)) => match finish(alloc, door, pause, &job) {
+            Ok(kept) => Ok(kept),
+            Err(fault) => Err((fault, Some((job.n, job.receiver)))),
+        },
+    }
+}
+
+/// Takes jobs, and puts what each is translated to, until there is none; then it waits for arrivals, and goes on. It counts the results that were kept.
+/// A result that isn't kept is dropped. Where the gate is full, or the pause says so, it ends without a fault.
+///
+/// The one fault is want of memory, with the number and receiver of the job that it had, if it had one.
+pub fn worker<D: Door, P: Pause>(
+    alloc: Global,
+    door: &mut D,
+    pause: &mut P,
+) -> Result<Counts, (RunFault, Option<(u64, usize)>)>
+    requires { P.has_stopped pause.old ≡ false }
+    ensures works { IfOk result (λ counts. Works (P.has_stopped pause.new) (D.noted door.old) (D.noted door.new) counts) }
+    ensures breaks { IfErr result (λ e. Breaks e.1 (D.noted door.old) (D.noted door.new)) }
+    ensures memory { IfErr result (λ e. e.0 ≡ Memory) }
+{
+    let mut counts = Counts::none();
+    'rounds: loop {
+        // (each round leaves a note, and no more notes than this can be)
+        let _noted = door.notes().len();
+        let Some(kept) = turn(alloc, door, pause)? else {
+            return Ok(counts);
+        };
+        counts.put += kept;
+    }
+}
