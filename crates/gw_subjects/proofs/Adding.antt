@@ -1,0 +1,163 @@
+-- What lines make, taken together.
+use Rattle.std.proofs.Common.{◌≡◌, ℕ, suc, ◌+◌, ◌<◌, ◌≤◌, List, [], ◌∷◌, ◌++◌, drop, drop-cons, get_or, refl, sym, ap, ◌∙◌, arith, map, Option, Some, None, option_map, OnOk, Result, Ok, Err, length, subst}
+use Rattle.std.specs.Prelude.{flat_map, option_to_list}
+use Rattle.std.specs.Global.{Vec}
+use Rattle.std.proofs.lemmas.List.{append-nil, append_assoc}
+use Rattle.gw_profile.specs.Shapes.{ProfileValue}
+use Rattle.gw_maplang.specs.Shapes.{TableValue, MapValue}
+use Rattle.gw_resolve.specs.declared.failure.Failure.{Failure}
+use Rattle.gw_resolve.specs.declared.named.Named.{Named}
+use Rattle.gw_resolve.specs.declared.resolved.At.{At}
+use Rattle.gw_resolve.specs.declared.resolved.Reference.{Reference}
+use Rattle.gw_resolve.specs.declared.resolved.Making as makings
+use Rattle.gw_resolve.specs.declared.resolved.GroupItem.{GroupItem}
+use Rattle.gw_resolve.specs.declared.resolved.FlatItem.{FlatItem}
+use Rattle.gw_resolve.specs.declared.resolved.SegmentItem.{SegmentItem}
+use Rattle.gw_resolve.specs.declared.resolved.Item.{Item, Segment, Group, Flat, Group', Flat'}
+use Rattle.gw_resolve.specs.declared.resolved.Place as places
+use Rattle.gw_resolve.specs.declared.resolved.Rule as rules_of
+use Rattle.gw_resolve.specs.Resolved.{Items, no_items, first_child}
+use Rattle.gw_resolve.specs.Naming.{resolved}
+use Rattle.gw_resolve.specs.Resolving.{IsNamed, IsLost}
+use Rattle.gw_resolve.specs.Seen.{failures, place, reference, at_leaf, making, rule, with_item, row_items, all_items}
+use Rattle.gw_resolve.proofs.Rows.{group_items, flat_items}
+use Rattle.gw_subjects.specs.Positions.{Position, inner, inner_if, positions}
+use Rattle.gw_subjects.specs.Seen.{Adds, FirstChild, ChildOf, all_sites, segment_item}
+use Rattle.gw_subjects.specs.Sites.{Site, Origin, unsaid, repeated, read_at, leaf_sites, making_sites, rules_sites, node_sites, node_origin, origin_if, segment_sites, items_sites, none_if, sites, site_of}
+use Rattle.gw_subjects.specs.declared.site.Site as declared
+
+pub on_ok : {A E : Type 0} (r : Result A E) (P Q : Type 0) → (P → Q) → OnOk r P → OnOk r Q
+on_ok (Ok x) P Q f h = f h
+on_ok (Err e) P Q f h = tt
+
+pub added_twice : (tables : List TableValue) (old mid new : List declared.Site) (a b : List Site) → Adds tables old mid a → Adds tables mid new b → Adds tables old new (a ++ b)
+added_twice tables old mid new a b h k = k ∙ ap (λ l. l ++ b) h ∙ append_assoc (all_sites tables old) a b
+
+-- ---- rules
+
+pub whole_made : (tables : List TableValue) (line : ℕ) (at : Position) (field : ℕ) (one other : Origin) (old new : List declared.Site) → one ≡ other → Adds tables old new (site_of line at field 0 0 one ∷ []) → Adds tables old new (site_of line at field 0 0 other ∷ [])
+whole_made tables line at field one other old new same h = h ∙ ap (λ o. all_sites tables old ++ (site_of line at field 0 0 o ∷ [])) same
+
+pub repeat_made : (tables : List TableValue) (scope : List Position) (at : Position) (line field : ℕ) (old mid new : List declared.Site) (m : makings.Making) (from : Reference) (leaves : Vec At) (list : List At) →
+    m ≡ makings.TheVariants.Repeat from leaves → list ≡ leaves.items →
+    Adds tables old mid (flat_map (leaf_sites scope (Some (reference from)) at field) (map (at_leaf tables) list)) →
+    Adds tables mid new (site_of line at field 0 0 (repeated (read_at scope (reference from) 0 0)) ∷ []) →
+    Adds tables old new (making_sites scope at line field (making tables m))
+repeat_made tables scope at line field old mid new m from leaves list is items h k =
+    subst (λ x. Adds tables old new (making_sites scope at line field (making tables x))) (sym is)
+    (subst (λ l. Adds tables old new (flat_map (leaf_sites scope (Some (reference from)) at field) (map (at_leaf tables) l) ++ (site_of line at field 0 0 (repeated (read_at scope (reference from) 0 0)) ∷ []))) items
+    (added_twice tables old mid new _ _ h k))
+
+pub build_made : (tables : List TableValue) (scope : List Position) (at : Position) (line field : ℕ) (old mid new : List declared.Site) (m : makings.Making) (leaves : Vec At) (list : List At) →
+    m ≡ makings.TheVariants.Build leaves → list ≡ leaves.items →
+    Adds tables old mid (flat_map (leaf_sites scope None at field) (map (at_leaf tables) list)) →
+    Adds tables mid new (site_of line at field 0 0 unsaid ∷ []) →
+    Adds tables old new (making_sites scope at line field (making tables m))
+build_made tables scope at line field old mid new m leaves list is items h k =
+    subst (λ x. Adds tables old new (making_sites scope at line field (making tables x))) (sym is)
+    (subst (λ l. Adds tables old new (flat_map (leaf_sites scope None at field) (map (at_leaf tables) l) ++ (site_of line at field 0 0 unsaid ∷ []))) items
+    (added_twice tables old mid new _ _ h k))
+
+-- ---- a segment
+
+module _ (tables : List TableValue) (scope : List Position) (at : Position) (s : SegmentItem) (old mid new : List declared.Site) where
+  -- that is always made
+  pub always_made : (list : List rules_of.Rule) → s.place ≡ None → list ≡ s.rules.items → Adds tables old mid (site_of s.line at 0 0 0 unsaid ∷ []) → Adds tables mid new (rules_sites scope at (map (rule tables) list)) → Adds tables old new (segment_sites scope at (segment_item tables s))
+  always_made list none same h k =
+      subst (λ p. Adds tables old new (node_sites s.line at (origin_if scope (option_map place p)) ++ rules_sites (inner_if scope (option_map place p)) at (map (rule tables) s.rules.items))) (sym none)
+      (subst (λ l. Adds tables old new (node_sites s.line at unsaid ++ rules_sites scope at (map (rule tables) l))) same (added_twice tables old mid new _ _ h k))
+
+  -- that is made for each occurrence at a place
+  pub walked_made : (within : List Position) (p : places.Place) (list : List rules_of.Rule) → s.place ≡ Some p → list ≡ s.rules.items → within ≡ inner scope (place p) →
+      Adds tables old mid (node_sites s.line at (node_origin scope (place p))) → Adds tables mid new (rules_sites within at (map (rule tables) list)) → Adds tables old new (segment_sites scope at (segment_item tables s))
+  walked_made within p list some same there h k =
+      subst (λ q. Adds tables old new (node_sites s.line at (origin_if scope (option_map place q)) ++ rules_sites (inner_if scope (option_map place q)) at (map (rule tables) s.rules.items))) (sym some)
+      (subst (λ l. Adds tables old new (node_sites s.line at (node_origin scope (place p)) ++ rules_sites (inner scope (place p)) at (map (rule tables) l))) same
+      (subst (λ w. Adds tables old new (node_sites s.line at (node_origin scope (place p)) ++ rules_sites w at (map (rule tables) list))) there (added_twice tables old mid new _ _ h k)))
+
+-- ---- items
+
+module _ (tables : List TableValue) (scope : List Position) (above : Position) where
+  one_made : (i : Item) (rest : Items) → items_sites scope above (with_item tables i rest) ≡ items_sites scope above (with_item tables i no_items) ++ items_sites scope above rest
+  one_made (Segment s) rest = ap (λ l. l ++ items_sites scope above rest) (sym (append-nil (segment_sites scope (above ++ s.child ∷ []) (segment_item tables s))))
+  one_made (Group' line child from shape row) rest =
+      ap (λ l. l ++ items_sites scope above rest)
+      (sym (append-nil (node_sites line (above ++ child ∷ []) (node_origin scope (place from)) ++ items_sites (inner scope (place from)) (above ++ child ∷ []) (row_items tables row))))
+  one_made (Flat' line from shape row) rest =
+      ap (λ l. l ++ items_sites scope above rest)
+      (sym (append-nil (node_sites line (above ++ option_to_list (first_child (row_items tables row))) (node_origin scope (place from)) ++ items_sites (inner scope (place from)) above (row_items tables row))))
+
+  pub item_made : (items : List Item) (k : ℕ) (i : Item) (first old new : List declared.Site) → k < length items → i ≡ get_or items k i → Adds tables old new (items_sites scope above (with_item tables i no_items)) →
+      all_sites tables first ++ items_sites scope above (all_items tables items) ≡ all_sites tables old ++ items_sites scope above (all_items tables (drop k items)) →
+      all_sites tables first ++ items_sites scope above (all_items tables items) ≡ all_sites tables new ++ items_sites scope above (all_items tables (drop (k + 1) items))
+  item_made items k i first old new low at more h =
+      let next : suc k ≡ k + 1 = omega arith in
+      let step : drop k items ≡ i ∷ drop (k + 1) items = drop-cons items k i low ∙ ap (λ x. x ∷ drop (suc k) items) (sym at) ∙ ap (λ n. i ∷ drop n items) next in
+      h ∙ ap (λ l. all_sites tables old ++ items_sites scope above (all_items tables l)) step
+      ∙ ap (λ l. all_sites tables old ++ l) (one_made i (all_items tables (drop (k + 1) items)))
+      ∙ sym (append_assoc (all_sites tables old) (items_sites scope above (with_item tables i no_items)) (items_sites scope above (all_items tables (drop (k + 1) items))))
+      ∙ ap (λ l. l ++ items_sites scope above (all_items tables (drop (k + 1) items))) (sym more)
+
+  pub segment_made : (at : Position) (i : Item) (s : SegmentItem) (old new : List declared.Site) → i ≡ Segment s → at ≡ above ++ s.child ∷ [] → Adds tables old new (segment_sites scope at (segment_item tables s)) → Adds tables old new (items_sites scope above (with_item tables i no_items))
+  segment_made at i s old new same there h =
+      subst (λ j. Adds tables old new (items_sites scope above (with_item tables j no_items))) (sym same)
+      (h ∙ ap (λ (p : Position). all_sites tables old ++ segment_sites scope p (segment_item tables s)) there
+      ∙ ap (λ l. all_sites tables old ++ l) (sym (append-nil (segment_sites scope (above ++ s.child ∷ []) (segment_item tables s)))))
+
+  pub group_made : (within : List Position) (at at' : Position) (i : Item) (g : GroupItem) (is : List Item) (old mid new : List declared.Site) → i ≡ Group g → is ≡ g.items.items → within ≡ inner scope (place g.place) → at ≡ above ++ g.child ∷ [] → at' ≡ above ++ g.child ∷ [] →
+      Adds tables old mid (node_sites g.line at (node_origin scope (place g.place))) → Adds tables mid new (items_sites within at' (all_items tables is)) → Adds tables old new (items_sites scope above (with_item tables i no_items))
+  group_made within at at' i g is old mid new same items walked there there' h k =
+      added_twice tables old mid new _ _ h k
+      ∙ ap (λ l. all_sites tables old ++ l)
+      ((λ x. node_sites g.line (there x) (node_origin scope (place g.place)) ++ items_sites (walked x) (there' x) (all_items tables (items x)))
+      ∙ sym (append-nil (node_sites g.line (above ++ g.child ∷ []) (node_origin scope (place g.place)) ++ items_sites (inner scope (place g.place)) (above ++ g.child ∷ []) (all_items tables g.items.items)))
+      ∙ sym (ap (items_sites scope above) (ap (λ j. with_item tables j no_items) same ∙ group_items tables g no_items)))
+
+  pub flat_made : (within : List Position) (at : Position) (i : Item) (f : FlatItem) (is js : List Item) (old mid new : List declared.Site) → i ≡ Flat f → is ≡ f.items.items → js ≡ f.items.items → within ≡ inner scope (place f.place) → at ≡ above ++ option_to_list (first_child (all_items tables js)) →
+      Adds tables old mid (node_sites f.line at (node_origin scope (place f.place))) → Adds tables mid new (items_sites within above (all_items tables is)) → Adds tables old new (items_sites scope above (with_item tables i no_items))
+  flat_made within at i f is js old mid new same items jtems walked there h k =
+      added_twice tables old mid new _ _ h k
+      ∙ ap (λ l. all_sites tables old ++ l)
+      (ap (λ (p : Position). node_sites f.line p (node_origin scope (place f.place)) ++ items_sites within above (all_items tables is)) (there ∙ ap (λ l. above ++ option_to_list (first_child (all_items tables l))) jtems)
+      ∙ (λ x. node_sites f.line (above ++ option_to_list (first_child (all_items tables f.items.items))) (node_origin scope (place f.place)) ++ items_sites (walked x) above (all_items tables (items x)))
+      ∙ sym (append-nil (node_sites f.line (above ++ option_to_list (first_child (all_items tables f.items.items))) (node_origin scope (place f.place)) ++ items_sites (inner scope (place f.place)) above (all_items tables f.items.items)))
+      ∙ sym (ap (items_sites scope above) (ap (λ j. with_item tables j no_items) same ∙ flat_items tables f no_items)))
+
+-- ---- target nodes
+
+pub child_flat : (i : Item) (f : FlatItem) (is : List Item) (c : Option ℕ) → i ≡ Flat f → is ≡ f.items.items → FirstChild is c → ChildOf i c
+child_flat i f is c same items first tables =
+    first tables ∙ ap (λ l. first_child (all_items tables l)) items
+    ∙ sym (ap first_child (ap (λ j. with_item tables j no_items) same ∙ flat_items tables f no_items))
+
+child_first : (i : Item) (is : List Item) (c : Option ℕ) → ChildOf i c → FirstChild (i ∷ is) c
+child_first i is c h tables = h tables ∙ go i
+  where
+    go : (i : Item) → first_child (with_item tables i no_items) ≡ first_child (with_item tables i (all_items tables is))
+    go (Segment s) = refl
+    go (Group' line child from shape row) = refl
+    go (Flat' line from shape row) = refl
+
+pub child_at_first : (items : List Item) (i : Item) (c : Option ℕ) → 1 ≤ length items → i ≡ get_or items 0 i → ChildOf i c → FirstChild items c
+child_at_first [] i c some is h = absurd (omega (arith, some))
+child_at_first (x ∷ items) i c some is h = child_first x items c (subst (λ j. ChildOf j c) is h)
+
+-- ---- the whole
+
+pub first_made : (tables : List TableValue) (items : List Item) (empty scope : List (Vec ℕ)) (top : Vec ℕ) (old new : List declared.Site) → empty ≡ [] → top.items ≡ [] → scope ≡ empty ++ top ∷ [] → old ≡ [] → Adds tables old new (items_sites (positions scope) [] (all_items tables items)) → all_sites tables new ≡ items_sites ([] ∷ []) [] (all_items tables items)
+first_made tables items empty scope top old new e f g none h =
+    h ∙ ap (λ l. all_sites tables l ++ items_sites (positions scope) [] (all_items tables items)) none
+    ∙ ap (λ s. items_sites s [] (all_items tables items)) (ap positions (g ∙ ap (λ l. l ++ top ∷ []) e) ∙ ap (λ p. p ∷ []) f)
+
+abbrev of_map : ProfileValue → ProfileValue → MapValue → List Site
+of_map from to m = items_sites ([] ∷ []) [] (resolved from to m).items
+
+none_of : (found : List Failure) (x : List Site) → (found ≡ [] → ⊥) → [] ≡ none_if (failures found) x
+none_of [] x h = absurd (h refl)
+none_of (f ∷ found) x h = refl
+
+pub none_lost : (from to : ProfileValue) (m : MapValue) (found : List Failure) → IsLost from to m found → [] ≡ sites from to m
+none_lost from to m found h = none_of found (of_map from to m) h.some ∙ ap (λ l. none_if l (of_map from to m)) h.all
+
+pub all_named : (from to : ProfileValue) (m : MapValue) (made : Named) (found : List Site) → IsNamed from to m made → found ≡ items_sites ([] ∷ []) [] (all_items m.tables made.items.items) → found ≡ sites from to m
+all_named from to m made found h is = is ∙ ap (items_sites ([] ∷ []) []) h.items ∙ ap (λ l. none_if l (of_map from to m)) (sym h.none)

@@ -1,0 +1,7 @@
+use Rattle.std.proofs.Common.{◌≡◌, drop, map}
+use Rattle.std.specs.Prelude.{◌==◌, find}
+use Rattle.gw_profile.specs.Seen.{comp}
+use Rattle.gw_subjects.proofs.elements.comp_among.Given as goal
+
+abbrev pub invariant-loop-i : goal.invariant-loop-i
+invariant-loop-i l = find (λ x. x.number == l.number) (map comp l.comps) ≡ find (λ x. x.number == l.number) (map comp (drop l.i l.comps))

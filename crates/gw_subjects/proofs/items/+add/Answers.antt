@@ -1,0 +1,28 @@
+use Rattle.std.proofs.Common.{ap, ◌∙◌}
+use Rattle.gw_subjects.specs.Positions.{positions}
+use Rattle.gw_subjects.proofs.Adding.{on_ok, group_made, flat_made, item_made}
+use Rattle.gw_subjects.proofs.items.+add.Goals as goal
+
+pub add_item-returns-in_ok-within-in-Group : goal.add_item-returns-in_ok-within-in-Group
+add_item-returns-in_ok-within-in-Group t c = λ tables.
+    on_ok c.add_items.result _ _
+    (group_made tables (positions c.args.scope.now) c.args.above.now (positions c.deref-in-Group-2.result.now) c.deref-in-Group.result.now c.deref-in-Group-3.result.now c.args.item.now c.in-Group.group c.deref-in-Group-4.result.now
+    c.args.sites.now.items c.add_node.new.sites.items c.add_items.new.sites.items c.in-Group.is c.deref-in-Group-4.ensures.value
+    (ap positions c.deref-in-Group-2.ensures.value ∙ c.in_ok-within-in-Group.ensures)
+    (c.deref-in-Group.ensures.value ∙ c.in_ok-at-in-Group.ensures) (c.deref-in-Group-3.ensures.value ∙ c.in_ok-at-in-Group.ensures)
+    (c.in_ok-add_node-in-Group.ensures tables))
+    (c.add_items.ensures tables)
+
+pub add_item-returns-in_ok-within-in-Flat : goal.add_item-returns-in_ok-within-in-Flat
+add_item-returns-in_ok-within-in-Flat t c = λ tables.
+    on_ok c.add_items-in-Flat.result _ _
+    (flat_made tables (positions c.args.scope.now) c.args.above.now (positions c.deref-in-Flat-3.result.now) c.deref-in-Flat-2.result.now c.args.item.now c.in-Flat.flat c.deref-in-Flat-4.result.now c.deref-in-Flat.result.now
+    c.args.sites.now.items c.add_node-in-Flat.new.sites.items c.add_items-in-Flat.new.sites.items c.in-Flat.is c.deref-in-Flat-4.ensures.value c.deref-in-Flat.ensures.value
+    (ap positions c.deref-in-Flat-3.ensures.value ∙ c.in_ok-within-in-Flat.ensures)
+    (c.deref-in-Flat-2.ensures.value ∙ c.in_ok-at-in-Flat.ensures tables)
+    (c.in_ok-add_node-in-Flat.ensures tables))
+    (c.add_items-in-Flat.ensures tables)
+
+pub add_items-loop-i-preserved : goal.add_items-loop-i-preserved
+add_items-loop-i-preserved t c = λ tables.
+    item_made tables (positions c.args.scope.now) c.args.above.now c.args.items.now c.loop-i.i c.index-items-i.result c.args.sites.now.items c.loop-i.sites.items c.add_item.new.sites.items c.loop-i-test.true c.index-items-i.is (c.in_ok-add_item.ensures tables) (c.loop-i.invariant tables)

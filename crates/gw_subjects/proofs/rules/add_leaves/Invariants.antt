@@ -1,0 +1,14 @@
+use Rattle.std.proofs.Common.{◌≡◌, ◌++◌, drop, map, List}
+use Rattle.std.specs.Prelude.{flat_map}
+use Rattle.gw_maplang.specs.Shapes.{TableValue}
+use Rattle.gw_resolve.specs.Seen.{at_leaf}
+use Rattle.gw_subjects.specs.Positions.{positions}
+use Rattle.gw_subjects.specs.Seen.{all_sites, some_reference}
+use Rattle.gw_subjects.specs.Sites.{leaf_sites}
+use Rattle.gw_subjects.proofs.rules.add_leaves.Given as goal
+
+abbrev pub invariant-loop-i : goal.invariant-loop-i
+invariant-loop-i l =
+    (tables : List TableValue) →
+    all_sites tables l.initial.sites.items ++ flat_map (leaf_sites (positions l.scope) (some_reference l.walked) l.target.at.now l.target.field) (map (at_leaf tables) l.leaves)
+    ≡ all_sites tables l.sites.items ++ flat_map (leaf_sites (positions l.scope) (some_reference l.walked) l.target.at.now l.target.field) (map (at_leaf tables) (drop l.i l.leaves))

@@ -1,0 +1,4 @@
+pub mod Positions
+pub mod Sites
+pub mod Seen
+pub mod Elements

@@ -1,0 +1,211 @@
+//! What the items of a map make.
+ghost use Rattle.std.specs.Prelude.{◌≡◌, ◌++◌, ◌∷◌, [], ℕ, List, Some, IfOk, OnOk, option_to_list};
+ghost use Rattle.gw_maplang.specs.Seen.{map_value};
+ghost use Rattle.gw_maplang.specs.Shapes.{TableValue};
+ghost use Rattle.gw_profile.specs.Seen.{profile_value};
+ghost use Rattle.gw_subjects.specs.Positions.{positions};
+ghost use Rattle.gw_resolve.specs.Resolved.{no_items, first_child as spec_first_child};
+ghost use Rattle.gw_resolve.specs.Resolving.{Resolves};
+ghost use Rattle.gw_resolve.specs.Seen.{place as seen_place, with_item, all_items};
+ghost use Rattle.gw_subjects.specs.Seen.{Adds, ChildOf, FirstChild, all_sites, some_site, segment_item as seen_segment};
+ghost use Rattle.gw_subjects.specs.Sites as spec;
+
+use crate::reading::{inner, node_origin};
+use crate::rules::{Target, add_rules, add_whole};
+use crate::site::{Origin, Site};
+use gw_maplang::Map;
+use gw_profile::{Level, Profile};
+use gw_resolve::{Item, Place, Resolving, SegmentItem, resolve};
+use std::alloc::{AllocError, Global};
+
+// The node of this number below a position.
+fn below(alloc: Global, above: &[usize], number: usize) -> Result<Vec<usize>, AllocError>
+    ensures { IfOk result (λ at. at.items ≡ above.now ++ number ∷ []) }
+{
+    let mut at = Vec::from_slice(alloc, above)?;
+    at.push(number)?;
+    Ok(at)
+}
+
+// ---- the node that a `flat` makes
+
+// The target node of an item; all items of a flat have one.
+#[cycle(child)]
+fn child_of(item: &Item) -> Option<usize>
+    ensures { ChildOf item.now result }
+{
+    match item {
+        Item::Segment(segment) => Some(segment.child),
+        Item::Group(group) => Some(group.child),
+        Item::Flat(flat) => first_child(&flat.items),
+    }
+}
+
+// The target node of the first item.
+#[cycle(child)]
+fn first_child(items: &[Item]) -> Option<usize>
+    ensures { FirstChild items.now result }
+{
+    let [item, ..] = items else {
+        return None;
+    };
+    child_of(item)
+}
+
+// The node below a position that these items make.
+fn made_below(alloc: Global, above: &[usize], items: &[Item]) -> Result<Vec<usize>, AllocError>
+    ensures { (tables : List TableValue) → IfOk result (λ at. at.items ≡ above.now ++ option_to_list (spec_first_child (all_items tables items.now))) }
+{
+    match first_child(items) {
+        None => Vec::from_slice(alloc, above),
+        Some(number) => below(alloc, above, number),
+    }
+}
+
+// ---- items
+
+// A segment, group or flat that is made for each occurrence at a place.
+fn add_node(
+    alloc: Global,
+    sites: &mut Vec<Site>,
+    scope: &[Vec<usize>],
+    line: u32,
+    at: &[usize],
+    place: &Place,
+) -> Result<(), AllocError>
+    ensures { (tables : List TableValue) → OnOk result (Adds tables sites.old.items sites.new.items (spec.node_sites line at.now (spec.node_origin (positions scope.now) (seen_place place.now)))) }
+{
+    let origin = node_origin(alloc, scope, place)?;
+    add_whole(alloc, sites, line, Target { at, field: 0 }, origin)
+}
+
+// A segment at this position.
+fn add_segment(
+    alloc: Global,
+    sites: &mut Vec<Site>,
+    scope: &[Vec<usize>],
+    at: &[usize],
+    segment: &SegmentItem,
+) -> Result<(), AllocError>
+    ensures { (tables : List TableValue) → OnOk result (Adds tables sites.old.items sites.new.items (spec.segment_sites (positions scope.now) at.now (seen_segment tables segment.now))) }
+{
+    match &segment.place {
+        None => {
+            let whole = Target { at, field: 0 };
+            add_whole(alloc, sites, segment.line, whole, Origin::Unsaid)?;
+            add_rules(alloc, sites, scope, at, &segment.rules)
+        }
+        Some(place) => {
+            add_node(alloc, sites, scope, segment.line, at, place)?;
+            let within = inner(alloc, scope, place)?;
+            add_rules(alloc, sites, &within, at, &segment.rules)
+        }
+    }
+}
+
+#[cycle(add)]
+fn add_item(
+    alloc: Global,
+    sites: &mut Vec<Site>,
+    scope: &[Vec<usize>],
+    above: &[usize],
+    item: &Item,
+) -> Result<(), AllocError>
+    ensures { (tables : List TableValue) → OnOk result (Adds tables sites.old.items sites.new.items (spec.items_sites (positions scope.now) above.now (with_item tables item.now no_items))) }
+{
+    match item {
+        Item::Segment(segment) => {
+            let at = below(alloc, above, segment.child)?;
+            add_segment(alloc, sites, scope, &at, segment)
+        }
+        Item::Group(group) => {
+            let at = below(alloc, above, group.child)?;
+            add_node(alloc, sites, scope, group.line, &at, &group.place)?;
+            let within = inner(alloc, scope, &group.place)?;
+            add_items(alloc, sites, &within, &at, &group.items)
+        }
+        Item::Flat(flat) => {
+            let at = made_below(alloc, above, &flat.items)?;
+            add_node(alloc, sites, scope, flat.line, &at, &flat.place)?;
+            let within = inner(alloc, scope, &flat.place)?;
+            add_items(alloc, sites, &within, above, &flat.items)
+        }
+    }
+}
+
+// Adds what the items make below the target's element at a position.
+#[cycle(add)]
+fn add_items(
+    alloc: Global,
+    sites: &mut Vec<Site>,
+    scope: &[Vec<usize>],
+    above: &[usize],
+    items: &[Item],
+) -> Result<(), AllocError>
+    ensures { (tables : List TableValue) → OnOk result (Adds tables sites.old.items sites.new.items (spec.items_sites (positions scope.now) above.now (all_items tables items.now))) }
+{
+    for (i, item) in items.iter().enumerate() {
+        add_item(alloc, sites, scope, above, item)?;
+    }
+    Ok(())
+}
+
+// ---- the whole
+
+// What the lines of these items make.
+fn all_made(alloc: Global, items: &[Item]) -> Result<Vec<Site>, AllocError>
+    ensures { IfOk result (λ made. (tables : List TableValue) → all_sites tables made.items ≡ spec.items_sites ([] ∷ []) [] (all_items tables items.now)) }
+{
+    let mut scope = Vec::new(alloc);
+    scope.push(Vec::new(alloc))?;
+    let mut sites = Vec::new(alloc);
+    add_items(alloc, &mut sites, &scope, &[], items)?;
+    Ok(sites)
+}
+
+// The labels of a map, looked up in its profiles, whose levels these are.
+fn look_up(
+    alloc: Global,
+    source: &Profile,
+    target: &Profile,
+    from: &Level<'_>,
+    to: &Level<'_>,
+    map: &Map,
+) -> Result<Resolving, AllocError>
+    requires source { from.now ≡ source.now.nodes }
+    requires target { to.now ≡ target.now.nodes }
+    ensures { IfOk result (Resolves (profile_value source.now) (profile_value target.now) (map_value map.now)) }
+{
+    resolve(alloc, from, to, map)
+}
+
+/// What each line of a map makes, and of what.
+///
+/// None are told where the rules on labels (1 to 3) fail. It takes time by the sizes of the profiles and the map. The one error is want of memory.
+pub fn sites(
+    alloc: Global,
+    source: &Profile,
+    target: &Profile,
+    map: &Map,
+) -> Result<Vec<Site>, AllocError>
+    ensures { IfOk result (λ made. all_sites map.now.tables made.items ≡ spec.sites (profile_value source.now) (profile_value target.now) (map_value map.now)) }
+{
+    let from = Level::of(alloc, source)?;
+    let to = Level::of(alloc, target)?;
+    match look_up(alloc, source, target, &from, &to, map)? {
+        Resolving::Refused(_) => Ok(Vec::new(alloc)),
+        Resolving::Resolved(named) => all_made(alloc, &named.items),
+    }
+}
+
+/// What the line of this number makes, of these. It takes no memory.
+pub fn site_at(sites: &[Site], line: u32) -> Option<&Site>
+    ensures { (tables : List TableValue) → some_site tables result ≡ spec.site_at (all_sites tables sites.now) line }
+{
+    for (i, site) in sites.iter().enumerate() {
+        if site.line == line {
+            return Some(site);
+        }
+    }
+    None
+}

@@ -1,0 +1,35 @@
+//! What a line of a map makes, and of what.
+
+/// An element of a profile: a node, by the numbers of the nodes that lead to it from the top on, each from 0, or in it a field, a component, a subcomponent. 0 is said where the whole is meant.
+#[derive(Drop)]
+pub struct Spot {
+    pub at: Vec<usize>,
+    /// Of what is read, how many of the numbers lead to what an item around it walks.
+    pub walked: usize,
+    pub field: u32,
+    pub comp: u32,
+    pub sub: u32,
+}
+
+/// What something is made of.
+#[derive(Drop)]
+pub enum Origin {
+    /// Of nothing that the line names.
+    Unsaid,
+    /// A constant.
+    Text(Vec<u8>),
+    /// An element of the source.
+    Read(Spot),
+    /// A field of the source, of whose repetitions each makes one by the leaves of the line.
+    Repeated(Spot),
+    /// What the table of this name gives for an element of the source.
+    LookedUp(Vec<u8>, Spot),
+}
+
+/// The element of the target that a line makes, and of what.
+#[derive(Drop)]
+pub struct Site {
+    pub line: u32,
+    pub target: Spot,
+    pub origin: Origin,
+}
