@@ -1,11 +1,18 @@
 //! What a person needs of a map that a rule refuses: the file and its line, what the rule demands, and what to do.
+use crate::elements::{Named, field_of, node_at, tell_name, usage_of};
 use crate::maps::Sides;
+use crate::subjects::Told;
 use gw_check::{FieldAt, Gap};
-use gw_profile::Node;
+use gw_maplang::Map;
+use gw_profile::{Profile, Usage};
 use gw_resolve::Failure;
+use gw_subjects::{Site, site_at};
 use std::alloc::{AllocError, Global};
 use std::collections::BTreeSet;
 use std::io::Write;
+
+/// The rules up to this one are on labels: of them the line itself says what they speak of.
+const LAST_OF_LABELS: u8 = 3;
 
 /// The file of a map, and its text.
 #[derive(Drop)]
@@ -17,11 +24,14 @@ pub(crate) struct Written<'a> {
 /// All that fails of a map that a rule refuses.
 #[derive(Drop)]
 pub(crate) struct Found {
-    /// The fields that the map passes over, where rule 9 is the least that fails.
+    /// The fields that the map passes over.
     pub(crate) unread: Vec<FieldAt>,
-    /// What the target asks for and the map says nothing of, where rule 5 or 8 is the least that fails.
+    /// What the target asks for and the map says nothing of.
     pub(crate) gaps: Vec<Gap>,
+    /// What each line makes, and of what.
+    pub(crate) sites: Vec<Site>,
     pub(crate) failures: Vec<Failure>,
+    pub(crate) map: Map,
 }
 
 /// A rule that refuses a map: the least, at its least line.
@@ -34,7 +44,7 @@ pub(crate) struct Refusal<'a> {
 }
 
 /// What a rule demands, and what to do.
-fn advice(rule: u8) -> &'static str {
+pub(crate) fn advice(rule: u8) -> &'static str {
     match rule {
         1 => {
             "each path leads somewhere in the source: write its labels as the source profile has them; a field is read of a segment"
@@ -71,7 +81,7 @@ fn advice(rule: u8) -> &'static str {
 }
 
 /// What stands behind so many lines.
-fn behind(text: &[u8], lines: u32) -> &[u8] {
+pub(crate) fn behind(text: &[u8], lines: u32) -> &[u8] {
     let mut rest = text;
     for _ in 0..lines {
         match rest.iter().position(|byte| *byte == b'\n') {
@@ -82,64 +92,139 @@ fn behind(text: &[u8], lines: u32) -> &[u8] {
     rest
 }
 
+/// The first line, without the blanks around it.
+fn first_line(text: &[u8]) -> &[u8] {
+    match text.iter().position(|byte| *byte == b'\n') {
+        None => text.trim_ascii(),
+        Some(end) => text[..end].trim_ascii(),
+    }
+}
+
 /// The line of this number, from 1, without the blanks around it.
-fn line_at(text: &[u8], number: u32) -> &[u8] {
+pub(crate) fn line_at(text: &[u8], number: u32) -> &[u8] {
     if number == 0 {
         return &[];
     }
-    let rest = behind(text, number - 1);
-    match rest.iter().position(|byte| *byte == b'\n') {
-        None => rest.trim_ascii(),
-        Some(end) => rest[..end].trim_ascii(),
+    first_line(behind(text, number - 1))
+}
+
+/// A field that the map passes over.
+fn unread_field(field: &FieldAt) -> Named<'_> {
+    Named {
+        at: &field.at,
+        field: field.field,
+        comp: 0,
+        sub: 0,
     }
 }
 
-fn label_of(node: &Node) -> &[u8] {
-    match node {
-        Node::Seg(segment) => &segment.label,
-        Node::Group(group) => &group.label,
+/// What the map gives by nothing.
+fn missing(gap: &Gap) -> Named<'_> {
+    Named {
+        at: &gap.at,
+        field: gap.field.unwrap_or(0),
+        comp: 0,
+        sub: 0,
     }
 }
 
-fn nodes_of(node: &Node) -> &[Node] {
-    match node {
-        Node::Seg(_) => &[],
-        Node::Group(group) => &group.nodes,
-    }
-}
-
-/// Tells the labels that lead to a node.
-fn tell_path<E: Write>(errors: &mut E, nodes: &[Node], at: &[usize]) {
-    let mut level = nodes;
-    for (i, number) in at.iter().enumerate() {
-        let Some(node) = level.get(*number) else {
-            return;
-        };
-        if i > 0 {
-            let _ = errors.write_all(b"/");
-        }
-        let _ = errors.write_all(label_of(node));
-        level = nodes_of(node);
-    }
-}
-
-/// Tells a field that the map passes over by its path.
-fn tell_field<E: Write>(errors: &mut E, nodes: &[Node], field: &FieldAt) {
-    tell_path(errors, nodes, &field.at);
-    let number = field.field;
-    let _ = writeln!(errors, "-{number}: neither read nor dropped");
-}
-
-/// Tells a segment, group or field that the map gives by nothing.
-fn tell_gap<E: Write>(errors: &mut E, nodes: &[Node], gap: &Gap) {
-    tell_path(errors, nodes, &gap.at);
-    if let Some(number) = gap.field {
-        let _ = write!(errors, "-{number}");
-    }
-    let _ = writeln!(errors, ": no item and no rule gives it");
+/// Whether the target would have this where it can be had: then rule 8 fails of it, and else rule 5.
+fn is_expected(target: &Profile, gap: &Gap) -> bool {
+    let usage = match gap.field {
+        None => match node_at(target.nodes(), &gap.at) {
+            None => Usage::O,
+            Some(node) => usage_of(node),
+        },
+        Some(number) => match field_of(target, &gap.at, number) {
+            None => Usage::O,
+            Some(field) => field.usage,
+        },
+    };
+    usage == Usage::RE
 }
 
 impl Refusal<'_> {
+    /// Whether this is what a failure speaks of.
+    fn is_missing(&self, gap: &Gap, failure: Failure) -> bool {
+        if gap.line != failure.line {
+            return false;
+        }
+        let rule = if is_expected(&self.sides.target, gap) {
+            8
+        } else {
+            5
+        };
+        failure.rule == rule
+    }
+
+    /// Tells the fields that are passed over.
+    fn tell_unread<E: Write>(&self, errors: &mut E) {
+        for (i, field) in self.found.unread.iter().enumerate() {
+            if i > 0 {
+                let _ = errors.write_all(b", ");
+            }
+            tell_name(errors, &self.sides.source, unread_field(field));
+        }
+        let _ = errors.write_all(b": neither read nor dropped");
+    }
+
+    /// Tells what nothing gives of which a failure speaks. False where there is nothing.
+    fn tell_missing<E: Write>(&self, errors: &mut E, failure: Failure) -> bool {
+        let mut any = false;
+        for gap in &self.found.gaps {
+            if self.is_missing(gap, failure) {
+                if any {
+                    let _ = errors.write_all(b", ");
+                }
+                any = true;
+                tell_name(errors, &self.sides.target, missing(gap));
+            }
+        }
+        if any {
+            let _ = errors.write_all(b": no item and no rule gives it");
+        }
+        any
+    }
+
+    /// Tells what the line of a failure makes, and of what.
+    fn tell_made<E: Write>(
+        &self,
+        alloc: Global,
+        errors: &mut E,
+        failure: Failure,
+    ) -> Result<(), AllocError> {
+        let Some(site) = site_at(&self.found.sites, failure.line) else {
+            return Ok(());
+        };
+        let told = Told {
+            sides: &self.sides,
+            map: &self.found.map,
+            site,
+        };
+        told.tell(alloc, errors, failure.rule)
+    }
+
+    /// Tells what a failure speaks of.
+    fn tell_subject<E: Write>(
+        &self,
+        alloc: Global,
+        errors: &mut E,
+        failure: Failure,
+    ) -> Result<(), AllocError> {
+        let is_told = match failure.rule {
+            9 => {
+                self.tell_unread(errors);
+                true
+            }
+            5 | 8 => self.tell_missing(errors, failure),
+            _ => false,
+        };
+        if !is_told {
+            self.tell_made(alloc, errors, failure)?;
+        }
+        Ok(())
+    }
+
     /// The rules that fail as well, by their lines, each once at one line.
     fn others(&self, alloc: Global) -> Result<BTreeSet<(u32, u8)>, AllocError> {
         let mut others = BTreeSet::new(alloc);
@@ -151,37 +236,60 @@ impl Refusal<'_> {
         Ok(others)
     }
 
+    /// Tells a rule that fails as well, at the line that stands first in the text: of a label the line itself.
+    fn tell_other<E: Write>(
+        &self,
+        alloc: Global,
+        errors: &mut E,
+        failure: Failure,
+        text: &[u8],
+    ) -> Result<(), AllocError> {
+        let path = self.written.path;
+        let Failure { rule, line } = failure;
+        let _ = write!(errors, "{path}:{line}: K{rule}: ");
+        if rule <= LAST_OF_LABELS {
+            let _ = errors.write_all(first_line(text));
+        } else {
+            self.tell_subject(alloc, errors, failure)?;
+        }
+        let _ = errors.write_all(b"\n");
+        Ok(())
+    }
+
     /// Tells how many more rules fail, and each in a line of its own.
     fn tell_others<E: Write>(&self, alloc: Global, errors: &mut E) -> Result<(), AllocError> {
         let others = self.others(alloc)?;
         if others.is_empty() {
             return Ok(());
         }
-        let path = self.written.path;
         let more = others.len();
         let _ = writeln!(errors, "and {more} more:");
+        let mut text = self.written.text.as_slice();
+        let mut at = 1;
         for (line, rule) in &others {
-            let _ = writeln!(errors, "{path}:{line}: K{rule}");
+            text = behind(text, line.saturating_sub(at));
+            at = *line;
+            let failure = Failure {
+                rule: *rule,
+                line: *line,
+            };
+            self.tell_other(alloc, errors, failure, text)?;
         }
         Ok(())
     }
 
-    /// Tells the file with its line, what the rule demands, each field that is passed over, what is given by nothing, and what fails as well.
+    /// Tells the file with its line, what the failure speaks of, what to do, and what fails as well.
     pub(crate) fn tell<E: Write>(&self, alloc: Global, errors: &mut E) -> Result<(), AllocError> {
         let Written { path, text } = &self.written;
         let Failure { rule, line } = self.least;
         let _ = write!(errors, "{path}:{line}: ");
         let _ = errors.write_all(line_at(text, line));
-        let advice = advice(rule);
-        let _ = writeln!(errors, "\n{advice}");
-        for field in &self.found.unread {
-            tell_field(errors, self.sides.source.nodes(), field);
+        let _ = errors.write_all(b"\n");
+        if rule > LAST_OF_LABELS {
+            self.tell_subject(alloc, errors, self.least)?;
+            let _ = errors.write_all(b"\n");
         }
-        for gap in &self.found.gaps {
-            if gap.line == line {
-                tell_gap(errors, self.sides.target.nodes(), gap);
-            }
-        }
+        let _ = writeln!(errors, "{}", advice(rule));
         self.tell_others(alloc, errors)
     }
 }

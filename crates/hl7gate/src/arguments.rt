@@ -10,21 +10,40 @@ pub(crate) fn process_words<R: Env + AllocGlobal>(rt: &R) -> io::Result<Vec<Stri
     Ok(words)
 }
 
-/// `validate PROFILE [--stamp DIGITS]`.
-fn validate<'a>(alloc: Global) -> Result<Command<'a>, AllocError> {
-    let profile = file(alloc, "PROFILE", "The file of the message profile");
-    let stamp = Arg::new(alloc, "stamp")
+/// `[--stamp DIGITS]`.
+fn stamp<'a>(alloc: Global) -> Arg<'a> {
+    Arg::new(alloc, "stamp")
         .long("stamp")
         .value_name("DIGITS")
         .help("The time stamp of the answers, YYYYMMDDHHMMSS [default: now, in UTC]")
-        .action(ArgAction::Set);
+        .action(ArgAction::Set)
+}
+
+/// `validate PROFILE [--stamp DIGITS]`.
+fn validate<'a>(alloc: Global) -> Result<Command<'a>, AllocError> {
+    let profile = file(alloc, "PROFILE", "The file of the message profile");
     Command::new(alloc, "validate")
         .about("Answers each message of a stream on standard input (MLLP) by a profile")
         .arg(profile)?
-        .arg(stamp)
+        .arg(stamp(alloc))
 }
 
-/// A file that a command reads.
+/// `run PLAN FOLDER [--stamp DIGITS]`.
+fn run<'a>(alloc: Global) -> Result<Command<'a>, AllocError> {
+    Command::new(alloc, "run")
+        .about(
+            "Answers each message of a stream on standard input (MLLP) by a plan, and writes what each receiver is sent to FOLDER/NAME.mllp",
+        )
+        .arg(file(alloc, "PLAN", "The file of the plan"))?
+        .arg(file(
+            alloc,
+            "FOLDER",
+            "The folder in which a file is made anew for each receiver",
+        ))?
+        .arg(stamp(alloc))
+}
+
+/// A file or folder that a command names.
 fn file<'a>(alloc: Global, name: &'a str, help: &'a str) -> Arg<'a> {
     Arg::new(alloc, name)
         .help(help)
@@ -65,7 +84,8 @@ fn grammar<'a>(alloc: Global) -> Result<Command<'a>, AllocError> {
             alloc,
             "translate",
             "Translates the message on standard input, which has no frame, by a map that the rules allow",
-        )?)
+        )?)?
+        .subcommand(run(alloc)?)
 }
 
 /// The command that the words ask for.

@@ -1,6 +1,7 @@
 //! Why a command wasn't done.
 use gw_er7::ReadFault;
 use gw_maplang::MapFault;
+use gw_plan::PlanFault;
 use gw_profile::ProfileFault;
 use gw_run::RunFault;
 use gw_validate::Breach;
@@ -26,6 +27,16 @@ pub(crate) enum Ended<'a> {
         path: &'a str,
         fault: MapFault,
         expected: Option<String>,
+    },
+    /// The text of the file isn't a plan.
+    Plan {
+        path: &'a str,
+        fault: PlanFault,
+        expected: Option<String>,
+    },
+    /// The file can't be made or written.
+    Unwritten {
+        file: String,
     },
     /// The content on standard input isn't a message.
     Message {

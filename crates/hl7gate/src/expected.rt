@@ -1,5 +1,8 @@
-//! What was expected at a line that is no line of its form.
+//! What was expected at a line that is no line of its form, and what is wrong with a profile or a map of a plan.
+use crate::advice::{advice, behind, line_at};
+use gw_lines::{Expected, keyword_of};
 use gw_maplang::MapFault;
+use gw_plan::PlanFault;
 use gw_profile::ProfileFault;
 use std::alloc::{AllocError, Global};
 
@@ -28,5 +31,130 @@ pub(crate) fn in_map(
     };
     let expected = gw_maplang::expected(alloc, text, line)?;
     let said = format!(in alloc; "{expected}")?;
+    Ok(Some(said))
+}
+
+/// The pattern of a plan's lines with this keyword, or all keywords where it is none.
+fn pattern(keyword: &[u8]) -> &'static [u8] {
+    match keyword {
+        b"plan" => b"plan NAME, as the first line",
+        b"receiver" => b"receiver NAME ADDRESS",
+        b"accept" => b"accept version WORD .. or accept processing WORD ..",
+        b"begin" => b"begin profile or begin map, below the first line",
+        b"stop" => b"stop, behind the lines of a profile or a map",
+        b"route" => b"route CODE EVENT from PROFILE",
+        b"to" => b"to RECEIVER by MAP, below a route",
+        _ => b"plan, receiver, accept, begin, stop, route or to",
+    }
+}
+
+/// What was expected at a line of a plan's own; behind the last line what is missing.
+fn of_plan(alloc: Global, text: &[u8], line: u32) -> Result<String, AllocError> {
+    let expected = match gw_lines::line_at(alloc, text, line)? {
+        None => Expected {
+            pattern: b"plan NAME, or the stop of a profile or map",
+            found: b"",
+        },
+        Some(found) => Expected {
+            pattern: pattern(keyword_of(found)),
+            found,
+        },
+    };
+    format!(in alloc; "{expected}")
+}
+
+/// The text behind a `begin` line, up to the line `stop`.
+fn inner_text(text: &[u8], begin: u32) -> &[u8] {
+    let whole = behind(text, begin);
+    let mut rest = whole;
+    for _ in 0..whole.len() {
+        if line_at(rest, 1) == b"stop".as_slice() {
+            return whole.strip_suffix(rest).unwrap_or(whole);
+        }
+        rest = behind(rest, 1);
+    }
+    whole
+}
+
+/// The fault of this number of a profile in a plan, told by the plan's line.
+fn profile_fault(alloc: Global, text: &[u8], line: u32, number: u8) -> ProfileFault {
+    match number {
+        1 => ProfileFault::Memory,
+        2 => ProfileFault::Syntax(line),
+        3 => ProfileFault::Usage(line),
+        4 => ProfileFault::Duplicate(line),
+        5 => ProfileFault::UnknownTable(line),
+        6 => ProfileFault::EmptyGroup(line),
+        8 => ProfileFault::Header,
+        9 => ProfileFault::TooDeep(line),
+        10 => ProfileFault::TooLarge,
+        // (it has a name, and its line is the `begin`)
+        _ => match gw_profile::parse(alloc, inner_text(text, line)) {
+            Err(fault) => fault,
+            Ok(_) => ProfileFault::Memory,
+        },
+    }
+}
+
+/// What is wrong with a profile of a plan.
+fn of_profile(alloc: Global, text: &[u8], line: u32, number: u8) -> Result<String, AllocError> {
+    let fault = profile_fault(alloc, text, line, number);
+    match fault {
+        ProfileFault::Syntax(_) => {
+            let expected = gw_profile::expected(alloc, text, line)?;
+            format!(in alloc; "profile refused 2: {expected}")
+        }
+        ProfileFault::Ambiguous(name) => {
+            let [first, second, third] = name.map(char::from);
+            format!(in alloc; "profile refused 7 {first}{second}{third}: {fault}")
+        }
+        _ => format!(in alloc; "profile refused {number}: {fault}"),
+    }
+}
+
+/// The fault of this number of a map in a plan, told by the plan's line.
+fn map_fault(line: u32, number: u8) -> MapFault {
+    match number {
+        2 => MapFault::Syntax(line),
+        3 => MapFault::UnknownTable(line),
+        4 => MapFault::BadConstant(line),
+        5 => MapFault::Duplicate(line),
+        6 => MapFault::TooDeep(line),
+        7 => MapFault::TooLarge,
+        _ => MapFault::Memory,
+    }
+}
+
+/// What is wrong with a map of a plan.
+fn of_map(alloc: Global, text: &[u8], line: u32, number: u8) -> Result<String, AllocError> {
+    if number == 2 {
+        let expected = gw_maplang::expected(alloc, text, line)?;
+        return format!(in alloc; "map refused 2: {expected}");
+    }
+    let fault = map_fault(line, number);
+    format!(in alloc; "map refused {number}: {fault}")
+}
+
+/// What a rule demands that a map of a plan breaks.
+fn of_rule(alloc: Global, text: &[u8], line: u32, rule: u8) -> Result<String, AllocError> {
+    let said = line_at(text, line).escape_ascii();
+    let advice = advice(rule);
+    format!(in alloc; "refused K{rule}: {said}\n{advice}")
+}
+
+/// What a person needs of a line for which a plan is refused; nothing where the fault says it all.
+pub(crate) fn in_plan(
+    alloc: Global,
+    text: &[u8],
+    fault: PlanFault,
+) -> Result<Option<String>, AllocError> {
+    let line = u32::try_from(fault.line()).unwrap_or(u32::MAX);
+    let said = match fault {
+        PlanFault::Syntax(_) => of_plan(alloc, text, line)?,
+        PlanFault::Profile { number, .. } => of_profile(alloc, text, line, number)?,
+        PlanFault::Map { number, .. } => of_map(alloc, text, line, number)?,
+        PlanFault::Check { rule, .. } => of_rule(alloc, text, line, rule)?,
+        _ => return Ok(None),
+    };
     Ok(Some(said))
 }

@@ -5,14 +5,18 @@
 
 mod advice;
 mod arguments;
+mod elements;
 mod ended;
 mod expected;
 mod files;
 mod maps;
+mod plans;
 mod program;
+mod progress;
 mod refusals;
 mod report;
 mod stamps;
+mod subjects;
 
 use arguments::process_words;
 use program::command;

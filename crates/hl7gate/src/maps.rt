@@ -9,12 +9,13 @@ use crate::expected;
 use crate::files::{read_all, read_text};
 use crate::report::write_all;
 use clap::ArgMatches;
-use gw_check::{CheckedMap, FieldAt, Gap, gaps, unread};
+use gw_check::{CheckedMap, gaps, unread};
 use gw_er7::Message;
 use gw_maplang::Map;
 use gw_profile::Profile;
 use gw_resolve::Failure;
 use gw_run::RunFault;
+use gw_subjects::sites;
 use gw_validate::{Tree, Verdict};
 use std::alloc::{AllocError, Global};
 use std::io::{Read, Write};
@@ -100,41 +101,23 @@ fn parse_map<'a>(alloc: Global, written: &Written<'a>) -> Result<Map, Ended<'a>>
     }
 }
 
-/// What rule 9 fails of, where it is the least.
-fn passed_over(
-    alloc: Global,
-    rule: u8,
-    sides: &Sides,
-    map: &Map,
-) -> Result<Vec<FieldAt>, AllocError> {
-    if rule == 9 {
-        return unread(alloc, &sides.source, &sides.target, map);
-    }
-    Ok(Vec::new(alloc))
-}
-
-/// What the rules 5 and 8 fail of where nothing is said, where one of them is the least.
-fn not_given(alloc: Global, rule: u8, sides: &Sides, map: &Map) -> Result<Vec<Gap>, AllocError> {
-    if rule == 5 || rule == 8 {
-        return gaps(alloc, &sides.source, &sides.target, map);
-    }
-    Ok(Vec::new(alloc))
-}
-
 /// All that fails of a map that a rule refuses, and what it fails of.
 fn found_of(
     alloc: Global,
     failures: Vec<Failure>,
-    rule: u8,
     sides: &Sides,
-    map: &Map,
+    map: Map,
 ) -> Result<Found, AllocError> {
-    let unread = passed_over(alloc, rule, sides, map)?;
-    let gaps = not_given(alloc, rule, sides, map)?;
+    let Sides { source, target } = sides;
+    let unread = unread(alloc, source, target, &map)?;
+    let gaps = gaps(alloc, source, target, &map)?;
+    let sites = sites(alloc, source, target, &map)?;
     Ok(Found {
         unread,
         gaps,
+        sites,
         failures,
+        map,
     })
 }
 
@@ -150,7 +133,7 @@ fn judge<'a>(
         Ok(checked) => Ok(Checked::Allowed(checked)),
         Err(gw_check::Refusal::Memory(_)) => Err(Ended::Run(RunFault::Memory)),
         Err(gw_check::Refusal::Rules { least, found, map }) => {
-            let found = found_of(alloc, found, least.rule, &sides, &map)?;
+            let found = found_of(alloc, found, &sides, map)?;
             Ok(Checked::Refused(Refusal {
                 least,
                 written,

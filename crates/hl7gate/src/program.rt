@@ -2,11 +2,12 @@
 use crate::arguments::parse;
 use crate::ended::Ended;
 use crate::maps::{check, read_profile, translate};
-use crate::report::{USAGE, status_if, tell, tell_counts, tell_words};
+use crate::plans;
+use crate::report::{DONE, USAGE, status_if, status_of, tell, tell_if_none, tell_words};
 use crate::stamps::stamp_of;
 use clap::ArgMatches;
 use gw_run::{Counts, Reads, Writes, answer_stream};
-use std::io::{Read, Write};
+use std::io::{IsTerminal, Read, Write};
 use std::rt::Files;
 use std::time::Clock;
 
@@ -27,8 +28,22 @@ fn validate<'a, R: Files + Clock + AllocGlobal, I: Read, O: Write>(
     Ok(counts)
 }
 
+/// Answers each message of a stream by a plan, and writes what its receivers are sent to their files.
+fn run<'a, R: Files + Clock + AllocGlobal, I: Read, O: Write, E: Write + IsTerminal>(
+    rt: &R,
+    words: &ArgMatches<'a>,
+    input: &mut I,
+    output: &mut O,
+    errors: &mut E,
+) -> Result<Counts, Ended<'a>> {
+    match stamp_of(rt, words.get_str("stamp")) {
+        None => Err(Ended::Stamp),
+        Some(stamp) => plans::run(rt, words, stamp, input, output, errors),
+    }
+}
+
 /// Does the command of these words, and answers the status.
-fn done<'a, R: Files + Clock + AllocGlobal, I: Read, O: Write, E: Write>(
+fn done<'a, R: Files + Clock + AllocGlobal, I: Read, O: Write, E: Write + IsTerminal>(
     rt: &R,
     words: &ArgMatches<'a>,
     input: &mut I,
@@ -38,7 +53,13 @@ fn done<'a, R: Files + Clock + AllocGlobal, I: Read, O: Write, E: Write>(
     match words.subcommand() {
         Some(("validate", words)) => {
             let counts = validate(rt, words, input, output)?;
-            Ok(tell_counts(errors, counts))
+            tell_if_none(errors, counts);
+            Ok(status_of(counts))
+        }
+        Some(("run", words)) => {
+            let counts = run(rt, words, input, output, errors)?;
+            tell_if_none(errors, counts);
+            Ok(DONE)
         }
         Some(("check", words)) => {
             let accepted = check(rt, words, output, errors)?;
@@ -53,7 +74,7 @@ fn done<'a, R: Files + Clock + AllocGlobal, I: Read, O: Write, E: Write>(
 }
 
 /// Does what the words say, and answers the status: 0 done, 1 refused, 2 usage, 3 a fault of a device, a frame or a run, 4 want of memory.
-pub fn command<R: Files + Clock + AllocGlobal, I: Read, O: Write, E: Write>(
+pub fn command<R: Files + Clock + AllocGlobal, I: Read, O: Write, E: Write + IsTerminal>(
     rt: &R,
     words: &[String],
     input: &mut I,

@@ -2,6 +2,7 @@
 use crate::report::{REFUSED, tell_fault};
 use gw_er7::ReadFault;
 use gw_maplang::MapFault;
+use gw_plan::PlanFault;
 use gw_profile::ProfileFault;
 use gw_run::RunFault;
 use gw_validate::Breach;
@@ -17,7 +18,7 @@ enum Place {
     /// Nothing.
     Whole,
     /// A line, from 1.
-    Line(u32),
+    Line(u64),
     /// A segment name.
     Name([u8; 3]),
 }
@@ -74,13 +75,13 @@ pub(crate) fn tell_profile<E: Write>(
     expected: Option<&str>,
 ) -> u8 {
     let place = match fault {
-        ProfileFault::Syntax(line) => Place::Line(line),
-        ProfileFault::Usage(line) => Place::Line(line),
-        ProfileFault::Duplicate(line) => Place::Line(line),
-        ProfileFault::UnknownTable(line) => Place::Line(line),
-        ProfileFault::EmptyGroup(line) => Place::Line(line),
+        ProfileFault::Syntax(line) => Place::Line(u64::from(line)),
+        ProfileFault::Usage(line) => Place::Line(u64::from(line)),
+        ProfileFault::Duplicate(line) => Place::Line(u64::from(line)),
+        ProfileFault::UnknownTable(line) => Place::Line(u64::from(line)),
+        ProfileFault::EmptyGroup(line) => Place::Line(u64::from(line)),
         ProfileFault::Ambiguous(name) => Place::Name(name),
-        ProfileFault::TooDeep(line) => Place::Line(line),
+        ProfileFault::TooDeep(line) => Place::Line(u64::from(line)),
         _ => Place::Whole,
     };
     let subject = Subject {
@@ -99,15 +100,34 @@ pub(crate) fn tell_map<E: Write>(
     expected: Option<&str>,
 ) -> u8 {
     let place = match fault {
-        MapFault::Syntax(line) => Place::Line(line),
-        MapFault::UnknownTable(line) => Place::Line(line),
-        MapFault::BadConstant(line) => Place::Line(line),
-        MapFault::Duplicate(line) => Place::Line(line),
-        MapFault::TooDeep(line) => Place::Line(line),
+        MapFault::Syntax(line) => Place::Line(u64::from(line)),
+        MapFault::UnknownTable(line) => Place::Line(u64::from(line)),
+        MapFault::BadConstant(line) => Place::Line(u64::from(line)),
+        MapFault::Duplicate(line) => Place::Line(u64::from(line)),
+        MapFault::TooDeep(line) => Place::Line(u64::from(line)),
         _ => Place::Whole,
     };
     let subject = Subject {
         word: "map",
+        from: path,
+        expected,
+    };
+    tell_refused(errors, subject, fault.number(), place, &fault)
+}
+
+/// Tells why the text of a file is no plan.
+pub(crate) fn tell_plan<E: Write>(
+    errors: &mut E,
+    path: &str,
+    fault: PlanFault,
+    expected: Option<&str>,
+) -> u8 {
+    let place = match fault.line() {
+        0 => Place::Whole,
+        line => Place::Line(line),
+    };
+    let subject = Subject {
+        word: "plan",
         from: path,
         expected,
     };

@@ -1,6 +1,6 @@
 //! What is told of a command, and its status.
 use crate::ended::Ended;
-use crate::refusals::{tell_breach, tell_map, tell_message, tell_profile};
+use crate::refusals::{tell_breach, tell_map, tell_message, tell_plan, tell_profile};
 use clap::Error;
 use clap::error::ErrorKind;
 use gw_run::{Counts, RunFault};
@@ -22,14 +22,18 @@ pub(crate) const FAULT: u8 = 3;
 /// Want of memory.
 pub(crate) const NO_MEMORY: u8 = 4;
 
-/// The status of a stream that was answered to its end. One in which no message was found may be a file without frames, so that is told.
-pub(crate) fn tell_counts<E: Write>(errors: &mut E, counts: Counts) -> u8 {
+/// Tells that no message was found in a stream, where none was: it may be a file without frames.
+pub(crate) fn tell_if_none<E: Write>(errors: &mut E, counts: Counts) {
     if counts.answered == 0 {
         let _ = writeln!(
             errors,
             "no framed message was found on standard input; examples/frame FILE .. prints files as framed messages"
         );
     }
+}
+
+/// The status of a stream that was answered to its end.
+pub(crate) fn status_of(counts: Counts) -> u8 {
     if counts.aa == counts.answered {
         DONE
     } else {
@@ -88,6 +92,16 @@ pub(crate) fn tell<E: Write>(errors: &mut E, ended: &Ended<'_>) -> u8 {
             fault,
             expected,
         } => tell_map(errors, path, *fault, text_of(expected)),
+        Ended::Plan {
+            path,
+            fault,
+            expected,
+        } => tell_plan(errors, path, *fault, text_of(expected)),
+        Ended::Unwritten { file } => {
+            let status = tell_fault(errors, RunFault::Write);
+            let _ = writeln!(errors, "{file}: the file can't be made or written");
+            status
+        }
         Ended::Message { fault } => tell_message(errors, *fault),
         Ended::Breaks(breach) => tell_breach(errors, *breach),
         Ended::Run(fault) => tell_fault(errors, *fault),

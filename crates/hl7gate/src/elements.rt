@@ -1,0 +1,198 @@
+//! Elements of a profile in the field's words: their names, how often they come, and what stands in them.
+use gw_profile::{Card, FieldShape, Node, Profile, Usage};
+use gw_subjects::{Spot, comp_at, field_at, sub_at};
+use std::io::Write;
+
+/// An element by its numbers: a node, or in it a field, a component, a subcomponent; 0 where the whole is meant.
+#[derive(Clone, Copy)]
+pub(crate) struct Named<'a> {
+    pub(crate) at: &'a [usize],
+    pub(crate) field: u32,
+    pub(crate) comp: u32,
+    pub(crate) sub: u32,
+}
+
+/// The element of a spot.
+pub(crate) fn element_of(spot: &Spot) -> Named<'_> {
+    Named {
+        at: &spot.at,
+        field: spot.field,
+        comp: spot.comp,
+        sub: spot.sub,
+    }
+}
+
+pub(crate) fn usage_of(node: &Node) -> Usage {
+    match node {
+        Node::Seg(segment) => segment.usage,
+        Node::Group(group) => group.usage,
+    }
+}
+
+fn label_of(node: &Node) -> &[u8] {
+    match node {
+        Node::Seg(segment) => &segment.label,
+        Node::Group(group) => &group.label,
+    }
+}
+
+fn nodes_of(node: &Node) -> &[Node] {
+    match node {
+        Node::Seg(_) => &[],
+        Node::Group(group) => &group.nodes,
+    }
+}
+
+/// Tells the labels that lead to a node.
+fn tell_path<E: Write>(errors: &mut E, nodes: &[Node], at: &[usize]) {
+    let mut level = nodes;
+    for (i, number) in at.iter().enumerate() {
+        let Some(node) = level.get(*number) else {
+            return;
+        };
+        if i > 0 {
+            let _ = errors.write_all(b"/");
+        }
+        let _ = errors.write_all(label_of(node));
+        level = nodes_of(node);
+    }
+}
+
+/// Tells an element as a map names it: the first component and subcomponent aren't named.
+pub(crate) fn tell_name<E: Write>(errors: &mut E, profile: &Profile, named: Named<'_>) {
+    let Named {
+        at,
+        field,
+        comp,
+        sub,
+    } = named;
+    tell_path(errors, profile.nodes(), at);
+    if field > 0 {
+        let _ = write!(errors, "-{field}");
+    }
+    if comp > 1 || sub > 1 {
+        let _ = write!(errors, ".{comp}");
+    }
+    if sub > 1 {
+        let _ = write!(errors, ".{sub}");
+    }
+}
+
+fn usage_word(usage: Usage) -> &'static str {
+    match usage {
+        Usage::R => "R",
+        Usage::RE => "RE",
+        Usage::O => "O",
+        Usage::X => "X",
+    }
+}
+
+/// Tells a usage, and how often an element may come.
+fn tell_usage<E: Write>(errors: &mut E, usage: Usage, card: Option<Card>) {
+    let _ = errors.write_all(usage_word(usage).as_bytes());
+    let Some(card) = card else {
+        return;
+    };
+    let min = card.min;
+    let _ = match card.max {
+        None => write!(errors, " {min}..*"),
+        Some(max) => write!(errors, " {min}..{max}"),
+    };
+}
+
+/// Tells the name of a profile.
+pub(crate) fn tell_profile<E: Write>(errors: &mut E, profile: &Profile) {
+    let _ = errors.write_all(b" in ");
+    let _ = errors.write_all(profile.name());
+}
+
+/// Tells what a profile says of an element, which it may not list.
+fn tell_what<E: Write>(errors: &mut E, profile: &Profile, said: Option<(Usage, Option<Card>)>) {
+    match said {
+        None => {
+            let _ = errors.write_all(b" isn't listed");
+        }
+        Some((usage, card)) => {
+            let _ = errors.write_all(b" is ");
+            tell_usage(errors, usage, card);
+        }
+    }
+    tell_profile(errors, profile);
+}
+
+/// The field of a component or subcomponent.
+fn whole_field(spot: &Spot) -> Named<'_> {
+    Named {
+        comp: 0,
+        sub: 0,
+        ..element_of(spot)
+    }
+}
+
+/// The node to which the numbers lead.
+pub(crate) fn node_at<'a>(nodes: &'a [Node], at: &[usize]) -> Option<&'a Node> {
+    let mut level = nodes;
+    let mut found = None;
+    for number in at {
+        let node = level.get(*number)?;
+        level = nodes_of(node);
+        found = Some(node);
+    }
+    found
+}
+
+/// The field of this number in the segment to which the numbers lead.
+pub(crate) fn field_of<'a>(
+    profile: &'a Profile,
+    at: &[usize],
+    number: u32,
+) -> Option<&'a FieldShape> {
+    match node_at(profile.nodes(), at)? {
+        Node::Seg(segment) => segment.fields.iter().find(|field| field.number == number),
+        Node::Group(_) => None,
+    }
+}
+
+/// Tells how the node to which the numbers lead may come.
+pub(crate) fn tell_node<E: Write>(errors: &mut E, profile: &Profile, at: &[usize]) {
+    let said = match node_at(profile.nodes(), at) {
+        None => None,
+        Some(node) => Some((usage_of(node), Some(node.card()))),
+    };
+    tell_path(errors, profile.nodes(), at);
+    tell_what(errors, profile, said);
+}
+
+/// Tells how a field may come.
+pub(crate) fn tell_field<E: Write>(errors: &mut E, profile: &Profile, spot: &Spot) {
+    let said = match field_at(profile, spot) {
+        None => None,
+        Some(field) => Some((field.usage, Some(field.card))),
+    };
+    tell_name(errors, profile, whole_field(spot));
+    tell_what(errors, profile, said);
+}
+
+/// Tells how a component may come.
+pub(crate) fn tell_comp<E: Write>(errors: &mut E, profile: &Profile, spot: &Spot) {
+    let said = match comp_at(profile, spot) {
+        None => None,
+        Some(comp) => Some((comp.usage, None)),
+    };
+    tell_name(errors, profile, whole_field(spot));
+    let comp = spot.comp;
+    let _ = write!(errors, ".{comp}");
+    tell_what(errors, profile, said);
+}
+
+/// Tells how a subcomponent may come.
+pub(crate) fn tell_sub<E: Write>(errors: &mut E, profile: &Profile, spot: &Spot) {
+    let said = match sub_at(profile, spot) {
+        None => None,
+        Some(sub) => Some((sub.usage, None)),
+    };
+    tell_name(errors, profile, whole_field(spot));
+    let Spot { comp, sub, .. } = spot;
+    let _ = write!(errors, ".{comp}.{sub}");
+    tell_what(errors, profile, said);
+}
