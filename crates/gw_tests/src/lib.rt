@@ -8,6 +8,8 @@ mod blocks;
 #[cfg(test)]
 mod checks;
 #[cfg(test)]
+mod crews;
+#[cfg(test)]
 mod desks;
 #[cfg(test)]
 mod failures;
@@ -24,7 +26,11 @@ mod plans;
 #[cfg(test)]
 mod profiles;
 #[cfg(test)]
+mod served;
+#[cfg(test)]
 mod streams;
+#[cfg(test)]
+mod subjects;
 #[cfg(test)]
 mod translations;
 #[cfg(test)]

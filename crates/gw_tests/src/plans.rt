@@ -11,7 +11,7 @@ const HEAD: &str =
 const P1: &str =
     "profile P1\ntable SEX M F U\nsegment MSH R 1..1\n  field 10 R 1..1\nsegment PID R 1..1\n  field 3 R 1..2\n  field 5 RE 0..1\n  field 8 RE 0..1 len 1 table SEX\nsegment NK1 O 0..2\n";
 
-const P2: &str =
+pub(crate) const P2: &str =
     "profile P2\ntable SEX M F U\nsegment MSH R 1..1\n  field 10 R 1..1\nsegment PID R 1..1\n  field 3 R 1..2\n  field 5 RE 0..1\n  field 8 R 1..1 len 1 table SEX\nsegment NK1 O 0..2\n";
 
 const T1: &str =
@@ -23,7 +23,7 @@ const MAP: &str =
 
 const M1: &str = "map M1 from P1 to T1\n";
 
-const M2: &str = "map M2 from P2 to T1\n";
+pub(crate) const M2: &str = "map M2 from P2 to T1\n";
 
 /// The least profile, in a plan.
 const LEAST: &str = "plan G\nbegin profile\nprofile P\nsegment MSH R 1..1\nstop\n";
@@ -37,7 +37,7 @@ const MESSAGE: [&str; 4] = [
 ];
 
 // The plan of this profile, map and end.
-fn worked(alloc: Global, profile: &str, map: &str, end: &str) -> Result<Vec<u8>, Fail> {
+pub(crate) fn worked(alloc: Global, profile: &str, map: &str, end: &str) -> Result<Vec<u8>, Fail> {
     let mut text = Vec::new(alloc);
     for part in &[HEAD, profile, T1, map, MAP, end] {
         text.extend_from_slice(part.as_bytes())?;

@@ -25,17 +25,23 @@ const COUNTS: Counts = Counts {
 
 /// Moves at most so many bytes a call, fails after so many calls, and is interrupted so often before each.
 #[derive(Drop)]
-struct Device<'a> {
+pub(crate) struct Device<'a> {
     rest: &'a [u8],
-    held: Vec<u8>,
+    pub(crate) held: Vec<u8>,
     most: usize,
-    calls: usize,
+    pub(crate) calls: usize,
     often: usize,
     left: usize,
 }
 
 impl<'a> Device<'a> {
-    fn new(alloc: Global, rest: &'a [u8], most: usize, calls: usize, often: usize) -> Device<'a> {
+    pub(crate) fn new(
+        alloc: Global,
+        rest: &'a [u8],
+        most: usize,
+        calls: usize,
+        often: usize,
+    ) -> Device<'a> {
         Device {
             rest,
             held: Vec::new(alloc),

@@ -1,0 +1,262 @@
+//! A worker, a courier and a swap over one gate.
+use gw_crew::{Door, Note, Pause, Solo, SwapFault, courier, swap, worker};
+use gw_er7::read;
+use gw_gate::{Event, Gate, MOST, Reply};
+use gw_plan::{Conforming, Plan, admit};
+use gw_run::{Counts, Reads, RunFault, Writes};
+use std::alloc::Global;
+use std::io;
+use std::io::{ErrorKind, Read, Write};
+use std::sync::Arc;
+use std::test::Fail;
+
+/// A plan, in the parts before its receiver's name and behind it.
+const PLAN: [&str; 2] = [
+    "plan G\nreceiver ",
+    " 127.0.0.1:7001\naccept version 2.5.1\naccept processing P\nbegin profile\nprofile P2\ntable SEX M F U\nsegment MSH R 1..1\n  field 10 R 1..1\nsegment PID R 1..1\n  field 3 R 1..2\n  field 5 RE 0..1\n  field 8 R 1..1 len 1 table SEX\nsegment NK1 O 0..2\nstop\nbegin profile\nprofile T1\ntable ISO 1 2 9\nsegment MSH R 1..1\n  field 10 R 1..1\nsegment PID R 1..1\n  field 8 R 1..1 len 1 table ISO\nstop\nbegin map\nmap M2 from P2 to T1\ntable SEXMAP\n  row M 1\n  row F 2\n  else 9\nsegment MSH from MSH\n  copy 10 from MSH-10\nsegment PID from PID\n  build 8 lookup SEXMAP PID-8\ndrop PID-3\ndrop PID-5\nstop\nroute ADT A01 from P2\n",
+];
+
+const MESSAGE: &[u8] =
+    b"MSH|^~\\&|LAB|H1|GW|H2|20240102030405||ADT^A01^ADT_A01|7|P|2.5.1\rPID|||123|||||F\r";
+
+/// What the receiver is sent.
+const SENT: &[u8] = b"\x0bMSH|^~\\&||||||||7\rPID||||||||2\r\x1c\r";
+
+/// Its acknowledgment, one of another message and one that is none.
+const ACKED: &[u8] =
+    b"\x0bMSH|^~\\&|GW|H2|LAB|H1|20240102030406||ACK^A01^ACK|G1|P|2.5.1\rMSA|AA|7\r\x1c\r";
+
+const OTHER: &[u8] =
+    b"\x0bMSH|^~\\&|GW|H2|LAB|H1|20240102030406||ACK^A01^ACK|G1|P|2.5.1\rMSA|AA|8\r\x1c\r";
+
+const NOTHING: Counts = Counts {
+    answered: 0,
+    put: 0,
+    sent: 0,
+    aa: 0,
+    ae: 0,
+    ar: 0,
+};
+
+const CARRIED: Counts = Counts {
+    answered: 0,
+    put: 0,
+    sent: 1,
+    aa: 1,
+    ae: 0,
+    ar: 0,
+};
+
+// The plan's text, with a receiver of this name.
+fn text(alloc: Global, name: &str) -> Result<Vec<u8>, Fail> {
+    let mut text = Vec::new(alloc);
+    for part in [PLAN[0], name, PLAN[1], "to ", name, " by M2\n"] {
+        text.extend_from_slice(part.as_bytes())?;
+    }
+    Ok(text)
+}
+
+// A door to a gate that opens with the plan.
+fn door(alloc: Global) -> Result<(Arc<Plan>, Solo), Fail> {
+    let Ok(plan) = Plan::parse(alloc, &text(alloc, "ARCHIVE")?) else {
+        return Err("no plan".into());
+    };
+    let plan = Arc::new(alloc, plan)?;
+    let Ok(gate) = Gate::begin(alloc, plan.clone()?) else {
+        return Err("no memory".into());
+    };
+    Ok((plan, Solo::new(alloc, gate)))
+}
+
+// The message, admitted under the plan.
+fn admitted(alloc: Global, plan: &Arc<Plan>) -> Result<Arc<Conforming>, Fail> {
+    let message = read(alloc, MESSAGE)?;
+    match admit(alloc, plan, 0, message) {
+        Ok(conforming) => Ok(conforming),
+        Err(_) => Err("it is refused".into()),
+    }
+}
+
+// A door at whose gate so many messages arrived.
+fn arrived(alloc: Global, count: usize) -> Result<Solo, Fail> {
+    let (plan, mut door) = door(alloc)?;
+    for _message in 0..count {
+        match door.call(Event::Arrive(admitted(alloc, &plan)?)) {
+            Ok(Reply::Accepted { .. }) => {}
+            _ => return Err("it isn't accepted".into()),
+        }
+    }
+    Ok(door)
+}
+
+/// A pause that ends its worker after so many jobs.
+#[derive(Drop)]
+struct After {
+    left: u64,
+    stopped: bool,
+}
+
+impl Pause for After {
+    ghost has_stopped = { λ p. p.stopped };
+
+    fn stopped(&self) -> bool {
+        self.stopped
+    }
+
+    fn pause(&mut self, _n: u64) -> bool {
+        self.stopped = self.left == 0;
+        if self.left > 0 {
+            self.left -= 1;
+        }
+        !self.stopped
+    }
+}
+
+// What a worker does that may do so many jobs.
+fn work(alloc: Global, door: &mut Solo, left: u64) -> Result<Counts, Fail> {
+    let mut pause = After {
+        left,
+        stopped: false,
+    };
+    match worker(alloc, door, &mut pause) {
+        Ok(counts) => Ok(counts),
+        Err(_) => Err("no memory".into()),
+    }
+}
+
+/// Moves a byte a call, and fails after so many calls.
+#[derive(Drop)]
+struct Device<'a> {
+    rest: &'a [u8],
+    held: Vec<u8>,
+    calls: usize,
+}
+
+impl<'a> Device<'a> {
+    fn new(alloc: Global, rest: &'a [u8], calls: usize) -> Device<'a> {
+        Device {
+            rest,
+            held: Vec::new(alloc),
+            calls,
+        }
+    }
+
+    fn begin(&mut self) -> io::Result<()> {
+        if self.calls == 0 {
+            return Err(io::Error::from(ErrorKind::Other));
+        }
+        self.calls -= 1;
+        Ok(())
+    }
+}
+
+impl Read for Device<'_> {
+    fn read(&mut self, buf: &mut [u8]) -> io::Result<usize> {
+        self.begin()?;
+        let count = self.rest.len().min(buf.len()).min(1);
+        let (front, rest) = self.rest.split_at(count);
+        buf[..count].copy_from_slice(front);
+        self.rest = rest;
+        Ok(count)
+    }
+}
+
+impl Write for Device<'_> {
+    fn write(&mut self, buf: &[u8]) -> io::Result<usize> {
+        self.begin()?;
+        let count = buf.len().min(1);
+        self.held.extend_from_slice(&buf[..count])?;
+        Ok(count)
+    }
+
+    fn flush(&mut self) -> io::Result<()> {
+        Ok(())
+    }
+}
+
+// What a courier does whose devices fail after so many calls, and what it wrote.
+fn carry(
+    alloc: Global,
+    door: &mut Solo,
+    answers: &[u8],
+    reads: usize,
+    writes: usize,
+) -> (Result<Counts, RunFault>, Vec<u8>) {
+    let mut reader = Reads::new(Device::new(alloc, answers, reads));
+    let mut output = Device::new(alloc, b"", writes);
+    let mut writer = Writes::new(&mut output);
+    let result = courier(alloc, door, 0, &mut reader, &mut writer);
+    (result, output.held)
+}
+
+#[test]
+fn a_message_is_worked_on_and_carried(rt: HostRuntime) -> Result<(), Fail> {
+    let alloc = rt.alloc();
+    let mut door = arrived(alloc, 1)?;
+    assert_eq!(rt; work(alloc, &mut door, 9)?.put, 1);
+    let (result, held) = carry(alloc, &mut door, ACKED, 1_000, 1_000);
+    assert!(rt; result == Ok(CARRIED) && held.as_slice() == SENT);
+    assert_eq!(rt; work(alloc, &mut door, 9)?, NOTHING);
+    let (result, held) = carry(alloc, &mut door, b"", 1_000, 1_000);
+    assert!(rt; result == Ok(NOTHING) && held.is_empty());
+    assert_eq!(rt; (door.notes().len(), door.gate().journal().len()), (8, 4));
+    Ok(())
+}
+
+#[test]
+fn a_pause_ends_a_worker(rt: HostRuntime) -> Result<(), Fail> {
+    let alloc = rt.alloc();
+    let mut door = arrived(alloc, 3)?;
+    assert_eq!(rt; work(alloc, &mut door, 1)?.put, 1);
+    assert_eq!(rt; work(alloc, &mut door, 9)?.put, 1);
+    match door.notes().last() {
+        Some(Note::Idle) => Ok(()),
+        _ => Err("another end".into()),
+    }
+}
+
+/// A fault of the line is told by the message's number, and what was written is a beginning of its block.
+#[test]
+fn a_line_fails(rt: HostRuntime) -> Result<(), Fail> {
+    let alloc = rt.alloc();
+    let rows: [(&[u8], usize, usize); 5] = [
+        (ACKED, 20, 1_000),
+        (ACKED, 1_000, 20),
+        (b"\x0bMSH", 1_000, 1_000),
+        (b"\x0bMSH\x1c\r", 1_000, 1_000),
+        (OTHER, 1_000, 1_000),
+    ];
+    for (answers, reads, writes) in rows {
+        let mut door = arrived(alloc, 1)?;
+        let _counts = work(alloc, &mut door, 9)?;
+        let (result, held) = carry(alloc, &mut door, answers, reads, writes);
+        assert!(rt; result == Err(RunFault::Line { n: 0 }) && SENT.starts_with(held.as_slice()));
+    }
+    Ok(())
+}
+
+#[test]
+fn a_plan_is_swapped_in(rt: HostRuntime) -> Result<(), Fail> {
+    let alloc = rt.alloc();
+    let (_plan, mut door) = door(alloc)?;
+    assert_eq!(rt; swap(alloc, &mut door, &text(alloc, "ARCHIVE")?), Ok(1));
+    assert_eq!(rt;
+        swap(alloc, &mut door, &text(alloc, "OTHER")?),
+        Err(SwapFault::Unlike)
+    );
+    Ok(())
+}
+
+#[test]
+fn no_plan_is_swapped_in_at_a_full_journal(rt: HostRuntime) -> Result<(), Fail> {
+    let alloc = rt.alloc();
+    let (_plan, mut door) = door(alloc)?;
+    for _entry in 0..MOST {
+        let _ = door.call(Event::Refuse(207));
+    }
+    assert_eq!(rt;
+        swap(alloc, &mut door, &text(alloc, "ARCHIVE")?),
+        Err(SwapFault::Full)
+    );
+    Ok(())
+}
