@@ -73,7 +73,8 @@ fn add_node(
     at: &[usize],
     place: &Place,
 ) -> Result<(), AllocError>
-    ensures { (tables : List TableValue) → OnOk result (Adds tables sites.old.items sites.new.items (spec.node_sites line at.now (spec.node_origin (positions scope.now) (seen_place place.now)))) }
+    ensures { (tables : List TableValue) → OnOk result (Adds tables sites.old.items sites.new.items
+        (spec.node_sites line at.now (spec.node_origin (positions scope.now) (seen_place place.now)))) }
 {
     let origin = node_origin(alloc, scope, place)?;
     add_whole(alloc, sites, line, Target { at, field: 0 }, origin)
@@ -87,7 +88,8 @@ fn add_segment(
     at: &[usize],
     segment: &SegmentItem,
 ) -> Result<(), AllocError>
-    ensures { (tables : List TableValue) → OnOk result (Adds tables sites.old.items sites.new.items (spec.segment_sites (positions scope.now) at.now (seen_segment tables segment.now))) }
+    ensures { (tables : List TableValue) → OnOk result (Adds tables sites.old.items sites.new.items
+        (spec.segment_sites (positions scope.now) at.now (seen_segment tables segment.now))) }
 {
     match &segment.place {
         None => {
@@ -111,7 +113,8 @@ fn add_item(
     above: &[usize],
     item: &Item,
 ) -> Result<(), AllocError>
-    ensures { (tables : List TableValue) → OnOk result (Adds tables sites.old.items sites.new.items (spec.items_sites (positions scope.now) above.now (with_item tables item.now no_items))) }
+    ensures { (tables : List TableValue) → OnOk result (Adds tables sites.old.items sites.new.items
+        (spec.items_sites (positions scope.now) above.now (with_item tables item.now no_items))) }
 {
     match item {
         Item::Segment(segment) => {
@@ -142,7 +145,8 @@ fn add_items(
     above: &[usize],
     items: &[Item],
 ) -> Result<(), AllocError>
-    ensures { (tables : List TableValue) → OnOk result (Adds tables sites.old.items sites.new.items (spec.items_sites (positions scope.now) above.now (all_items tables items.now))) }
+    ensures { (tables : List TableValue) → OnOk result (Adds tables sites.old.items sites.new.items
+        (spec.items_sites (positions scope.now) above.now (all_items tables items.now))) }
 {
     for (i, item) in items.iter().enumerate() {
         add_item(alloc, sites, scope, above, item)?;

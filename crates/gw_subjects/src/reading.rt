@@ -161,7 +161,8 @@ fn looked_up(
     name: &[u8],
     from: &Source,
 ) -> Result<Origin, AllocError>
-    ensures { (tables : List TableValue) → IfOk result (λ o. seen_origin tables o ≡ spec.given (rows_of tables name.now) (spec.source_spot (positions scope.now) (some_reference walked.entry) (seen_source from.now))) }
+    ensures { (tables : List TableValue) → IfOk result (λ o. seen_origin tables o ≡
+        spec.given (rows_of tables name.now) (spec.source_spot (positions scope.now) (some_reference walked.entry) (seen_source from.now))) }
 {
     let name = Vec::from_slice(alloc, name)?;
     let from = source_spot(alloc, scope, walked, from)?;

@@ -29,7 +29,8 @@ pub(crate) fn add_site(
     part: LeafPlace,
     origin: Origin,
 ) -> Result<(), AllocError>
-    ensures { (tables : List TableValue) → OnOk result (Adds tables sites.old.items sites.new.items (spec.site_of line target.entry.at.now target.entry.field part.comp part.sub (seen_origin tables origin) ∷ [])) }
+    ensures { (tables : List TableValue) → OnOk result (Adds tables sites.old.items sites.new.items
+        (spec.site_of line target.entry.at.now target.entry.field part.comp part.sub (seen_origin tables origin) ∷ [])) }
 {
     let at = Vec::from_slice(alloc, target.at)?;
     let target = Spot {
@@ -55,7 +56,8 @@ pub(crate) fn add_whole(
     target: Target<'_>,
     origin: Origin,
 ) -> Result<(), AllocError>
-    ensures { (tables : List TableValue) → OnOk result (Adds tables sites.old.items sites.new.items (spec.site_of line target.entry.at.now target.entry.field 0 0 (seen_origin tables origin) ∷ [])) }
+    ensures { (tables : List TableValue) → OnOk result (Adds tables sites.old.items sites.new.items
+        (spec.site_of line target.entry.at.now target.entry.field 0 0 (seen_origin tables origin) ∷ [])) }
 {
     let whole = LeafPlace { comp: 0, sub: 0 };
     add_site(alloc, sites, line, target, whole, origin)
@@ -69,7 +71,8 @@ fn add_leaf(
     target: Target<'_>,
     leaf: &At,
 ) -> Result<(), AllocError>
-    ensures { (tables : List TableValue) → OnOk result (Adds tables sites.old.items sites.new.items (spec.leaf_sites (positions scope.now) (some_reference walked.entry) target.entry.at.now target.entry.field (at_leaf tables leaf.now))) }
+    ensures { (tables : List TableValue) → OnOk result (Adds tables sites.old.items sites.new.items
+        (spec.leaf_sites (positions scope.now) (some_reference walked.entry) target.entry.at.now target.entry.field (at_leaf tables leaf.now))) }
 {
     let origin = leaf_origin(alloc, scope, walked, &leaf.leaf)?;
     add_site(alloc, sites, leaf.line, target, leaf.place, origin)
@@ -83,7 +86,8 @@ fn add_leaves(
     target: Target<'_>,
     leaves: &[At],
 ) -> Result<(), AllocError>
-    ensures { (tables : List TableValue) → OnOk result (Adds tables sites.old.items sites.new.items (flat_map (spec.leaf_sites (positions scope.now) (some_reference walked.entry) target.entry.at.now target.entry.field) (map (at_leaf tables) leaves.now))) }
+    ensures { (tables : List TableValue) → OnOk result (Adds tables sites.old.items sites.new.items
+        (flat_map (spec.leaf_sites (positions scope.now) (some_reference walked.entry) target.entry.at.now target.entry.field) (map (at_leaf tables) leaves.now))) }
 {
     for (i, leaf) in leaves.iter().enumerate() {
         add_leaf(alloc, sites, scope, walked, target, leaf)?;
@@ -100,7 +104,8 @@ fn add_field(
     target: Target<'_>,
     from: &Reference,
 ) -> Result<(), AllocError>
-    ensures { (tables : List TableValue) → OnOk result (Adds tables sites.old.items sites.new.items (spec.field_sites (positions scope.now) target.entry.at.now line target.entry.field (reference from.now))) }
+    ensures { (tables : List TableValue) → OnOk result (Adds tables sites.old.items sites.new.items
+        (spec.field_sites (positions scope.now) target.entry.at.now line target.entry.field (reference from.now))) }
 {
     let origin = field_origin(alloc, scope, from)?;
     add_whole(alloc, sites, line, target, origin)
@@ -115,7 +120,8 @@ fn add_repeated(
     target: Target<'_>,
     from: &Reference,
 ) -> Result<(), AllocError>
-    ensures { (tables : List TableValue) → OnOk result (Adds tables sites.old.items sites.new.items (spec.site_of line target.entry.at.now target.entry.field 0 0 (spec.repeated (spec.read_at (positions scope.now) (reference from.now) 0 0)) ∷ [])) }
+    ensures { (tables : List TableValue) → OnOk result (Adds tables sites.old.items sites.new.items
+        (spec.site_of line target.entry.at.now target.entry.field 0 0 (spec.repeated (spec.read_at (positions scope.now) (reference from.now) 0 0)) ∷ [])) }
 {
     let origin = repeated_origin(alloc, scope, from)?;
     add_whole(alloc, sites, line, target, origin)
@@ -128,7 +134,8 @@ fn add_rule(
     at: &[usize],
     rule: &Rule,
 ) -> Result<(), AllocError>
-    ensures { (tables : List TableValue) → OnOk result (Adds tables sites.old.items sites.new.items (spec.rule_sites (positions scope.now) at.now (seen_rule tables rule.now))) }
+    ensures { (tables : List TableValue) → OnOk result (Adds tables sites.old.items sites.new.items
+        (spec.rule_sites (positions scope.now) at.now (seen_rule tables rule.now))) }
 {
     let line = rule.line;
     let field = Target {
@@ -158,7 +165,8 @@ pub(crate) fn add_rules(
     at: &[usize],
     rules: &[Rule],
 ) -> Result<(), AllocError>
-    ensures { (tables : List TableValue) → OnOk result (Adds tables sites.old.items sites.new.items (spec.rules_sites (positions scope.now) at.now (map (seen_rule tables) rules.now))) }
+    ensures { (tables : List TableValue) → OnOk result (Adds tables sites.old.items sites.new.items
+        (spec.rules_sites (positions scope.now) at.now (map (seen_rule tables) rules.now))) }
 {
     for (i, rule) in rules.iter().enumerate() {
         add_rule(alloc, sites, scope, at, rule)?;
