@@ -159,7 +159,11 @@ fn with_place(place: LeafPlace, held: &mut Option<OpenRule>) -> Result<(), Alloc
 }
 
 /// The rule to which a leaf below this line would belong.
-pub fn rule_below(alloc: Global, held: &mut Option<OpenRule>, whole: &Line) -> Result<(), AllocError>
+pub fn rule_below(
+    alloc: Global,
+    held: &mut Option<OpenRule>,
+    whole: &Line,
+) -> Result<(), AllocError>
     requires { IsNewPlace (open_rule held.old) (line whole.now) }
     ensures { OnOk result (open_rule held.new ≡ spec.rule_below (line whole.now) (open_rule held.old)) }
 {

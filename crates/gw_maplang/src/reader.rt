@@ -369,7 +369,14 @@ impl<'a> Reader<'a> {
             mut rule,
         } = self;
         let standing = standing_below(standing, &whole);
-        take_in(alloc, &mut lines, &mut tables, &mut segment, &mut rule, whole)?;
+        take_in(
+            alloc,
+            &mut lines,
+            &mut tables,
+            &mut segment,
+            &mut rule,
+            whole,
+        )?;
         Ok(Reader {
             alloc,
             lines,
