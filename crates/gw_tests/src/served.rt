@@ -9,15 +9,24 @@ use std::test::Fail;
 
 /// A message of another version, one of another event, one that can't be read, one that is accepted and one without its sex.
 const STREAM: &[u8] =
-    b"\x0bMSH|^~\\&|LAB|H1|GW|H2|20240102030405||ADT^A01^ADT_A01|7|P|2.3\rPID|||123|||||F\r\x1c\r\x0bMSH|^~\\&|LAB|H1|GW|H2|20240102030405||ADT^A99^ADT_A01|7|P|2.5.1\rPID|||123|||||F\r\x1c\r\x0b\x1c\r\x0bMSH|^~\\&|LAB|H1|GW|H2|20240102030405||ADT^A01^ADT_A01|7|P|2.5.1\rPID|||123|||||F\r\x1c\r\x0bMSH|^~\\&|LAB|H1|GW|H2|20240102030405||ADT^A01^ADT_A01|7|P|2.5.1\rPID|||123\r\x1c\r";
+    b"\x0bMSH|^~\\&|LAB|H1|GW|H2|20240102030405||ADT^A01^ADT_A01|7|P|2.3\rPID|||123|||||F\r\x1c\r\
+    \x0bMSH|^~\\&|LAB|H1|GW|H2|20240102030405||ADT^A99^ADT_A01|7|P|2.5.1\rPID|||123|||||F\r\x1c\r\x0b\x1c\r\
+    \x0bMSH|^~\\&|LAB|H1|GW|H2|20240102030405||ADT^A01^ADT_A01|7|P|2.5.1\rPID|||123|||||F\r\x1c\r\
+    \x0bMSH|^~\\&|LAB|H1|GW|H2|20240102030405||ADT^A01^ADT_A01|7|P|2.5.1\rPID|||123\r\x1c\r";
 
 /// The answers before the message that is accepted.
 const FIRST: &[u8] =
-    b"\x0bMSH|^~\\&|GW|H2|LAB|H1|20240102030406||ACK^A01^ACK|G1|P|2.5.1\rMSA|AR|7\rERR||MSH^1^12^1^1|203^Unsupported version id^HL70357|E\r\x1c\r\x0bMSH|^~\\&|GW|H2|LAB|H1|20240102030406||ACK^A99^ACK|G2|P|2.5.1\rMSA|AR|7\rERR||MSH^1^9^1^2|201^Unsupported event code^HL70357|E\r\x1c\r\x0bMSH|^~\\&|||||20240102030406||ACK^^ACK|G3|P|2.5.1\rMSA|AR\rERR|||207^Application internal error^HL70357|E\r\x1c\r";
+    b"\x0bMSH|^~\\&|GW|H2|LAB|H1|20240102030406||ACK^A01^ACK|G1|P|2.5.1\rMSA|AR|7\rERR||MSH^1^12^1^1|203^Unsupported version id^HL70357|E\r\x1c\r\
+    \x0bMSH|^~\\&|GW|H2|LAB|H1|20240102030406||ACK^A99^ACK|G2|P|2.5.1\rMSA|AR|7\rERR||MSH^1^9^1^2|201^Unsupported event code^HL70357|E\r\x1c\r\
+    \x0bMSH|^~\\&|||||20240102030406||ACK^^ACK|G3|P|2.5.1\rMSA|AR\rERR|||207^Application internal error^HL70357|E\r\x1c\r";
 
 /// All answers.
 const ANSWERS: &[u8] =
-    b"\x0bMSH|^~\\&|GW|H2|LAB|H1|20240102030406||ACK^A01^ACK|G1|P|2.5.1\rMSA|AR|7\rERR||MSH^1^12^1^1|203^Unsupported version id^HL70357|E\r\x1c\r\x0bMSH|^~\\&|GW|H2|LAB|H1|20240102030406||ACK^A99^ACK|G2|P|2.5.1\rMSA|AR|7\rERR||MSH^1^9^1^2|201^Unsupported event code^HL70357|E\r\x1c\r\x0bMSH|^~\\&|||||20240102030406||ACK^^ACK|G3|P|2.5.1\rMSA|AR\rERR|||207^Application internal error^HL70357|E\r\x1c\r\x0bMSH|^~\\&|GW|H2|LAB|H1|20240102030406||ACK^A01^ACK|G4|P|2.5.1\rMSA|AA|7\r\x1c\r\x0bMSH|^~\\&|GW|H2|LAB|H1|20240102030406||ACK^A01^ACK|G5|P|2.5.1\rMSA|AE|7\rERR||PID^1^8|101^Required field missing^HL70357|E\r\x1c\r";
+    b"\x0bMSH|^~\\&|GW|H2|LAB|H1|20240102030406||ACK^A01^ACK|G1|P|2.5.1\rMSA|AR|7\rERR||MSH^1^12^1^1|203^Unsupported version id^HL70357|E\r\x1c\r\
+    \x0bMSH|^~\\&|GW|H2|LAB|H1|20240102030406||ACK^A99^ACK|G2|P|2.5.1\rMSA|AR|7\rERR||MSH^1^9^1^2|201^Unsupported event code^HL70357|E\r\x1c\r\
+    \x0bMSH|^~\\&|||||20240102030406||ACK^^ACK|G3|P|2.5.1\rMSA|AR\rERR|||207^Application internal error^HL70357|E\r\x1c\r\
+    \x0bMSH|^~\\&|GW|H2|LAB|H1|20240102030406||ACK^A01^ACK|G4|P|2.5.1\rMSA|AA|7\r\x1c\r\
+    \x0bMSH|^~\\&|GW|H2|LAB|H1|20240102030406||ACK^A01^ACK|G5|P|2.5.1\rMSA|AE|7\rERR||PID^1^8|101^Required field missing^HL70357|E\r\x1c\r";
 
 /// What the archive is sent.
 const ARCHIVE: &[u8] = b"\x0bMSH|^~\\&||||||||7\rPID||||||||2\r\x1c\r";
