@@ -12,13 +12,13 @@ use Rattle.gw_gate.specs.Journal.{WasOut}
 use Rattle.gw_gate.specs.Parts.{TranslatedSeen}
 use Rattle.gw_gate.specs.Seen.{message_seen}
 use Rattle.gw_mllp.specs.Stream.{Has, Held, Stands, Tail, Between, Within, Overlong, LongAfter, block}
-use Rattle.gw_run.specs.declared.counts.Counts.{Counts}
-use Rattle.gw_run.specs.declared.fault.RunFault.{RunFault}
-use Rattle.gw_run.specs.declared.fault.RunFault.TheVariants.{Memory, Line, Turns}
-use Rattle.gw_run.specs.Counted.{nothing}
-use Rattle.gw_run.specs.Reading.{ReadTimes}
-use Rattle.gw_run.specs.Sent.{BeginsWith, SendsPart}
-use Rattle.gw_run.specs.Streams.{HasFirst}
+use Rattle.gw_stream.specs.declared.counts.Counts.{Counts}
+use Rattle.gw_stream.specs.declared.fault.RunFault.{RunFault}
+use Rattle.gw_stream.specs.declared.fault.RunFault.TheVariants.{Memory, Line, Turns}
+use Rattle.gw_stream.specs.Counted.{nothing}
+use Rattle.gw_stream.specs.Reading.{ReadTimes}
+use Rattle.gw_stream.specs.Sent.{BeginsWith, SendsPart}
+use Rattle.gw_stream.specs.Streams.{HasFirst}
 use Rattle.gw_crew.specs.Notes.{NoteSeen, WasFull, WasNothing, Added}
 use Rattle.gw_crew.specs.Streams.{Reading, Feeds}
 use Rattle.gw_crew.specs.Turns.{Adds, Waits, never, again, ComesOut, ComesNone}

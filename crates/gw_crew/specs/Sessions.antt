@@ -7,11 +7,11 @@ use Rattle.gw_gate.specs.Parts.{PlanSeen, ConformingSeen, is_under}
 use Rattle.gw_gate.specs.Journal.{WasAccepted, WasRefused}
 use Rattle.gw_gate.specs.Seen.{message_seen}
 use Rattle.gw_mllp.specs.Stream.{Has, Tail}
-use Rattle.gw_run.specs.declared.counts.Counts.{Counts}
-use Rattle.gw_run.specs.Answers.{Reply, accept, reject, Answer}
-use Rattle.gw_run.specs.Counted.{nothing, with_answers}
-use Rattle.gw_run.specs.Sent.{SendsPart}
-use Rattle.gw_run.specs.Streams.{HasFirst, blocks_of}
+use Rattle.gw_stream.specs.declared.counts.Counts.{Counts}
+use Rattle.gw_stream.specs.Answers.{Reply, accept, reject, Answer}
+use Rattle.gw_stream.specs.Counted.{nothing, with_answers}
+use Rattle.gw_stream.specs.Sent.{SendsPart}
+use Rattle.gw_stream.specs.Streams.{HasFirst, blocks_of}
 use Rattle.gw_crew.specs.Notes.{NoteSeen, Looked, WasStale, WasFull, Added}
 
 -- one block: its content, the notes of it, the number and the reply, and the answer

@@ -2,8 +2,8 @@
 use Rattle.std.specs.Prelude.{◌≡◌, ℕ, ◌+◌, Bool, true, false, List, [], ◌∷◌, ◌++◌, Option, None, Some}
 use Rattle.gw_gate.specs.Journal.{WasTaken, WasKept}
 use Rattle.gw_gate.specs.Parts.{TranslatedSeen}
-use Rattle.gw_run.specs.declared.counts.Counts.{Counts}
-use Rattle.gw_run.specs.Counted.{nothing}
+use Rattle.gw_stream.specs.declared.counts.Counts.{Counts}
+use Rattle.gw_stream.specs.Counted.{nothing}
 use Rattle.gw_crew.specs.Notes.{NoteSeen, WasFull, WasIdle, Added}
 
 -- The notes of a worker's rounds, and how many results were kept: a job is taken, and its result kept or dropped; or there was no job, and the worker waited.

@@ -8,7 +8,7 @@ ghost use Rattle.gw_ack.specs.Acknowledged.{Acknowledges};
 use gw_ack::{Ack, AckFault, read_ack};
 use gw_er7::reads_or_fails;
 use gw_mllp::{Decoder, FrameFault};
-use gw_run::{RunFault, Source};
+use gw_stream::{RunFault, Source};
 use std::alloc::{AllocError, Global};
 
 /// The most reads for one block.

@@ -4,7 +4,7 @@ ghost use Rattle.std.specs.Io.KnownBytes.{Appends};
 ghost use Rattle.gw_er7.specs.Written.{written};
 ghost use Rattle.gw_gate.specs.Values.{reply_seen};
 ghost use Rattle.gw_mllp.specs.Stream.{block};
-ghost use Rattle.gw_run.specs.declared.fault.RunFault.TheVariants.{Memory};
+ghost use Rattle.gw_stream.specs.declared.fault.RunFault.TheVariants.{Memory};
 ghost use Rattle.gw_crew.specs.Carries.{Breaks, Carries, Sent, Unsent, Unwritten, control_of, with_sent};
 ghost use Rattle.gw_crew.specs.Turns.{Adds, Comes, GaveOut, Waits, given_of, given_seen, out_seen};
 ghost use Rattle.std.specs.Option.{option_map};
@@ -16,7 +16,7 @@ use gw_er7::{Message, Place, write};
 use gw_gate::{Event, Reply};
 use gw_mllp::{Decoder, write_block};
 use gw_plan::Translated;
-use gw_run::{Counts, RunFault, Sink, Source, send_all};
+use gw_stream::{Counts, RunFault, Sink, Source, send_all};
 use std::alloc::{AllocError, Global};
 use std::sync::Arc;
 

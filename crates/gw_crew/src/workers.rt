@@ -3,7 +3,7 @@ ghost use Rattle.std.specs.Prelude.{◌≡◌, IfOk, IfErr, OnErr, false};
 ghost use Rattle.std.specs.Arc.{arc_value};
 ghost use Rattle.gw_gate.specs.Values.{reply_seen};
 ghost use Rattle.gw_plan.specs.Admitted.{IsOf};
-ghost use Rattle.gw_run.specs.declared.fault.RunFault.TheVariants.{Memory};
+ghost use Rattle.gw_stream.specs.declared.fault.RunFault.TheVariants.{Memory};
 ghost use Rattle.gw_crew.specs.Turns.{Adds, Finishes, Put, Took, Turn, became_of, taken_of, taken_seen};
 ghost use Rattle.gw_crew.specs.Works.{Breaks, InHand, Works};
 
@@ -11,7 +11,7 @@ use crate::door::{Door, Phase};
 use crate::pause::Pause;
 use gw_gate::{Event, Reply};
 use gw_plan::{Conforming, translate_for};
-use gw_run::{Counts, RunFault};
+use gw_stream::{Counts, RunFault};
 use std::alloc::Global;
 use std::sync::Arc;
 

@@ -3,7 +3,7 @@ use gw_crew::{Door, Note, Pause, Solo, SwapFault, courier, swap, worker};
 use gw_er7::read;
 use gw_gate::{Event, Gate, MOST, Reply};
 use gw_plan::{Conforming, Plan, admit};
-use gw_run::{Counts, Reads, RunFault, Writes};
+use gw_stream::{Counts, Reads, RunFault, Writes};
 use std::alloc::Global;
 use std::io;
 use std::io::{ErrorKind, Read, Write};

@@ -3,7 +3,7 @@ use crate::plans::{M2, P2, worked};
 use crate::streams::Device;
 use gw_ack::Stamp;
 use gw_plan::Plan;
-use gw_run::{Counts, Reads, RunFault, Writes, serve_once};
+use gw_stream::{Counts, Reads, RunFault, Writes, serve_once};
 use std::alloc::Global;
 use std::test::Fail;
 

@@ -1,7 +1,7 @@
 //! Streams over devices that give and take little, are interrupted, and fail.
 use crate::worked::profile;
 use gw_ack::Stamp;
-use gw_run::{Counts, Reads, RunFault, Writes, answer_stream};
+use gw_stream::{Counts, Reads, RunFault, Writes, answer_stream};
 use std::alloc::Global;
 use std::io;
 use std::io::{ErrorKind, Read, Write};

@@ -3,7 +3,7 @@ use gw_er7::ReadFault;
 use gw_maplang::MapFault;
 use gw_plan::PlanFault;
 use gw_profile::ProfileFault;
-use gw_run::RunFault;
+use gw_stream::RunFault;
 use gw_validate::Breach;
 use std::alloc::{AllocError, AllocFailed};
 

@@ -1,6 +1,6 @@
 //! The texts that a command reads.
 use crate::ended::Ended;
-use gw_run::RunFault;
+use gw_stream::RunFault;
 use std::fs::File;
 use std::io::{ErrorKind, Read};
 use std::rt::Files;

@@ -14,7 +14,7 @@ use gw_er7::Message;
 use gw_maplang::Map;
 use gw_profile::Profile;
 use gw_resolve::Failure;
-use gw_run::RunFault;
+use gw_stream::RunFault;
 use gw_subjects::sites;
 use gw_validate::{Tree, Verdict};
 use std::alloc::{AllocError, Global};

@@ -8,7 +8,7 @@ use crate::progress::{Counted, Watched};
 use clap::ArgMatches;
 use gw_ack::Stamp;
 use gw_plan::{Plan, Receiver};
-use gw_run::{Counts, Reads, RunFault, Sink, Writes, serve_once};
+use gw_stream::{Counts, Reads, RunFault, Sink, Writes, serve_once};
 use std::alloc::{AllocError, Global};
 use std::cell::Cell;
 use std::fs::File;

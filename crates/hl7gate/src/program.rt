@@ -6,7 +6,7 @@ use crate::plans;
 use crate::report::{DONE, USAGE, status_if, status_of, tell, tell_if_none, tell_words};
 use crate::stamps::stamp_of;
 use clap::ArgMatches;
-use gw_run::{Counts, Reads, Writes, answer_stream};
+use gw_stream::{Counts, Reads, Writes, answer_stream};
 use std::io::{IsTerminal, Read, Write};
 use std::rt::Files;
 use std::time::Clock;

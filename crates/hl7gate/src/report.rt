@@ -3,7 +3,7 @@ use crate::ended::Ended;
 use crate::refusals::{tell_breach, tell_map, tell_message, tell_plan, tell_profile};
 use clap::Error;
 use clap::error::ErrorKind;
-use gw_run::{Counts, RunFault};
+use gw_stream::{Counts, RunFault};
 use std::io;
 use std::io::Write;
 

@@ -1,5 +1,5 @@
 use Rattle.std.proofs.Common.{◌≡◌, [], false, ℕ, List, Option}
-use Rattle.gw_run.specs.Reading.{ReadTimes}
+use Rattle.gw_stream.specs.Reading.{ReadTimes}
 use Rattle.gw_crew.specs.Streams.{Reading}
 use Rattle.gw_crew.proofs.blocks.next_block.Given as goal
 

@@ -1,5 +1,5 @@
 use Rattle.std.proofs.Common.{◌≡◌, ◌-◌, ◌^◌, false, length}
-use Rattle.gw_run.specs.Counted.{nothing}
+use Rattle.gw_stream.specs.Counted.{nothing}
 use Rattle.gw_crew.specs.Works.{Worked}
 use Rattle.gw_crew.proofs.workers.worker.Given as goal
 

@@ -1,0 +1,259 @@
+-- What is sent to writers, in order.
+use Rattle.std.proofs.Common.{◌≡◌, ◌≢◌, ◌<◌, ◌||◌, ℕ, zero, suc, Result, Ok, Err, OnOk, OnErr, IsErr, IsTrue, ◌↔◌, ◌+◌, take, drop, Bool, true, false, List, Option, None, length, [], ◌∷◌, ◌++◌, map, arith, rules, subst, sym, ap, ◌∙◌, refl, append_assoc, append-nil}
+use Rattle.std.proofs.KnownBytes.{Appends-nil, Appends-trans}
+use Rattle.std.proofs.lemmas.List.{map-append, take_more, take-append-drop}
+use Rattle.std.proofs.Math.Dec.{eqb-suc-suc, eqb-suc-zero, eqb-zero-suc}
+use Rattle.std.specs.Io.KnownBytes.{Appends}
+use Rattle.std.specs.List.{AllByRecursion, list_any}
+use Rattle.std.specs.Prelude.{slice_index_or, slice_set, ◌==◌, if◌then◌else◌}
+use Rattle.gw_stream.specs.declared.fault.RunFault.{RunFault}
+use Rattle.gw_stream.specs.declared.fault.RunFault.TheVariants.{Write}
+use Rattle.gw_stream.specs.Posts.{Whom, sender, receiver, is_same, Post, bytes_to, Known, held_by, Sends, IsBeginning, none, part, whole, SendsSome, all_held, SendsOut, SendsSomeOut}
+use Rattle.gw_stream.specs.Sent.{BeginsWith, SendsPart}
+
+-- ---- posts, one after another
+
+bytes_more : (whom : Whom) (ps qs : List Post) → bytes_to whom (ps ++ qs) ≡ bytes_to whom ps ++ bytes_to whom qs
+bytes_more whom [] qs = refl
+bytes_more whom (p ∷ ps) qs =
+    let front : List ℕ = if is_same whom p.whom then p.bytes else [] in
+    ap (λ l. front ++ l) (bytes_more whom ps qs) ∙ sym (append_assoc front (bytes_to whom ps) (bytes_to whom qs))
+
+pub sends_none : (k : Known) → Sends [] k k
+sends_none k whom = Appends-nil (held_by k whom)
+
+pub sends_join : (ps qs : List Post) (a b c : Known) → Sends ps a b → Sends qs b c → Sends (ps ++ qs) a c
+sends_join ps qs a b c p q whom =
+    subst (Appends (held_by a whom) (held_by c whom)) (sym (bytes_more whom ps qs))
+    (Appends-trans (held_by a whom) (held_by b whom) (held_by c whom) (bytes_to whom ps) (bytes_to whom qs) (p whom) (q whom))
+
+begins_all : (ps : List Post) → IsBeginning ps ps
+begins_all [] = none []
+begins_all (p ∷ ps) = whole p ps ps (begins_all ps)
+
+begins_more : (sent ps qs : List Post) → IsBeginning sent ps → IsBeginning sent (ps ++ qs)
+begins_more _ _ qs (none ps) = none (ps ++ qs)
+begins_more _ _ qs (part p ps front is) = part p (ps ++ qs) front is
+begins_more _ _ qs (whole p sent ps begins) = whole p sent (ps ++ qs) (begins_more sent ps qs begins)
+
+begins_behind : (ps sent qs : List Post) → IsBeginning sent qs → IsBeginning (ps ++ sent) (ps ++ qs)
+begins_behind [] sent qs begins = begins
+begins_behind (p ∷ ps) sent qs begins = whole p (ps ++ sent) (ps ++ qs) (begins_behind ps sent qs begins)
+
+pub some_of_all : (ps : List Post) (a b : Known) → Sends ps a b → SendsSome ps a b
+some_of_all ps a b p = record { sent = ps; begins = begins_all ps; sends = p }
+
+pub some_behind : (ps qs : List Post) (a b c : Known) → Sends ps a b → SendsSome qs b c → SendsSome (ps ++ qs) a c
+some_behind ps qs a b c p q = record { sent = ps ++ q.sent; begins = begins_behind ps q.sent qs q.begins; sends = sends_join ps q.sent a b c p q.sends }
+
+pub some_more : (ps qs : List Post) (a b : Known) → SendsSome ps a b → SendsSome (ps ++ qs) a b
+some_more ps qs a b p = record { sent = p.sent; begins = begins_more p.sent ps qs p.begins; sends = p.sends }
+
+-- bytes that were sent in part
+cut : (whom : Whom) (bytes front : List ℕ) → BeginsWith bytes front
+    → IsBeginning (record { whom = whom; bytes = front } ∷ []) (record { whom = whom; bytes = bytes } ∷ [])
+cut whom bytes front is = part (record { whom = whom; bytes = bytes }) [] front is
+
+-- ---- the receivers' writers
+
+pub out_none : (k : List (Option (List ℕ))) → SendsOut [] k k
+out_none k to_sender = sends_none (all_held to_sender k)
+
+pub out_join : (ps qs : List Post) (a b c : List (Option (List ℕ))) → SendsOut ps a b → SendsOut qs b c → SendsOut (ps ++ qs) a c
+out_join ps qs a b c p q to_sender = sends_join ps qs (all_held to_sender a) (all_held to_sender b) (all_held to_sender c) (p to_sender) (q to_sender)
+
+pub some_out_behind : (ps qs : List Post) (a b c : List (Option (List ℕ))) → SendsOut ps a b → SendsSomeOut qs b c → SendsSomeOut (ps ++ qs) a c
+some_out_behind ps qs a b c p q = record { sent = ps ++ q.sent; begins = begins_behind ps q.sent qs q.begins; sends = out_join ps q.sent a b c p q.sends }
+
+pub some_out_more : (ps qs : List Post) (a b : List (Option (List ℕ))) → SendsSomeOut ps a b → SendsSomeOut (ps ++ qs) a b
+some_out_more ps qs a b p = record { sent = p.sent; begins = begins_more p.sent ps qs p.begins; sends = p.sends }
+
+nothing_below : (i : ℕ) → i < 0 → ⊥
+nothing_below i lt = omega arith
+
+-- one writer's bytes grow
+at_set : (olds : List (Option (List ℕ))) (r t : ℕ) (new : Option (List ℕ)) (bytes : List ℕ) → r < length olds → Appends (slice_index_or olds r None) new bytes
+    → Appends (slice_index_or olds t None) (slice_index_or (slice_set olds r new) t None) (if t == r then bytes else [])
+at_set [] r t new bytes lt grows = absurd (nothing_below r lt)
+at_set (o ∷ os) zero zero new bytes lt grows = grows
+at_set (o ∷ os) zero (suc t) new bytes lt grows =
+    subst (λ b. Appends (slice_index_or os t None) (slice_index_or os t None) (if b then bytes else [])) (sym (eqb-suc-zero t))
+    (Appends-nil (slice_index_or os t None))
+at_set (o ∷ os) (suc r) zero new bytes lt grows = subst (λ b. Appends o o (if b then bytes else [])) (sym (eqb-zero-suc r)) (Appends-nil o)
+at_set (o ∷ os) (suc r) (suc t) new bytes lt grows =
+    subst (λ b. Appends (slice_index_or os t None) (slice_index_or (slice_set os r new) t None) (if b then bytes else [])) (sym (eqb-suc-suc t r))
+    (at_set os r t new bytes (omega arith) grows)
+
+out_at : (olds : List (Option (List ℕ))) (r : ℕ) (new : Option (List ℕ)) (bytes : List ℕ) → r < length olds → Appends (slice_index_or olds r None) new bytes
+    → SendsOut (record { whom = receiver r; bytes = bytes } ∷ []) olds (slice_set olds r new)
+out_at olds r new bytes lt grows to_sender sender = Appends-nil to_sender
+out_at olds r new bytes lt grows to_sender (receiver t) =
+    subst (Appends (slice_index_or olds t None) (slice_index_or (slice_set olds r new) t None)) (sym (append-nil (if t == r then bytes else [])))
+    (at_set olds r t new bytes lt grows)
+
+map_set : {A B : Type 0} (f : A → B) (xs : List A) (i : ℕ) (x : A) → map f (slice_set xs i x) ≡ slice_set (map f xs) i (f x)
+map_set f [] i x = refl
+map_set f (y ∷ ys) zero x = refl
+map_set f (y ∷ ys) (suc i) x = ap (λ l. f y ∷ l) (map_set f ys i x)
+
+map_index : {A B : Type 0} (f : A → B) (xs : List A) (i : ℕ) (d : A) (e : B) → i < length xs → slice_index_or (map f xs) i e ≡ f (slice_index_or xs i d)
+map_index f [] i d e lt = absurd (nothing_below i lt)
+map_index f (y ∷ ys) zero d e lt = refl
+map_index f (y ∷ ys) (suc i) d e lt = map_index f ys i d e (omega arith)
+
+pub map_long : {A B : Type 0} (f : A → B) (xs : List A) → length (map f xs) ≡ length xs
+map_long f [] = refl
+map_long f (y ∷ ys) = ap suc (map_long f ys)
+
+pub set_long : {A : Type 0} (xs : List A) (i : ℕ) (x : A) → length (slice_set xs i x) ≡ length xs
+set_long [] i x = refl
+set_long (y ∷ ys) zero x = refl
+set_long (y ∷ ys) (suc i) x = ap suc (set_long ys i x)
+
+-- the bytes that the writer of this number holds grew
+pub sends_to : {W : Type 0} (held : W → Option (List ℕ)) (outs : List W) (r : ℕ) (d new : W) (bytes : List ℕ) → r < length outs
+    → Appends (held (slice_index_or outs r d)) (held new) bytes
+    → SendsOut (record { whom = receiver r; bytes = bytes } ∷ []) (map held outs) (map held (slice_set outs r new))
+sends_to held outs r d new bytes lt grows =
+    let within : r < length (map held outs) = subst (λ n. r < n) (sym (map_long held outs)) lt in
+    subst (SendsOut (record { whom = receiver r; bytes = bytes } ∷ []) (map held outs)) (sym (map_set held outs r new))
+    (out_at (map held outs) r (held new) bytes within (subst (λ k. Appends k (held new) bytes) (sym (map_index held outs r d None lt)) grows))
+
+pub sends_some_to : {W : Type 0} (held : W → Option (List ℕ)) (outs : List W) (r : ℕ) (d new : W) (bytes : List ℕ) → r < length outs
+    → SendsPart (held (slice_index_or outs r d)) (held new) bytes
+    → SendsSomeOut (record { whom = receiver r; bytes = bytes } ∷ []) (map held outs) (map held (slice_set outs r new))
+sends_some_to held outs r d new bytes lt p = record {
+  sent = record { whom = receiver r; bytes = p.0 } ∷ [];
+  begins = cut (receiver r) bytes p.0 p.2;
+  sends = sends_to held outs r d new p.0 lt p.1;
+}
+
+-- ---- the posts of a list, up to an item and from it on
+
+posts_taken : {A : Type 0} (f : A → Post) (xs : List A) (i : ℕ) (x : A) → i < length xs → x ≡ slice_index_or xs i x
+    → map f (take (i + 1) xs) ≡ map f (take i xs) ++ f x ∷ []
+posts_taken f xs i x lt is = ap (map f) (take_more xs i x lt ∙ ap (λ y. take i xs ++ y ∷ []) (sym is)) ∙ map-append f (take i xs) (x ∷ [])
+
+pub out_next : {A : Type 0} (f : A → Post) (xs : List A) (i : ℕ) (x : A) (a b c : List (Option (List ℕ))) → i < length xs → x ≡ slice_index_or xs i x
+    → SendsOut (map f (take i xs)) a b → SendsOut (f x ∷ []) b c → SendsOut (map f (take (i + 1) xs)) a c
+out_next f xs i x a b c lt is p q = subst (λ l. SendsOut l a c) (sym (posts_taken f xs i x lt is)) (out_join (map f (take i xs)) (f x ∷ []) a b c p q)
+
+pub some_out_next : {A : Type 0} (f : A → Post) (xs : List A) (i : ℕ) (x : A) (a b c : List (Option (List ℕ))) → i < length xs → x ≡ slice_index_or xs i x
+    → SendsOut (map f (take i xs)) a b → SendsSomeOut (f x ∷ []) b c → SendsSomeOut (map f xs) a c
+some_out_next f xs i x a b c lt is p q =
+    let front = map f (take (i + 1) xs) in
+    let rest = map f (drop (i + 1) xs) in
+    let all : front ++ rest ≡ map f xs = sym (map-append f (take (i + 1) xs) (drop (i + 1) xs)) ∙ ap (map f) (take-append-drop (i + 1) xs) in
+    let some : SendsSomeOut front a c =
+    subst (λ l. SendsSomeOut l a c) (sym (posts_taken f xs i x lt is)) (some_out_behind (map f (take i xs)) (f x ∷ []) a b c p q) in
+    subst (λ l. SendsSomeOut l a c) all (some_out_more front rest a c some)
+
+-- each passes, and so does the one at a place
+pub each_at : {A : Type 0} (P : A → Type 0) (xs : List A) (i : ℕ) (x : A) → i < length xs → x ≡ slice_index_or xs i x → AllByRecursion P xs → P x
+each_at P [] i x lt is all = absurd (nothing_below i lt)
+each_at P (y ∷ ys) zero x lt is all = subst P (sym is) all.0
+each_at P (y ∷ ys) (suc i) x lt is all = each_at P ys i x (omega arith) is all.1
+
+-- ---- which writers failed
+
+pub or_first : (a b : Bool) → a || b ≡ false → a ≡ false
+or_first true b e = e
+or_first false b e = refl
+
+pub or_second : (a b : Bool) → a || b ≡ false → b ≡ false
+or_second true b e = search rules
+or_second false b e = e
+
+or_false : (a : Bool) → a || false ≡ a
+or_false true = refl
+or_false false = refl
+
+pub none_at : {W : Type 0} (failed : W → Bool) (outs : List W) (r : ℕ) (d : W) → list_any failed outs ≡ false → r < length outs
+    → failed (slice_index_or outs r d) ≡ false
+none_at failed [] r d works lt = absurd (nothing_below r lt)
+none_at failed (w ∷ ws) zero d works lt = or_first (failed w) (list_any failed ws) works
+none_at failed (w ∷ ws) (suc r) d works lt = none_at failed ws r d (or_second (failed w) (list_any failed ws) works) (omega arith)
+
+-- the one that was written to, alone
+pub any_set : {W : Type 0} (failed : W → Bool) (outs : List W) (r : ℕ) (new : W) → list_any failed outs ≡ false → r < length outs
+    → list_any failed (slice_set outs r new) ≡ failed new
+any_set failed [] r new works lt = absurd (nothing_below r lt)
+any_set failed (w ∷ ws) zero new works lt = ap (λ b. failed new || b) (or_second (failed w) (list_any failed ws) works) ∙ or_false (failed new)
+any_set failed (w ∷ ws) (suc r) new works lt =
+    ap (λ b. b || list_any failed (slice_set ws r new))
+    (or_first (failed w) (list_any failed ws) works) ∙ any_set failed ws r new (or_second (failed w) (list_any failed ws) works) (omega arith)
+
+-- ---- what follows from what was answered
+
+pub on_ok : {T E P Q : Type 0} (r : Result T E) → (P → Q) → OnOk r P → OnOk r Q
+on_ok (Ok x) f p = f p
+on_ok (Err e) f p = tt
+
+pub on_err : {T E P Q : Type 0} (r : Result T E) → (P → Q) → OnErr r P → OnErr r Q
+on_err (Ok x) f p = tt
+on_err (Err e) f p = f p
+
+-- ---- the receivers first, and then the sender
+
+sends_to_sender : (outs : List (Option (List ℕ))) (old new : Option (List ℕ)) (bytes : List ℕ) → Appends old new bytes
+    → Sends (record { whom = sender; bytes = bytes } ∷ []) (all_held old outs) (all_held new outs)
+sends_to_sender outs old new bytes grows sender = subst (Appends old new) (sym (append-nil bytes)) grows
+sends_to_sender outs old new bytes grows (receiver r) = Appends-nil (slice_index_or outs r None)
+
+pub sender_last : (ps : List Post) (olds news : List (Option (List ℕ))) (old new : Option (List ℕ)) (bytes : List ℕ) → SendsOut ps olds news
+    → Appends old new bytes
+    → Sends (ps ++ record { whom = sender; bytes = bytes } ∷ []) (all_held old olds) (all_held new news)
+sender_last ps olds news old new bytes out grows =
+    sends_join ps (record { whom = sender; bytes = bytes } ∷ []) (all_held old olds) (all_held old news) (all_held new news) (out old)
+    (sends_to_sender news old new bytes grows)
+
+pub sender_in_part : (ps : List Post) (olds news : List (Option (List ℕ))) (old new : Option (List ℕ)) (bytes : List ℕ) → SendsOut ps olds news
+    → SendsPart old new bytes
+    → SendsSome (ps ++ record { whom = sender; bytes = bytes } ∷ []) (all_held old olds) (all_held new news)
+sender_in_part ps olds news old new bytes out p =
+    some_behind ps (record { whom = sender; bytes = bytes } ∷ []) (all_held old olds) (all_held old news) (all_held new news) (out old)
+    (record { sent = record { whom = sender; bytes = p.0 } ∷ []; begins = cut sender bytes p.0 p.2; sends = sends_to_sender news old new p.0 p.1 })
+
+pub sender_not_yet : (ps qs : List Post) (olds news : List (Option (List ℕ))) (held : Option (List ℕ)) → SendsSomeOut ps olds news
+    → SendsSome (ps ++ qs) (all_held held olds) (all_held held news)
+sender_not_yet ps qs olds news held p =
+    some_more ps qs (all_held held olds) (all_held held news) (record { sent = p.sent; begins = p.begins; sends = p.sends held })
+
+pub none_failed : (a b : Bool) → a ≡ false → b ≡ false → IsTrue (a || b) → ⊥
+none_failed true b p q is = search rules
+none_failed false true p q is = search rules
+none_failed false false p q is = search rules
+
+-- of two writers of which the one hasn't failed, the other has
+pub either_failed : {T E : Type 0} (a b : Bool) (r : Result T E) → a ≡ false → IsTrue b ↔ IsErr r → IsTrue (a || b) ↔ IsErr r
+either_failed true b r works failed = search rules
+either_failed false b r works failed = failed
+
+pub first_failed : {T E : Type 0} (a b : Bool) (r : Result T E) → b ≡ false → IsTrue a ↔ IsErr r → IsTrue (a || b) ↔ IsErr r
+first_failed a true r works failed = search rules
+first_failed true false r works failed = failed
+first_failed false false r works failed = failed
+
+-- ---- what was sent in order is, for each, a beginning of what is meant for it
+
+part_for : (is_for : Bool) (front bytes rest : List ℕ) → BeginsWith bytes front
+    → BeginsWith ((if is_for then bytes else []) ++ rest) ((if is_for then front else []) ++ [])
+part_for true front bytes rest is =
+    (is.0 ++ rest, ap (λ l. l ++ rest) is.1 ∙ append_assoc front is.0 rest ∙ ap (λ l. l ++ (is.0 ++ rest)) (sym (append-nil front)))
+part_for false front bytes rest is = (rest, refl)
+
+pub for_each : (sent posts : List Post) (whom : Whom) → IsBeginning sent posts → BeginsWith (bytes_to whom posts) (bytes_to whom sent)
+for_each _ _ whom (none posts) = (bytes_to whom posts, refl)
+for_each _ _ whom (part post posts front is) = part_for (is_same whom post.whom) front post.bytes (bytes_to whom posts) is
+for_each _ _ whom (whole post sent posts begins) =
+    let others = for_each sent posts whom begins in
+    let front : List ℕ = if is_same whom post.whom then post.bytes else [] in
+    (others.0, ap (λ l. front ++ l) others.1 ∙ sym (append_assoc front (bytes_to whom sent) others.0))
+
+pub err_gives : {T E P : Type 0} (r : Result T E) → P → OnErr r P
+err_gives (Ok x) p = tt
+err_gives (Err e) p = p
+
+pub err_gives_unless : {T P : Type 0} (r : Result T RunFault) → P → OnErr r (r ≢ Err Write → P)
+err_gives_unless (Ok x) p = tt
+err_gives_unless (Err e) p = λ other. p

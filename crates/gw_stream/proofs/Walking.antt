@@ -1,0 +1,217 @@
+-- A run over a stream, block by block.
+use Rattle.std.proofs.Common.{◌≡◌, ◌<◌, ◌≤◌, ◌+◌, ℕ, List, Option, length, [], ◌∷◌, ◌++◌, arith, subst, sym, ap, ◌∙◌, refl, append_assoc, append-nil, IfSome, Some, None, length-append, map}
+use Rattle.std.proofs.lemmas.Grind.{common_steps}
+use Rattle.std.proofs.KnownBytes.{Consumes-nil, Consumes-trans, Consumes-whole}
+use Rattle.std.specs.Io.KnownBytes.{Consumes, IsAtEnd}
+use Rattle.std.specs.List.{flat_map}
+use Rattle.gw_mllp.specs.Stream.{Blocks, Has, Held, Overlong, Between, Within, Stands, Tail, LongAfter, Part, spelled, content_of}
+use Rattle.gw_stream.specs.declared.block_reader.BlockReader.{BlockReader}
+use Rattle.gw_stream.specs.declared.fault.RunFault.{RunFault}
+use Rattle.gw_stream.specs.declared.fault.RunFault.TheVariants.{Frame}
+use Rattle.gw_stream.specs.Faults.{OfReading, truncated}
+use Rattle.gw_stream.specs.Reading.{ReadTimes}
+use Rattle.gw_stream.specs.Streams.{HasFirst}
+use Rattle.gw_stream.specs.Walked.{Place, Walks, Goes, EndsAt}
+
+-- a piece takes a decoder from here to there
+abbrev pub Feeds : List ℕ → Held → Held → Type 0
+Feeds piece old new = (stream : List ℕ) (given : List (List ℕ)) → Stands stream given old → Stands (stream ++ piece) given new
+
+-- ---- a stream has no more blocks than bytes
+
+parts_few : (parts : List Part) → length parts ≤ length (flat_map spelled parts)
+parts_few [] = omega arith
+parts_few (p ∷ parts) =
+    let e : length (flat_map spelled (p ∷ parts)) ≡ length (spelled p) + length (flat_map spelled parts) = length-append (spelled p) (flat_map spelled parts) in
+    let f : length (spelled p) ≡ length p.gap + length (11 ∷ p.content ++ 28 ∷ 13 ∷ []) = length-append p.gap (11 ∷ p.content ++ 28 ∷ 13 ∷ []) in
+    let ih = parts_few parts in
+    omega arith
+
+map_length : (parts : List Part) → length (map content_of parts) ≡ length parts
+map_length parts = grind (arith, common_steps)
+
+blocks_few : (stream : List ℕ) (blocks : List (List ℕ)) (left : Option (List ℕ)) → Blocks stream blocks left → length blocks ≤ length stream
+blocks_few stream blocks left p =
+    let e : length stream ≡ length (flat_map spelled p.parts) + length p.rest = ap length p.whole ∙ length-append (flat_map spelled p.parts) p.rest in
+    let f : length blocks ≡ length p.parts = ap length p.contents ∙ map_length p.parts in
+    let g = parts_few p.parts in
+    omega arith
+
+has_few : (stream : List ℕ) (blocks : List (List ℕ)) (tail : Tail) → Has stream blocks tail → length blocks ≤ length stream
+has_few stream blocks Between p = blocks_few stream blocks None p.0
+has_few stream blocks (Within t) p = blocks_few stream blocks (Some t) p.0
+has_few stream blocks Overlong p =
+    let e : length stream ≡ length p.front + length p.more = ap length p.whole ∙ length-append p.front p.more in
+    let f = blocks_few p.front blocks (Some p.left) p.cut in
+    omega arith
+
+-- each block takes a byte of those that were read
+pub walk_few : (left : Option (List ℕ)) (reads : ℕ) (here : Place) (given : List (List ℕ)) → Walks left reads here given → length given ≤ 65536000000
+walk_few left reads here given w =
+    let blocks = has_few w.taken (given ++ here.blocks.decoder.waiting) here.blocks.decoder.tail w.stands in
+    let both : length (given ++ here.blocks.decoder.waiting) ≡ length given + length here.blocks.decoder.waiting =
+    length-append given here.blocks.decoder.waiting in
+    let few = w.few in
+    let most = w.most in
+    omega arith
+
+-- ---- steps
+
+pub walk_begins : (left : Option (List ℕ)) (reads : ℕ) (blocks : BlockReader) → Stands [] [] blocks.decoder → blocks.turns ≡ 0
+    → Walks left reads (record { left = left; reads = reads; blocks = blocks }) []
+walk_begins left reads blocks stands none = record {
+  taken = [];
+  takes = Consumes-nil left;
+  many = omega arith;
+  few = omega arith;
+  most = omega arith;
+  stands = stands;
+  counted = λ small. omega arith;
+}
+
+pub goes_none : (here : Place) → Goes here here []
+goes_none here left reads given w = subst (Walks left reads here) (sym (append-nil given)) w
+
+pub goes_join : (here there beyond : Place) (more others : List (List ℕ)) → Goes here there more → Goes there beyond others → Goes here beyond (more ++ others)
+goes_join here there beyond more others p q left reads given w =
+    subst (Walks left reads beyond) (append_assoc given more others) (q left reads (given ++ more) (p left reads given w))
+
+-- a block is given
+pub goes_given : (left : Option (List ℕ)) (reads : ℕ) (old new : BlockReader) (content : List ℕ)
+    → old.decoder ≡ record new.decoder { waiting = content ∷ new.decoder.waiting } → new.turns ≡ old.turns
+    → Goes (record { left = left; reads = reads; blocks = old }) (record { left = left; reads = reads; blocks = new }) (content ∷ [])
+goes_given left reads old new content is turns left₀ reads₀ given w =
+    let many = w.many in
+    let few = w.few in
+    let most = w.most in
+    let stands : Stands w.taken given (record new.decoder { waiting = content ∷ new.decoder.waiting }) = subst (Stands w.taken given) is w.stands in
+    record {
+      taken = w.taken;
+      takes = w.takes;
+      many = omega arith;
+      few = omega arith;
+      most = omega arith;
+      stands = subst (λ l. Has w.taken l new.decoder.tail) (sym (append_assoc given (content ∷ []) new.decoder.waiting)) stands;
+      counted = subst (λ n. ReadTimes n reads₀ reads) (sym turns) w.counted;
+    }
+
+counts_more : (times before between after : ℕ) → ReadTimes times before between → ReadTimes 1 between after → ReadTimes (times + 1) before after
+counts_more times before between after many one small = let there = many (omega arith) in let more = one (omega arith) in omega arith
+
+-- a piece is read and taken
+pub goes_read : (here there : Place) (piece : List ℕ) → Consumes here.left there.left piece → 0 < length piece → length piece ≤ 65536
+    → here.blocks.turns < 1000000
+    → Feeds piece here.blocks.decoder there.blocks.decoder → there.blocks.turns ≡ here.blocks.turns + 1 → ReadTimes 1 here.reads there.reads
+    → Goes here there []
+goes_read here there piece eats some short early feeds turn once left reads given w =
+    let long : length (w.taken ++ piece) ≡ length w.taken + length piece = length-append w.taken piece in
+    let many = w.many in
+    let few = w.few in
+    let walks : Walks left reads there given = record {
+      taken = w.taken ++ piece;
+      takes = Consumes-trans left here.left there.left w.taken piece w.takes eats;
+      many = omega arith;
+      few = omega arith;
+      most = omega arith;
+      stands = feeds w.taken given w.stands;
+      counted = subst (λ n. ReadTimes n reads there.reads) (sym turn) (counts_more here.blocks.turns reads here.reads there.reads w.counted once);
+    } in
+    subst (Walks left reads there) (sym (append-nil given)) walks
+
+-- ---- ends
+
+pub ends_from : (here there : Place) (tail : Tail) → Goes here there [] → EndsAt there tail → EndsAt here tail
+ends_from here there tail goes ends left reads given w = ends left reads given (subst (Walks left reads there) (append-nil given) (goes left reads given w))
+
+-- nothing waits
+all_given : (here : Place) (left : Option (List ℕ)) (reads : ℕ) (given : List (List ℕ)) (w : Walks left reads here given) → here.blocks.decoder.waiting ≡ []
+    → Has w.taken given here.blocks.decoder.tail
+all_given here left reads given w none =
+    subst (λ l. Has w.taken l here.blocks.decoder.tail) (ap (λ l. given ++ l) none ∙ append-nil given) w.stands
+
+-- the source is at its end
+pub ends_at : (here : Place) (after : Option (List ℕ)) (tail : Tail) → here.blocks.decoder.waiting ≡ [] → here.blocks.decoder.tail ≡ tail
+    → Consumes here.left after [] → IsAtEnd after → EndsAt here tail
+ends_at here after tail none is eats end left reads given w =
+    let has : Has w.taken given tail = subst (λ t. Has w.taken given t) is (all_given here left reads given w none) in
+    Consumes-whole left after w.taken (λ stream. Has stream given tail)
+    (subst (Consumes left after) (append-nil w.taken) (Consumes-trans left here.left after w.taken [] w.takes eats)) end has
+
+long_more : (stream more : List ℕ) (blocks : List (List ℕ)) → LongAfter stream blocks → LongAfter (stream ++ more) blocks
+long_more stream more blocks p = record {
+  front = p.front;
+  more = p.more ++ more;
+  whole = ap (λ l. l ++ more) p.whole ∙ append_assoc p.front p.more more;
+  left = p.left;
+  cut = p.cut;
+  long = p.long;
+}
+
+long_whole : (left rest : Option (List ℕ)) (taken : List ℕ) (given : List (List ℕ)) → Consumes left rest taken → LongAfter taken given
+    → IfSome left (λ stream. LongAfter stream given)
+long_whole None rest taken given takes long = tt
+long_whole (Some stream) None taken given takes long = absurd takes
+long_whole (Some stream) (Some more) taken given takes long = subst (λ l. LongAfter l given) (sym takes) (long_more taken more given long)
+
+-- the stream is Long
+pub ends_long : (here : Place) → here.blocks.decoder.waiting ≡ [] → here.blocks.decoder.tail ≡ Overlong → EndsAt here Overlong
+ends_long here none over left reads given w =
+    long_whole left here.left w.taken given w.takes (subst (λ t. Has w.taken given t) over (all_given here left reads given w none))
+
+-- ---- a run that stops in between
+
+first_of : (stream more : List ℕ) (blocks others : List (List ℕ)) (tail : Tail) → Has stream (blocks ++ others) tail → HasFirst (stream ++ more) blocks
+first_of stream more blocks others Between p = record { front = stream; more = more; whole = refl; others = others; left = None; cut = p.0 }
+first_of stream more blocks others (Within t) p = record { front = stream; more = more; whole = refl; others = others; left = Some t; cut = p.0 }
+first_of stream more blocks others Overlong p = record {
+  front = p.front;
+  more = p.more ++ more;
+  whole = ap (λ l. l ++ more) p.whole ∙ append_assoc p.front p.more more;
+  others = others;
+  left = Some p.left;
+  cut = p.cut;
+}
+
+first_whole : (left rest : Option (List ℕ)) (taken : List ℕ) (blocks others : List (List ℕ)) (tail : Tail) → Consumes left rest taken
+    → Has taken (blocks ++ others) tail
+    → IfSome left (λ stream. HasFirst stream blocks)
+first_whole None rest taken blocks others tail takes has = tt
+first_whole (Some stream) None taken blocks others tail takes has = absurd takes
+first_whole (Some stream) (Some more) taken blocks others tail takes has =
+    subst (λ l. HasFirst l blocks) (sym takes) (first_of taken more blocks others tail has)
+
+-- what was given first are the first blocks of the stream
+pub walk_first : (left : Option (List ℕ)) (reads : ℕ) (here : Place) (given done others : List (List ℕ)) → Walks left reads here given
+    → given ≡ done ++ others → IfSome left (λ stream. HasFirst stream done)
+walk_first left reads here given done others w is =
+    first_whole left here.left w.taken done (others ++ here.blocks.decoder.waiting) here.blocks.decoder.tail w.takes
+    (subst (λ l. Has w.taken l here.blocks.decoder.tail)
+    (ap (λ l. l ++ here.blocks.decoder.waiting) is ∙ append_assoc done others here.blocks.decoder.waiting) w.stands)
+
+long_enough : (left rest : Option (List ℕ)) (taken : List ℕ) (most : ℕ) → Consumes left rest taken → most ≤ length taken
+    → IfSome left (λ stream. most ≤ length stream)
+long_enough None rest taken most takes many = tt
+long_enough (Some stream) None taken most takes many = absurd takes
+long_enough (Some stream) (Some more) taken most takes many =
+    let e : length stream ≡ length taken + length more = ap length takes ∙ length-append taken more in omega arith
+
+-- after so many reads the stream has as many bytes
+pub walk_turns : (left : Option (List ℕ)) (reads : ℕ) (here : Place) (given : List (List ℕ)) → Walks left reads here given → 1000000 ≤ here.blocks.turns
+    → IfSome left (λ stream. 1000000 ≤ length stream)
+walk_turns left reads here given w all = let many = w.many in long_enough left here.left w.taken 1000000 w.takes (omega arith)
+
+pub walk_counted : (left : Option (List ℕ)) (reads : ℕ) (here : Place) (given : List (List ℕ)) → Walks left reads here given → 1000000 ≤ here.blocks.turns
+    → ReadTimes 1000000 reads here.reads
+walk_counted left reads here given w all =
+    let most = w.most in
+    let is : here.blocks.turns ≡ 1000000 = omega arith in
+    subst (λ n. ReadTimes n reads here.reads) is w.counted
+
+pub if_some_map : {P Q : List ℕ → Type 0} (left : Option (List ℕ)) → ((stream : List ℕ) → P stream → Q stream) → IfSome left P → IfSome left Q
+if_some_map None f p = tt
+if_some_map (Some stream) f p = f stream p
+
+-- ---- faults
+
+pub within_of_reading : (e : RunFault) → e ≡ Frame 3 → OfReading e
+within_of_reading e is = subst OfReading (sym is) truncated

@@ -1,0 +1,14 @@
+use Rattle.std.proofs.Common.{rules, ◌≡◌}
+use Rattle.gw_mllp.specs.declared.fault.FrameFault.TheVariants.{Memory}
+use Rattle.gw_stream.proofs.block_reader.take_piece.Goals as goal
+
+pub returns-in-Err : goal.returns-in-Err
+returns-in-Err c =
+    let memory : ¬ (c.in-Err.field-0 ≡ Memory) = λ e. search rules in
+    record {
+      stands = c.in-Err.ensures.fed (λ h. search rules);
+      err = tt;
+    }
+
+pub returns-in-Ok-clause-stands : goal.returns-in-Ok-clause-stands
+returns-in-Ok-clause-stands c = c.in-Ok.ensures.fed (λ h. search rules)

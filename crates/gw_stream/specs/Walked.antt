@@ -1,0 +1,35 @@
+-- How far a run over a stream has come.
+use Rattle.std.specs.Prelude.{ℕ, ◌*◌, ◌≤◌, List, ◌++◌, length, Option}
+use Rattle.std.specs.Io.KnownBytes.{Consumes}
+use Rattle.std.specs.Option.{IfSome}
+use Rattle.gw_mllp.specs.Stream.{Has, Stands, Tail}
+use Rattle.gw_stream.specs.declared.block_reader.BlockReader.{BlockReader}
+use Rattle.gw_stream.specs.Reading.{ReadTimes}
+
+-- what a source has left, where that is known, how often it was read, and what reads its blocks
+pub record Place : Type 0 where
+  pub left : Option (List ℕ)
+  pub reads : ℕ
+  pub blocks : BlockReader
+
+-- a source and what reads its blocks, by what the source says of itself
+abbrev pub place : {S : Type 0} → (S → Option (List ℕ)) → (S → ℕ) → S → BlockReader → Place
+place remaining reads source blocks = record { left = remaining source; reads = reads source; blocks = blocks }
+
+-- From a source that had this left and was read this often, a run has come here, and these blocks were given on the way.
+pub record Walks (left : Option (List ℕ)) (reads : ℕ) (here : Place) (given : List (List ℕ)) : Type 0 where
+  pub taken : List ℕ
+  pub takes : Consumes left here.left taken
+  pub many : here.blocks.turns ≤ length taken
+  pub few : length taken ≤ here.blocks.turns * 65536
+  pub most : here.blocks.turns ≤ 1000000
+  pub stands : Stands taken given here.blocks.decoder
+  pub counted : ReadTimes here.blocks.turns reads here.reads
+
+-- a run that had come here has come there, and these blocks were given on the way
+abbrev pub Goes : Place → Place → List (List ℕ) → Type 0
+Goes here there more = (left : Option (List ℕ)) (reads : ℕ) (given : List (List ℕ)) → Walks left reads here given → Walks left reads there (given ++ more)
+
+-- a run that had come here has all blocks of its stream, and the stream ends so
+abbrev pub EndsAt : Place → Tail → Type 0
+EndsAt here tail = (left : Option (List ℕ)) (reads : ℕ) (given : List (List ℕ)) → Walks left reads here given → IfSome left (λ stream. Has stream given tail)

@@ -1,0 +1,120 @@
+//! The blocks of a stream, read one by one.
+ghost use Rattle.std.specs.Prelude.{◌≡◌, ◌≢◌, ◌↔◌, ◌≤◌, ◌<◌, ◌+◌, ◌∷◌, ◌++◌, [], ℕ, List, Option, OnOk, OnErr, IfOk, IfErr, IfSome, IfNone, IsTrue, IsErrOf, false, true, Ok};
+ghost use Rattle.gw_mllp.specs.Stream.{Between, Within, Overlong, Stands};
+ghost use Rattle.gw_stream.specs.Faults.{OfReading};
+ghost use Rattle.gw_stream.specs.Walked.{EndsAt, Goes, Walks, place};
+
+use crate::fault::RunFault;
+use crate::source::Source;
+use gw_mllp::{Decoder, FrameFault};
+use std::alloc::{AllocError, Global};
+
+/// The most reads of a run.
+const READS: usize = 1_000_000;
+
+/// The most bytes of a read.
+const PIECE: usize = 65_536;
+
+/// Reads a stream, and gives its blocks one by one.
+#[derive(Drop)]
+pub(crate) struct BlockReader {
+    decoder: Decoder,
+    buffer: [u8; PIECE],
+    turns: usize,
+}
+
+/// Takes a piece of the stream. What it holds too much of is told once its blocks are given.
+fn take_piece(decoder: &mut Decoder, piece: &[u8]) -> Result<(), AllocError>
+    ensures stands { OnOk result ((stream : List ℕ) (given : List (List ℕ)) → Stands stream given decoder.old
+        → Stands (stream ++ piece.now) given decoder.new) }
+    ensures err { OnErr result (decoder.new ≡ decoder.old) }
+{
+    match decoder.feed(piece) {
+        Err(FrameFault::Memory) => Err(AllocError),
+        Err(_) => Ok(()),
+        Ok(()) => Ok(()),
+    }
+}
+
+/// Whether a stream may end here, which has no more bytes.
+fn end_of(decoder: &Decoder) -> Result<(), RunFault>
+    requires { decoder.now.tail ≢ Overlong }
+    ensures ok { OnOk result (decoder.now.tail ≡ Between) }
+    ensures err { IfErr result (λ e. (e ≡ RunFault.Frame 3) × (t : List ℕ) × (decoder.now.tail ≡ Within t)) }
+{
+    match decoder.at_end() {
+        Ok(()) => Ok(()),
+        Err(_) => Err(RunFault::Frame(3)),
+    }
+}
+
+impl BlockReader {
+    /// Before the first read.
+    pub(crate) fn new(alloc: Global) -> BlockReader
+        ensures { (left : Option (List ℕ)) (reads : ℕ) → Walks left reads (record { left = left; reads = reads; blocks = result }) [] }
+    {
+        BlockReader {
+            decoder: Decoder::new(alloc),
+            buffer: [0u8; PIECE],
+            turns: 0,
+        }
+    }
+
+    // Reads a piece behind which blocks may end. Says whether there was one.
+    fn fill<R: Source>(&mut self, reader: &mut R) -> Result<bool, RunFault>
+        requires works { R.has_failed reader.old ≡ false }
+        requires none { self.old.decoder.waiting ≡ [] }
+        ensures goes { result ≡ Ok true → Goes (place R.remaining R.reads reader.old self.old) (place R.remaining R.reads reader.new self.new) [] }
+        ensures early { result ≡ Ok true → self.old.turns < 1000000 }
+        ensures turn { result ≡ Ok true → self.new.turns ≡ self.old.turns + 1 }
+        ensures end { result ≡ Ok false → EndsAt (place R.remaining R.reads reader.old self.old) Between }
+        ensures truncated { IsErrOf result (RunFault.Frame 3) → (t : List ℕ) × EndsAt (place R.remaining R.reads reader.old self.old) (Within t) }
+        ensures too_long { IsErrOf result (RunFault.Frame 2) → EndsAt (place R.remaining R.reads reader.old self.old) Overlong }
+        ensures turns { IsErrOf result RunFault.Turns → 1000000 ≤ self.new.turns }
+        ensures turned { IsErrOf result RunFault.Turns
+            → Goes (place R.remaining R.reads reader.old self.old) (place R.remaining R.reads reader.new self.new) [] }
+        ensures read { IsErrOf result RunFault.Read ↔ IsTrue (R.has_failed reader.new) }
+        ensures kinds { IfErr result OfReading }
+    {
+        if self.decoder.at_end() == Err(FrameFault::TooLong) {
+            return Err(RunFault::Frame(2));
+        }
+        if self.turns >= READS {
+            return Err(RunFault::Turns);
+        }
+        let Ok(count) = reader.read(&mut self.buffer) else {
+            return Err(RunFault::Read);
+        };
+        if count == 0 {
+            end_of(&self.decoder)?;
+            return Ok(false);
+        }
+        take_piece(&mut self.decoder, &self.buffer[..count])?;
+        self.turns += 1;
+        Ok(true)
+    }
+
+    /// The next block of the stream, or that it has no more.
+    pub(crate) fn next<R: Source>(&mut self, reader: &mut R) -> Result<Option<Vec<u8>>, RunFault>
+        requires works { R.has_failed reader.old ≡ false }
+        ensures goes { IfOk result (λ r. IfSome r (λ content.
+            Goes (place R.remaining R.reads reader.old self.old) (place R.remaining R.reads reader.new self.new) (content.items ∷ []))) }
+        ensures end { IfOk result (λ r. IfNone r (EndsAt (place R.remaining R.reads reader.old self.old) Between)) }
+        ensures truncated { IsErrOf result (RunFault.Frame 3) → (t : List ℕ) × EndsAt (place R.remaining R.reads reader.old self.old) (Within t) }
+        ensures too_long { IsErrOf result (RunFault.Frame 2) → EndsAt (place R.remaining R.reads reader.old self.old) Overlong }
+        ensures turns { IsErrOf result RunFault.Turns → 1000000 ≤ self.new.turns }
+        ensures turned { IsErrOf result RunFault.Turns
+            → Goes (place R.remaining R.reads reader.old self.old) (place R.remaining R.reads reader.new self.new) [] }
+        ensures read { IsErrOf result RunFault.Read ↔ IsTrue (R.has_failed reader.new) }
+        ensures kinds { IfErr result OfReading }
+    {
+        'pieces: loop {
+            if let Some(content) = self.decoder.next_block() {
+                return Ok(Some(content));
+            }
+            if !self.fill(reader)? {
+                return Ok(None);
+            }
+        }
+    }
+}

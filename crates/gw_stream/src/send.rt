@@ -1,0 +1,79 @@
+//! Bytes to sinks.
+ghost use Rattle.std.specs.Prelude.{◌≡◌, ◌↔◌, ◌<◌, ◌∷◌, [], IsTrue, IsErr, OnOk, OnErr, false, length, map};
+ghost use Rattle.std.specs.List.{list_any};
+ghost use Rattle.std.specs.Io.KnownBytes.{Appends};
+ghost use Rattle.gw_stream.specs.Bundled.{AreWithin, post, posts};
+ghost use Rattle.gw_stream.specs.Posts.{Sends, SendsOut, SendsSome, SendsSomeOut, known, receiver, some_failed};
+ghost use Rattle.gw_stream.specs.Sent.{SendsPart};
+
+use crate::bundle::Bundle;
+use crate::parcel::Parcel;
+use crate::sink::Sink;
+use crate::source::Failed;
+
+/// Writes all the bytes, or as many as the sink takes before it fails. Where it takes all at once, they go out in one write.
+pub fn send_all<W: Sink>(writer: &mut W, bytes: &[u8]) -> Result<(), Failed>
+    requires { W.has_failed writer.old ≡ false }
+    ensures ok { OnOk result (Appends (W.contents writer.old) (W.contents writer.new) bytes.now) }
+    ensures part { OnErr result (SendsPart (W.contents writer.old) (W.contents writer.new) bytes.now) }
+    ensures failed { IsTrue (W.has_failed writer.new) ↔ IsErr result }
+{
+    let mut sent = 0;
+    'pieces: for _turn in 0..bytes.len() {
+        if sent == bytes.len() {
+            return Ok(());
+        }
+        let rest = &bytes[sent..];
+        sent += writer.write(rest)?;
+    }
+    Ok(())
+}
+
+/// Writes all the bytes to the writer of a receiver.
+fn send_to<W: Sink>(outs: &mut Vec<W>, number: usize, bytes: &[u8]) -> Result<(), Failed>
+    requires within { number < length outs.old.items }
+    requires works { list_any W.has_failed outs.old.items ≡ false }
+    ensures count { length outs.new.items ≡ length outs.old.items }
+    ensures ok { OnOk result (SendsOut (record { whom = receiver number; bytes = bytes.now } ∷ [])
+        (map W.contents outs.old.items) (map W.contents outs.new.items)) }
+    ensures part { OnErr result (SendsSomeOut (record { whom = receiver number; bytes = bytes.now } ∷ [])
+        (map W.contents outs.old.items) (map W.contents outs.new.items)) }
+    ensures failed { IsTrue (list_any W.has_failed outs.new.items) ↔ IsErr result }
+{
+    send_all(&mut outs[number], bytes)
+}
+
+/// Writes the receivers' blocks in order.
+fn send_parcels<W: Sink>(outs: &mut Vec<W>, parcels: &[Parcel]) -> Result<(), Failed>
+    requires within { AreWithin (length outs.old.items) parcels.now }
+    requires works { list_any W.has_failed outs.old.items ≡ false }
+    ensures count { length outs.new.items ≡ length outs.old.items }
+    ensures ok { OnOk result (SendsOut (map post parcels.now) (map W.contents outs.old.items) (map W.contents outs.new.items)) }
+    ensures part { OnErr result (SendsSomeOut (map post parcels.now) (map W.contents outs.old.items) (map W.contents outs.new.items)) }
+    ensures failed { IsTrue (list_any W.has_failed outs.new.items) ↔ IsErr result }
+{
+    'parcels: for parcel in parcels {
+        send_to(outs, parcel.receiver, &parcel.block)?;
+    }
+    Ok(())
+}
+
+/// Writes the receivers' blocks in order, and then the answer's. Each goes out in one write where its writer takes it.
+pub(crate) fn send_bundle<A: Sink, W: Sink>(
+    answers: &mut A,
+    outs: &mut Vec<W>,
+    bundle: &Bundle,
+) -> Result<(), Failed>
+    requires answers { A.has_failed answers.old ≡ false }
+    requires outs { list_any W.has_failed outs.old.items ≡ false }
+    requires within { AreWithin (length outs.old.items) bundle.now.parcels.items }
+    ensures count { length outs.new.items ≡ length outs.old.items }
+    ensures ok { OnOk result (Sends (posts bundle.now)
+        (known A.contents W.contents answers.old outs.old.items) (known A.contents W.contents answers.new outs.new.items)) }
+    ensures part { OnErr result (SendsSome (posts bundle.now)
+        (known A.contents W.contents answers.old outs.old.items) (known A.contents W.contents answers.new outs.new.items)) }
+    ensures failed { IsTrue (some_failed A.has_failed W.has_failed answers.new outs.new.items) ↔ IsErr result }
+{
+    send_parcels(outs, &bundle.parcels)?;
+    send_all(answers, &bundle.block)
+}
