@@ -6,4 +6,3 @@ pub mod Swapping
 pub mod Streams
 pub mod Carries
 pub mod Turns
-pub mod Sessions

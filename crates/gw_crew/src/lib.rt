@@ -18,6 +18,6 @@ pub use couriers::courier;
 pub use door::{Door, Phase};
 pub use note::{Note, Receipt};
 pub use pause::Pause;
-pub use solo::Solo;
+pub use solo::{Solo, step};
 pub use swaps::{SwapFault, swap};
 pub use workers::worker;

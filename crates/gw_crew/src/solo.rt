@@ -72,8 +72,8 @@ fn event_of(reply: Reply) -> Event
     }
 }
 
-// One step of the gate, with its note.
-fn step(gate: &mut Gate, event: Event) -> Result<(Reply, Option<Note>), Event>
+/// One step of a gate, with its note. An error is want of memory: the event comes back, and nothing changed.
+pub fn step(gate: &mut Gate, event: Event) -> Result<(Reply, Option<Note>), Event>
     ensures { StepsOnce gate.old (event_seen event) result gate.new }
 {
     // (their clauses tell that the journal starts at 0 and is lawful)

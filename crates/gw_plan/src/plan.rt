@@ -150,8 +150,8 @@ impl Plan {
         are_same(&self.receivers, &other.receivers)
     }
 
-    // It is the meaning of its text, by its type.
-    pub(crate) fn is_spelled(&self)
+    /// It is the meaning of its text, by its type. It takes no memory.
+    pub fn is_spelled(&self)
         ensures { spelled self.now.text ≡ Ok (plan_value self.now) }
     {
         let _ = &self.text;
