@@ -17,7 +17,7 @@ const PIECE: usize = 65_536;
 
 /// Reads a stream, and gives its blocks one by one.
 #[derive(Drop)]
-pub(crate) struct BlockReader {
+pub struct BlockReader {
     decoder: Decoder,
     buffer: [u8; PIECE],
     turns: usize,
@@ -49,8 +49,8 @@ fn end_of(decoder: &Decoder) -> Result<(), RunFault>
 }
 
 impl BlockReader {
-    /// Before the first read.
-    pub(crate) fn new(alloc: Global) -> BlockReader
+    /// Before the first read. It takes no memory.
+    pub fn new(alloc: Global) -> BlockReader
         ensures { (left : Option (List ℕ)) (reads : ℕ) → Walks left reads (record { left = left; reads = reads; blocks = result }) [] }
     {
         BlockReader {
@@ -95,7 +95,7 @@ impl BlockReader {
     }
 
     /// The next block of the stream, or that it has no more.
-    pub(crate) fn next<R: Source>(&mut self, reader: &mut R) -> Result<Option<Vec<u8>>, RunFault>
+    pub fn next<R: Source>(&mut self, reader: &mut R) -> Result<Option<Vec<u8>>, RunFault>
         requires works { R.has_failed reader.old ≡ false }
         ensures goes { IfOk result (λ r. IfSome r (λ content.
             Goes (place R.remaining R.reads reader.old self.old) (place R.remaining R.reads reader.new self.new) (content.items ∷ []))) }

@@ -10,7 +10,8 @@ ghost use Rattle.gw_plan.specs.Held.{plan_value};
 ghost use Rattle.gw_stream.specs.Bundled.{AreParcels, AreWithin, Bundles};
 
 use crate::answer::answer_unreadable;
-use crate::parcel::{Parcel, framed, parcels};
+use crate::frame::framed;
+use crate::parcel::{Parcel, parcels};
 use gw_ack::{Ack, Header, Stamp, accept_ack, error_ack, reject_ack};
 use gw_er7::{Message, ReadFault, read};
 use gw_plan::{Conforming, Plan, Refusal, admit};

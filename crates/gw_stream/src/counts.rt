@@ -31,7 +31,7 @@ impl Counts {
     }
 
     /// Counts an answer of this code.
-    pub(crate) fn add(&mut self, code: Ack)
+    pub fn add(&mut self, code: Ack)
         requires total { IsTotal self.old }
         requires room { self.old.answered < 2 ^ 60 }
         ensures { self.new ≡ with_answer code self.old }

@@ -9,6 +9,7 @@ mod block_reader;
 mod bundle;
 mod counts;
 mod fault;
+mod frame;
 pub mod laws;
 mod parcel;
 mod reads;
@@ -18,6 +19,7 @@ mod source;
 mod stream;
 mod writes;
 
+pub use block_reader::BlockReader;
 pub use counts::Counts;
 pub use fault::RunFault;
 pub use reads::Reads;

@@ -1,15 +1,14 @@
 //! What receivers are sent of a message.
 ghost use Rattle.std.specs.Prelude.{◌≡◌, ◌<◌, IfOk, Ok, length};
 ghost use Rattle.std.specs.Arc.{arc_value};
-ghost use Rattle.gw_mllp.specs.Stream.{HasNoEnd, block};
 ghost use Rattle.gw_plan.specs.Admitted.{IsOf};
 ghost use Rattle.gw_plan.specs.Held.{plan_value};
 ghost use Rattle.gw_plan.specs.Routing.{routed};
 ghost use Rattle.gw_plan.specs.Shapes.{RouteValue};
 ghost use Rattle.gw_stream.specs.Bundled.{AreParcels, AreWithin, IsParcel};
 
+use crate::frame::framed;
 use gw_er7::{write, written_is_read};
-use gw_mllp::write_block;
 use gw_plan::{Conforming, translate_for};
 use std::alloc::{AllocError, Global};
 use std::sync::Arc;
@@ -19,16 +18,6 @@ use std::sync::Arc;
 pub(crate) struct Parcel {
     pub(crate) receiver: usize,
     pub(crate) block: Vec<u8>,
-}
-
-/// The block of a content.
-pub(crate) fn framed(alloc: Global, content: &[u8]) -> Result<Vec<u8>, AllocError>
-    requires { HasNoEnd content.now }
-    ensures { IfOk result (λ framed. framed.items ≡ block content.now) }
-{
-    let mut framed = Vec::new(alloc);
-    write_block(&mut framed, content)?;
-    Ok(framed)
 }
 
 /// What one receiver of its route is sent of an admitted message.

@@ -20,11 +20,11 @@ use crate::block_reader::BlockReader;
 use crate::bundle::{Bundle, serve};
 use crate::counts::Counts;
 use crate::fault::RunFault;
+use crate::frame::framed;
 use crate::send::{send_all, send_bundle};
 use crate::sink::Sink;
 use crate::source::{Failed, Source};
 use gw_ack::Stamp;
-use gw_mllp::write_block;
 use gw_plan::Plan;
 use gw_profile::Profile;
 use std::alloc::Global;
@@ -48,9 +48,8 @@ fn answer_content<W: Sink>(
     ensures kinds { IfErr result (λ e. (e ≡ RunFault.Memory) ⊎ (e ≡ RunFault.Write)) }
 {
     let (code, reply) = answer(alloc, profile, stamp, counts.answered + 1, content)?;
-    let mut framed = Vec::new(alloc);
-    write_block(&mut framed, &reply)?;
-    match send_all(writer, &framed) {
+    let block = framed(alloc, &reply)?;
+    match send_all(writer, &block) {
         Ok(()) => {
             counts.add(code);
             Ok(())
