@@ -1,0 +1,5 @@
+pub mod Asking
+pub mod Judging
+pub mod Arriving
+pub mod Dealing
+pub mod Going

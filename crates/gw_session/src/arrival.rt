@@ -1,0 +1,91 @@
+//! How a message arrives.
+ghost use Rattle.std.specs.Prelude.{◌≡◌, IfOk, OnErr, Some};
+ghost use Rattle.std.specs.Arc.{arc_value};
+ghost use Rattle.gw_crew.specs.Turns.{Adds};
+ghost use Rattle.gw_gate.specs.Seen.{plan_seen};
+ghost use Rattle.gw_session.specs.Sessions.{IsCutShort, IsTurn};
+ghost use Rattle.gw_session.specs.Steps.{Asks, Attempts, CutsShort, Judges, MayLook, attempt_seen, judgement_seen, reply_of};
+
+use crate::doors::{Came, Current, arrive, look, refuse};
+use crate::turn::{INTERNAL, Said, Turn, Why};
+use gw_crew::Door;
+use gw_er7::Message;
+use gw_plan::{Conforming, Refusal, admit};
+use std::alloc::{AllocError, Global};
+use std::sync::Arc;
+
+/// How often a message arrives that is stale each time.
+const TRIES: usize = 4;
+
+// What the plan in force says of a message.
+#[derive(Drop)]
+enum Judgement {
+    Admitted(Arc<Conforming>),
+    Refused(Why),
+}
+
+// What came of an arrival: it is settled, or the message was stale, and comes back.
+#[derive(Drop)]
+enum Attempt {
+    Done(Turn),
+    Stale(Message),
+}
+
+// What the plan in force says of a message.
+fn judge(alloc: Global, current: &Current, message: Message) -> Result<Judgement, AllocError>
+    ensures { IfOk result (λ judgement. Judges message current.now.version (plan_seen (arc_value current.now.plan)) (judgement_seen judgement)) }
+{
+    current.plan.is_spelled();
+    match admit(alloc, &current.plan, current.version, message) {
+        Ok(conforming) => Ok(Judgement::Admitted(conforming)),
+        Err(Refusal::Memory(_message)) => Err(AllocError),
+        Err(Refusal::Route(code, _message)) => Ok(Judgement::Refused(Why::Rejected(code))),
+        Err(Refusal::Breaks(breach, _message)) => Ok(Judgement::Refused(Why::Breaks(breach))),
+    }
+}
+
+// Looks up the plan in force, and asks what it says of a message.
+fn ask<D: Door>(alloc: Global, door: &mut D, message: Message) -> Result<Judgement, AllocError>
+    ensures asked { IfOk result (λ judgement. Adds (Asks message (judgement_seen judgement)) (D.noted door.old) (D.noted door.new)) }
+    ensures err { OnErr result (Adds MayLook (D.noted door.old) (D.noted door.new)) }
+{
+    let current = look(door)?;
+    judge(alloc, &current, message)
+}
+
+// Has a message arrive once, under the plan in force.
+fn try_once<D: Door>(alloc: Global, door: &mut D, message: Message) -> Result<Attempt, AllocError>
+    ensures tried { IfOk result (λ attempt. Adds (Attempts message (attempt_seen attempt)) (D.noted door.old) (D.noted door.new)) }
+    ensures err { OnErr result (Adds (CutsShort message) (D.noted door.old) (D.noted door.new)) }
+{
+    match ask(alloc, door, message)? {
+        Judgement::Refused(why) => Ok(Attempt::Done(refuse(door, why)?)),
+        Judgement::Admitted(conforming) => match arrive(door, conforming)? {
+            Came::Accepted(number) => Ok(Attempt::Done(Turn {
+                number,
+                said: Said::Accepted,
+            })),
+            Came::Full => Ok(Attempt::Done(Turn::without_room())),
+            Came::Stale(conforming) => Ok(Attempt::Stale(conforming.message().copy(alloc)?)),
+        },
+    }
+}
+
+/// Has a message arrive, under the plan in force each time: where it is stale, again, four times at most; then it is rejected.
+pub(crate) fn arrive_in_time<D: Door>(
+    alloc: Global,
+    door: &mut D,
+    message: Message,
+) -> Result<Turn, AllocError>
+    ensures turn { IfOk result (λ turn. Adds (λ notes. IsTurn (Some message) notes turn.number (reply_of turn.said)) (D.noted door.old) (D.noted door.new)) }
+    ensures err { OnErr result (Adds (IsCutShort (Some message)) (D.noted door.old) (D.noted door.new)) }
+{
+    let mut message = message;
+    'tries: for _try in 0..TRIES {
+        match try_once(alloc, door, message)? {
+            Attempt::Done(turn) => return Ok(turn),
+            Attempt::Stale(back) => message = back,
+        }
+    }
+    refuse(door, Why::Rejected(INTERNAL))
+}

@@ -1,0 +1,30 @@
+//! A clock that stands still.
+use gw_ack::Stamp;
+use gw_crew::Clock;
+
+/// A clock that stands still: each of its stamps is the same.
+#[derive(Clone, Copy)]
+pub struct FixedClock {
+    stamp: Stamp,
+}
+
+impl FixedClock {
+    ghost use Rattle.std.specs.Prelude.{◌≡◌, ◌↔◌, ℕ, List};
+
+    /// The clock that stands at this stamp. It takes no memory.
+    pub fn new(stamp: Stamp) -> FixedClock
+        ensures { (given : List ℕ) → ⟦<FixedClock as Clock>⟧.gives result given ↔ (given ≡ stamp) }
+    {
+        FixedClock { stamp }
+    }
+}
+
+impl Clock for FixedClock {
+    ghost use Rattle.std.specs.Prelude.{◌≡◌};
+
+    ghost gives = { λ c given. given ≡ c.stamp };
+
+    fn stamp(&mut self) -> Stamp {
+        self.stamp
+    }
+}
