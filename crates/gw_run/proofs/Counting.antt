@@ -1,0 +1,94 @@
+-- Entries are counted as they are noted.
+use Rattle.std.proofs.Common.{◌≡◌, ◌+◌, ℕ, List, [], ◌∷◌, ◌++◌, Option, None, Some, length, refl, sym, ap, ◌∙◌, arith, length-append}
+use Rattle.std.specs.Prelude.{filter_map, Result, Ok, Err}
+use Rattle.std.specs.Option.{option_map, option_to_list}
+use Rattle.std.proofs.lemmas.List.{map-append}
+use Rattle.gw_gate.specs.Journal.{EntrySeen, Journal, end}
+use Rattle.gw_gate.specs.Replies.{EventSeen, Looks, Arrives, Refuses, Swaps, Takes, Puts, Reissues, Releases, added, with_added, reply}
+use Rattle.gw_gate.specs.Replies.{ReplySeen, IsCurrent, IsAccepted, IsStale, IsRefused, IsSwapped, IsUnlike, IsJob, IsIdle, IsKept, IsRepeat, IsStranger}
+use Rattle.gw_gate.specs.Replies.{IsIssued, IsDone, IsOut, IsNothing, IsFull}
+use Rattle.gw_gate.specs.declared.event.Event.{Event}
+use Rattle.gw_gate.specs.declared.event.Reply.{Reply}
+use Rattle.gw_crew.specs.declared.note.Note.{Note}
+use Rattle.gw_crew.specs.Notes.{NoteSeen, Looked, WasStale, WasFull, WasIdle, WasNothing, Added, plain_note, note_or}
+use Rattle.gw_crew.specs.Seen.{note_seen, notes_seen}
+use Rattle.gw_crew.specs.Solos.{StepsOnce, Stepped}
+use Rattle.gw_run.specs.Passes.{receipts, added_by, counted_by}
+
+-- ---- notes
+
+pub receipts-append : (xs ys : List NoteSeen) → receipts (xs ++ ys) ≡ receipts xs ++ receipts ys
+receipts-append [] ys = refl
+receipts-append (Added at e ∷ xs) ys = ap (λ l. record { at = at; entry = e } ∷ l) (receipts-append xs ys)
+receipts-append (Looked v p ∷ xs) ys = receipts-append xs ys
+receipts-append (WasStale v c ∷ xs) ys = receipts-append xs ys
+receipts-append (WasFull ∷ xs) ys = receipts-append xs ys
+receipts-append (WasIdle ∷ xs) ys = receipts-append xs ys
+receipts-append (WasNothing r ∷ xs) ys = receipts-append xs ys
+
+plain_adds_none : (event : EventSeen) (given : ReplySeen) → added_by (plain_note event given) ≡ 0
+plain_adds_none event (IsCurrent v p) = refl
+plain_adds_none event (IsAccepted n arrival) = refl
+plain_adds_none event (IsStale v c) = refl
+plain_adds_none event (IsRefused arrival) = refl
+plain_adds_none event (IsSwapped v) = refl
+plain_adds_none event (IsUnlike p) = refl
+plain_adds_none event (IsJob n r c) = refl
+plain_adds_none event IsIdle = refl
+plain_adds_none event IsKept = refl
+plain_adds_none event (IsRepeat t) = refl
+plain_adds_none event (IsStranger t) = refl
+plain_adds_none event IsIssued = refl
+plain_adds_none event IsDone = refl
+plain_adds_none event (IsOut n t) = refl
+plain_adds_none event (IsFull back) = refl
+plain_adds_none Looks IsNothing = refl
+plain_adds_none (Arrives c) IsNothing = refl
+plain_adds_none (Refuses code) IsNothing = refl
+plain_adds_none (Swaps p) IsNothing = refl
+plain_adds_none Takes IsNothing = refl
+plain_adds_none (Puts n t) IsNothing = refl
+plain_adds_none (Reissues n r) IsNothing = refl
+plain_adds_none (Releases r) IsNothing = refl
+
+-- ---- a step
+
+grows : (j : Journal) (o : Option EntrySeen) (k : ℕ) (plain : Option NoteSeen) → added_by plain ≡ 0
+    → length (with_added j o).entries ≡ length j.entries + added_by (note_or k plain o)
+grows j None k plain none = omega (arith, none)
+grows j (Some e) k plain none = length-append j.entries (e ∷ [])
+
+stepped_grows : (before after : Journal) (event : EventSeen) (given : ReplySeen) (note : Option NoteSeen) → Stepped before event given note after
+    → length after.entries ≡ length before.entries + added_by note
+stepped_grows before after event given note step =
+    let added_is : added event (reply before event) ≡ added event given = ap (added event) (sym step.replied.reply_is) in
+    ap (λ (j : Journal). length j.entries) (step.replied.new_is ∙ ap (with_added before) added_is)
+    ∙ grows before (added event given) (end before) (plain_note event given) (plain_adds_none event given)
+    ∙ ap (λ o. length before.entries + added_by o) (sym step.note_is)
+
+-- the journal has as many entries more as the step's note tells of
+pub step_grows : (before after : Journal) (event : EventSeen) (result : Result (Reply × Option Note) Event) → StepsOnce before event result after
+    → length after.entries ≡ length before.entries + counted_by result
+step_grows before after event (Ok answer) step = stepped_grows before after event _ _ step
+step_grows before after event (Err back) step = let same = ap (λ (j : Journal). length j.entries) step.after_is in omega (arith, same)
+
+-- ---- a pass
+
+-- the receipts of notes with one more
+pub one_more : (items more : List Note) (n : Note) → more ≡ items ++ n ∷ []
+    → length (receipts (notes_seen more)) ≡ length (receipts (notes_seen items)) + added_by (Some (note_seen n))
+one_more items more n is =
+    ap (λ l. length (receipts (notes_seen l))) is
+    ∙ ap (λ l. length (receipts l)) (map-append note_seen items (n ∷ []))
+    ∙ ap length (receipts-append (notes_seen items) (note_seen n ∷ []))
+    ∙ length-append (receipts (notes_seen items)) (receipts (note_seen n ∷ []))
+
+-- a share that counted the notes counts one more
+pub counts_on : (items same more : List Note) (n : Note) (was now : ℕ) (answer : Result (Reply × Option Note) Event) (reply : Reply) (note : Option Note)
+    → was ≡ length (receipts (notes_seen items)) → now ≡ was + counted_by answer → answer ≡ Ok (reply, note) → note ≡ Some n → same ≡ items → more ≡ same ++ n ∷ []
+    → now ≡ length (receipts (notes_seen more))
+counts_on items same more n was now answer reply note counted amount is some kept added =
+    let by : counted_by answer ≡ added_by (Some (note_seen n)) = ap counted_by is ∙ ap (λ o. added_by (option_map note_seen o)) some in
+    let grown = one_more same more n added in
+    let stays : length (receipts (notes_seen same)) ≡ length (receipts (notes_seen items)) = ap (λ l. length (receipts (notes_seen l))) kept in
+    omega (arith, counted, amount, by, grown, stays)

@@ -1,0 +1,3 @@
+pub mod Passes
+pub mod Settled
+pub mod Rows

@@ -1,0 +1,51 @@
+-- Notes about a toy's journals.
+use Rattle.std.specs.Prelude.{List, [], ◌∷◌}
+use Rattle.gw_gate.specs.Journal.{Journal, WasAccepted, WasSwapped, WasTaken, WasKept, WasOut}
+use Rattle.gw_gate.specs.Replies.{Looks, Arrives, Swaps, Takes, Puts, Releases, run, most}
+use Rattle.gw_gate.specs.Toy.{first_plan, second_plan, message, made, opened}
+use Rattle.gw_crew.specs.Notes.{NoteSeen, Looked, WasStale, WasFull, WasIdle, WasNothing, Added}
+
+-- ---- two workers, beside the session that brought two messages
+
+abbrev pub session : List NoteSeen
+session = Looked 0 first_plan ∷ Added 0 (WasAccepted 0 1 (message 10)) ∷ Looked 0 first_plan ∷ Added 1 (WasAccepted 1 2 (message 11)) ∷ []
+
+abbrev pub one_worker : List NoteSeen
+one_worker = Added 2 (WasTaken 0 0) ∷ Added 5 (WasKept 0 (made 10)) ∷ WasIdle ∷ []
+
+abbrev pub other_worker : List NoteSeen
+other_worker = Added 3 (WasTaken 1 0) ∷ WasIdle ∷ Added 4 (WasKept 1 (made 11)) ∷ []
+
+-- it found no pair to be taken, and then took one that was there since before
+abbrev pub idle_worker : List NoteSeen
+idle_worker = WasIdle ∷ Added 3 (WasTaken 1 0) ∷ Added 4 (WasKept 1 (made 11)) ∷ []
+
+-- it tells of what the other one did too
+abbrev pub boasting_worker : List NoteSeen
+boasting_worker = Added 3 (WasTaken 1 0) ∷ WasIdle ∷ Added 4 (WasKept 1 (made 11)) ∷ Added 5 (WasKept 0 (made 10)) ∷ []
+
+-- it tells of another result
+abbrev pub lying_worker : List NoteSeen
+lying_worker = Added 3 (WasTaken 1 0) ∷ WasIdle ∷ Added 4 (WasKept 1 (made 12)) ∷ []
+
+-- ---- a swap in traffic
+
+abbrev pub swapped : Journal
+swapped = run most opened (Arrives (message 10) ∷ Swaps second_plan ∷ Takes ∷ Puts 0 (made 10) ∷ Releases 0 ∷ [])
+
+abbrev pub through_swap : List NoteSeen
+through_swap =
+    Looked 0 first_plan ∷ Added 0 (WasAccepted 0 1 (message 10)) ∷ Added 1 (WasSwapped 1 second_plan) ∷ WasStale 1 (message 11) ∷ Looked 1 second_plan
+    ∷ Added 2 (WasTaken 0 0) ∷ WasIdle ∷ WasNothing 0 ∷ Added 3 (WasKept 0 (made 10)) ∷ Added 4 (WasOut 0 0 (made 10)) ∷ WasNothing 0 ∷ []
+
+-- the opening plan is told of though another was swapped in
+abbrev pub late_look : List NoteSeen
+late_look = Added 1 (WasSwapped 1 second_plan) ∷ Looked 0 first_plan ∷ []
+
+-- nothing was to be given out though a result was kept
+abbrev pub late_nothing : List NoteSeen
+late_nothing = Added 3 (WasKept 0 (made 10)) ∷ WasNothing 0 ∷ Added 4 (WasOut 0 0 (made 10)) ∷ []
+
+-- a message was stale though its plan was in force
+abbrev pub false_stale : List NoteSeen
+false_stale = WasStale 0 (message 10) ∷ Added 0 (WasAccepted 0 1 (message 10)) ∷ []

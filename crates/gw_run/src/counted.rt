@@ -1,0 +1,51 @@
+//! A gate whose passes have ended.
+ghost use Rattle.std.specs.Prelude.{◌≡◌, ◌≤◌, length};
+
+use gw_gate::Gate;
+use std::marker::Model;
+use std::sync::ledger::{Book, Ledger};
+
+/// A gate whose passes have ended, with the book of the entries that they added.
+#[derive(Drop)]
+pub struct Counted<L: Ledger> {
+    gate: Gate,
+    since: usize,
+    book: Book<L>,
+}
+
+impl<L: Ledger> Model for Counted<L> {
+    ghost use Rattle.std.specs.Prelude.{◌≡◌, ◌+◌, length};
+    ghost use Rattle.gw_run.specs.Passes.{CountedSeen};
+
+    ghost Value = { CountedSeen };
+
+    ghost view = { λ c. record { gate = c.gate; since = c.since; total = c.book.total } };
+
+    ghost invariant = { λ c. c.since + c.book.total ≡ length c.gate.entries };
+}
+
+impl<L: Ledger> Counted<L> {
+    ghost use Rattle.std.specs.Prelude.{◌≡◌, ◌+◌, length};
+
+    pub(crate) fn of(gate: Gate, since: usize, book: Book<L>) -> Self
+        requires { since + book.total ≡ length gate.entries }
+        ensures { result ≡ record { gate = gate; since = since; total = book.total } }
+    {
+        Counted { gate, since, book }
+    }
+
+    /// The gate. It takes no memory.
+    pub fn gate(&self) -> &Gate
+        ensures { result.now ≡ self.now.gate }
+    {
+        &self.gate
+    }
+
+    /// How many entries its journal had before the passes; the book has the others. It takes no memory.
+    pub fn since(&self) -> usize
+        ensures since { result ≡ self.now.since }
+        ensures counted { result + self.now.total ≡ length self.now.gate.entries }
+    {
+        self.since
+    }
+}

@@ -1,0 +1,20 @@
+//! A gate behind its lock, and all that works at it.
+//!
+//! Threads step a [`LockedGate`] one event at a time, each through a [`Pass`] of its own, which notes the replies.
+//! What works at any door, and streams, are told of here too, for those who need no other crate of their layers.
+#![tactic(auto)]
+
+mod counted;
+pub mod laws;
+mod locked;
+mod pass;
+
+pub use counted::Counted;
+pub use gw_crew::{
+    Clock, Door, Note, Pause, Phase, Receipt, Solo, SwapFault, courier, swap, worker,
+};
+pub use gw_stream::{
+    Counts, Failed, Reads, RunFault, Sink, Source, Writes, answer_stream, serve_once,
+};
+pub use locked::LockedGate;
+pub use pass::{Pass, Receipts};

@@ -1,0 +1,135 @@
+//! A thread's way to a locked gate, and what is left of it.
+ghost use Rattle.std.specs.Prelude.{◌≡◌, ◌<◌, []};
+ghost use Rattle.gw_run.specs.Passes.{IsCounted};
+ghost use Rattle.gw_crew.specs.Seen.{notes_seen};
+
+use crate::locked::LockedGate;
+use gw_crew::{Door, Note, Phase};
+use gw_gate::{Event, Reply};
+use std::alloc::Global;
+use std::marker::Model;
+use std::sync::Wait;
+use std::sync::ledger::{Ledger, Share};
+
+/// A thread's way to a locked gate. Its share counts the receipts among its notes.
+#[derive(Drop)]
+pub struct Pass<'a, L: Ledger, R: Wait> {
+    gate: &'a LockedGate<L>,
+    rt: &'a R,
+    share: Share<L>,
+    notes: Vec<Note>,
+    seen: usize,
+}
+
+impl<'a, L: Ledger, R: Wait> Model for Pass<'a, L, R> {
+    ghost use Rattle.gw_crew.specs.Seen.{notes_seen};
+    ghost use Rattle.gw_run.specs.Passes.{PassSeen, MayCount};
+
+    ghost Value = { PassSeen };
+
+    ghost view = { λ p. record { parts = p.share.parts; amount = p.share.amount; notes = notes_seen p.notes.items } };
+
+    ghost invariant = { λ p. MayCount (record { parts = p.share.parts; amount = p.share.amount; notes = notes_seen p.notes.items }) };
+}
+
+/// What a pass leaves: its share, which counts the receipts among its notes, and the notes in order.
+#[derive(Drop)]
+pub struct Receipts<L: Ledger> {
+    share: Share<L>,
+    notes: Vec<Note>,
+}
+
+impl<L: Ledger> Model for Receipts<L> {
+    ghost use Rattle.gw_crew.specs.Seen.{notes_seen};
+    ghost use Rattle.gw_run.specs.Passes.{PassSeen, IsCounted};
+
+    ghost Value = { PassSeen };
+
+    ghost view = { λ r. record { parts = r.share.parts; amount = r.share.amount; notes = notes_seen r.notes.items } };
+
+    ghost invariant = { λ r. IsCounted (record { parts = r.share.parts; amount = r.share.amount; notes = notes_seen r.notes.items }) };
+}
+
+impl<L: Ledger> Receipts<L> {
+    ghost use Rattle.std.specs.Prelude.{◌≡◌};
+    ghost use Rattle.gw_crew.specs.Seen.{notes_seen};
+    ghost use Rattle.gw_run.specs.Passes.{IsCounted};
+
+    /// The notes, in order. It takes no memory.
+    pub fn notes(&self) -> &[Note]
+        ensures notes { notes_seen result.now ≡ self.now.notes }
+        ensures counted { IsCounted self.now }
+    {
+        self.notes.as_slice()
+    }
+}
+
+impl<'a, L: Ledger, R: Wait> Pass<'a, L, R> {
+    ghost use Rattle.std.specs.Prelude.{◌≡◌, ◌<◌, []};
+
+    pub(crate) fn new(alloc: Global, gate: &'a LockedGate<L>, rt: &'a R, share: Share<L>) -> Self
+        requires part { 0 < share.parts }
+        requires none { share.amount ≡ 0 }
+        ensures { result ≡ record { parts = share.parts; amount = 0; notes = [] } }
+    {
+        Pass {
+            gate,
+            rt,
+            share,
+            notes: Vec::new(alloc),
+            seen: 0,
+        }
+    }
+
+    /// The share and the notes. It takes no memory.
+    pub fn end(self) -> Receipts<L>
+        ensures { result ≡ self.entry }
+    {
+        let Pass { share, notes, .. } = self;
+        Receipts { share, notes }
+    }
+}
+
+impl<'a, L: Ledger, R: Wait> Door for Pass<'a, L, R> {
+    ghost use Rattle.std.specs.Prelude.{◌≡◌};
+    ghost use Rattle.gw_gate.specs.Values.{event_seen, answer_seen};
+    ghost use Rattle.gw_crew.specs.Notes.{Calls};
+    ghost use Rattle.gw_run.specs.Passes.{IsCounted};
+
+    ghost noted = { λ p. p.notes };
+
+    /// One step of the gate under the lock. An entry is noted with its receipt, and counted by the share.
+    fn call(&mut self, event: Event) -> Result<Reply, Event>
+        ensures calls { Calls self.old.notes (event_seen event) (answer_seen result) self.new.notes }
+        ensures counted { IsCounted self.new }
+        ensures parts { self.new.parts ≡ self.old.parts }
+    {
+        if self.notes.reserve(1).is_err() {
+            return Err(event);
+        }
+        let (answer, entries) = self.gate.step(self.rt, event, &mut self.share);
+        self.seen = entries;
+        match answer {
+            Err(event) => Err(event),
+            Ok((reply, note)) => match note {
+                None => Ok(reply),
+                Some(note) => {
+                    self.notes.push_reserved(note);
+                    Ok(reply)
+                }
+            },
+        }
+    }
+
+    /// True at once where an entry was added since the last call, else false where the phase was reached, else true after a sleep.
+    fn wait(&mut self, phase: Phase) -> bool
+        ensures { self.new ≡ self.old }
+    {
+        self.gate.wait(self.rt, self.seen, phase)
+    }
+
+    /// The notes so far. It takes no memory.
+    fn notes(&self) -> &[Note] {
+        self.notes.as_slice()
+    }
+}
