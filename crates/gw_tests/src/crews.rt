@@ -1,12 +1,11 @@
 //! A worker, a courier and a swap over one gate.
+use crate::streams::Device;
 use gw_crew::{Door, Note, Pause, Solo, SwapFault, courier, swap, worker};
 use gw_er7::read;
 use gw_gate::{Event, Gate, MOST, Reply};
 use gw_plan::{Conforming, Plan, admit};
 use gw_stream::{Counts, Reads, RunFault, Writes};
 use std::alloc::Global;
-use std::io;
-use std::io::{ErrorKind, Read, Write};
 use std::sync::Arc;
 use std::test::Fail;
 
@@ -20,7 +19,7 @@ const PLAN: [&str; 2] = [
     segment PID from PID\n  build 8 lookup SEXMAP PID-8\ndrop PID-3\ndrop PID-5\nstop\nroute ADT A01 from P2\n",
 ];
 
-const MESSAGE: &[u8] =
+pub(crate) const MESSAGE: &[u8] =
     b"MSH|^~\\&|LAB|H1|GW|H2|20240102030405||ADT^A01^ADT_A01|7|P|2.5.1\rPID|||123|||||F\r";
 
 /// What the receiver is sent.
@@ -33,7 +32,7 @@ const ACKED: &[u8] =
 const OTHER: &[u8] =
     b"\x0bMSH|^~\\&|GW|H2|LAB|H1|20240102030406||ACK^A01^ACK|G1|P|2.5.1\rMSA|AA|8\r\x1c\r";
 
-const NOTHING: Counts = Counts {
+pub(crate) const NOTHING: Counts = Counts {
     answered: 0,
     put: 0,
     sent: 0,
@@ -61,7 +60,7 @@ fn text(alloc: Global, name: &str) -> Result<Vec<u8>, Fail> {
 }
 
 // A door to a gate that opens with the plan.
-fn door(alloc: Global) -> Result<(Arc<Plan>, Solo), Fail> {
+pub(crate) fn door(alloc: Global) -> Result<(Arc<Plan>, Solo), Fail> {
     let Ok(plan) = Plan::parse(alloc, &text(alloc, "ARCHIVE")?) else {
         return Err("no plan".into());
     };
@@ -128,56 +127,6 @@ fn work(alloc: Global, door: &mut Solo, left: u64) -> Result<Counts, Fail> {
     }
 }
 
-/// Moves a byte a call, and fails after so many calls.
-#[derive(Drop)]
-struct Device<'a> {
-    rest: &'a [u8],
-    held: Vec<u8>,
-    calls: usize,
-}
-
-impl<'a> Device<'a> {
-    fn new(alloc: Global, rest: &'a [u8], calls: usize) -> Device<'a> {
-        Device {
-            rest,
-            held: Vec::new(alloc),
-            calls,
-        }
-    }
-
-    fn begin(&mut self) -> io::Result<()> {
-        if self.calls == 0 {
-            return Err(io::Error::from(ErrorKind::Other));
-        }
-        self.calls -= 1;
-        Ok(())
-    }
-}
-
-impl Read for Device<'_> {
-    fn read(&mut self, buf: &mut [u8]) -> io::Result<usize> {
-        self.begin()?;
-        let count = self.rest.len().min(buf.len()).min(1);
-        let (front, rest) = self.rest.split_at(count);
-        buf[..count].copy_from_slice(front);
-        self.rest = rest;
-        Ok(count)
-    }
-}
-
-impl Write for Device<'_> {
-    fn write(&mut self, buf: &[u8]) -> io::Result<usize> {
-        self.begin()?;
-        let count = buf.len().min(1);
-        self.held.extend_from_slice(&buf[..count])?;
-        Ok(count)
-    }
-
-    fn flush(&mut self) -> io::Result<()> {
-        Ok(())
-    }
-}
-
 // What a courier does whose devices fail after so many calls, and what it wrote.
 fn carry(
     alloc: Global,
@@ -186,8 +135,8 @@ fn carry(
     reads: usize,
     writes: usize,
 ) -> (Result<Counts, RunFault>, Vec<u8>) {
-    let mut reader = Reads::new(Device::new(alloc, answers, reads));
-    let mut output = Device::new(alloc, b"", writes);
+    let mut reader = Reads::new(Device::new(alloc, answers, 1, reads, 0));
+    let mut output = Device::new(alloc, b"", 1, writes, 0);
     let mut writer = Writes::new(&mut output);
     let result = courier(alloc, door, 0, &mut reader, &mut writer);
     (result, output.held)
@@ -219,22 +168,26 @@ fn a_pause_ends_a_worker(rt: HostRuntime) -> Result<(), Fail> {
     }
 }
 
-/// A fault of the line is told by the message's number, and what was written is a beginning of its block.
+// Whether a courier over such a line ends with its fault, and has written a beginning of the message's block.
+fn fails(alloc: Global, answers: &[u8], reads: usize, writes: usize) -> Result<bool, Fail> {
+    let mut door = arrived(alloc, 1)?;
+    let _counts = work(alloc, &mut door, 9)?;
+    let (result, held) = carry(alloc, &mut door, answers, reads, writes);
+    Ok(result == Err(RunFault::Line { n: 0 }) && SENT.starts_with(held.as_slice()))
+}
+
+/// Each device fails at each of its calls in turn; and what comes back ends early, is no message, or acknowledges another.
 #[test]
 fn a_line_fails(rt: HostRuntime) -> Result<(), Fail> {
     let alloc = rt.alloc();
-    let rows: [(&[u8], usize, usize); 5] = [
-        (ACKED, 20, 1_000),
-        (ACKED, 1_000, 20),
-        (b"\x0bMSH", 1_000, 1_000),
-        (b"\x0bMSH\x1c\r", 1_000, 1_000),
-        (OTHER, 1_000, 1_000),
-    ];
-    for (answers, reads, writes) in rows {
-        let mut door = arrived(alloc, 1)?;
-        let _counts = work(alloc, &mut door, 9)?;
-        let (result, held) = carry(alloc, &mut door, answers, reads, writes);
-        assert!(rt; result == Err(RunFault::Line { n: 0 }) && SENT.starts_with(held.as_slice()));
+    for call in 0..ACKED.len() {
+        assert!(rt; fails(alloc, ACKED, call, 1_000)?, "read {call}");
+    }
+    for call in 0..SENT.len() {
+        assert!(rt; fails(alloc, ACKED, 1_000, call)?, "write {call}");
+    }
+    for answers in [b"\x0bMSH".as_slice(), b"\x0bMSH\x1c\r", OTHER] {
+        assert!(rt; fails(alloc, answers, 1_000, 1_000)?);
     }
     Ok(())
 }

@@ -13,7 +13,7 @@ const PLAN: [&str; 2] = [
 ];
 
 // The plan whose map says this word.
-fn plan(alloc: Global, word: &str) -> Result<Arc<Plan>, Fail> {
+pub(crate) fn plan(alloc: Global, word: &str) -> Result<Arc<Plan>, Fail> {
     let [before, behind] = PLAN;
     let text = format!(in alloc; "{before}{word}{behind}")?;
     let Ok(plan) = Plan::parse(alloc, text.as_bytes()) else {
@@ -24,7 +24,7 @@ fn plan(alloc: Global, word: &str) -> Result<Arc<Plan>, Fail> {
 }
 
 // A message with this control id, admitted under this version of the plan.
-fn admitted(
+pub(crate) fn admitted(
     alloc: Global,
     plan: &Arc<Plan>,
     version: u64,
@@ -39,7 +39,7 @@ fn admitted(
 }
 
 // What its receiver is sent.
-fn made(alloc: Global, conforming: &Arc<Conforming>) -> Result<Arc<Translated>, Fail> {
+pub(crate) fn made(alloc: Global, conforming: &Arc<Conforming>) -> Result<Arc<Translated>, Fail> {
     if !conforming.goes_to(0) {
         return Err("no receiver".into());
     }
@@ -48,7 +48,7 @@ fn made(alloc: Global, conforming: &Arc<Conforming>) -> Result<Arc<Translated>, 
 }
 
 // A gate that opens with this plan.
-fn begun(alloc: Global, plan: &Arc<Plan>) -> Result<Gate, Fail> {
+pub(crate) fn begun(alloc: Global, plan: &Arc<Plan>) -> Result<Gate, Fail> {
     match Gate::begin(alloc, plan.clone()?) {
         Ok(gate) => Ok(gate),
         Err(_) => Err("no memory".into()),
@@ -56,7 +56,7 @@ fn begun(alloc: Global, plan: &Arc<Plan>) -> Result<Gate, Fail> {
 }
 
 // The reply's name, with its first number.
-fn said(reply: &Reply) -> (&'static str, u64) {
+pub(crate) fn said(reply: &Reply) -> (&'static str, u64) {
     match reply {
         Reply::Current { version, .. } => ("Current", *version),
         Reply::Accepted { n, .. } => ("Accepted", *n),

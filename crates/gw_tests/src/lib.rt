@@ -16,7 +16,7 @@ mod failures;
 #[cfg(test)]
 mod gates;
 #[cfg(test)]
-mod hospital;
+mod locked;
 #[cfg(test)]
 mod maps;
 #[cfg(test)]
@@ -27,6 +27,8 @@ mod plans;
 mod profiles;
 #[cfg(test)]
 mod served;
+#[cfg(test)]
+mod sessions;
 #[cfg(test)]
 mod streams;
 #[cfg(test)]
