@@ -3,7 +3,7 @@ use Rattle.std.specs.Prelude.{◌≡◌, ℕ, Option, unwrap_or, List, ◌∷◌
 use Rattle.std.specs.Global.{Vec}
 use Rattle.gw_profile.specs.declared.build.Below.{Below}
 use Rattle.gw_profile.specs.declared.node.Node.{Node}
-use Rattle.gw_profile.specs.Shapes.{Forest, group}
+use Rattle.gw_profile.specs.Shapes.{Forest, group, TableValue, ProfileValue}
 use Rattle.gw_profile.specs.declared.shape.Usage.{Usage}
 use Rattle.gw_profile.specs.declared.shape.Usage.TheVariants.{O}
 use Rattle.gw_profile.specs.declared.shape.Card.{Card}
@@ -39,3 +39,7 @@ IsGroup node label usage card nodes = (rest : Forest) → node_forest node rest 
 
 abbrev pub built : Built → List ℕ × Forest
 built b = (b.name.items, forest b.nodes.items)
+
+-- the same with its tables
+abbrev pub built_value : Built → List TableValue → ProfileValue
+built_value b tables = record { name = b.name.items; tables = tables; nodes = forest b.nodes.items }

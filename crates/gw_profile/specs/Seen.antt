@@ -11,8 +11,10 @@ use Rattle.std.specs.Option.{option_map}
 use denote.Ref.{Bor}
 use Rattle.gw_profile.specs.declared.form.Line as declared
 use Rattle.gw_profile.specs.declared.context as Held
+use Rattle.gw_profile.specs.declared.reader.Above.{Above}
 use Rattle.gw_profile.specs.Fault as Fault
 use Rattle.std.specs.Global.{Vec}
+use Rattle.indexmap.specs.IndexSet.{IndexSet}
 use Rattle.gw_profile.specs.Shapes.{TableValue, SubValue, CompValue, FieldValue, SegmentValue, Forest, nothing, segment, group, ProfileValue}
 use Rattle.gw_profile.specs.Line as Spec
 use Rattle.gw_profile.specs.declared.form.Leaf as Leaf
@@ -83,8 +85,12 @@ parent p = option_map (λ q. record { shut = q.shut; least = q.least; last = q.l
 abbrev pub parents : Held.Parents.Parents → Fault.Parents
 parents p = record { segment = parent p.segment; field = parent p.field; comp = parent p.comp }
 
+-- the labels of the levels around, the nearest first
+abbrev pub outer_labels : {S : Type 0} → List (IndexSet (Bor (List ℕ)) S) → List (List (List ℕ))
+outer_labels outer = reverse (map (λ v. now_all v.keys) outer)
+
 abbrev pub levels : Held.Levels.Levels → Fault.Levels
-levels l = record { labels = now_all l.labels.keys; outer = reverse (map (λ v. now_all v.keys) l.outer.items) }
+levels l = record { labels = now_all l.labels.keys; outer = outer_labels l.outer.items }
 
 -- the table of a table line, where no value stands twice
 abbrev pub made : Spec.Line → Option (List (List ℕ))
@@ -128,6 +134,13 @@ pub record Agrees (held : Held.Parents.Parents) (tables : List TableValue) (labe
   pub has_tables : tables ≡ kept lines
   pub has_levels : levels labels ≡ Fault.levels lines
   pub taken : AllTaken Fault.grammar lines
+
+-- the lines that a reader holds, the last first
+abbrev pub said : Above → List Spec.Line
+said a = above a.lines.items
+
+abbrev pub Agreed : Above → Type 0
+Agreed a = Agrees a.parents (map table a.tables.entries) a.levels (said a)
 
 -- a profile, with its nodes as they are lent
 pub record Contents : Type 0 where

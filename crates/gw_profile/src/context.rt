@@ -3,13 +3,14 @@ ghost use Rattle.std.specs.Prelude.{◌≡◌, ◌∷◌, [], ◌++◌, map, IfO
 ghost use Rattle.gw_lines.specs.Reading.{first_of};
 ghost use Rattle.gw_profile.specs.Fault as spec;
 ghost use Rattle.gw_profile.specs.WellFormed.{table_names};
-ghost use Rattle.gw_profile.specs.Seen.{line, leaf_of, parent, now, now_all, table, made, with_table, IsNewTable, IsNewLabel, ParentsFollow, NamesFollow, LevelsFollow};
+ghost use Rattle.gw_profile.specs.Seen.{line, leaf_of, parent, now, now_all, table, made, with_table, levels, outer_labels, IsNewTable, IsNewLabel, ParentsFollow, NamesFollow, LevelsFollow};
 
 use crate::fault::ProfileFault;
 use crate::form::{Leaf, Line, is_forbidden};
 use crate::table::Table;
 use indexmap::{IndexMap, IndexSet};
 use std::alloc::{AllocError, Global};
+use std::mem;
 
 /// A line that may have lines below it.
 #[derive(Clone, Copy, Drop)]
@@ -172,40 +173,52 @@ fn put_label<'a>(labels: &mut IndexSet<&'a [u8]>, label: &'a [u8]) -> Result<(),
     Ok(())
 }
 
-/// The levels below a line.
+// The labels of the level around the innermost.
+fn take_outer<'a>(alloc: Global, outer: &mut Vec<IndexSet<&'a [u8]>>) -> IndexSet<&'a [u8]>
+    ensures { record { labels = now_all result.keys; outer = outer_labels outer.new.items } ≡ spec.outside (outer_labels outer.old.items) }
+{
+    match outer.pop() {
+        None => IndexSet::new(alloc),
+        Some(labels) => labels,
+    }
+}
+
+// Opens a group with this label.
+fn open_group<'a>(alloc: Global, held: &mut Levels<'a>, label: &'a [u8]) -> Result<(), AllocError>
+    requires { spec.is_among label.now (now_all held.old.labels.keys) ≡ false }
+    ensures { OnOk result (levels held.new ≡ spec.inside (spec.with_label label.now (levels held.old))) }
+{
+    put_label(&mut held.labels, label)?;
+    let labels = mem::replace(&mut held.labels, IndexSet::new(alloc));
+    held.outer.push(labels)?;
+    Ok(())
+}
+
+// Closes the innermost group.
+fn close_group<'a>(alloc: Global, held: &mut Levels<'a>)
+    ensures { levels held.new ≡ spec.outside (levels held.old).outer }
+{
+    let labels = take_outer(alloc, &mut held.outer);
+    let _closed = mem::replace(&mut held.labels, labels);
+}
+
+/// Brings the levels below a line.
 pub fn levels_below<'a>(
     alloc: Global,
-    held: Levels<'a>,
+    held: &mut Levels<'a>,
     whole: &Line<'a>,
-) -> Result<Levels<'a>, AllocError>
-    requires { IsNewLabel (now_all held.labels.keys) (line whole.now) }
-    ensures { IfOk result (λ new. LevelsFollow held.entry new (line whole.now)) }
+) -> Result<(), AllocError>
+    requires { IsNewLabel (now_all held.old.labels.keys) (line whole.now) }
+    ensures { OnOk result (LevelsFollow held.old held.new (line whole.now)) }
 {
-    let Levels {
-        mut labels,
-        mut outer,
-    } = held;
     match whole {
-        Line::Segment(_, label, _, _, _) => {
-            put_label(&mut labels, label)?;
-            Ok(Levels { labels, outer })
+        Line::Segment(_, label, _, _, _) => put_label(&mut held.labels, label),
+        Line::Group(_, label, _, _) => open_group(alloc, held, label),
+        Line::End => {
+            close_group(alloc, held);
+            Ok(())
         }
-        Line::Group(_, label, _, _) => {
-            put_label(&mut labels, label)?;
-            outer.push(labels)?;
-            Ok(Levels {
-                labels: IndexSet::new(alloc),
-                outer,
-            })
-        }
-        Line::End => match outer.pop() {
-            None => Ok(Levels {
-                labels: IndexSet::new(alloc),
-                outer,
-            }),
-            Some(labels) => Ok(Levels { labels, outer }),
-        },
-        _ => Ok(Levels { labels, outer }),
+        _ => Ok(()),
     }
 }
 

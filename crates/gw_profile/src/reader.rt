@@ -1,15 +1,17 @@
 //! Reading of a profile, line by line.
 ghost use Rattle.std.specs.Prelude.{◌≡◌, ◌∷◌, ◌||◌, [], map, not, IfOk, OnOk};
 ghost use Rattle.gw_lines.specs.Seen.{word};
-ghost use Rattle.gw_lines.specs.Reading.{Gives, first_of, added};
+ghost use Rattle.gw_lines.specs.Reading.{Gives, first_of, adding};
 ghost use Rattle.gw_profile.specs.declared.fault.ProfileFault.TheVariants as fault;
 ghost use Rattle.gw_profile.specs.Fault as spec;
 ghost use Rattle.gw_profile.specs.Line as form;
 ghost use Rattle.gw_lines.specs.Grammar.{Taken};
-ghost use Rattle.gw_profile.specs.Seen.{line, above, made, profile_value, table, with_table, IsNewTable, NamesFollow};
+ghost use Rattle.gw_profile.specs.Seen.{line, made, kept, said, Agreed};
+ghost use Rattle.gw_profile.specs.Building.{built_value};
 ghost use Rattle.gw_profile.specs.declared.reader.Tested.{Tested};
-ghost use Rattle.gw_profile.specs.Whole.{whole};
+ghost use Rattle.gw_profile.specs.Whole.{whole, is_unclosed};
 
+use crate::build::Built;
 use crate::context::{
     Levels, NO_PARENTS, Parents, has_label, knows, levels_below, made, parents_below, part_fault,
     tables_below,
@@ -30,6 +32,12 @@ const MOST_NESTED: usize = 8;
 /// The lines of a profile so far.
 #[derive(Drop)]
 pub struct Reader<'a> {
+    above: Above<'a>,
+}
+
+// The lines, with what they leave open.
+#[derive(Drop)]
+struct Above<'a> {
     alloc: Global,
     lines: Vec<Line<'a>>,
     parents: Parents,
@@ -47,13 +55,13 @@ struct Tested<'a> {
 impl<'a> Model for Reader<'a> {
     ghost use Rattle.std.specs.Prelude.{List, map};
     ghost use Rattle.gw_profile.specs.Line.{Line};
-    ghost use Rattle.gw_profile.specs.Seen.{above, table, Agrees};
+    ghost use Rattle.gw_profile.specs.Seen.{said, Agreed};
 
     ghost Value = { List Line };
 
-    ghost view = { λ r. above r.lines.items };
+    ghost view = { λ r. said r.above };
 
-    ghost invariant = { λ r. Agrees r.parents (map table r.tables.entries) r.levels (above r.lines.items) };
+    ghost invariant = { λ r. Agreed r.above };
 }
 
 impl<'a> Reader<'a> {
@@ -62,19 +70,23 @@ impl<'a> Reader<'a> {
         ensures { result ≡ [] }
     {
         Reader {
-            alloc,
-            lines: Vec::new(alloc),
-            parents: NO_PARENTS,
-            tables: IndexMap::new(alloc),
-            levels: Levels {
-                labels: IndexSet::new(alloc),
-                outer: Vec::new(alloc),
+            above: Above {
+                alloc,
+                lines: Vec::new(alloc),
+                parents: NO_PARENTS,
+                tables: IndexMap::new(alloc),
+                levels: Levels {
+                    labels: IndexSet::new(alloc),
+                    outer: Vec::new(alloc),
+                },
             },
         }
     }
+}
 
+impl<'a> Above<'a> {
     fn begins_fault(&self, at: u32) -> Option<ProfileFault>
-        ensures { result ≡ first_of (spec.begins_tests self.now at) }
+        ensures { result ≡ first_of (spec.begins_tests (said self.now) at) }
     {
         if self.lines.is_empty() {
             None
@@ -84,7 +96,8 @@ impl<'a> Reader<'a> {
     }
 
     fn table_fault(&self, at: u32, name: &[u8], repeats: bool) -> Option<ProfileFault>
-        ensures { result ≡ first_of ((not (spec.begun self.now), fault.Syntax at) ∷ (spec.is_among name.now (spec.tables self.now) || repeats, fault.Duplicate at) ∷ []) }
+        requires { Agreed self.now }
+        ensures { result ≡ first_of ((not (spec.begun (said self.now)), fault.Syntax at) ∷ (spec.is_among name.now (spec.tables (said self.now)) || repeats, fault.Duplicate at) ∷ []) }
     {
         if self.lines.is_empty() {
             return Some(ProfileFault::Syntax(at));
@@ -102,7 +115,8 @@ impl<'a> Reader<'a> {
         usage: Option<Usage>,
         card: Card,
     ) -> Option<ProfileFault>
-        ensures { result ≡ first_of (spec.segment_tests self.now at label.now usage card) }
+        requires { Agreed self.now }
+        ensures { result ≡ first_of (spec.segment_tests (said self.now) at label.now usage card) }
     {
         if self.lines.is_empty() {
             return Some(ProfileFault::Syntax(at));
@@ -123,7 +137,8 @@ impl<'a> Reader<'a> {
         usage: Option<Usage>,
         card: Card,
     ) -> Option<ProfileFault>
-        ensures { result ≡ first_of (spec.group_tests self.now at label.now usage card) }
+        requires { Agreed self.now }
+        ensures { result ≡ first_of (spec.group_tests (said self.now) at label.now usage card) }
     {
         if self.lines.is_empty() {
             return Some(ProfileFault::Syntax(at));
@@ -141,7 +156,8 @@ impl<'a> Reader<'a> {
     }
 
     fn end_fault(&self, at: u32) -> Option<ProfileFault>
-        ensures { result ≡ first_of (spec.end_tests self.now at) }
+        requires { Agreed self.now }
+        ensures { result ≡ first_of (spec.end_tests (said self.now) at) }
     {
         if self.levels.outer.is_empty() {
             Some(ProfileFault::Syntax(at))
@@ -152,8 +168,9 @@ impl<'a> Reader<'a> {
 
     // The fault of a line below these; `found` is its table.
     fn fault_of(&self, at: u32, whole: &Line<'a>, found: &Option<Table>) -> Option<ProfileFault>
-        requires { found.now ≡ made (line whole.now) }
-        ensures { result ≡ first_of (spec.tests self.now at (line whole.now)) }
+        requires agreed { Agreed self.now }
+        requires found { found.now ≡ made (line whole.now) }
+        ensures { result ≡ first_of (spec.tests (said self.now) at (line whole.now)) }
     {
         match whole {
             Line::Begins(_) => self.begins_fault(at),
@@ -192,7 +209,8 @@ impl<'a> Reader<'a> {
 
     // The line that the words are below these, with its table, or its fault.
     fn tested(&self, at: u32, words: &[Word<'a>]) -> Result<Tested<'a>, ProfileFault>
-        ensures line { Gives fault.Memory (λ (t : Tested). line t.whole) result (spec.takes self.now at (map word words.now)) }
+        requires { Agreed self.now }
+        ensures line { Gives fault.Memory (λ (t : Tested). line t.whole) result (spec.takes (said self.now) at (map word words.now)) }
         ensures found { IfOk result (λ (t : Tested). t.found ≡ made (line t.whole)) }
     {
         let Some(whole) = form(self.alloc, at, words)? else {
@@ -205,49 +223,57 @@ impl<'a> Reader<'a> {
         }
     }
 
-    // Takes a line in, with its table.
-    fn add(self, whole: Line<'a>, found: Option<Table>) -> Result<Reader<'a>, AllocError>
-        requires found { found ≡ made (line whole) }
-        requires taken { Taken spec.grammar self (line whole) }
-        ensures { IfOk result (λ new. new ≡ line whole.entry ∷ self.entry) }
+    // Takes in a line that has no fault.
+    fn take_in(&mut self, tested: Tested<'a>) -> Result<(), AllocError>
+        requires found { tested.found ≡ made (line tested.whole) }
+        requires taken { Taken spec.grammar (said self.old) (line tested.whole) }
+        requires agreed { Agreed self.old }
+        ensures lines { OnOk result (said self.new ≡ line tested.entry.whole ∷ said self.old) }
+        ensures agreed { OnOk result (Agreed self.new) }
     {
-        let Reader {
-            alloc,
-            mut lines,
-            parents,
-            mut tables,
-            levels,
-        } = self;
-        let parents = parents_below(parents, &whole);
-        let levels = levels_below(alloc, levels, &whole)?;
-        take_in(alloc, &mut lines, &mut tables, whole, found)?;
-        Ok(Reader {
-            alloc,
-            lines,
-            parents,
-            tables,
-            levels,
-        })
+        let Tested { whole, found } = tested;
+        tables_below(self.alloc, &mut self.tables, &whole, found)?;
+        levels_below(self.alloc, &mut self.levels, &whole)?;
+        self.parents = parents_below(self.parents, &whole);
+        self.lines.push(whole)?;
+        Ok(())
     }
-}
 
-// Takes a line in: its table, and the line.
-fn take_in<'a>(
-    alloc: Global,
-    lines: &mut Vec<Line<'a>>,
-    tables: &mut IndexMap<Vec<u8>, Table>,
-    whole: Line<'a>,
-    found: Option<Table>,
-) -> Result<(), AllocError>
-    requires found { found ≡ made (line whole) }
-    requires table { IsNewTable (map table tables.old.entries) (line whole) }
-    ensures lines { OnOk result (above lines.new.items ≡ line whole.entry ∷ above lines.old.items) }
-    ensures tables { OnOk result (map table tables.new.entries ≡ with_table (map table tables.old.entries) (line whole.entry)) }
-    ensures names { OnOk result (NamesFollow (map table tables.old.entries) (map table tables.new.entries) (line whole.entry)) }
-{
-    tables_below(alloc, tables, &whole, found)?;
-    lines.push(whole)?;
-    Ok(())
+    // Takes the words of a line.
+    fn take(&mut self, at: u32, words: &[Word<'a>]) -> Result<(), ProfileFault>
+        requires { Agreed self.old }
+        ensures lines { Gives fault.Memory (λ _. said self.new) result (adding spec.takes (said self.old) at (map word words.now)) }
+        ensures agreed { OnOk result (Agreed self.new) }
+    {
+        let tested = self.tested(at, words)?;
+        self.take_in(tested)?;
+        Ok(())
+    }
+
+    // Whether some group is open, or nothing was said.
+    fn is_unclosed(&self) -> bool
+        requires { Agreed self.now }
+        ensures { result ≡ is_unclosed (said self.now) }
+    {
+        self.lines.is_empty() || !self.levels.outer.is_empty()
+    }
+
+    // What the lines spell; `at` is the number of the line after the last.
+    fn ruled(&self, at: u32) -> Result<Built, ProfileFault>
+        requires { Agreed self.now }
+        ensures { Gives fault.Memory (λ b. built_value b (kept (said self.now))) result (whole (said self.now) at) }
+    {
+        if self.is_unclosed() {
+            return Err(ProfileFault::Syntax(at));
+        }
+        ruled(self.alloc, &self.lines)
+    }
+
+    fn into_tables(self) -> IndexMap<Vec<u8>, Table>
+        ensures { result.entries ≡ self.entry.tables.entries }
+    {
+        self.tables
+    }
 }
 
 impl<'a> Form<'a> for Reader<'a> {
@@ -267,21 +293,16 @@ impl<'a> Form<'a> for Reader<'a> {
     ghost gives = { λ above at result. Gives fault.Memory profile_value result (whole above at) };
 
     fn take(self, at: u32, words: &[Word<'a>]) -> Result<Reader<'a>, ProfileFault> {
-        let Tested { whole, found } = self.tested(at, words)?;
-        let reader = self.add(whole, found)?;
-        Ok(reader)
+        let Reader { mut above } = self;
+        above.take(at, words)?;
+        Ok(Reader { above })
     }
 
     fn finish(self, at: u32) -> Result<Profile, ProfileFault> {
-        if self.lines.is_empty() || !self.levels.outer.is_empty() {
-            return Err(ProfileFault::Syntax(at));
-        }
-        let Reader {
-            alloc,
-            lines,
-            tables,
-            ..
-        } = self;
-        ruled(alloc, &lines, tables)
+        let Reader { above } = self;
+        let Built { name, nodes, .. } = above.ruled(at)?;
+        let alloc = above.alloc;
+        let profile = Profile::of(alloc, name, above.into_tables(), nodes)?;
+        Ok(profile)
     }
 }

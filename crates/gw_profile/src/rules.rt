@@ -103,22 +103,25 @@ fn take_back(near: &mut IndexSet<[u8; 3]>, far: &mut Vec<IndexSet<[u8; 3]>>)
     }
 }
 
-// The names of the later siblings, with those that can begin a node before them.
-fn before(
-    alloc: Global,
-    min: u32,
-    first: &[[u8; 3]],
-    follow: IndexSet<[u8; 3]>,
-) -> Result<IndexSet<[u8; 3]>, AllocError>
-    ensures { IfOk result (λ names. Joins first.now (if min == 0 then follow.keys else []) names.keys) }
+// Forgets the names behind a node that has to come.
+fn forget(alloc: Global, min: u32, follow: &mut IndexSet<[u8; 3]>)
+    ensures { follow.new.keys ≡ (if min == 0 then follow.old.keys else []) }
 {
-    let mut names = if min == 0 {
-        follow
-    } else {
-        IndexSet::new(alloc)
-    };
-    put_names(&mut names, first)?;
-    Ok(names)
+    if min == 0 {
+        return;
+    }
+    *follow = IndexSet::new(alloc);
+}
+
+// Puts the names that can begin a node to those of its later siblings, where it need not come.
+fn put_before(alloc: Global, node: &Node, follow: &mut IndexSet<[u8; 3]>) -> Result<(), AllocError>
+    ensures { OnOk result (Joins (node_spec.first_of_node node.now) (if (node_spec.card_of node.now).min == 0 then follow.old.keys else []) follow.new.keys) }
+{
+    let mut first = Vec::new(alloc);
+    add_first_of(&mut first, node)?;
+    forget(alloc, node.card().min, follow);
+    put_names(follow, &first)?;
+    Ok(())
 }
 
 fn is_before(name: &[u8], other: &[u8]) -> bool
@@ -217,14 +220,6 @@ fn clash(
     None
 }
 
-fn first_of(alloc: Global, node: &Node) -> Result<Vec<[u8; 3]>, AllocError>
-    ensures { IfOk result (λ names. names.items ≡ node_spec.first_of_node node.now) }
-{
-    let mut names = Vec::new(alloc);
-    add_first_of(&mut names, node)?;
-    Ok(names)
-}
-
 // The least name of a node that one name of look-ahead does not determine, else the one that was found behind it.
 fn or_else(name: Option<[u8; 3]>, found: Option<[u8; 3]>) -> Option<[u8; 3]>
     ensures { result ≡ spec.or_else name found }
@@ -242,33 +237,30 @@ fn passed(min: u32, start: usize, far: &[IndexSet<[u8; 3]>]) -> usize
     if min == 0 { start } else { far.len() }
 }
 
-/// The least name of the first node that one name of look-ahead does not determine, where a name of `near`, or of the sets of `far` from this number on, can come behind these nodes.
-/// The nodes are gone through from the last to the first, with the names of the later siblings; those of the levels around stay in their sets.
+/// The least name of the first node that one name of look-ahead does not determine, where a name of `follow`, or of the sets of `far` from this number on, can come behind these nodes.
+/// The nodes are gone through from the last to the first, and `follow` takes the names of the later siblings; those of the levels around stay in their sets.
 #[cycle(ambiguous)]
 pub fn ambiguous(
     alloc: Global,
     nodes: &[Node],
-    near: IndexSet<[u8; 3]>,
+    follow: &mut IndexSet<[u8; 3]>,
     far: &mut Vec<IndexSet<[u8; 3]>>,
     start: usize,
 ) -> Result<Option<[u8; 3]>, AllocError>
     requires { start ≤ length far.old.items }
-    ensures found { IfOk result (λ found. found ≡ spec.ambiguous (forest nodes.now) (near.keys ++ joined (drop start far.old.items))) }
+    ensures found { IfOk result (λ found. found ≡ spec.ambiguous (forest nodes.now) (follow.old.keys ++ joined (drop start far.old.items))) }
     ensures kept { OnOk result (far.new.items ≡ far.old.items) }
 {
-    let mut follow = near;
     let mut from = start;
     let mut found = None;
     let mut left = nodes.len();
     while left > 0 {
         left -= 1;
         let node = &nodes[left];
-        let name = node_ambiguous(alloc, node, &mut follow, far, from)?;
+        let name = node_ambiguous(alloc, node, follow, far, from)?;
         found = or_else(name, found);
-        let first = first_of(alloc, node)?;
-        let min = node.card().min;
-        follow = before(alloc, min, &first, follow)?;
-        from = passed(min, from, far);
+        put_before(alloc, node, follow)?;
+        from = passed(node.card().min, from, far);
     }
     Ok(found)
 }
@@ -311,7 +303,25 @@ fn group_ambiguous(
     if let Some(name) = clash(card, &first, near, &far[start..]) {
         return Ok(Some(name));
     }
-    let again = again(alloc, card, &first)?;
+    let mut again = again(alloc, card, &first)?;
+    inner_ambiguous(alloc, nodes, &mut again, near, far, start)
+}
+
+// The same of the nodes of a group, behind which the names of `again` can come, and those behind the group.
+#[cycle(ambiguous)]
+fn inner_ambiguous(
+    alloc: Global,
+    nodes: &[Node],
+    again: &mut IndexSet<[u8; 3]>,
+    near: &mut IndexSet<[u8; 3]>,
+    far: &mut Vec<IndexSet<[u8; 3]>>,
+    start: usize,
+) -> Result<Option<[u8; 3]>, AllocError>
+    requires { start ≤ length far.old.items }
+    ensures found { IfOk result (λ found. found ≡ spec.ambiguous (forest nodes.now) (again.old.keys ++ joined (drop start (far.old.items ++ near.old ∷ [])))) }
+    ensures near { OnOk result (near.new ≡ near.old) }
+    ensures kept { OnOk result (far.new.items ≡ far.old.items) }
+{
     let held = mem::replace(near, IndexSet::new(alloc));
     far.push(held)?;
     let found = ambiguous(alloc, nodes, again, far, start)?;

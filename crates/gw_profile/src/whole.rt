@@ -1,22 +1,20 @@
 //! The rules of the whole profile, after all of its lines.
-ghost use Rattle.std.specs.Prelude.{◌≡◌, map, not, reverse};
+ghost use Rattle.std.specs.Prelude.{◌≡◌, List, map, not};
 ghost use Rattle.std.specs.List.{list_all};
 ghost use Rattle.gw_lines.specs.Reading.{Gives};
 ghost use Rattle.gw_profile.specs.declared.fault.ProfileFault.TheVariants as fault;
 ghost use Rattle.gw_profile.specs.Whole as spec;
-ghost use Rattle.gw_profile.specs.Seen.{line, table, profile_value};
-ghost use Rattle.gw_lines.specs.Grammar.{AllTaken};
-ghost use Rattle.gw_profile.specs.Fault.{grammar};
+ghost use Rattle.gw_profile.specs.Seen.{line};
+ghost use Rattle.gw_profile.specs.Shapes.{TableValue};
+ghost use Rattle.gw_profile.specs.Building.{built_value};
 ghost use Rattle.gw_profile.specs.Value.{tables as tables_of};
 
 use crate::build::{Built, build};
 use crate::fault::ProfileFault;
 use crate::form::{Line, allows};
-use crate::profile::Profile;
 use crate::rules::ambiguous;
 use crate::shape::{Card, Usage};
-use crate::table::Table;
-use indexmap::{IndexMap, IndexSet};
+use indexmap::IndexSet;
 use std::alloc::Global;
 
 fn is_once(usage: Option<Usage>, card: Card) -> bool
@@ -89,26 +87,34 @@ fn is_headed(lines: &[Line]) -> bool
     false
 }
 
-/// The profile that these lines spell, from the first on.
-pub fn ruled(
-    alloc: Global,
-    lines: &[Line],
-    tables: IndexMap<Vec<u8>, Table>,
-) -> Result<Profile, ProfileFault>
-    requires tables { map table tables.entries ≡ tables_of (map line lines.now) }
-    requires taken { AllTaken grammar (reverse (map line lines.now)) }
-    ensures { Gives fault.Memory profile_value result (spec.ruled (map line lines.now)) }
+// Whether what these lines spell keeps the rules of the whole.
+fn keep_rules(alloc: Global, lines: &[Line], spelled: &Built) -> Result<(), ProfileFault>
+    ensures { (ts : List TableValue) → Gives fault.Memory (λ _. built_value spelled.now ts) result (spec.filled spelled.now.empty (spec.is_headed (map line lines.now)) (built_value spelled.now ts)) }
 {
-    let Built { name, nodes, empty } = build(alloc, lines)?;
-    if let Some(at) = empty {
+    if let Some(at) = spelled.empty {
         return Err(ProfileFault::EmptyGroup(at));
     }
     if !is_headed(lines) {
         return Err(ProfileFault::Header);
     }
-    if let Some(shared) = ambiguous(alloc, &nodes, IndexSet::new(alloc), &mut Vec::new(alloc), 0)? {
-        return Err(ProfileFault::Ambiguous(shared));
+    let found = ambiguous(
+        alloc,
+        &spelled.nodes,
+        &mut IndexSet::new(alloc),
+        &mut Vec::new(alloc),
+        0,
+    )?;
+    match found {
+        Some(shared) => Err(ProfileFault::Ambiguous(shared)),
+        None => Ok(()),
     }
-    let profile = Profile::of(alloc, name, tables, nodes)?;
-    Ok(profile)
+}
+
+/// What these lines spell, from the first on, or the fault of the whole.
+pub fn ruled(alloc: Global, lines: &[Line]) -> Result<Built, ProfileFault>
+    ensures { Gives fault.Memory (λ b. built_value b (tables_of (map line lines.now))) result (spec.ruled (map line lines.now)) }
+{
+    let spelled = build(alloc, lines)?;
+    keep_rules(alloc, lines, &spelled)?;
+    Ok(spelled)
 }

@@ -1,11 +1,11 @@
-use Rattle.std.proofs.Common.{◌≡◌, ◌++◌, ◌∷◌, [], sym, ap, ◌∙◌, subst, IfOk, List, ℕ, Option, arith, drop, length, HashSet, BuildHasherDefault, FoldHasher}
+use Rattle.std.proofs.Common.{◌≡◌, ◌++◌, ◌∷◌, [], refl, sym, ap, ◌∙◌, subst, IfOk, List, ℕ, Option, arith, drop, length, HashSet, BuildHasherDefault, FoldHasher}
 use Rattle.std.specs.Prelude.{if◌then◌else◌, ◌==◌, ◌||◌}
 use Rattle.std.proofs.lemmas.List.{take_rest}
 use Rattle.gw_profile.specs.Fault.{is_among}
 use Rattle.gw_profile.specs.declared.shape.Card.{Card}
 use Rattle.gw_profile.specs.Seen.{forest}
 use Rattle.gw_profile.specs.Determinism.{first_names, clash, ambiguous, group_ambiguous}
-use Rattle.gw_profile.specs.Nodes.{node_ambiguous, joined, Joins}
+use Rattle.gw_profile.specs.Nodes.{node_ambiguous, first_of_node, card_of, joined, Joins}
 use Rattle.gw_profile.proofs.Rows.{ambiguous_group}
 use Rattle.gw_profile.proofs.Follows.{walk_more, group_more, joins_far, behind_more, passed_within}
 use Rattle.gw_profile.proofs.rules.+ambiguous.Goals as goal
@@ -24,34 +24,42 @@ node_ambiguous-returns-in-Group-clause-found t c =
 pub ambiguous-loop-left-preserved : goal.ambiguous-loop-left-preserved
 ambiguous-loop-left-preserved t c =
     let sets = c.args.far.now.items in
-    let from : c.passed-from.result ≡ (if c.card-min.result.min == 0 then c.loop-left.from else length sets) =
-    c.passed-from.ensures ∙ ap (λ n. if c.card-min.result.min == 0 then c.loop-left.from else n) (ap length (c.deref-in-loop-left.ensures.value ∙ c.in_ok-name.ensures.kept ∙ c.loop-left.invariant.kept)) in
-    let follow : Joins c.deref.result.now (if c.card-min.result.min == 0 then c.loop-left.follow.keys else []) c.in_ok-follow.follow.keys =
-    subst (λ (s : Set). Joins c.deref.result.now (if c.card-min.result.min == 0 then s.keys else []) c.in_ok-follow.follow.keys) c.in_ok-name.ensures.near c.in_ok-follow.ensures in
+    let node = c.index-nodes-left.result in
+    let min = (card_of node).min in
+    let from : c.passed-from.result ≡ (if min == 0 then c.loop-left.from else length sets) =
+    c.passed-from.ensures ∙ ap (λ (k : Card). if k.min == 0 then c.loop-left.from else length c.deref.result.now) c.card.ensures
+    ∙ ap (λ n. if min == 0 then c.loop-left.from else n) (ap length (c.deref.ensures.value ∙ c.in_ok-name.ensures.kept ∙ c.loop-left.invariant.kept)) in
+    let follow : Joins (first_of_node node) (if min == 0 then c.loop-left.follow.keys else []) c.put_before.new.follow.keys =
+    subst (λ (s : Set). Joins (first_of_node node) (if min == 0 then s.keys else []) c.put_before.new.follow.keys) c.in_ok-name.ensures.near c.in_ok-put_before.ensures in
     let more =
-    walk_more c.args.nodes.now c.loop-left.left c.index-nodes-left.result (c.args.near.keys ++ joined (drop c.args.start sets)) (c.loop-left.follow.keys ++ joined (drop c.loop-left.from sets)) c.deref.result.now
-    (c.in_ok-follow.follow.keys ++ joined (drop c.passed-from.result sets)) c.card-min.result.min
+    walk_more c.args.nodes.now c.loop-left.left node (c.args.follow.now.keys ++ joined (drop c.args.start sets)) (c.loop-left.follow.keys ++ joined (drop c.loop-left.from sets)) (first_of_node node)
+    (c.put_before.new.follow.keys ++ joined (drop c.passed-from.result sets)) min
     c.loop-left.found c.in_ok-name.name c.or_else-found.result c.loop-left-test.true c.loop-left.invariant.within c.index-nodes-left.is c.loop-left.invariant.names c.loop-left.invariant.found
-    (c.in_ok-name.ensures.found ∙ ap (λ (fs : List Set). node_ambiguous c.index-nodes-left.result (c.loop-left.follow.keys ++ joined (drop c.loop-left.from fs))) c.loop-left.invariant.kept)
-    c.or_else-found.ensures (c.deref.ensures.value ∙ c.in_ok-first.ensures) (ap (λ (k : Card). k.min) c.card-min.ensures)
-    (joins_far c.card-min.result.min c.loop-left.from c.passed-from.result c.deref.result.now c.loop-left.follow.keys c.in_ok-follow.follow.keys sets follow from) in
+    (c.in_ok-name.ensures.found ∙ ap (λ (fs : List Set). node_ambiguous node (c.loop-left.follow.keys ++ joined (drop c.loop-left.from fs))) c.loop-left.invariant.kept)
+    c.or_else-found.ensures refl refl
+    (joins_far min c.loop-left.from c.passed-from.result (first_of_node node) c.loop-left.follow.keys c.put_before.new.follow.keys sets follow from) in
     let w = c.loop-left.invariant.within in
     record {
       within = omega (arith, w);
-      bound = passed_within c.card-min.result.min c.loop-left.from c.passed-from.result (length sets) c.loop-left.invariant.bound from;
+      bound = passed_within min c.loop-left.from c.passed-from.result (length sets) c.loop-left.invariant.bound from;
       kept = c.in_ok-name.ensures.kept ∙ c.loop-left.invariant.kept;
       names = more.0;
       found = more.1;
     }
 
+pub inner_ambiguous-returns-clause-found : goal.inner_ambiguous-returns-clause-found
+inner_ambiguous-returns-clause-found t c =
+    c.in_ok-found.ensures.found
+    ∙ ap (λ (s : List Set). ambiguous (forest c.args.nodes.now) (c.args.again.now.keys ++ joined (drop c.args.start s))) (c.in_ok-push.ensures.items ∙ ap (λ (s : Set). c.args.far.now.items ++ s ∷ []) c.replace-held.ensures.value)
+
 pub group_ambiguous-returns-clause-found : goal.group_ambiguous-returns-clause-found
 group_ambiguous-returns-clause-found t c =
     let after = c.args.near.now.keys ++ joined (drop c.args.start c.args.far.now.items) in
-    c.in_ok-found.ensures.found
-    ∙ ap (λ (s : List Set). ambiguous (forest c.args.nodes.now) (c.in_ok-again.again.keys ++ joined (drop c.args.start s))) (c.in_ok-push.ensures.items ∙ ap (λ (s : Set). c.args.far.now.items ++ s ∷ []) c.replace-held.ensures.value)
-    ∙ group_more c.args.card (forest c.args.nodes.now) after (c.in_ok-again.again.keys ++ joined (drop c.args.start (c.args.far.now.items ++ c.args.near.now ∷ []))) c.deref-3.result.now
+    subst (λ (o : Option (List ℕ)). IfOk c.inner_ambiguous.result (λ found. found ≡ o))
+    (group_more c.args.card (forest c.args.nodes.now) after (c.in_ok-again.again.keys ++ joined (drop c.args.start (c.args.far.now.items ++ c.args.near.now ∷ []))) c.deref-3.result.now
     (c.deref-3.ensures.value ∙ c.in_ok-add_first.ensures ∙ ap (λ (l : List (List ℕ)). l ++ first_names (forest c.args.nodes.now)) c.new-first.ensures.items)
     (ap (λ (f : List (List ℕ)). clash c.args.card f after) (c.deref-3.ensures.value ∙ sym c.deref.ensures.value)
     ∙ ap (λ (s : List Set). clash c.args.card c.deref.result.now (c.args.near.now.keys ++ joined (drop c.args.start s))) (sym c.deref-2.ensures.value)
     ∙ ap (λ (s : List Set). clash c.args.card c.deref.result.now (c.args.near.now.keys ++ joined s)) (sym (take_rest c.deref-2.result.now c.args.start)) ∙ sym c.clash.ensures ∙ c.in_default.is)
-    (λ x. behind_more x c.args.start c.args.far.now.items c.args.near.now c.in_ok-again.again.keys c.requires ∙ ap (λ b. is_among x after || b) (c.in_ok-again.ensures x))
+    (λ x. behind_more x c.args.start c.args.far.now.items c.args.near.now c.in_ok-again.again.keys c.requires ∙ ap (λ b. is_among x after || b) (c.in_ok-again.ensures x)))
+    c.inner_ambiguous.ensures.found

@@ -10,8 +10,8 @@ invariant-ambiguous-loop-left l = record {
   within : l.left ≤ length l.nodes;
   bound : l.from ≤ length l.initial.far.items;
   kept : l.far.items ≡ l.initial.far.items;
-  names : Same (l.follow.keys ++ joined (drop l.from l.initial.far.items)) (follow_names (forest (drop l.left l.nodes)) (l.fn.near.keys ++ joined (drop l.start l.initial.far.items)));
-  found : l.found ≡ ambiguous (forest (drop l.left l.nodes)) (l.fn.near.keys ++ joined (drop l.start l.initial.far.items));
+  names : Same (l.follow.keys ++ joined (drop l.from l.initial.far.items)) (follow_names (forest (drop l.left l.nodes)) (l.initial.follow.keys ++ joined (drop l.start l.initial.far.items)));
+  found : l.found ≡ ambiguous (forest (drop l.left l.nodes)) (l.initial.follow.keys ++ joined (drop l.start l.initial.far.items));
 }
 
 abbrev pub decreases-ambiguous-loop-left : goal.decreases-ambiguous-loop-left
