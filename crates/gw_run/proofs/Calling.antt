@@ -1,6 +1,6 @@
 -- A call of a pass, by the step that it made.
 use Rattle.std.proofs.Common.{◌≡◌, List, [], ◌∷◌, ◌++◌, Option, None, Some, subst, ap, ◌∙◌}
-use Rattle.std.specs.Prelude.{Result, Ok, Err}
+use Rattle.std.specs.Prelude.{Result, Ok}
 use Rattle.gw_gate.specs.Replies.{EventSeen}
 use Rattle.gw_gate.specs.Values.{reply_seen}
 use Rattle.gw_gate.specs.declared.event.Event.{Event}

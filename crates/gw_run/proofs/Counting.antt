@@ -1,7 +1,7 @@
 -- Entries are counted as they are noted.
 use Rattle.std.proofs.Common.{◌≡◌, ◌+◌, ℕ, List, [], ◌∷◌, ◌++◌, Option, None, Some, length, refl, sym, ap, ◌∙◌, arith, length-append}
-use Rattle.std.specs.Prelude.{filter_map, Result, Ok, Err}
-use Rattle.std.specs.Option.{option_map, option_to_list}
+use Rattle.std.specs.Prelude.{Result, Ok, Err}
+use Rattle.std.specs.Option.{option_map}
 use Rattle.std.proofs.lemmas.List.{map-append}
 use Rattle.gw_gate.specs.Journal.{EntrySeen, Journal, end}
 use Rattle.gw_gate.specs.Replies.{EventSeen, Looks, Arrives, Refuses, Swaps, Takes, Puts, Reissues, Releases, added, with_added, reply}
@@ -58,9 +58,9 @@ grows : (j : Journal) (o : Option EntrySeen) (k : ℕ) (plain : Option NoteSeen)
 grows j None k plain none = omega (arith, none)
 grows j (Some e) k plain none = length-append j.entries (e ∷ [])
 
-stepped_grows : (before after : Journal) (event : EventSeen) (given : ReplySeen) (note : Option NoteSeen) → Stepped before event given note after
-    → length after.entries ≡ length before.entries + added_by note
-stepped_grows before after event given note step =
+stepped_grows : (before after : Journal) (event : EventSeen) (given : ReplySeen) (left : Option NoteSeen) → Stepped before event given left after
+    → length after.entries ≡ length before.entries + added_by left
+stepped_grows before after event given left step =
     let added_is : added event (reply before event) ≡ added event given = ap (added event) (sym step.replied.reply_is) in
     ap (λ (j : Journal). length j.entries) (step.replied.new_is ∙ ap (with_added before) added_is)
     ∙ grows before (added event given) (end before) (plain_note event given) (plain_adds_none event given)
@@ -84,10 +84,10 @@ one_more items more n is =
     ∙ length-append (receipts (notes_seen items)) (receipts (note_seen n ∷ []))
 
 -- a share that counted the notes counts one more
-pub counts_on : (items same more : List Note) (n : Note) (was now : ℕ) (answer : Result (Reply × Option Note) Event) (reply : Reply) (note : Option Note)
-    → was ≡ length (receipts (notes_seen items)) → now ≡ was + counted_by answer → answer ≡ Ok (reply, note) → note ≡ Some n → same ≡ items → more ≡ same ++ n ∷ []
+pub counts_on : (items same more : List Note) (n : Note) (was now : ℕ) (answer : Result (Reply × Option Note) Event) (reply : Reply) (left : Option Note)
+    → was ≡ length (receipts (notes_seen items)) → now ≡ was + counted_by answer → answer ≡ Ok (reply, left) → left ≡ Some n → same ≡ items → more ≡ same ++ n ∷ []
     → now ≡ length (receipts (notes_seen more))
-counts_on items same more n was now answer reply note counted amount is some kept added =
+counts_on items same more n was now answer reply left counted amount is some kept added =
     let by : counted_by answer ≡ added_by (Some (note_seen n)) = ap counted_by is ∙ ap (λ o. added_by (option_map note_seen o)) some in
     let grown = one_more same more n added in
     let stays : length (receipts (notes_seen same)) ≡ length (receipts (notes_seen items)) = ap (λ l. length (receipts (notes_seen l))) kept in

@@ -1,5 +1,5 @@
 -- What the passes of a locked gate hold, and what is counted under its lock.
-use Rattle.std.specs.Prelude.{◌≡◌, ℕ, ◌+◌, ◌<◌, List, [], ◌∷◌, filter_map, length, Option, Result, Ok, Err}
+use Rattle.std.specs.Prelude.{◌≡◌, ℕ, ◌<◌, List, filter_map, length, Option, Result, Ok, Err}
 use Rattle.std.specs.Option.{option_map, option_to_list}
 use Rattle.gw_gate.specs.Journal.{Journal}
 use Rattle.gw_gate.specs.Replies.{EventSeen}

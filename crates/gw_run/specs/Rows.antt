@@ -1,9 +1,9 @@
 -- Notes about a toy's journals.
 use Rattle.std.specs.Prelude.{List, [], ◌∷◌}
 use Rattle.gw_gate.specs.Journal.{Journal, WasAccepted, WasSwapped, WasTaken, WasKept, WasOut}
-use Rattle.gw_gate.specs.Replies.{Looks, Arrives, Swaps, Takes, Puts, Releases, run, most}
+use Rattle.gw_gate.specs.Replies.{Arrives, Swaps, Takes, Puts, Releases, run, most}
 use Rattle.gw_gate.specs.Toy.{first_plan, second_plan, message, made, opened}
-use Rattle.gw_crew.specs.Notes.{NoteSeen, Looked, WasStale, WasFull, WasIdle, WasNothing, Added}
+use Rattle.gw_crew.specs.Notes.{NoteSeen, Looked, WasStale, WasIdle, WasNothing, Added}
 
 -- ---- two workers, beside the session that brought two messages
 

@@ -21,7 +21,7 @@ returns-in-Some-clause-counted g c =
 pub invariant_of-self-in-Some : goal.invariant_of-self-in-Some
 invariant_of-self-in-Some g c = record {
   counted =
-    counts_on _ _ _ _ _ _ _ _ _ c.self.invariant.counted c.step-answer.ensures.amount c.in-Ok.is c.in-Some.is c.reserve.ensures.items
-    c.push_reserved.ensures.items;
+      counts_on _ _ _ _ _ _ _ _ _ c.self.invariant.counted c.step-answer.ensures.amount c.in-Ok.is c.in-Some.is c.reserve.ensures.items
+      c.push_reserved.ensures.items;
   part = search rules;
 }
