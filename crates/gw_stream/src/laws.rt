@@ -11,7 +11,8 @@ use gw_validate::laws::{conforming_breaks_nothing, one_least};
 
 /// By a profile a content has one answer of each number and stamp at most.
 pub fn one_answer()
-    ensures { (p : ProfileValue) (stamp content : List ℕ) (number : ℕ) (a b : Answer) → WellFormed p → IsAnswer (Validated p) stamp number content a → IsAnswer (Validated p) stamp number content b → a ≡ b }
+    ensures { (p : ProfileValue) (stamp content : List ℕ) (number : ℕ) (a b : Answer) → WellFormed p → IsAnswer (Validated p) stamp number content a
+        → IsAnswer (Validated p) stamp number content b → a ≡ b }
 {
     reads_once();
     one_least();
