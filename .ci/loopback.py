@@ -68,6 +68,12 @@ class Line:
         self.came += piece
         return piece
 
+    def look(self):
+        """Takes what has come already, and waits for nothing."""
+        self.socket.setblocking(False)
+        with contextlib.suppress(BlockingIOError):
+            self.came += self.socket.recv(65536)
+
     def send(self, text):
         self.socket.settimeout(max(0.01, self.until - time.monotonic()))
         self.socket.sendall(text)
@@ -114,6 +120,9 @@ class Receiver:
                     self.blocks.append(block)
                     self.news.notify_all()
                 self.free.wait(max(0, self.until - time.monotonic()))
+                line.look()
+                if line.came:
+                    break
                 line.send(b"\x0bMSH|^~\\&|||||||ACK|R%d|P|2.5.1\rMSA|AA|%s\r\x1c\r" % (len(self.blocks), block.split(b"|")[9].split(b"\r")[0]))
             self.rest = line.came
             line.socket.close()
