@@ -101,10 +101,11 @@ class Line:
 
 
 class Receiver:
-    """A receiver: it takes one connection and answers AA to each block. It answers none before `free` is set, and closes at the block of number `last`."""
+    """A receiver: it takes one connection, and answers each block with the next of its codes and with `control`, where there is one, in place of the control id.
+    It answers none before `free` is set, and closes at the block of number `last`."""
 
-    def __init__(self, until, last=0, free=True):
-        self.until, self.last, self.blocks, self.rest = until, last, [], b""
+    def __init__(self, until, last=0, free=True, codes=(b"AA",), control=None):
+        self.until, self.last, self.codes, self.control, self.blocks, self.rest = until, last, codes, control, [], b""
         self.news, self.free, self.gone = threading.Condition(), threading.Event(), threading.Event()
         if free:
             self.free.set()
@@ -123,10 +124,14 @@ class Receiver:
                 line.look()
                 if line.came:
                     break
-                line.send(b"\x0bMSH|^~\\&|||||||ACK|R%d|P|2.5.1\rMSA|AA|%s\r\x1c\r" % (len(self.blocks), block.split(b"|")[9].split(b"\r")[0]))
+                line.send(self.acknowledgment(block))
             self.rest = line.came
             line.socket.close()
         self.gone.set()
+
+    def acknowledgment(self, block):
+        at, control = len(self.blocks), self.control or re.split(rb"[|\r]", block)[9]
+        return b"\x0bMSH|^~\\&|||||||ACK|R%d|P|2.5.1\rMSA|%s|%s\r\x1c\r" % (at, self.codes[(at - 1) % len(self.codes)], control)
 
     def has(self, what, stated):
         """Waits until as many blocks came as are stated."""
