@@ -101,7 +101,7 @@ class Line:
 
 
 class Receiver:
-    """A receiver: it takes one connection, and answers each block with the next of its codes and with `control`, where there is one, in place of the control id.
+    """A receiver: it takes one connection, and answers each block with the next of its codes, and with `control`, where there is one, for the control id.
     It answers none before `free` is set, and closes at the block of number `last`."""
 
     def __init__(self, until, last=0, free=True, codes=(b"AA",), control=None):
@@ -133,10 +133,13 @@ class Receiver:
         at, control = len(self.blocks), self.control or re.split(rb"[|\r]", block)[9]
         return b"\x0bMSH|^~\\&|||||||ACK|R%d|P|2.5.1\rMSA|%s|%s\r\x1c\r" % (at, self.codes[(at - 1) % len(self.codes)], control)
 
-    def has(self, what, stated):
-        """Waits until as many blocks came as are stated."""
+    def wait(self, count):
+        """Waits until so many blocks came."""
         with self.news:
-            self.news.wait_for(lambda: len(self.blocks) >= len(stated), max(0, self.until - time.monotonic()))
+            self.news.wait_for(lambda: len(self.blocks) >= count, max(0, self.until - time.monotonic()))
+
+    def has(self, what, stated):
+        self.wait(len(stated))
         same_blocks(what, stated, list(self.blocks))
 
 
@@ -187,12 +190,12 @@ class Trial:
 
     def wait(self, name, pattern):
         """The first line of this form, when it is told."""
-        found = []
+        told = self.told[name]
+        first = lambda: next(filter(None, (re.fullmatch(pattern, it) for it in told)), None)
         with self.news:
-            told = self.told[name]
-            if not self.news.wait_for(lambda: found.extend(filter(None, (re.fullmatch(pattern, it) for it in told))) or found, max(0, self.until - time.monotonic())):
+            if not self.news.wait_for(first, max(0, self.until - time.monotonic())):
                 raise Differs(f"no line {pattern!r} was told in time; was: {told}")
-        return found[0]
+            return first()
 
     def serve(self, sessions, workers, **kind):
         """Starts a service by the hospital's plan, and waits until it listens and its receivers are connected."""
