@@ -10,7 +10,9 @@ pub mod Keys
 pub mod Levels
 pub mod Messages
 pub mod Writes
+pub mod Steps
 pub mod Runs
+pub mod Flat
 pub mod Stored
 pub mod Rounds
 pub mod Again

@@ -1,17 +1,13 @@
 -- Leaves in order, cut behind those with one number.
-use Rattle.std.proofs.Common.{◌≡◌, ◌≢◌, ℕ, suc, ◌+◌, ◌<◌, ◌≤◌, true, false, cond, not, List, [], ◌∷◌, ◌++◌, length, map, take, drop, None, Some, Ordering, Greater, refl, sym, ap, subst, ◌∙◌, arith, inl, inr}
-use Rattle.std.specs.Prelude.{◌==◌, nat_lt, position, T}
-use Rattle.std.proofs.lemmas.Bool.{cases_lt, lt-ltb, eqb-true, eq-eqb}
-use Rattle.std.proofs.lemmas.List.{take_all, drop_all}
+use Rattle.std.proofs.Common.{◌≡◌, ◌≢◌, ℕ, suc, ◌+◌, ◌<◌, ◌≤◌, true, false, cond, not, List, [], ◌∷◌, ◌++◌, map, take, drop, Ordering, Greater, refl, sym, ap, subst, ◌∙◌, arith, inl, inr}
+use Rattle.std.specs.Prelude.{◌==◌, T}
+use Rattle.std.proofs.lemmas.Bool.{cases_lt, eqb-true, eq-eqb}
 use Rattle.std.specs.List.{prefix_len, AllByRecursion}
 use Rattle.std.specs.Ordering.{is_lt, ordering_then}
 use Rattle.std.specs.Cmp.{nat_cmp_is}
 use Rattle.std.specs.FinMap.Entries.{below_all}
 use Rattle.gw_er7.specs.declared.segment.Leaf.{Leaf}
 use Rattle.gw_er7.specs.Entries.{Entry, under}
-use Rattle.gw_er7.specs.declared.level.Level.{Level}
-use Rattle.gw_er7.specs.declared.level.Level.TheVariants.{Field, Repetition, Component, Subcomponent}
-use Rattle.gw_er7.specs.Layers.{number_at, seen_at, inside, part_text}
 use Rattle.gw_er7.specs.Ordered.{IsAtLeast, Above, IsOrdered, IsCut}
 use Rattle.gw_er7.proofs.Sorted.{order, both, first, second, cmp-same}
 
@@ -79,48 +75,3 @@ module _ (head : Leaf → ℕ) (tail : Leaf → Entry) where
               outer = record { rising = is.rising; from = least-above n (x ∷ xs) above; positive = is.positive };
             }
       ] refl
-
-  -- what `position` found
-  pub cut_none : (n : ℕ) (xs : List Leaf) → IsOrdered n (map full xs) → position (λ l. not (head l == n)) xs ≡ None → IsCut n (map full xs) (map tail xs) []
-  cut_none n xs is e =
-      let k = prefix_len (λ l. not (not (head l == n))) xs in
-      let all : length xs ≤ k = unfound k (length xs) e in
-      let t : take k xs ≡ xs = take_all k xs all in
-      let d : drop k xs ≡ [] = drop_all k xs all in
-      subst (λ (ys : List Leaf). IsCut n (map full xs) (map tail xs) (map full ys)) d (subst (λ (ys : List Leaf). IsCut n (map full xs) (map tail ys) (map full (drop k xs))) t (cut_run n xs is))
-    where
-      unfound : (a n : ℕ) → cond (nat_lt a n) (Some a) None ≡ None → n ≤ a
-      unfound a n h =
-          elim (cases_lt a n) as (λ _. n ≤ a) [
-            | inl lt ↦ (let below : nat_lt a n ≡ true = lt-ltb _ _ lt in let e = rw below at h in absurd (let z : ⊥ = cc in z))
-            | inr le ↦ le
-          ]
-
-  pub cut_some : (n : ℕ) (xs : List Leaf) (end : ℕ) (later : List Leaf) → IsOrdered n (map full xs) → position (λ l. not (head l == n)) xs ≡ Some end → later ≡ drop end xs → IsCut n (map full xs) (map tail (take end xs)) (map full later)
-  cut_some n xs end later is e d =
-      let k = prefix_len (λ l. not (not (head l == n))) xs in
-      let same : k ≡ end = found k (length xs) end e in
-      subst (λ (ys : List Leaf). IsCut n (map full xs) (map tail (take end xs)) (map full ys)) (sym d) (subst (λ (j : ℕ). IsCut n (map full xs) (map tail (take j xs)) (map full (drop j xs))) same (cut_run n xs is))
-    where
-      found : (a n end : ℕ) → cond (nat_lt a n) (Some a) None ≡ Some end → a ≡ end
-      found a n end h = elim (nat_lt a n) as (λ v. cond v (Some a) None ≡ Some end → a ≡ end) [ true ↦ λ h. cc | false ↦ λ h. absurd (let z : ⊥ = cc in z) ] h
-
--- ---- at each level
-
-pub level_none : (level : Level) (n : ℕ) (xs : List Leaf) → IsOrdered n (map (seen_at level) xs) → position (λ l. not (number_at level l.place == n)) xs ≡ None → IsCut n (map (seen_at level) xs) (map (inside level) xs) []
-level_none Field n xs is e = cut_none (λ l. l.place.field) (inside Field) n xs is e
-level_none Repetition n xs is e = cut_none (λ l. l.place.rep) (inside Repetition) n xs is e
-level_none Component n xs is e = cut_none (λ l. l.place.comp) (inside Component) n xs is e
-level_none Subcomponent n xs is e = cut_none (λ l. l.place.sub) (inside Subcomponent) n xs is e
-
-pub level_some : (level : Level) (n : ℕ) (xs : List Leaf) (end : ℕ) (later : List Leaf) → IsOrdered n (map (seen_at level) xs) → position (λ l. not (number_at level l.place == n)) xs ≡ Some end → later ≡ drop end xs → IsCut n (map (seen_at level) xs) (map (inside level) (take end xs)) (map (seen_at level) later)
-level_some Field n xs end later is e d = cut_some (λ l. l.place.field) (inside Field) n xs end later is e d
-level_some Repetition n xs end later is e d = cut_some (λ l. l.place.rep) (inside Repetition) n xs end later is e d
-level_some Component n xs end later is e d = cut_some (λ l. l.place.comp) (inside Component) n xs end later is e d
-level_some Subcomponent n xs end later is e d = cut_some (λ l. l.place.sub) (inside Subcomponent) n xs end later is e d
-
-pub part_empty : (level : Level) → part_text level [] ≡ []
-part_empty Field = refl
-part_empty Repetition = refl
-part_empty Component = refl
-part_empty Subcomponent = refl

@@ -1,5 +1,5 @@
 -- A level that is written part by part.
-use Rattle.std.proofs.Common.{◌≡◌, ◌≢◌, ℕ, zero, suc, ◌+◌, ◌-◌, ◌<◌, ◌≤◌, max, Bool, true, false, List, [], ◌∷◌, ◌++◌, length, map, refl, sym, ap, ◌∙◌, append-nil, append_assoc, arith}
+use Rattle.std.proofs.Common.{◌≡◌, ◌≢◌, ℕ, zero, suc, ◌+◌, ◌-◌, ◌<◌, ◌≤◌, max, Bool, true, false, List, [], ◌∷◌, ◌++◌, length, map, refl, sym, ap, ◌∙◌, append-nil, arith}
 use Rattle.std.specs.Prelude.{◌==◌}
 use Rattle.std.proofs.lemmas.Bool.{eq-eqb, eqb-true}
 use Rattle.std.specs.List.{join_with_byte}
@@ -80,28 +80,13 @@ layer-more inner s n es rest above some =
     ∙ ap (λ (x : List Entry). inner x ++ s ∷ join_with_byte s (parts_from inner rest (n + 1) (suc (last_number rest - n - 1)))) (those-first n es rest above)
     ∙ ap (λ (k : ℕ). inner es ++ s ∷ join_with_byte s (parts_from inner rest (n + 1) k)) (sym later)
 
--- ---- a loop over the parts
+-- ---- parts one after the other
 
-length-view : {A : Type 0} (f : A → Entry) (xs : List A) → length (map f xs) ≡ length xs
+pub length-view : {A : Type 0} (f : A → Entry) (xs : List A) → length (map f xs) ≡ length xs
 length-view f [] = refl
 length-view f (x ∷ xs) = omega (arith, length-view f xs)
 
--- a part was written, and the separator behind it
-pub written_more : {A : Type 0} (view : A → Entry) (inner : List Entry → List ℕ) (s n : ℕ) (es these : List Entry) (later : List A) (out mid new target : List ℕ) → IsCut n es these (map view later) → 0 < length later
-    → out ++ layer inner s n es ≡ target → mid ≡ out ++ inner these → new ≡ mid ++ s ∷ [] → new ++ layer inner s (n + 1) (map view later) ≡ target
-written_more view inner s n es these later out mid new target cut some h m e =
-    let rest = layer inner s (n + 1) (map view later) in
-    let one : layer inner s n es ≡ inner these ++ s ∷ rest = ap (layer inner s n) cut.whole ∙ layer-more inner s n these (map view later) cut.above (omega (arith, length-view view later)) in
-    ap (λ (x : List ℕ). x ++ rest) (e ∙ ap (λ (x : List ℕ). x ++ s ∷ []) m) ∙ append_assoc (out ++ inner these) (s ∷ []) rest ∙ append_assoc out (inner these) (s ∷ rest) ∙ ap (λ (x : List ℕ). out ++ x) (sym one) ∙ h
-
--- the last part was written
-pub written_last : {A : Type 0} (view : A → Entry) (inner : List Entry → List ℕ) (s n : ℕ) (es these : List Entry) (later : List A) (out mid target : List ℕ) → IsCut n es these (map view later) → length later ≡ 0 → 0 < n → inner [] ≡ []
-    → out ++ layer inner s n es ≡ target → mid ≡ out ++ inner these → mid ≡ target
-written_last view inner s n es these [] out mid target cut none lt empty h m =
-    let one : layer inner s n es ≡ inner these = ap (layer inner s n) (cut.whole ∙ append-nil (map (under n) these)) ∙ layer-last inner s n these lt empty in
-    m ∙ ap (λ (x : List ℕ). out ++ x) (sym one) ∙ h
-written_last view inner s n es these (x ∷ later) out mid target cut none lt empty h m = absurd (omega arith)
-
+-- what stands behind a part reaches no further than all
 pub record IsFurther (n : ℕ) (es later : List Entry) : Type 0 where
   pub above : n < last_number later
   pub last : last_number later ≤ last_number es

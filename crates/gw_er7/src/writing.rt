@@ -1,11 +1,10 @@
 //! How leaves are written.
-ghost use Rattle.std.specs.Prelude.{◌≡◌, ◌+◌, ◌<◌, ◌++◌, ◌==◌, not, map, position, OnOk, MatchResult, [], ◌∷◌};
+ghost use Rattle.std.specs.Prelude.{◌≡◌, ◌-◌, ◌<◌, ◌++◌, ◌==◌, ◌&&◌, if◌then◌else◌, replicate, OnOk, MatchResult, [], ◌∷◌};
 ghost use Rattle.gw_er7.specs.Message.{first_field};
 ghost use Rattle.gw_er7.specs.View.{entries_of};
-ghost use Rattle.gw_er7.specs.Written.{layer, leaf_text, behind_separator, delimiters_text};
-ghost use Rattle.gw_er7.specs.Ordered.{IsOrdered, IsCut};
-ghost use Rattle.gw_er7.specs.Layers.{number_at, seen_at, inside, separator_of, part_text};
-ghost use Rattle.gw_er7.specs.declared.level.Level.TheVariants.{Subcomponent};
+ghost use Rattle.gw_er7.specs.Written.{fields_text, behind_separator, delimiters_text};
+ghost use Rattle.gw_er7.specs.Ordered.{IsOrdered};
+ghost use Rattle.gw_er7.specs.Layers.{number_at, separator_of};
 
 use crate::checks::is_header;
 use crate::level::Level;
@@ -35,74 +34,64 @@ fn separator_of(level: Level) -> u8
     }
 }
 
-fn end_of_part(level: Level, leaves: &[Leaf], number: usize) -> Option<usize>
-    ensures { result ≡ position (λ l. not (number_at level l.place == number)) leaves.now }
+/// Writes the separators of a level between two places.
+fn write_gap(out: &mut Vec<u8>, level: Level, from: Place, to: Place) -> Result<(), AllocError>
+    ensures { OnOk result (out.new.items ≡ out.old.items ++ replicate (number_at level to - number_at level from) (separator_of level)) }
 {
-    leaves
-        .iter()
-        .position(|leaf| number_at(level, leaf.place) != number)
-}
-
-/// The leaves of the part of this number, and those behind it.
-fn cut_part(level: Level, leaves: &[Leaf], number: usize) -> (&[Leaf], &[Leaf])
-    requires { IsOrdered number (map (seen_at level) leaves.now) }
-    ensures { IsCut number (map (seen_at level) leaves.now) (map (inside level) result.0.now) (map (seen_at level) result.1.now) }
-{
-    match end_of_part(level, leaves, number) {
-        None => (leaves, &[]),
-        Some(end) => (&leaves[..end], &leaves[end..]),
-    }
-}
-
-fn write_text(out: &mut Vec<u8>, leaves: &[Leaf]) -> Result<(), AllocError>
-    ensures { OnOk result (out.new.items ≡ out.old.items ++ leaf_text (map (inside Subcomponent) leaves.now)) }
-{
-    match leaves {
-        [] => Ok(()),
-        [leaf, ..] => out.extend_from_slice(&leaf.text),
-    }
-}
-
-/// Writes a part of a level: its own parts, or its text.
-#[cycle(write)]
-fn write_part(out: &mut Vec<u8>, level: Level, leaves: &[Leaf]) -> Result<(), AllocError>
-    requires { IsOrdered 1 (map (inside level) leaves.now) }
-    ensures { OnOk result (out.new.items ≡ out.old.items ++ part_text level (map (inside level) leaves.now)) }
-{
-    match level {
-        Level::Field => write_level(out, Level::Repetition, 1, leaves),
-        Level::Repetition => write_level(out, Level::Component, 1, leaves),
-        Level::Component => write_level(out, Level::Subcomponent, 1, leaves),
-        Level::Subcomponent => write_text(out, leaves),
-    }
-}
-
-/// Writes the parts of a level, the first of which has this number.
-#[cycle(write)]
-fn write_level(
-    out: &mut Vec<u8>,
-    level: Level,
-    first: usize,
-    leaves: &[Leaf],
-) -> Result<(), AllocError>
-    requires from { 0 < first }
-    requires ordered { IsOrdered first (map (seen_at level) leaves.now) }
-    ensures { OnOk result (out.new.items ≡ out.old.items ++ layer (part_text level) (separator_of level) first (map (seen_at level) leaves.now)) }
-{
-    let mut number = first;
-    let mut rest = leaves;
-    loop {
-        let (these, later) = cut_part(level, rest, number);
-        write_part(out, level, these)?;
-        if later.is_empty() {
-            return Ok(());
-        }
-        let next = number_at(level, later[0].place);
-        prove!(number < next);
+    let mut number = number_at(level, from);
+    while number < number_at(level, to) {
         out.push(separator_of(level))?;
         number += 1;
-        rest = later;
     }
+    Ok(())
+}
+
+/// The place from which separators are counted on the way from one place to another: behind the first number that differs each is counted from 1.
+fn counted_from(from: Place, to: Place) -> Place
+    ensures field { result.field ≡ from.field }
+    ensures rep { result.rep ≡ (if to.field == from.field then from.rep else 1) }
+    ensures comp { result.comp ≡ (if to.field == from.field && to.rep == from.rep then from.comp else 1) }
+    ensures sub { result.sub ≡ (if to.field == from.field && (to.rep == from.rep && to.comp == from.comp) then from.sub else 1) }
+{
+    let first = Place { sub: 1, ..from };
+    if to.field != from.field {
+        return Place {
+            rep: 1,
+            comp: 1,
+            ..first
+        };
+    }
+    if to.rep != from.rep {
+        return Place { comp: 1, ..first };
+    }
+    if to.comp != from.comp {
+        return first;
+    }
+    from
+}
+
+/// Writes the fields of these leaves, the first of which has this number: each text behind the separators that lead to it.
+fn write_fields(out: &mut Vec<u8>, first: usize, leaves: &[Leaf]) -> Result<(), AllocError>
+    requires from { 0 < first }
+    requires ordered { IsOrdered first (entries_of leaves.now) }
+    ensures { OnOk result (out.new.items ≡ out.old.items ++ fields_text first (entries_of leaves.now)) }
+{
+    let mut here = Place {
+        field: first,
+        rep: 1,
+        comp: 1,
+        sub: 1,
+    };
+    for leaf in leaves {
+        let from = counted_from(here, leaf.place);
+        write_gap(out, Level::Field, from, leaf.place)?;
+        write_gap(out, Level::Repetition, from, leaf.place)?;
+        write_gap(out, Level::Component, from, leaf.place)?;
+        write_gap(out, Level::Subcomponent, from, leaf.place)?;
+        out.extend_from_slice(&leaf.text)?;
+        here = leaf.place;
+    }
+    Ok(())
 }
 
 /// Writes a name, and in MSH the delimiters; gives the number of the first field behind them.
@@ -127,7 +116,7 @@ fn write_behind(out: &mut Vec<u8>, first: usize, leaves: &[Leaf]) -> Result<(), 
         return Ok(());
     }
     out.push(b'|')?;
-    write_level(out, Level::Field, first, leaves)
+    write_fields(out, first, leaves)
 }
 
 /// Writes the line of a segment, and its end.
