@@ -1,5 +1,5 @@
 -- Segments as they are lent: what their leaves stand for.
-use Rattle.std.proofs.Common.{◌≡◌, ℕ, zero, suc, ◌+◌, ◌-◌, ◌<◌, ◌≤◌, Bool, true, false, List, [], ◌∷◌, length, get_or, Some, Ordering, Less, Equal, Greater, refl, sym, ap, subst, ◌∙◌, arith}
+use Rattle.std.proofs.Common.{◌≡◌, ℕ, zero, suc, ◌+◌, ◌-◌, ◌<◌, ◌≤◌, true, false, List, [], ◌∷◌, length, get_or, Some, Ordering, Less, Equal, Greater, refl, sym, ap, subst, ◌∙◌, arith}
 use Rattle.std.specs.Prelude.{slice_get}
 use Rattle.std.specs.List.{AllByRecursion}
 use Rattle.std.specs.List.Sorted.{IsPartitionPoint}
@@ -13,7 +13,7 @@ use Rattle.gw_er7.specs.Entries.{Entry}
 use Rattle.gw_er7.specs.Presence.{IsStart}
 use Rattle.gw_er7.specs.View.{entry_of, entries_of, is_below, is_within, stored, IsLent, AreValues}
 use Rattle.gw_er7.proofs.Sorted.{order}
-use Rattle.gw_er7.proofs.Under.{cases_cmp, less_is, greater_is}
+use Rattle.gw_er7.proofs.Under.{cases_cmp, less_is}
 
 one_positive : (n : ℕ) (k : List ℕ) → IsKey n k → IsKey 1 k
 one_positive n [] is = absurd (let four = is.four in omega arith)
@@ -35,7 +35,7 @@ segment_is name xs s is e = subst (λ (v : SegmentValue). IsSegment v) e is.segm
 pub entries_are : (name : List ℕ) (xs : List Leaf) (s : SegmentValue) → IsLent name xs → stored name xs ≡ s → entries_of xs ≡ texts.entries s.at
 entries_are name xs s is e = sym (entries-from_sorted (slice_cmp nat_cmp) (entries_of xs) is.sorted) ∙ ap (λ (v : SegmentValue). texts.entries v.at) e
 
-length-entries : (xs : List Leaf) → length (entries_of xs) ≡ length xs
+pub length-entries : (xs : List Leaf) → length (entries_of xs) ≡ length xs
 length-entries [] = refl
 length-entries (x ∷ xs) = omega (arith, length-entries xs)
 

@@ -13,6 +13,7 @@ pub mod Writes
 pub mod Steps
 pub mod Runs
 pub mod Flat
+pub mod Rooms
 pub mod Stored
 pub mod Rounds
 pub mod Again

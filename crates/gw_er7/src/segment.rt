@@ -67,7 +67,7 @@ impl Model for StoredSegment {
 }
 
 impl StoredSegment {
-    ghost use Rattle.std.specs.Prelude.{◌≡◌, ◌≤◌, ◌++◌, ◌∷◌, [], T, OnOk, OnErr, IfOk, None};
+    ghost use Rattle.std.specs.Prelude.{◌≡◌, ◌≤◌, ◌+◌, ◌*◌, ◌-◌, ◌^◌, ◌++◌, ◌∷◌, [], T, length, min, OnOk, OnErr, IfOk, None};
     ghost use Rattle.gw_er7.specs.Message.{IsSegment, numbers};
     ghost use Rattle.gw_er7.specs.Written.{line_text};
     ghost use Rattle.std.specs.Ordering.{nat_cmp};
@@ -82,6 +82,13 @@ impl StoredSegment {
         ensures { result ≡ record { name = name; at = texts.from_sorted (entries_of leaves.items) } }
     {
         StoredSegment { name, leaves }
+    }
+
+    /// Room for the segment's line: eight bytes for each text with its separators, which is about what texts take, and four for the name and the end.
+    pub(crate) fn room(&self) -> usize
+        ensures { result ≡ min (length (texts.entries self.now.at) * 8 + 4) (2 ^ 64 - 1) }
+    {
+        self.leaves.len().saturating_mul(8).saturating_add(4)
     }
 
     /// Writes the segment's line, and its end.

@@ -1,0 +1,11 @@
+use Rattle.std.proofs.Common.{arith}
+use Rattle.gw_er7.specs.View.{entries_of}
+use Rattle.gw_er7.proofs.Lent.{length-entries}
+use Rattle.gw_er7.proofs.Stored.{held}
+use Rattle.gw_er7.proofs.segment.StoredSegment.room.Goals as goal
+
+pub returns : goal.returns
+returns c =
+    let leaves = c.self.inside.leaves.items in
+    let count = length-entries leaves in
+    rw (held c.self.inside.name (entries_of leaves) c.args.self.now c.self.invariant c.self.view_is) (omega (arith, count, c.len.ensures, c.saturating_mul.ensures, c.saturating_add.ensures))

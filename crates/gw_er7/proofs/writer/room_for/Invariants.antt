@@ -1,0 +1,10 @@
+use Rattle.std.proofs.Common.{◌≡◌, ◌<◌, ◌+◌, ◌-◌, ◌^◌, min, drop}
+use Rattle.std.specs.List.{sum_by}
+use Rattle.gw_er7.proofs.Rooms.{line_room}
+use Rattle.gw_er7.proofs.writer.room_for.Given as goal
+
+abbrev pub invariant-loop-segment : goal.invariant-loop-segment
+invariant-loop-segment l = record {
+  room : min (l.room + sum_by line_room (drop l.segment-index l.segments)) (2 ^ 64 - 1) ≡ min (sum_by line_room l.segments) (2 ^ 64 - 1);
+  fits : l.room < 2 ^ 64;
+}
