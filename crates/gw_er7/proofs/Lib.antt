@@ -2,6 +2,7 @@ pub mod Sequences
 pub mod Cuts
 pub mod Separated
 pub mod Fixed
+pub mod Heads
 pub mod Lined
 pub mod Faults
 pub mod Sorted

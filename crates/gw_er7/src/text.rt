@@ -1,6 +1,6 @@
 //! The canonical text of a raw value (HL7 v2.5.1 chapter 2, 2.7 "Use of escape sequences in text fields").
-ghost use Rattle.std.specs.Prelude.{◌≡◌, ◌+◌, ◌≤◌, ◌<◌, ◌++◌, ◌∷◌, [], length, IsTrue, IfOk, IfNone, IfSome, OnOk, OnErr, ◌↔◌, Some, None, true, false, not};
-ghost use Rattle.std.specs.List.{list_all};
+ghost use Rattle.std.specs.Prelude.{◌≡◌, ◌+◌, ◌≤◌, ◌<◌, ◌++◌, ◌∷◌, ◌==◌, ◌||◌, [], length, position, IsTrue, IfOk, IfNone, IfSome, OnOk, OnErr, ◌↔◌, Some, None, true, false, not};
+ghost use Rattle.std.specs.List.{list_all, position_or_len};
 ghost use Rattle.gw_er7.specs.Text.{canon, escaped, plainly, meaning, delimiter_of, is_body, is_special, body_of, opens};
 
 use crate::delimiters::Delimiters;
@@ -88,12 +88,47 @@ fn push_meaning(text: &mut Vec<u8>, delimiters: Delimiters, body: &[u8]) -> Resu
     }
 }
 
+/// The place of the first byte that is special or the sender's escape character.
+fn first_stop(delimiters: Delimiters, raw: &[u8]) -> Option<usize>
+    ensures { result ≡ position (λ b. is_special b || b == delimiters.escape) raw.now }
+{
+    raw.iter()
+        .position(|byte| is_special(*byte) || *byte == delimiters.escape)
+}
+
+/// How many bytes stand before that one, or how many there are where there is none.
+fn head_len(delimiters: Delimiters, raw: &[u8]) -> usize
+    ensures { result ≡ position_or_len (λ b. is_special b || b == delimiters.escape) raw.now }
+{
+    match first_stop(delimiters, raw) {
+        Some(len) => len,
+        None => raw.len(),
+    }
+}
+
+/// Takes in the bytes up to the first that doesn't stand for itself, at once; gives those from there on.
+fn push_head<'a>(
+    text: &mut Vec<u8>,
+    delimiters: Delimiters,
+    raw: &'a [u8],
+) -> Result<&'a [u8], AllocError>
+    ensures same { IfOk result (λ rest. text.new.items ++ canon delimiters rest.now ≡ text.old.items ++ canon delimiters raw.now) }
+    ensures within { IfOk result (λ rest. length rest.now ≤ length raw.now) }
+{
+    let len = head_len(delimiters, raw);
+    if len == 0 {
+        return Ok(raw);
+    }
+    text.extend_from_slice(&raw[..len])?;
+    Ok(&raw[len..])
+}
+
 /// The canonical text of a raw value under the sender's delimiters.
 pub fn canonical(alloc: Global, delimiters: Delimiters, raw: &[u8]) -> Result<Vec<u8>, AllocError>
     ensures { IfOk result (λ text. text.items ≡ canon delimiters raw.now) }
 {
     let mut text = Vec::with_capacity(alloc, raw.len())?;
-    let mut rest = raw;
+    let mut rest = push_head(&mut text, delimiters, raw)?;
     while let [first, after @ ..] = rest {
         match body_at(delimiters, *first, after) {
             Some(body) => {
@@ -102,7 +137,7 @@ pub fn canonical(alloc: Global, delimiters: Delimiters, raw: &[u8]) -> Result<Ve
             }
             None => {
                 push_plainly(&mut text, *first)?;
-                rest = after;
+                rest = push_head(&mut text, delimiters, after)?;
             }
         }
     }

@@ -1,0 +1,62 @@
+-- The bytes of a raw value that stand for themselves, up to the first that doesn't.
+use Rattle.std.proofs.Common.{◌≡◌, ℕ, suc, ◌+◌, ◌≤◌, Bool, true, false, cond, not, List, [], ◌∷◌, ◌++◌, length, take, drop, None, Some, refl, sym, ap, subst, ◌∙◌, append_assoc, arith, inl, inr}
+use Rattle.std.specs.Prelude.{◌==◌, ◌||◌, nat_lt, position}
+use Rattle.std.proofs.lemmas.Bool.{cases_lt, lt-ltb}
+use Rattle.std.proofs.lemmas.List.Sums.{prefix_len-le-length}
+use Rattle.std.specs.List.{position_or_len}
+use Rattle.gw_er7.specs.declared.delimiters.Delimiters.{Delimiters}
+use Rattle.gw_er7.specs.Text.{canon, is_special}
+use Rattle.gw_er7.proofs.Fixed.{itself}
+use Rattle.gw_er7.proofs.Sequences.{canon-plain}
+
+-- special, or the sender's escape character
+abbrev pub stops : Delimiters → ℕ → Bool
+stops d b = is_special b || b == d.escape
+
+first_false : (u v : Bool) → (u || v) ≡ false → u ≡ false
+first_false true v e = e
+first_false false v e = refl
+
+second_false : (u v : Bool) → (u || v) ≡ false → v ≡ false
+second_false true v e = absurd (let z : ⊥ = cc in z)
+second_false false v e = e
+
+canon-kept : (d : Delimiters) (b : ℕ) (bs : List ℕ) → stops d b ≡ false → canon d (b ∷ bs) ≡ b ∷ canon d bs
+canon-kept d b bs e =
+    let escape : (b == d.escape) ≡ false = second_false (is_special b) (b == d.escape) e in
+    canon-plain d b bs (rw escape refl) ∙ ap (λ (x : List ℕ). x ++ canon d bs) (itself b (first_false (is_special b) (b == d.escape) e))
+
+pub canon-head : (d : Delimiters) (bs : List ℕ) → canon d bs ≡ take (position_or_len (stops d) bs) bs ++ canon d (drop (position_or_len (stops d) bs) bs)
+canon-head d [] = refl
+canon-head d (b ∷ bs) =
+    let k = position_or_len (stops d) bs in
+    let more : 1 + k ≡ suc k = omega arith in
+    elim (stops d b) as (λ v. stops d b ≡ v → canon d (b ∷ bs) ≡ take (cond (not v) (1 + k) 0) (b ∷ bs) ++ canon d (drop (cond (not v) (1 + k) 0) (b ∷ bs))) [
+      | true ↦ λ e. refl
+      | false ↦ λ e. subst (λ (n : ℕ). canon d (b ∷ bs) ≡ take n (b ∷ bs) ++ canon d (drop n (b ∷ bs))) (sym more) (canon-kept d b bs e ∙ ap (λ (x : List ℕ). b ∷ x) (canon-head d bs))
+    ] refl
+
+-- ---- what `position` found
+
+found : (a n k : ℕ) → cond (nat_lt a n) (Some a) None ≡ Some k → k ≡ a
+found a n k h = elim (nat_lt a n) as (λ v. cond v (Some a) None ≡ Some k → k ≡ a) [ true ↦ λ h. cc | false ↦ λ h. absurd (let z : ⊥ = cc in z) ] h
+
+unfound : (a n : ℕ) → cond (nat_lt a n) (Some a) None ≡ None → n ≤ a
+unfound a n h =
+    elim (cases_lt a n) as (λ _. n ≤ a) [
+      | inl lt ↦ (let below : nat_lt a n ≡ true = lt-ltb _ _ lt in let e = rw below at h in absurd (let z : ⊥ = cc in z))
+      | inr le ↦ le
+    ]
+
+pub head_found : (d : Delimiters) (bs : List ℕ) (k : ℕ) → position (stops d) bs ≡ Some k → k ≡ position_or_len (stops d) bs
+head_found d bs k e = found (position_or_len (stops d) bs) (length bs) k e
+
+pub head_whole : (d : Delimiters) (bs : List ℕ) → position (stops d) bs ≡ None → length bs ≡ position_or_len (stops d) bs
+head_whole d bs e = omega (arith, unfound (position_or_len (stops d) bs) (length bs) e, prefix_len-le-length (λ b. not (stops d b)) bs)
+
+-- the bytes at the head were taken in
+pub head_taken : (d : Delimiters) (text out bs head rest : List ℕ) (k : ℕ) → k ≡ position_or_len (stops d) bs → head ≡ take k bs → rest ≡ drop k bs → out ≡ text ++ head → out ++ canon d rest ≡ text ++ canon d bs
+head_taken d text out bs head rest k e first later o =
+    let one : canon d bs ≡ take k bs ++ canon d (drop k bs) = subst (λ (n : ℕ). canon d bs ≡ take n bs ++ canon d (drop n bs)) (sym e) (canon-head d bs) in
+    ap (λ (x : List ℕ). x ++ canon d rest) (o ∙ ap (λ (x : List ℕ). text ++ x) first) ∙ append_assoc text (take k bs) (canon d rest)
+    ∙ ap (λ (x : List ℕ). text ++ (take k bs ++ canon d x)) later ∙ ap (λ (x : List ℕ). text ++ x) (sym one)
