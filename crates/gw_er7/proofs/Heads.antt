@@ -3,7 +3,7 @@ use Rattle.std.proofs.Common.{◌≡◌, ℕ, suc, ◌+◌, ◌≤◌, Bool, tru
 use Rattle.std.specs.Prelude.{◌==◌, ◌||◌, nat_lt, position}
 use Rattle.std.proofs.lemmas.Bool.{cases_lt, lt-ltb}
 use Rattle.std.proofs.lemmas.List.Sums.{prefix_len-le-length}
-use Rattle.std.specs.List.{position_or_len}
+use Rattle.std.specs.List.{position_or_len, before_first}
 use Rattle.gw_er7.specs.declared.delimiters.Delimiters.{Delimiters}
 use Rattle.gw_er7.specs.Text.{canon, is_special}
 use Rattle.gw_er7.proofs.Fixed.{itself}
@@ -55,8 +55,7 @@ pub head_whole : (d : Delimiters) (bs : List ℕ) → position (stops d) bs ≡ 
 head_whole d bs e = omega (arith, unfound (position_or_len (stops d) bs) (length bs) e, prefix_len-le-length (λ b. not (stops d b)) bs)
 
 -- the bytes at the head were taken in
-pub head_taken : (d : Delimiters) (text out bs head rest : List ℕ) (k : ℕ) → k ≡ position_or_len (stops d) bs → head ≡ take k bs → rest ≡ drop k bs → out ≡ text ++ head → out ++ canon d rest ≡ text ++ canon d bs
-head_taken d text out bs head rest k e first later o =
-    let one : canon d bs ≡ take k bs ++ canon d (drop k bs) = subst (λ (n : ℕ). canon d bs ≡ take n bs ++ canon d (drop n bs)) (sym e) (canon-head d bs) in
-    ap (λ (x : List ℕ). x ++ canon d rest) (o ∙ ap (λ (x : List ℕ). text ++ x) first) ∙ append_assoc text (take k bs) (canon d rest)
-    ∙ ap (λ (x : List ℕ). text ++ (take k bs ++ canon d x)) later ∙ ap (λ (x : List ℕ). text ++ x) (sym one)
+pub head_taken : (d : Delimiters) (text out bs rest : List ℕ) → out ≡ text ++ before_first (stops d) bs → rest ≡ drop (position_or_len (stops d) bs) bs → out ++ canon d rest ≡ text ++ canon d bs
+head_taken d text out bs rest o later =
+    let head = before_first (stops d) bs in
+    ap (λ (x : List ℕ). x ++ canon d rest) o ∙ append_assoc text head (canon d rest) ∙ ap (λ (x : List ℕ). text ++ (head ++ canon d x)) later ∙ ap (λ (x : List ℕ). text ++ x) (sym (canon-head d bs))

@@ -1,6 +1,6 @@
 //! The canonical text of a raw value (HL7 v2.5.1 chapter 2, 2.7 "Use of escape sequences in text fields").
-ghost use Rattle.std.specs.Prelude.{◌≡◌, ◌+◌, ◌≤◌, ◌<◌, ◌++◌, ◌∷◌, ◌==◌, ◌||◌, [], length, position, IsTrue, IfOk, IfNone, IfSome, OnOk, OnErr, ◌↔◌, Some, None, true, false, not};
-ghost use Rattle.std.specs.List.{list_all, position_or_len};
+ghost use Rattle.std.specs.Prelude.{◌≡◌, ◌+◌, ◌≤◌, ◌<◌, ◌++◌, ◌∷◌, ◌==◌, ◌||◌, [], length, drop, position, IsTrue, IfOk, IfNone, IfSome, OnOk, OnErr, ◌↔◌, Some, None, true, false, not};
+ghost use Rattle.std.specs.List.{list_all, position_or_len, before_first};
 ghost use Rattle.gw_er7.specs.Text.{canon, escaped, plainly, meaning, delimiter_of, is_body, is_special, body_of, opens};
 
 use crate::delimiters::Delimiters;
@@ -112,8 +112,8 @@ fn push_head<'a>(
     delimiters: Delimiters,
     raw: &'a [u8],
 ) -> Result<&'a [u8], AllocError>
-    ensures same { IfOk result (λ rest. text.new.items ++ canon delimiters rest.now ≡ text.old.items ++ canon delimiters raw.now) }
-    ensures within { IfOk result (λ rest. length rest.now ≤ length raw.now) }
+    ensures head { OnOk result (text.new.items ≡ text.old.items ++ before_first (λ b. is_special b || b == delimiters.escape) raw.now) }
+    ensures rest { IfOk result (λ rest. rest.now ≡ drop (position_or_len (λ b. is_special b || b == delimiters.escape) raw.now) raw.now) }
 {
     let len = head_len(delimiters, raw);
     if len == 0 {
