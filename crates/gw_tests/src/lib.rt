@@ -34,6 +34,8 @@ mod streams;
 #[cfg(test)]
 mod subjects;
 #[cfg(test)]
+mod threads;
+#[cfg(test)]
 mod translations;
 #[cfg(test)]
 mod verdicts;

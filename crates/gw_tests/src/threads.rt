@@ -1,0 +1,164 @@
+//! Two workers at one gate, each in a thread of its own.
+ghost use Rattle.std.specs.Prelude.{◌≡◌, ◌<◌};
+ghost use Rattle.std.specs.Thread.{IsSend, IsSync};
+
+use crate::gates::{admitted, begun, plan};
+use gw_gate::{Entry, Event, Reply};
+use gw_plan::Plan;
+use gw_run::{Counts, Door, LockedGate, Pass, Pause, Phase, worker};
+use std::alloc::Global;
+use std::marker::Brand;
+use std::sync::atomic::{AtomicBool, Ordering};
+use std::sync::ledger::{Blank, Ledger, Share};
+use std::sync::{Arc, Wait};
+use std::test::Fail;
+use std::thread::{Threads, join, yield_now};
+
+/// How often a worker looks for the other one.
+const LOOKS: u64 = 1_000_000;
+
+/// A pause until the other worker has a job too.
+#[derive(Clone, Copy)]
+struct Meets<'a> {
+    mine: &'a AtomicBool,
+    other: &'a AtomicBool,
+    stopped: bool,
+}
+
+impl Pause for Meets<'_> {
+    ghost has_stopped = { λ p. p.stopped };
+
+    fn stopped(&self) -> bool {
+        self.stopped
+    }
+
+    fn pause(&mut self, _n: u64) -> bool {
+        self.mine.store(true, Ordering::SeqCst);
+        for _look in 0..LOOKS {
+            if self.other.load(Ordering::SeqCst) {
+                self.stopped = false;
+                return true;
+            }
+            yield_now();
+        }
+        self.stopped = true;
+        false
+    }
+}
+
+/// What a worker's thread has: a part of the ledger of the gate, its own flag and the other one's.
+#[derive(Drop)]
+struct Hand<'a, L: Ledger> {
+    alloc: Global,
+    gate: &'a LockedGate<L>,
+    share: Share<L>,
+    mine: &'a AtomicBool,
+    other: &'a AtomicBool,
+}
+
+// What a worker counts at the gate.
+fn work<L: Ledger, R: Wait>(rt: &R, hand: Hand<'_, L>) -> Option<Counts>
+    requires part { 0 < hand.share.parts }
+    requires none { hand.share.amount ≡ 0 }
+{
+    let Hand {
+        alloc,
+        gate,
+        share,
+        mine,
+        other,
+    } = hand;
+    let mut pass = gate.pass(alloc, rt, share);
+    let mut pause = Meets {
+        mine,
+        other,
+        stopped: false,
+    };
+    worker(alloc, &mut pass, &mut pause).ok()
+}
+
+// So many messages arrive through the pass.
+fn arrive<L: Ledger, R: Wait>(
+    alloc: Global,
+    plan: &Arc<Plan>,
+    pass: &mut Pass<'_, L, R>,
+    count: u64,
+) -> Result<(), Fail> {
+    for n in 0..count {
+        match pass.call(Event::Arrive(admitted(alloc, plan, 0, n)?)) {
+            Ok(Reply::Accepted { .. }) => {}
+            _ => return Err("it isn't accepted".into()),
+        }
+    }
+    Ok(())
+}
+
+// How many entries of these are jobs, how many are results, and how many there are.
+fn counted(entries: &[Entry]) -> [usize; 3] {
+    let jobs = entries
+        .iter()
+        .filter(|e| matches!(e, Entry::Job { .. }))
+        .count();
+    let kept = entries
+        .iter()
+        .filter(|e| matches!(e, Entry::Kept { .. }))
+        .count();
+    [jobs, kept, entries.len()]
+}
+
+// What two workers make of two messages: what each puts, and the entries.
+fn meet<L: Ledger + Send, R: Threads + Wait + Sync>(
+    rt: &R,
+    alloc: Global,
+    plan: &Arc<Plan>,
+    blank: Blank,
+) -> Result<([Option<u64>; 2], [usize; 3]), Fail>
+    requires name { blank.name ≡ L.name }
+    requires parts { blank.parts ≡ L.parts }
+    requires three { blank.parts ≡ 3 }
+{
+    let (book, mut rest) = blank.open::<L>();
+    let gate = LockedGate::new(begun(alloc, plan)?, book);
+    let first = rest.split_off(1, 0);
+    let second = rest.split_off(1, 0);
+    arrive(alloc, plan, &mut gate.pass(alloc, rt, rest), 2)?;
+    gate.close(rt, Phase::NoArrivals);
+    let (left, right) = (AtomicBool::new(false), AtomicBool::new(false));
+    let first = Hand {
+        alloc,
+        gate: &gate,
+        share: first,
+        mine: &left,
+        other: &right,
+    };
+    let second = Hand {
+        alloc,
+        gate: &gate,
+        share: second,
+        mine: &right,
+        other: &left,
+    };
+    let (one, two) = join(
+        rt,
+        move ||
+            requires { (0 < first.share.parts) × (first.share.amount ≡ 0) × IsSend L.row × IsSync R.row }
+        { work(rt, first) },
+        move ||
+            requires { (0 < second.share.parts) × (second.share.amount ≡ 0) × IsSend L.row × IsSync R.row }
+        { work(rt, second) },
+    );
+    let put = [one.map(|c| c.put), two.map(|c| c.put)];
+    let all = gate.into_counted();
+    Ok((put, counted(all.gate().journal())))
+}
+
+#[test]
+fn workers_meet(rt: HostRuntime) -> Result<(), Fail> {
+    let alloc = rt.alloc();
+    let plan = plan(alloc, "ONE")?;
+    for _time in 0..100 {
+        let met = meet::<Brand, _>(&rt, alloc, &plan, Blank::new(3))?;
+        assert_eq!(rt; met, ([Some(1), Some(1)], [2, 2, 6]));
+    }
+    Ok(())
+}
