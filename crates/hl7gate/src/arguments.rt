@@ -43,7 +43,39 @@ fn run<'a>(alloc: Global) -> Result<Command<'a>, AllocError> {
         .arg(stamp(alloc))
 }
 
-/// A file or folder that a command names.
+/// `serve PLAN ADDRESS SESSIONS WORKERS`.
+fn serve<'a>(alloc: Global) -> Result<Command<'a>, AllocError> {
+    Command::new(alloc, "serve")
+        .about(
+            "Answers the messages of so many connections (MLLP) by a plan, and sends each receiver of the plan what it is due; each line on standard input is the file of a plan that takes its place",
+        )
+        .arg(file(alloc, "PLAN", "The file of the plan"))?
+        .arg(file(
+            alloc,
+            "ADDRESS",
+            "The address to listen on, HOST:PORT; port 0 is any that is free",
+        ))?
+        .arg(file(
+            alloc,
+            "SESSIONS",
+            "How many connections are taken in all, from 1 to 1000",
+        ))?
+        .arg(file(
+            alloc,
+            "WORKERS",
+            "How many threads translate, from 1 to 1000",
+        ))
+}
+
+/// Whether the words ask for the network service.
+pub(crate) fn is_serve(words: &[String]) -> bool {
+    match words.get(1) {
+        Some(word) => word.as_str() == "serve",
+        None => false,
+    }
+}
+
+/// A word that a command needs.
 fn file<'a>(alloc: Global, name: &'a str, help: &'a str) -> Arg<'a> {
     Arg::new(alloc, name)
         .help(help)
@@ -85,7 +117,8 @@ fn grammar<'a>(alloc: Global) -> Result<Command<'a>, AllocError> {
             "translate",
             "Translates the message on standard input, which has no frame, by a map that the rules allow",
         )?)?
-        .subcommand(run(alloc)?)
+        .subcommand(run(alloc)?)?
+        .subcommand(serve(alloc)?)
 }
 
 /// The command that the words ask for.

@@ -12,6 +12,14 @@ use std::alloc::{AllocError, AllocFailed};
 pub(crate) enum Ended<'a> {
     /// The digits of the time stamp aren't fourteen.
     Stamp,
+    /// The word isn't a number from 1 to 1,000.
+    Count {
+        name: &'static str,
+    },
+    /// The address can't be listened on.
+    Unheard {
+        address: &'a str,
+    },
     /// The file can't be opened or read.
     Unread {
         path: &'a str,

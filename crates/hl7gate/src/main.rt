@@ -1,6 +1,6 @@
 //! The message gateway's program: it reads a command line, and does what it says.
 //!
-//! `program::command` does it over any reader and two writers; here are the process's own.
+//! `program::command` does it over any reader and two writers, but for `serve`, which also takes the network and threads; here are the process's own.
 #![tactic(auto)]
 
 mod advice;
@@ -9,22 +9,37 @@ mod elements;
 mod ended;
 mod expected;
 mod files;
+mod hands;
 mod maps;
+mod outcome;
 mod plans;
 mod program;
 mod progress;
 mod refusals;
 mod report;
+mod serve;
+mod service;
 mod stamps;
 mod subjects;
+mod swaps;
+mod tickets;
+mod totals;
 
-use arguments::process_words;
+use arguments::{is_serve, process_words};
 use program::command;
 use report::tell_unread_words;
+use serve::serving;
 use std::process::ExitCode;
 
 fn main(rt: HostRuntime) -> ExitCode {
     let status = match process_words(&rt) {
+        Ok(words) if is_serve(&words) => serving(
+            &rt,
+            words.as_slice(),
+            rt.stdin(),
+            &mut rt.stdout(),
+            &mut rt.stderr(),
+        ),
         Ok(words) => command(
             &rt,
             words.as_slice(),

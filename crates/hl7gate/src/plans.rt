@@ -7,7 +7,7 @@ use crate::files::read_text;
 use crate::progress::{Counted, Watched};
 use clap::ArgMatches;
 use gw_ack::Stamp;
-use gw_plan::{Plan, Receiver};
+use gw_plan::{Plan, PlanFault, Receiver};
 use gw_stream::{Counts, Reads, RunFault, Sink, Writes, serve_once};
 use std::alloc::{AllocError, Global};
 use std::cell::Cell;
@@ -17,23 +17,31 @@ use std::path::{Path, PathBuf};
 use std::rt::Files;
 use std::time::Clock;
 
+/// That the text of a file isn't a plan.
+pub(crate) fn refused<'a>(
+    alloc: Global,
+    path: &'a str,
+    text: &[u8],
+    fault: PlanFault,
+) -> Result<Ended<'a>, AllocError> {
+    let expected = expected::in_plan(alloc, text, fault)?;
+    Ok(Ended::Plan {
+        path,
+        fault,
+        expected,
+    })
+}
+
 /// The plan of a file's text.
 fn parse_plan<'a>(alloc: Global, path: &'a str, text: &[u8]) -> Result<Plan, Ended<'a>> {
     match Plan::parse(alloc, text) {
         Ok(plan) => Ok(plan),
-        Err(fault) => {
-            let expected = expected::in_plan(alloc, text, fault)?;
-            Err(Ended::Plan {
-                path,
-                fault,
-                expected,
-            })
-        }
+        Err(fault) => Err(refused(alloc, path, text, fault)?),
     }
 }
 
 /// The plan of the file PLAN.
-fn read_plan<'a, R: Files + AllocGlobal>(
+pub(crate) fn read_plan<'a, R: Files + AllocGlobal>(
     rt: &R,
     words: &ArgMatches<'a>,
 ) -> Result<Plan, Ended<'a>> {

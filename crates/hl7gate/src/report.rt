@@ -1,6 +1,7 @@
 //! What is told of a command, and its status.
 use crate::ended::Ended;
 use crate::refusals::{tell_breach, tell_map, tell_message, tell_plan, tell_profile};
+use crate::totals::Totals;
 use clap::Error;
 use clap::error::ErrorKind;
 use gw_stream::{Counts, RunFault};
@@ -28,6 +29,16 @@ pub(crate) fn tell_if_none<E: Write>(errors: &mut E, counts: Counts) {
         let _ = writeln!(
             errors,
             "no framed message was found on standard input; examples/frame FILE .. prints files as framed messages"
+        );
+    }
+}
+
+/// Tells that the journal is full, where it is.
+pub(crate) fn tell_if_full<E: Write>(errors: &mut E, totals: Totals) {
+    if totals.is_full() {
+        let _ = writeln!(
+            errors,
+            "the journal is full: what was accepted and isn't released was not sent; end a service earlier"
         );
     }
 }
@@ -76,6 +87,15 @@ pub(crate) fn tell<E: Write>(errors: &mut E, ended: &Ended<'_>) -> u8 {
         Ended::Stamp => {
             let _ = writeln!(errors, "error: the value of '--stamp' is fourteen digits");
             USAGE
+        }
+        Ended::Count { name } => {
+            let _ = writeln!(errors, "error: {name} is a number from 1 to 1000");
+            USAGE
+        }
+        Ended::Unheard { address } => {
+            let status = tell_fault(errors, RunFault::Read);
+            let _ = writeln!(errors, "{address}: can't be listened on");
+            status
         }
         Ended::Unread { path } => {
             let status = tell_fault(errors, RunFault::Read);

@@ -1,4 +1,4 @@
-//! The time stamp of a run's answers.
+//! The time stamps of answers.
 use gw_ack::Stamp;
 use jiff::Timestamp;
 use jiff::tz::Offset;
@@ -18,5 +18,32 @@ pub(crate) fn stamp_of<R: Clock>(clock: &R, digits: Option<&str>) -> Option<Stam
     match digits {
         Some(digits) => Stamp::from_digits(digits.as_bytes()),
         None => now(clock),
+    }
+}
+
+/// The system's clock, in UTC: each answer has the time at which it is made.
+#[derive(Clone, Copy)]
+pub(crate) struct Utc<'a, R: Clock> {
+    clock: &'a R,
+    start: Stamp,
+}
+
+impl<'a, R: Clock> Utc<'a, R> {
+    /// The clock, with the stamp that is given where it tells no time.
+    pub(crate) fn new(clock: &'a R, start: Stamp) -> Self {
+        Utc { clock, start }
+    }
+}
+
+impl<R: Clock> gw_run::Clock for Utc<'_, R> {
+    ghost use Rattle.std.specs.Prelude.{⊤};
+
+    ghost gives = { λ _ _. ⊤ };
+
+    fn stamp(&mut self) -> Stamp {
+        match now(self.clock) {
+            Some(stamp) => stamp,
+            None => self.start,
+        }
     }
 }

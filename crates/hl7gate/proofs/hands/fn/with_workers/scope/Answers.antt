@@ -1,0 +1,7 @@
+use denote.Param.Send.{sendable}
+use Rattle.std.proofs.Crossing.{crosses}
+use Rattle.hl7gate.proofs.Crossing.{Service-sync}
+use Rattle.hl7gate.proofs.hands.fn.with_workers.scope.Goals as goal
+
+pub spawn-requires-send-F : goal.spawn-requires-send-F
+spawn-requires-send-F g c κs within = search (Service-sync, c, crosses, sendable) depth 60 fits 50000

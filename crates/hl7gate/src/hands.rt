@@ -1,0 +1,130 @@
+//! The threads of a service, each within the one that waits for it.
+ghost use Rattle.std.specs.Thread.{IsSend, IsSync};
+
+use crate::service::{Connection, Line, Service};
+use crate::swaps::swap_all;
+use gw_run::Phase;
+use gw_stream::RunFault;
+use std::fs::File;
+use std::io::{Eprint, Print, Read};
+use std::net::TcpListener;
+use std::rt::Files;
+use std::sync::Wait;
+use std::sync::ledger::Ledger;
+use std::thread;
+use std::thread::Threads;
+use std::time::Clock;
+
+/// How many connections are taken, and how many threads work on jobs.
+#[derive(Clone, Copy)]
+pub(crate) struct Sizes {
+    pub(crate) sessions: u64,
+    pub(crate) workers: u64,
+}
+
+/// Takes so many connections, a thread each, and waits for their end. One whose thread can't be started is attended to here.
+fn take_sessions<L: Ledger + Send, R: Threads + Wait + Clock + Eprint + AllocGlobal + Sync>(
+    service: &Service<'_, L, R>,
+    listener: TcpListener,
+    sessions: u64,
+) {
+    thread::scope(
+        thread::scope_env(),
+        service.rt(),
+        |scope|
+            requires { IsSend L.row × IsSync R.row }
+        {
+            for taken in 0..sessions {
+                let number = taken + 1;
+                match listener.accept() {
+                    Ok((stream, peer)) => {
+                        let connection = Connection {
+                            number,
+                            stream,
+                            peer,
+                        };
+                        let attend = move ||
+                            requires { IsSend L.row × IsSync R.row }
+                        { service.attend(connection) };
+                        if let Err(refused) = scope.spawn(attend) {
+                            (refused.value)()
+                        }
+                    }
+                    Err(_) => service.end_session(number, RunFault::Read),
+                }
+            }
+            // (who connects from here on is refused)
+            drop(listener);
+        },
+    );
+}
+
+/// Has workers work, a thread each, while connections are taken, and waits for their end.
+fn with_workers<L: Ledger + Send, R: Threads + Wait + Clock + Eprint + AllocGlobal + Sync>(
+    service: &Service<'_, L, R>,
+    listener: TcpListener,
+    sizes: Sizes,
+) {
+    thread::scope(
+        thread::scope_env(),
+        service.rt(),
+        |scope|
+            requires { IsSend L.row × IsSync R.row }
+        {
+            for started in 0..sizes.workers {
+                let number = started + 1;
+                let work = move ||
+                    requires { IsSend L.row × IsSync R.row }
+                { service.work(number) };
+                if scope.spawn(work).is_err() {
+                    service.give_up();
+                    return;
+                }
+            }
+            take_sessions(service, listener, sizes.sessions);
+            service.close(Phase::NoArrivals);
+        },
+    );
+    service.finish(sizes.workers);
+    service.close(Phase::NoResults);
+}
+
+/// Has plans swapped in and couriers carry, a thread each, while the others work, and waits for their end.
+pub(crate) fn with_couriers<
+    L: Ledger + Send,
+    R: Threads + Wait + Clock + Files<File = File, Dir = D> + Print + Eprint + AllocGlobal + Sync,
+    D: Read + Drop + Send + Sync,
+    I: Read + Drop + Send,
+>(
+    service: &Service<'_, L, R>,
+    paths: I,
+    lines: Vec<Line<'_>>,
+    listener: TcpListener,
+    sizes: Sizes,
+) {
+    thread::scope(
+        thread::scope_env(),
+        service.rt(),
+        |scope|
+            requires { IsSend L.row × IsSync R.row × IsSend I.row × IsSend D.row × IsSync D.row }
+        {
+            let swap = move ||
+                requires { IsSend L.row × IsSync R.row × IsSend I.row × IsSend D.row × IsSync D.row }
+            { swap_all(service, paths) };
+            if scope.spawn(swap).is_err() {
+                service.give_up();
+                return;
+            }
+            for line in lines {
+                let carry = move ||
+                    requires { IsSend L.row × IsSync R.row }
+                { service.carry(line) };
+                if scope.spawn(carry).is_err() {
+                    service.give_up();
+                    return;
+                }
+            }
+            with_workers(service, listener, sizes);
+        },
+    );
+}

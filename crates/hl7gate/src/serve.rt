@@ -1,0 +1,193 @@
+//! The command that serves on the network.
+ghost use Rattle.std.specs.Prelude.{◌≡◌};
+
+use crate::arguments::parse;
+use crate::ended::Ended;
+use crate::hands::{Sizes, with_couriers};
+use crate::plans::read_plan;
+use crate::report::{DONE, USAGE, tell, tell_fault, tell_if_full, tell_words};
+use crate::service::{Line, PARTS, Service};
+use crate::stamps::stamp_of;
+use crate::totals::Totals;
+use clap::ArgMatches;
+use gw_ack::Stamp;
+use gw_gate::Gate;
+use gw_plan::{Plan, Receiver};
+use gw_stream::RunFault;
+use std::alloc::AllocError;
+use std::fs::File;
+use std::io::{Eprint, Print, Read, Write};
+use std::marker::Brand;
+use std::net::{Net, TcpListener, TcpStream};
+use std::rt::Files;
+use std::sync::ledger::{Blank, Ledger};
+use std::sync::{Arc, Wait};
+use std::thread::Threads;
+use std::time::Clock;
+
+/// The number that a word gives: from 1 to 1,000, in decimal digits.
+fn count<'a>(words: &ArgMatches<'a>, name: &'static str) -> Result<u64, Ended<'a>> {
+    let word = words.get_str(name).unwrap_or("");
+    let digits = word.as_bytes().iter().all(|digit| digit.is_ascii_digit());
+    match word.parse::<u64>() {
+        Ok(number) if digits && 1 <= number && number <= 1000 => Ok(number),
+        _ => Err(Ended::Count { name }),
+    }
+}
+
+/// The connection to a receiver.
+fn connect<R: Net<Stream = TcpStream, Listener = TcpListener>>(
+    rt: &R,
+    receiver: &Receiver,
+) -> Option<TcpStream> {
+    let Ok(address) = str::from_utf8(&receiver.address) else {
+        return None;
+    };
+    let Ok(stream) = TcpStream::connect(rt, address) else {
+        return None;
+    };
+    let _ = stream.set_nodelay(true);
+    Some(stream)
+}
+
+/// The lines to the receivers of a plan, in its order.
+fn connect_all<'p, R: Net<Stream = TcpStream, Listener = TcpListener> + Eprint + AllocGlobal>(
+    rt: &R,
+    plan: &'p Plan,
+) -> Result<Vec<Line<'p>>, RunFault> {
+    let mut lines = Vec::new(rt.alloc());
+    for (number, receiver) in plan.receivers().iter().enumerate() {
+        let name = receiver.name.as_slice();
+        let Some(stream) = connect(rt, receiver) else {
+            let _ = eprintln!(rt; "receiver {} unreachable", name.escape_ascii());
+            return Err(RunFault::Write);
+        };
+        let _ = eprintln!(rt;
+            "receiver {} at {} connected",
+            name.escape_ascii(),
+            receiver.address.escape_ascii()
+        );
+        lines.push(Line {
+            receiver: number,
+            name,
+            stream,
+        })?;
+    }
+    Ok(lines)
+}
+
+/// Serves under a plan, and under those that are swapped in, until so many connections have ended and the paths too.
+fn serve_with<
+    L: Ledger + Send,
+    R: Net<Stream = TcpStream, Listener = TcpListener>
+        + Threads
+        + Wait
+        + Clock
+        + Files<File = File, Dir = D>
+        + Print
+        + Eprint
+        + AllocGlobal
+        + Sync,
+    D: Read + Drop + Send + Sync,
+    I: Read + Drop + Send,
+>(
+    rt: &R,
+    blank: Blank,
+    plan: &Arc<Plan>,
+    start: Stamp,
+    paths: I,
+    listener: TcpListener,
+    sizes: Sizes,
+) -> Result<Totals, RunFault>
+    requires name { blank.name ≡ L.name }
+    requires parts { blank.parts ≡ L.parts }
+    requires many { blank.parts ≡ 1000000 }
+{
+    let (book, share) = blank.open::<L>();
+    let Ok(gate) = Gate::begin(rt.alloc(), Arc::clone(plan)?) else {
+        return Err(RunFault::Memory);
+    };
+    let service = Service::new(rt, start, gate, book, share);
+    let lines = connect_all(rt, plan)?;
+    with_couriers(&service, paths, lines, listener, sizes);
+    service.end()
+}
+
+/// The listener at the address ADDRESS.
+fn listen<'a, R: Net<Stream = TcpStream, Listener = TcpListener> + Eprint>(
+    rt: &R,
+    words: &ArgMatches<'a>,
+) -> Result<TcpListener, Ended<'a>> {
+    let address = words.get_str("ADDRESS").unwrap_or("");
+    let Ok(listener) = TcpListener::bind(rt, address) else {
+        return Err(Ended::Unheard { address });
+    };
+    if let Ok(at) = listener.local_addr() {
+        let _ = eprintln!(rt; "listening on {at}");
+    }
+    Ok(listener)
+}
+
+/// Serves under the plan of the file PLAN at ADDRESS, and tells what the gate did.
+fn serve<
+    'a,
+    R: Net<Stream = TcpStream, Listener = TcpListener>
+        + Threads
+        + Wait
+        + Clock
+        + Files<File = File, Dir = D>
+        + Print
+        + Eprint
+        + AllocGlobal
+        + Sync,
+    D: Read + Drop + Send + Sync,
+    I: Read + Drop + Send,
+>(rt: &R, words: &ArgMatches<'a>, paths: I) -> Result<Totals, Ended<'a>> {
+    let sizes = Sizes {
+        sessions: count(words, "SESSIONS")?,
+        workers: count(words, "WORKERS")?,
+    };
+    let Some(start) = stamp_of(rt, None) else {
+        return Err(Ended::Stamp);
+    };
+    let plan = Arc::new(rt.alloc(), read_plan(rt, words)?)?;
+    let listener = listen(rt, words)?;
+    let blank = Blank::new(PARTS);
+    let totals = serve_with::<Brand, _, _, _>(rt, blank, &plan, start, paths, listener, sizes)?;
+    Ok(totals)
+}
+
+/// Serves as the words say, and answers the status.
+pub(crate) fn serving<
+    R: Net<Stream = TcpStream, Listener = TcpListener>
+        + Threads
+        + Wait
+        + Clock
+        + Files<File = File, Dir = D>
+        + Print
+        + Eprint
+        + AllocGlobal
+        + Sync,
+    D: Read + Drop + Send + Sync,
+    I: Read + Drop + Send,
+    O: Write,
+    E: Write,
+>(rt: &R, words: &[String], paths: I, output: &mut O, errors: &mut E) -> u8 {
+    let matches = match parse(rt.alloc(), words) {
+        Ok(matches) => matches,
+        Err(error) => return tell_words(output, errors, &error),
+    };
+    let Some(("serve", words)) = matches.subcommand() else {
+        return USAGE;
+    };
+    match serve(rt, words, paths) {
+        Ok(totals) => {
+            tell_if_full(errors, totals);
+            match writeln!(output, "{totals}") {
+                Ok(()) => DONE,
+                Err(_) => tell_fault(errors, RunFault::Write),
+            }
+        }
+        Err(ended) => tell(errors, &ended),
+    }
+}

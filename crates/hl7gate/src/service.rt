@@ -1,0 +1,255 @@
+//! A service: what its threads share, and what each of them does.
+ghost use Rattle.std.specs.Prelude.{◌≡◌, ◌<◌, ◌^◌};
+
+use crate::outcome::Outcome;
+use crate::stamps::Utc;
+use crate::tickets::Tickets;
+use crate::totals::Totals;
+use gw_ack::Stamp;
+use gw_gate::{Event, Gate};
+use gw_run::{Door, LockedGate, Pass, Pause, Phase, courier, worker};
+use gw_session::session;
+use gw_stream::{Counts, Reads, RunFault, Writes};
+use std::io::Eprint;
+use std::net::{SocketAddr, TcpStream};
+use std::sync::ledger::{Book, Ledger, Share};
+use std::sync::{Mutex, Wait};
+use std::time::Clock;
+
+/// How many threads may step the gate of a service: more than 1,000 sessions, 1,000 workers and the receivers of any plan.
+pub(crate) const PARTS: u64 = 1_000_000;
+
+/// What the threads of a service share: its gate behind the lock, the parts of the ledger, and what went wrong.
+#[derive(Drop)]
+pub(crate) struct Service<'a, L: Ledger, R: Wait> {
+    rt: &'a R,
+    start: Stamp,
+    gate: LockedGate<L>,
+    tickets: Mutex<Tickets<L>>,
+    outcome: Mutex<Outcome>,
+}
+
+/// A connection that was taken: its number, from 1, the stream, and who is at its other end.
+#[derive(Drop)]
+pub(crate) struct Connection {
+    pub(crate) number: u64,
+    pub(crate) stream: TcpStream,
+    pub(crate) peer: SocketAddr,
+}
+
+/// The line to a receiver: its number in the plan, its name, and the connection.
+#[derive(Drop)]
+pub(crate) struct Line<'p> {
+    pub(crate) receiver: usize,
+    pub(crate) name: &'p [u8],
+    pub(crate) stream: TcpStream,
+}
+
+/// A worker that goes on.
+#[derive(Clone, Copy)]
+struct Onward;
+
+impl Pause for Onward {
+    ghost use Rattle.std.specs.Prelude.{false};
+
+    ghost has_stopped = { λ _. false };
+
+    fn stopped(&self) -> bool {
+        false
+    }
+
+    fn pause(&mut self, _n: u64) -> bool {
+        true
+    }
+}
+
+impl<'a, L: Ledger, R: Wait + AllocGlobal> Service<'a, L, R> {
+    ghost use Rattle.std.specs.Prelude.{◌≡◌, ◌<◌, IfSome};
+
+    /// A service at this gate, whose ledger has these parts.
+    pub(crate) fn new(rt: &'a R, start: Stamp, gate: Gate, book: Book<L>, share: Share<L>) -> Self
+        requires total { book.total ≡ 0 }
+        requires parts { share.parts ≡ 1000000 }
+        requires unused { share.amount ≡ 0 }
+    {
+        Service {
+            rt,
+            start,
+            gate: LockedGate::new(gate, book),
+            tickets: Mutex::new(Tickets::new(share, PARTS)),
+            outcome: Mutex::new(Outcome::new(rt.alloc())),
+        }
+    }
+
+    /// The handle of the runtime.
+    pub(crate) fn rt(&self) -> &'a R {
+        self.rt
+    }
+
+    /// A way to the gate, unless all parts of the ledger were given away.
+    pub(crate) fn pass(&self) -> Option<Pass<'_, L, R>> {
+        let share = self.tickets.lock(self.rt).take()?;
+        Some(self.gate.pass(self.rt.alloc(), self.rt, share))
+    }
+
+    /// From here on nothing comes any more that may not come in this phase.
+    pub(crate) fn close(&self, phase: Phase) {
+        self.gate.close(self.rt, phase);
+    }
+
+    /// The main thread's own work met a fault.
+    pub(crate) fn fail(&self, fault: RunFault) {
+        self.outcome.lock(self.rt).of_main(fault);
+    }
+
+    /// A thread that the service needs can't be started: nothing comes any more.
+    pub(crate) fn give_up(&self) {
+        self.fail(RunFault::Memory);
+        self.close(Phase::NoArrivals);
+        self.close(Phase::NoResults);
+    }
+
+    /// Does what so many workers left: each job that one of them had is issued again, once.
+    pub(crate) fn finish(&self, workers: u64) {
+        if let Err(fault) = self.do_rest(workers) {
+            self.fail(fault);
+        }
+    }
+
+    fn do_rest(&self, workers: u64) -> Result<(), RunFault> {
+        let Some(mut pass) = self.pass() else {
+            return Err(RunFault::Memory);
+        };
+        for _job in 0..workers {
+            let left = self.outcome.lock(self.rt).next_left();
+            if let Some((n, receiver)) = left
+                && pass.call(Event::Reissue { n, receiver }).is_err()
+            {
+                return Err(RunFault::Memory);
+            }
+        }
+        match worker(self.rt.alloc(), &mut pass, &mut Onward) {
+            Ok(_) => Ok(()),
+            Err((fault, _)) => Err(fault),
+        }
+    }
+
+    /// What the gate did, unless something went wrong. No thread works at the gate any more.
+    pub(crate) fn end(self) -> Result<Totals, RunFault> {
+        let Service { gate, outcome, .. } = self;
+        match outcome.into_inner().first() {
+            Some(fault) => Err(fault),
+            None => Ok(Totals::of(gate.into_counted().gate().journal())),
+        }
+    }
+}
+
+impl<L: Ledger, R: Wait + AllocGlobal + Clock + Eprint> Service<'_, L, R> {
+    /// Answers the messages of a connection, up to its end.
+    pub(crate) fn attend(&self, connection: Connection) {
+        let Connection {
+            number,
+            stream,
+            peer,
+        } = connection;
+        let _ = eprintln!(self.rt; "session {number} from {peer}");
+        match self.answer(&stream) {
+            Ok(counts) => {
+                let Counts {
+                    answered,
+                    aa,
+                    ae,
+                    ar,
+                    ..
+                } = counts;
+                let _ = eprintln!(self.rt;
+                    "session {number} ended: answered {answered}, AA {aa}, AE {ae}, AR {ar}"
+                );
+            }
+            Err(fault) => self.end_session(number, fault),
+        }
+    }
+
+    /// A session ended by a fault, or couldn't be taken.
+    pub(crate) fn end_session(&self, number: u64, fault: RunFault) {
+        let _ = eprintln!(self.rt; "session {number} ended: fault {}: {fault}", fault.number());
+        self.outcome.lock(self.rt).of_session(number, fault);
+    }
+
+    fn answer(&self, stream: &TcpStream) -> Result<Counts, RunFault> {
+        let _ = stream.set_nodelay(true);
+        let Some(mut pass) = self.pass() else {
+            return Err(RunFault::Memory);
+        };
+        let mut clock = Utc::new(self.rt, self.start);
+        let mut reader = Reads::new(stream);
+        let mut writer = Writes::new(stream);
+        session(
+            self.rt.alloc(),
+            &mut pass,
+            &mut clock,
+            &mut reader,
+            &mut writer,
+        )
+    }
+
+    /// Works on jobs, until no message will arrive any more.
+    pub(crate) fn work(&self, number: u64) {
+        let Some(mut pass) = self.pass() else {
+            return;
+        };
+        if let Err((fault, job)) = worker(self.rt.alloc(), &mut pass, &mut Onward) {
+            let _ = eprintln!(self.rt; "worker {number} ended: fault {}: {fault}", fault.number());
+            if let Some(job) = job {
+                self.outcome.lock(self.rt).leave(job);
+            }
+        }
+    }
+
+    /// Brings a receiver its messages, until no result will come any more.
+    pub(crate) fn carry(&self, line: Line<'_>) {
+        let Line {
+            receiver,
+            name,
+            stream,
+        } = line;
+        match self.send(receiver, &stream) {
+            Ok(counts) => {
+                let Counts {
+                    sent,
+                    aa,
+                    ae,
+                    ar,
+                    ..
+                } = counts;
+                let _ = eprintln!(self.rt;
+                    "receiver {} ended: sent {sent}, AA {aa}, AE {ae}, AR {ar}",
+                    name.escape_ascii()
+                );
+            }
+            Err(fault) => {
+                let _ = eprintln!(self.rt;
+                    "receiver {} ended: fault {}: {fault}",
+                    name.escape_ascii(),
+                    fault.number()
+                );
+                self.outcome.lock(self.rt).of_courier(receiver, fault);
+            }
+        }
+    }
+
+    fn send(&self, receiver: usize, stream: &TcpStream) -> Result<Counts, RunFault> {
+        let Some(mut pass) = self.pass() else {
+            return Err(RunFault::Memory);
+        };
+        let mut reader = Reads::new(stream);
+        let mut writer = Writes::new(stream);
+        courier(
+            self.rt.alloc(),
+            &mut pass,
+            receiver,
+            &mut reader,
+            &mut writer,
+        )
+    }
+}

@@ -1,0 +1,116 @@
+//! Plans that are swapped in while a service runs.
+use crate::ended::Ended;
+use crate::files::read_text;
+use crate::plans::refused;
+use crate::report::tell;
+use crate::service::Service;
+use gw_run::{Pass, SwapFault, swap};
+use gw_stream::RunFault;
+use std::alloc::AllocError;
+use std::io::{BufRead, BufReader, Eprint, ErrorKind, Print, Read};
+use std::rt::Files;
+use std::sync::Wait;
+use std::sync::ledger::Ledger;
+
+/// Why the plan of a file isn't swapped in.
+#[derive(Drop)]
+enum Unswapped<'a> {
+    /// The file can't be read, or its text isn't a plan.
+    Text(Ended<'a>),
+    /// The gate refuses it.
+    Gate(SwapFault),
+}
+
+impl From<AllocError> for Unswapped<'_> {
+    fn from(_error: AllocError) -> Self {
+        Unswapped::Gate(SwapFault::Memory)
+    }
+}
+
+/// Swaps in the plan of a file, and gives its version.
+fn swap_file<'a, L: Ledger, R: Wait + Files + AllocGlobal>(
+    pass: &mut Pass<'_, L, R>,
+    rt: &R,
+    path: &'a str,
+) -> Result<u64, Unswapped<'a>> {
+    let text = match read_text(rt, path) {
+        Ok(text) => text,
+        Err(ended) => return Err(Unswapped::Text(ended)),
+    };
+    match swap(rt.alloc(), pass, &text) {
+        Ok(version) => Ok(version),
+        Err(SwapFault::Plan(fault)) => {
+            Err(Unswapped::Text(refused(rt.alloc(), path, &text, fault)?))
+        }
+        Err(fault) => Err(Unswapped::Gate(fault)),
+    }
+}
+
+/// Tells on standard error why the plan of a file isn't swapped in.
+fn tell_unswapped<R: Eprint + AllocGlobal>(rt: &R, path: &str, why: &Unswapped<'_>) {
+    match why {
+        Unswapped::Text(Ended::Unread { .. }) => {
+            let _ = eprintln!(rt; "plan unread\n{path}: the file can't be opened or read");
+        }
+        Unswapped::Text(ended) => {
+            let mut lines = Vec::new(rt.alloc());
+            tell(&mut lines, ended);
+            if let Ok(lines) = String::from_utf8(lines) {
+                let _ = eprint!(rt; "{lines}");
+            }
+        }
+        Unswapped::Gate(fault) => {
+            let number = fault.number();
+            let _ = eprintln!(rt; "swap refused {number}\n{path}: {fault}");
+        }
+    }
+}
+
+/// Swaps in the plan of each file whose path is a line of these, in order, up to their end.
+pub(crate) fn swap_all<L: Ledger, R: Wait + Files + Print + Eprint + AllocGlobal, I: Read + Drop>(
+    service: &Service<'_, L, R>,
+    paths: I,
+) {
+    if let Err(fault) = swap_lines(service, paths) {
+        service.fail(fault);
+    }
+}
+
+fn swap_lines<L: Ledger, R: Wait + Files + Print + Eprint + AllocGlobal, I: Read + Drop>(
+    service: &Service<'_, L, R>,
+    paths: I,
+) -> Result<(), RunFault> {
+    let rt = service.rt();
+    let Some(mut pass) = service.pass() else {
+        return Err(RunFault::Memory);
+    };
+    let Ok(mut lines) = BufReader::new(rt.alloc(), paths) else {
+        return Err(RunFault::Memory);
+    };
+    for _ in rt.forever() {
+        let mut line = String::new(rt.alloc());
+        match lines.read_line(&mut line) {
+            Ok(0) => return Ok(()),
+            Ok(_) => swap_one(&mut pass, rt, line.trim_end_matches('\n')),
+            Err(error) if error.kind() == ErrorKind::InvalidData => {
+                let _ = eprintln!(rt; "plan unread\na line of standard input isn't text");
+            }
+            Err(_) => return Err(RunFault::Read),
+        }
+    }
+    unreachable!()
+}
+
+/// Swaps in the plan of a file, and tells what became of it.
+fn swap_one<L: Ledger, R: Wait + Files + Print + Eprint + AllocGlobal>(
+    pass: &mut Pass<'_, L, R>,
+    rt: &R,
+    path: &str,
+) {
+    match swap_file(pass, rt, path) {
+        Ok(version) => {
+            let _ = println!(rt; "swapped {version}");
+        }
+        Err(why) => tell_unswapped(rt, path, &why),
+    }
+}
