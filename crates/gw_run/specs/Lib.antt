@@ -1,3 +1,9 @@
 pub mod Passes
 pub mod Settled
 pub mod Rows
+pub mod Report
+pub mod Turns
+pub mod Joins
+pub mod Tellings
+pub mod Gathers
+pub mod Queues

@@ -1,6 +1,7 @@
 //! A gate whose passes have ended.
 ghost use Rattle.std.specs.Prelude.{◌≡◌, ◌≤◌, length};
 
+use crate::report::Report;
 use gw_gate::Gate;
 use std::marker::Model;
 use std::sync::ledger::{Book, Ledger};
@@ -26,6 +27,7 @@ impl<L: Ledger> Model for Counted<L> {
 
 impl<L: Ledger> Counted<L> {
     ghost use Rattle.std.specs.Prelude.{◌≡◌, ◌+◌, length};
+    ghost use Rattle.gw_run.specs.Report.{report_of};
 
     pub(crate) fn of(gate: Gate, since: usize, book: Book<L>) -> Self
         requires { since + book.total ≡ length gate.entries }
@@ -39,6 +41,13 @@ impl<L: Ledger> Counted<L> {
         ensures { result.now ≡ self.now.gate }
     {
         &self.gate
+    }
+
+    /// How many entries of each kind its journal has, and how many in all. It takes no memory.
+    pub fn report(&self) -> Report
+        ensures { result ≡ report_of self.now.gate.entries }
+    {
+        Report::of(self.gate.journal())
     }
 
     /// How many entries its journal had before the passes; the book has the others. It takes no memory.

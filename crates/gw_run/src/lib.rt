@@ -4,10 +4,17 @@
 //! What works at any door, and streams, are told of here too, for those who need no other crate of their layers.
 #![tactic(auto)]
 
+mod agreeing;
 mod counted;
+mod gathering;
 pub mod laws;
 mod locked;
+mod marks;
 mod pass;
+mod past;
+mod queue;
+mod report;
+mod turns;
 
 pub use counted::Counted;
 pub use gw_crew::{
@@ -18,3 +25,4 @@ pub use gw_stream::{
 };
 pub use locked::LockedGate;
 pub use pass::{Pass, Receipts};
+pub use report::Report;

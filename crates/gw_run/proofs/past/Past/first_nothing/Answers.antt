@@ -1,0 +1,10 @@
+use Rattle.std.proofs.Common.{◌∙◌, ap, sym}
+use Rattle.gw_gate.specs.Replies.{Releases, reply_to}
+use Rattle.gw_run.specs.Settled.{is_nothing, until}
+use Rattle.gw_run.specs.Joins.{of_receiver}
+use Rattle.gw_run.proofs.past.Past.first_nothing.Goals as goal
+
+pub returns : goal.returns
+returns c j tells high =
+    c.first_even.ensures (λ k. is_nothing (reply_to (until j k) (Releases c.args.receiver))) high
+    (rw (c.of_receiver.ensures ∙ ap (λ l. of_receiver l c.args.receiver) c.deref.ensures.value) (tells.nothing c.args.receiver))

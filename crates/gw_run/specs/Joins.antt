@@ -1,0 +1,67 @@
+-- What is gathered of a journal and of notes, by which it is told whether they are settled.
+use Rattle.std.specs.Prelude.{◌≡◌, ℕ, ◌+◌, ◌<◌, min, nat_le, Bool, true, false, ◌&&◌, List, [], length, get_or, slice_get, map, Option, None, Some}
+use Rattle.std.specs.Option.{option_map}
+use Rattle.std.specs.List.Sorted.{IsStrictlyIncreasing}
+use Rattle.std.specs.Arc.{arc_value}
+use Rattle.std.specs.declared.alloc.Global.{Global}
+use Rattle.std.specs.declared.sync.Arc.{Arc}
+use Rattle.std.specs.declared.vec.Vec.{Vec}
+use Rattle.gw_plan.specs.declared.plan.Plan.{Plan}
+use Rattle.gw_gate.specs.Parts.{PlanSeen}
+use Rattle.gw_gate.specs.Seen.{plan_seen}
+use Rattle.gw_gate.specs.Journal.{Journal, Version, current, end, plans}
+use Rattle.gw_gate.specs.Replies.{Takes, Releases, reply_to}
+use Rattle.gw_crew.specs.Notes.{NoteSeen, Added, ReceiptSeen}
+use Rattle.gw_run.specs.Settled.{agrees, fits_between, having, is_idle, is_nothing, next_at, until}
+use Rattle.gw_run.specs.Turns.{Passes, TurnsAt, is_within}
+
+-- ---- receipts
+
+-- how often each number from since on is that of a receipt; twice stands for more too
+abbrev pub Marks : ℕ → List ReceiptSeen → List ℕ → Type 0
+Marks since all marks = (p : ℕ) → p < length marks → get_or marks p 0 ≡ min (having all (since + p)) 2
+
+-- ---- other notes
+
+-- this is the first number of entries, from low on, at which the note fits the journal
+abbrev pub IsFirst : Journal → ℕ → NoteSeen → Option ℕ → Type 0
+IsFirst j low note first = (high : ℕ) → fits_between j low high note ≡ is_within high first
+
+-- whether a note is a receipt
+abbrev pub is_receipt : NoteSeen → Bool
+is_receipt (Added at e) = true
+is_receipt note = false
+
+-- whether notes agree with the journal, where those before them fit it from low up to need
+abbrev pub meets : Journal → ℕ → ℕ → List NoteSeen → Bool
+meets j low need notes = agrees j low notes && nat_le need (next_at (end j) notes)
+
+abbrev pub meets_after : Journal → Option (ℕ × ℕ) → List NoteSeen → Bool
+meets_after j None notes = false
+meets_after j (Some s) notes = meets j s.0 s.1 notes
+
+-- ---- what is gathered of a journal
+
+-- the numbers of entries at which plans were swapped, and the plans in order
+pub record PlansAt (j : Journal) (swaps : List ℕ) (seen : List PlanSeen) : Type 0 where
+  pub rising : IsStrictlyIncreasing swaps
+  pub number : (k i : ℕ) → Passes swaps k i → (current (until j k)).number ≡ i
+  pub plan : (k i : ℕ) → Passes swaps k i → slice_get seen i ≡ Some (current (until j k)).plan
+
+-- at which numbers of entries there begins or ceases to be no pair to be taken
+abbrev pub IdleAt : Journal → List ℕ → Type 0
+IdleAt j ats = TurnsAt (λ k. is_idle (reply_to (until j k) Takes)) ats
+
+-- at which of them there begins or ceases to be nothing to be given out for a receiver
+abbrev pub NothingAt : Journal → ℕ → List ℕ → Type 0
+NothingAt j r ats = TurnsAt (λ k. is_nothing (reply_to (until j k) (Releases r))) ats
+
+abbrev pub or_none : Option (Vec ℕ Global) → List ℕ
+or_none None = []
+or_none (Some ats) = ats.items
+
+abbrev pub of_receiver : List (Vec ℕ Global) → ℕ → List ℕ
+of_receiver all r = or_none (slice_get all r)
+
+abbrev pub plans_at : List (Arc Plan Global) → List PlanSeen
+plans_at all = map (λ p. plan_seen (arc_value p)) all

@@ -1,0 +1,23 @@
+-- What is gathered of a journal.
+use Rattle.std.specs.Prelude.{◌≡◌, ℕ, List, length}
+use Rattle.gw_gate.specs.Journal.{Journal}
+use Rattle.gw_gate.specs.Values.{entries_seen}
+use Rattle.gw_gate.specs.declared.event.Entry.{Entry}
+use Rattle.gw_run.specs.declared.past.Past.{Past}
+use Rattle.gw_run.specs.Joins.{IdleAt, NothingAt, PlansAt, of_receiver, plans_at}
+
+-- it tells of this journal, which starts at 0
+pub record Tells (j : Journal) (past : Past) : Type 0 where
+  pub start : j.start.entries ≡ 0
+  pub entries : past.entries ≡ length j.entries
+  pub plans : PlansAt j past.swaps.items (plans_at past.plans.items)
+  pub idle : IdleAt j past.idle.items
+  pub nothing : (r : ℕ) → NothingAt j r (of_receiver past.nothing.items r)
+
+abbrev pub PastSeen : Type 0
+PastSeen = Past
+
+-- and these are its entries
+pub record TellsBoth (j : Journal) (past : Past) (entries : List Entry) : Type 0 where
+  pub tells : Tells j past
+  pub entries_are : j.entries ≡ entries_seen entries

@@ -1,0 +1,97 @@
+//! Whether the notes of a pass agree with the journal.
+ghost use Rattle.std.specs.Prelude.{◌≡◌, ◌∷◌, IsTrue, not, List, slice_get};
+ghost use Rattle.gw_gate.specs.Journal.{Journal};
+ghost use Rattle.gw_gate.specs.Values.{entry_seen, entries_seen};
+ghost use Rattle.gw_crew.specs.Notes.{NoteSeen, Added};
+ghost use Rattle.gw_crew.specs.Seen.{note_seen, notes_seen};
+ghost use Rattle.gw_run.specs.Joins.{IsFirst, is_receipt, meets, meets_after};
+ghost use Rattle.gw_run.specs.Settled.{agrees, is_same};
+ghost use Rattle.gw_run.specs.Tellings.{PastSeen, Tells, TellsBoth};
+
+use crate::past::Past;
+use gw_crew::{Note, Receipt};
+use gw_gate::Entry;
+
+// Whether the journal has this entry under this number.
+fn stands(entries: &[Entry], at: usize, entry: &Entry) -> bool
+    ensures { result ≡ is_same (entry_seen entry.now) (slice_get (entries_seen entries.now) at) }
+{
+    match entries.get(at) {
+        Some(there) => entry.same(there),
+        None => false,
+    }
+}
+
+// The first number of entries, from low on, at which the note fits.
+fn first_fit(past: &Past, low: usize, note: &Note) -> Option<usize>
+    ensures { (j : Journal) → Tells j past.now → IsFirst j low (note_seen note.now) result }
+{
+    match note {
+        Note::Look(version, plan) => past.first_look(low, *version, plan),
+        Note::Stale(version, conforming) => past.first_stale(low, *version, conforming),
+        Note::Full => past.first_full(low),
+        Note::Idle => past.first_idle(low),
+        Note::Nothing(receiver) => past.first_nothing(low, *receiver),
+        Note::Added(_) => Some(low),
+    }
+}
+
+// From low and need, those after a receipt, unless notes don't agree with the journal.
+fn after_receipt(
+    entries: &[Entry],
+    low: usize,
+    need: usize,
+    receipt: &Receipt,
+) -> Option<(usize, usize)>
+    ensures { (j : Journal) (past : PastSeen) (notes : List NoteSeen) → TellsBoth j past entries.now → meets j low need (Added receipt.now.at (entry_seen receipt.now.entry) ∷ notes) ≡ meets_after j result notes }
+{
+    if receipt.at < low || receipt.at < need {
+        return None;
+    }
+    if !stands(entries, receipt.at, &receipt.entry) {
+        return None;
+    }
+    Some((receipt.at + 1, 0))
+}
+
+// Those after any other note, by the first number at which it fits.
+fn after_other(low: usize, need: usize, first: Option<usize>) -> Option<(usize, usize)>
+    ensures { (j : Journal) (note : NoteSeen) (notes : List NoteSeen) → IsFirst j low note first → IsTrue (not (is_receipt note)) → meets j low need (note ∷ notes) ≡ meets_after j result notes }
+{
+    match first {
+        None => None,
+        Some(first) => Some((low, need.max(first))),
+    }
+}
+
+// Those after a note.
+fn after_note(
+    entries: &[Entry],
+    past: &Past,
+    low: usize,
+    need: usize,
+    note: &Note,
+) -> Option<(usize, usize)>
+    ensures { (j : Journal) (notes : List NoteSeen) → TellsBoth j past.now entries.now → meets j low need (note_seen note.now ∷ notes) ≡ meets_after j result notes }
+{
+    match note {
+        Note::Added(receipt) => after_receipt(entries, low, need, receipt),
+        _ => after_other(low, need, first_fit(past, low, note)),
+    }
+}
+
+// Whether the notes agree with the journal, where there were since entries before them.
+pub(crate) fn agrees(entries: &[Entry], past: &Past, since: usize, notes: &[Note]) -> bool
+    ensures { (j : Journal) → TellsBoth j past.now entries.now → result ≡ agrees j since (notes_seen notes.now) }
+{
+    let mut low = since;
+    let mut need = 0;
+    for note in notes {
+        let Some(next) = after_note(entries, past, low, need, note) else {
+            return false;
+        };
+        low = next.0;
+        need = next.1;
+    }
+    need <= entries.len()
+}

@@ -1,0 +1,57 @@
+//! Which numbers of entries are those of receipts.
+ghost use Rattle.std.specs.Prelude.{◌≡◌, ◌+◌, ◌++◌, ◌∷◌, [], ℕ, List, length};
+ghost use Rattle.gw_gate.specs.Journal.{EntrySeen};
+ghost use Rattle.std.specs.Option.{option_to_list};
+ghost use Rattle.gw_crew.specs.Notes.{ReceiptSeen, receipt_of};
+ghost use Rattle.gw_crew.specs.Seen.{note_seen, notes_seen};
+ghost use Rattle.gw_run.specs.Joins.{Marks};
+ghost use Rattle.gw_run.specs.Passes.{receipts};
+ghost use Rattle.gw_run.specs.Settled.{are_all};
+
+use gw_crew::Note;
+
+// One receipt more has this number.
+fn mark_at(marks: &mut Vec<u8>, since: usize, at: usize)
+    ensures marks { (all : List ReceiptSeen) (e : EntrySeen) → Marks since all marks.old.items → Marks since (all ++ record { at = at; entry = e } ∷ []) marks.new.items }
+    ensures len { length marks.new.items ≡ length marks.old.items }
+{
+    if at < since {
+        return;
+    }
+    let place = at - since;
+    if place < marks.len() && marks[place] < 2 {
+        marks[place] += 1;
+    }
+}
+
+// The receipt that a note is, if it is one.
+fn mark_note(marks: &mut Vec<u8>, since: usize, note: &Note)
+    ensures marks { (all : List ReceiptSeen) → Marks since all marks.old.items → Marks since (all ++ option_to_list (receipt_of (note_seen note.now))) marks.new.items }
+    ensures len { length marks.new.items ≡ length marks.old.items }
+{
+    if let Note::Added(receipt) = note {
+        mark_at(marks, since, receipt.at);
+    }
+}
+
+// The receipts among notes.
+pub(crate) fn mark_notes(marks: &mut Vec<u8>, since: usize, notes: &[Note])
+    ensures marks { (all : List ReceiptSeen) → Marks since all marks.old.items → Marks since (all ++ receipts (notes_seen notes.now)) marks.new.items }
+    ensures len { length marks.new.items ≡ length marks.old.items }
+{
+    for note in notes {
+        mark_note(marks, since, note);
+    }
+}
+
+// Whether each number is that of just one receipt.
+pub(crate) fn are_all_marked(marks: &[u8]) -> bool
+    ensures { (since : ℕ) (all : List ReceiptSeen) → Marks since all marks.now → result ≡ are_all since (since + length marks.now) all }
+{
+    for mark in marks {
+        if *mark != 1 {
+            return false;
+        }
+    }
+    true
+}

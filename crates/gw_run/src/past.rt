@@ -1,0 +1,126 @@
+//! From which number of entries on a note fits a journal.
+ghost use Rattle.std.specs.Prelude.{◌≡◌, ℕ, length, slice_get, bytes_eq};
+ghost use Rattle.std.specs.Option.{option_map};
+ghost use Rattle.std.specs.Arc.{arc_value};
+ghost use Rattle.gw_gate.specs.Books.{journal_of};
+ghost use Rattle.gw_gate.specs.Journal.{Journal};
+ghost use Rattle.gw_gate.specs.Parts.{is_under};
+ghost use Rattle.gw_gate.specs.Seen.{plan_seen, conforming_seen};
+ghost use Rattle.gw_crew.specs.Notes.{Looked, WasStale, WasFull, WasIdle, WasNothing};
+ghost use Rattle.gw_crew.specs.Seen.{note_seen};
+ghost use Rattle.gw_run.specs.Joins.{IsFirst, IdleAt, NothingAt, PlansAt, of_receiver, plans_at};
+ghost use Rattle.gw_run.specs.Tellings.{Tells};
+
+use crate::turns::{first_even, first_with};
+use gw_crew::Note;
+use gw_gate::MOST;
+use gw_plan::{Conforming, Plan};
+use std::sync::Arc;
+
+// At which numbers of entries a journal changed what a note may say.
+#[derive(Drop)]
+pub(crate) struct Past {
+    pub(crate) entries: usize,
+    pub(crate) swaps: Vec<usize>,
+    pub(crate) plans: Vec<Arc<Plan>>,
+    pub(crate) idle: Vec<usize>,
+    pub(crate) nothing: Vec<Vec<usize>>,
+}
+
+// The plan of a version.
+fn plan_at(plans: &[Arc<Plan>], version: u64) -> Option<&Arc<Plan>>
+    ensures { option_map (λ p. plan_seen (arc_value p.now)) result ≡ slice_get (plans_at plans.now) version }
+{
+    plans.get(version as usize)
+}
+
+// The numbers for this receiver.
+fn of_receiver(nothing: &[Vec<usize>], receiver: usize) -> &[usize]
+    ensures { result.now ≡ of_receiver nothing.now receiver }
+{
+    match nothing.get(receiver) {
+        Some(ats) => ats.as_slice(),
+        None => &[],
+    }
+}
+
+// Whether the message was admitted under this version, by a plan of this one's text.
+fn is_under(conforming: &Conforming, version: u64, plan: &Plan) -> bool
+    ensures { result ≡ is_under (conforming_seen conforming.now) version (plan_seen plan.now) }
+{
+    conforming.under(version, plan)
+}
+
+// Whether the plans have the same text.
+fn have_same_text(plan: &Plan, other: &Plan) -> bool
+    ensures { result ≡ bytes_eq (plan_seen plan.now).text (plan_seen other.now).text }
+{
+    plan.text() == other.text()
+}
+
+impl Past {
+    ghost use Rattle.std.specs.Prelude.{◌≡◌, ℕ, length};
+    ghost use Rattle.std.specs.Arc.{arc_value};
+    ghost use Rattle.gw_gate.specs.Journal.{Journal};
+    ghost use Rattle.gw_gate.specs.Seen.{plan_seen, conforming_seen};
+    ghost use Rattle.gw_crew.specs.Notes.{Looked, WasStale, WasFull, WasIdle, WasNothing, NoteSeen};
+    ghost use Rattle.gw_crew.specs.Seen.{note_seen};
+    ghost use Rattle.gw_run.specs.Joins.{IsFirst};
+    ghost use Rattle.gw_run.specs.Tellings.{Tells};
+
+    // The first number of entries, from low on, at which the plan was in force as this version.
+    pub(crate) fn first_look(&self, low: usize, version: u64, plan: &Plan) -> Option<usize>
+        ensures { (j : Journal) → Tells j self.now → IsFirst j low (Looked version (plan_seen plan.now)) result }
+    {
+        let Some(there) = plan_at(&self.plans, version) else {
+            return None;
+        };
+        if !have_same_text(there, plan) {
+            return None;
+        }
+        first_with(&self.swaps, low, version)
+    }
+
+    // The first at which the version was in force, and the message wasn't admitted under it.
+    pub(crate) fn first_stale(&self, low: usize, version: u64, conforming: &Conforming) -> Option<usize>
+        ensures { (j : Journal) → Tells j self.now → IsFirst j low (WasStale version (conforming_seen conforming.now)) result }
+    {
+        let Some(there) = plan_at(&self.plans, version) else {
+            return None;
+        };
+        if is_under(conforming, version, there) {
+            return None;
+        }
+        first_with(&self.swaps, low, version)
+    }
+
+    // The first at which the journal was full.
+    pub(crate) fn first_full(&self, low: usize) -> Option<usize>
+        ensures { (j : Journal) → Tells j self.now → IsFirst j low WasFull result }
+    {
+        if self.entries < MOST {
+            return None;
+        }
+        if low <= MOST {
+            return Some(MOST);
+        }
+        if self.entries == MOST {
+            return Some(low);
+        }
+        None
+    }
+
+    // The first at which there was no pair to be taken.
+    pub(crate) fn first_idle(&self, low: usize) -> Option<usize>
+        ensures { (j : Journal) → Tells j self.now → IsFirst j low WasIdle result }
+    {
+        first_even(&self.idle, low)
+    }
+
+    // The first at which there was nothing to be given out for the receiver.
+    pub(crate) fn first_nothing(&self, low: usize, receiver: usize) -> Option<usize>
+        ensures { (j : Journal) → Tells j self.now → IsFirst j low (WasNothing receiver) result }
+    {
+        first_even(of_receiver(&self.nothing, receiver), low)
+    }
+}
