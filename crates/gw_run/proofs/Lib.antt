@@ -6,3 +6,4 @@ pub mod Fitting
 pub mod Marking
 pub mod Meeting
 pub mod Prefixes
+pub mod Telling

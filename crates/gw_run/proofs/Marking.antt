@@ -9,9 +9,10 @@ use Rattle.std.proofs.lemmas.Bool.{cases_eq, cases_lt}
 use Rattle.std.proofs.lemmas.List.Sums.{sum_by-append}
 use Rattle.gw_reorder.proofs.Places.{equals, differs}
 use Rattle.gw_crew.specs.declared.note.Note.{Note}
-use Rattle.gw_crew.specs.Notes.{ReceiptSeen, receipt_of}
+use Rattle.gw_crew.specs.Notes.{NoteSeen, ReceiptSeen, receipt_of}
 use Rattle.gw_crew.specs.Seen.{note_seen, notes_seen}
-use Rattle.gw_run.specs.Passes.{receipts}
+use Rattle.gw_run.specs.Passes.{PassSeen, receipts}
+use Rattle.gw_run.specs.Tellings.{notes_of}
 use Rattle.gw_run.specs.Settled.{are_all, having}
 use Rattle.gw_run.specs.Joins.{Marks}
 
@@ -118,3 +119,8 @@ take_past zero [] le = refl
 take_past zero (x ∷ xs) le = absurd (omega arith)
 take_past (suc k) [] le = refl
 take_past (suc k) (x ∷ xs) le = ap (λ l. x ∷ l) (take_past k xs (omega arith))
+
+pub not_all_at : (test : List NoteSeen → Bool) (passes : List PassSeen) (i : ℕ) (pass : PassSeen) → i < length passes → pass ≡ get_or passes i pass → test pass.notes ≡ false → list_all test (notes_of passes) ≡ false
+not_all_at test [] i pass lt is fails = absurd (omega arith)
+not_all_at test (x ∷ passes) zero pass lt is fails = ap (λ b. b && list_all test (notes_of passes)) (ap (λ y. test y.notes) (sym is) ∙ fails)
+not_all_at test (x ∷ passes) (suc i) pass lt is fails = ap (λ b. test x.notes && b) (not_all_at test passes i pass (omega arith) is fails) ∙ and_false (test x.notes)

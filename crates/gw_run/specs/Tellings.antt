@@ -1,9 +1,11 @@
 -- What is gathered of a journal.
-use Rattle.std.specs.Prelude.{◌≡◌, ℕ, List, length}
+use Rattle.std.specs.Prelude.{◌≡◌, ℕ, List, map, length}
 use Rattle.gw_gate.specs.Journal.{Journal}
 use Rattle.gw_gate.specs.Values.{entries_seen}
 use Rattle.gw_gate.specs.declared.event.Entry.{Entry}
 use Rattle.gw_run.specs.declared.past.Past.{Past}
+use Rattle.gw_crew.specs.Notes.{NoteSeen}
+use Rattle.gw_run.specs.Passes.{PassSeen}
 use Rattle.gw_run.specs.Joins.{IdleAt, NothingAt, PlansAt, of_receiver, plans_at}
 
 -- it tells of this journal, which starts at 0
@@ -21,3 +23,7 @@ PastSeen = Past
 pub record TellsBoth (j : Journal) (past : Past) (entries : List Entry) : Type 0 where
   pub tells : Tells j past
   pub entries_are : j.entries ≡ entries_seen entries
+
+-- the notes of each pass
+abbrev pub notes_of : List PassSeen → List (List NoteSeen)
+notes_of passes = map (λ pass. pass.notes) passes

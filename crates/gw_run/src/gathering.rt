@@ -61,4 +61,3 @@ pub(crate) fn plans_in(
     }
     Ok(all)
 }
-

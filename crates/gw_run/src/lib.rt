@@ -14,6 +14,7 @@ mod pass;
 mod past;
 mod queue;
 mod report;
+mod settling;
 mod turns;
 
 pub use counted::Counted;

@@ -11,10 +11,12 @@ ghost use Rattle.gw_crew.specs.Seen.{note_seen};
 ghost use Rattle.gw_run.specs.Joins.{IsFirst, IdleAt, NothingAt, PlansAt, of_receiver, plans_at};
 ghost use Rattle.gw_run.specs.Tellings.{Tells};
 
+use crate::gathering::{plans_in, swaps_in};
+use crate::queue::idle_in;
 use crate::turns::{first_even, first_with};
-use gw_crew::Note;
-use gw_gate::MOST;
+use gw_gate::{Entry, MOST};
 use gw_plan::{Conforming, Plan};
+use std::alloc::{AllocError, Global};
 use std::sync::Arc;
 
 // At which numbers of entries a journal changed what a note may say.
@@ -59,7 +61,13 @@ fn have_same_text(plan: &Plan, other: &Plan) -> bool
 }
 
 impl Past {
-    ghost use Rattle.std.specs.Prelude.{◌≡◌, ℕ, length};
+    ghost use Rattle.std.specs.Prelude.{◌≡◌, ℕ, IfOk, length};
+    ghost use Rattle.gw_gate.specs.Books.{journal_of};
+    ghost use Rattle.gw_gate.specs.Headline.{IsTranslated};
+    ghost use Rattle.gw_gate.specs.Lawful.{IsLawful};
+    ghost use Rattle.gw_gate.specs.Meaning.{Makes};
+    ghost use Rattle.gw_gate.specs.Values.{entries_seen};
+    ghost use Rattle.gw_run.specs.Joins.{NothingAt, of_receiver};
     ghost use Rattle.std.specs.Arc.{arc_value};
     ghost use Rattle.gw_gate.specs.Journal.{Journal};
     ghost use Rattle.gw_gate.specs.Seen.{plan_seen, conforming_seen};
@@ -67,6 +75,29 @@ impl Past {
     ghost use Rattle.gw_crew.specs.Seen.{note_seen};
     ghost use Rattle.gw_run.specs.Joins.{IsFirst};
     ghost use Rattle.gw_run.specs.Tellings.{Tells};
+
+    // What a journal changed, by what it changed for receivers.
+    pub(crate) fn with_nothing(
+        alloc: Global,
+        opening: &Arc<Plan>,
+        entries: &[Entry],
+        nothing: Vec<Vec<usize>>,
+    ) -> Result<Self, AllocError>
+        requires lawful { IsLawful (IsTranslated Makes) (journal_of (plan_seen (arc_value opening.now)) (entries_seen entries.now)) }
+        requires nothing { (r : ℕ) → NothingAt (journal_of (plan_seen (arc_value opening.now)) (entries_seen entries.now)) r (of_receiver nothing.items r) }
+        ensures { IfOk result (λ past. Tells (journal_of (plan_seen (arc_value opening.now)) (entries_seen entries.now)) past) }
+    {
+        let swaps = swaps_in(alloc, entries)?;
+        let plans = plans_in(alloc, opening, entries)?;
+        let idle = idle_in(alloc, entries)?;
+        Ok(Past {
+            entries: entries.len(),
+            swaps,
+            plans,
+            idle,
+            nothing,
+        })
+    }
 
     // The first number of entries, from low on, at which the plan was in force as this version.
     pub(crate) fn first_look(&self, low: usize, version: u64, plan: &Plan) -> Option<usize>
@@ -82,7 +113,12 @@ impl Past {
     }
 
     // The first at which the version was in force, and the message wasn't admitted under it.
-    pub(crate) fn first_stale(&self, low: usize, version: u64, conforming: &Conforming) -> Option<usize>
+    pub(crate) fn first_stale(
+        &self,
+        low: usize,
+        version: u64,
+        conforming: &Conforming,
+    ) -> Option<usize>
         ensures { (j : Journal) → Tells j self.now → IsFirst j low (WasStale version (conforming_seen conforming.now)) result }
     {
         let Some(there) = plan_at(&self.plans, version) else {
