@@ -1,18 +1,17 @@
 -- From which number of entries on a note fits a journal.
-use Rattle.std.proofs.Common.{◌≡◌, ◌≢◌, ℕ, ◌+◌, ◌-◌, ◌<◌, ◌≤◌, ◌==◌, ◌&&◌, ◌⊎◌, inl, inr, Bool, true, false, List, [], length, take, Option, None, Some, slice_get, refl, sym, ap, ◌∙◌, arith}
-use Rattle.std.specs.Prelude.{nat_le, bytes_eq, not, unwrap_or}
+use Rattle.std.proofs.Common.{◌≡◌, ◌≢◌, ℕ, ◌+◌, ◌-◌, ◌<◌, ◌≤◌, ◌==◌, ◌&&◌, ◌⊎◌, inl, inr, Bool, true, false, List, length, Some, slice_get, sym, ap, ◌∙◌, arith}
+use Rattle.std.specs.Prelude.{unwrap_or}
 use Rattle.std.specs.List.{list_any, range_with_len}
-use Rattle.std.proofs.lemmas.Grind.{common_steps}
 use Rattle.std.proofs.lemmas.List.{length-take}
 use Rattle.std.proofs.lemmas.Bool.{cases_eq, cases_lt}
 use Rattle.gw_reorder.proofs.Places.{equals, differs}
 use Rattle.gw_gate.specs.Parts.{PlanSeen}
-use Rattle.gw_gate.specs.Journal.{EntrySeen, Journal, current}
+use Rattle.gw_gate.specs.Journal.{Journal, current}
 use Rattle.gw_gate.specs.Replies.{most}
 use Rattle.gw_crew.specs.Notes.{WasFull}
 use Rattle.gw_run.specs.Settled.{fits, fits_between, until}
 use Rattle.gw_run.specs.Turns.{Passes, HoldsFrom, is_within}
-use Rattle.gw_run.specs.Joins.{PlansAt, IsFirst}
+use Rattle.gw_run.specs.Joins.{PlansAt}
 use Rattle.gw_run.proofs.Turning.{passed, none_between, first_between}
 
 -- ---- a plan that was in force as some version

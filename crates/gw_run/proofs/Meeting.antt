@@ -1,12 +1,12 @@
 -- How notes agree with a journal, one after another.
-use Rattle.std.proofs.Common.{◌≡◌, ℕ, ◌+◌, ◌-◌, ◌<◌, ◌≤◌, ◌&&◌, ◌⊎◌, inl, inr, Bool, true, false, List, [], ◌∷◌, Option, None, Some, slice_get, refl, sym, ap, ◌∙◌, arith}
+use Rattle.std.proofs.Common.{◌≡◌, ℕ, ◌+◌, ◌-◌, ◌<◌, ◌≤◌, ◌&&◌, ◌⊎◌, inl, inr, Bool, true, false, List, [], ◌∷◌, Option, Some, slice_get, refl, sym, ap, ◌∙◌, arith}
 use Rattle.std.specs.Prelude.{nat_le, IsTrue, not, max}
 use Rattle.std.proofs.lemmas.Grind.{common_steps}
 use Rattle.std.proofs.lemmas.Bool.{cases_lt}
 use Rattle.gw_gate.specs.Journal.{EntrySeen, Journal, end}
 use Rattle.gw_crew.specs.Notes.{NoteSeen, Looked, WasStale, WasFull, WasIdle, WasNothing, Added}
 use Rattle.gw_run.specs.Settled.{agrees, fits_between, is_same, next_at, stands}
-use Rattle.gw_run.specs.Joins.{IsFirst, is_receipt, meets, meets_after}
+use Rattle.gw_run.specs.Joins.{IsFirst, is_receipt, meets}
 use Rattle.gw_run.specs.Turns.{is_within}
 
 and_false : (b : Bool) → (b && false) ≡ false

@@ -1,9 +1,9 @@
 -- What is gathered tells of the whole journal.
-use Rattle.std.proofs.Common.{◌≡◌, ℕ, zero, suc, ◌+◌, ◌-◌, ◌<◌, ◌≤◌, ◌⊎◌, inl, inr, Bool, true, false, List, [], ◌∷◌, ◌++◌, length, map, take, drop, Option, None, Some, option_map, slice_get, refl, sym, ap, subst, ◌∙◌, arith}
+use Rattle.std.proofs.Common.{◌≡◌, ℕ, zero, suc, ◌+◌, ◌-◌, ◌<◌, ◌≤◌, ◌⊎◌, inl, inr, true, false, List, [], ◌∷◌, ◌++◌, length, map, take, drop, Option, None, Some, option_map, slice_get, refl, sym, ap, subst, ◌∙◌, arith}
 use Rattle.std.specs.Prelude.{nat_le}
 use Rattle.std.proofs.lemmas.Grind.{common_steps}
 use Rattle.std.proofs.lemmas.Bool.{cases_lt}
-use Rattle.std.proofs.lemmas.List.{map-append, length-map, take-append-drop}
+use Rattle.std.proofs.lemmas.List.{length-map, take-append-drop}
 use Rattle.std.proofs.lemmas.Option.{slice_get-map, slice_get-get_or, slice_get_past, none-some}
 use Rattle.gw_gate.specs.Parts.{PlanSeen, ConformingSeen}
 use Rattle.gw_gate.specs.Books.{journal_of}
@@ -18,7 +18,7 @@ use Rattle.gw_gate.proofs.Numbering.{n_of, lawful_numbers}
 use Rattle.gw_run.specs.Gathers.{is_idle_after, is_idle_by, numbers_issued, swaps_in}
 use Rattle.gw_run.specs.Joins.{IdleAt, PlansAt}
 use Rattle.gw_run.specs.Settled.{is_idle, until}
-use Rattle.gw_run.specs.Turns.{CountsTo, Passes, TurnsAt, TurnsTo}
+use Rattle.gw_run.specs.Turns.{CountsTo, TurnsTo}
 use Rattle.gw_run.proofs.Fitting.{some_is}
 use Rattle.gw_run.proofs.Marking.{take_past}
 use Rattle.gw_run.proofs.Turning.{counts_done, turns_done}

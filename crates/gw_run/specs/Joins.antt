@@ -1,6 +1,5 @@
 -- What is gathered of a journal and of notes, by which it is told whether they are settled.
 use Rattle.std.specs.Prelude.{◌≡◌, ℕ, ◌+◌, ◌<◌, min, nat_le, Bool, true, false, ◌&&◌, List, [], length, get_or, slice_get, map, Option, None, Some}
-use Rattle.std.specs.Option.{option_map}
 use Rattle.std.specs.List.Sorted.{IsStrictlyIncreasing}
 use Rattle.std.specs.Arc.{arc_value}
 use Rattle.std.specs.declared.alloc.Global.{Global}
@@ -9,7 +8,7 @@ use Rattle.std.specs.declared.vec.Vec.{Vec}
 use Rattle.gw_plan.specs.declared.plan.Plan.{Plan}
 use Rattle.gw_gate.specs.Parts.{PlanSeen}
 use Rattle.gw_gate.specs.Seen.{plan_seen}
-use Rattle.gw_gate.specs.Journal.{Journal, Version, current, end, plans}
+use Rattle.gw_gate.specs.Journal.{Journal, current, end}
 use Rattle.gw_gate.specs.Replies.{Takes, Releases, reply_to}
 use Rattle.gw_crew.specs.Notes.{NoteSeen, Added, ReceiptSeen}
 use Rattle.gw_run.specs.Settled.{agrees, fits_between, having, is_idle, is_nothing, next_at, until}

@@ -1,5 +1,5 @@
 -- The pairs that wait to be worked on.
-use Rattle.std.specs.Prelude.{◌≡◌, ℕ, ◌+◌, List, [], ◌∷◌, ◌++◌, length}
+use Rattle.std.specs.Prelude.{◌≡◌, ◌+◌, List, [], ◌∷◌, ◌++◌, length}
 use Rattle.gw_gate.specs.Journal.{EntrySeen, accepted, jobs}
 use Rattle.gw_run.specs.declared.queue.Queue.{Queue}
 use Rattle.gw_run.specs.Gathers.{numbers_issued}

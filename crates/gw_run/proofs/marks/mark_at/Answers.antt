@@ -1,4 +1,4 @@
-use Rattle.std.proofs.Common.{arith, ◌-◌, ◌<◌, ◌≡◌, get_or, length}
+use Rattle.std.proofs.Common.{arith, ◌-◌, ◌<◌, length}
 use Rattle.gw_run.proofs.Marking.{mark_more, read_as}
 use Rattle.gw_run.proofs.marks.mark_at.Goals as goal
 

@@ -1,4 +1,4 @@
-use Rattle.std.proofs.Common.{◌++◌, ◌∙◌, ap, sym, subst, take, append_assoc, arith}
+use Rattle.std.proofs.Common.{◌++◌, ◌∙◌, ap, sym, subst, take, append_assoc}
 use Rattle.std.specs.Option.{option_to_list}
 use Rattle.gw_crew.specs.Notes.{receipt_of}
 use Rattle.gw_crew.specs.Seen.{note_seen, notes_seen}

@@ -1,4 +1,4 @@
-use Rattle.std.proofs.Common.{◌≡◌, ◌≤◌, take}
+use Rattle.std.proofs.Common.{◌≤◌, take}
 use Rattle.gw_gate.specs.Values.{entries_seen}
 use Rattle.gw_run.specs.Gathers.{is_idle_after}
 use Rattle.gw_run.specs.Queues.{Queues}

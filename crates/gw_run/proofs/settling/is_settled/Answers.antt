@@ -1,5 +1,5 @@
-use Rattle.std.proofs.Common.{◌≡◌, ◌+◌, ◌-◌, ◌≤◌, ◌∙◌, Bool, ℕ, List, ap, sym, subst, refl, arith, length, true, false}
-use Rattle.std.specs.Prelude.{IsTrue, flat_map}
+use Rattle.std.proofs.Common.{◌≡◌, ◌+◌, ◌-◌, ◌≤◌, ◌∙◌, Bool, ℕ, List, ap, sym, subst, refl, arith, length}
+use Rattle.std.specs.Prelude.{flat_map}
 use Rattle.std.specs.Arc.{arc_value}
 use Rattle.std.proofs.lemmas.Bool.{false≢true}
 use Rattle.gw_gate.specs.declared.event.Entry.{Entry}
@@ -11,8 +11,8 @@ use Rattle.gw_gate.specs.Values.{entries_seen}
 use Rattle.gw_gate.proofs.Entering.{as_long}
 use Rattle.gw_run.specs.Joins.{Marks}
 use Rattle.gw_run.specs.Passes.{PassSeen, receipts}
-use Rattle.gw_run.specs.Settled.{Settled, are_all}
-use Rattle.gw_run.specs.Tellings.{TellsBoth, notes_of}
+use Rattle.gw_run.specs.Settled.{are_all}
+use Rattle.gw_run.specs.Tellings.{notes_of}
 use Rattle.gw_run.proofs.settling.is_settled.Goals as goal
 
 -- what was marked tells of all numbers up to the end

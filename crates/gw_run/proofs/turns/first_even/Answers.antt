@@ -1,4 +1,4 @@
-use Rattle.std.proofs.Common.{◌∙◌, ap, sym, arith}
+use Rattle.std.proofs.Common.{◌∙◌, ap, sym}
 use Rattle.gw_run.proofs.Turning.{even_here, even_next_at, is_odd}
 use Rattle.gw_run.specs.Turns.{is_within}
 use Rattle.gw_reorder.proofs.Places.{equals}

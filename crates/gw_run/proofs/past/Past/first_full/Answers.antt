@@ -1,5 +1,5 @@
 use Rattle.std.proofs.Common.{arith}
-use Rattle.gw_run.proofs.Fitting.{never_full, then_full, still_full, over_full}
+use Rattle.gw_run.proofs.Fitting.{never_full, then_full, over_full}
 use Rattle.gw_run.proofs.past.Past.first_full.Goals as goal
 
 pub returns-then-self-lt-MOST : goal.returns-then-self-lt-MOST

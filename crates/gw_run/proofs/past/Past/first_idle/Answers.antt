@@ -1,4 +1,3 @@
-use Rattle.std.proofs.Common.{◌∙◌, ap, sym}
 use Rattle.gw_gate.specs.Replies.{Takes, reply_to}
 use Rattle.gw_run.specs.Settled.{is_idle, until}
 use Rattle.gw_run.proofs.past.Past.first_idle.Goals as goal

@@ -1,4 +1,4 @@
-use Rattle.std.proofs.Common.{◌≡◌, ◌∙◌, ap, sym, subst, Bool, false, true, bytes_eq, Some, None, slice_get}
+use Rattle.std.proofs.Common.{◌≡◌, ◌∙◌, ap, sym, Bool, false, true, bytes_eq, Some, None, slice_get}
 use Rattle.std.proofs.lemmas.Option.{none-some}
 use Rattle.std.specs.Arc.{arc_value}
 use Rattle.gw_gate.specs.Parts.{PlanSeen}

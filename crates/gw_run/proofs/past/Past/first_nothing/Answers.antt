@@ -1,4 +1,4 @@
-use Rattle.std.proofs.Common.{◌∙◌, ap, sym}
+use Rattle.std.proofs.Common.{◌∙◌, ap}
 use Rattle.gw_gate.specs.Replies.{Releases, reply_to}
 use Rattle.gw_run.specs.Settled.{is_nothing, until}
 use Rattle.gw_run.specs.Joins.{of_receiver}

@@ -1,4 +1,4 @@
-use Rattle.std.proofs.Common.{◌≡◌, ◌∙◌, ap, sym, subst, length, refl}
+use Rattle.std.proofs.Common.{◌≡◌, sym, subst, length, refl}
 use Rattle.std.specs.Arc.{arc_value}
 use Rattle.gw_gate.specs.Seen.{plan_seen}
 use Rattle.gw_gate.specs.Values.{entries_seen}
