@@ -1,5 +1,5 @@
 -- What is gathered of a journal and of notes, by which it is told whether they are settled.
-use Rattle.std.specs.Prelude.{◌≡◌, ℕ, ◌+◌, ◌<◌, min, nat_le, Bool, true, false, ◌&&◌, List, [], length, get_or, slice_get, map, Option, None, Some}
+use Rattle.std.specs.Prelude.{◌≡◌, ℕ, ◌+◌, ◌<◌, min, nat_le, Bool, true, false, not, IsTrue, ◌&&◌, List, [], ◌∷◌, ◌++◌, length, get_or, slice_get, map, Option, None, Some}
 use Rattle.std.specs.List.Sorted.{IsStrictlyIncreasing}
 use Rattle.std.specs.Arc.{arc_value}
 use Rattle.std.specs.declared.alloc.Global.{Global}
@@ -20,6 +20,10 @@ use Rattle.gw_run.specs.Turns.{Passes, TurnsAt, is_within}
 abbrev pub Marks : ℕ → List ReceiptSeen → List ℕ → Type 0
 Marks since all marks = (p : ℕ) → p < length marks → get_or marks p 0 ≡ min (having all (since + p)) 2
 
+-- old marks become new ones as these receipts come
+abbrev pub MarksMore : ℕ → List ReceiptSeen → List ℕ → List ℕ → Type 0
+MarksMore since more old new = (all : List ReceiptSeen) → Marks since all old → Marks since (all ++ more) new
+
 -- ---- other notes
 
 -- this is the first number of entries, from low on, at which the note fits the journal
@@ -38,6 +42,10 @@ meets j low need notes = agrees j low notes && nat_le need (next_at (end j) note
 abbrev pub meets_after : Journal → Option (ℕ × ℕ) → List NoteSeen → Bool
 meets_after j None notes = false
 meets_after j (Some s) notes = meets j s.0 s.1 notes
+
+-- how notes that are no receipts are followed, by the first number at which they fit
+abbrev pub FollowsBy : ℕ → ℕ → Option ℕ → Option (ℕ × ℕ) → Type 0
+FollowsBy low need first after = (j : Journal) (note : NoteSeen) (notes : List NoteSeen) → IsFirst j low note first → IsTrue (not (is_receipt note)) → meets j low need (note ∷ notes) ≡ meets_after j after notes
 
 -- ---- what is gathered of a journal
 

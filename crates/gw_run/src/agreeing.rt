@@ -1,12 +1,12 @@
 //! Whether the notes of a pass agree with the journal.
-ghost use Rattle.std.specs.Prelude.{◌≡◌, ◌∷◌, IsTrue, not, List, slice_get};
+ghost use Rattle.std.specs.Prelude.{◌≡◌, slice_get};
 ghost use Rattle.gw_gate.specs.Journal.{Journal};
 ghost use Rattle.gw_gate.specs.Values.{entry_seen, entries_seen};
-ghost use Rattle.gw_crew.specs.Notes.{NoteSeen, Added};
+ghost use Rattle.gw_crew.specs.Notes.{Added};
 ghost use Rattle.gw_crew.specs.Seen.{note_seen, notes_seen};
-ghost use Rattle.gw_run.specs.Joins.{IsFirst, is_receipt, meets, meets_after};
+ghost use Rattle.gw_run.specs.Joins.{FollowsBy, IsFirst};
 ghost use Rattle.gw_run.specs.Settled.{agrees, is_same};
-ghost use Rattle.gw_run.specs.Tellings.{PastSeen, Tells, TellsBoth};
+ghost use Rattle.gw_run.specs.Tellings.{Follows, PastSeen, Tells, TellsBoth};
 
 use crate::past::Past;
 use gw_crew::{Note, Receipt};
@@ -43,7 +43,7 @@ fn after_receipt(
     need: usize,
     receipt: &Receipt,
 ) -> Option<(usize, usize)>
-    ensures { (j : Journal) (past : PastSeen) (notes : List NoteSeen) → TellsBoth j past entries.now → meets j low need (Added receipt.now.at (entry_seen receipt.now.entry) ∷ notes) ≡ meets_after j result notes }
+    ensures { (past : PastSeen) → Follows entries.now past low need (Added receipt.now.at (entry_seen receipt.now.entry)) result }
 {
     if receipt.at < low || receipt.at < need {
         return None;
@@ -56,7 +56,7 @@ fn after_receipt(
 
 // Those after any other note, by the first number at which it fits.
 fn after_other(low: usize, need: usize, first: Option<usize>) -> Option<(usize, usize)>
-    ensures { (j : Journal) (note : NoteSeen) (notes : List NoteSeen) → IsFirst j low note first → IsTrue (not (is_receipt note)) → meets j low need (note ∷ notes) ≡ meets_after j result notes }
+    ensures { FollowsBy low need first result }
 {
     match first {
         None => None,
@@ -72,7 +72,7 @@ fn after_note(
     need: usize,
     note: &Note,
 ) -> Option<(usize, usize)>
-    ensures { (j : Journal) (notes : List NoteSeen) → TellsBoth j past.now entries.now → meets j low need (note_seen note.now ∷ notes) ≡ meets_after j result notes }
+    ensures { Follows entries.now past.now low need (note_seen note.now) result }
 {
     match note {
         Note::Added(receipt) => after_receipt(entries, low, need, receipt),

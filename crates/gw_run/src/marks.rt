@@ -4,7 +4,7 @@ ghost use Rattle.gw_gate.specs.Journal.{EntrySeen};
 ghost use Rattle.std.specs.Option.{option_to_list};
 ghost use Rattle.gw_crew.specs.Notes.{ReceiptSeen, receipt_of};
 ghost use Rattle.gw_crew.specs.Seen.{note_seen, notes_seen};
-ghost use Rattle.gw_run.specs.Joins.{Marks};
+ghost use Rattle.gw_run.specs.Joins.{Marks, MarksMore};
 ghost use Rattle.gw_run.specs.Passes.{receipts};
 ghost use Rattle.gw_run.specs.Settled.{are_all};
 
@@ -26,7 +26,7 @@ fn mark_at(marks: &mut Vec<u8>, since: usize, at: usize)
 
 // The receipt that a note is, if it is one.
 fn mark_note(marks: &mut Vec<u8>, since: usize, note: &Note)
-    ensures marks { (all : List ReceiptSeen) → Marks since all marks.old.items → Marks since (all ++ option_to_list (receipt_of (note_seen note.now))) marks.new.items }
+    ensures marks { MarksMore since (option_to_list (receipt_of (note_seen note.now))) marks.old.items marks.new.items }
     ensures len { length marks.new.items ≡ length marks.old.items }
 {
     if let Note::Added(receipt) = note {
@@ -36,7 +36,7 @@ fn mark_note(marks: &mut Vec<u8>, since: usize, note: &Note)
 
 // The receipts among notes.
 pub(crate) fn mark_notes(marks: &mut Vec<u8>, since: usize, notes: &[Note])
-    ensures marks { (all : List ReceiptSeen) → Marks since all marks.old.items → Marks since (all ++ receipts (notes_seen notes.now)) marks.new.items }
+    ensures marks { MarksMore since (receipts (notes_seen notes.now)) marks.old.items marks.new.items }
     ensures len { length marks.new.items ≡ length marks.old.items }
 {
     for note in notes {
