@@ -23,7 +23,6 @@ mod stamps;
 mod subjects;
 mod swaps;
 mod tickets;
-mod totals;
 
 use arguments::{is_serve, process_words};
 use program::command;

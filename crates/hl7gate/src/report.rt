@@ -1,9 +1,10 @@
 //! What is told of a command, and its status.
 use crate::ended::Ended;
 use crate::refusals::{tell_breach, tell_map, tell_message, tell_plan, tell_profile};
-use crate::totals::Totals;
 use clap::Error;
 use clap::error::ErrorKind;
+use gw_gate::MOST;
+use gw_run::Report;
 use gw_stream::{Counts, RunFault};
 use std::io;
 use std::io::Write;
@@ -34,12 +35,34 @@ pub(crate) fn tell_if_none<E: Write>(errors: &mut E, counts: Counts) {
 }
 
 /// Tells that the journal is full, where it is.
-pub(crate) fn tell_if_full<E: Write>(errors: &mut E, totals: Totals) {
-    if totals.is_full() {
+pub(crate) fn tell_if_full<E: Write>(errors: &mut E, report: Report) {
+    if report.entries >= MOST as u64 {
         let _ = writeln!(
             errors,
             "the journal is full: what was accepted and isn't released was not sent; end a service earlier"
         );
+    }
+}
+
+/// Tells what a service did.
+pub(crate) fn tell_report<O: Write, E: Write>(
+    output: &mut O,
+    errors: &mut E,
+    report: Report,
+) -> u8 {
+    let Report {
+        accepted,
+        refused,
+        kept,
+        released,
+        entries,
+    } = report;
+    match writeln!(
+        output,
+        "accepted {accepted} refused {refused} kept {kept} released {released} entries {entries}"
+    ) {
+        Ok(()) => DONE,
+        Err(_) => tell_fault(errors, RunFault::Write),
     }
 }
 

@@ -5,14 +5,14 @@ use crate::arguments::parse;
 use crate::ended::Ended;
 use crate::hands::{Sizes, with_couriers};
 use crate::plans::read_plan;
-use crate::report::{DONE, USAGE, tell, tell_fault, tell_if_full, tell_words};
+use crate::report::{DONE, USAGE, tell, tell_fault, tell_if_full, tell_report, tell_words};
 use crate::service::{Line, PARTS, Service};
 use crate::stamps::stamp_of;
-use crate::totals::Totals;
 use clap::ArgMatches;
 use gw_ack::Stamp;
 use gw_gate::Gate;
 use gw_plan::{Plan, Receiver};
+use gw_run::Report;
 use gw_stream::RunFault;
 use std::alloc::AllocError;
 use std::fs::File;
@@ -98,7 +98,7 @@ fn serve_with<
     paths: I,
     listener: TcpListener,
     sizes: Sizes,
-) -> Result<Totals, RunFault>
+) -> Result<Report, RunFault>
     requires name { blank.name ≡ L.name }
     requires parts { blank.parts ≡ L.parts }
     requires many { blank.parts ≡ 1000000 }
@@ -142,7 +142,7 @@ fn serve<
         + Sync,
     D: Read + Drop + Send + Sync,
     I: Read + Drop + Send,
->(rt: &R, words: &ArgMatches<'a>, paths: I) -> Result<Totals, Ended<'a>> {
+>(rt: &R, words: &ArgMatches<'a>, paths: I) -> Result<Report, Ended<'a>> {
     let sizes = Sizes {
         sessions: count(words, "SESSIONS")?,
         workers: count(words, "WORKERS")?,
@@ -153,8 +153,8 @@ fn serve<
     let plan = Arc::new(rt.alloc(), read_plan(rt, words)?)?;
     let listener = listen(rt, words)?;
     let blank = Blank::new(PARTS);
-    let totals = serve_with::<Brand, _, _, _>(rt, blank, &plan, start, paths, listener, sizes)?;
-    Ok(totals)
+    let report = serve_with::<Brand, _, _, _>(rt, blank, &plan, start, paths, listener, sizes)?;
+    Ok(report)
 }
 
 /// Serves as the words say, and answers the status.
@@ -181,12 +181,9 @@ pub(crate) fn serving<
         return USAGE;
     };
     match serve(rt, words, paths) {
-        Ok(totals) => {
-            tell_if_full(errors, totals);
-            match writeln!(output, "{totals}") {
-                Ok(()) => DONE,
-                Err(_) => tell_fault(errors, RunFault::Write),
-            }
+        Ok(report) => {
+            tell_if_full(errors, report);
+            tell_report(output, errors, report)
         }
         Err(ended) => tell(errors, &ended),
     }

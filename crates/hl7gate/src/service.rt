@@ -4,10 +4,9 @@ ghost use Rattle.std.specs.Prelude.{◌≡◌, ◌<◌, ◌^◌};
 use crate::outcome::Outcome;
 use crate::stamps::Utc;
 use crate::tickets::Tickets;
-use crate::totals::Totals;
 use gw_ack::Stamp;
 use gw_gate::{Event, Gate};
-use gw_run::{Door, LockedGate, Pass, Pause, Phase, courier, worker};
+use gw_run::{Door, LockedGate, Pass, Pause, Phase, Report, courier, worker};
 use gw_session::session;
 use gw_stream::{Counts, Reads, RunFault, Writes};
 use std::io::Eprint;
@@ -135,11 +134,11 @@ impl<'a, L: Ledger, R: Wait + AllocGlobal> Service<'a, L, R> {
     }
 
     /// What the gate did, unless something went wrong. No thread works at the gate any more.
-    pub(crate) fn end(self) -> Result<Totals, RunFault> {
+    pub(crate) fn end(self) -> Result<Report, RunFault> {
         let Service { gate, outcome, .. } = self;
         match outcome.into_inner().first() {
             Some(fault) => Err(fault),
-            None => Ok(Totals::of(gate.into_counted().gate().journal())),
+            None => Ok(gate.into_counted().report()),
         }
     }
 }
