@@ -1,8 +1,11 @@
-//! What a child process takes: processor seconds (user and system), which other work on the machine disturbs less than the clock's, and the peak of resident memory.
+//! What a child process takes: processor seconds (user and system), which other work on the machine disturbs less than the clock's, the clock's, and the peak of resident memory.
+// (each tool uses some of it)
+#![allow(dead_code)]
 use std::fs::File;
 use std::io;
 use std::path::Path;
-use std::process::{Command, Stdio};
+use std::process::{Child, Command, Stdio};
+use std::time::Instant;
 
 /// `struct rusage` of Linux on 64 bits, up to the peak of resident memory; the rest isn't looked at.
 #[repr(C)]
@@ -16,12 +19,14 @@ struct Usage {
 
 extern "C" {
     fn wait4(pid: i32, status: *mut i32, options: i32, usage: *mut Usage) -> i32;
+    fn getrusage(who: i32, usage: *mut Usage) -> i32;
 }
 
 /// What a run took.
 #[derive(Clone, Copy)]
 pub struct Taken {
     pub seconds: f64,
+    pub clock: f64,
     pub kilobytes: i64,
     pub status: i32,
 }
@@ -30,13 +35,29 @@ fn seconds(time: [i64; 2]) -> f64 {
     time[0] as f64 + time[1] as f64 / 1e6
 }
 
+/// The processor seconds of this process so far, with all its threads.
+pub fn own_seconds() -> io::Result<f64> {
+    let mut usage = Usage::default();
+    // SAFETY: the pointer is to a value of the type that the call fills, which lives as long as it.
+    if unsafe { getrusage(0, &mut usage) } != 0 {
+        return Err(io::Error::last_os_error());
+    }
+    Ok(seconds(usage.user) + seconds(usage.system))
+}
+
 /// Runs a command to its end.
 pub fn run(command: &mut Command, input: &Path, output: &Path) -> io::Result<Taken> {
+    let begun = Instant::now();
     let child = command
         .stdin(File::open(input)?)
         .stdout(File::create(output)?)
         .stderr(Stdio::null())
         .spawn()?;
+    end(&child, begun)
+}
+
+/// Waits for the end of a child that began then.
+pub fn end(child: &Child, begun: Instant) -> io::Result<Taken> {
     let mut usage = Usage::default();
     let mut status = 0;
     let pid = child.id() as i32;
@@ -46,6 +67,7 @@ pub fn run(command: &mut Command, input: &Path, output: &Path) -> io::Result<Tak
     }
     Ok(Taken {
         seconds: seconds(usage.user) + seconds(usage.system),
+        clock: begun.elapsed().as_secs_f64(),
         kilobytes: usage.peak_kilobytes,
         status: status >> 8,
     })
@@ -57,6 +79,7 @@ pub fn best(rounds: usize, mut once: impl FnMut() -> io::Result<Taken>) -> io::R
     for _ in 1..rounds {
         let taken = once()?;
         best.seconds = best.seconds.min(taken.seconds);
+        best.clock = best.clock.min(taken.clock);
         best.kilobytes = best.kilobytes.min(taken.kilobytes);
     }
     Ok(best)
