@@ -1,5 +1,5 @@
--- Look-ups among leaves in order.
-use Rattle.std.proofs.Common.{◌≡◌, ◌≢◌, ℕ, zero, suc, ◌+◌, ◌-◌, ◌<◌, ◌≤◌, Bool, true, false, cond, not, List, [], ◌∷◌, length, get_or, drop, Option, None, Some, Ordering, Less, Equal, Greater, refl, sym, ap, subst, ◌∙◌, arith, inl, inr}
+-- Look-ups among texts in order.
+use Rattle.std.proofs.Common.{◌≡◌, ◌≢◌, ℕ, zero, suc, ◌+◌, ◌<◌, ◌≤◌, Bool, true, false, cond, not, List, [], ◌∷◌, length, get_or, drop, Option, None, Some, Ordering, Less, Equal, Greater, refl, sym, ap, subst, ◌∙◌, arith, inl, inr}
 use Rattle.std.specs.Prelude.{◌==◌, ◌&&◌, T, unwrap_or}
 use Rattle.std.proofs.lemmas.Bool.{cases_lt, eq-eqb}
 use Rattle.std.proofs.lemmas.Bool.Decides.{nat_tests}
@@ -12,9 +12,8 @@ use Rattle.std.specs.Cmp.Lexicographic.{slice_cmp, nat_list_cmp_total}
 use Rattle.std.specs.FinMap.{is_sorted, find}
 use Rattle.std.specs.FinMap.Entries.{below_all}
 use Rattle.gw_er7.specs.declared.place.Place.{Place}
-use Rattle.gw_er7.specs.declared.segment.Leaf.{Leaf}
 use Rattle.gw_er7.specs.Message.{numbers}
-use Rattle.gw_er7.specs.View.{entries_of, is_below}
+use Rattle.gw_er7.specs.View.{Held, entries_of, is_below}
 use Rattle.gw_er7.proofs.Sorted.{order, first, second}
 use Rattle.gw_er7.proofs.Keys.{tie, no_tie}
 
@@ -23,18 +22,18 @@ less Less h = refl
 less Equal h = absurd h
 less Greater h = absurd h
 
-abbrev key : Leaf → List ℕ
+abbrev key : Held → List ℕ
 key l = numbers l.place
 
-abbrev pub Sorted : List Leaf → Type 0
+abbrev pub Sorted : List Held → Type 0
 Sorted xs = T (is_sorted order (entries_of xs))
 
-below_at : (k : List ℕ) (xs : List Leaf) (j : ℕ) (d : Leaf) → T (below_all order k (entries_of xs)) → j < length xs → order k (key (get_or xs j d)) ≡ Less
+below_at : (k : List ℕ) (xs : List Held) (j : ℕ) (d : Held) → T (below_all order k (entries_of xs)) → j < length xs → order k (key (get_or xs j d)) ≡ Less
 below_at k [] j d h lt = absurd (omega arith)
 below_at k (x ∷ xs) zero d h lt = less _ (first _ _ h)
 below_at k (x ∷ xs) (suc j) d h lt = below_at k xs j d (second _ _ h) (omega arith)
 
-pub rising_at : (xs : List Leaf) (i j : ℕ) (d : Leaf) → Sorted xs → i < j → j < length xs → order (key (get_or xs i d)) (key (get_or xs j d)) ≡ Less
+pub rising_at : (xs : List Held) (i j : ℕ) (d : Held) → Sorted xs → i < j → j < length xs → order (key (get_or xs i d)) (key (get_or xs j d)) ≡ Less
 rising_at [] i j d h lt short = absurd (omega arith)
 rising_at (x ∷ xs) i zero d h lt short = absurd (omega arith)
 rising_at (x ∷ xs) zero (suc j) d h lt short = below_at (key x) xs j d (first _ _ h) (omega arith)
@@ -45,31 +44,57 @@ lt_true Less h = refl
 lt_true Equal h = absurd (let z : ⊥ = cc in z)
 lt_true Greater h = absurd (let z : ⊥ = cc in z)
 
-pub partitioned : (q : List ℕ) (xs : List Leaf) → Sorted xs → IsPartitionedBy (is_below q) xs
+pub partitioned : (q : List ℕ) (xs : List Held) → Sorted xs → IsPartitionedBy (is_below q) xs
 partitioned q xs h i j d le short is =
     elim (cases_lt i j) as (λ _. is_below q (get_or xs i d) ≡ true) [
       | inl lt ↦ ap is_lt (nat_list_cmp_total.trans (key (get_or xs i d)) (key (get_or xs j d)) q (rising_at xs i j d h lt short) (lt_true _ is))
       | inr ge ↦ (let same : j ≡ i = omega (arith, le, ge) in subst (λ (k : ℕ). is_below q (get_or xs k d) ≡ true) same is)
     ]
 
-here : (xs : List Leaf) (n : ℕ) (l d : Leaf) → n < length xs → l ≡ get_or xs n l → get_or xs n d ≡ l
+here : (xs : List Held) (n : ℕ) (l d : Held) → n < length xs → l ≡ get_or xs n l → get_or xs n d ≡ l
 here [] n l d lt is = absurd (omega arith)
 here (x ∷ xs) zero l d lt is = sym is
 here (x ∷ xs) (suc n) l d lt is = here xs n l d (omega arith) is
 
--- where one leaf is below, so are those before it; where one isn't, so aren't those behind it
-pub all_below : (q : List ℕ) (xs : List Leaf) (n : ℕ) (l : Leaf) → Sorted xs → n < length xs → l ≡ get_or xs n l → is_below q l ≡ true → AllWithin (λ y. is_below q y ≡ true) xs 0 (n + 1)
-all_below q xs n l h lt is below = λ k d low high. partitioned q xs h k n d (omega arith) lt (ap (is_below q) (here xs n l d lt is) ∙ below)
+-- where a test divides the texts, and one passes, so do those before it; where one doesn't, nor do those behind it
+pub all_before : (test : Held → Bool) (xs : List Held) (n : ℕ) (l : Held) → IsPartitionedBy test xs → n < length xs → l ≡ get_or xs n l → test l ≡ true → AllWithin (λ y. test y ≡ true) xs 0 (n + 1)
+all_before test xs n l h lt is passes = λ k d low high. h k n d (omega arith) lt (ap test (here xs n l d lt is) ∙ passes)
 
-pub none_below : (q : List ℕ) (xs : List Leaf) (n : ℕ) (l : Leaf) → Sorted xs → n < length xs → l ≡ get_or xs n l → is_below q l ≡ false → AllWithin (λ y. is_below q y ≡ false) xs n (length xs)
-none_below q xs n l h lt is behind = λ k d low high. by k d low high (is_below q (get_or xs k d)) refl
+pub none_from : (test : Held → Bool) (xs : List Held) (n : ℕ) (l : Held) → IsPartitionedBy test xs → n < length xs → l ≡ get_or xs n l → test l ≡ false → AllWithin (λ y. test y ≡ false) xs n (length xs)
+none_from test xs n l h lt is fails = λ k d low high. by k d low high (test (get_or xs k d)) refl
   where
-    by : (k : ℕ) (d : Leaf) → n ≤ k → k < length xs → (b : Bool) → is_below q (get_or xs k d) ≡ b → is_below q (get_or xs k d) ≡ false
+    by : (k : ℕ) (d : Held) → n ≤ k → k < length xs → (b : Bool) → test (get_or xs k d) ≡ b → test (get_or xs k d) ≡ false
     by k d low high false e = e
     by k d low high true e =
-        absurd (let z : true ≡ false = sym (partitioned q xs h n k d low high e) ∙ ap (is_below q) (here xs n l d lt is) ∙ behind in let no_more : ⊥ = cc in no_more)
+        absurd (let z : true ≡ false = sym (h n k d low high e) ∙ ap test (here xs n l d lt is) ∙ fails in let no_more : ⊥ = cc in no_more)
 
-pub count_is : (q : List ℕ) (xs : List Leaf) (n : ℕ) → n ≤ length xs → IsPartitionPoint (λ y. is_below q y ≡ true) (λ y. is_below q y ≡ false) xs n → n ≡ position_or_len (λ l. not (is_below q l)) xs
+-- how far a search among these texts has come
+pub record IsBetween (test : Held → Bool) (xs : List Held) (low high : ℕ) : Type 0 where
+  pub order : low ≤ high
+  pub bound : high ≤ length xs
+  pub below : AllWithin (λ y. test y ≡ true) xs 0 low
+  pub above : AllWithin (λ y. test y ≡ false) xs high (length xs)
+
+pub between_all : (test : Held → Bool) (xs : List Held) (n : ℕ) → n ≡ length xs → IsBetween test xs 0 n
+between_all test xs n e = record { order = omega arith; bound = omega arith; below = λ k d low high. absurd (omega arith); above = λ k d low high. absurd (omega arith) }
+
+pub between_up : (test : Held → Bool) (xs : List Held) (low high n : ℕ) (l : Held) → IsPartitionedBy test xs → IsBetween test xs low high → n < high → l ≡ get_or xs n l → test l ≡ true → IsBetween test xs (n + 1) high
+between_up test xs low high n l h is lt at passes = record { order = omega arith; bound = is.bound; below = all_before test xs n l h (omega (arith, lt, is.bound)) at passes; above = is.above }
+
+pub between_down : (test : Held → Bool) (xs : List Held) (low high n : ℕ) (l : Held) → IsPartitionedBy test xs → IsBetween test xs low high → low ≤ n → n < high → l ≡ get_or xs n l → test l ≡ false → IsBetween test xs low n
+between_down test xs low high n l h is le lt at fails = record { order = le; bound = omega (arith, lt, is.bound); below = is.below; above = none_from test xs n l h (omega (arith, lt, is.bound)) at fails }
+
+pub between_done : (test : Held → Bool) (xs : List Held) (low high : ℕ) → IsBetween test xs low high → high ≤ low → IsPartitionPoint (λ y. test y ≡ true) (λ y. test y ≡ false) xs low
+between_done test xs low high is done = (is.below, λ k d from to. is.above k d (omega (arith, from, done)) to)
+
+-- the same of places below one
+pub all_below : (q : List ℕ) (xs : List Held) (n : ℕ) (l : Held) → Sorted xs → n < length xs → l ≡ get_or xs n l → is_below q l ≡ true → AllWithin (λ y. is_below q y ≡ true) xs 0 (n + 1)
+all_below q xs n l h lt is below = all_before (is_below q) xs n l (partitioned q xs h) lt is below
+
+pub none_below : (q : List ℕ) (xs : List Held) (n : ℕ) (l : Held) → Sorted xs → n < length xs → l ≡ get_or xs n l → is_below q l ≡ false → AllWithin (λ y. is_below q y ≡ false) xs n (length xs)
+none_below q xs n l h lt is behind = none_from (is_below q) xs n l (partitioned q xs h) lt is behind
+
+pub count_is : (q : List ℕ) (xs : List Held) (n : ℕ) → n ≤ length xs → IsPartitionPoint (λ y. is_below q y ≡ true) (λ y. is_below q y ≡ false) xs n → n ≡ position_or_len (λ l. not (is_below q l)) xs
 count_is q [] n le h = omega arith
 count_is q (x ∷ xs) n le h = sym (position_or_len_is (λ l. not (is_below q l)) (x ∷ xs) n x le (λ k lt. ap not (h.0 k x (omega arith) lt)) (λ lt. ap not (h.1 n x (omega arith) lt)))
 
@@ -79,21 +104,21 @@ apart_less : (a b : List ℕ) → order a b ≡ Less → b ≢ a
 apart_less a b e same =
     absurd (let t : eq_by_cmp (slice_cmp nat_cmp) a b ≡ true = tie a b (sym same) in let f : eq_by_cmp (slice_cmp nat_cmp) a b ≡ false = ap is_eq e in let z : true ≡ false = sym t ∙ f in let no_more : ⊥ = cc in no_more)
 
-pub look_less : (q : List ℕ) (x : Leaf) (xs : List Leaf) → order (key x) q ≡ Less → find order q (entries_of (x ∷ xs)) ≡ find order q (entries_of xs)
+pub look_less : (q : List ℕ) (x : Held) (xs : List Held) → order (key x) q ≡ Less → find order q (entries_of (x ∷ xs)) ≡ find order q (entries_of xs)
 look_less q x xs e = rw (no_tie q (key x) (apart_less (key x) q e)) refl
 
-look_above : (q k : List ℕ) (xs : List Leaf) → order q k ≡ Less → T (below_all order k (entries_of xs)) → find order q (entries_of xs) ≡ None
+look_above : (q k : List ℕ) (xs : List Held) → order q k ≡ Less → T (below_all order k (entries_of xs)) → find order q (entries_of xs) ≡ None
 look_above q k [] e h = refl
 look_above q k (x ∷ xs) e h =
     let far = nat_list_cmp_total.trans q k (key x) e (less _ (first _ _ h)) in
     rw (no_tie q (key x) (λ same. apart_less q (key x) far (sym same))) (look_above q k xs e (second _ _ h))
 
--- the leaf at the place where the search ends, or none
-abbrev pub hit : List ℕ → List Leaf → Option (List ℕ)
+-- the text at the place where the search ends, or none
+abbrev pub hit : List ℕ → List Held → Option (List ℕ)
 hit q [] = None
-hit q (x ∷ xs) = cond (eq_by_cmp (slice_cmp nat_cmp) q (key x)) (Some x.text.items) None
+hit q (x ∷ xs) = cond (eq_by_cmp (slice_cmp nat_cmp) q (key x)) (Some x.text) None
 
-skipped : (q : List ℕ) (xs : List Leaf) → Sorted xs → find order q (entries_of xs) ≡ hit q (drop (prefix_len (λ l. not (not (is_below q l))) xs) xs)
+skipped : (q : List ℕ) (xs : List Held) → Sorted xs → find order q (entries_of xs) ≡ hit q (drop (prefix_len (λ l. not (not (is_below q l))) xs) xs)
 skipped q [] h = refl
 skipped q (x ∷ xs) h =
     let k = prefix_len (λ l. not (not (is_below q l))) xs in
@@ -101,7 +126,7 @@ skipped q (x ∷ xs) h =
     elim (order (key x) q) as (λ r. order (key x) q ≡ r → find order q (entries_of (x ∷ xs)) ≡ hit q (drop (cond (not (not (is_lt r))) (1 + k) 0) (x ∷ xs))) [
       | Less ↦ λ e. look_less q x xs e ∙ skipped q xs (second _ _ h) ∙ ap (λ (j : ℕ). hit q (drop j (x ∷ xs))) (sym more)
       | Equal ↦ λ e. here e
-      | Greater ↦ λ e. ap (λ (o : Option (List ℕ)). cond (eq_by_cmp (slice_cmp nat_cmp) q (key x)) (Some x.text.items) o) (look_above q (key x) xs (nat_list_cmp_total.antisymm q (key x) ∙ ap ordering_reverse e) (first _ _ h))
+      | Greater ↦ λ e. ap (λ (o : Option (List ℕ)). cond (eq_by_cmp (slice_cmp nat_cmp) q (key x)) (Some x.text) o) (look_above q (key x) xs (nat_list_cmp_total.antisymm q (key x) ∙ ap ordering_reverse e) (first _ _ h))
     ] refl
   where
     here : order (key x) q ≡ Equal → find order q (entries_of (x ∷ xs)) ≡ hit q (x ∷ xs)
@@ -122,20 +147,20 @@ same-numbers p q e =
     let s : p.sub ≡ q.sub = cc in
     rw (eq-eqb _ _ a, eq-eqb _ _ b, eq-eqb _ _ d, eq-eqb _ _ s) refl
 
-pub text_here : (p : Place) (xs : List Leaf) (n : ℕ) (l : Leaf) → Sorted xs → n ≡ position_or_len (λ l. not (is_below (numbers p) l)) xs → n < length xs → l ≡ get_or xs n l → same l.place p ≡ true → unwrap_or (find order (numbers p) (entries_of xs)) [] ≡ l.text.items
+pub text_here : (p : Place) (xs : List Held) (n : ℕ) (l : Held) → Sorted xs → n ≡ position_or_len (λ l. not (is_below (numbers p) l)) xs → n < length xs → l ≡ get_or xs n l → same l.place p ≡ true → unwrap_or (find order (numbers p) (entries_of xs)) [] ≡ l.text
 text_here p xs n l h e lt is at =
     let start : find order (numbers p) (entries_of xs) ≡ hit (numbers p) (l ∷ drop (n + 1) xs) =
-    skipped (numbers p) xs h ∙ ap (λ (j : ℕ). hit (numbers p) (drop j xs)) (sym e) ∙ ap (hit (numbers p)) (drop_more xs n l lt ∙ ap (λ (x : Leaf). x ∷ drop (n + 1) xs) (sym is)) in
+    skipped (numbers p) xs h ∙ ap (λ (j : ℕ). hit (numbers p) (drop j xs)) (sym e) ∙ ap (hit (numbers p)) (drop_more xs n l lt ∙ ap (λ (x : Held). x ∷ drop (n + 1) xs) (sym is)) in
     let tied : eq_by_cmp (slice_cmp nat_cmp) (numbers p) (key l) ≡ true = tie (numbers p) (key l) (sym (numbers-same l.place p at)) in
-    ap (λ (o : Option (List ℕ)). unwrap_or o []) (start ∙ ap (λ (b : Bool). cond b (Some l.text.items) None) tied)
+    ap (λ (o : Option (List ℕ)). unwrap_or o []) (start ∙ ap (λ (b : Bool). cond b (Some l.text) None) tied)
 
-pub text_none : (p : Place) (xs : List Leaf) (n : ℕ) (l : Leaf) → Sorted xs → n ≡ position_or_len (λ l. not (is_below (numbers p) l)) xs → n < length xs → l ≡ get_or xs n l → same l.place p ≡ false → unwrap_or (find order (numbers p) (entries_of xs)) [] ≡ []
+pub text_none : (p : Place) (xs : List Held) (n : ℕ) (l : Held) → Sorted xs → n ≡ position_or_len (λ l. not (is_below (numbers p) l)) xs → n < length xs → l ≡ get_or xs n l → same l.place p ≡ false → unwrap_or (find order (numbers p) (entries_of xs)) [] ≡ []
 text_none p xs n l h e lt is at =
     let start : find order (numbers p) (entries_of xs) ≡ hit (numbers p) (l ∷ drop (n + 1) xs) =
-    skipped (numbers p) xs h ∙ ap (λ (j : ℕ). hit (numbers p) (drop j xs)) (sym e) ∙ ap (hit (numbers p)) (drop_more xs n l lt ∙ ap (λ (x : Leaf). x ∷ drop (n + 1) xs) (sym is)) in
+    skipped (numbers p) xs h ∙ ap (λ (j : ℕ). hit (numbers p) (drop j xs)) (sym e) ∙ ap (hit (numbers p)) (drop_more xs n l lt ∙ ap (λ (x : Held). x ∷ drop (n + 1) xs) (sym is)) in
     let apart : eq_by_cmp (slice_cmp nat_cmp) (numbers p) (key l) ≡ false = no_tie (numbers p) (key l) (λ s. absurd (let t : same l.place p ≡ true = same-numbers l.place p (sym s) in let z : true ≡ false = sym t ∙ at in let no_more : ⊥ = cc in no_more)) in
-    ap (λ (o : Option (List ℕ)). unwrap_or o []) (start ∙ ap (λ (b : Bool). cond b (Some l.text.items) None) apart)
+    ap (λ (o : Option (List ℕ)). unwrap_or o []) (start ∙ ap (λ (b : Bool). cond b (Some l.text) None) apart)
 
-pub text_past : (p : Place) (xs : List Leaf) (n : ℕ) → Sorted xs → n ≡ position_or_len (λ l. not (is_below (numbers p) l)) xs → length xs ≤ n → unwrap_or (find order (numbers p) (entries_of xs)) [] ≡ []
+pub text_past : (p : Place) (xs : List Held) (n : ℕ) → Sorted xs → n ≡ position_or_len (λ l. not (is_below (numbers p) l)) xs → length xs ≤ n → unwrap_or (find order (numbers p) (entries_of xs)) [] ≡ []
 text_past p xs n h e le =
     ap (λ (o : Option (List ℕ)). unwrap_or o []) (skipped (numbers p) xs h ∙ ap (λ (j : ℕ). hit (numbers p) (drop j xs)) (sym e) ∙ ap (hit (numbers p)) (drop_all n xs le))

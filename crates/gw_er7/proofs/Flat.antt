@@ -2,28 +2,27 @@
 use Rattle.std.proofs.Common.{◌≡◌, ℕ, zero, suc, ◌+◌, ◌<◌, List, [], ◌∷◌, ◌++◌, map, take, drop, refl, sym, ap, ◌∙◌, append-nil, arith}
 use Rattle.std.specs.Prelude.{◌==◌, not}
 use Rattle.std.specs.List.{prefix_len}
-use Rattle.gw_er7.specs.declared.segment.Leaf.{Leaf}
 use Rattle.gw_er7.specs.declared.level.Level.TheVariants.{Field, Repetition, Component, Subcomponent}
 use Rattle.gw_er7.specs.Entries.{Entry}
 use Rattle.gw_er7.specs.Layers.{inside, part_text}
 use Rattle.gw_er7.specs.Ordered.{IsOrdered, IsCut}
-use Rattle.gw_er7.specs.View.{entries_of}
+use Rattle.gw_er7.specs.View.{Held, entries_of}
 use Rattle.gw_er7.specs.Written.{last_number, layer, fields_text}
 use Rattle.gw_er7.proofs.Runs.{cut_run}
 use Rattle.gw_er7.proofs.Steps.{levels, ones, steps, behind, steps-under}
 use Rattle.gw_er7.proofs.Writes.{layer-last, layer-more, IsFurther, further}
 
-module _ (head : Leaf → ℕ) (tail : Leaf → Entry) (t : ℕ) (ts : List ℕ) (inner : List Entry → List ℕ) where
-  abbrev full : Leaf → Entry
+module _ (head : Held → ℕ) (tail : Held → Entry) (t : ℕ) (ts : List ℕ) (inner : List Entry → List ℕ) where
+  abbrev full : Held → Entry
   full l = (head l ∷ (tail l).0, (tail l).1)
 
   abbrev Flattens : Type 0
-  Flattens = (ys : List Leaf) → IsOrdered 1 (map tail ys) → steps ts (ones ts) (map tail ys) ≡ inner (map tail ys)
+  Flattens = (ys : List Held) → IsOrdered 1 (map tail ys) → steps ts (ones ts) (map tail ys) ≡ inner (map tail ys)
 
-  abbrev Is : ℕ → List Leaf → Type 0
+  abbrev Is : ℕ → List Held → Type 0
   Is n xs = steps (t ∷ ts) (n ∷ ones ts) (map full xs) ≡ layer inner t n (map full xs)
 
-  one_part : inner [] ≡ [] → Flattens → (n : ℕ) (xs these later : List Leaf) → 0 < n → IsCut n (map full xs) (map tail these) (map full later) → (IsFurther n (map full xs) (map full later) → Is (n + 1) later) → Is n xs
+  one_part : inner [] ≡ [] → Flattens → (n : ℕ) (xs these later : List Held) → 0 < n → IsCut n (map full xs) (map tail these) (map full later) → (IsFurther n (map full xs) (map full later) → Is (n + 1) later) → Is n xs
   one_part empty within n xs these [] lt cut next =
       ap (steps (t ∷ ts) (n ∷ ones ts)) cut.whole ∙ steps-under t ts n (ones ts) (map tail these) [] tt ∙ append-nil (steps ts (ones ts) (map tail these)) ∙ within these cut.inner
       ∙ sym (ap (layer inner t n) (cut.whole ∙ append-nil _) ∙ layer-last inner t n (map tail these) lt empty)
@@ -33,7 +32,7 @@ module _ (head : Leaf → ℕ) (tail : Leaf → Entry) (t : ℕ) (ts : List ℕ)
       ∙ ap (λ (y : List ℕ). inner (map tail these) ++ t ∷ y) (next (further full n (map full xs) (map tail these) (x ∷ later) cut (omega arith)))
       ∙ sym (ap (layer inner t n) cut.whole ∙ layer-more inner t n (map tail these) (map full (x ∷ later)) cut.above (omega arith))
 
-  flat : inner [] ≡ [] → Flattens → (fuel n : ℕ) (xs : List Leaf) → last_number (map full xs) < n + fuel → 0 < n → IsOrdered n (map full xs) → Is n xs
+  flat : inner [] ≡ [] → Flattens → (fuel n : ℕ) (xs : List Held) → last_number (map full xs) < n + fuel → 0 < n → IsOrdered n (map full xs) → Is n xs
   flat empty within zero n xs bound lt is =
       let k = prefix_len (λ l. not (not (head l == n))) xs in
       one_part empty within n xs (take k xs) (drop k xs) lt (cut_run head tail n xs is) (λ far. absurd (omega (arith, bound, far.above, far.last)))
@@ -42,24 +41,24 @@ module _ (head : Leaf → ℕ) (tail : Leaf → Entry) (t : ℕ) (ts : List ℕ)
       let cut = cut_run head tail n xs is in
       one_part empty within n xs (take k xs) (drop k xs) lt cut (λ far. flat empty within fuel (n + 1) (drop k xs) (omega (arith, bound, far.last)) (omega arith) cut.outer)
 
-  pub in_layer : inner [] ≡ [] → Flattens → (n : ℕ) (xs : List Leaf) → 0 < n → IsOrdered n (map full xs) → steps (t ∷ ts) (n ∷ ones ts) (map full xs) ≡ layer inner t n (map full xs)
+  pub in_layer : inner [] ≡ [] → Flattens → (n : ℕ) (xs : List Held) → 0 < n → IsOrdered n (map full xs) → steps (t ∷ ts) (n ∷ ones ts) (map full xs) ≡ layer inner t n (map full xs)
   in_layer empty within n xs lt is = flat empty within (last_number (map full xs)) n xs (omega (arith, lt)) lt is
 
 -- ---- at each level
 
-subcomponent : (xs : List Leaf) → IsOrdered 1 (map (inside Subcomponent) xs) → steps [] [] (map (inside Subcomponent) xs) ≡ part_text Subcomponent (map (inside Subcomponent) xs)
+subcomponent : (xs : List Held) → IsOrdered 1 (map (inside Subcomponent) xs) → steps [] [] (map (inside Subcomponent) xs) ≡ part_text Subcomponent (map (inside Subcomponent) xs)
 subcomponent [] is = refl
-subcomponent (x ∷ []) is = append-nil x.text.items
+subcomponent (x ∷ []) is = append-nil x.text
 subcomponent (x ∷ y ∷ xs) is = absurd is.rising
 
-component : (xs : List Leaf) → IsOrdered 1 (map (inside Component) xs) → steps (38 ∷ []) (1 ∷ []) (map (inside Component) xs) ≡ part_text Component (map (inside Component) xs)
+component : (xs : List Held) → IsOrdered 1 (map (inside Component) xs) → steps (38 ∷ []) (1 ∷ []) (map (inside Component) xs) ≡ part_text Component (map (inside Component) xs)
 component xs is = in_layer (λ l. l.place.sub) (inside Subcomponent) 38 [] (part_text Subcomponent) refl subcomponent 1 xs (omega arith) is
 
-repetition : (xs : List Leaf) → IsOrdered 1 (map (inside Repetition) xs) → steps (94 ∷ 38 ∷ []) (1 ∷ 1 ∷ []) (map (inside Repetition) xs) ≡ part_text Repetition (map (inside Repetition) xs)
+repetition : (xs : List Held) → IsOrdered 1 (map (inside Repetition) xs) → steps (94 ∷ 38 ∷ []) (1 ∷ 1 ∷ []) (map (inside Repetition) xs) ≡ part_text Repetition (map (inside Repetition) xs)
 repetition xs is = in_layer (λ l. l.place.comp) (inside Component) 94 (38 ∷ []) (part_text Component) refl component 1 xs (omega arith) is
 
-field : (xs : List Leaf) → IsOrdered 1 (map (inside Field) xs) → steps (126 ∷ 94 ∷ 38 ∷ []) (1 ∷ 1 ∷ 1 ∷ []) (map (inside Field) xs) ≡ part_text Field (map (inside Field) xs)
+field : (xs : List Held) → IsOrdered 1 (map (inside Field) xs) → steps (126 ∷ 94 ∷ 38 ∷ []) (1 ∷ 1 ∷ 1 ∷ []) (map (inside Field) xs) ≡ part_text Field (map (inside Field) xs)
 field xs is = in_layer (λ l. l.place.rep) (inside Repetition) 126 (94 ∷ 38 ∷ []) (part_text Repetition) refl repetition 1 xs (omega arith) is
 
-pub fields : (first : ℕ) (xs : List Leaf) → 0 < first → IsOrdered first (entries_of xs) → steps levels (first ∷ 1 ∷ 1 ∷ 1 ∷ []) (entries_of xs) ≡ fields_text first (entries_of xs)
+pub fields : (first : ℕ) (xs : List Held) → 0 < first → IsOrdered first (entries_of xs) → steps levels (first ∷ 1 ∷ 1 ∷ 1 ∷ []) (entries_of xs) ≡ fields_text first (entries_of xs)
 fields first xs lt is = in_layer (λ l. l.place.field) (inside Field) 124 (126 ∷ 94 ∷ 38 ∷ []) (part_text Field) refl field first xs lt is

@@ -1,4 +1,4 @@
--- Segments as they are lent: what their leaves stand for.
+-- Segments as they are lent: what their texts stand for.
 use Rattle.std.proofs.Common.{◌≡◌, ℕ, zero, suc, ◌+◌, ◌-◌, ◌<◌, ◌≤◌, true, false, List, [], ◌∷◌, length, get_or, Some, Ordering, Less, Equal, Greater, refl, sym, ap, subst, ◌∙◌, arith}
 use Rattle.std.specs.Prelude.{slice_get}
 use Rattle.std.specs.List.{AllByRecursion}
@@ -7,11 +7,10 @@ use Rattle.std.specs.Ordering.{nat_cmp, is_lt, is_le, ordering_then}
 use Rattle.std.specs.Cmp.Lexicographic.{slice_cmp}
 use Rattle.std.specs.FinMap as texts
 use Rattle.std.specs.FinMap.{entries-from_sorted}
-use Rattle.gw_er7.specs.declared.segment.Leaf.{Leaf}
 use Rattle.gw_er7.specs.Message.{SegmentValue, first_field, IsKey, IsEntry, IsSegment}
 use Rattle.gw_er7.specs.Entries.{Entry}
 use Rattle.gw_er7.specs.Presence.{IsStart}
-use Rattle.gw_er7.specs.View.{entry_of, entries_of, is_below, is_within, stored, IsLent, AreValues}
+use Rattle.gw_er7.specs.View.{Held, entry_of, entries_of, is_below, is_within, stored, IsLent, AreValues}
 use Rattle.gw_er7.proofs.Sorted.{order}
 use Rattle.gw_er7.proofs.Under.{cases_cmp, less_is}
 
@@ -23,39 +22,45 @@ all_one : (n : ℕ) (es : List Entry) → AllByRecursion (IsEntry n) es → AllB
 all_one n [] h = tt
 all_one n (e ∷ es) h = (record { key = one_positive n e.0 h.0.key; text = h.0.text; some = h.0.some }, all_one n es h.1)
 
-pub values_of : (name : List ℕ) (xs : List Leaf) → IsLent name xs → AreValues xs
+pub values_of : (name : List ℕ) (xs : List Held) → IsLent name xs → AreValues xs
 values_of name xs is = record {
   sorted = is.sorted;
   each = all_one (first_field name) (entries_of xs) (subst (λ (es : List Entry). AllByRecursion (IsEntry (first_field name)) es) (entries-from_sorted (slice_cmp nat_cmp) (entries_of xs) is.sorted) is.segment.each);
 }
 
-pub segment_is : (name : List ℕ) (xs : List Leaf) (s : SegmentValue) → IsLent name xs → stored name xs ≡ s → IsSegment s
+pub segment_is : (name : List ℕ) (xs : List Held) (s : SegmentValue) → IsLent name xs → stored name xs ≡ s → IsSegment s
 segment_is name xs s is e = subst (λ (v : SegmentValue). IsSegment v) e is.segment
 
-pub entries_are : (name : List ℕ) (xs : List Leaf) (s : SegmentValue) → IsLent name xs → stored name xs ≡ s → entries_of xs ≡ texts.entries s.at
+pub entries_are : (name : List ℕ) (xs : List Held) (s : SegmentValue) → IsLent name xs → stored name xs ≡ s → entries_of xs ≡ texts.entries s.at
 entries_are name xs s is e = sym (entries-from_sorted (slice_cmp nat_cmp) (entries_of xs) is.sorted) ∙ ap (λ (v : SegmentValue). texts.entries v.at) e
 
-pub length-entries : (xs : List Leaf) → length (entries_of xs) ≡ length xs
+pub length-entries : (xs : List Held) → length (entries_of xs) ≡ length xs
 length-entries [] = refl
 length-entries (x ∷ xs) = omega (arith, length-entries xs)
 
-pub count_is : (name : List ℕ) (xs : List Leaf) (s : SegmentValue) → IsLent name xs → stored name xs ≡ s → length xs ≡ length (texts.entries s.at)
+pub count_is : (name : List ℕ) (xs : List Held) (s : SegmentValue) → IsLent name xs → stored name xs ≡ s → length xs ≡ length (texts.entries s.at)
 count_is name xs s is e = sym (length-entries xs) ∙ ap length (entries_are name xs s is e)
 
-pub entry_here : (xs : List Leaf) (i : ℕ) (l : Leaf) → i < length xs → l ≡ get_or xs i l → slice_get (entries_of xs) i ≡ Some (entry_of l)
+pub entry_here : (xs : List Held) (i : ℕ) (l : Held) → i < length xs → l ≡ get_or xs i l → slice_get (entries_of xs) i ≡ Some (entry_of l)
 entry_here [] i l lt e = absurd (omega arith)
-entry_here (x ∷ xs) zero l lt e = ap (λ (m : Leaf). Some (entry_of m)) (sym e)
+entry_here (x ∷ xs) zero l lt e = ap (λ (m : Held). Some (entry_of m)) (sym e)
 entry_here (x ∷ xs) (suc i) l lt e = entry_here xs i l (omega arith) e
+
+-- the text of this number
+pub value_is : (name : List ℕ) (xs : List Held) (s : SegmentValue) (i : ℕ) (l : Held) → IsLent name xs → stored name xs ≡ s → i < length (texts.entries s.at) → get_or xs i l ≡ l → slice_get (texts.entries s.at) i ≡ Some (entry_of l)
+value_is name xs s i l is e lt at =
+    let short : i < length xs = omega (arith, lt, count_is name xs s is e) in
+    ap (λ (es : List Entry). slice_get es i) (sym (entries_are name xs s is e)) ∙ entry_here xs i l short (sym at)
 
 -- ---- where a place begins
 
-record HasEntry (xs : List Leaf) (i : ℕ) (e : Entry) : Type 0 where
-  leaf : Leaf
+record HasEntry (xs : List Held) (i : ℕ) (e : Entry) : Type 0 where
+  leaf : Held
   within : i < length xs
   here : get_or xs i leaf ≡ leaf
   is : entry_of leaf ≡ e
 
-has_entry : (xs : List Leaf) (i : ℕ) (e : Entry) → slice_get (entries_of xs) i ≡ Some e → HasEntry xs i e
+has_entry : (xs : List Held) (i : ℕ) (e : Entry) → slice_get (entries_of xs) i ≡ Some e → HasEntry xs i e
 has_entry [] i e h = absurd (let z : ⊥ = cc in z)
 has_entry (x ∷ xs) zero e h = (let same : entry_of x ≡ e = cc in record { leaf = x; within = omega arith; here = refl; is = same })
 has_entry (x ∷ xs) (suc i) e h = (let more = has_entry xs i e h in record { leaf = more.leaf; within = omega (arith, more.within); here = more.here; is = more.is })
@@ -65,7 +70,7 @@ less Less h = refl
 less Equal h = absurd (let z : ⊥ = cc in z)
 less Greater h = absurd (let z : ⊥ = cc in z)
 
-start_at : (q : List ℕ) (xs : List Leaf) (n : ℕ) → n ≤ length xs → IsPartitionPoint (λ l. is_below q l ≡ true) (λ l. is_below q l ≡ false) xs n → IsStart q (entries_of xs) n
+start_at : (q : List ℕ) (xs : List Held) (n : ℕ) → n ≤ length xs → IsPartitionPoint (λ l. is_below q l ≡ true) (λ l. is_below q l ≡ false) xs n → IsStart q (entries_of xs) n
 start_at q xs n bound point = record {
   bound = omega (arith, length-entries xs);
   before = λ i e lt h. (let at = has_entry xs i e h in
@@ -76,7 +81,7 @@ start_at q xs n bound point = record {
       let z : true ≡ false = sym in_it ∙ out in let no_more : ⊥ = cc in no_more);
 }
 
-pub start_is : (q name : List ℕ) (xs : List Leaf) (s : SegmentValue) (n : ℕ) → IsLent name xs → stored name xs ≡ s → n ≤ length xs → IsPartitionPoint (λ l. is_below q l ≡ true) (λ l. is_below q l ≡ false) xs n → IsStart q (texts.entries s.at) n
+pub start_is : (q name : List ℕ) (xs : List Held) (s : SegmentValue) (n : ℕ) → IsLent name xs → stored name xs ≡ s → n ≤ length xs → IsPartitionPoint (λ l. is_below q l ≡ true) (λ l. is_below q l ≡ false) xs n → IsStart q (texts.entries s.at) n
 start_is q name xs s n is e bound point = subst (λ (es : List Entry). IsStart q es n) (entries_are name xs s is e) (start_at q xs n bound point)
 
 -- ---- where a field begins and ends
@@ -89,12 +94,12 @@ within_is a n =
     (λ e. ap (λ (r : Ordering). is_lt (ordering_then r Greater)) (sym (less_is a (n + 1) (omega arith))))
     (λ gt. cases_cmp (λ r. false ≡ is_lt (ordering_then r Greater)) a (n + 1) (λ lt. absurd (omega arith)) (λ _. refl) (λ _. refl))
 
-pub field_behind : (n : ℕ) (xs : List Leaf) (m : ℕ) → m ≤ length xs → IsPartitionPoint (λ l. is_within (n ∷ []) l ≡ true) (λ l. is_within (n ∷ []) l ≡ false) xs m → IsStart ((n + 1) ∷ []) (entries_of xs) m
+pub field_behind : (n : ℕ) (xs : List Held) (m : ℕ) → m ≤ length xs → IsPartitionPoint (λ l. is_within (n ∷ []) l ≡ true) (λ l. is_within (n ∷ []) l ≡ false) xs m → IsStart ((n + 1) ∷ []) (entries_of xs) m
 field_behind n xs m bound point =
     start_at ((n + 1) ∷ []) xs m bound
     ((λ k d low high. sym (within_is (get_or xs k d).place.field n) ∙ point.0 k d low high), (λ k d low high. sym (within_is (get_or xs k d).place.field n) ∙ point.1 k d low high))
 
-pub field_first : (n : ℕ) (xs : List Leaf) (m : ℕ) → 0 < n → m ≤ length xs → IsPartitionPoint (λ l. is_within ((n - 1) ∷ []) l ≡ true) (λ l. is_within ((n - 1) ∷ []) l ≡ false) xs m → IsStart (n ∷ []) (entries_of xs) m
+pub field_first : (n : ℕ) (xs : List Held) (m : ℕ) → 0 < n → m ≤ length xs → IsPartitionPoint (λ l. is_within ((n - 1) ∷ []) l ≡ true) (λ l. is_within ((n - 1) ∷ []) l ≡ false) xs m → IsStart (n ∷ []) (entries_of xs) m
 field_first n xs m some bound point = (let e : n - 1 + 1 ≡ n = omega arith in subst (λ (k : ℕ). IsStart (k ∷ []) (entries_of xs) m) e (field_behind (n - 1) xs m bound point))
 
 -- ---- where a repetition begins and ends
@@ -104,7 +109,7 @@ rep_within_is Less a n = refl
 rep_within_is Equal a n = within_is a n
 rep_within_is Greater a n = refl
 
-pub rep_behind : (f n : ℕ) (xs : List Leaf) (m : ℕ) → m ≤ length xs → IsPartitionPoint (λ l. is_within (f ∷ n ∷ []) l ≡ true) (λ l. is_within (f ∷ n ∷ []) l ≡ false) xs m → IsStart (f ∷ (n + 1) ∷ []) (entries_of xs) m
+pub rep_behind : (f n : ℕ) (xs : List Held) (m : ℕ) → m ≤ length xs → IsPartitionPoint (λ l. is_within (f ∷ n ∷ []) l ≡ true) (λ l. is_within (f ∷ n ∷ []) l ≡ false) xs m → IsStart (f ∷ (n + 1) ∷ []) (entries_of xs) m
 rep_behind f n xs m bound point =
     start_at (f ∷ (n + 1) ∷ []) xs m bound (
       (λ k d low high. sym (rep_within_is (nat_cmp (get_or xs k d).place.field f) (get_or xs k d).place.rep n) ∙ point.0 k d low high),
@@ -124,10 +129,10 @@ from_zero Equal Less c s = refl
 from_zero Equal Greater c s = refl
 from_zero Equal Equal c s = never_less c s
 
-below_is : (f n : ℕ) (l : Leaf) → is_below (f ∷ n ∷ 0 ∷ 0 ∷ []) l ≡ is_below (f ∷ n ∷ []) l
+below_is : (f n : ℕ) (l : Held) → is_below (f ∷ n ∷ 0 ∷ 0 ∷ []) l ≡ is_below (f ∷ n ∷ []) l
 below_is f n l = from_zero (nat_cmp l.place.field f) (nat_cmp l.place.rep n) l.place.comp l.place.sub
 
-pub rep_first : (f n : ℕ) (xs : List Leaf) (m : ℕ) → m ≤ length xs → IsPartitionPoint (λ l. is_below (f ∷ n ∷ 0 ∷ 0 ∷ []) l ≡ true) (λ l. is_below (f ∷ n ∷ 0 ∷ 0 ∷ []) l ≡ false) xs m → IsStart (f ∷ n ∷ []) (entries_of xs) m
+pub rep_first : (f n : ℕ) (xs : List Held) (m : ℕ) → m ≤ length xs → IsPartitionPoint (λ l. is_below (f ∷ n ∷ 0 ∷ 0 ∷ []) l ≡ true) (λ l. is_below (f ∷ n ∷ 0 ∷ 0 ∷ []) l ≡ false) xs m → IsStart (f ∷ n ∷ []) (entries_of xs) m
 rep_first f n xs m bound point =
     start_at (f ∷ n ∷ []) xs m bound
     ((λ k d low high. sym (below_is f n (get_or xs k d)) ∙ point.0 k d low high), (λ k d low high. sym (below_is f n (get_or xs k d)) ∙ point.1 k d low high))

@@ -16,6 +16,8 @@ pub mod Runs
 pub mod Flat
 pub mod Rooms
 pub mod Stored
+pub mod Slices
+pub mod Widths
 pub mod Rounds
 pub mod Again
 pub mod Once

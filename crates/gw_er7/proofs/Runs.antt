@@ -1,4 +1,4 @@
--- Leaves in order, cut behind those with one number.
+-- Texts in order, cut behind those with one number.
 use Rattle.std.proofs.Common.{◌≡◌, ◌≢◌, ℕ, suc, ◌+◌, ◌<◌, ◌≤◌, true, false, cond, not, List, [], ◌∷◌, ◌++◌, map, take, drop, Ordering, Greater, refl, sym, ap, subst, ◌∙◌, arith, inl, inr}
 use Rattle.std.specs.Prelude.{◌==◌, T}
 use Rattle.std.proofs.lemmas.Bool.{cases_lt, eqb-true, eq-eqb}
@@ -6,7 +6,7 @@ use Rattle.std.specs.List.{prefix_len, AllByRecursion}
 use Rattle.std.specs.Ordering.{is_lt, ordering_then}
 use Rattle.std.specs.Cmp.{nat_cmp_is}
 use Rattle.std.specs.FinMap.Entries.{below_all}
-use Rattle.gw_er7.specs.declared.segment.Leaf.{Leaf}
+use Rattle.gw_er7.specs.View.{Held}
 use Rattle.gw_er7.specs.Entries.{Entry, under}
 use Rattle.gw_er7.specs.Ordered.{IsAtLeast, Above, IsOrdered, IsCut}
 use Rattle.gw_er7.proofs.Sorted.{order, both, first, second, cmp-same}
@@ -32,19 +32,19 @@ none-ordered n = record { rising = tt; from = tt; positive = tt }
 eq-false : (a b : ℕ) → (a == b) ≡ false → a ≢ b
 eq-false a b e same = absurd (let t : (a == b) ≡ true = eq-eqb a b same in let z : ⊥ = cc in z)
 
-module _ (head : Leaf → ℕ) (tail : Leaf → Entry) where
-  abbrev full : Leaf → Entry
+module _ (head : Held → ℕ) (tail : Held → Entry) where
+  abbrev full : Held → Entry
   full l = (head l ∷ (tail l).0, (tail l).1)
 
-  above-first : (n : ℕ) (key : List ℕ) (m : ℕ) (xs : List Leaf) → n < m → T (below_all order (m ∷ key) (map full xs)) → Above n (map full xs)
+  above-first : (n : ℕ) (key : List ℕ) (m : ℕ) (xs : List Held) → n < m → T (below_all order (m ∷ key) (map full xs)) → Above n (map full xs)
   above-first n key m [] lt h = tt
   above-first n key m (x ∷ xs) lt h = (let le : m ≤ head x = less-le m (head x) key (tail x).0 (first _ _ h) in omega arith, above-first n key m xs lt (second _ _ h))
 
-  least-above : (n : ℕ) (xs : List Leaf) → Above n (map full xs) → AllByRecursion (λ e. IsAtLeast (n + 1) e.0) (map full xs)
+  least-above : (n : ℕ) (xs : List Held) → Above n (map full xs) → AllByRecursion (λ e. IsAtLeast (n + 1) e.0) (map full xs)
   least-above n [] h = tt
   least-above n (x ∷ xs) h = (omega (arith, h.0), least-above n xs h.1)
 
-  pub cut_run : (n : ℕ) (xs : List Leaf) → IsOrdered n (map full xs) → IsCut n (map full xs) (map tail (take (prefix_len (λ l. not (not (head l == n))) xs) xs)) (map full (drop (prefix_len (λ l. not (not (head l == n))) xs) xs))
+  pub cut_run : (n : ℕ) (xs : List Held) → IsOrdered n (map full xs) → IsCut n (map full xs) (map tail (take (prefix_len (λ l. not (not (head l == n))) xs) xs)) (map full (drop (prefix_len (λ l. not (not (head l == n))) xs) xs))
   cut_run n [] is = record { whole = refl; above = tt; inner = none-ordered 1; outer = none-ordered (n + 1) }
   cut_run n (x ∷ xs) is =
       let k = prefix_len (λ l. not (not (head l == n))) xs in

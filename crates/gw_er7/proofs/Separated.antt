@@ -9,6 +9,7 @@ use Rattle.std.proofs.lemmas.List.Sums.{fails_before_first}
 use Rattle.std.proofs.lemmas.Grind.{common_steps}
 use Rattle.std.proofs.lemmas.List.Splits.{slice_split_none, slice_split_at}
 use Rattle.gw_er7.specs.declared.delimiters.Delimiters.{Delimiters}
+use Rattle.gw_er7.specs.Text.{canon}
 use Rattle.gw_er7.specs.Entries.{Entry, under, numbered, level, value, fields}
 use Rattle.gw_er7.specs.Separators.{separators, is_separator, next_numbers, value_at, IsClear, IsLastValue, IsNextValue}
 
@@ -139,6 +140,10 @@ value_taken d f r c s ns bytes raw b behind out new target is at h e =
     let here = value_at d (f ∷ r ∷ c ∷ s ∷ []) raw in
     ap (λ es. es ++ rest d (separators d) ns behind) e ∙ append_assoc out here (rest d (separators d) ns behind) ∙ ap (λ ms. out ++ (here ++ rest d (separators d) ms behind)) at
     ∙ ap (λ es. out ++ es) (sym (next_value d (separators d) (f ∷ r ∷ c ∷ s ∷ []) raw b behind refl is.clear is.separates)) ∙ ap (λ x. out ++ rest d (separators d) (f ∷ r ∷ c ∷ s ∷ []) x) (sym is.whole) ∙ h
+
+pub some_value : (d : Delimiters) (ns raw : List ℕ) → 0 < length raw → value_at d ns raw ≡ (ns, canon d raw) ∷ []
+some_value d ns [] lt = absurd (omega arith)
+some_value d ns (b ∷ bs) lt = refl
 
 -- ---- the first separator
 

@@ -73,13 +73,13 @@ first_is (b ∷ rest) h =
     rw (n, same) refl
 
 -- a step of the loop
-pub sequence_taken : (d : Delimiters) (text out : List ℕ) (b : ℕ) (rest after body left raw : List ℕ) → text ++ canon d rest ≡ canon d raw → rest ≡ b ∷ after → opens d b after ≡ true → body ≡ body_of d after
-    → out ≡ text ++ meaning d body → left ≡ drop (length body + 1) after → out ++ canon d left ≡ canon d raw
-sequence_taken d text out b rest after body left raw h cut is body_is out_is left_is =
+pub sequence_taken : (d : Delimiters) (text out : List ℕ) (b : ℕ) (rest after body left target : List ℕ) → text ++ canon d rest ≡ target → rest ≡ b ∷ after → opens d b after ≡ true → body ≡ body_of d after
+    → out ≡ text ++ meaning d body → left ≡ drop (length body + 1) after → out ++ canon d left ≡ target
+sequence_taken d text out b rest after body left target h cut is body_is out_is left_is =
     let one : canon d rest ≡ meaning d body ++ canon d left =
     ap (canon d) cut ∙ canon-sequence d b after is ∙ ap (λ (x : List ℕ). meaning d x ++ canon d (drop (length x + 1) after)) (sym body_is) ∙ ap (λ (x : List ℕ). meaning d body ++ canon d x) (sym left_is) in
     ap (λ (x : List ℕ). x ++ canon d left) out_is ∙ append_assoc text (meaning d body) (canon d left) ∙ ap (λ (x : List ℕ). text ++ x) (sym one) ∙ h
 
-pub plain_taken : (d : Delimiters) (text out : List ℕ) (b : ℕ) (rest after raw : List ℕ) → text ++ canon d rest ≡ canon d raw → rest ≡ b ∷ after → opens d b after ≡ false → out ≡ text ++ plainly b → out ++ canon d after ≡ canon d raw
-plain_taken d text out b rest after raw h cut closed out_is =
+pub plain_taken : (d : Delimiters) (text out : List ℕ) (b : ℕ) (rest after target : List ℕ) → text ++ canon d rest ≡ target → rest ≡ b ∷ after → opens d b after ≡ false → out ≡ text ++ plainly b → out ++ canon d after ≡ target
+plain_taken d text out b rest after target h cut closed out_is =
     ap (λ (x : List ℕ). x ++ canon d after) out_is ∙ append_assoc text (plainly b) (canon d after) ∙ ap (λ (x : List ℕ). text ++ x) (sym (ap (canon d) cut ∙ canon-plain d b after closed)) ∙ h

@@ -3,14 +3,13 @@ use Rattle.std.proofs.Common.{◌≡◌, ℕ, suc, ◌+◌, ◌-◌, Bool, true,
 use Rattle.std.specs.Prelude.{◌==◌, ◌&&◌, if◌then◌else◌, replicate}
 use Rattle.std.proofs.lemmas.Bool.{eq-eqb, eqb-true}
 use Rattle.gw_er7.specs.declared.place.Place.{Place}
-use Rattle.gw_er7.specs.declared.segment.Leaf.{Leaf}
 use Rattle.gw_er7.specs.declared.level.Level.{Level}
 use Rattle.gw_er7.specs.declared.level.Level.TheVariants.{Field, Repetition, Component, Subcomponent}
 use Rattle.gw_er7.specs.Message.{numbers}
 use Rattle.gw_er7.specs.Entries.{Entry, under}
 use Rattle.gw_er7.specs.Layers.{number_at, separator_of}
 use Rattle.gw_er7.specs.Ordered.{IsAbove, Above}
-use Rattle.gw_er7.specs.View.{entries_of}
+use Rattle.gw_er7.specs.View.{Held, entries_of}
 
 -- as many separators of each level as lie between two keys
 abbrev pub gaps : List ℕ → List ℕ → List ℕ → List ℕ
@@ -82,7 +81,7 @@ steps-under t ts n ns (e ∷ es) later h =
     ∙ ap (λ (x : List ℕ). gap ++ (e.1 ++ x)) (steps-under t ts n e.0 es later h)
     ∙ sym (append_assoc gap (e.1 ++ steps ts e.0 es) (behind t ts n later) ∙ ap (λ (x : List ℕ). gap ++ x) (append_assoc e.1 (steps ts e.0 es) (behind t ts n later)))
 
--- ---- a loop over the leaves
+-- ---- a loop over the texts
 
 -- | ~ ^ &
 abbrev pub levels : List ℕ
@@ -119,13 +118,13 @@ four_gaps out from to =
     let s = gap Subcomponent from to in
     append_assoc (out ++ f ++ r) c s ∙ append_assoc (out ++ f) r (c ++ s) ∙ append_assoc out f (r ++ (c ++ s)) ∙ ap (λ (x : List ℕ). out ++ (f ++ (r ++ (c ++ x)))) (sym (append-nil s))
 
--- a leaf was written
-pub stepped : (xs : List Leaf) (i : ℕ) (x : Leaf) (from start : Place) (out mid new target : List ℕ) → drop i xs ≡ x ∷ drop (i + 1) xs → IsCounted from x.place start
-    → mid ≡ out ++ gaps levels (numbers start) (numbers x.place) → new ≡ mid ++ x.text.items
+-- a text was written
+pub stepped : (xs : List Held) (i : ℕ) (x : Held) (from start : Place) (out mid new target : List ℕ) → drop i xs ≡ x ∷ drop (i + 1) xs → IsCounted from x.place start
+    → mid ≡ out ++ gaps levels (numbers start) (numbers x.place) → new ≡ mid ++ x.text
     → out ++ steps levels (numbers from) (entries_of (drop i xs)) ≡ target → new ++ steps levels (numbers x.place) (entries_of (drop (i + 1) xs)) ≡ target
 stepped xs i x from start out mid new target next is m e h =
     let rest = steps levels (numbers x.place) (entries_of (drop (i + 1) xs)) in
     let between = gaps levels (numbers start) (numbers x.place) in
-    ap (λ (y : List ℕ). y ++ rest) (e ∙ ap (λ (y : List ℕ). y ++ x.text.items) m) ∙ append_assoc (out ++ between) x.text.items rest ∙ append_assoc out between (x.text.items ++ rest)
-    ∙ ap (λ (ns : List ℕ). out ++ (gaps levels ns (numbers x.place) ++ (x.text.items ++ rest))) (counted-place from x.place start is)
-    ∙ ap (λ (ys : List Leaf). out ++ steps levels (numbers from) (entries_of ys)) (sym next) ∙ h
+    ap (λ (y : List ℕ). y ++ rest) (e ∙ ap (λ (y : List ℕ). y ++ x.text) m) ∙ append_assoc (out ++ between) x.text rest ∙ append_assoc out between (x.text ++ rest)
+    ∙ ap (λ (ns : List ℕ). out ++ (gaps levels ns (numbers x.place) ++ (x.text ++ rest))) (counted-place from x.place start is)
+    ∙ ap (λ (ys : List Held). out ++ steps levels (numbers from) (entries_of ys)) (sym next) ∙ h

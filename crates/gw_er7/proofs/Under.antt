@@ -11,10 +11,9 @@ use Rattle.std.specs.Cmp.Lexicographic.{slice_cmp}
 use Rattle.std.specs.FinMap as texts
 use Rattle.std.specs.FinMap.{find, get-from_sorted, slice_cmp-IsAntisymmetric, nat_cmp-IsAntisymmetric}
 use Rattle.gw_er7.specs.declared.place.Place.{Place}
-use Rattle.gw_er7.specs.declared.segment.Leaf.{Leaf}
 use Rattle.gw_er7.specs.Message.{numbers, Texts, IsEntry}
 use Rattle.gw_er7.specs.Presence.{SubAt, CompAt, RepAt, FieldAt, IsLast}
-use Rattle.gw_er7.specs.View.{entries_of, AreValues, compare_begin, is_within, StandsAt, IsLastUnder}
+use Rattle.gw_er7.specs.View.{Held, entries_of, AreValues, compare_begin, is_within, StandsAt, IsLastUnder}
 use Rattle.gw_er7.proofs.Sorted.{order, cmp-same}
 use Rattle.gw_er7.proofs.Keys.{tie}
 use Rattle.gw_er7.proofs.Finds.{Sorted, rising_at}
@@ -110,72 +109,72 @@ not_above a b key other e =
 not_above_behind : (a : ℕ) (key other : List ℕ) → is_gt (order (a ∷ key) (a ∷ other)) ≡ false → is_gt (order key other) ≡ false
 not_above_behind a key other e = ap is_gt (sym (cmp-same a key other)) ∙ e
 
--- ---- leaves and the texts that stand
+-- ---- what is held and the texts that stand
 
-abbrev key : Leaf → List ℕ
+abbrev key : Held → List ℕ
 key l = numbers l.place
 
-abbrev texts_of : List Leaf → Texts
+abbrev texts_of : List Held → Texts
 texts_of xs = texts.from_sorted (entries_of xs)
 
-stands-find : (xs : List Leaf) (k : List ℕ) → Sorted xs → StandsAt (texts_of xs) k → 0 < length (unwrap_or (find order k (entries_of xs)) [])
+stands-find : (xs : List Held) (k : List ℕ) → Sorted xs → StandsAt (texts_of xs) k → 0 < length (unwrap_or (find order k (entries_of xs)) [])
 stands-find xs k sorted h = subst (λ (o : Option (List ℕ)). 0 < length (unwrap_or o [])) (get-from_sorted (slice_cmp nat_cmp) (entries_of xs) k sorted) h
 
-find-stands : (xs : List Leaf) (k : List ℕ) → Sorted xs → 0 < length (unwrap_or (find order k (entries_of xs)) []) → StandsAt (texts_of xs) k
+find-stands : (xs : List Held) (k : List ℕ) → Sorted xs → 0 < length (unwrap_or (find order k (entries_of xs)) []) → StandsAt (texts_of xs) k
 find-stands xs k sorted h = subst (λ (o : Option (List ℕ)). 0 < length (unwrap_or o [])) (sym (get-from_sorted (slice_cmp nat_cmp) (entries_of xs) k sorted)) h
 
--- the leaf of a key
-record Leaves (xs : List Leaf) (k : List ℕ) : Type 0 where
+-- what is held at a key
+record HasKey (xs : List Held) (k : List ℕ) : Type 0 where
   at : ℕ
   within : at < length xs
-  here : (d : Leaf) → key (get_or xs at d) ≡ k
+  here : (d : Held) → key (get_or xs at d) ≡ k
 
-found_leaf : (xs : List Leaf) (k : List ℕ) → 0 < length (unwrap_or (find order k (entries_of xs)) []) → Leaves xs k
-found_leaf [] k h = absurd (omega arith)
-found_leaf (x ∷ xs) k h =
-    elim (eq_by_cmp (slice_cmp nat_cmp) k (key x)) as (λ v. eq_by_cmp (slice_cmp nat_cmp) k (key x) ≡ v → 0 < length (unwrap_or (cond v (Some x.text.items) (find order k (entries_of xs))) []) → Leaves (x ∷ xs) k) [
+found_held : (xs : List Held) (k : List ℕ) → 0 < length (unwrap_or (find order k (entries_of xs)) []) → HasKey xs k
+found_held [] k h = absurd (omega arith)
+found_held (x ∷ xs) k h =
+    elim (eq_by_cmp (slice_cmp nat_cmp) k (key x)) as (λ v. eq_by_cmp (slice_cmp nat_cmp) k (key x) ≡ v → 0 < length (unwrap_or (cond v (Some x.text) (find order k (entries_of xs))) []) → HasKey (x ∷ xs) k) [
       | true ↦ λ e _. record { at = 0; within = omega arith; here = λ d. sym (slice_cmp-IsAntisymmetric nat_cmp-IsAntisymmetric k (key x) ((Equal-is (slice_cmp nat_cmp k (key x))).0 e)) }
-      | false ↦ λ _ h. (let more = found_leaf xs k h in record { at = suc more.at; within = omega (arith, more.within); here = more.here })
+      | false ↦ λ _ h. (let more = found_held xs k h in record { at = suc more.at; within = omega (arith, more.within); here = more.here })
     ] refl h
 
 full : (t : List ℕ) → t ≢ [] → 0 < length t
 full [] some = absurd (some refl)
 full (x ∷ t) some = omega arith
 
-leaf_found : (xs : List Leaf) (i : ℕ) (d : Leaf) → i < length xs → AllByRecursion (IsEntry 1) (entries_of xs) → 0 < length (unwrap_or (find order (key (get_or xs i d)) (entries_of xs)) [])
-leaf_found [] i d lt h = absurd (omega arith)
-leaf_found (x ∷ xs) zero d lt h = rw (tie (key x) (key x) refl) (full x.text.items h.0.some)
-leaf_found (x ∷ xs) (suc i) d lt h =
-    elim (eq_by_cmp (slice_cmp nat_cmp) (key (get_or xs i d)) (key x)) as (λ v. 0 < length (unwrap_or (cond v (Some x.text.items) (find order (key (get_or xs i d)) (entries_of xs))) [])) [
-      | true ↦ full x.text.items h.0.some
-      | false ↦ leaf_found xs i d (omega arith) h.1
+held_found : (xs : List Held) (i : ℕ) (d : Held) → i < length xs → AllByRecursion (IsEntry 1) (entries_of xs) → 0 < length (unwrap_or (find order (key (get_or xs i d)) (entries_of xs)) [])
+held_found [] i d lt h = absurd (omega arith)
+held_found (x ∷ xs) zero d lt h = rw (tie (key x) (key x) refl) (full x.text h.0.some)
+held_found (x ∷ xs) (suc i) d lt h =
+    elim (eq_by_cmp (slice_cmp nat_cmp) (key (get_or xs i d)) (key x)) as (λ v. 0 < length (unwrap_or (cond v (Some x.text) (find order (key (get_or xs i d)) (entries_of xs))) [])) [
+      | true ↦ full x.text h.0.some
+      | false ↦ held_found xs i d (omega arith) h.1
     ]
 
-positive_at : (xs : List Leaf) (i : ℕ) (d : Leaf) → i < length xs → AllByRecursion (IsEntry 1) (entries_of xs) → AllByRecursion (λ n. 0 < n) (key (get_or xs i d))
+positive_at : (xs : List Held) (i : ℕ) (d : Held) → i < length xs → AllByRecursion (IsEntry 1) (entries_of xs) → AllByRecursion (λ n. 0 < n) (key (get_or xs i d))
 positive_at [] i d lt h = absurd (omega arith)
 positive_at (x ∷ xs) zero d lt h = h.0.key.positive
 positive_at (x ∷ xs) (suc i) d lt h = positive_at xs i d (omega arith) h.1
 
-positive : (xs : List Leaf) (k : List ℕ) → AreValues xs → StandsAt (texts_of xs) k → AllByRecursion (λ n. 0 < n) k
-positive [] k is h = absurd (let none = found_leaf [] k (stands-find [] k is.sorted h) in omega (arith, none.within))
+positive : (xs : List Held) (k : List ℕ) → AreValues xs → StandsAt (texts_of xs) k → AllByRecursion (λ n. 0 < n) k
+positive [] k is h = absurd (let none = found_held [] k (stands-find [] k is.sorted h) in omega (arith, none.within))
 positive (x ∷ xs) k is h =
-    let leaf = found_leaf (x ∷ xs) k (stands-find (x ∷ xs) k is.sorted h) in
+    let leaf = found_held (x ∷ xs) k (stands-find (x ∷ xs) k is.sorted h) in
     subst (λ (q : List ℕ). AllByRecursion (λ n. 0 < n) q) (leaf.here x) (positive_at (x ∷ xs) leaf.at x leaf.within is.each)
 
 -- ---- what a search finds
 
-pub partitioned_within : (ps : List ℕ) (xs : List Leaf) → Sorted xs → IsPartitionedBy (is_within ps) xs
+pub partitioned_within : (ps : List ℕ) (xs : List Held) → Sorted xs → IsPartitionedBy (is_within ps) xs
 partitioned_within ps xs h i j d le short is =
     elim (cases_lt i j) as (λ _. is_within ps (get_or xs i d) ≡ true) [
       | inl lt ↦ within-less ps (key (get_or xs i d)) (key (get_or xs j d)) (rising_at xs i j d h lt short) is
       | inr ge ↦ (let same : j ≡ i = omega (arith, le, ge) in subst (λ (k : ℕ). is_within ps (get_or xs k d) ≡ true) same is)
     ]
 
-abbrev pub IsEnd : List ℕ → List Leaf → ℕ → Type 0
+abbrev pub IsEnd : List ℕ → List Held → ℕ → Type 0
 IsEnd ps xs n = IsPartitionPoint (λ y. is_within ps y ≡ true) (λ y. is_within ps y ≡ false) xs n
 
 -- a key that begins with the numbers stands before the end
-before_end : (ps : List ℕ) (x : Leaf) (xs : List Leaf) (n : ℕ) (k : List ℕ) → IsEnd ps (x ∷ xs) n → (leaf : Leaves (x ∷ xs) k) → compare_begin k ps ≡ Equal → leaf.at < n
+before_end : (ps : List ℕ) (x : Held) (xs : List Held) (n : ℕ) (k : List ℕ) → IsEnd ps (x ∷ xs) n → (leaf : HasKey (x ∷ xs) k) → compare_begin k ps ≡ Equal → leaf.at < n
 before_end ps x xs n k end leaf e =
     elim (cases_lt leaf.at n) as (λ _. leaf.at < n) [
       | inl lt ↦ lt
@@ -185,25 +184,25 @@ before_end ps x xs n k end leaf e =
           let z : true ≡ false = sym in_it ∙ out in let no_more : ⊥ = cc in no_more)
     ]
 
-pub none_before : (ps : List ℕ) (xs : List Leaf) (n : ℕ) → AreValues xs → IsEnd ps xs n → n ≡ 0 → IsLastUnder (texts_of xs) ps None
-none_before ps [] n is end none k h e = let leaf = found_leaf [] k (stands-find [] k is.sorted h) in absurd (omega (arith, leaf.within))
+pub none_before : (ps : List ℕ) (xs : List Held) (n : ℕ) → AreValues xs → IsEnd ps xs n → n ≡ 0 → IsLastUnder (texts_of xs) ps None
+none_before ps [] n is end none k h e = let leaf = found_held [] k (stands-find [] k is.sorted h) in absurd (omega (arith, leaf.within))
 none_before ps (x ∷ xs) n is end none k h e =
-    let leaf = found_leaf (x ∷ xs) k (stands-find (x ∷ xs) k is.sorted h) in
+    let leaf = found_held (x ∷ xs) k (stands-find (x ∷ xs) k is.sorted h) in
     let lt = before_end ps x xs n k end leaf e in
     absurd (omega (arith, lt))
 
 not_gt : (r : Ordering) → r ≡ Less → is_gt r ≡ false
 not_gt r e = ap is_gt e
 
--- the leaf of a key that begins with the numbers doesn't stand above the last
-last_above : (ps : List ℕ) (x : Leaf) (xs : List Leaf) (n : ℕ) (l : Leaf) (k : List ℕ) → AreValues (x ∷ xs) → n ≤ length (x ∷ xs) → IsEnd ps (x ∷ xs) n → l ≡ get_or (x ∷ xs) (n - 1) l → StandsAt (texts_of (x ∷ xs)) k → compare_begin k ps ≡ Equal → is_gt (order k (key l)) ≡ false
+-- what is held at a key that begins with the numbers doesn't stand above the last
+last_above : (ps : List ℕ) (x : Held) (xs : List Held) (n : ℕ) (l : Held) (k : List ℕ) → AreValues (x ∷ xs) → n ≤ length (x ∷ xs) → IsEnd ps (x ∷ xs) n → l ≡ get_or (x ∷ xs) (n - 1) l → StandsAt (texts_of (x ∷ xs)) k → compare_begin k ps ≡ Equal → is_gt (order k (key l)) ≡ false
 last_above ps x xs n l k is bound end at h e =
-    let leaf = found_leaf (x ∷ xs) k (stands-find (x ∷ xs) k is.sorted h) in
+    let leaf = found_held (x ∷ xs) k (stands-find (x ∷ xs) k is.sorted h) in
     let lt = before_end ps x xs n k end leaf e in
     let here : key (get_or (x ∷ xs) leaf.at l) ≡ k = leaf.here l in
     elim (cases_lt leaf.at (n - 1)) as (λ _. is_gt (order k (key l)) ≡ false) [
       | inl far ↦ (let rises = rising_at (x ∷ xs) leaf.at (n - 1) l is.sorted far (omega (arith, lt, bound)) in
-          ap (λ (q : List ℕ). is_gt (order q (key l))) (sym here) ∙ ap (λ (m : Leaf). is_gt (order (key (get_or (x ∷ xs) leaf.at l)) (key m))) at ∙ not_gt _ rises)
+          ap (λ (q : List ℕ). is_gt (order q (key l))) (sym here) ∙ ap (λ (m : Held). is_gt (order (key (get_or (x ∷ xs) leaf.at l)) (key m))) at ∙ not_gt _ rises)
       | inr near ↦ (let same : leaf.at ≡ n - 1 = omega (arith, lt, near) in
           let key_is : k ≡ key l = sym here ∙ ap (λ (i : ℕ). key (get_or (x ∷ xs) i l)) same ∙ ap key (sym at) in
           ap (λ (q : List ℕ). is_gt (order q (key l))) key_is ∙ ap is_gt (same_order (key l)))
@@ -212,15 +211,15 @@ last_above ps x xs n l k is bound end at h e =
     same_order : (q : List ℕ) → order q q ≡ Equal
     same_order q = (Equal-is (order q q)).0 (tie q q refl)
 
-pub last_here : (ps : List ℕ) (xs : List Leaf) (n : ℕ) (l : Leaf) → AreValues xs → n ≤ length xs → IsEnd ps xs n → 0 < n → l ≡ get_or xs (n - 1) l → compare_begin (key l) ps ≡ Equal → IsLastUnder (texts_of xs) ps (Some l.place)
+pub last_here : (ps : List ℕ) (xs : List Held) (n : ℕ) (l : Held) → AreValues xs → n ≤ length xs → IsEnd ps xs n → 0 < n → l ≡ get_or xs (n - 1) l → compare_begin (key l) ps ≡ Equal → IsLastUnder (texts_of xs) ps (Some l.place)
 last_here ps [] n l is bound end some at e = absurd (omega arith)
 last_here ps (x ∷ xs) n l is bound end some at e = (
-  find-stands (x ∷ xs) (key l) is.sorted (subst (λ (m : Leaf). 0 < length (unwrap_or (find order (key m) (entries_of (x ∷ xs))) [])) (sym at) (leaf_found (x ∷ xs) (n - 1) l (omega (arith, bound, some)) is.each)),
+  find-stands (x ∷ xs) (key l) is.sorted (subst (λ (m : Held). 0 < length (unwrap_or (find order (key m) (entries_of (x ∷ xs))) [])) (sym at) (held_found (x ∷ xs) (n - 1) l (omega (arith, bound, some)) is.each)),
   e,
   λ k h b. last_above ps x xs n l k is bound end at h b,
 )
 
-pub none_here : (ps : List ℕ) (xs : List Leaf) (n : ℕ) (l : Leaf) → AreValues xs → n ≤ length xs → IsEnd ps xs n → 0 < n → l ≡ get_or xs (n - 1) l → is_eq (compare_begin (key l) ps) ≡ false → IsLastUnder (texts_of xs) ps None
+pub none_here : (ps : List ℕ) (xs : List Held) (n : ℕ) (l : Held) → AreValues xs → n ≤ length xs → IsEnd ps xs n → 0 < n → l ≡ get_or xs (n - 1) l → is_eq (compare_begin (key l) ps) ≡ false → IsLastUnder (texts_of xs) ps None
 none_here ps [] n l is bound end some at e k h b = absurd (omega arith)
 none_here ps (x ∷ xs) n l is bound end some at e k h b =
     let le = last_above ps x xs n l k is bound end at h b in
@@ -231,7 +230,7 @@ none_here ps (x ∷ xs) n l is bound end some at e k h b =
 
 -- ---- the last numbers
 
-module _ (xs : List Leaf) (is : AreValues xs) where
+module _ (xs : List Held) (is : AreValues xs) where
   first_positive : (n : ℕ) (k : List ℕ) → StandsAt (texts_of xs) (n ∷ k) → 0 < n
   first_positive n k h = (positive xs (n ∷ k) is h).0
 

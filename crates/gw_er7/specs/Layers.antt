@@ -1,11 +1,10 @@
--- Leaves as the writer sees them, level by level. The writer's own words.
-use Rattle.std.specs.Prelude.{ℕ, List, [], ◌∷◌, map}
+-- Texts as the writer sees them, level by level. The writer's own words.
+use Rattle.std.specs.Prelude.{ℕ, List, [], ◌∷◌}
 use Rattle.gw_er7.specs.declared.place.Place.{Place}
-use Rattle.gw_er7.specs.declared.segment.Leaf.{Leaf}
 use Rattle.gw_er7.specs.declared.level.Level.{Level}
 use Rattle.gw_er7.specs.declared.level.Level.TheVariants.{Field, Repetition, Component, Subcomponent}
 use Rattle.gw_er7.specs.Entries.{Entry}
-use Rattle.gw_er7.specs.View.{entry_of}
+use Rattle.gw_er7.specs.View.{Held, entry_of}
 use Rattle.gw_er7.specs.Written.{leaf_text, component_text, repetition_text, field_text}
 
 -- the number of a place at a level
@@ -15,19 +14,19 @@ number_at Repetition p = p.rep
 number_at Component p = p.comp
 number_at Subcomponent p = p.sub
 
--- a leaf without the numbers above a level
-abbrev pub seen_at : Level → Leaf → Entry
+-- a text at its place, without the numbers above a level
+abbrev pub seen_at : Level → Held → Entry
 seen_at Field l = entry_of l
-seen_at Repetition l = (l.place.rep ∷ l.place.comp ∷ l.place.sub ∷ [], l.text.items)
-seen_at Component l = (l.place.comp ∷ l.place.sub ∷ [], l.text.items)
-seen_at Subcomponent l = (l.place.sub ∷ [], l.text.items)
+seen_at Repetition l = (l.place.rep ∷ l.place.comp ∷ l.place.sub ∷ [], l.text)
+seen_at Component l = (l.place.comp ∷ l.place.sub ∷ [], l.text)
+seen_at Subcomponent l = (l.place.sub ∷ [], l.text)
 
 -- and without the level's own
-abbrev pub inside : Level → Leaf → Entry
-inside Field l = (l.place.rep ∷ l.place.comp ∷ l.place.sub ∷ [], l.text.items)
-inside Repetition l = (l.place.comp ∷ l.place.sub ∷ [], l.text.items)
-inside Component l = (l.place.sub ∷ [], l.text.items)
-inside Subcomponent l = ([], l.text.items)
+abbrev pub inside : Level → Held → Entry
+inside Field l = (l.place.rep ∷ l.place.comp ∷ l.place.sub ∷ [], l.text)
+inside Repetition l = (l.place.comp ∷ l.place.sub ∷ [], l.text)
+inside Component l = (l.place.sub ∷ [], l.text)
+inside Subcomponent l = ([], l.text)
 
 -- | ~ ^ &
 abbrev pub separator_of : Level → ℕ

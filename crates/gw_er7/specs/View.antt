@@ -1,6 +1,6 @@
 -- Segments as they lie in memory, and what they stand for. The code's own words.
-use Rattle.std.specs.Prelude.{◌≡◌, ◌<◌, ℕ, Bool, false, T, List, [], ◌∷◌, ◌++◌, length, map, unwrap_or, Option, None, Some}
-use Rattle.std.specs.List.{AllByRecursion, IsDistinct}
+use Rattle.std.specs.Prelude.{◌≡◌, ◌⊎◌, ◌+◌, ◌<◌, ◌≤◌, ℕ, Bool, false, T, List, [], ◌∷◌, ◌++◌, length, map, take, drop, unwrap_or, Option, None, Some, refl}
+use Rattle.std.specs.List.{All, AllByRecursion, IsDistinct}
 use Rattle.std.specs.List.Sorted.{IsSortedBy}
 use Rattle.std.specs.Option.{option_to_list}
 use Rattle.std.specs.Ordering.{nat_cmp, is_lt, is_le, is_gt, eq_by_cmp, ordering_then}
@@ -9,35 +9,79 @@ use Rattle.std.specs.declared.cmp.Ordering.TheVariants.{Less, Equal}
 use Rattle.std.specs.Cmp.Lexicographic.{slice_cmp}
 use Rattle.std.specs.FinMap as texts
 use Rattle.std.specs.FinMap.{is_sorted}
+use Rattle.std.specs.Coded.{Coded, code_by, coded×, coded_ℕ, coded_list}
 use Rattle.gw_er7.specs.declared.place.Place.{Place}
-use Rattle.gw_er7.specs.declared.segment.Leaf.{Leaf}
+use Rattle.gw_er7.specs.declared.leaves.Leaf.{Leaf}
+use Rattle.gw_er7.specs.declared.leaves.NarrowLeaf.{NarrowLeaf}
 use Rattle.gw_er7.specs.Message.{numbers, Texts, SegmentValue, IsEntry, IsSegment}
 use Rattle.gw_er7.specs.Building.{IsBegun}
 use Rattle.gw_er7.specs.Entries.{Entry}
 
-abbrev pub entry_of : Leaf → Entry
-entry_of l = (numbers l.place, l.text.items)
+-- a text, and the place at which it is held
+pub record Held : Type 0 where
+  pub place : Place
+  pub text : List ℕ
 
-abbrev pub entries_of : List Leaf → List Entry
+-- it is stored as its numbers and its text
+abbrev pub held_code : Coded Held
+held_code =
+    code_by (ℕ × (ℕ × (ℕ × (ℕ × List ℕ)))) (coded× coded_ℕ (coded× coded_ℕ (coded× coded_ℕ (coded× coded_ℕ (coded_list coded_ℕ)))))
+    (λ h. (h.place.field, (h.place.rep, (h.place.comp, (h.place.sub, h.text))))) (λ p. record { place = record { field = p.0; rep = p.1.0; comp = p.1.1.0; sub = p.1.1.1.0 }; text = p.1.1.1.1 }) (λ _. refl)
+
+-- a leaf is stored as its numbers
+abbrev pub leaf_code : Coded Leaf
+leaf_code =
+    code_by (ℕ × (ℕ × (ℕ × (ℕ × (ℕ × ℕ))))) (coded× coded_ℕ (coded× coded_ℕ (coded× coded_ℕ (coded× coded_ℕ (coded× coded_ℕ coded_ℕ)))))
+    (λ l. (l.place.field, (l.place.rep, (l.place.comp, (l.place.sub, (l.from, l.len)))))) (λ p. record { place = record { field = p.0; rep = p.1.0; comp = p.1.1.0; sub = p.1.1.1.0 }; from = p.1.1.1.1.0; len = p.1.1.1.1.1 }) (λ _. refl)
+
+-- a leaf of 24 bytes says the same as one of 48
+abbrev pub widened : NarrowLeaf → Leaf
+widened l = record { place = record { field = l.field; rep = l.rep; comp = l.comp; sub = l.sub }; from = l.from; len = l.len }
+
+abbrev pub lying : List NarrowLeaf → List Leaf → List Leaf
+lying narrow wide = map widened narrow ++ wide
+
+-- all are of 24 bytes, or none
+abbrev pub AreAlike : List NarrowLeaf → List Leaf → Type 0
+AreAlike narrow wide = (narrow ≡ []) ⊎ (wide ≡ [])
+
+-- the text of a leaf lies within the bytes
+abbrev pub IsInside : List ℕ → Leaf → Type 0
+IsInside bytes l = l.from + l.len ≤ length bytes
+
+abbrev pub AreInside : List ℕ → List Leaf → Type 0
+AreInside bytes leaves = All (IsInside bytes) leaves
+
+-- what a leaf says of the bytes in which its text lies
+abbrev pub held_at : List ℕ → Leaf → Held
+held_at bytes l = record { place = l.place; text = take l.len (drop l.from bytes) }
+
+abbrev pub held : List ℕ → List Leaf → List Held
+held bytes leaves = map (held_at bytes) leaves
+
+abbrev pub entry_of : Held → Entry
+entry_of h = (numbers h.place, h.text)
+
+abbrev pub entries_of : List Held → List Entry
 entries_of = map entry_of
 
--- the leaf stands at a place below this one
-abbrev pub is_below : List ℕ → Leaf → Bool
-is_below key l = is_lt (slice_cmp nat_cmp (numbers l.place) key)
+-- the text is held at a place below this one
+abbrev pub is_below : List ℕ → Held → Bool
+is_below key h = is_lt (slice_cmp nat_cmp (numbers h.place) key)
 
--- the segment of leaves in order
-abbrev pub stored : List ℕ → List Leaf → SegmentValue
-stored name leaves = record { name = name; at = texts.from_sorted (entries_of leaves) }
+-- the segment of values in order
+abbrev pub stored : List ℕ → List Held → SegmentValue
+stored name values = record { name = name; at = texts.from_sorted (entries_of values) }
 
--- leaves in order, of a segment with this name
-pub record IsLent (name : List ℕ) (leaves : List Leaf) : Type 0 where
-  pub sorted : T (is_sorted (slice_cmp nat_cmp) (entries_of leaves))
-  pub segment : IsSegment (stored name leaves)
+-- values in order, of a segment with this name
+pub record IsLent (name : List ℕ) (values : List Held) : Type 0 where
+  pub sorted : T (is_sorted (slice_cmp nat_cmp) (entries_of values))
+  pub segment : IsSegment (stored name values)
 
--- leaves in order, each with a text that may stand at its place
-pub record AreValues (leaves : List Leaf) : Type 0 where
-  pub sorted : T (is_sorted (slice_cmp nat_cmp) (entries_of leaves))
-  pub each : AllByRecursion (IsEntry 1) (entries_of leaves)
+-- values in order, each with a text that may stand at its place
+pub record AreValues (values : List Held) : Type 0 where
+  pub sorted : T (is_sorted (slice_cmp nat_cmp) (entries_of values))
+  pub each : AllByRecursion (IsEntry 1) (entries_of values)
 
 -- how the first numbers of a key compare with these
 abbrev pub compare_begin : List ℕ → List ℕ → Ordering
@@ -46,8 +90,8 @@ compare_begin [] (p ∷ ps) = Less
 compare_begin (k ∷ key) (p ∷ ps) = ordering_then (nat_cmp k p) (compare_begin key ps)
 
 -- the key doesn't begin above these numbers
-abbrev pub is_within : List ℕ → Leaf → Bool
-is_within ps l = is_le (compare_begin (numbers l.place) ps)
+abbrev pub is_within : List ℕ → Held → Bool
+is_within ps h = is_le (compare_begin (numbers h.place) ps)
 
 -- a text stands at the key
 abbrev pub StandsAt : Texts → List ℕ → Type 0
@@ -59,17 +103,17 @@ IsLastUnder m ps None = (key : List ℕ) → StandsAt m key → compare_begin ke
 IsLastUnder m ps (Some p) =
     StandsAt m (numbers p) × (compare_begin (numbers p) ps ≡ Equal) × ((key : List ℕ) → StandsAt m key → compare_begin key ps ≡ Equal → is_gt (slice_cmp nat_cmp key (numbers p)) ≡ false)
 
--- the segment of leaves in any order, of which the first counts at each place
-abbrev pub drafted : List ℕ → List Leaf → SegmentValue
-drafted name leaves = record { name = name; at = texts.from_entries (entries_of leaves) }
+-- the segment of values in any order, of which the first counts at each place
+abbrev pub drafted : List ℕ → List Held → SegmentValue
+drafted name values = record { name = name; at = texts.from_entries (entries_of values) }
 
--- no two leaves stand at one place
-abbrev pub AreApart : List Leaf → Type 0
-AreApart leaves = IsDistinct (eq_by_cmp (slice_cmp nat_cmp)) (map (λ l. numbers l.place) leaves)
+-- no two values stand at one place
+abbrev pub AreApart : List Held → Type 0
+AreApart values = IsDistinct (eq_by_cmp (slice_cmp nat_cmp)) (map (λ h. numbers h.place) values)
 
--- no leaf stands above the one behind it
-abbrev pub AreSorted : List Leaf → Type 0
-AreSorted leaves = IsSortedBy (λ a b. is_lt (slice_cmp nat_cmp (numbers a.place) (numbers b.place))) leaves
+-- no text stands above the one behind it
+abbrev pub AreSorted : List Held → Type 0
+AreSorted values = IsSortedBy (λ a b. is_lt (slice_cmp nat_cmp (numbers a.place) (numbers b.place))) values
 
 -- the segments before a draft leave room for it; there is none where there is no draft
 abbrev pub HasRoom : Option SegmentValue → List SegmentValue → ℕ → ℕ → Type 0

@@ -27,18 +27,13 @@ fn close_into(segments: &mut Vec<StoredSegment>, draft: Option<Draft>)
 }
 
 /// Puts a text at a place of the draft, where there is one.
-fn put_into(
-    draft: &mut Option<Draft>,
-    alloc: Global,
-    place: Place,
-    text: &[u8],
-) -> Result<(), AllocError>
+fn put_into(draft: &mut Option<Draft>, place: Place, text: &[u8]) -> Result<(), AllocError>
     requires { IfSome draft.old (λ d. texts.get d.at (numbers place) ≡ None) }
     ensures ok { OnOk result (draft.new ≡ option_map (λ (s : SegmentValue). record s { at = texts.insert s.at (numbers place) text.now }) draft.old) }
     ensures err { OnErr result (draft.new ≡ draft.old) }
 {
     match draft {
-        Some(draft) => draft.put(alloc, place, text),
+        Some(draft) => draft.put(place, text),
         None => Ok(()),
     }
 }
@@ -103,7 +98,7 @@ impl Builder {
         ensures ok { OnOk result (self.new ≡ with_last (λ s. record s { at = texts.insert s.at (numbers place) text.now }) self.old) }
         ensures err { OnErr result (self.new ≡ self.old) }
     {
-        put_into(&mut self.draft, self.alloc, place, text)
+        put_into(&mut self.draft, place, text)
     }
 
     /// The message of the segments. It takes no memory.

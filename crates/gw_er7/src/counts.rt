@@ -1,6 +1,7 @@
 //! The last numbers that are present.
 ghost use Rattle.std.specs.Prelude.{◌≡◌, ◌+◌, ◌≤◌, [], ◌∷◌, length, true, false};
 ghost use Rattle.std.specs.List.Sorted.{IsPartitionPoint};
+ghost use Rattle.std.specs.Ordering.{is_le};
 ghost use Rattle.std.specs.FinMap as texts;
 ghost use Rattle.gw_er7.specs.Message.{numbers};
 ghost use Rattle.gw_er7.specs.Presence.{IsStart};
@@ -8,7 +9,7 @@ ghost use Rattle.gw_er7.specs.View.{entries_of, AreValues, compare_begin, is_wit
 
 use crate::place::Place;
 use crate::search::count_below;
-use crate::segment::Leaf;
+use crate::values::Values;
 use std::cmp::Ordering;
 
 /// How the first numbers of a place compare with these.
@@ -30,59 +31,65 @@ fn compare_begin(place: Place, prefix: &[usize]) -> Ordering
     Ordering::Equal
 }
 
-fn is_within(leaf: &Leaf, prefix: &[usize]) -> bool
-    ensures { result ≡ is_within prefix.now leaf.now }
+fn is_within(place: Place, prefix: &[usize]) -> bool
+    ensures { result ≡ is_le (compare_begin (numbers place) prefix.now) }
 {
-    compare_begin(leaf.place, prefix).is_le()
+    compare_begin(place, prefix).is_le()
 }
 
-/// How many leaves stand at places that don't begin above these numbers.
-fn count_within(leaves: &[Leaf], prefix: &[usize]) -> usize
-    requires { AreValues leaves.now }
-    ensures bound { result ≤ length leaves.now }
-    ensures end { IsPartitionPoint (λ l. is_within prefix.now l ≡ true) (λ l. is_within prefix.now l ≡ false) leaves.now result }
+/// How many texts stand at places that don't begin above these numbers.
+fn count_within(values: &Values<'_>, prefix: &[usize]) -> usize
+    requires { AreValues values.now }
+    ensures bound { result ≤ length values.now }
+    ensures end { IsPartitionPoint (λ h. is_within prefix.now h ≡ true) (λ h. is_within prefix.now h ≡ false) values.now result }
 {
-    leaves.partition_point(
-        |leaf: &Leaf| -> bool
-            ensures { result ≡ is_within prefix.entry.now leaf.now }
-        { is_within(leaf, prefix) },
-    )
+    let mut low = 0;
+    let mut high = values.len();
+    while low < high {
+        let middle = low + (high - low) / 2;
+        if is_within(values.at(middle).place, prefix) {
+            low = middle + 1;
+        } else {
+            high = middle;
+        }
+    }
+    low
 }
 
 /// The last place that begins with these numbers.
-pub(crate) fn last_under(leaves: &[Leaf], prefix: &[usize]) -> Option<Place>
-    requires { AreValues leaves.now }
-    ensures { IsLastUnder (texts.from_sorted (entries_of leaves.now)) prefix.now result }
+pub(crate) fn last_under(values: &Values<'_>, prefix: &[usize]) -> Option<Place>
+    requires { AreValues values.now }
+    ensures { IsLastUnder (texts.from_sorted (entries_of values.now)) prefix.now result }
 {
-    let count = count_within(leaves, prefix);
+    let count = count_within(values, prefix);
     if count == 0 {
         return None;
     }
-    let place = leaves[count - 1].place;
+    let place = values.at(count - 1).place;
     if compare_begin(place, prefix).is_eq() {
         return Some(place);
     }
     None
 }
 
-/// How many leaves stand at places below this field, and how many at places below the next one.
-pub(crate) fn field_range(leaves: &[Leaf], field: usize) -> (usize, usize)
-    requires { AreValues leaves.now }
-    ensures first { IsStart (field ∷ []) (entries_of leaves.now) result.0 }
-    ensures behind { IsStart ((field + 1) ∷ []) (entries_of leaves.now) result.1 }
+/// How many texts stand at places below this field, and how many at places below the next one.
+pub(crate) fn field_range(values: &Values<'_>, field: usize) -> (usize, usize)
+    requires { AreValues values.now }
+    ensures first { IsStart (field ∷ []) (entries_of values.now) result.0 }
+    ensures behind { IsStart ((field + 1) ∷ []) (entries_of values.now) result.1 }
 {
-    let behind = count_within(leaves, &[field]);
+    let behind = count_within(values, &[field]);
     if field == 0 {
         return (0, behind);
     }
-    (count_within(leaves, &[field - 1]), behind)
+    (count_within(values, &[field - 1]), behind)
 }
 
-/// How many leaves stand at places below this repetition, and how many at places below the next one.
-pub(crate) fn rep_range(leaves: &[Leaf], field: usize, rep: usize) -> (usize, usize)
-    requires { AreValues leaves.now }
-    ensures first { IsStart (field ∷ rep ∷ []) (entries_of leaves.now) result.0 }
-    ensures behind { IsStart (field ∷ (rep + 1) ∷ []) (entries_of leaves.now) result.1 }
+/// How many texts stand at places below this repetition, and how many at places below the next one.
+pub(crate) fn rep_range(values: &Values<'_>, field: usize, rep: usize) -> (usize, usize)
+    requires { AreValues values.now }
+    ensures first { IsStart (field ∷ rep ∷ []) (entries_of values.now) result.0 }
+    ensures behind { IsStart (field ∷ (rep + 1) ∷ []) (entries_of values.now) result.1 }
 {
     let place = Place {
         field,
@@ -91,7 +98,7 @@ pub(crate) fn rep_range(leaves: &[Leaf], field: usize, rep: usize) -> (usize, us
         sub: 0,
     };
     (
-        count_below(leaves, place),
-        count_within(leaves, &[field, rep]),
+        count_below(values, place),
+        count_within(values, &[field, rep]),
     )
 }

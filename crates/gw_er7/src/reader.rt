@@ -11,7 +11,7 @@ use crate::delimiters::Delimiters;
 use crate::fault::ReadFault;
 use crate::lines::{NextLine, check, next_line};
 use crate::message::Message;
-use crate::reading::read_fields;
+use crate::reading::{Scratch, read_fields};
 use crate::segment::StoredSegment;
 use std::alloc::{AllocError, Global};
 
@@ -28,6 +28,7 @@ fn behind(bytes: &[u8], count: usize) -> &[u8]
 /// The segment of a line, whose fields stand behind these many bytes.
 fn read_segment(
     alloc: Global,
+    scratch: &mut Scratch,
     delimiters: Delimiters,
     first: usize,
     skip: usize,
@@ -38,13 +39,14 @@ fn read_segment(
     ensures { IfOk result (λ s. s ≡ segment_of delimiters first skip line.now) }
 {
     let name = [line[0], line[1], line[2]];
-    let leaves = read_fields(alloc, delimiters, first, behind(line, skip))?;
-    Ok(StoredSegment::of(name, leaves))
+    let texts = read_fields(alloc, scratch, delimiters, first, behind(line, skip))?;
+    Ok(StoredSegment::of(name, texts))
 }
 
 /// Takes in the segments of the lines from a place on.
 fn read_others(
     alloc: Global,
+    scratch: &mut Scratch,
     delimiters: Delimiters,
     at: usize,
     bytes: &[u8],
@@ -58,7 +60,7 @@ fn read_others(
     let mut here = at;
     let mut rest = bytes;
     while let Some(line) = next_line(here, rest) {
-        let segment = read_segment(alloc, delimiters, 1, 4, line.bytes)?;
+        let segment = read_segment(alloc, scratch, delimiters, 1, 4, line.bytes)?;
         segments.push(segment)?;
         here = line.at + line.bytes.len() + 1;
         rest = line.behind;
@@ -78,11 +80,19 @@ fn read_segments(
     requires later { 0 < length header.behind.now → header.at + length header.bytes.now + 1 + length header.behind.now < 2 ^ 64 - 1 }
     ensures { IfOk result (λ ss. ss.items ≡ segment_of delimiters 3 9 header.entry.bytes.now ∷ others_of delimiters (lines_from (header.entry.at + length header.entry.bytes.now + 1) header.entry.behind.now)) }
 {
+    let mut scratch = Scratch::with_room(alloc, header.bytes.len())?;
     let mut segments = Vec::new(alloc);
-    let first = read_segment(alloc, delimiters, 3, 9, header.bytes)?;
+    let first = read_segment(alloc, &mut scratch, delimiters, 3, 9, header.bytes)?;
     segments.push(first)?;
     let at = header.at + header.bytes.len() + 1;
-    read_others(alloc, delimiters, at, header.behind, &mut segments)?;
+    read_others(
+        alloc,
+        &mut scratch,
+        delimiters,
+        at,
+        header.behind,
+        &mut segments,
+    )?;
     Ok(segments)
 }
 

@@ -3,12 +3,13 @@ ghost use Rattle.std.specs.Prelude.{◌≡◌, ◌+◌, ◌<◌, ◌≤◌, ◌^
 ghost use Rattle.gw_er7.specs.Message.{numbers};
 ghost use Rattle.gw_er7.specs.Entries.{fields};
 ghost use Rattle.gw_er7.specs.Separators.{separators, is_separator, next_numbers, value_at, IsLastValue, IsNextValue};
-ghost use Rattle.gw_er7.specs.View.{entries_of};
+ghost use Rattle.gw_er7.specs.View.{entries_of, held, AreInside};
 
 use crate::delimiters::Delimiters;
+use crate::leaves::{Leaf, Leaves};
 use crate::place::Place;
-use crate::segment::Leaf;
-use crate::text::canonical;
+use crate::text::push_canonical;
+use crate::texts::SegmentTexts;
 use std::alloc::{AllocError, Global};
 
 fn is_separator(delimiters: Delimiters, byte: u8) -> bool
@@ -79,35 +80,59 @@ fn next_place(delimiters: Delimiters, place: Place, separator: u8) -> Place
     }
 }
 
+/// The texts of the segment that is being read, before they are copied into memory that fits them.
+/// It serves one segment after the other, so it grows only while segments get longer.
+#[derive(Debug, Drop)]
+pub(crate) struct Scratch {
+    leaves: Leaves,
+    bytes: Vec<u8>,
+}
+
+impl Scratch {
+    /// With room for so many bytes of texts.
+    pub(crate) fn with_room(alloc: Global, room: usize) -> Result<Scratch, AllocError> {
+        let bytes = Vec::with_capacity(alloc, room)?;
+        Ok(Scratch {
+            leaves: Leaves::new(alloc),
+            bytes,
+        })
+    }
+}
+
 /// Takes in the raw value at a place.
 fn push_value(
-    alloc: Global,
+    scratch: &mut Scratch,
     delimiters: Delimiters,
     place: Place,
     raw: &[u8],
-    leaves: &mut Vec<Leaf>,
 ) -> Result<(), AllocError>
-    ensures { OnOk result (entries_of leaves.new.items ≡ entries_of leaves.old.items ++ value_at delimiters (numbers place) raw.now) }
+    requires { AreInside scratch.old.bytes.items scratch.old.leaves }
+    ensures inside { OnOk result (AreInside scratch.new.bytes.items scratch.new.leaves) }
+    ensures entries { OnOk result (entries_of (held scratch.new.bytes.items scratch.new.leaves) ≡ entries_of (held scratch.old.bytes.items scratch.old.leaves) ++ value_at delimiters (numbers place) raw.now) }
 {
     if raw.is_empty() {
         return Ok(());
     }
-    let text = canonical(alloc, delimiters, raw)?;
-    leaves.push(Leaf { place, text })?;
+    let from = scratch.bytes.len();
+    push_canonical(&mut scratch.bytes, delimiters, raw)?;
+    let len = scratch.bytes.len() - from;
+    scratch.leaves.push(Leaf { place, from, len })?;
     Ok(())
 }
 
-/// Reads the fields of a segment, the first of which has this number.
-pub(crate) fn read_fields(
-    alloc: Global,
+/// Takes in the fields of a segment, the first of which has this number, in the place of what was there.
+fn take_fields(
+    scratch: &mut Scratch,
     delimiters: Delimiters,
     first: usize,
     bytes: &[u8],
-) -> Result<Vec<Leaf>, AllocError>
+) -> Result<(), AllocError>
     requires { first ≤ 3 }
-    ensures { IfOk result (λ leaves. entries_of leaves.items ≡ fields delimiters first bytes.now) }
+    ensures inside { OnOk result (AreInside scratch.new.bytes.items scratch.new.leaves) }
+    ensures entries { OnOk result (entries_of (held scratch.new.bytes.items scratch.new.leaves) ≡ fields delimiters first bytes.now) }
 {
-    let mut leaves = Vec::new(alloc);
+    scratch.leaves.clear();
+    scratch.bytes.clear();
     let mut place = Place {
         field: first,
         rep: 1,
@@ -117,11 +142,26 @@ pub(crate) fn read_fields(
     let mut rest = bytes;
     loop {
         let (raw, behind) = cut_value(delimiters, rest);
-        push_value(alloc, delimiters, place, raw, &mut leaves)?;
+        push_value(scratch, delimiters, place, raw)?;
         let Some((separator, later)) = behind else {
-            return Ok(leaves);
+            return Ok(());
         };
         place = next_place(delimiters, place, separator);
         rest = later;
     }
+}
+
+/// Reads the fields of a segment, the first of which has this number.
+pub(crate) fn read_fields(
+    alloc: Global,
+    scratch: &mut Scratch,
+    delimiters: Delimiters,
+    first: usize,
+    bytes: &[u8],
+) -> Result<SegmentTexts, AllocError>
+    requires { first ≤ 3 }
+    ensures { IfOk result (λ texts. entries_of texts ≡ fields delimiters first bytes.now) }
+{
+    take_fields(scratch, delimiters, first, bytes)?;
+    SegmentTexts::fitted(alloc, &scratch.leaves, &scratch.bytes)
 }

@@ -2,9 +2,11 @@
 ghost use Rattle.std.specs.Prelude.{◌≡◌, ◌↔◌, IsTrue};
 ghost use Rattle.std.specs.List.{AllZip};
 ghost use Rattle.gw_er7.specs.Message.{numbers};
+ghost use Rattle.gw_er7.specs.View.{entry_of};
 
 use crate::place::Place;
-use crate::segment::{Leaf, StoredSegment};
+use crate::segment::StoredSegment;
+use crate::values::Values;
 
 /// A part that can be compared: `same` says what it is to be the same.
 pub trait Part {
@@ -54,18 +56,24 @@ impl Part for Vec<u8> {
     }
 }
 
-impl Part for Leaf {
-    ghost use Rattle.std.specs.Prelude.{◌≡◌};
-    ghost use Rattle.gw_er7.specs.View.{entry_of};
-
-    ghost same = { λ one other. entry_of one ≡ entry_of other };
-
-    fn is(&self, other: &Leaf) -> bool {
-        if !same_place(self.place, other.place) {
+/// Whether these are the same texts at the same places.
+fn same_values(values: &Values<'_>, others: &Values<'_>) -> bool
+    ensures { IsTrue result ↔ AllZip (λ a b. entry_of a ≡ entry_of b) values.now others.now }
+{
+    if values.len() != others.len() {
+        return false;
+    }
+    for i in 0..values.len() {
+        let value = values.at(i);
+        let other = others.at(i);
+        if !same_place(value.place, other.place) {
             return false;
         }
-        same_bytes(&self.text, &other.text)
+        if !same_bytes(value.text, other.text) {
+            return false;
+        }
     }
+    true
 }
 
 impl Part for StoredSegment {
@@ -77,6 +85,6 @@ impl Part for StoredSegment {
         if !same_bytes(&self.name, &other.name) {
             return false;
         }
-        are_same(&self.leaves, &other.leaves)
+        same_values(&self.texts.lend(), &other.texts.lend())
     }
 }

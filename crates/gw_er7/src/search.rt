@@ -1,6 +1,6 @@
-//! Look-ups among leaves in order.
-ghost use Rattle.std.specs.Prelude.{◌≡◌, ◌≤◌, [], length, unwrap_or, not, T, IsTrue, true, false};
-ghost use Rattle.std.specs.List.{position_or_len, AllWithin};
+//! Look-ups among texts in order.
+ghost use Rattle.std.specs.Prelude.{◌≡◌, ◌≤◌, [], length, unwrap_or, T, IsTrue, true, false};
+ghost use Rattle.std.specs.List.{AllWithin};
 ghost use Rattle.std.specs.List.Sorted.{IsPartitionPoint};
 ghost use Rattle.std.specs.Ordering.{nat_cmp, is_lt};
 ghost use Rattle.std.specs.Cmp.Lexicographic.{slice_cmp};
@@ -9,7 +9,7 @@ ghost use Rattle.gw_er7.specs.Message.{numbers};
 ghost use Rattle.gw_er7.specs.View.{entries_of, is_below};
 
 use crate::place::Place;
-use crate::segment::Leaf;
+use crate::values::Values;
 use std::cmp::Ordering;
 
 /// How two places compare, number by number.
@@ -23,95 +23,100 @@ pub(crate) fn compare_places(a: Place, b: Place) -> Ordering
     )
 }
 
-fn is_below(leaf: &Leaf, place: Place) -> bool
-    ensures { result ≡ is_below (numbers place) leaf.now }
+fn is_below(here: Place, place: Place) -> bool
+    ensures { result ≡ is_lt (slice_cmp nat_cmp (numbers here) (numbers place)) }
 {
-    compare_places(leaf.place, place).is_lt()
+    compare_places(here, place).is_lt()
 }
 
-/// How many leaves stand at places below this one.
-pub(crate) fn count_below(leaves: &[Leaf], place: Place) -> usize
-    requires { T (is_sorted (slice_cmp nat_cmp) (entries_of leaves.now)) }
-    ensures count { result ≡ position_or_len (λ l. not (is_below (numbers place) l)) leaves.now }
-    ensures bound { result ≤ length leaves.now }
-    ensures start { IsPartitionPoint (λ l. is_below (numbers place) l ≡ true) (λ l. is_below (numbers place) l ≡ false) leaves.now result }
+/// How many texts stand at places below this one.
+pub(crate) fn count_below(values: &Values<'_>, place: Place) -> usize
+    requires { T (is_sorted (slice_cmp nat_cmp) (entries_of values.now)) }
+    ensures bound { result ≤ length values.now }
+    ensures start { IsPartitionPoint (λ h. is_below (numbers place) h ≡ true) (λ h. is_below (numbers place) h ≡ false) values.now result }
 {
-    leaves.partition_point(
-        |leaf: &Leaf| -> bool
-            ensures { result ≡ is_below (numbers place) leaf.now }
-        { is_below(leaf, place) },
-    )
+    let mut low = 0;
+    let mut high = values.len();
+    while low < high {
+        let middle = low + (high - low) / 2;
+        if is_below(values.at(middle).place, place) {
+            low = middle + 1;
+        } else {
+            high = middle;
+        }
+    }
+    low
 }
 
-/// How far behind the number that was named a place is looked for, before all the leaves are searched.
+/// How far behind the number that was named a place is looked for, before all the texts are searched.
 const NEAR: usize = 8;
 
-// Whether the leaves before this number stand at places below this one.
-fn are_below(leaves: &[Leaf], at: usize, place: Place) -> bool
-    requires { T (is_sorted (slice_cmp nat_cmp) (entries_of leaves.now)) }
-    ensures bound { IsTrue result → at ≤ length leaves.now }
-    ensures below { IsTrue result → AllWithin (λ l. is_below (numbers place) l ≡ true) leaves.now 0 at }
+// Whether the texts before this number stand at places below this one.
+fn are_below(values: &Values<'_>, at: usize, place: Place) -> bool
+    requires { T (is_sorted (slice_cmp nat_cmp) (entries_of values.now)) }
+    ensures bound { IsTrue result → at ≤ length values.now }
+    ensures below { IsTrue result → AllWithin (λ h. is_below (numbers place) h ≡ true) values.now 0 at }
 {
     if at == 0 {
         return true;
     }
-    if at > leaves.len() {
+    if at > values.len() {
         return false;
     }
-    is_below(&leaves[at - 1], place)
+    is_below(values.at(at - 1).place, place)
 }
 
-/// How many leaves stand at places below this one: found at once where that is the number named or one of a few behind it.
-pub(crate) fn count_below_near(leaves: &[Leaf], near: usize, place: Place) -> usize
-    requires { T (is_sorted (slice_cmp nat_cmp) (entries_of leaves.now)) }
-    ensures bound { result ≤ length leaves.now }
-    ensures start { IsPartitionPoint (λ l. is_below (numbers place) l ≡ true) (λ l. is_below (numbers place) l ≡ false) leaves.now result }
+/// How many texts stand at places below this one: found at once where that is the number named or one of a few behind it.
+pub(crate) fn count_below_near(values: &Values<'_>, near: usize, place: Place) -> usize
+    requires { T (is_sorted (slice_cmp nat_cmp) (entries_of values.now)) }
+    ensures bound { result ≤ length values.now }
+    ensures start { IsPartitionPoint (λ h. is_below (numbers place) h ≡ true) (λ h. is_below (numbers place) h ≡ false) values.now result }
 {
-    if !are_below(leaves, near, place) {
-        return count_below(leaves, place);
+    if !are_below(values, near, place) {
+        return count_below(values, place);
     }
     let mut at = near;
     for _step in 0..NEAR {
-        if at == leaves.len() {
+        if at == values.len() {
             return at;
         }
-        if !is_below(&leaves[at], place) {
+        if !is_below(values.at(at).place, place) {
             return at;
         }
         at += 1;
     }
-    count_below(leaves, place)
+    count_below(values, place)
 }
 
-// The text at a place that these many leaves stand below, empty where it is absent.
-fn text_behind(leaves: &[Leaf], at: usize, place: Place) -> &[u8]
-    requires sorted { T (is_sorted (slice_cmp nat_cmp) (entries_of leaves.now)) }
-    requires bound { at ≤ length leaves.now }
-    requires start { IsPartitionPoint (λ l. is_below (numbers place) l ≡ true) (λ l. is_below (numbers place) l ≡ false) leaves.now at }
-    ensures { result.now ≡ unwrap_or (find (slice_cmp nat_cmp) (numbers place) (entries_of leaves.now)) [] }
+// The text at a place that these many texts stand below, empty where it is absent.
+fn text_behind<'a>(values: &Values<'a>, at: usize, place: Place) -> &'a [u8]
+    requires sorted { T (is_sorted (slice_cmp nat_cmp) (entries_of values.now)) }
+    requires bound { at ≤ length values.now }
+    requires start { IsPartitionPoint (λ h. is_below (numbers place) h ≡ true) (λ h. is_below (numbers place) h ≡ false) values.now at }
+    ensures { result.now ≡ unwrap_or (find (slice_cmp nat_cmp) (numbers place) (entries_of values.now)) [] }
 {
-    if at >= leaves.len() {
+    if at >= values.len() {
         return &[];
     }
-    let leaf = &leaves[at];
-    if leaf.place != place {
+    let value = values.at(at);
+    if value.place != place {
         return &[];
     }
-    leaf.text.as_slice()
+    value.text
 }
 
 /// The text at a place, empty where it is absent.
-pub(crate) fn text_in(leaves: &[Leaf], place: Place) -> &[u8]
-    requires { T (is_sorted (slice_cmp nat_cmp) (entries_of leaves.now)) }
-    ensures { result.now ≡ unwrap_or (find (slice_cmp nat_cmp) (numbers place) (entries_of leaves.now)) [] }
+pub(crate) fn text_in<'a>(values: &Values<'a>, place: Place) -> &'a [u8]
+    requires { T (is_sorted (slice_cmp nat_cmp) (entries_of values.now)) }
+    ensures { result.now ≡ unwrap_or (find (slice_cmp nat_cmp) (numbers place) (entries_of values.now)) [] }
 {
-    text_behind(leaves, count_below(leaves, place), place)
+    text_behind(values, count_below(values, place), place)
 }
 
 /// The same, looked for from a number on.
-pub(crate) fn text_near(leaves: &[Leaf], near: usize, place: Place) -> &[u8]
-    requires { T (is_sorted (slice_cmp nat_cmp) (entries_of leaves.now)) }
-    ensures { result.now ≡ unwrap_or (find (slice_cmp nat_cmp) (numbers place) (entries_of leaves.now)) [] }
+pub(crate) fn text_near<'a>(values: &Values<'a>, near: usize, place: Place) -> &'a [u8]
+    requires { T (is_sorted (slice_cmp nat_cmp) (entries_of values.now)) }
+    ensures { result.now ≡ unwrap_or (find (slice_cmp nat_cmp) (numbers place) (entries_of values.now)) [] }
 {
-    text_behind(leaves, count_below_near(leaves, near, place), place)
+    text_behind(values, count_below_near(values, near, place), place)
 }

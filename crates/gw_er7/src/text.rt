@@ -123,23 +123,35 @@ fn push_head<'a>(
     Ok(&raw[len..])
 }
 
+/// Takes in the canonical text of a raw value under the sender's delimiters.
+pub(crate) fn push_canonical(
+    text: &mut Vec<u8>,
+    delimiters: Delimiters,
+    raw: &[u8],
+) -> Result<(), AllocError>
+    ensures { OnOk result (text.new.items ≡ text.old.items ++ canon delimiters raw.now) }
+{
+    let mut rest = push_head(text, delimiters, raw)?;
+    while let [first, after @ ..] = rest {
+        match body_at(delimiters, *first, after) {
+            Some(body) => {
+                push_meaning(text, delimiters, body)?;
+                rest = &after[body.len() + 1..];
+            }
+            None => {
+                push_plainly(text, *first)?;
+                rest = push_head(text, delimiters, after)?;
+            }
+        }
+    }
+    Ok(())
+}
+
 /// The canonical text of a raw value under the sender's delimiters.
 pub fn canonical(alloc: Global, delimiters: Delimiters, raw: &[u8]) -> Result<Vec<u8>, AllocError>
     ensures { IfOk result (λ text. text.items ≡ canon delimiters raw.now) }
 {
     let mut text = Vec::with_capacity(alloc, raw.len())?;
-    let mut rest = push_head(&mut text, delimiters, raw)?;
-    while let [first, after @ ..] = rest {
-        match body_at(delimiters, *first, after) {
-            Some(body) => {
-                push_meaning(&mut text, delimiters, body)?;
-                rest = &after[body.len() + 1..];
-            }
-            None => {
-                push_plainly(&mut text, *first)?;
-                rest = push_head(&mut text, delimiters, after)?;
-            }
-        }
-    }
+    push_canonical(&mut text, delimiters, raw)?;
     Ok(text)
 }

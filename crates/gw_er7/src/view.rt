@@ -1,19 +1,16 @@
 //! Segments as they are lent.
-ghost use Rattle.std.specs.Prelude.{◌≡◌, ◌<◌, Some, length, slice_get};
-ghost use Rattle.gw_er7.specs.Message.{numbers};
-ghost use Rattle.gw_er7.specs.View.{entries_of};
 
 use crate::counts::{field_range, last_under, rep_range};
 use crate::place::Place;
 use crate::search::{count_below_near, text_in, text_near};
-use crate::segment::Leaf;
+use crate::values::Values;
 use std::marker::Model;
 
 /// A segment, lent by its message: its name, and texts at places.
 #[derive(Drop)]
 pub struct Segment<'a> {
     name: [u8; 3],
-    leaves: &'a [Leaf],
+    values: Values<'a>,
 }
 
 impl<'a> Model for Segment<'a> {
@@ -24,9 +21,9 @@ impl<'a> Model for Segment<'a> {
 
     ghost coded = { segment_code };
 
-    ghost view = { λ s. stored s.name s.leaves.now };
+    ghost view = { λ s. stored s.name s.values };
 
-    ghost invariant = { λ s. IsLent s.name s.leaves.now };
+    ghost invariant = { λ s. IsLent s.name s.values };
 }
 
 /// A text and its place.
@@ -36,17 +33,6 @@ pub struct Value<'a> {
     pub text: &'a [u8],
 }
 
-fn value_at(leaves: &[Leaf], i: usize) -> Value<'_>
-    requires { i < length leaves.now }
-    ensures { slice_get (entries_of leaves.now) i ≡ Some (numbers result.place, result.text.now) }
-{
-    let leaf = &leaves[i];
-    Value {
-        place: leaf.place,
-        text: leaf.text.as_slice(),
-    }
-}
-
 impl<'a> Segment<'a> {
     ghost use Rattle.std.specs.Prelude.{◌≡◌, ◌+◌, ◌<◌, [], ◌∷◌, Some, length, slice_get};
     ghost use Rattle.std.specs.FinMap as texts;
@@ -54,11 +40,11 @@ impl<'a> Segment<'a> {
     ghost use Rattle.gw_er7.specs.Presence.{SubAt, CompAt, RepAt, FieldAt, IsLast, IsStart};
     ghost use Rattle.gw_er7.specs.View.{stored, IsLent};
 
-    pub(crate) fn of(name: [u8; 3], leaves: &'a [Leaf]) -> Segment<'a>
-        requires { IsLent name leaves.now }
-        ensures { result ≡ stored name leaves.now }
+    pub(crate) fn of(name: [u8; 3], values: Values<'a>) -> Segment<'a>
+        requires { IsLent name values }
+        ensures { result ≡ stored name values.entry }
     {
-        Segment { name, leaves }
+        Segment { name, values }
     }
 
     /// The same segment, lent once more. It takes no memory.
@@ -67,7 +53,7 @@ impl<'a> Segment<'a> {
     {
         Segment {
             name: self.name,
-            leaves: self.leaves,
+            values: self.values.again(),
         }
     }
 
@@ -83,14 +69,14 @@ impl<'a> Segment<'a> {
     pub fn text(&self, place: Place) -> &'a [u8]
         ensures { result.now ≡ text_at self.now place }
     {
-        text_in(self.leaves, place)
+        text_in(&self.values, place)
     }
 
     /// The number of the last field that is present, 0 where none is. It takes no memory.
     pub fn field_count(&self) -> usize
         ensures { IsLast (FieldAt self.now.at) result }
     {
-        match last_under(self.leaves, &[]) {
+        match last_under(&self.values, &[]) {
             Some(place) => place.field,
             None => 0,
         }
@@ -100,7 +86,7 @@ impl<'a> Segment<'a> {
     pub fn reps(&self, field: usize) -> usize
         ensures { IsLast (RepAt self.now.at field) result }
     {
-        match last_under(self.leaves, &[field]) {
+        match last_under(&self.values, &[field]) {
             Some(place) => place.rep,
             None => 0,
         }
@@ -110,7 +96,7 @@ impl<'a> Segment<'a> {
     pub fn comps(&self, field: usize, rep: usize) -> usize
         ensures { IsLast (CompAt self.now.at field rep) result }
     {
-        match last_under(self.leaves, &[field, rep]) {
+        match last_under(&self.values, &[field, rep]) {
             Some(place) => place.comp,
             None => 0,
         }
@@ -120,7 +106,7 @@ impl<'a> Segment<'a> {
     pub fn subs(&self, field: usize, rep: usize, comp: usize) -> usize
         ensures { IsLast (SubAt self.now.at field rep comp) result }
     {
-        match last_under(self.leaves, &[field, rep, comp]) {
+        match last_under(&self.values, &[field, rep, comp]) {
             Some(place) => place.sub,
             None => 0,
         }
@@ -131,7 +117,7 @@ impl<'a> Segment<'a> {
         ensures count { result ≡ length (texts.entries self.now.at) }
         ensures segment { IsSegment self.now }
     {
-        self.leaves.len()
+        self.values.len()
     }
 
     /// The text of this number, from 0, in order of place. It takes no memory, and a constant time.
@@ -139,7 +125,7 @@ impl<'a> Segment<'a> {
         requires { i < length (texts.entries self.now.at) }
         ensures { slice_get (texts.entries self.now.at) i ≡ Some (numbers result.place, result.text.now) }
     {
-        value_at(self.leaves, i)
+        self.values.at(i)
     }
 
     /// How many texts stand at places below this one: the number of the first text from there on.
@@ -147,7 +133,7 @@ impl<'a> Segment<'a> {
     pub fn values_before(&self, near: usize, place: Place) -> usize
         ensures { IsStart (numbers place) (texts.entries self.now.at) result }
     {
-        count_below_near(self.leaves, near, place)
+        count_below_near(&self.values, near, place)
     }
 
     /// The numbers of the first text of a field and of the first text behind the field: the texts of the field stand between.
@@ -156,7 +142,7 @@ impl<'a> Segment<'a> {
         ensures first { IsStart (field ∷ []) (texts.entries self.now.at) result.0 }
         ensures behind { IsStart ((field + 1) ∷ []) (texts.entries self.now.at) result.1 }
     {
-        field_range(self.leaves, field)
+        field_range(&self.values, field)
     }
 
     /// The numbers of the first text of a repetition and of the first text behind it: the texts of the repetition stand between.
@@ -165,13 +151,13 @@ impl<'a> Segment<'a> {
         ensures first { IsStart (field ∷ rep ∷ []) (texts.entries self.now.at) result.0 }
         ensures behind { IsStart (field ∷ (rep + 1) ∷ []) (texts.entries self.now.at) result.1 }
     {
-        rep_range(self.leaves, field, rep)
+        rep_range(&self.values, field, rep)
     }
 
     /// The same as `text`, in a constant time where the text's number is the one named or one of a few behind it.
     pub fn text_near(&self, near: usize, place: Place) -> &'a [u8]
         ensures { result.now ≡ text_at self.now place }
     {
-        text_near(self.leaves, near, place)
+        text_near(&self.values, near, place)
     }
 }

@@ -1,4 +1,4 @@
-//! How leaves are written.
+//! How texts are written.
 ghost use Rattle.std.specs.Prelude.{◌≡◌, ◌-◌, ◌<◌, ◌++◌, ◌==◌, ◌&&◌, if◌then◌else◌, replicate, OnOk, MatchResult, [], ◌∷◌};
 ghost use Rattle.gw_er7.specs.Message.{first_field};
 ghost use Rattle.gw_er7.specs.View.{entries_of};
@@ -9,7 +9,7 @@ ghost use Rattle.gw_er7.specs.Layers.{number_at, separator_of};
 use crate::checks::is_header;
 use crate::level::Level;
 use crate::place::Place;
-use crate::segment::Leaf;
+use crate::values::Values;
 use std::alloc::AllocError;
 
 fn number_at(level: Level, place: Place) -> usize
@@ -70,11 +70,11 @@ fn counted_from(from: Place, to: Place) -> Place
     from
 }
 
-/// Writes the fields of these leaves, the first of which has this number: each text behind the separators that lead to it.
-fn write_fields(out: &mut Vec<u8>, first: usize, leaves: &[Leaf]) -> Result<(), AllocError>
+/// Writes the fields of these texts, the first of which has this number: each text behind the separators that lead to it.
+fn write_fields(out: &mut Vec<u8>, first: usize, values: &Values<'_>) -> Result<(), AllocError>
     requires from { 0 < first }
-    requires ordered { IsOrdered first (entries_of leaves.now) }
-    ensures { OnOk result (out.new.items ≡ out.old.items ++ fields_text first (entries_of leaves.now)) }
+    requires ordered { IsOrdered first (entries_of values.now) }
+    ensures { OnOk result (out.new.items ≡ out.old.items ++ fields_text first (entries_of values.now)) }
 {
     let mut here = Place {
         field: first,
@@ -82,14 +82,15 @@ fn write_fields(out: &mut Vec<u8>, first: usize, leaves: &[Leaf]) -> Result<(), 
         comp: 1,
         sub: 1,
     };
-    for leaf in leaves {
-        let from = counted_from(here, leaf.place);
-        write_gap(out, Level::Field, from, leaf.place)?;
-        write_gap(out, Level::Repetition, from, leaf.place)?;
-        write_gap(out, Level::Component, from, leaf.place)?;
-        write_gap(out, Level::Subcomponent, from, leaf.place)?;
-        out.extend_from_slice(&leaf.text)?;
-        here = leaf.place;
+    for i in 0..values.len() {
+        let value = values.at(i);
+        let from = counted_from(here, value.place);
+        write_gap(out, Level::Field, from, value.place)?;
+        write_gap(out, Level::Repetition, from, value.place)?;
+        write_gap(out, Level::Component, from, value.place)?;
+        write_gap(out, Level::Subcomponent, from, value.place)?;
+        out.extend_from_slice(value.text)?;
+        here = value.place;
     }
     Ok(())
 }
@@ -107,29 +108,29 @@ fn write_name(out: &mut Vec<u8>, name: [u8; 3]) -> Result<usize, AllocError>
 }
 
 /// Writes the fields behind a separator, where there are some.
-fn write_behind(out: &mut Vec<u8>, first: usize, leaves: &[Leaf]) -> Result<(), AllocError>
+fn write_behind(out: &mut Vec<u8>, first: usize, values: &Values<'_>) -> Result<(), AllocError>
     requires from { 0 < first }
-    requires ordered { IsOrdered first (entries_of leaves.now) }
-    ensures { OnOk result (out.new.items ≡ out.old.items ++ behind_separator first (entries_of leaves.now)) }
+    requires ordered { IsOrdered first (entries_of values.now) }
+    ensures { OnOk result (out.new.items ≡ out.old.items ++ behind_separator first (entries_of values.now)) }
 {
-    if leaves.is_empty() {
+    if values.len() == 0 {
         return Ok(());
     }
     out.push(b'|')?;
-    write_fields(out, first, leaves)
+    write_fields(out, first, values)
 }
 
 /// Writes the line of a segment, and its end.
 pub(crate) fn write_line(
     out: &mut Vec<u8>,
     name: [u8; 3],
-    leaves: &[Leaf],
+    values: &Values<'_>,
 ) -> Result<(), AllocError>
-    requires { IsOrdered (first_field name) (entries_of leaves.now) }
-    ensures { OnOk result (out.new.items ≡ out.old.items ++ (name ++ delimiters_text name ++ behind_separator (first_field name) (entries_of leaves.now) ++ 13 ∷ [])) }
+    requires { IsOrdered (first_field name) (entries_of values.now) }
+    ensures { OnOk result (out.new.items ≡ out.old.items ++ (name ++ delimiters_text name ++ behind_separator (first_field name) (entries_of values.now) ++ 13 ∷ [])) }
 {
     let first = write_name(out, name)?;
-    write_behind(out, first, leaves)?;
+    write_behind(out, first, values)?;
     out.push(b'\r')?;
     Ok(())
 }

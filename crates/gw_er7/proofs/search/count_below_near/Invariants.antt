@@ -5,4 +5,4 @@ use Rattle.gw_er7.specs.View.{is_below}
 use Rattle.gw_er7.proofs.search.count_below_near.Given as goal
 
 abbrev pub invariant-loop-step : goal.invariant-loop-step
-invariant-loop-step l = record { bound : l.at ≤ length l.leaves; below : AllWithin (λ y. is_below (numbers l.place) y ≡ true) l.leaves 0 l.at }
+invariant-loop-step l = record { bound : l.at ≤ length l.values; below : AllWithin (λ y. is_below (numbers l.place) y ≡ true) l.values 0 l.at }

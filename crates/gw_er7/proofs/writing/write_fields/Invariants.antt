@@ -5,5 +5,5 @@ use Rattle.gw_er7.specs.View.{entries_of}
 use Rattle.gw_er7.proofs.Steps.{levels, steps}
 use Rattle.gw_er7.proofs.writing.write_fields.Given as goal
 
-abbrev pub invariant-loop-leaf : goal.invariant-loop-leaf
-invariant-loop-leaf l = l.out.items ++ steps levels (numbers l.here) (entries_of (drop l.leaf-index l.leaves)) ≡ l.fn.out.items ++ fields_text l.fn.first (entries_of l.leaves)
+abbrev pub invariant-loop-i : goal.invariant-loop-i
+invariant-loop-i l = l.out.items ++ steps levels (numbers l.here) (entries_of (drop l.i l.values)) ≡ l.fn.out.items ++ fields_text l.fn.first (entries_of l.values)

@@ -3,7 +3,7 @@ use Rattle.gw_er7.proofs.Drafts.{closed_sorted, closed_is}
 use Rattle.gw_er7.proofs.draft.Draft.close.Goals as goal
 
 pub of-requires : goal.of-requires
-of-requires c = closed_sorted _ _ c.sort_leaves.ensures.permutation c.sort_leaves.ensures.sorted c.self.invariant
+of-requires c = closed_sorted _ _ c.sort.ensures.permutation c.sort.ensures.sorted c.self.invariant
 
 pub returns : goal.returns
-returns c = c.of.ensures ∙ closed_is _ _ _ c.sort_leaves.ensures.permutation c.sort_leaves.ensures.sorted c.self.invariant ∙ c.self.view_is
+returns c = c.of.ensures ∙ closed_is _ _ _ c.sort.ensures.permutation c.sort.ensures.sorted c.self.invariant ∙ c.self.view_is

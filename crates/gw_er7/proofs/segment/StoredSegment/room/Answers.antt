@@ -6,6 +6,6 @@ use Rattle.gw_er7.proofs.segment.StoredSegment.room.Goals as goal
 
 pub returns : goal.returns
 returns c =
-    let leaves = c.self.inside.leaves.items in
-    let count = length-entries leaves in
-    rw (held c.self.inside.name (entries_of leaves) c.args.self.now c.self.invariant c.self.view_is) (omega (arith, count, c.len.ensures, c.saturating_mul.ensures, c.saturating_add.ensures))
+    let values = c.self.inside.texts in
+    let count = length-entries values in
+    rw (held c.self.inside.name (entries_of values) c.args.self.now c.self.invariant c.self.view_is) (omega (arith, count, c.len.ensures, c.saturating_mul.ensures, c.saturating_add.ensures))

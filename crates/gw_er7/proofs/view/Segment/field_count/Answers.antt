@@ -6,14 +6,14 @@ use Rattle.gw_er7.proofs.Under.{last_field}
 use Rattle.gw_er7.proofs.view.Segment.field_count.Goals as goal
 
 pub last_under-requires : goal.last_under-requires
-last_under-requires c = values_of c.self.inside.name c.self.inside.leaves.now c.self.invariant
+last_under-requires c = values_of c.self.inside.name c.self.inside.values c.self.invariant
 
 pub returns-in-Some : goal.returns-in-Some
 returns-in-Some c =
-    let xs = c.self.inside.leaves.now in
+    let xs = c.self.inside.values in
     subst (λ (s : SegmentValue). IsLast (FieldAt s.at) c.in-Some.place.field) c.self.view_is (last_field xs (values_of c.self.inside.name xs c.self.invariant) (Some c.in-Some.place) c.in-Some.ensures c.in-Some.place.field refl)
 
 pub returns-in-None : goal.returns-in-None
 returns-in-None c =
-    let xs = c.self.inside.leaves.now in
+    let xs = c.self.inside.values in
     subst (λ (s : SegmentValue). IsLast (FieldAt s.at) 0) c.self.view_is (last_field xs (values_of c.self.inside.name xs c.self.invariant) None c.in-None.ensures 0 refl)

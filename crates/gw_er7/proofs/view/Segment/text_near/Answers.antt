@@ -9,5 +9,5 @@ use Rattle.gw_er7.proofs.view.Segment.text_near.Goals as goal
 
 pub returns : goal.returns
 returns c =
-    c.text_near.ensures ∙ sym (ap (λ (o : Option (List ℕ)). unwrap_or o []) (get-from_sorted (slice_cmp nat_cmp) (entries_of c.self.inside.leaves.now) (numbers c.args.place) c.self.invariant.sorted))
+    c.text_near.ensures ∙ sym (ap (λ (o : Option (List ℕ)). unwrap_or o []) (get-from_sorted (slice_cmp nat_cmp) (entries_of c.self.inside.values) (numbers c.args.place) c.self.invariant.sorted))
     ∙ ap (λ (s : SegmentValue). text_at s c.args.place) c.self.view_is

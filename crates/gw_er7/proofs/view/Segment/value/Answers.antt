@@ -1,13 +1,12 @@
-use Rattle.std.proofs.Common.{arith, ap, sym, ◌∙◌, List}
-use Rattle.std.specs.Prelude.{slice_get}
-use Rattle.gw_er7.specs.Entries.{Entry}
-use Rattle.gw_er7.proofs.Lent.{count_is, entries_are}
+use Rattle.std.proofs.Common.{arith}
+use Rattle.gw_er7.specs.View.{Held}
+use Rattle.gw_er7.proofs.Lent.{count_is, value_is}
 use Rattle.gw_er7.proofs.view.Segment.value.Goals as goal
 
-pub value_at-requires : goal.value_at-requires
-value_at-requires c = omega (arith, c.requires, count_is c.self.inside.name c.self.inside.leaves.now c.args.self.now c.self.invariant c.self.view_is)
+pub at-requires : goal.at-requires
+at-requires c = omega (arith, c.requires, count_is c.self.inside.name c.self.inside.values c.args.self.now c.self.invariant c.self.view_is)
 
 pub returns : goal.returns
 returns c =
-    let e = entries_are c.self.inside.name c.self.inside.leaves.now c.args.self.now c.self.invariant c.self.view_is in
-    ap (λ (es : List Entry). slice_get es c.args.i) (sym e) ∙ c.value_at.ensures
+    let h : Held = record { place = c.at.result.place; text = c.at.result.text.now } in
+    value_is c.self.inside.name c.self.inside.values c.args.self.now c.args.i h c.self.invariant c.self.view_is c.requires (c.at.ensures h)

@@ -1,0 +1,35 @@
+-- Texts that lie in one buffer.
+use Rattle.std.proofs.Common.{◌≡◌, ℕ, ◌+◌, ◌≤◌, List, [], ◌∷◌, ◌++◌, length, take, drop, refl, ap, ◌∙◌, arith}
+use Rattle.std.proofs.lemmas.List.{map-append, take-append-le, drop-append-le, length-drop, take_all}
+use Rattle.std.proofs.Math.Seq.{drop-append_seam}
+use Rattle.std.proofs.lemmas.List.Elements.{All-tail}
+use Rattle.gw_er7.specs.declared.leaves.Leaf.{Leaf}
+use Rattle.gw_er7.specs.View.{Held, IsInside, AreInside, held_at, held}
+
+-- what is appended to a buffer changes no slice that was in bounds
+pub slice_kept : (k n : ℕ) (bytes more : List ℕ) → k + n ≤ length bytes → take n (drop k (bytes ++ more)) ≡ take n (drop k bytes)
+slice_kept k n bytes more le =
+    ap (take n) (drop-append-le k bytes more (omega (arith, le))) ∙ take-append-le n (drop k bytes) more (omega (arith, le, length-drop k bytes))
+
+-- and it is the slice from the buffer's old end on
+pub slice_put : (bytes more : List ℕ) → take (length more) (drop (length bytes) (bytes ++ more)) ≡ more
+slice_put bytes more = ap (take (length more)) (drop-append_seam bytes more) ∙ take_all (length more) more (omega arith)
+
+pub held_more : (bytes more : List ℕ) (ls : List Leaf) → AreInside bytes ls → held (bytes ++ more) ls ≡ held bytes ls
+held_more bytes more [] h = refl
+held_more bytes more (l ∷ ls) h =
+    let text = slice_kept l.from l.len bytes more (h 0 l (omega arith)) in
+    ap (λ (t : List ℕ). record { place = l.place; text = t } ∷ held (bytes ++ more) ls) text ∙ ap (λ (hs : List Held). held_at bytes l ∷ hs) (held_more bytes more ls (All-tail (IsInside bytes) l ls h))
+
+pub held_put : (bytes more new : List ℕ) (ls ms : List Leaf) (l : Leaf) → AreInside bytes ls → new ≡ bytes ++ more → ms ≡ ls ++ l ∷ [] → l.from ≡ length bytes → l.len ≡ length more → held new ms ≡ held bytes ls ++ record { place = l.place; text = more } ∷ []
+held_put bytes more new ls ms l h b e from len =
+    let here : held_at (bytes ++ more) l ≡ record { place = l.place; text = more } =
+    ap (λ (t : List ℕ). at_place t) (ap (λ (k : ℕ). take l.len (drop k (bytes ++ more))) from ∙ ap (λ (n : ℕ). take n (drop (length bytes) (bytes ++ more))) len ∙ slice_put bytes more) in
+    rw (b, e) (map-append (held_at (bytes ++ more)) ls (l ∷ []) ∙ ap (λ (hs : List Held). hs ++ held_at (bytes ++ more) l ∷ []) (held_more bytes more ls h) ∙ ap (λ (x : Held). held bytes ls ++ x ∷ []) here)
+  where
+    at_place : List ℕ → Held
+    at_place t = record { place = l.place; text = t }
+
+pub length-held : (bytes : List ℕ) (ls : List Leaf) → length (held bytes ls) ≡ length ls
+length-held bytes [] = refl
+length-held bytes (l ∷ ls) = omega (arith, length-held bytes ls)

@@ -1,0 +1,107 @@
+//! The texts of a segment: all in one buffer, so that none takes memory of its own.
+
+use crate::leaves::{Leaf, Leaves};
+use crate::place::Place;
+use crate::values::Values;
+use std::alloc::{AllocError, Global};
+use std::marker::Model;
+
+/// Texts at places, in the order in which they were put: leaves, and the one buffer in which their texts lie.
+#[derive(Debug, Drop)]
+pub(crate) struct SegmentTexts {
+    leaves: Leaves,
+    bytes: Vec<u8>,
+}
+
+impl Model for SegmentTexts {
+    ghost use Rattle.std.specs.Prelude.{List};
+    ghost use Rattle.std.specs.Coded.{coded_list};
+    ghost use Rattle.gw_er7.specs.View.{Held, held_code, held, AreInside};
+
+    ghost Value = { List Held };
+
+    ghost coded = { coded_list held_code };
+
+    ghost view = { λ t. held t.bytes.items t.leaves };
+
+    ghost invariant = { λ t. AreInside t.bytes.items t.leaves };
+}
+
+impl SegmentTexts {
+    ghost use Rattle.std.specs.Prelude.{◌≡◌, ◌++◌, ◌∷◌, [], length, OnOk, OnErr, IfOk};
+    ghost use Rattle.std.specs.List.Sorted.{IsPermutation};
+    ghost use Rattle.gw_er7.specs.View.{held, AreInside, AreSorted};
+
+    /// No text. It takes no memory.
+    pub(crate) fn new(alloc: Global) -> SegmentTexts
+        ensures { result ≡ [] }
+    {
+        SegmentTexts {
+            leaves: Leaves::new(alloc),
+            bytes: Vec::new(alloc),
+        }
+    }
+
+    /// The texts that these leaves say of these bytes, in memory that fits them.
+    pub(crate) fn fitted(
+        alloc: Global,
+        leaves: &Leaves,
+        bytes: &[u8],
+    ) -> Result<SegmentTexts, AllocError>
+        requires { AreInside bytes.now leaves.now }
+        ensures { IfOk result (λ texts. texts ≡ held bytes.now leaves.now) }
+    {
+        let leaves = leaves.copy(alloc)?;
+        let bytes = Vec::from_slice(alloc, bytes)?;
+        Ok(SegmentTexts { leaves, bytes })
+    }
+
+    /// The same texts once more, in memory that fits them.
+    pub(crate) fn copy(&self, alloc: Global) -> Result<SegmentTexts, AllocError>
+        ensures { IfOk result (λ texts. texts ≡ self.now) }
+    {
+        SegmentTexts::fitted(alloc, &self.leaves, &self.bytes)
+    }
+
+    /// Puts a text at a place, behind the others.
+    pub(crate) fn put(&mut self, place: Place, text: &[u8]) -> Result<(), AllocError>
+        ensures ok { OnOk result (self.new ≡ self.old ++ record { place = place; text = text.now } ∷ []) }
+        ensures err { OnErr result (self.new ≡ self.old) }
+    {
+        let from = self.bytes.len();
+        self.bytes.extend_from_slice(text)?;
+        let leaf = Leaf {
+            place,
+            from,
+            len: text.len(),
+        };
+        match self.leaves.push(leaf) {
+            Ok(()) => Ok(()),
+            Err(_) => {
+                self.bytes.truncate(from);
+                Err(AllocError)
+            }
+        }
+    }
+
+    /// Puts the texts in the order of their places. It takes no memory.
+    pub(crate) fn sort(&mut self)
+        ensures permutation { IsPermutation self.old self.new }
+        ensures sorted { AreSorted self.new }
+    {
+        self.leaves.sort();
+    }
+
+    pub(crate) fn len(&self) -> usize
+        ensures { result ≡ length self.now }
+    {
+        self.leaves.len()
+    }
+
+    /// The texts, lent.
+    pub(crate) fn lend(&self) -> Values<'_>
+        ensures { result ≡ self.now }
+    {
+        Values::of(&self.leaves, &self.bytes)
+    }
+}
