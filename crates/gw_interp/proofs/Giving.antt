@@ -1,15 +1,16 @@
 -- Parts that are given one after the other.
-use Rattle.std.proofs.Common.{get_or, ◌≡◌, ℕ, zero, suc, ◌+◌, ◌≤◌, ◌<◌, List, [], ◌∷◌, ◌++◌, refl, sym, ap, ◌∙◌, arith, length, map, drop, subst, append-nil, append_assoc}
+use Rattle.std.proofs.Common.{get_or, ◌≡◌, ℕ, ◌+◌, ◌<◌, List, [], ◌∷◌, ◌++◌, refl, sym, ap, ◌∙◌, length, map, drop, subst, append-nil, append_assoc}
+use Rattle.std.specs.Prelude.{flat_map}
 use Rattle.std.specs.List.{AllByRecursion}
-use Rattle.std.proofs.lemmas.List.{map-append, drop_more, drop_all}
+use Rattle.std.proofs.lemmas.List.{map-append, drop_more}
 use Rattle.gw_er7.specs.Message.{SegmentValue}
 use Rattle.gw_er7.specs.Building.{IsBegun}
-use Rattle.gw_validate.specs.Fitting.{OccValue}
 use Rattle.gw_interp.specs.Occurrences.{Occurrence}
-use Rattle.gw_interp.specs.Lent.{occurrence}
 use Rattle.gw_interp.specs.Meaning.{ForEach}
 use Rattle.gw_interp.specs.Ready.{IsOtherName, AreNames, MayBegin, Adds}
-use Rattle.gw_interp.proofs.Trees.{all_left}
+use Rattle.gw_interp.proofs.Trees.{all_left, all_right}
+use Rattle.gw_interp.proofs.Naming.{names_each}
+use Rattle.gw_interp.proofs.Lending.{flat_two}
 
 abbrev pub names_of : List SegmentValue → List (List ℕ)
 names_of = map (λ (s : SegmentValue). s.name)
@@ -59,38 +60,39 @@ begins_next Whole Rest names rest part next old now d split may =
     ∙ sym (append_assoc (names_of now) part next) in
     first_names (names_of now ++ part) next (subst AreNames same may)
 
--- ---- for each of the occurrences
+-- ---- for each of some occurrences
 
 pub next_drop : {X : Type 0} (xs : List X) (n : ℕ) (x : X) → n < length xs → x ≡ get_or xs n x → drop n xs ≡ x ∷ drop (n + 1) xs
 next_drop xs n x h is = drop_more xs n x h ∙ ap (λ y. y ∷ drop (n + 1) xs) (sym is)
 
-pub each_is : (Q : Occurrence → Type 0) (found : List OccValue) (n : ℕ) (o : OccValue) → n < length found → o ≡ get_or found n o → AllByRecursion Q (map occurrence found) → Q (occurrence o)
-each_is Q [] n o h is all = absurd (omega (arith, h))
-each_is Q (x ∷ found) zero o h is all = subst (λ p. Q (occurrence p)) (sym is) all.0
-each_is Q (x ∷ found) (suc n) o h is all = each_is Q found n o (omega (arith, h)) is all.1
+each_joined : (P : Occurrence → List SegmentValue → Type 0) (os more : List Occurrence) (front back : List SegmentValue) → ForEach P os front → ForEach P more back → ForEach P (os ++ more) (front ++ back)
+each_joined P [] more front back none h = subst (λ l. ForEach P more (l ++ back)) (sym none) h
+each_joined P (o ∷ os) more front back c h =
+    record { front = c.front; back = c.back ++ back; joined = ap (λ l. l ++ back) c.joined ∙ append_assoc c.front c.back back; here = c.here; there = each_joined P os more c.back back c.there h }
 
-module _ (P : Occurrence → List SegmentValue → Type 0) (names : List Occurrence → List (List ℕ)) (part : Occurrence → List (List ℕ)) (split : (o : Occurrence) (os : List Occurrence) → names (o ∷ os) ≡ part o ++ names os) where
-  -- the first n of the occurrences have what is given for them
-  abbrev pub AreGiven : List OccValue → ℕ → List SegmentValue → List SegmentValue → Type 0
-  AreGiven found n old now =
-      IsPartDone (ForEach P (map occurrence found)) (ForEach P (map occurrence (drop n found))) (names (map occurrence found)) (names (map occurrence (drop n found))) old now
+pub each_one : (P : Occurrence → List SegmentValue → Type 0) (o : Occurrence) (list : List SegmentValue) → P o list → ForEach P (o ∷ []) list
+each_one P o list h = record { front = list; back = []; joined = sym (append-nil list); here = h; there = refl }
 
-  pub none_given : (found : List OccValue) (old : List SegmentValue) → IsBegun old → AreGiven found 0 old old
-  none_given found old lawful = none_done (ForEach P (map occurrence found)) (names (map occurrence found)) old lawful
+module _ (P : Occurrence → List SegmentValue → Type 0) (May : Occurrence → Type 0) (names : Occurrence → List (List ℕ)) where
+  -- of all occurrences these are left; the others have what is given for them
+  pub record IsWalkDone (all rest : List Occurrence) (old now : List SegmentValue) : Type 0 where
+    pub done : IsPartDone (ForEach P all) (ForEach P rest) (flat_map names all) (flat_map names rest) old now
+    pub may : AllByRecursion May rest
 
-  next_names : (found : List OccValue) (n : ℕ) (o : OccValue) → n < length found → o ≡ get_or found n o → names (map occurrence (drop n found)) ≡ part (occurrence o) ++ names (map occurrence (drop (n + 1) found))
-  next_names found n o h is = ap (λ l. names (map occurrence l)) (next_drop found n o h is) ∙ split (occurrence o) (map occurrence (drop (n + 1) found))
+  pub none_walked : (all : List Occurrence) (old : List SegmentValue) → IsBegun old → AllByRecursion May all → IsWalkDone all all old old
+  none_walked all old lawful may = record { done = none_done (ForEach P all) (flat_map names all) old lawful; may = may }
 
-  pub given_begins : (found : List OccValue) (n : ℕ) (o : OccValue) (old now : List SegmentValue) → n < length found → o ≡ get_or found n o → AreGiven found n old now → MayBegin old (names (map occurrence found)) → MayBegin now (part (occurrence o))
-  given_begins found n o old now h is d may =
-      begins_next _ _ (names (map occurrence found)) (names (map occurrence (drop n found))) (part (occurrence o)) (names (map occurrence (drop (n + 1) found))) old now d (next_names found n o h is) may
+  pub next_begins : (all front rest : List Occurrence) (old now : List SegmentValue) → IsWalkDone all (front ++ rest) old now → MayBegin old (flat_map names all) → MayBegin now (flat_map names front)
+  next_begins all front rest old now d may =
+      begins_next (ForEach P all) (ForEach P (front ++ rest)) (flat_map names all) (flat_map names (front ++ rest)) (flat_map names front) (flat_map names rest) old now d.done (flat_two names front rest) may
 
-  pub one_more : (found : List OccValue) (n : ℕ) (o : OccValue) (old now new : List SegmentValue) → n < length found → o ≡ get_or found n o → ((list : List SegmentValue) → P (occurrence o) list → names_of list ≡ part (occurrence o)) → AreGiven found n old now → Adds (P (occurrence o)) now new → IsBegun new → AreGiven found (n + 1) old new
-  one_more found n o old now new h is named d a lawful =
-      more_done (ForEach P (map occurrence found)) (ForEach P (map occurrence (drop n found))) (ForEach P (map occurrence (drop (n + 1) found))) (P (occurrence o))
-      (names (map occurrence found)) (names (map occurrence (drop n found))) (part (occurrence o)) (names (map occurrence (drop (n + 1) found))) old now new d
-      (λ list back here there. subst (λ l. ForEach P (map occurrence l) (list ++ back)) (sym (next_drop found n o h is)) (record { front = list; back = back; joined = refl; here = here; there = there }))
-      named (next_names found n o h is) a lawful
+  pub next_walked : ((o : Occurrence) (list : List SegmentValue) → P o list → names_of list ≡ names o) → (all front rest : List Occurrence) (old now new : List SegmentValue) → IsWalkDone all (front ++ rest) old now → Adds (ForEach P front) now new → IsBegun new → IsWalkDone all rest old new
+  next_walked named all front rest old now new d a lawful =
+      record {
+        done = more_done (ForEach P all) (ForEach P (front ++ rest)) (ForEach P rest) (ForEach P front) (flat_map names all) (flat_map names (front ++ rest)) (flat_map names front) (flat_map names rest) old now new d.done
+            (each_joined P front rest) (names_each P names named front) (flat_two names front rest) a lawful;
+        may = all_right May front rest d.may;
+      }
 
-  pub all_given : (found : List OccValue) (n : ℕ) (old now : List SegmentValue) → length found ≤ n → AreGiven found n old now → Adds (ForEach P (map occurrence found)) old now
-  all_given found n old now h d = all_done _ _ _ _ old now d (subst (λ l. ForEach P (map occurrence l) []) (sym (drop_all n found h)) refl)
+  pub all_walked : (all : List Occurrence) (old now : List SegmentValue) → IsWalkDone all [] old now → Adds (ForEach P all) old now
+  all_walked all old now d = all_done _ _ _ _ old now d.done refl

@@ -1,11 +1,13 @@
 -- What the items of a level give, one after the other.
-use Rattle.std.proofs.Common.{get_or, ◌≡◌, ℕ, ◌+◌, ◌≤◌, ◌<◌, List, [], ◌∷◌, ◌++◌, refl, sym, ap, ◌∙◌, length, map, drop, subst, append-nil}
+use Rattle.std.proofs.Common.{get_or, ◌≡◌, ℕ, ◌+◌, ◌≤◌, ◌<◌, List, [], ◌∷◌, ◌++◌, refl, sym, ap, ◌∙◌, length, drop, subst, append-nil}
 use Rattle.std.specs.Prelude.{flat_map}
 use Rattle.std.specs.List.{AllByRecursion}
 use Rattle.std.proofs.lemmas.List.{drop_all}
 use Rattle.gw_er7.specs.Message.{SegmentValue}
 use Rattle.gw_er7.specs.Building.{IsBegun}
 use Rattle.gw_profile.specs.Shapes.{Forest}
+use Rattle.gw_profile.specs.Seen.{forest}
+use Rattle.gw_profile.specs.declared.node.Node.{Node}
 use Rattle.gw_validate.specs.Fitting.{OccValue}
 use Rattle.gw_maplang.specs.Shapes.{TableValue}
 use Rattle.gw_resolve.specs.declared.resolved.Item.{Item, Segment, Group, Flat, Group', Flat'}
@@ -16,23 +18,16 @@ use Rattle.gw_resolve.specs.Resolved.{Items, no_items, group_item, flat_item}
 use Rattle.gw_resolve.specs.Seen.{place, with_item, all_items}
 use Rattle.gw_resolve.proofs.Rows.{group_items, flat_items}
 use Rattle.gw_interp.specs.Occurrences.{Occurrence, at_place}
-use Rattle.gw_interp.specs.Lent.{occurrence, scope}
+use Rattle.gw_interp.specs.Lent.{scope}
 use Rattle.gw_interp.specs.Filling.{message_of}
 use Rattle.gw_interp.specs.Meaning.{ForEach, Give}
 use Rattle.gw_interp.specs.Ready.{MayGive, names_given, MayBegin, Adds}
-use Rattle.gw_interp.specs.Within.{IsWithin}
+use Rattle.gw_interp.specs.Parts.{items_names, MayItems, ItemsGive}
 use Rattle.gw_interp.proofs.Naming.{given_names}
 use Rattle.gw_interp.proofs.Giving.{IsPartDone, none_done, more_done, all_done, begins_next, next_drop}
 
 pub adds_as : (P Q : List SegmentValue → Type 0) (old new : List SegmentValue) → ((list : List SegmentValue) → P list → Q list) → Adds P old new → Adds Q old new
 adds_as P Q old new so a = record { list = a.list; joined = a.joined; holds = so a.list a.holds }
-
--- what is said of the scope within is said of the scope outside with its innermost
-pub inwards : (F : List SegmentValue → List Occurrence → Type 0) (outer : List OccValue) (each : OccValue) (inner : List OccValue) → IsWithin outer each inner → F (message_of outer) (occurrence each ∷ scope outer) → F (message_of inner) (scope inner)
-inwards F outer each inner is h = subst (λ m. F m (scope inner)) (sym is.message) (subst (F (message_of outer)) (sym is.scope_is) h)
-
-pub outwards : (F : List SegmentValue → List Occurrence → Type 0) (outer : List OccValue) (each : OccValue) (inner : List OccValue) → IsWithin outer each inner → F (message_of inner) (scope inner) → F (message_of outer) (occurrence each ∷ scope outer)
-outwards F outer each inner is h = subst (F (message_of outer)) is.scope_is (subst (λ m. F m (scope inner)) is.message h)
 
 module _ (m : List SegmentValue) (os : List Occurrence) (target : Forest) (tables : List TableValue) where
   -- ---- an item, and those behind it
@@ -102,66 +97,82 @@ module _ (m : List SegmentValue) (os : List Occurrence) (target : Forest) (table
 
   -- ---- groups and flats
 
-  module _ (item : Item) (g : GroupItem) (inner : Forest) (is : List Item) (found : List OccValue) (same : item ≡ Group g) (inner_is : inner ≡ nodes_of_child target g.child) (is_its : is ≡ g.items.items) (found_is : map occurrence found ≡ at_place os (place g.place)) where
+  module _ (item : Item) (g : GroupItem) (inner : Forest) (is : List Item) (same : item ≡ Group g) (inner_is : inner ≡ nodes_of_child target g.child) (is_its : is ≡ g.items.items) where
     group_whole : with_item tables item no_items ≡ group_item (record { line = g.line; child = g.child; place = place g.place }) (all_items tables is) no_items
     group_whole =
         ap (λ i. with_item tables i no_items) same ∙ group_items tables g no_items
         ∙ ap (λ l. group_item (record { line = g.line; child = g.child; place = place g.place }) (all_items tables l) no_items) (sym is_its)
 
-    pub group_begins : (old : List SegmentValue) → MayBegin old (names_given os target (with_item tables item no_items)) → MayBegin old (flat_map (λ o. names_given (o ∷ os) inner (all_items tables is)) (map occurrence found))
+    pub group_begins : (old : List SegmentValue) → MayBegin old (names_given os target (with_item tables item no_items)) → MayBegin old (flat_map (λ o. names_given (o ∷ os) inner (all_items tables is)) (at_place os (place g.place)))
     group_begins old may =
-        subst (λ f. MayBegin old (flat_map (λ o. names_given (o ∷ os) f (all_items tables is)) (map occurrence found))) (sym inner_is)
-        (subst (λ l. MayBegin old (flat_map (λ o. names_given (o ∷ os) (nodes_of_child target g.child) (all_items tables is)) l)) (sym found_is)
-        (subst (MayBegin old) (ap (names_given os target) group_whole ∙ append-nil _) may))
+        subst (λ f. MayBegin old (flat_map (λ o. names_given (o ∷ os) f (all_items tables is)) (at_place os (place g.place)))) (sym inner_is)
+        (subst (MayBegin old) (ap (names_given os target) group_whole ∙ append-nil _) may)
 
-    pub group_may : MayGive m os target (with_item tables item no_items) → AllByRecursion (λ o. MayGive m (o ∷ os) inner (all_items tables is)) (map occurrence found)
+    pub group_may : MayGive m os target (with_item tables item no_items) → AllByRecursion (λ o. MayGive m (o ∷ os) inner (all_items tables is)) (at_place os (place g.place))
     group_may may =
-        subst (λ f. AllByRecursion (λ o. MayGive m (o ∷ os) f (all_items tables is)) (map occurrence found)) (sym inner_is)
-        (subst (λ l. AllByRecursion (λ o. MayGive m (o ∷ os) (nodes_of_child target g.child) (all_items tables is)) l) (sym found_is)
-        (subst (MayGive m os target) group_whole may).0)
+        subst (λ f. AllByRecursion (λ o. MayGive m (o ∷ os) f (all_items tables is)) (at_place os (place g.place))) (sym inner_is)
+        (subst (MayGive m os target) group_whole may).0
 
-    group_given : (list : List SegmentValue) → ForEach (λ o. Give m (o ∷ os) inner (all_items tables is)) (map occurrence found) list → Give m os target (with_item tables item no_items) list
+    group_given : (list : List SegmentValue) → ForEach (λ o. Give m (o ∷ os) inner (all_items tables is)) (at_place os (place g.place)) list → Give m os target (with_item tables item no_items) list
     group_given list each =
         subst (λ f. Give m os target f list) (sym group_whole)
         (record {
           front = list;
           back = [];
           joined = sym (append-nil list);
-          here =
-              subst (λ l. ForEach (λ o. Give m (o ∷ os) (nodes_of_child target g.child) (all_items tables is)) l list) found_is
-              (subst (λ f. ForEach (λ o. Give m (o ∷ os) f (all_items tables is)) (map occurrence found) list) inner_is each);
+          here = subst (λ f. ForEach (λ o. Give m (o ∷ os) f (all_items tables is)) (at_place os (place g.place)) list) inner_is each;
           there = refl;
         })
 
-    pub group_gives : (old new : List SegmentValue) → Adds (ForEach (λ o. Give m (o ∷ os) inner (all_items tables is)) (map occurrence found)) old new → Adds (Give m os target (with_item tables item no_items)) old new
+    pub group_gives : (old new : List SegmentValue) → Adds (ForEach (λ o. Give m (o ∷ os) inner (all_items tables is)) (at_place os (place g.place))) old new → Adds (Give m os target (with_item tables item no_items)) old new
     group_gives old new = adds_as _ _ old new group_given
 
-  module _ (item : Item) (f : FlatItem) (is : List Item) (found : List OccValue) (same : item ≡ Flat f) (is_its : is ≡ f.items.items) (found_is : map occurrence found ≡ at_place os (place f.place)) where
+  module _ (item : Item) (f : FlatItem) (is : List Item) (same : item ≡ Flat f) (is_its : is ≡ f.items.items) where
     flat_whole : with_item tables item no_items ≡ flat_item (record { line = f.line; place = place f.place }) (all_items tables is) no_items
     flat_whole =
         ap (λ i. with_item tables i no_items) same ∙ flat_items tables f no_items
         ∙ ap (λ l. flat_item (record { line = f.line; place = place f.place }) (all_items tables l) no_items) (sym is_its)
 
-    pub flat_begins : (old : List SegmentValue) → MayBegin old (names_given os target (with_item tables item no_items)) → MayBegin old (flat_map (λ o. names_given (o ∷ os) target (all_items tables is)) (map occurrence found))
-    flat_begins old may =
-        subst (λ l. MayBegin old (flat_map (λ o. names_given (o ∷ os) target (all_items tables is)) l)) (sym found_is)
-        (subst (MayBegin old) (ap (names_given os target) flat_whole ∙ append-nil _) may)
+    pub flat_begins : (old : List SegmentValue) → MayBegin old (names_given os target (with_item tables item no_items)) → MayBegin old (flat_map (λ o. names_given (o ∷ os) target (all_items tables is)) (at_place os (place f.place)))
+    flat_begins old may = subst (MayBegin old) (ap (names_given os target) flat_whole ∙ append-nil _) may
 
-    pub flat_may : MayGive m os target (with_item tables item no_items) → AllByRecursion (λ o. MayGive m (o ∷ os) target (all_items tables is)) (map occurrence found)
-    flat_may may =
-        subst (λ l. AllByRecursion (λ o. MayGive m (o ∷ os) target (all_items tables is)) l) (sym found_is)
-        (subst (MayGive m os target) flat_whole may).0
+    pub flat_may : MayGive m os target (with_item tables item no_items) → AllByRecursion (λ o. MayGive m (o ∷ os) target (all_items tables is)) (at_place os (place f.place))
+    flat_may may = (subst (MayGive m os target) flat_whole may).0
 
-    flat_given : (list : List SegmentValue) → ForEach (λ o. Give m (o ∷ os) target (all_items tables is)) (map occurrence found) list → Give m os target (with_item tables item no_items) list
+    flat_given : (list : List SegmentValue) → ForEach (λ o. Give m (o ∷ os) target (all_items tables is)) (at_place os (place f.place)) list → Give m os target (with_item tables item no_items) list
     flat_given list each =
         subst (λ i. Give m os target i list) (sym flat_whole)
-        (record {
-          front = list;
-          back = [];
-          joined = sym (append-nil list);
-          here = subst (λ l. ForEach (λ o. Give m (o ∷ os) target (all_items tables is)) l list) found_is each;
-          there = refl;
-        })
+        (record { front = list; back = []; joined = sym (append-nil list); here = each; there = refl })
 
-    pub flat_gives : (old new : List SegmentValue) → Adds (ForEach (λ o. Give m (o ∷ os) target (all_items tables is)) (map occurrence found)) old new → Adds (Give m os target (with_item tables item no_items)) old new
+    pub flat_gives : (old new : List SegmentValue) → Adds (ForEach (λ o. Give m (o ∷ os) target (all_items tables is)) (at_place os (place f.place))) old new → Adds (Give m os target (with_item tables item no_items)) old new
     flat_gives old new = adds_as _ _ old new flat_given
+
+-- ---- a level, where these occurrences are walked in the program
+
+-- the first n items have given, and what is walked is as it was
+pub record IsItemsDone (nodes : List Node) (tables : List TableValue) (is : List Item) (os : List OccValue) (n : ℕ) (old now : List SegmentValue) (walked : List OccValue) : Type 0 where
+  pub kept : walked ≡ os
+  pub level : IsLevelDone (message_of os) (scope os) (forest nodes) tables is n old now
+
+module _ (nodes : List Node) (tables : List TableValue) (is : List Item) (os : List OccValue) where
+  pub none_item : (old : List SegmentValue) → IsBegun old → MayItems nodes (all_items tables is) os → IsItemsDone nodes tables is os 0 old old os
+  none_item old lawful may = record { kept = refl; level = none_level (message_of os) (scope os) (forest nodes) tables is old lawful may }
+
+  module _ (n : ℕ) (i : Item) (old now : List SegmentValue) (walked : List OccValue) (h : n < length is) (e : i ≡ get_or is n i) (d : IsItemsDone nodes tables is os n old now walked) where
+    pub next_begins : MayBegin old (items_names nodes (all_items tables is) os) → MayBegin now (items_names nodes (with_item tables i no_items) walked)
+    next_begins may =
+        subst (λ w. MayBegin now (items_names nodes (with_item tables i no_items) w)) (sym d.kept)
+        (item_begins (message_of os) (scope os) (forest nodes) tables is n i old now h e d.level may)
+
+    pub next_may : MayItems nodes (with_item tables i no_items) walked
+    next_may = subst (MayItems nodes (with_item tables i no_items)) (sym d.kept) (item_may (message_of os) (scope os) (forest nodes) tables is n i old now h e d.level)
+
+    pub next_item : (new : List SegmentValue) (walked_new : List OccValue) → walked_new ≡ walked → Adds (ItemsGive nodes (with_item tables i no_items) walked) now new → IsBegun new → IsItemsDone nodes tables is os (n + 1) old new walked_new
+    next_item new walked_new same a lawful =
+        record {
+          kept = same ∙ d.kept;
+          level = item_more (message_of os) (scope os) (forest nodes) tables is n i old now new h e d.level (subst (λ w. Adds (ItemsGive nodes (with_item tables i no_items) w) now new) d.kept a) lawful;
+        }
+
+  pub all_given : (n : ℕ) (old now : List SegmentValue) (walked : List OccValue) → length is ≤ n → IsItemsDone nodes tables is os n old now walked → Adds (ItemsGive nodes (all_items tables is) os) old now
+  all_given n old now walked h d = level_given (message_of os) (scope os) (forest nodes) tables is n old now h d.level

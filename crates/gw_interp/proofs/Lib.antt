@@ -40,6 +40,7 @@ mod Imaged
 mod Inner
 mod Giving
 mod Levels
-mod Ones
+mod Weights
+mod Eachs
 mod Turns
 mod Translated

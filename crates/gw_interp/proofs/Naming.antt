@@ -31,7 +31,7 @@ names_of = map (λ (s : SegmentValue). s.name)
 -- ---- whatever is given has the names that are given
 
 module _ (Part : Occurrence → List SegmentValue → Type 0) (names : Occurrence → List (List ℕ)) (each : (o : Occurrence) (list : List SegmentValue) → Part o list → names_of list ≡ names o) where
-  names_each : (os : List Occurrence) (list : List SegmentValue) → ForEach Part os list → names_of list ≡ flat_map names os
+  pub names_each : (os : List Occurrence) (list : List SegmentValue) → ForEach Part os list → names_of list ≡ flat_map names os
   names_each [] list h = ap names_of h
   names_each (o ∷ os) list h =
       ap names_of h.joined ∙ map-append (λ (s : SegmentValue). s.name) h.front h.back

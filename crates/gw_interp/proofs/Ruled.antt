@@ -160,11 +160,5 @@ module _ (w : Walked) (leaves : List At) (field : ℕ) where
 -- ---- what is read in a repetition
 
 module _ (w : Walked) (from : Reference) (rep : ℕ) where
-  pub walks_nothing : texts.empty ≡ texts_at w.message w.scope from.place → (comp sub : ℕ) → [] ≡ (walking w from rep).current comp sub
-  walks_nothing gone comp sub = sym (no_text_in from.field rep comp sub) ∙ ap (λ m. text_of m from.field rep comp sub) gone
-
-  pub walks_in : (m : Texts) → m ≡ texts_at w.message w.scope from.place → (comp sub : ℕ) → text_of m from.field rep comp sub ≡ (walking w from rep).current comp sub
-  walks_in m is comp sub = ap (λ t. text_of t from.field rep comp sub) is
-
-  pub same_walk : (current : ℕ → ℕ → List ℕ) → ((comp sub : ℕ) → current comp sub ≡ (walking w from rep).current comp sub) → walking w from rep ≡ record w { current = current }
-  same_walk current e = λ i. record w { current = λ comp sub. sym (e comp sub) i }
+  pub same_walk : (m : Texts) → m ≡ texts_at w.message w.scope from.place → walking w from rep ≡ record w { current = λ comp sub. text_of m from.field rep comp sub }
+  same_walk m is = λ i. record w { current = λ comp sub. text_of (sym is i) from.field rep comp sub }

@@ -7,4 +7,4 @@ pub mod Putting
 pub mod Filling
 pub mod Ready
 pub mod Making
-pub mod Within
+pub mod Parts

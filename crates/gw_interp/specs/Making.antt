@@ -1,5 +1,5 @@
 -- Texts that are put into the last segment at all places of a kind: of a repetition, of a field.
-use Rattle.std.specs.Prelude.{◌≡◌, ℕ, ◌<◌, List, [], ◌∷◌, length, map, None, unwrap_or}
+use Rattle.std.specs.Prelude.{◌≡◌, ℕ, ◌<◌, List, [], ◌∷◌, length, map, Some, None, unwrap_or}
 use Rattle.std.specs.List.{AllByRecursion}
 use Rattle.std.specs.FinMap as texts
 use Rattle.gw_er7.specs.Message.{Texts, text_of, SegmentValue, first_field, IsEntry}
@@ -7,10 +7,15 @@ use Rattle.gw_er7.specs.Building.{IsBegun, with_last}
 use Rattle.gw_validate.specs.Fitting.{OccValue}
 use Rattle.gw_maplang.specs.Among.{Among, Distinct}
 use Rattle.gw_resolve.specs.Lawful.{LawfulMaking, places}
+use Rattle.gw_maplang.specs.Shapes.{TableValue}
+use Rattle.gw_resolve.specs.declared.resolved.At as declared
+use Rattle.gw_resolve.specs.Seen.{at_leaf}
 use Rattle.gw_resolve.specs.Resolved.{At, leaf_at, Making, Rule}
 use Rattle.gw_interp.specs.declared.copying.Spot.{Spot}
+use Rattle.gw_interp.specs.declared.reading.Repetition.{Repetition}
 use Rattle.gw_interp.specs.Lent.{scope}
 use Rattle.gw_interp.specs.Meaning.{Walked, walked, AtMeans, MakingMeans}
+use Rattle.gw_interp.specs.Sourced.{current_texts}
 use Rattle.gw_interp.specs.Putting.{last_name, last_texts}
 use Rattle.gw_interp.specs.Filling.{message_of}
 use Rattle.gw_interp.specs.Ready.{NoFaults, NoFaultIn}
@@ -67,10 +72,17 @@ Copies m from rep comp sub text = text ≡ text_of m from rep comp sub
 abbrev pub seen_from : List OccValue → Walked
 seen_from os = walked (message_of os) (scope os)
 
+-- with the texts of a repetition
+abbrev pub in_repetition : List OccValue → Repetition → Walked
+in_repetition os r = record (seen_from os) { current = current_texts (Some r) }
+
 -- ---- leaves of a repetition
 
 abbrev pub rep_key : ℕ → ℕ → ℕ × ℕ → List ℕ
 rep_key field rep p = field ∷ rep ∷ p.0 ∷ p.1 ∷ []
+
+abbrev pub at_leaves : List TableValue → List declared.At → List At
+at_leaves tables leaves = map (at_leaf tables) leaves
 
 abbrev pub LeavesMean : Walked → List At → ℕ × ℕ → List ℕ → Type 0
 LeavesMean w leaves p text = AtMeans w (leaf_at leaves p.0 p.1) text

@@ -1,40 +1,35 @@
 //! What the items of a map give, in their order.
-ghost use Rattle.std.specs.Prelude.{◌≡◌, [], ◌∷◌, map, flat_map, option_map, unwrap_or, OnOk, IfOk};
-ghost use Rattle.std.specs.List.{AllByRecursion};
+ghost use Rattle.std.specs.Prelude.{◌≡◌, [], ◌∷◌, unwrap_or, OnOk};
 ghost use Rattle.gw_er7.specs.Building.{IsBegun};
 ghost use Rattle.gw_profile.specs.Shapes.{nothing};
 ghost use Rattle.gw_profile.specs.Seen.{forest, node_forest};
 ghost use Rattle.gw_resolve.specs.Places.{child, name_of};
 ghost use Rattle.gw_resolve.specs.Resolved.{no_items};
-ghost use Rattle.gw_resolve.specs.Seen.{place as seen_place, rule as seen_rule, with_item, all_items};
+ghost use Rattle.gw_resolve.specs.Seen.{with_item, all_items};
+ghost use Rattle.gw_interp.specs.Occurrences.{below};
 ghost use Rattle.gw_interp.specs.Lent.{occurrence, scope as walked_in, AreOf};
-ghost use Rattle.gw_interp.specs.Meaning.{walked, IsOne, IsImage, ForEach, Segments, Give};
 ghost use Rattle.gw_interp.specs.Filling.{message_of};
-ghost use Rattle.gw_interp.specs.Making.{seen_from};
-ghost use Rattle.gw_interp.specs.Ready.{MayImage, MaySegments, MayGive, names_if, names_given, MayBegin, Adds};
-ghost use Rattle.gw_interp.specs.Within.{IsWithin};
+ghost use Rattle.gw_interp.specs.Ready.{MayBegin, Adds};
+ghost use Rattle.gw_interp.specs.Parts.{items_names, MayItems, ItemsGive, found_at, node_name, segments_names};
+ghost use Rattle.gw_interp.specs.Parts.{MaySegment, GivesSegment, MaySegmentsOf, SegmentsOf, part_names, MayPart, PartGives};
+ghost use Rattle.gw_interp.specs.Parts.{names_within, MayWithin, GivesWithin, each_names, MayEach, EachGives};
 
-use crate::places::at_place;
+use crate::places::walked_at;
 use crate::segments::put_segment;
 use gw_er7::Builder;
 use gw_maplang::Map;
 use gw_profile::Node;
-use gw_resolve::{Item, SegmentItem, nodes_within};
+use gw_resolve::{Item, Place, SegmentItem, nodes_within};
 use gw_validate::Occ;
-use std::alloc::{AllocError, Global};
+use std::alloc::AllocError;
 
-// What is walked within an occurrence.
-fn within<'a>(alloc: Global, scope: &[Occ<'a>], each: &Occ<'a>) -> Result<Vec<Occ<'a>>, AllocError>
-    requires of { AreOf (message_of scope.now) scope.now }
-    requires each { each.now.message ≡ message_of scope.now }
-    ensures { IfOk result (λ inner. IsWithin scope.now each.now inner.items) }
-{
-    let mut inner = Vec::new(alloc);
-    for outer in scope {
-        inner.push(outer.again())?;
-    }
-    inner.push(each.again())?;
-    Ok(inner)
+/// What is made within each occurrence at a place, for these nodes of the target.
+#[derive(Drop)]
+pub(crate) enum Part<'a> {
+    /// The segment of an item.
+    OneSegment(&'a [Node], &'a SegmentItem),
+    /// What items give.
+    Level(&'a [Node], &'a [Item]),
 }
 
 // The name of a node that is a segment.
@@ -67,9 +62,9 @@ fn put_one<'a>(
 ) -> Result<(), AllocError>
     requires of { AreOf (message_of scope.now) scope.now }
     requires lawful { IsBegun builder.old }
-    requires begin { MayBegin builder.old (name_of (child (forest nodes.now) item.now.child) ∷ []) }
-    requires may { MayImage (seen_from scope.now) (name_of (child (forest nodes.now) item.now.child)) (map (seen_rule rows.now.tables) item.now.rules.items) }
-    ensures adds { OnOk result (Adds (IsOne (IsImage (seen_from scope.now) (name_of (child (forest nodes.now) item.now.child)) (map (seen_rule rows.now.tables) item.now.rules.items))) builder.old builder.new) }
+    requires begin { MayBegin builder.old (node_name nodes.now item.now ∷ []) }
+    requires may { MaySegment rows.now.tables nodes.now item.now scope.now }
+    ensures adds { OnOk result (Adds (GivesSegment rows.now.tables nodes.now item.now scope.now) builder.old builder.new) }
     ensures lawful { OnOk result (IsBegun builder.new) }
 {
     let Some(name) = name_at(nodes, item.child) else {
@@ -78,109 +73,162 @@ fn put_one<'a>(
     put_segment(rows, scope, builder, name, &item.rules)
 }
 
-// A segment for each of the occurrences.
-fn put_ones<'a>(
-    alloc: Global,
+// Makes a part, where these occurrences are walked.
+#[cycle(items)]
+fn put_part<'a>(
     rows: &'a Map,
-    scope: &[Occ<'a>],
+    scope: &mut Vec<Occ<'a>>,
     builder: &mut Builder,
-    nodes: &[Node],
-    item: &'a SegmentItem,
-    found: &[Occ<'a>],
+    part: &Part<'a>,
 ) -> Result<(), AllocError>
-    requires of { AreOf (message_of scope.now) scope.now }
-    requires found { AreOf (message_of scope.now) found.now }
+    requires of { AreOf (message_of scope.old.items) scope.old.items }
     requires lawful { IsBegun builder.old }
-    requires begin { MayBegin builder.old (map (λ o. name_of (child (forest nodes.now) item.now.child)) (map occurrence found.now)) }
-    requires may { AllByRecursion (λ o. MayImage (walked (message_of scope.now) (o ∷ walked_in scope.now)) (name_of (child (forest nodes.now) item.now.child)) (map (seen_rule rows.now.tables) item.now.rules.items)) (map occurrence found.now) }
-    ensures adds { OnOk result (Adds (ForEach (λ o. IsOne (IsImage (walked (message_of scope.now) (o ∷ walked_in scope.now)) (name_of (child (forest nodes.now) item.now.child)) (map (seen_rule rows.now.tables) item.now.rules.items))) (map occurrence found.now)) builder.old builder.new) }
+    requires begin { MayBegin builder.old (part_names rows.now.tables part.now (walked_in scope.old.items)) }
+    requires may { MayPart rows.now.tables part.now (message_of scope.old.items) (walked_in scope.old.items) }
+    ensures kept { scope.new.items ≡ scope.old.items }
+    ensures adds { OnOk result (Adds (PartGives rows.now.tables part.now (message_of scope.old.items) (walked_in scope.old.items)) builder.old builder.new) }
     ensures lawful { OnOk result (IsBegun builder.new) }
 {
-    for each in found {
-        let inner = within(alloc, scope, each)?;
-        put_one(rows, &inner, builder, nodes, item)?;
+    match part {
+        Part::OneSegment(nodes, item) => put_one(rows, scope, builder, nodes, item),
+        Part::Level(nodes, items) => put_items(rows, scope, builder, nodes, items),
     }
-    Ok(())
+}
+
+// Makes a part within an occurrence, which is walked meanwhile, and no longer.
+#[cycle(items)]
+fn enter<'a>(
+    rows: &'a Map,
+    scope: &mut Vec<Occ<'a>>,
+    builder: &mut Builder,
+    part: &Part<'a>,
+    each: &Occ<'a>,
+) -> Result<(), AllocError>
+    requires of { AreOf (message_of scope.old.items) scope.old.items }
+    requires each { each.now.message ≡ message_of scope.old.items }
+    requires lawful { IsBegun builder.old }
+    requires begin { MayBegin builder.old (names_within rows.now.tables part.now scope.old.items (occurrence each.now)) }
+    requires may { MayWithin rows.now.tables part.now scope.old.items (occurrence each.now) }
+    ensures kept { scope.new.items ≡ scope.old.items }
+    ensures adds { OnOk result (Adds (GivesWithin rows.now.tables part.now scope.old.items (occurrence each.now)) builder.old builder.new) }
+    ensures lawful { OnOk result (IsBegun builder.new) }
+{
+    let depth = scope.len();
+    scope.push(each.again())?;
+    let put = put_part(rows, scope, builder, part);
+    scope.truncate(depth);
+    put
+}
+
+// Makes a part within each of the occurrences where the steps lead from this one.
+#[cycle(items)]
+fn put_below<'a>(
+    rows: &'a Map,
+    scope: &mut Vec<Occ<'a>>,
+    builder: &mut Builder,
+    part: &Part<'a>,
+    from: &Occ<'a>,
+    steps: &[usize],
+) -> Result<(), AllocError>
+    requires of { AreOf (message_of scope.old.items) scope.old.items }
+    requires from { from.now.message ≡ message_of scope.old.items }
+    requires lawful { IsBegun builder.old }
+    requires begin { MayBegin builder.old (each_names rows.now.tables part.now scope.old.items (below steps.now (occurrence from.now))) }
+    requires may { MayEach rows.now.tables part.now scope.old.items (below steps.now (occurrence from.now)) }
+    ensures kept { scope.new.items ≡ scope.old.items }
+    ensures adds { OnOk result (Adds (EachGives rows.now.tables part.now scope.old.items (below steps.now (occurrence from.now))) builder.old builder.new) }
+    ensures lawful { OnOk result (IsBegun builder.new) }
+{
+    match steps {
+        [] => enter(rows, scope, builder, part, from),
+        [child, later @ ..] => {
+            if *child >= from.children() {
+                return Ok(());
+            }
+            for k in 0..from.count(*child) {
+                let each = from.child(*child, k);
+                put_below(rows, scope, builder, part, &each, later)?;
+            }
+            Ok(())
+        }
+    }
+}
+
+// Makes a part within each of the occurrences at a place, in the order of the message.
+#[cycle(items)]
+fn put_each<'a>(
+    rows: &'a Map,
+    scope: &mut Vec<Occ<'a>>,
+    builder: &mut Builder,
+    part: &Part<'a>,
+    place: &Place,
+) -> Result<(), AllocError>
+    requires of { AreOf (message_of scope.old.items) scope.old.items }
+    requires lawful { IsBegun builder.old }
+    requires begin { MayBegin builder.old (each_names rows.now.tables part.now scope.old.items (found_at scope.old.items place.now)) }
+    requires may { MayEach rows.now.tables part.now scope.old.items (found_at scope.old.items place.now) }
+    ensures kept { scope.new.items ≡ scope.old.items }
+    ensures adds { OnOk result (Adds (EachGives rows.now.tables part.now scope.old.items (found_at scope.old.items place.now)) builder.old builder.new) }
+    ensures lawful { OnOk result (IsBegun builder.new) }
+{
+    match walked_at(scope, place.out) {
+        None => Ok(()),
+        Some(from) => put_below(rows, scope, builder, part, &from, &place.steps),
+    }
 }
 
 // The segments of an item.
+#[cycle(items)]
 fn put_segments<'a>(
-    alloc: Global,
     rows: &'a Map,
-    scope: &[Occ<'a>],
+    scope: &mut Vec<Occ<'a>>,
     builder: &mut Builder,
-    nodes: &[Node],
+    nodes: &'a [Node],
     item: &'a SegmentItem,
 ) -> Result<(), AllocError>
-    requires of { AreOf (message_of scope.now) scope.now }
+    requires of { AreOf (message_of scope.old.items) scope.old.items }
     requires lawful { IsBegun builder.old }
-    requires begin { MayBegin builder.old (names_if (walked_in scope.now) (name_of (child (forest nodes.now) item.now.child)) (option_map seen_place item.now.place)) }
-    requires may { MaySegments (message_of scope.now) (walked_in scope.now) (name_of (child (forest nodes.now) item.now.child)) (map (seen_rule rows.now.tables) item.now.rules.items) (option_map seen_place item.now.place) }
-    ensures adds { OnOk result (Adds (Segments (message_of scope.now) (walked_in scope.now) (name_of (child (forest nodes.now) item.now.child)) (map (seen_rule rows.now.tables) item.now.rules.items) (option_map seen_place item.now.place)) builder.old builder.new) }
+    requires begin { MayBegin builder.old (segments_names nodes.now item.now scope.old.items) }
+    requires may { MaySegmentsOf rows.now.tables nodes.now item.now scope.old.items }
+    ensures kept { scope.new.items ≡ scope.old.items }
+    ensures adds { OnOk result (Adds (SegmentsOf rows.now.tables nodes.now item.now scope.old.items) builder.old builder.new) }
     ensures lawful { OnOk result (IsBegun builder.new) }
 {
     match &item.place {
         None => put_one(rows, scope, builder, nodes, item),
         Some(place) => {
-            let found = at_place(alloc, scope, place)?;
-            put_ones(alloc, rows, scope, builder, nodes, item, &found)
+            let part = Part::OneSegment(nodes, item);
+            put_each(rows, scope, builder, &part, place)
         }
     }
-}
-
-// What items give for each of the occurrences.
-#[cycle(items)]
-fn put_each<'a>(
-    alloc: Global,
-    rows: &'a Map,
-    scope: &[Occ<'a>],
-    builder: &mut Builder,
-    nodes: &[Node],
-    items: &'a [Item],
-    found: &[Occ<'a>],
-) -> Result<(), AllocError>
-    requires of { AreOf (message_of scope.now) scope.now }
-    requires found { AreOf (message_of scope.now) found.now }
-    requires lawful { IsBegun builder.old }
-    requires begin { MayBegin builder.old (flat_map (λ o. names_given (o ∷ walked_in scope.now) (forest nodes.now) (all_items rows.now.tables items.now)) (map occurrence found.now)) }
-    requires may { AllByRecursion (λ o. MayGive (message_of scope.now) (o ∷ walked_in scope.now) (forest nodes.now) (all_items rows.now.tables items.now)) (map occurrence found.now) }
-    ensures adds { OnOk result (Adds (ForEach (λ o. Give (message_of scope.now) (o ∷ walked_in scope.now) (forest nodes.now) (all_items rows.now.tables items.now)) (map occurrence found.now)) builder.old builder.new) }
-    ensures lawful { OnOk result (IsBegun builder.new) }
-{
-    for each in found {
-        let inner = within(alloc, scope, each)?;
-        put_items(alloc, rows, &inner, builder, nodes, items)?;
-    }
-    Ok(())
 }
 
 // What one item gives.
 #[cycle(items)]
 fn put_item<'a>(
-    alloc: Global,
     rows: &'a Map,
-    scope: &[Occ<'a>],
+    scope: &mut Vec<Occ<'a>>,
     builder: &mut Builder,
-    nodes: &[Node],
+    nodes: &'a [Node],
     item: &'a Item,
 ) -> Result<(), AllocError>
-    requires of { AreOf (message_of scope.now) scope.now }
+    requires of { AreOf (message_of scope.old.items) scope.old.items }
     requires lawful { IsBegun builder.old }
-    requires begin { MayBegin builder.old (names_given (walked_in scope.now) (forest nodes.now) (with_item rows.now.tables item.now no_items)) }
-    requires may { MayGive (message_of scope.now) (walked_in scope.now) (forest nodes.now) (with_item rows.now.tables item.now no_items) }
-    ensures adds { OnOk result (Adds (Give (message_of scope.now) (walked_in scope.now) (forest nodes.now) (with_item rows.now.tables item.now no_items)) builder.old builder.new) }
+    requires begin { MayBegin builder.old (items_names nodes.now (with_item rows.now.tables item.now no_items) scope.old.items) }
+    requires may { MayItems nodes.now (with_item rows.now.tables item.now no_items) scope.old.items }
+    ensures kept { scope.new.items ≡ scope.old.items }
+    ensures adds { OnOk result (Adds (ItemsGive nodes.now (with_item rows.now.tables item.now no_items) scope.old.items) builder.old builder.new) }
     ensures lawful { OnOk result (IsBegun builder.new) }
 {
     match item {
-        Item::Segment(item) => put_segments(alloc, rows, scope, builder, nodes, item),
+        Item::Segment(item) => put_segments(rows, scope, builder, nodes, item),
         Item::Group(group) => {
-            let found = at_place(alloc, scope, &group.place)?;
-            let inner = nodes_within(nodes, group.child);
-            put_each(alloc, rows, scope, builder, inner, &group.items, &found)
+            let part = Part::Level(nodes_within(nodes, group.child), &group.items);
+            put_each(rows, scope, builder, &part, &group.place)
         }
         Item::Flat(flat) => {
-            let found = at_place(alloc, scope, &flat.place)?;
-            put_each(alloc, rows, scope, builder, nodes, &flat.items, &found)
+            let part = Part::Level(nodes, &flat.items);
+            put_each(rows, scope, builder, &part, &flat.place)
         }
     }
 }
@@ -188,22 +236,22 @@ fn put_item<'a>(
 /// Puts what the items of a level give behind the segments of the builder.
 #[cycle(items)]
 pub(crate) fn put_items<'a>(
-    alloc: Global,
     rows: &'a Map,
-    scope: &[Occ<'a>],
+    scope: &mut Vec<Occ<'a>>,
     builder: &mut Builder,
-    nodes: &[Node],
+    nodes: &'a [Node],
     items: &'a [Item],
 ) -> Result<(), AllocError>
-    requires of { AreOf (message_of scope.now) scope.now }
+    requires of { AreOf (message_of scope.old.items) scope.old.items }
     requires lawful { IsBegun builder.old }
-    requires begin { MayBegin builder.old (names_given (walked_in scope.now) (forest nodes.now) (all_items rows.now.tables items.now)) }
-    requires may { MayGive (message_of scope.now) (walked_in scope.now) (forest nodes.now) (all_items rows.now.tables items.now) }
-    ensures adds { OnOk result (Adds (Give (message_of scope.now) (walked_in scope.now) (forest nodes.now) (all_items rows.now.tables items.now)) builder.old builder.new) }
+    requires begin { MayBegin builder.old (items_names nodes.now (all_items rows.now.tables items.now) scope.old.items) }
+    requires may { MayItems nodes.now (all_items rows.now.tables items.now) scope.old.items }
+    ensures kept { scope.new.items ≡ scope.old.items }
+    ensures adds { OnOk result (Adds (ItemsGive nodes.now (all_items rows.now.tables items.now) scope.old.items) builder.old builder.new) }
     ensures lawful { OnOk result (IsBegun builder.new) }
 {
     for item in items {
-        put_item(alloc, rows, scope, builder, nodes, item)?;
+        put_item(rows, scope, builder, nodes, item)?;
     }
     Ok(())
 }

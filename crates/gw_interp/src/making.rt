@@ -1,12 +1,10 @@
 //! Fields of the last segment, made by their rules.
-ghost use Rattle.std.specs.Prelude.{◌≡◌, ℕ, OnOk, map};
+ghost use Rattle.std.specs.Prelude.{OnOk};
 ghost use Rattle.gw_resolve.specs.Resolved.{copy, first, repeat, build};
-ghost use Rattle.gw_resolve.specs.Seen.{reference, at_leaf, rule as seen_rule};
+ghost use Rattle.gw_resolve.specs.Seen.{reference, rule as seen_rule};
 ghost use Rattle.gw_interp.specs.Lent.{AreOf};
-ghost use Rattle.gw_interp.specs.Meaning.{walking as walking_in};
-ghost use Rattle.gw_interp.specs.Sourced.{current_texts};
 ghost use Rattle.gw_interp.specs.Filling.{message_of};
-ghost use Rattle.gw_interp.specs.Making.{seen_from, MayFillRep, IsRepFilled, MayMakeBy, IsMadeBy, MayMakeRule, IsRuleMade};
+ghost use Rattle.gw_interp.specs.Making.{seen_from, in_repetition, at_leaves, MayFillRep, IsRepFilled, MayMakeBy, IsMadeBy, MayMakeRule, IsRuleMade};
 
 use crate::copying::{Spot, copy_rep, copy_reps};
 use crate::filling::fill_rep;
@@ -16,21 +14,6 @@ use gw_maplang::Map;
 use gw_resolve::{At, Making, Reference, Rule};
 use gw_validate::Occ;
 use std::alloc::AllocError;
-
-// The repetition of this number of a field, where its segment is there.
-fn repetition_at<'a>(scope: &[Occ<'a>], from: &Reference, rep: usize) -> Option<Repetition<'a>>
-    requires of { AreOf (message_of scope.now) scope.now }
-    ensures { (comp sub : ℕ) → current_texts result comp sub ≡ (walking_in (seen_from scope.now) (reference from.now) rep).current comp sub }
-{
-    match segment_at(scope, &from.place) {
-        None => None,
-        Some(segment) => Some(Repetition {
-            segment,
-            field: from.field as usize,
-            rep,
-        }),
-    }
-}
 
 // Makes a field as another.
 fn make_copy(
@@ -80,8 +63,8 @@ fn make_build<'a>(
     field: usize,
 ) -> Result<(), AllocError>
     requires of { AreOf (message_of scope.now) scope.now }
-    requires may { MayMakeBy (seen_from scope.now) (build (map (at_leaf rows.now.tables) leaves.now)) field builder.old }
-    ensures { OnOk result (IsMadeBy (seen_from scope.now) (build (map (at_leaf rows.now.tables) leaves.now)) field builder.old builder.new) }
+    requires may { MayMakeBy (seen_from scope.now) (build (at_leaves rows.now.tables leaves.now)) field builder.old }
+    ensures { OnOk result (IsMadeBy (seen_from scope.now) (build (at_leaves rows.now.tables leaves.now)) field builder.old builder.new) }
 {
     let reading = Reading {
         scope,
@@ -90,22 +73,24 @@ fn make_build<'a>(
     fill_rep(rows, &reading, builder, leaves, field, 1)
 }
 
-// Makes a repetition of leaves for that of the same number of another field.
+// Makes a repetition of leaves for that of the same number of another field, of this segment.
 fn make_rep<'a>(
     rows: &'a Map,
     scope: &[Occ<'a>],
     builder: &mut Builder,
-    from: &Reference,
+    from: Repetition<'a>,
     leaves: &'a [At],
     field: usize,
-    rep: usize,
 ) -> Result<(), AllocError>
     requires of { AreOf (message_of scope.now) scope.now }
-    requires fill { MayFillRep (walking_in (seen_from scope.now) (reference from.now) rep) field rep (map (at_leaf rows.now.tables) leaves.now) builder.old }
-    ensures { OnOk result (IsRepFilled (walking_in (seen_from scope.now) (reference from.now) rep) field rep (map (at_leaf rows.now.tables) leaves.now) builder.old builder.new) }
+    requires fill { MayFillRep (in_repetition scope.now from) field from.rep (at_leaves rows.now.tables leaves.now) builder.old }
+    ensures { OnOk result (IsRepFilled (in_repetition scope.now from.entry) field from.entry.rep (at_leaves rows.now.tables leaves.now) builder.old builder.new) }
 {
-    let current = repetition_at(scope, from, rep);
-    let reading = Reading { scope, current };
+    let rep = from.rep;
+    let reading = Reading {
+        scope,
+        current: Some(from),
+    };
     fill_rep(rows, &reading, builder, leaves, field, rep)
 }
 
@@ -119,8 +104,8 @@ fn make_repeat<'a>(
     field: usize,
 ) -> Result<(), AllocError>
     requires of { AreOf (message_of scope.now) scope.now }
-    requires may { MayMakeBy (seen_from scope.now) (repeat (reference from.now) (map (at_leaf rows.now.tables) leaves.now)) field builder.old }
-    ensures { OnOk result (IsMadeBy (seen_from scope.now) (repeat (reference from.now) (map (at_leaf rows.now.tables) leaves.now)) field builder.old builder.new) }
+    requires may { MayMakeBy (seen_from scope.now) (repeat (reference from.now) (at_leaves rows.now.tables leaves.now)) field builder.old }
+    ensures { OnOk result (IsMadeBy (seen_from scope.now) (repeat (reference from.now) (at_leaves rows.now.tables leaves.now)) field builder.old builder.new) }
 {
     let Some(segment) = segment_at(scope, &from.place) else {
         return Ok(());
@@ -130,7 +115,12 @@ fn make_repeat<'a>(
     let mut rep = 0;
     while rep < last {
         rep = next_rep(&segment, source, rep, last);
-        make_rep(rows, scope, builder, from, leaves, field, rep)?;
+        let repetition = Repetition {
+            segment: segment.again(),
+            field: source,
+            rep,
+        };
+        make_rep(rows, scope, builder, repetition, leaves, field)?;
     }
     Ok(())
 }

@@ -1,5 +1,6 @@
 //! The occurrences at the places of a map.
-ghost use Rattle.std.specs.Prelude.{◌≡◌, ◌++◌, List, IfOk, OnOk, IfSome, map, flat_map};
+ghost use Rattle.std.specs.Prelude.{◌≡◌, List, IfSome, option_map, flat_map};
+ghost use Rattle.std.specs.Option.{option_to_list};
 ghost use Rattle.gw_er7.specs.Message.{SegmentValue};
 ghost use Rattle.gw_resolve.specs.Seen.{place as seen_place};
 ghost use Rattle.gw_interp.specs.Occurrences as spec;
@@ -7,68 +8,16 @@ ghost use Rattle.gw_interp.specs.Lent.{occurrence, scope as walked, AreOf, IsFir
 
 use gw_resolve::Place;
 use gw_validate::Occ;
-use std::alloc::{AllocError, Global};
 
-// Puts the occurrences of the child of this number behind the others.
-fn add_children<'a>(
-    found: &mut Vec<Occ<'a>>,
-    above: &Occ<'a>,
-    child: usize,
-) -> Result<(), AllocError>
-    ensures children { OnOk result (map occurrence found.new.items ≡ map occurrence found.old.items ++ spec.children (occurrence above.now) child) }
-    ensures message { OnOk result ((m : List SegmentValue) → above.now.message ≡ m → AreOf m found.old.items → AreOf m found.new.items) }
+/// The occurrence that is walked, counted outwards from the innermost, which is the last. It takes no memory.
+pub(crate) fn walked_at<'a>(scope: &[Occ<'a>], out: usize) -> Option<Occ<'a>>
+    ensures walked { spec.in_scope (walked scope.now) out ≡ option_to_list (option_map occurrence result) }
+    ensures message { (m : List SegmentValue) → AreOf m scope.now → IfSome result (λ o. o.message ≡ m) }
 {
-    if child >= above.children() {
-        return Ok(());
+    if out >= scope.len() {
+        return None;
     }
-    for k in 0..above.count(child) {
-        found.push(above.child(child, k))?;
-    }
-    Ok(())
-}
-
-// The occurrences of the child of this number in all of these.
-fn children_of<'a>(
-    alloc: Global,
-    above: &[Occ<'a>],
-    child: usize,
-) -> Result<Vec<Occ<'a>>, AllocError>
-    ensures children { IfOk result (λ found. map occurrence found.items ≡ flat_map (λ o. spec.children o child) (map occurrence above.now)) }
-    ensures message { IfOk result (λ found. (m : List SegmentValue) → AreOf m above.now → AreOf m found.items) }
-{
-    let mut found = Vec::new(alloc);
-    for each in above {
-        add_children(&mut found, each, child)?;
-    }
-    Ok(found)
-}
-
-// The occurrences where the steps lead from this one.
-fn below<'a>(alloc: Global, from: &Occ<'a>, steps: &[usize]) -> Result<Vec<Occ<'a>>, AllocError>
-    ensures below { IfOk result (λ found. map occurrence found.items ≡ spec.below steps.now (occurrence from.now)) }
-    ensures message { IfOk result (λ found. (m : List SegmentValue) → from.now.message ≡ m → AreOf m found.items) }
-{
-    let mut found = Vec::new(alloc);
-    found.push(from.again())?;
-    for step in steps {
-        found = children_of(alloc, &found, *step)?;
-    }
-    Ok(found)
-}
-
-/// The occurrences at a place, in the order of the message, seen from those that are walked, the innermost last.
-pub(crate) fn at_place<'a>(
-    alloc: Global,
-    scope: &[Occ<'a>],
-    place: &Place,
-) -> Result<Vec<Occ<'a>>, AllocError>
-    ensures places { IfOk result (λ found. map occurrence found.items ≡ spec.at_place (walked scope.now) (seen_place place.now)) }
-    ensures message { IfOk result (λ found. (m : List SegmentValue) → AreOf m scope.now → AreOf m found.items) }
-{
-    if place.out >= scope.len() {
-        return Ok(Vec::new(alloc));
-    }
-    below(alloc, &scope[scope.len() - 1 - place.out], &place.steps)
+    Some(scope[scope.len() - 1 - out].again())
 }
 
 // The first of the occurrences where these steps lead from the children of this number.
@@ -106,8 +55,8 @@ pub(crate) fn first_at_place<'a>(scope: &[Occ<'a>], place: &Place) -> Option<Occ
     ensures first { IsFirstOf (spec.at_place (walked scope.now) (seen_place place.now)) result }
     ensures message { (m : List SegmentValue) → AreOf m scope.now → IfSome result (λ o. o.message ≡ m) }
 {
-    if place.out >= scope.len() {
-        return None;
+    match walked_at(scope, place.out) {
+        None => None,
+        Some(from) => first_below(&from, &place.steps),
     }
-    first_below(&scope[scope.len() - 1 - place.out], &place.steps)
 }

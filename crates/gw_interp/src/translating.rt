@@ -51,6 +51,6 @@ pub fn translate(alloc: Global, map: &CheckedMap, tree: &Tree) -> Result<Message
     let mut builder = Builder::new(alloc);
     let rows = rows_of(map);
     let nodes = map.target().nodes();
-    put_items(alloc, rows, &scope, &mut builder, nodes, map.items())?;
+    put_items(rows, &mut scope, &mut builder, nodes, map.items())?;
     Ok(builder.finish())
 }

@@ -1,0 +1,99 @@
+-- A part for each of the occurrences where steps lead, and for each at a place.
+use Rattle.std.proofs.Common.{◌≡◌, ℕ, ◌+◌, ◌≤◌, ◌<◌, List, [], ◌∷◌, ◌++◌, Some, refl, sym, ap, ◌∙◌, arith, length, drop, subst, append-nil}
+use Rattle.std.specs.Prelude.{flat_map}
+use Rattle.std.proofs.lemmas.List.{drop_all}
+use Rattle.gw_er7.specs.Message.{SegmentValue}
+use Rattle.gw_er7.specs.Building.{IsBegun}
+use Rattle.gw_validate.specs.Occurring.{tree_of}
+use Rattle.gw_validate.specs.Fitting.{OccValue, IsLent}
+use Rattle.gw_validate.specs.Viewing.{count_at, occurrence_at, occurrence_of}
+use Rattle.gw_maplang.specs.Shapes.{TableValue}
+use Rattle.gw_interp.specs.declared.items.Part.{Part}
+use Rattle.gw_interp.specs.declared.items.Part.TheVariants.{OneSegment, Level}
+use Rattle.gw_interp.specs.Occurrences.{Occurrence, level_at, children, below}
+use Rattle.gw_interp.specs.Lent.{occurrence, scope}
+use Rattle.gw_interp.specs.Filling.{message_of}
+use Rattle.gw_interp.specs.Ready.{MayBegin, Adds}
+use Rattle.gw_interp.specs.Parts.{part_names, PartGives, names_within, MayWithin, GivesWithin, each_names, MayEach, EachGives}
+use Rattle.gw_interp.proofs.Lending.{drop_level, level_children, length_level}
+use Rattle.gw_interp.proofs.Naming.{given_names}
+use Rattle.gw_interp.proofs.Trees.{all_left}
+use Rattle.gw_interp.proofs.Giving.{names_of, each_one, IsWalkDone, none_walked, next_begins, next_walked, all_walked}
+use Rattle.gw_interp.proofs.Levels.{adds_as}
+
+pub part_named : (tables : List TableValue) (part : Part) (m : List SegmentValue) (os : List Occurrence) (list : List SegmentValue) → PartGives tables part m os list → names_of list ≡ part_names tables part os
+part_named tables (OneSegment nodes item) m os list one = ap names_of one.list_is ∙ ap (λ n. n ∷ []) one.holds.named
+part_named tables (Level nodes items) m os list h = given_names m os _ _ list h
+
+module _ (tables : List TableValue) (part : Part) (os : List OccValue) where
+  abbrev Gives : Occurrence → List SegmentValue → Type 0
+  Gives = GivesWithin tables part os
+
+  abbrev May : Occurrence → Type 0
+  May = MayWithin tables part os
+
+  abbrev names : Occurrence → List (List ℕ)
+  names = names_within tables part os
+
+  -- where steps lead from the children from this number on
+  abbrev left : OccValue → ℕ → List ℕ → ℕ → List Occurrence
+  left from child later k = flat_map (below later) (drop k (level_at (tree_of from.each) child))
+
+  -- the first children have what is given where steps lead from them, and what is walked is as it was
+  pub record IsBelowDone (from : OccValue) (child : ℕ) (later : List ℕ) (k : ℕ) (old now : List SegmentValue) (walked : List OccValue) : Type 0 where
+    pub kept : walked ≡ os
+    pub walk : IsWalkDone Gives May names (flat_map (below later) (children (occurrence from) child)) (left from child later k) old now
+
+  pub none_below : (from : OccValue) (child : ℕ) (later : List ℕ) (old : List SegmentValue) → IsLent from → child < length from.each → IsBegun old → MayEach tables part os (below (child ∷ later) (occurrence from)) → IsBelowDone from child later 0 old old os
+  none_below from child later old lent h lawful may =
+      record {
+        kept = refl;
+        walk = subst (λ l. IsWalkDone Gives May names (flat_map (below later) (children (occurrence from) child)) (flat_map (below later) l) old old) (level_children from child lent h)
+            (none_walked Gives May names (flat_map (below later) (children (occurrence from) child)) old lawful may);
+      }
+
+  module _ (from : OccValue) (child : ℕ) (later : List ℕ) (k : ℕ) (o : OccValue) (shows : occurrence_at (tree_of from.each) child k ≡ Some (occurrence_of o)) (old now : List SegmentValue) (walked : List OccValue) (d : IsBelowDone from child later k old now walked) where
+    all : List Occurrence
+    all = flat_map (below later) (children (occurrence from) child)
+
+    next : left from child later k ≡ below later (occurrence o) ++ left from child later (k + 1)
+    next = ap (flat_map (below later)) (drop_level (tree_of from.each) child k o shows)
+
+    walk : IsWalkDone Gives May names (flat_map (below later) (children (occurrence from) child)) (below later (occurrence o) ++ left from child later (k + 1)) old now
+    walk = subst (λ l. IsWalkDone Gives May names (flat_map (below later) (children (occurrence from) child)) l old now) next d.walk
+
+    pub child_begins : MayBegin old (each_names tables part os (below (child ∷ later) (occurrence from))) → MayBegin now (each_names tables part walked (below later (occurrence o)))
+    child_begins may =
+        subst (λ w. MayBegin now (each_names tables part w (below later (occurrence o)))) (sym d.kept)
+        (next_begins Gives May names (flat_map (below later) (children (occurrence from) child)) (below later (occurrence o)) (left from child later (k + 1)) old now walk may)
+
+    pub child_may : MayEach tables part walked (below later (occurrence o))
+    child_may = subst (λ w. MayEach tables part w (below later (occurrence o))) (sym d.kept) (all_left May (below later (occurrence o)) (left from child later (k + 1)) walk.may)
+
+    pub child_done : (new : List SegmentValue) (walked_new : List OccValue) → walked_new ≡ walked → Adds (EachGives tables part walked (below later (occurrence o))) now new → IsBegun new → IsBelowDone from child later (k + 1) old new walked_new
+    child_done new walked_new same a lawful =
+        record {
+          kept = same ∙ d.kept;
+          walk = next_walked Gives May names (λ p list. part_named tables part (message_of os) (p ∷ scope os) list) (flat_map (below later) (children (occurrence from) child)) (below later (occurrence o)) (left from child later (k + 1)) old now new walk
+              (subst (λ w. Adds (EachGives tables part w (below later (occurrence o))) now new) d.kept a) lawful;
+        }
+
+  pub all_below : (from : OccValue) (child : ℕ) (later : List ℕ) (k : ℕ) (old now : List SegmentValue) (walked : List OccValue) → count_at (tree_of from.each) child ≤ k → IsBelowDone from child later k old now walked → Adds (EachGives tables part os (below (child ∷ later) (occurrence from))) old now
+  all_below from child later k old now walked le d =
+      let none : left from child later k ≡ [] = ap (flat_map (below later)) (drop_all k (level_at (tree_of from.each) child) (omega (arith, le, length_level (tree_of from.each) child))) in
+      all_walked Gives May names (flat_map (below later) (children (occurrence from) child)) old now
+      (subst (λ l. IsWalkDone Gives May names (flat_map (below later) (children (occurrence from) child)) l old now) none d.walk)
+
+  -- nothing is given where there is no occurrence
+  pub none_given : (found : List Occurrence) (old : List SegmentValue) → found ≡ [] → Adds (EachGives tables part os found) old old
+  none_given found old none = record { list = []; joined = sym (append-nil old); holds = subst (λ l. EachGives tables part os l []) (sym none) refl }
+
+-- the only occurrence where no step leads on
+pub no_step : (steps : List ℕ) → length steps < 1 → steps ≡ []
+no_step [] h = refl
+no_step (i ∷ steps) h = absurd (omega (arith, h))
+
+pub here_given : (tables : List TableValue) (part : Part) (os : List OccValue) (from : OccValue) (steps : List ℕ) (old new : List SegmentValue) → length steps < 1 → Adds (GivesWithin tables part os (occurrence from)) old new → Adds (EachGives tables part os (below steps (occurrence from))) old new
+here_given tables part os from steps old new h a =
+    subst (λ l. Adds (EachGives tables part os (below l (occurrence from))) old new) (sym (no_step steps h))
+    (adds_as _ _ old new (each_one (GivesWithin tables part os) (occurrence from)) a)
