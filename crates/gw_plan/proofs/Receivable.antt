@@ -1,5 +1,5 @@
 -- Each leg of a plan goes to one of its receivers.
-use Rattle.std.proofs.Common.{◌≡◌, ℕ, zero, suc, ◌+◌, ◌<◌, ◌≤◌, List, [], ◌∷◌, ◌++◌, length, Option, Some, None, Bool, true, false, refl, sym, ap, ◌∙◌, subst, arith, length-append}
+use Rattle.std.proofs.Common.{◌≡◌, ℕ, zero, suc, ◌+◌, ◌<◌, List, [], ◌∷◌, ◌++◌, length, Option, Some, None, Bool, true, false, refl, sym, subst, arith, length-append}
 use Rattle.std.specs.Prelude.{Result, Ok, Err, IfOk, bytes_eq, nat_eq, is_some, ◌||◌, if◌then◌else◌}
 use Rattle.std.specs.List.{list_any, AllByRecursion}
 use Rattle.std.specs.Option.{IfSome, option_to_list}
@@ -9,13 +9,14 @@ use Rattle.gw_lines.specs.Words.{Word, words, lines}
 use Rattle.gw_lines.specs.Reading.{◌>>=◌, is_too_large}
 use Rattle.gw_profile.specs.Shapes.{ProfileValue}
 use Rattle.gw_plan.specs.declared.fault.PlanFault.{PlanFault}
-use Rattle.gw_plan.specs.declared.fault.PlanFault.TheVariants.{Syntax, Duplicate, UnknownName, WrongMap, TooLarge}
+use Rattle.gw_plan.specs.declared.fault.PlanFault.TheVariants.{Syntax, Duplicate, WrongMap, TooLarge}
 use Rattle.gw_plan.specs.Shapes.{ReceiverValue, MapBetween, Leg, RouteValue, PlanValue}
-use Rattle.gw_plan.specs.Line.{Line, Begins, Receives, Versions, Processing, OpensProfile, OpensMap, Routes, Delivers, form}
-use Rattle.gw_plan.specs.Draft as Spec
+use Rattle.gw_plan.specs.declared.form.Kind.{Kind}
+use Rattle.gw_plan.specs.declared.form.Kind.TheVariants.{Profile, Map}
+use Rattle.gw_plan.specs.Line.{Line, Begins, Receives, Versions, Processing, Opens, Routes, Delivers, form}
 use Rattle.gw_plan.specs.Draft.{Draft, nothing, closed, is_receiver, is_for, goes, receiver_number, map_named, profile_named, with_receiver, with_profile, with_route, with_map, with_leg, delivered, below, first, takes, plan_of}
-use Rattle.gw_plan.specs.Inner.{inner_profile, inner_map, with_inner_profile, with_inner_map, takes_profile, takes_map}
-use Rattle.gw_plan.specs.Whole.{Taken, inner, and_lines, lines_of_inner, begun_inner, takes_line, takes_words, takes_next, reads, begun, drafted, spelled, most_bytes, most_lines}
+use Rattle.gw_plan.specs.Inner.{Inner, inner_profile, inner_map, with_inner_profile, with_inner_map, takes_part}
+use Rattle.gw_plan.specs.Whole.{Taken, inner, and_lines, lines_of_inner, takes_inner, takes_line, takes_words, takes_next, reads, begun, drafted, spelled, most_bytes, most_lines}
 use Rattle.gw_plan.specs.Within.{LegsWithin, RoutesWithin, IsWithin}
 use Rattle.gw_er7.specs.Message.{SegmentValue}
 use Rattle.gw_plan.specs.Held.{plan_value}
@@ -98,8 +99,7 @@ below_within d at (Begins name) h = tt
 below_within d at (Receives name address) h = receiver_within (closed d) at name address (closed_within d h).routes refl
 below_within d at (Versions accepted) h = record { routes = (closed_within d h).routes; current = tt }
 below_within d at (Processing accepted) h = record { routes = (closed_within d h).routes; current = tt }
-below_within d at OpensProfile h = tt
-below_within d at OpensMap h = tt
+below_within d at (Opens kind) h = tt
 below_within d at (Routes code event profile) h = route_within (closed d) at code event (profile_named d profile) (closed_within d h).routes
 below_within d at (Delivers receiver map) h = delivered_within d at d.current receiver map h h.current
 
@@ -108,8 +108,7 @@ first_within d at (Begins name) h = record { routes = h.routes; current = h.curr
 first_within d at (Receives name address) h = tt
 first_within d at (Versions accepted) h = tt
 first_within d at (Processing accepted) h = tt
-first_within d at OpensProfile h = tt
-first_within d at OpensMap h = tt
+first_within d at (Opens kind) h = tt
 first_within d at (Routes code event profile) h = tt
 first_within d at (Delivers receiver map) h = tt
 
@@ -130,6 +129,10 @@ between_within : (d : Draft) (said : Result MapBetween PlanFault) → Within d �
 between_within d (Ok b) h = record { routes = (closed_within d h).routes; current = tt }
 between_within d (Err fault) h = tt
 
+part_within : (d : Draft) (kind : Kind) (p : Inner) → Within d → IfOk (takes_part d kind p) Within
+part_within d Profile p h = profile_within d (inner_profile d.profiles p) h
+part_within d Map p h = between_within d (inner_map d.profiles d.maps p) h
+
 -- ---- all lines
 
 abbrev TakenWithin : Taken → Type 0
@@ -139,11 +142,11 @@ counted_within : (count : ℕ) (r : Result Draft PlanFault) → IfOk r Within �
 counted_within count (Ok d) h = h
 counted_within count (Err fault) h = tt
 
-begun_within : (d : Draft) (at : ℕ) (more : List (List ℕ)) (r : Result Draft PlanFault) → IfOk r Within → TakenWithin (begun_inner d at more r)
-begun_within d at more r h = by d.begun
+inner_within : (d : Draft) (at : ℕ) (kind : Kind) (more : List (List ℕ)) → Within d → TakenWithin (takes_inner d at kind more)
+inner_within d at kind more h = by d.begun
   where
-    by : (b : Bool) → TakenWithin (if b then and_lines (lines_of_inner more) r else Err (Syntax at))
-    by true = counted_within (lines_of_inner more) r h
+    by : (b : Bool) → TakenWithin (if b then and_lines (lines_of_inner more) (takes_part d kind (inner at more)) else Err (Syntax at))
+    by true = counted_within (lines_of_inner more) (takes_part d kind (inner at more)) (part_within d kind (inner at more) h)
     by false = tt
 
 line_within : (d : Draft) (at : ℕ) (line : Option Line) (more : List (List ℕ)) → Within d → TakenWithin (takes_line d at line more)
@@ -152,8 +155,7 @@ line_within d at (Some (Begins name)) more h = counted_within 0 (takes d at (Beg
 line_within d at (Some (Receives name address)) more h = counted_within 0 (takes d at (Receives name address)) (takes_within d at (Receives name address) h)
 line_within d at (Some (Versions accepted)) more h = counted_within 0 (takes d at (Versions accepted)) (takes_within d at (Versions accepted) h)
 line_within d at (Some (Processing accepted)) more h = counted_within 0 (takes d at (Processing accepted)) (takes_within d at (Processing accepted) h)
-line_within d at (Some OpensProfile) more h = begun_within d at more (takes_profile d (inner at more)) (profile_within d (inner_profile d.profiles (inner at more)) h)
-line_within d at (Some OpensMap) more h = begun_within d at more (takes_map d (inner at more)) (between_within d (inner_map d.profiles d.maps (inner at more)) h)
+line_within d at (Some (Opens kind)) more h = inner_within d at kind more h
 line_within d at (Some (Routes code event profile)) more h = counted_within 0 (takes d at (Routes code event profile)) (takes_within d at (Routes code event profile) h)
 line_within d at (Some (Delivers receiver map)) more h = counted_within 0 (takes d at (Delivers receiver map)) (takes_within d at (Delivers receiver map) h)
 

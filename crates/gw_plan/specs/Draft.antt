@@ -6,7 +6,7 @@ use Rattle.gw_profile.specs.Shapes.{ProfileValue}
 use Rattle.gw_plan.specs.declared.fault.PlanFault.{PlanFault}
 use Rattle.gw_plan.specs.declared.fault.PlanFault.TheVariants.{Syntax, Duplicate, UnknownName, WrongMap}
 use Rattle.gw_plan.specs.Shapes.{ReceiverValue, MapBetween, Leg, RouteValue, PlanValue, named}
-use Rattle.gw_plan.specs.Line.{Line, Begins, Receives, Versions, Processing, OpensProfile, OpensMap, Routes, Delivers}
+use Rattle.gw_plan.specs.Line.{Line, Begins, Receives, Versions, Processing, Opens, Routes, Delivers}
 
 -- A plan so far. A `to` line belongs to the current route.
 pub record Draft : Type 0 where
@@ -107,8 +107,7 @@ below d at (Begins name) = Err (Syntax at)
 below d at (Receives name address) = adds_receiver d at name address
 below d at (Versions accepted) = Ok (with_versions d accepted)
 below d at (Processing accepted) = Ok (with_processing d accepted)
-below d at OpensProfile = Err (Syntax at)
-below d at OpensMap = Err (Syntax at)
+below d at (Opens kind) = Err (Syntax at)
 below d at (Routes code event profile) = adds_route d at code event profile
 below d at (Delivers receiver map) = adds_leg d at receiver map
 

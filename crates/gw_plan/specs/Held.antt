@@ -2,11 +2,13 @@
 use Rattle.std.specs.Prelude.{◌≡◌, ℕ, Bool, false, nat_eq, if◌then◌else◌, List, [], ◌∷◌, ◌++◌, map, slice_get, Some, Result, Ok, Err}
 use Rattle.std.specs.List.{AllByRecursion, list_any}
 use denote.Ref.{Bor}
+use Rattle.gw_er7.specs.Message.{SegmentValue}
 use Rattle.gw_profile.specs.Seen as profiles
 use Rattle.gw_profile.specs.Seen.{profile_value}
 use Rattle.gw_maplang.specs.Seen.{map_value}
 use Rattle.gw_check.specs.CheckedMap.{CheckedValue}
 use Rattle.gw_plan.specs.Shapes.{ReceiverValue, MapBetween, Leg, RouteValue, PlanValue}
+use Rattle.gw_plan.specs.Routing.{header_text, is_accepted}
 
 -- a route, with its profile and maps as they are lent
 pub record RouteHeld : Type 0 where
@@ -56,6 +58,10 @@ lent (Err code) = Err code
 -- the tests of version and processing id, for a route of this number
 abbrev pub tested : Bool → Bool → ℕ → Result ℕ ℕ
 tested version processing number = if version then (if processing then Ok number else Err 202) else Err 203
+
+-- the same tests of a message
+abbrev pub tested_for : PlanHeld → List SegmentValue → ℕ → Result ℕ ℕ
+tested_for p m number = tested (is_accepted p.versions (header_text m 12 1)) (is_accepted p.processing (header_text m 11 1)) number
 
 -- the number of a route that was found, from 0, or the code that was answered
 abbrev pub FoundAt : List RouteHeld → Result ℕ ℕ → Result RouteValue ℕ → Type 0

@@ -16,6 +16,8 @@ use Rattle.gw_resolve.specs.Failures.{Failure}
 use Rattle.gw_check.specs.Checked.{all_failures, least}
 use Rattle.gw_plan.specs.declared.fault.PlanFault.{PlanFault}
 use Rattle.gw_plan.specs.declared.fault.PlanFault.TheVariants.{Syntax, Profile, Map, Check, Duplicate, UnknownName}
+use Rattle.gw_plan.specs.declared.form.Kind.{Kind}
+use Rattle.gw_plan.specs.declared.form.Kind.TheVariants as kinds
 use Rattle.gw_plan.specs.Joined.{joined}
 use Rattle.gw_plan.specs.Numbers.{earlier, earliest}
 use Rattle.gw_plan.specs.Shapes.{MapBetween}
@@ -210,3 +212,7 @@ with_inner_map d (Err fault) = Err fault
 
 abbrev pub takes_map : Draft → Inner → Result Draft PlanFault
 takes_map d p = with_inner_map d (inner_map d.profiles d.maps p)
+
+abbrev pub takes_part : Draft → Kind → Inner → Result Draft PlanFault
+takes_part d kinds.Profile p = takes_profile d p
+takes_part d kinds.Map p = takes_map d p

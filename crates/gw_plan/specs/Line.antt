@@ -3,6 +3,8 @@ use Rattle.std.specs.Prelude.{ℕ, Bool, false, if◌then◌else◌, List, [], �
 use Rattle.gw_lines.specs.Words.{Word, words}
 use Rattle.gw_lines.specs.Spelled.{plain_bytes, is_keyword}
 use Rattle.gw_lines.specs.Parts.{◌>>=◌, first_word, name_at, behind, with_all}
+use Rattle.gw_plan.specs.declared.form.Kind.{Kind}
+use Rattle.gw_plan.specs.declared.form.Kind.TheVariants.{Profile, Map}
 
 -- A line of the plan's own. The empty event stands for an event that is absent.
 pub data Line : Type 0 where
@@ -10,8 +12,7 @@ pub data Line : Type 0 where
   Receives : (name address : List ℕ) → Line
   Versions : (accepted : List (List ℕ)) → Line
   Processing : (accepted : List (List ℕ)) → Line
-  OpensProfile : Line
-  OpensMap : Line
+  Opens : (kind : Kind) → Line
   Routes : (code event profile : List ℕ) → Line
   Delivers : (receiver map : List ℕ) → Line
 
@@ -78,8 +79,8 @@ accept_form (kind ∷ words) =
 abbrev pub begin_form : List Word → Option Line
 begin_form [] = None
 begin_form (kind ∷ words) =
-    if is_keyword (codes "profile") kind then with_all words OpensProfile
-    else if is_keyword (codes "map") kind then with_all words OpensMap
+    if is_keyword (codes "profile") kind then with_all words (Opens Profile)
+    else if is_keyword (codes "map") kind then with_all words (Opens Map)
     else None
 
 -- from PROFILE, the last words of a line

@@ -1,5 +1,9 @@
 -- Inner texts and what is made of them, as the program holds them.
 use Rattle.std.specs.Prelude.{◌≡◌, ◌+◌, ◌<◌, ◌^◌, List, [], map, length, Some, Result, Ok, Err}
+use Rattle.std.specs.Arc.{arc_value}
+use Rattle.std.specs.declared.alloc.Global.{Global}
+use Rattle.std.specs.declared.sync.Arc.{Arc}
+use denote.Ref.{Bor}
 use Rattle.gw_profile.specs.Seen as profiles
 use Rattle.gw_profile.specs.Seen.{profile_value}
 use Rattle.gw_profile.specs.Shapes.{ProfileValue}
@@ -14,6 +18,7 @@ use Rattle.gw_plan.specs.declared.inner.Inner as declared
 use Rattle.gw_plan.specs.declared.heads.MapHead as heads
 use Rattle.gw_plan.specs.Shapes.{MapBetween}
 use Rattle.gw_plan.specs.Above.{BeginsAt}
+use Rattle.gw_plan.specs.Held.{map_between}
 use Rattle.gw_plan.specs.Inner.{Inner, MapHead}
 
 abbrev pub inner : declared.Inner → Inner
@@ -25,6 +30,16 @@ IsNumbered p = p.at + length p.lines + 4294967296 < 2 ^ 64
 
 abbrev pub map_head : heads.MapHead → MapHead
 map_head h = record { line = h.line; name = h.name.now; source = h.source.now; target = h.target.now }
+
+-- profiles and maps, without where they lie in memory
+abbrev pub shared_profile : Arc profiles.Contents Global → ProfileValue
+shared_profile p = profile_value (arc_value p)
+
+abbrev pub lent_profile : Bor (Arc profiles.Contents Global) → ProfileValue
+lent_profile p = shared_profile p.now
+
+abbrev pub shared_map : Arc CheckedValue Global → MapBetween
+shared_map m = map_between (arc_value m)
 
 -- a fault as it was found, which isn't want of memory
 abbrev pub IsLasting : {E : Type 0} → E → E → E → Type 0

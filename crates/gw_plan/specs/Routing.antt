@@ -1,4 +1,4 @@
--- Which route a message takes (HL7 v2.5.1 chapter 2, 2.14.9 "MSH - message header segment").
+-- Which route a message takes (HL7 v2.5.1 chapter 2, 2.15.9 "MSH - message header segment").
 use Rattle.std.specs.Prelude.{ℕ, Bool, true, if◌then◌else◌, List, [], ◌∷◌, Option, Some, None, bytes_eq, Result, Ok, Err}
 use Rattle.std.specs.List.{list_any}
 use Rattle.gw_er7.specs.Message.{SegmentValue, text_of}

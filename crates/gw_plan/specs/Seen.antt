@@ -1,10 +1,16 @@
 -- Parts of the program, without where they lie in memory.
 use Rattle.std.specs.Prelude.{ℕ, List, map}
+use Rattle.std.specs.Arc.{arc_value}
 use Rattle.std.specs.Global.{Vec}
+use Rattle.std.specs.declared.alloc.Global.{Global}
+use Rattle.std.specs.declared.sync.Arc.{Arc}
 use denote.Ref.{Bor}
+use Rattle.gw_profile.specs.Seen as profiles
+use Rattle.gw_check.specs.CheckedMap.{CheckedValue}
 use Rattle.gw_plan.specs.declared.form.Line as declared
 use Rattle.gw_plan.specs.declared.plan.Receiver.{Receiver}
 use Rattle.gw_plan.specs.Shapes.{ReceiverValue}
+use Rattle.gw_plan.specs.Held.{RouteHeld, PlanHeld}
 use Rattle.gw_plan.specs.Line as Spec
 
 abbrev pub now_all : List (Bor (List ℕ)) → List (List ℕ)
@@ -18,8 +24,7 @@ line (declared.TheVariants.Begins name) = Spec.Begins name.now
 line (declared.TheVariants.Receives name address) = Spec.Receives name.now address.now
 line (declared.TheVariants.Versions accepted) = Spec.Versions (now_all accepted.items)
 line (declared.TheVariants.Processing accepted) = Spec.Processing (now_all accepted.items)
-line declared.TheVariants.OpensProfile = Spec.OpensProfile
-line declared.TheVariants.OpensMap = Spec.OpensMap
+line (declared.TheVariants.Opens kind) = Spec.Opens kind
 line (declared.TheVariants.Routes code event profile) = Spec.Routes code.now event.now profile.now
 line (declared.TheVariants.Delivers receiver map) = Spec.Delivers receiver.now map.now
 
@@ -29,3 +34,18 @@ receiver_value r = record { name = r.name.items; address = r.address.items }
 -- a receiver by its name
 abbrev pub receiver_entry : Vec ℕ × Vec ℕ → ReceiverValue
 receiver_entry e = record { name = e.0.items; address = e.1.items }
+
+-- a route and a plan, by their fields
+abbrev pub held_route : (code event : Vec ℕ) → Arc profiles.Contents Global → List (ℕ × Arc CheckedValue Global) → RouteHeld
+held_route code event profile legs =
+    record { code = code.items; event = event.items; profile = arc_value profile; legs = map (λ l. (l.0, arc_value l.1)) legs }
+
+abbrev pub held_plan : Vec ℕ → Vec Receiver → (versions processing : Vec (Vec ℕ)) → Vec RouteHeld → PlanHeld
+held_plan text receivers versions processing routes =
+    record {
+      text = text.items;
+      receivers = map receiver_value receivers.items;
+      versions = bytes_all versions.items;
+      processing = bytes_all processing.items;
+      routes = routes.items;
+    }

@@ -6,9 +6,10 @@ use Rattle.gw_lines.specs.Reading.{◌>>=◌, is_too_large}
 use Rattle.gw_plan.specs.declared.fault.PlanFault.{PlanFault}
 use Rattle.gw_plan.specs.declared.fault.PlanFault.TheVariants.{Syntax, TooLarge}
 use Rattle.gw_plan.specs.Shapes.{PlanValue}
-use Rattle.gw_plan.specs.Line.{Line, OpensProfile, OpensMap, form, is_stop}
+use Rattle.gw_plan.specs.declared.form.Kind.{Kind}
+use Rattle.gw_plan.specs.Line.{Line, Opens, form, is_stop}
 use Rattle.gw_plan.specs.Draft.{Draft, nothing, takes, plan_of}
-use Rattle.gw_plan.specs.Inner.{Inner, takes_profile, takes_map}
+use Rattle.gw_plan.specs.Inner.{Inner, takes_part}
 
 -- what stands behind a `begin` line of this number, among the lines that follow
 abbrev pub inner : ℕ → List (List ℕ) → Inner
@@ -26,21 +27,13 @@ abbrev pub and_lines : ℕ → Result Draft PlanFault → Taken
 and_lines count (Ok d) = Ok (d, count)
 and_lines count (Err fault) = Err fault
 
--- an inner text stands below the first line
-abbrev pub begun_inner : Draft → ℕ → List (List ℕ) → Result Draft PlanFault → Taken
-begun_inner d at more taken = if d.begun then and_lines (lines_of_inner more) taken else Err (Syntax at)
-
--- begin profile, begin map
-abbrev pub takes_inner_profile : Draft → ℕ → List (List ℕ) → Taken
-takes_inner_profile d at more = begun_inner d at more (takes_profile d (inner at more))
-
-abbrev pub takes_inner_map : Draft → ℕ → List (List ℕ) → Taken
-takes_inner_map d at more = begun_inner d at more (takes_map d (inner at more))
+-- begin profile, begin map: an inner text stands below the first line
+abbrev pub takes_inner : Draft → ℕ → Kind → List (List ℕ) → Taken
+takes_inner d at kind more = if d.begun then and_lines (lines_of_inner more) (takes_part d kind (inner at more)) else Err (Syntax at)
 
 abbrev pub takes_line : Draft → ℕ → Option Line → List (List ℕ) → Taken
 takes_line d at None more = Err (Syntax at)
-takes_line d at (Some OpensProfile) more = takes_inner_profile d at more
-takes_line d at (Some OpensMap) more = takes_inner_map d at more
+takes_line d at (Some (Opens kind)) more = takes_inner d at kind more
 takes_line d at (Some line) more = and_lines 0 (takes d at line)
 
 -- a line is broken, or passed over, or taken with those of its inner text

@@ -8,7 +8,7 @@ use std::alloc::{AllocError, Global};
 pub fn accept(alloc: Global, accepted: &mut Vec<Vec<u8>>, words: &[&[u8]]) -> Result<(), AllocError>
     ensures { OnOk result (bytes_all accepted.new.items ≡ bytes_all accepted.old.items ++ now_all words.now) }
 {
-    for (i, word) in words.iter().enumerate() {
+    for word in words {
         let copy = Vec::from_slice(alloc, word)?;
         accepted.push(copy)?;
     }

@@ -3,14 +3,14 @@ ghost use Rattle.std.specs.Prelude.{◌≡◌, IfOk, IfErr, OnOk, None, Err};
 ghost use Rattle.std.specs.Arc.{arc_value};
 ghost use Rattle.gw_plan.specs.Draft as spec;
 ghost use Rattle.gw_plan.specs.Drafted.{draft_value, IsKept, Leads, Makes};
-ghost use Rattle.gw_plan.specs.Inner.{takes_profile, takes_map};
+ghost use Rattle.gw_plan.specs.Inner.{takes_profile, takes_map, takes_part};
 ghost use Rattle.gw_plan.specs.Made.{inner, IsNumbered};
 ghost use Rattle.gw_plan.specs.Seen.{now_all, line};
 
 use crate::above::Above;
 use crate::accepted::accept;
 use crate::fault::PlanFault;
-use crate::form::Line;
+use crate::form::{Kind, Line};
 use crate::inner::Inner;
 use crate::inner_map::take_map;
 use crate::inner_profile::take_profile;
@@ -174,8 +174,7 @@ impl Draft {
             Line::Receives(name, address) => self.receive(alloc, at, name, address),
             Line::Versions(words) => Ok(self.accept_versions(alloc, words)?),
             Line::Processing(words) => Ok(self.accept_processing(alloc, words)?),
-            Line::OpensProfile => Err(PlanFault::Syntax(at)),
-            Line::OpensMap => Err(PlanFault::Syntax(at)),
+            Line::Opens(_) => Err(PlanFault::Syntax(at)),
             Line::Routes(code, event, profile) => self.open_route(alloc, at, code, event, profile),
             Line::Delivers(receiver, map) => self.deliver(at, receiver, map),
         }
@@ -207,8 +206,8 @@ impl Draft {
         }
     }
 
-    /// Takes a profile of the plan.
-    pub fn add_profile(&mut self, alloc: Global, part: &Inner<'_, '_>) -> Result<(), PlanFault>
+    // Takes a profile of the plan.
+    fn add_profile(&mut self, alloc: Global, part: &Inner<'_, '_>) -> Result<(), PlanFault>
         requires kept { IsKept self.old }
         requires numbered { IsNumbered (inner part.now) }
         ensures value { Makes self.new result (takes_profile (draft_value self.old) (inner part.now)) }
@@ -220,8 +219,8 @@ impl Draft {
         Ok(())
     }
 
-    /// Takes a map of the plan.
-    pub fn add_map(&mut self, alloc: Global, part: &Inner<'_, '_>) -> Result<(), PlanFault>
+    // Takes a map of the plan.
+    fn add_map(&mut self, alloc: Global, part: &Inner<'_, '_>) -> Result<(), PlanFault>
         requires kept { IsKept self.old }
         requires numbered { IsNumbered (inner part.now) }
         ensures value { Makes self.new result (takes_map (draft_value self.old) (inner part.now)) }
@@ -231,5 +230,18 @@ impl Draft {
         let map = take_map(alloc, &self.above, part)?;
         self.above.add_map(alloc, map)?;
         Ok(())
+    }
+
+    /// Takes a profile or a map of the plan.
+    pub fn add(&mut self, alloc: Global, kind: &Kind, part: &Inner<'_, '_>) -> Result<(), PlanFault>
+        requires kept { IsKept self.old }
+        requires numbered { IsNumbered (inner part.now) }
+        ensures value { Makes self.new result (takes_part (draft_value self.old) kind.now (inner part.now)) }
+        ensures kept { OnOk result (IsKept self.new) }
+    {
+        match kind {
+            Kind::Profile => self.add_profile(alloc, part),
+            Kind::Map => self.add_map(alloc, part),
+        }
     }
 }

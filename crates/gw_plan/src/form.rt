@@ -8,6 +8,13 @@ ghost use Rattle.gw_plan.specs.Seen.{line, now_all};
 use gw_lines::{Word, behind, first_word, name_at};
 use std::alloc::{AllocError, Global};
 
+/// What stands between `begin` and `stop`.
+#[derive(Drop)]
+pub enum Kind {
+    Profile,
+    Map,
+}
+
 /// A line of the plan's own. The empty event stands for an event that is absent.
 #[derive(Drop)]
 pub enum Line<'a> {
@@ -15,8 +22,7 @@ pub enum Line<'a> {
     Receives(&'a [u8], &'a [u8]),
     Versions(Vec<&'a [u8]>),
     Processing(Vec<&'a [u8]>),
-    OpensProfile,
-    OpensMap,
+    Opens(Kind),
     Routes(&'a [u8], &'a [u8], &'a [u8]),
     Delivers(&'a [u8], &'a [u8]),
 }
@@ -34,7 +40,7 @@ fn plain_words<'a>(alloc: Global, words: &[Word<'a>]) -> Result<Option<Vec<&'a [
     ensures { IfOk result (λ found. option_map (λ v. now_all v.items) found ≡ spec.plain_words (map word words.now)) }
 {
     let mut all = Vec::new(alloc);
-    for (i, next) in words.iter().enumerate() {
+    for next in words {
         let Some(bytes) = next.plain() else {
             return Ok(None);
         };
@@ -105,10 +111,10 @@ fn begin_form<'a>(words: &[Word<'a>]) -> Option<Line<'a>>
         return None;
     }
     if kind.is(b"profile") {
-        return Some(Line::OpensProfile);
+        return Some(Line::Opens(Kind::Profile));
     }
     if kind.is(b"map") {
-        return Some(Line::OpensMap);
+        return Some(Line::Opens(Kind::Map));
     }
     None
 }

@@ -25,7 +25,7 @@ pub fn joined(alloc: Global, lines: &[&[u8]]) -> Result<Vec<u8>, AllocError>
     ensures { IfOk result (λ text. text.items ≡ joined (map (λ line. line.now) lines.now)) }
 {
     let mut text = Vec::new(alloc);
-    for (i, line) in lines.iter().enumerate() {
+    for line in lines {
         text.extend_from_slice(line)?;
         text.push(b'\n')?;
     }
@@ -45,12 +45,10 @@ fn broken(alloc: Global, first: u64, lines: &[&[u8]]) -> Result<Option<PlanFault
     requires { first + length lines.now < 2 ^ 64 }
     ensures { IfOk result (λ fault. fault ≡ spec.broken first (map (λ line. line.now) lines.now)) }
 {
-    let mut at = first;
     for (i, line) in lines.iter().enumerate() {
         if !is_lawful(alloc, line)? {
-            return Ok(Some(PlanFault::Syntax(at)));
+            return Ok(Some(PlanFault::Syntax(first + i as u64)));
         }
-        at += 1;
     }
     Ok(None)
 }
@@ -93,15 +91,13 @@ pub(crate) fn first_said<'a>(
     requires { first + length lines.now < 2 ^ 64 }
     ensures { IfOk result (λ said. option_map (λ s. (s.0, map word s.1.items)) said ≡ spec.first_said first (map (λ line. line.now) lines.now)) }
 {
-    let mut at = first;
     for (i, line) in lines.iter().enumerate() {
         let Some(words) = words_of(alloc, line)? else {
             return Ok(None);
         };
         if !words.is_empty() {
-            return Ok(Some((at, words)));
+            return Ok(Some((first + i as u64, words)));
         }
-        at += 1;
     }
     Ok(None)
 }

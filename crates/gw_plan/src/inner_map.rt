@@ -3,16 +3,14 @@ ghost use Rattle.std.specs.Prelude.{◌≡◌, ◌<◌, ◌^◌, IfOk, IfSome, S
 ghost use Rattle.std.specs.Arc.{arc_value};
 ghost use Rattle.std.specs.Option.{option_map};
 ghost use Rattle.gw_lines.specs.Reading.{Gives};
-ghost use Rattle.gw_profile.specs.Seen.{profile_value};
 ghost use Rattle.gw_maplang.specs.Seen.{map_value};
 ghost use Rattle.gw_maplang.specs.Whole as maps;
 ghost use Rattle.gw_maplang.specs.declared.fault.MapFault.TheVariants as map_faults;
 ghost use Rattle.gw_resolve.specs.Seen.{failure};
 ghost use Rattle.gw_plan.specs.declared.fault.PlanFault.TheVariants as fault;
 ghost use Rattle.gw_plan.specs.Above.{profiles_of, maps_of, named_profile, IsNewMap};
-ghost use Rattle.gw_plan.specs.Held.{map_between};
 ghost use Rattle.gw_plan.specs.Inner as spec;
-ghost use Rattle.gw_plan.specs.Made.{inner, map_head, with_found, IsNumbered, IsLasting, Spells, Checks, IsTaken};
+ghost use Rattle.gw_plan.specs.Made.{inner, map_head, shared_map, lent_profile, with_found, IsNumbered, IsLasting, Spells, Checks, IsTaken};
 
 use crate::above::Above;
 use crate::fault::PlanFault;
@@ -128,8 +126,8 @@ fn spelled(alloc: Global, part: &Inner<'_, '_>) -> Result<Result<Map, MapFault>,
 
 // The profiles that a map names, where they stand above.
 fn sides<'s>(above: &'s Above, map: &Map) -> Option<(&'s Arc<Profile>, &'s Arc<Profile>)>
-    ensures between { option_map (with_found (λ p. profile_value (arc_value p.now)) (map_value map.now)) result ≡ spec.between (profiles_of above.now) (map_value map.now) }
-    ensures source { IfSome result (λ s. named_profile map.now.source (profiles_of above.now) ≡ Some (profile_value (arc_value s.0.now))) }
+    ensures between { option_map (with_found lent_profile (map_value map.now)) result ≡ spec.between (profiles_of above.now) (map_value map.now) }
+    ensures source { IfSome result (λ s. named_profile map.now.source (profiles_of above.now) ≡ Some (lent_profile s.0)) }
 {
     let source = above.profile(map.source())?;
     let target = above.profile(map.target())?;
@@ -163,7 +161,7 @@ fn with_sides(
     map: Map,
 ) -> Result<Arc<CheckedMap>, PlanFault>
     requires { IsNumbered (inner part.now) }
-    ensures said { Gives fault.Memory (λ m. map_between (arc_value m)) result (spec.checked_between (profiles_of above.now) beside (inner part.now) (map_value map)) }
+    ensures said { Gives fault.Memory shared_map result (spec.checked_between (profiles_of above.now) beside (inner part.now) (map_value map)) }
     ensures taken { IfOk result (λ m. IsTaken (profiles_of above.now) map (arc_value m)) }
     ensures alone { IfOk result (λ _. beside ≡ None) }
 {
@@ -188,7 +186,7 @@ pub(crate) fn take_map(
     part: &Inner<'_, '_>,
 ) -> Result<Arc<CheckedMap>, PlanFault>
     requires { IsNumbered (inner part.now) }
-    ensures said { Gives fault.Memory (λ m. map_between (arc_value m)) result (spec.inner_map (profiles_of above.now) (maps_of above.now) (inner part.now)) }
+    ensures said { Gives fault.Memory shared_map result (spec.inner_map (profiles_of above.now) (maps_of above.now) (inner part.now)) }
     ensures new { IfOk result (λ m. IsNewMap above.now (arc_value m)) }
 {
     let beside = faults_beside(alloc, above, part)?;

@@ -3,13 +3,12 @@ ghost use Rattle.std.specs.Prelude.{◌≡◌, ◌<◌, ◌^◌, IfOk};
 ghost use Rattle.std.specs.Arc.{arc_value};
 ghost use Rattle.std.specs.Option.{option_map};
 ghost use Rattle.gw_lines.specs.Reading.{Gives};
-ghost use Rattle.gw_profile.specs.Seen.{profile_value};
 ghost use Rattle.gw_profile.specs.Whole as profiles;
 ghost use Rattle.gw_profile.specs.declared.fault.ProfileFault.TheVariants as profile_faults;
 ghost use Rattle.gw_plan.specs.declared.fault.PlanFault.TheVariants as fault;
 ghost use Rattle.gw_plan.specs.Above.{profiles_of, IsNewProfile};
 ghost use Rattle.gw_plan.specs.Inner as spec;
-ghost use Rattle.gw_plan.specs.Made.{inner, IsNumbered, IsLasting, Spells};
+ghost use Rattle.gw_plan.specs.Made.{inner, shared_profile, IsNumbered, IsLasting, Spells};
 
 use crate::above::Above;
 use crate::fault::PlanFault;
@@ -101,7 +100,7 @@ fn spelled(
     alloc: Global,
     part: &Inner<'_, '_>,
 ) -> Result<Result<Arc<Profile>, ProfileFault>, AllocError>
-    ensures { IfOk result (λ made. Spells (λ p. profile_value (arc_value p)) made (profiles.spelled (spec.text (inner part.now)))) }
+    ensures { IfOk result (λ made. Spells shared_profile made (profiles.spelled (spec.text (inner part.now)))) }
 {
     let text = joined(alloc, part.lines)?;
     match parse(alloc, &text) {
@@ -118,7 +117,7 @@ pub(crate) fn take_profile(
     part: &Inner<'_, '_>,
 ) -> Result<Arc<Profile>, PlanFault>
     requires { IsNumbered (inner part.now) }
-    ensures said { Gives fault.Memory (λ p. profile_value (arc_value p)) result (spec.inner_profile (profiles_of above.now) (inner part.now)) }
+    ensures said { Gives fault.Memory shared_profile result (spec.inner_profile (profiles_of above.now) (inner part.now)) }
     ensures new { IfOk result (λ p. IsNewProfile above.now (arc_value p)) }
 {
     let beside = faults_beside(alloc, above, part)?;

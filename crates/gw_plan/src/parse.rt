@@ -14,7 +14,7 @@ ghost use Rattle.gw_plan.specs.Whole as spec;
 
 use crate::draft::Draft;
 use crate::fault::PlanFault;
-use crate::form::{Line, form, is_stop};
+use crate::form::{Kind, Line, form, is_stop};
 use crate::inner::Inner;
 use crate::plan::Plan;
 use gw_lines::{Word, lines_of, words_of};
@@ -56,38 +56,24 @@ fn inner_at<'x, 'a>(
     })
 }
 
-// Takes a profile; how many of the lines that follow say it.
-fn take_profile(
+// Takes a profile or a map; how many of the lines that follow say it.
+fn take_inner(
     alloc: Global,
     draft: &mut Draft,
     at: u64,
+    kind: &Kind,
     more: &[&[u8]],
 ) -> Result<usize, PlanFault>
     requires kept { IsKept draft.old }
     requires few { at + length more.now < 4294967296 }
-    ensures value { MakesBy draft.new result (spec.takes_inner_profile (draft_value draft.old) at (now_all more.now)) }
+    ensures value { MakesBy draft.new result (spec.takes_inner (draft_value draft.old) at kind.now (now_all more.now)) }
     ensures kept { OnOk result (IsKept draft.new) }
 {
     if !draft.begun {
         return Err(PlanFault::Syntax(at));
     }
     let part = inner_at(alloc, at, more)?;
-    draft.add_profile(alloc, &part)?;
-    Ok(part.lines.len() + 1)
-}
-
-// Takes a map; how many of the lines that follow say it.
-fn take_map(alloc: Global, draft: &mut Draft, at: u64, more: &[&[u8]]) -> Result<usize, PlanFault>
-    requires kept { IsKept draft.old }
-    requires few { at + length more.now < 4294967296 }
-    ensures value { MakesBy draft.new result (spec.takes_inner_map (draft_value draft.old) at (now_all more.now)) }
-    ensures kept { OnOk result (IsKept draft.new) }
-{
-    if !draft.begun {
-        return Err(PlanFault::Syntax(at));
-    }
-    let part = inner_at(alloc, at, more)?;
-    draft.add_map(alloc, &part)?;
+    draft.add(alloc, kind, &part)?;
     Ok(part.lines.len() + 1)
 }
 
@@ -105,8 +91,7 @@ fn take_line(
     ensures kept { OnOk result (IsKept draft.new) }
 {
     match whole {
-        Line::OpensProfile => take_profile(alloc, draft, at, more),
-        Line::OpensMap => take_map(alloc, draft, at, more),
+        Line::Opens(kind) => take_inner(alloc, draft, at, kind, more),
         _ => {
             draft.take(alloc, at, whole)?;
             Ok(0)

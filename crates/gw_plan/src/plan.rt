@@ -2,7 +2,7 @@
 ghost use Rattle.std.specs.Prelude.{◌≡◌, ◌↔◌, ◌<◌, IsTrue, IfOk, map, length, slice_get, Some, Ok, bytes_eq};
 ghost use Rattle.std.specs.List.{list_any};
 ghost use Rattle.gw_plan.specs.Routing.{header_text, is_accepted, routed};
-ghost use Rattle.gw_plan.specs.Held.{plan_value, lent, tested, FoundAt};
+ghost use Rattle.gw_plan.specs.Held.{plan_value, lent, tested_for, FoundAt};
 ghost use Rattle.gw_plan.specs.Seen.{receiver_value};
 ghost use Rattle.gw_plan.specs.Draft.{plan_of};
 ghost use Rattle.gw_plan.specs.Drafted.{draft_value, IsKept};
@@ -52,21 +52,20 @@ impl Part for Receiver {
 
 impl Model for Plan {
     ghost use Rattle.std.specs.Coded.{codes};
-    ghost use Rattle.std.specs.Prelude.{map};
     ghost use Rattle.gw_profile.specs.contracts.node.Node as node;
     ghost use Rattle.gw_maplang.specs.contracts.item.Item as raw_item;
     ghost use Rattle.gw_resolve.specs.contracts.resolved.Item as item;
-    ghost use Rattle.gw_plan.specs.Seen.{receiver_value};
     ghost use Rattle.gw_plan.specs.Held.{PlanHeld};
+    ghost use Rattle.gw_plan.specs.Seen.{held_plan};
     ghost use Rattle.gw_plan.specs.Kept.{IsPlan};
 
     ghost Value = { PlanHeld };
 
     ghost coded = { Prim.hlevel (codes, node.the_row.coded, raw_item.the_row.coded, item.the_row.coded) };
 
-    ghost view = { λ p. record { text = p.text.items; receivers = map receiver_value p.receivers.items; versions = map (λ w. w.items) p.versions.items; processing = map (λ w. w.items) p.processing.items; routes = p.routes.items } };
+    ghost view = { λ p. held_plan p.text p.receivers p.versions p.processing p.routes };
 
-    ghost invariant = { λ p. IsPlan (record { text = p.text.items; receivers = map receiver_value p.receivers.items; versions = map (λ w. w.items) p.versions.items; processing = map (λ w. w.items) p.processing.items; routes = p.routes.items }) p.index };
+    ghost invariant = { λ p. IsPlan (held_plan p.text p.receivers p.versions p.processing p.routes) p.index };
 }
 
 // The first leaf of a component of a field of MSH.
@@ -159,7 +158,7 @@ impl Plan {
 
     // The tests of version and processing id, for a route of this number.
     fn tested(&self, message: &Message, number: usize) -> Result<usize, u16>
-        ensures { result ≡ tested (is_accepted self.now.versions (header_text message.now 12 1)) (is_accepted self.now.processing (header_text message.now 11 1)) number }
+        ensures { result ≡ tested_for self.now message.now number }
     {
         if !accepts(&self.versions, header_text(message, 12, 1)) {
             return Err(203);
@@ -191,7 +190,8 @@ impl Plan {
     }
 
     /// The message's route, or the code of the condition that fails first:
-    /// 200 for its type, 201 for its event, 203 for its version, 202 for its processing id (HL7 table 0357). It takes no memory, and no more time where there are more routes.
+    /// 200 for its type, 201 for its event, 203 for its version, 202 for its processing id (HL7 table 0357).
+    /// It takes no memory, and no more time where there are more routes.
     pub fn route(&self, message: &Message) -> Result<&Route, u16>
         ensures { lent result ≡ routed (plan_value self.now) message.now }
     {

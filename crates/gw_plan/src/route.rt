@@ -26,20 +26,19 @@ pub struct Route {
 
 impl Model for Route {
     ghost use Rattle.std.specs.Coded.{codes};
-    ghost use Rattle.std.specs.Prelude.{map};
-    ghost use Rattle.std.specs.Arc.{arc_value};
     ghost use Rattle.gw_profile.specs.contracts.node.Node as node;
     ghost use Rattle.gw_maplang.specs.contracts.item.Item as raw_item;
     ghost use Rattle.gw_resolve.specs.contracts.resolved.Item as item;
     ghost use Rattle.gw_plan.specs.Held.{RouteHeld, IsRoute};
+    ghost use Rattle.gw_plan.specs.Seen.{held_route};
 
     ghost Value = { RouteHeld };
 
     ghost coded = { Prim.hlevel (codes, node.the_row.coded, raw_item.the_row.coded, item.the_row.coded) };
 
-    ghost view = { λ r. record { code = r.code.items; event = r.event.items; profile = arc_value r.profile; legs = map (λ l. (l.0, arc_value l.1)) r.legs.entries } };
+    ghost view = { λ r. held_route r.code r.event r.profile r.legs.entries };
 
-    ghost invariant = { λ r. IsRoute (record { code = r.code.items; event = r.event.items; profile = arc_value r.profile; legs = map (λ l. (l.0, arc_value l.1)) r.legs.entries }) };
+    ghost invariant = { λ r. IsRoute (held_route r.code r.event r.profile r.legs.entries) };
 }
 
 impl Route {

@@ -5,6 +5,6 @@ use Rattle.gw_plan.specs.Line.{plain_words}
 use Rattle.gw_plan.specs.Seen.{now_all}
 use Rattle.gw_plan.proofs.form.plain_words.Given as goal
 
-abbrev pub invariant-loop-i : goal.invariant-loop-i
-invariant-loop-i l =
-    option_map (λ more. now_all l.all.items ++ more) (plain_words (map word (drop l.i l.words))) ≡ plain_words (map word l.words)
+abbrev pub invariant-loop-next : goal.invariant-loop-next
+invariant-loop-next l =
+    option_map (λ more. now_all l.all.items ++ more) (plain_words (map word (drop l.next-index l.words))) ≡ plain_words (map word l.words)

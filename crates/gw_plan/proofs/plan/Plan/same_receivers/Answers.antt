@@ -1,4 +1,4 @@
-use Rattle.std.proofs.Common.{◌∙◌, ap, sym}
+use Rattle.std.proofs.Common.{ap, sym}
 use Rattle.gw_plan.specs.Held.{PlanHeld}
 use Rattle.gw_plan.proofs.Alike.{receivers_same}
 use Rattle.gw_plan.proofs.plan.Plan.same_receivers.Goals as goal
