@@ -35,10 +35,14 @@ use Rattle.gw_gate.specs.contracts.event.Entry as Entry
 use Rattle.gw_gate.specs.contracts.books.Books as Books
 use Rattle.gw_gate.specs.contracts.gate.Gate as Gate
 use Rattle.gw_crew.proofs.door.Phase.TheSendSync as phase
+use Rattle.gw_crew.specs.contracts.note.Receipt as Receipt
+use Rattle.gw_crew.specs.contracts.note.Note as Note
 use Rattle.std.specs.declared.sync.ledger.Ledger as ledger
 use Rattle.std.proofs.sync.ledger.Book.TheSendSync as book
+use Rattle.std.proofs.sync.ledger.Share.TheSendSync as share
 use Rattle.gw_run.specs.contracts.locked.Locked as Locked
 use Rattle.gw_run.specs.contracts.locked.LockedGate as LockedGate
+use Rattle.gw_run.specs.contracts.pass.Receipts as Receipts
 
 -- ---- profiles
 
@@ -140,5 +144,16 @@ LockedGate-send L g = search (Locked-send, crosses, sendable) depth 60 fits 5000
 pub LockedGate-sync : (L : RattleType) (g : ledger.Ghosts L.Denot) → IsSync (LockedGate.the_field L g).row
 LockedGate-sync L g = search (Locked-send, crosses, sendable) depth 60 fits 50000
 
--- what a thread may hold of a locked gate
-pub ruleset threads = (LockedGate-send, LockedGate-sync, Plan-send, Plan-sync, maps.crosses, crosses, sendable)
+-- ---- what a pass leaves
+
+Receipt-send : IsSend (Receipt.the_field).row
+Receipt-send = search (Entry-send, sendable) depth 60 fits 50000
+
+Note-send : IsSend (Note.the_field).row
+Note-send = search (Receipt-send, held) depth 60 fits 50000
+
+pub Receipts-send : (L : RattleType) (g : ledger.Ghosts L.Denot) → IsSend (Receipts.the_field L g).row
+Receipts-send L g = search (Note-send, share.the_send, crosses, sendable) depth 60 fits 50000
+
+-- what a thread may hold of a locked gate, and what it may hand over of its pass
+pub ruleset threads = (LockedGate-send, LockedGate-sync, Receipts-send, Plan-send, Plan-sync, maps.crosses, crosses, sendable)

@@ -7,3 +7,6 @@ pub mod Marking
 pub mod Meeting
 pub mod Prefixes
 pub mod Telling
+pub mod Joining
+pub mod Dues
+pub mod Ordering

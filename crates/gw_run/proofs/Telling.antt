@@ -1,24 +1,25 @@
 -- What is gathered tells of the whole journal.
 use Rattle.std.proofs.Common.{◌≡◌, ℕ, zero, suc, ◌+◌, ◌-◌, ◌<◌, ◌≤◌, ◌⊎◌, inl, inr, true, false, List, [], ◌∷◌, ◌++◌, length, map, take, drop, Option, None, Some, option_map, slice_get, refl, sym, ap, subst, ◌∙◌, arith}
-use Rattle.std.specs.Prelude.{nat_le}
+use Rattle.std.specs.Prelude.{nat_le, is_some, not}
 use Rattle.std.proofs.lemmas.Grind.{common_steps}
 use Rattle.std.proofs.lemmas.Bool.{cases_lt}
 use Rattle.std.proofs.lemmas.List.{length-map, take-append-drop}
 use Rattle.std.proofs.lemmas.Option.{slice_get-map, slice_get-get_or, slice_get_past, none-some}
-use Rattle.gw_gate.specs.Parts.{PlanSeen, ConformingSeen}
+use Rattle.gw_gate.specs.Parts.{PlanSeen, ConformingSeen, TranslatedSeen}
 use Rattle.gw_gate.specs.Books.{journal_of}
 use Rattle.gw_gate.specs.Headline.{CountFrom, IsTranslated}
-use Rattle.gw_gate.specs.Journal.{EntrySeen, Journal, Pair, Acceptance, Version, acceptance, accepted, current, issued, jobs, opening, plans, swapped}
+use Rattle.gw_gate.specs.Journal.{EntrySeen, Journal, Pair, Version, acceptance, accepted, current, due, issued, jobs, opening, plans, released, swapped}
 use Rattle.gw_gate.specs.Lawful.{IsLawful}
 use Rattle.gw_gate.specs.Meaning.{Makes}
-use Rattle.gw_gate.specs.Replies.{Takes, job_of, job_with, reply_to}
+use Rattle.gw_gate.specs.Replies.{Takes, Releases, is_kept, job_of, job_with, out_of, out_with, reply_to}
 use Rattle.gw_gate.proofs.Accounts.{acceptance_is, under}
-use Rattle.gw_gate.proofs.Journals.{accepted-append, last_stands, plan_stays}
+use Rattle.gw_gate.proofs.Journals.{last_stands, plan_stays}
 use Rattle.gw_gate.proofs.Numbering.{n_of, lawful_numbers}
-use Rattle.gw_run.specs.Gathers.{is_idle_after, is_idle_by, numbers_issued, swaps_in}
-use Rattle.gw_run.specs.Joins.{IdleAt, PlansAt}
-use Rattle.gw_run.specs.Settled.{is_idle, until}
+use Rattle.gw_run.specs.Gathers.{is_idle_after, is_idle_by, is_nothing_after, is_nothing_by, kept_of, numbers_issued, swaps_in}
+use Rattle.gw_run.specs.Joins.{IdleAt, NothingAt, PlansAt}
+use Rattle.gw_run.specs.Settled.{is_idle, is_nothing, until}
 use Rattle.gw_run.specs.Turns.{CountsTo, TurnsTo}
+use Rattle.gw_run.proofs.Dues.{counted_until}
 use Rattle.gw_run.proofs.Fitting.{some_is}
 use Rattle.gw_run.proofs.Marking.{take_past}
 use Rattle.gw_run.proofs.Turning.{counts_done, turns_done}
@@ -33,10 +34,6 @@ count_at : (first : ℕ) (xs : List Version) (i : ℕ) (v : Version) → CountFr
 count_at first [] i v all is = absurd (none-some v is)
 count_at first (x ∷ xs) zero v all is = let e = ap number (some_is x v is) in let f = all.0 in omega (arith, e, f)
 count_at first (x ∷ xs) (suc i) v all is = let e = count_at (first + 1) xs i v all.1 is in omega (arith, e)
-
-count_before : (first : ℕ) (xs ys : List Acceptance) → CountFrom first (map n_of (xs ++ ys)) → CountFrom first (map n_of xs)
-count_before first [] ys all = tt
-count_before first (x ∷ xs) ys all = (all.0, count_before (first + 1) xs ys all.1)
 
 same_past : {X : Type 0} (h : List X) (k m : ℕ) → length h ≤ k → length h ≤ m → take k h ≡ take m h
 same_past h k m a b = take_past k h a ∙ sym (take_past m h b)
@@ -107,20 +104,38 @@ idle_reply h counted None = refl
 idle_reply h counted (Some next) = idle_some h next counted
 
 module _ (p : PlanSeen) (h : List EntrySeen) (lawful : IsLawful (IsTranslated Makes) (journal_of p h)) where
-  counted_until : (k : ℕ) → CountFrom 0 (map n_of (accepted (take k h)))
-  counted_until k =
-      let whole : accepted h ≡ accepted (take k h) ++ accepted (drop k h) = ap accepted (sym (take-append-drop k h)) ∙ accepted-append (take k h) (drop k h) in
-      let numbers = lawful_numbers Makes (journal_of p h) lawful in
-      count_before 0 (accepted (take k h)) (accepted (drop k h)) (subst (λ l. CountFrom 0 (map n_of l)) whole numbers.accepted)
-
   idle_at : (k : ℕ) → is_idle (reply_to (until (journal_of p h) k) Takes) ≡ is_idle_after h k
   idle_at k =
       let g = take k h in
+      let numbers = lawful_numbers Makes (journal_of p h) lawful in
       ap (λ l. is_idle (job_of l (slice_get (issued l) (jobs l)))) (until_is p h k)
-      ∙ idle_reply g (counted_until k) (slice_get (issued g) (jobs g))
+      ∙ idle_reply g (counted_until h numbers.accepted k) (slice_get (issued g) (jobs g))
       ∙ ap (λ o. is_idle_by o (length (accepted g))) (sym (slice_get-map number_of (issued g) (jobs g)))
 
   pub tells_idle : (ats : List ℕ) → TurnsTo (is_idle_after h) (length h) ats → IdleAt (journal_of p h) ats
   tells_idle ats turns =
       let done = turns_done (is_idle_after h) (length h) ats (λ k le. ap (λ l. is_idle_by (slice_get (numbers_issued l) (jobs l)) (length (accepted l))) (same_past h k (length h) le (omega arith))) turns in
       record { rising = done.rising; tells = λ k i there. idle_at k ∙ done.tells k i there }
+
+-- ---- what is to be given out
+
+nothing_with : (n : ℕ) (o : Option TranslatedSeen) → is_nothing (out_with n o) ≡ not (is_some o)
+nothing_with n None = refl
+nothing_with n (Some t) = refl
+
+nothing_reply : (h : List EntrySeen) (r : ℕ) (o : Option ℕ) → is_nothing (out_of h r o) ≡ is_nothing_by (option_map (λ n. is_kept h n r) o)
+nothing_reply h r None = refl
+nothing_reply h r (Some n) = nothing_with n _
+
+module _ (p : PlanSeen) (h : List EntrySeen) (r : ℕ) where
+  nothing_at : (k : ℕ) → is_nothing (reply_to (until (journal_of p h) k) (Releases r)) ≡ is_nothing_after h r k
+  nothing_at k =
+      let g = take k h in
+      ap (λ l. is_nothing (out_of l r (slice_get (due l r) (length (released l r))))) (until_is p h k)
+      ∙ nothing_reply g r (slice_get (due g r) (length (released g r)))
+      ∙ ap is_nothing_by (sym (slice_get-map (λ n. is_kept g n r) (due g r) (length (released g r))))
+
+  pub tells_nothing : (ats : List ℕ) → TurnsTo (is_nothing_after h r) (length h) ats → NothingAt (journal_of p h) r ats
+  tells_nothing ats turns =
+      let done = turns_done (is_nothing_after h r) (length h) ats (λ k le. ap (λ l. is_nothing_by (slice_get (kept_of l r) (length (released l r)))) (same_past h k (length h) le (omega arith))) turns in
+      record { rising = done.rising; tells = λ k i there. nothing_at k ∙ done.tells k i there }

@@ -7,3 +7,4 @@ pub mod Joins
 pub mod Tellings
 pub mod Gathers
 pub mod Queues
+pub mod Owing

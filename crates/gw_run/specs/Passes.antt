@@ -1,5 +1,5 @@
 -- What the passes of a locked gate hold, and what is counted under its lock.
-use Rattle.std.specs.Prelude.{◌≡◌, ℕ, ◌<◌, List, filter_map, length, Option, Result, Ok, Err}
+use Rattle.std.specs.Prelude.{◌≡◌, ℕ, ◌+◌, ◌<◌, List, filter_map, length, sum_by, Option, Result, Ok, Err}
 use Rattle.std.specs.Option.{option_map, option_to_list}
 use Rattle.gw_gate.specs.Journal.{Journal}
 use Rattle.gw_gate.specs.Replies.{EventSeen}
@@ -29,11 +29,27 @@ pub record MayCount (pass : PassSeen) : Type 0 where
   pub counted : IsCounted pass
   pub part : 0 < pass.parts
 
+-- how many parts of the ledger passes have, and how many receipts
+abbrev pub part_count : List PassSeen → ℕ
+part_count passes = sum_by (λ pass. pass.parts) passes
+
+abbrev pub receipt_count : List PassSeen → ℕ
+receipt_count passes = sum_by (λ pass. length (receipts pass.notes)) passes
+
+-- they have every part of a ledger that is cut into so many
+pub record HaveAll (parts : ℕ) (passes : List PassSeen) : Type 0 where
+  pub some : 0 < length passes
+  pub every : part_count passes ≡ parts
+
 -- a gate whose passes have ended, with how many entries it had when they began, and how many the book of the ledger has in all
 pub record CountedSeen : Type 0 where
   pub gate : Journal
   pub since : ℕ
   pub total : ℕ
+
+-- since then it got as many entries as the passes have receipts
+abbrev pub AreCounted : CountedSeen → List PassSeen → Type 0
+AreCounted counted passes = counted.since + receipt_count passes ≡ length counted.gate.entries
 
 -- ---- a step under the lock
 

@@ -1,8 +1,9 @@
--- Notes about a toy's journals.
-use Rattle.std.specs.Prelude.{List, [], ◌∷◌}
-use Rattle.gw_gate.specs.Journal.{Journal, WasAccepted, WasSwapped, WasTaken, WasKept, WasOut}
+-- Notes about a toy's journals, and what is owed by them.
+use Rattle.std.specs.Prelude.{ℕ, Bool, List, [], ◌∷◌, fold}
+use Rattle.gw_gate.specs.Journal.{EntrySeen, Journal, WasAccepted, WasSwapped, WasTaken, WasKept, WasOut}
 use Rattle.gw_gate.specs.Replies.{Arrives, Swaps, Takes, Puts, Releases, run, most}
 use Rattle.gw_gate.specs.Toy.{first_plan, second_plan, message, made, opened}
+use Rattle.gw_run.specs.Owing.{OwedSeen, after_entry, nothing_owed}
 use Rattle.gw_crew.specs.Notes.{NoteSeen, Looked, WasStale, WasIdle, WasNothing, Added}
 
 -- ---- two workers, beside the session that brought two messages
@@ -49,3 +50,12 @@ late_nothing = Added 3 (WasKept 0 (made 10)) ∷ WasNothing 0 ∷ Added 4 (WasOu
 -- a message was stale though its plan was in force
 abbrev pub false_stale : List NoteSeen
 false_stale = WasStale 0 (message 10) ∷ Added 0 (WasAccepted 0 1 (message 10)) ∷ []
+
+-- ---- what is owed
+
+abbrev pub owing : List ℕ → List Bool → ℕ → OwedSeen
+owing due kept given = record { due = due; kept = kept; given = given }
+
+-- what is owed to a receiver after these entries
+abbrev pub owed_by : List EntrySeen → ℕ → OwedSeen
+owed_by h r = fold (λ s e. after_entry e r s) nothing_owed h

@@ -1,5 +1,5 @@
 -- Whether the notes of finished passes agree with the journal.
-use Rattle.std.specs.Prelude.{ℕ, ◌+◌, ◌-◌, ◌==◌, nat_le, Bool, true, false, not, ◌&&◌, IsTrue, List, [], ◌∷◌, flat_map, count_by, length, take, slice_get}
+use Rattle.std.specs.Prelude.{ℕ, ◌+◌, ◌-◌, ◌==◌, nat_le, Bool, true, false, not, ◌&&◌, IsTrue, List, [], ◌∷◌, flat_map, count_by, length, map, take, slice_get}
 use Rattle.std.specs.Prelude.{Option, None, Some, bytes_eq}
 use Rattle.std.specs.List.{list_any, list_all, range_with_len}
 use Rattle.gw_gate.specs.Parts.{is_under}
@@ -7,7 +7,7 @@ use Rattle.gw_gate.specs.Journal.{EntrySeen, Journal, current, end}
 use Rattle.gw_gate.specs.Replies.{ReplySeen, IsIdle, IsNothing, Takes, Releases, reply_to, most}
 use Rattle.gw_gate.specs.Same.{same_entry}
 use Rattle.gw_crew.specs.Notes.{NoteSeen, Looked, WasStale, WasFull, WasIdle, WasNothing, Added, ReceiptSeen}
-use Rattle.gw_run.specs.Passes.{receipts}
+use Rattle.gw_run.specs.Passes.{CountedSeen, PassSeen, receipts}
 
 -- ---- a note by itself
 
@@ -82,3 +82,7 @@ are_all since end all = list_all (λ k. having all k == 1) (range_with_len since
 pub record Settled (j : Journal) (since : ℕ) (passes : List (List NoteSeen)) : Type 0 where
   pub all : IsTrue (are_all since (end j) (flat_map receipts passes))
   pub each : IsTrue (list_all (agrees j since) passes)
+
+-- the same of passes that have ended, and of the gate that is left
+abbrev pub AreSettled : CountedSeen → List PassSeen → Type 0
+AreSettled counted passes = Settled counted.gate counted.since (map (λ pass. pass.notes) passes)

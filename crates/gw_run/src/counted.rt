@@ -4,7 +4,7 @@ ghost use Rattle.std.specs.Prelude.{◌≡◌, ◌≤◌, length};
 use crate::report::Report;
 use gw_gate::Gate;
 use std::marker::Model;
-use std::sync::ledger::{Book, Ledger};
+use std::sync::ledger::{Book, Ledger, Share};
 
 /// A gate whose passes have ended, with the book of the entries that they added.
 #[derive(Drop)]
@@ -41,6 +41,14 @@ impl<L: Ledger> Counted<L> {
         ensures { result.now ≡ self.now.gate }
     {
         &self.gate
+    }
+
+    // Where the share has every part of the ledger, it counts each entry that was added.
+    pub(crate) fn audit(&mut self, share: &mut Share<L>)
+        ensures same { self.new ≡ self.old }
+        ensures whole { share.old.parts ≡ L.parts → self.old.since + share.old.amount ≡ length self.old.gate.entries }
+    {
+        self.book.audit(share);
     }
 
     /// How many entries of each kind its journal has, and how many in all. It takes no memory.

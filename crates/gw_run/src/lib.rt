@@ -7,13 +7,16 @@
 mod agreeing;
 mod counted;
 mod gathering;
+mod join;
 pub mod laws;
 mod locked;
 mod marks;
+mod owed;
 mod pass;
 mod past;
 mod queue;
 mod report;
+mod routes;
 mod settling;
 mod turns;
 
@@ -24,6 +27,7 @@ pub use gw_crew::{
 pub use gw_stream::{
     Counts, Failed, Reads, RunFault, Sink, Source, Writes, answer_stream, serve_once,
 };
+pub use join::join_all;
 pub use locked::LockedGate;
 pub use pass::{Pass, Receipts};
 pub use report::Report;

@@ -51,9 +51,9 @@ impl<L: Ledger> Model for Receipts<L> {
 }
 
 impl<L: Ledger> Receipts<L> {
-    ghost use Rattle.std.specs.Prelude.{◌≡◌};
+    ghost use Rattle.std.specs.Prelude.{◌≡◌, length};
     ghost use Rattle.gw_crew.specs.Seen.{notes_seen};
-    ghost use Rattle.gw_run.specs.Passes.{IsCounted};
+    ghost use Rattle.gw_run.specs.Passes.{IsCounted, receipts};
 
     /// The notes, in order. It takes no memory.
     pub fn notes(&self) -> &[Note]
@@ -61,6 +61,15 @@ impl<L: Ledger> Receipts<L> {
         ensures counted { IsCounted self.now }
     {
         self.notes.as_slice()
+    }
+
+    // The share alone.
+    pub(crate) fn into_share(self) -> Share<L>
+        ensures parts { result.parts ≡ self.parts }
+        ensures amount { result.amount ≡ length (receipts self.notes) }
+    {
+        let Receipts { share, notes: _ } = self;
+        share
     }
 }
 

@@ -8,10 +8,11 @@ ghost use Rattle.gw_gate.specs.Parts.{is_under};
 ghost use Rattle.gw_gate.specs.Seen.{plan_seen, conforming_seen};
 ghost use Rattle.gw_crew.specs.Notes.{Looked, WasStale, WasFull, WasIdle, WasNothing};
 ghost use Rattle.gw_crew.specs.Seen.{note_seen};
-ghost use Rattle.gw_run.specs.Joins.{IsFirst, IdleAt, NothingAt, PlansAt, of_receiver, plans_at};
+ghost use Rattle.gw_run.specs.Joins.{IsFirst, of_receiver, plans_at};
 ghost use Rattle.gw_run.specs.Tellings.{Tells};
 
 use crate::gathering::{plans_in, swaps_in};
+use crate::owed::nothing_in;
 use crate::queue::idle_in;
 use crate::turns::{first_even, first_with};
 use gw_gate::{Entry, MOST};
@@ -61,13 +62,12 @@ fn have_same_text(plan: &Plan, other: &Plan) -> bool
 }
 
 impl Past {
-    ghost use Rattle.std.specs.Prelude.{◌≡◌, ℕ, IfOk, length};
+    ghost use Rattle.std.specs.Prelude.{◌≡◌, IfOk, length};
     ghost use Rattle.gw_gate.specs.Books.{journal_of};
     ghost use Rattle.gw_gate.specs.Headline.{IsTranslated};
     ghost use Rattle.gw_gate.specs.Lawful.{IsLawful};
     ghost use Rattle.gw_gate.specs.Meaning.{Makes};
     ghost use Rattle.gw_gate.specs.Values.{entries_seen};
-    ghost use Rattle.gw_run.specs.Joins.{NothingAt, of_receiver};
     ghost use Rattle.std.specs.Arc.{arc_value};
     ghost use Rattle.gw_gate.specs.Journal.{Journal};
     ghost use Rattle.gw_gate.specs.Seen.{plan_seen, conforming_seen};
@@ -76,20 +76,19 @@ impl Past {
     ghost use Rattle.gw_run.specs.Joins.{IsFirst};
     ghost use Rattle.gw_run.specs.Tellings.{Tells};
 
-    // What a journal changed, by what it changed for receivers.
-    pub(crate) fn with_nothing(
+    // What a journal changed.
+    pub(crate) fn of(
         alloc: Global,
         opening: &Arc<Plan>,
         entries: &[Entry],
-        nothing: Vec<Vec<usize>>,
     ) -> Result<Self, AllocError>
-        requires lawful { IsLawful (IsTranslated Makes) (journal_of (plan_seen (arc_value opening.now)) (entries_seen entries.now)) }
-        requires nothing { (r : ℕ) → NothingAt (journal_of (plan_seen (arc_value opening.now)) (entries_seen entries.now)) r (of_receiver nothing.items r) }
+        requires { IsLawful (IsTranslated Makes) (journal_of (plan_seen (arc_value opening.now)) (entries_seen entries.now)) }
         ensures { IfOk result (λ past. Tells (journal_of (plan_seen (arc_value opening.now)) (entries_seen entries.now)) past) }
     {
         let swaps = swaps_in(alloc, entries)?;
         let plans = plans_in(alloc, opening, entries)?;
         let idle = idle_in(alloc, entries)?;
+        let nothing = nothing_in(alloc, entries)?;
         Ok(Past {
             entries: entries.len(),
             swaps,

@@ -7,6 +7,7 @@ ghost use Rattle.gw_run.specs.Gathers.{is_idle_after, is_idle_by, numbers_issued
 ghost use Rattle.gw_run.specs.Queues.{Queues, Grows};
 ghost use Rattle.gw_run.specs.Turns.{TurnsTo};
 
+use crate::routes::receiver_count;
 use crate::turns::turn_to;
 use gw_gate::Entry;
 use gw_plan::Conforming;
@@ -18,13 +19,6 @@ pub(crate) struct Queue {
     pairs: Vec<u64>,
     taken: usize,
     accepted: usize,
-}
-
-// How many receivers the message's route has.
-fn receiver_count(conforming: &Conforming) -> usize
-    ensures { result ≡ length (conforming_seen conforming.now).receivers }
-{
-    conforming.route().len()
 }
 
 // A pair for each receiver of the message's route.

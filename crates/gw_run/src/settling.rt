@@ -9,7 +9,7 @@ ghost use Rattle.gw_gate.specs.Seen.{plan_seen};
 ghost use Rattle.gw_gate.specs.Values.{entries_seen};
 ghost use Rattle.std.specs.List.{list_all};
 ghost use Rattle.gw_gate.specs.Journal.{Journal};
-ghost use Rattle.gw_run.specs.Joins.{Marks, NothingAt, of_receiver};
+ghost use Rattle.gw_run.specs.Joins.{Marks};
 ghost use Rattle.gw_run.specs.Passes.{receipts};
 ghost use Rattle.gw_run.specs.Settled.{Settled, agrees};
 ghost use Rattle.gw_run.specs.Tellings.{TellsBoth, notes_of};
@@ -69,21 +69,19 @@ pub(crate) fn marks_of<L: Ledger>(
     Ok(marks)
 }
 
-// Whether the notes of the passes are settled, by what the journal changed for receivers.
+// Whether the notes of the passes are settled.
 pub(crate) fn is_settled<L: Ledger>(
     alloc: Global,
     opening: &Arc<Plan>,
     entries: &[Entry],
     since: usize,
     passes: &[Receipts<L>],
-    nothing: Vec<Vec<usize>>,
 ) -> Result<bool, AllocError>
     requires lawful { IsLawful (IsTranslated Makes) (journal_of (plan_seen (arc_value opening.now)) (entries_seen entries.now)) }
-    requires nothing { (r : ℕ) → NothingAt (journal_of (plan_seen (arc_value opening.now)) (entries_seen entries.now)) r (of_receiver nothing.items r) }
     requires since { since ≤ length entries.now }
     ensures { IfOk result (λ b. IsTrue b ↔ Settled (journal_of (plan_seen (arc_value opening.now)) (entries_seen entries.now)) since (notes_of passes.now)) }
 {
-    let past = Past::with_nothing(alloc, opening, entries, nothing)?;
+    let past = Past::of(alloc, opening, entries)?;
     let marks = marks_of(alloc, since, entries.len() - since, passes)?;
     if !are_all_marked(&marks) {
         return Ok(false);

@@ -4,7 +4,7 @@ ghost use Rattle.std.specs.Prelude.{◌≡◌};
 use crate::gates::{admitted, begun, made, plan, said};
 use gw_gate::Event;
 use gw_plan::Plan;
-use gw_run::{Door, LockedGate, Pass};
+use gw_run::{Door, LockedGate, Pass, Report, RunFault, join_all};
 use std::alloc::Global;
 use std::marker::Brand;
 use std::sync::ledger::{Blank, Ledger};
@@ -30,14 +30,18 @@ fn told<L: Ledger, R: Wait>(
     Ok(replies)
 }
 
-// What one pass to a new gate replies to the events, in order.
+/// What comes of one pass to a gate: its replies, and what is reported by its receipts.
+type Run = (Vec<(&'static str, u64)>, Result<Report, RunFault>);
+
+// What one pass to a new gate replies to the events, in order, and what is reported in the end, unless its receipts are lost.
 fn through_one<L: Ledger, R: Wait>(
     rt: &R,
     alloc: Global,
     plan: &Arc<Plan>,
     blank: Blank,
     events: Vec<Event>,
-) -> Result<Vec<(&'static str, u64)>, Fail>
+    is_lost: bool,
+) -> Result<Run, Fail>
     requires name { blank.name ≡ L.name }
     requires parts { blank.parts ≡ L.parts }
     requires one { blank.parts ≡ 1 }
@@ -45,7 +49,14 @@ fn through_one<L: Ledger, R: Wait>(
     let (book, all) = blank.open::<L>();
     let gate = LockedGate::new(begun(alloc, plan)?, book);
     let mut pass = gate.pass(alloc, rt, all);
-    told(alloc, &mut pass, events)
+    let replies = told(alloc, &mut pass, events)?;
+    let receipts = pass.end();
+    let mut passes = Vec::new(alloc);
+    if !is_lost {
+        passes.push(receipts)?;
+    }
+    let mut counted = gate.into_counted();
+    Ok((replies, join_all(alloc, &mut counted, passes)))
 }
 
 // Three messages, whose results come in another order, one of them twice.
@@ -121,7 +132,7 @@ fn one_pass_replies_as_its_gate(rt: HostRuntime) -> Result<(), Fail> {
     let alloc = rt.alloc();
     let first = plan(alloc, "ONE")?;
     let later = plan(alloc, "TWO")?;
-    let rows: [(Vec<Event>, &[(&str, u64)]); 3] = [
+    let rows: [(Vec<Event>, &[(&str, u64)], [u64; 4]); 3] = [
         (
             out_of_order(alloc, &first)?,
             &[
@@ -137,6 +148,7 @@ fn one_pass_replies_as_its_gate(rt: HostRuntime) -> Result<(), Fail> {
                 ("Out", 2),
                 ("Nothing", 0),
             ],
+            [3, 3, 3, 9],
         ),
         (
             swapped(alloc, &first, later)?,
@@ -150,6 +162,7 @@ fn one_pass_replies_as_its_gate(rt: HostRuntime) -> Result<(), Fail> {
                 ("Kept", 0),
                 ("Out", 0),
             ],
+            [1, 1, 1, 5],
         ),
         (
             issued_again(alloc, &first)?,
@@ -165,11 +178,39 @@ fn one_pass_replies_as_its_gate(rt: HostRuntime) -> Result<(), Fail> {
                 ("Stranger", 0),
                 ("Unlike", 0),
             ],
+            [1, 1, 0, 5],
         ),
     ];
-    for (events, expected) in rows {
-        let replies = through_one::<Brand, _>(&rt, alloc, &first, Blank::new(1), events)?;
+    for (events, expected, [accepted, kept, released, entries]) in rows {
+        let (replies, joined) = through_one::<Brand, _>(
+            &rt,
+            alloc,
+            &first,
+            Blank::new(1),
+            events,
+            false,
+        )?;
         assert_eq!(rt; replies.as_slice(), expected);
+        assert_eq!(rt;
+            joined,
+            Ok(Report {
+                accepted,
+                refused: 0,
+                kept,
+                released,
+                entries
+            })
+        );
     }
+    Ok(())
+}
+
+#[test]
+fn a_lost_receipt_is_missed(rt: HostRuntime) -> Result<(), Fail> {
+    let alloc = rt.alloc();
+    let plan = plan(alloc, "ONE")?;
+    let events = out_of_order(alloc, &plan)?;
+    let (_, joined) = through_one::<Brand, _>(&rt, alloc, &plan, Blank::new(1), events, true)?;
+    assert_eq!(rt; joined, Err(RunFault::Unsettled));
     Ok(())
 }

@@ -3,9 +3,11 @@ ghost use Rattle.std.specs.Prelude.{◌≡◌, ◌<◌};
 ghost use Rattle.std.specs.Thread.{IsSend, IsSync};
 
 use crate::gates::{admitted, begun, plan};
-use gw_gate::{Entry, Event, Reply};
+use gw_gate::{Event, Reply};
 use gw_plan::Plan;
-use gw_run::{Counts, Door, LockedGate, Pass, Pause, Phase, worker};
+use gw_run::{
+    Counts, Door, LockedGate, Pass, Pause, Phase, Receipts, Report, RunFault, join_all, worker,
+};
 use std::alloc::Global;
 use std::marker::Brand;
 use std::sync::atomic::{AtomicBool, Ordering};
@@ -56,8 +58,8 @@ struct Hand<'a, L: Ledger> {
     other: &'a AtomicBool,
 }
 
-// What a worker counts at the gate.
-fn work<L: Ledger, R: Wait>(rt: &R, hand: Hand<'_, L>) -> Option<Counts>
+// What a worker counts at the gate, and what its pass leaves.
+fn work<L: Ledger, R: Wait>(rt: &R, hand: Hand<'_, L>) -> (Option<Counts>, Receipts<L>)
     requires part { 0 < hand.share.parts }
     requires none { hand.share.amount ≡ 0 }
 {
@@ -74,45 +76,34 @@ fn work<L: Ledger, R: Wait>(rt: &R, hand: Hand<'_, L>) -> Option<Counts>
         other,
         stopped: false,
     };
-    worker(alloc, &mut pass, &mut pause).ok()
+    let counts = worker(alloc, &mut pass, &mut pause).ok();
+    (counts, pass.end())
 }
 
-// So many messages arrive through the pass.
+// What a pass leaves through which so many messages arrived.
 fn arrive<L: Ledger, R: Wait>(
     alloc: Global,
     plan: &Arc<Plan>,
-    pass: &mut Pass<'_, L, R>,
+    pass: Pass<'_, L, R>,
     count: u64,
-) -> Result<(), Fail> {
+) -> Result<Receipts<L>, Fail> {
+    let mut pass = pass;
     for n in 0..count {
         match pass.call(Event::Arrive(admitted(alloc, plan, 0, n)?)) {
             Ok(Reply::Accepted { .. }) => {}
             _ => return Err("it isn't accepted".into()),
         }
     }
-    Ok(())
+    Ok(pass.end())
 }
 
-// How many entries of these are jobs, how many are results, and how many there are.
-fn counted(entries: &[Entry]) -> [usize; 3] {
-    let jobs = entries
-        .iter()
-        .filter(|e| matches!(e, Entry::Job { .. }))
-        .count();
-    let kept = entries
-        .iter()
-        .filter(|e| matches!(e, Entry::Kept { .. }))
-        .count();
-    [jobs, kept, entries.len()]
-}
-
-// What two workers make of two messages: what each puts, and the entries.
+// What two workers make of two messages: what each puts, and what is reported in the end.
 fn meet<L: Ledger + Send, R: Threads + Wait + Sync>(
     rt: &R,
     alloc: Global,
     plan: &Arc<Plan>,
     blank: Blank,
-) -> Result<([Option<u64>; 2], [usize; 3]), Fail>
+) -> Result<([Option<u64>; 2], Result<Report, RunFault>), Fail>
     requires name { blank.name ≡ L.name }
     requires parts { blank.parts ≡ L.parts }
     requires three { blank.parts ≡ 3 }
@@ -121,7 +112,7 @@ fn meet<L: Ledger + Send, R: Threads + Wait + Sync>(
     let gate = LockedGate::new(begun(alloc, plan)?, book);
     let first = rest.split_off(1, 0);
     let second = rest.split_off(1, 0);
-    arrive(alloc, plan, &mut gate.pass(alloc, rt, rest), 2)?;
+    let arrived = arrive(alloc, plan, gate.pass(alloc, rt, rest), 2)?;
     gate.close(rt, Phase::NoArrivals);
     let (left, right) = (AtomicBool::new(false), AtomicBool::new(false));
     let first = Hand {
@@ -147,18 +138,29 @@ fn meet<L: Ledger + Send, R: Threads + Wait + Sync>(
             requires { (0 < second.share.parts) × (second.share.amount ≡ 0) × IsSend L.row × IsSync R.row }
         { work(rt, second) },
     );
-    let put = [one.map(|c| c.put), two.map(|c| c.put)];
-    let all = gate.into_counted();
-    Ok((put, counted(all.gate().journal())))
+    let put = [one.0.map(|c| c.put), two.0.map(|c| c.put)];
+    let mut passes = Vec::new(alloc);
+    for receipts in [arrived, one.1, two.1] {
+        passes.push(receipts)?;
+    }
+    let mut counted = gate.into_counted();
+    Ok((put, join_all(alloc, &mut counted, passes)))
 }
 
 #[test]
 fn workers_meet(rt: HostRuntime) -> Result<(), Fail> {
     let alloc = rt.alloc();
     let plan = plan(alloc, "ONE")?;
+    let report = Report {
+        accepted: 2,
+        refused: 0,
+        kept: 2,
+        released: 0,
+        entries: 6,
+    };
     for _time in 0..100 {
         let met = meet::<Brand, _>(&rt, alloc, &plan, Blank::new(3))?;
-        assert_eq!(rt; met, ([Some(1), Some(1)], [2, 2, 6]));
+        assert_eq!(rt; met, ([Some(1), Some(1)], Ok(report)));
     }
     Ok(())
 }

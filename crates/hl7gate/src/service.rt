@@ -6,7 +6,7 @@ use crate::stamps::Utc;
 use crate::tickets::Tickets;
 use gw_ack::Stamp;
 use gw_gate::{Event, Gate};
-use gw_run::{Door, LockedGate, Pass, Pause, Phase, Report, courier, worker};
+use gw_run::{Door, LockedGate, Pass, Pause, Phase, Receipts, Report, courier, join_all, worker};
 use gw_session::session;
 use gw_stream::{Counts, Reads, RunFault, Writes};
 use std::io::Eprint;
@@ -18,13 +18,14 @@ use std::time::Clock;
 /// How many threads may step the gate of a service: more than 1,000 sessions, 1,000 workers and the receivers of any plan.
 pub(crate) const PARTS: u64 = 1_000_000;
 
-/// What the threads of a service share: its gate behind the lock, the parts of the ledger, and what went wrong.
+/// What the threads of a service share: its gate behind the lock, the parts of the ledger, what ended passes leave, and what went wrong.
 #[derive(Drop)]
 pub(crate) struct Service<'a, L: Ledger, R: Wait> {
     rt: &'a R,
     start: Stamp,
     gate: LockedGate<L>,
     tickets: Mutex<Tickets<L>>,
+    receipts: Mutex<Vec<Receipts<L>>>,
     outcome: Mutex<Outcome>,
 }
 
@@ -76,6 +77,7 @@ impl<'a, L: Ledger, R: Wait + AllocGlobal> Service<'a, L, R> {
             start,
             gate: LockedGate::new(gate, book),
             tickets: Mutex::new(Tickets::new(share, PARTS)),
+            receipts: Mutex::new(Vec::new(rt.alloc())),
             outcome: Mutex::new(Outcome::new(rt.alloc())),
         }
     }
@@ -89,6 +91,15 @@ impl<'a, L: Ledger, R: Wait + AllocGlobal> Service<'a, L, R> {
     pub(crate) fn pass(&self) -> Option<Pass<'_, L, R>> {
         let share = self.tickets.lock(self.rt).take()?;
         Some(self.gate.pass(self.rt.alloc(), self.rt, share))
+    }
+
+    /// A thread steps the gate no more: what its pass leaves is kept for the end.
+    pub(crate) fn hand_in(&self, pass: Pass<'_, L, R>) {
+        let receipts = pass.end();
+        let kept = self.receipts.lock(self.rt).push(receipts);
+        if kept.is_err() {
+            self.fail(RunFault::Memory);
+        }
     }
 
     /// From here on nothing comes any more that may not come in this phase.
@@ -119,6 +130,12 @@ impl<'a, L: Ledger, R: Wait + AllocGlobal> Service<'a, L, R> {
         let Some(mut pass) = self.pass() else {
             return Err(RunFault::Memory);
         };
+        let done = self.do_left(&mut pass, workers);
+        self.hand_in(pass);
+        done
+    }
+
+    fn do_left(&self, pass: &mut Pass<'_, L, R>, workers: u64) -> Result<(), RunFault> {
         for _job in 0..workers {
             let left = self.outcome.lock(self.rt).next_left();
             if let Some((n, receiver)) = left
@@ -127,19 +144,31 @@ impl<'a, L: Ledger, R: Wait + AllocGlobal> Service<'a, L, R> {
                 return Err(RunFault::Memory);
             }
         }
-        match worker(self.rt.alloc(), &mut pass, &mut Onward) {
+        match worker(self.rt.alloc(), pass, &mut Onward) {
             Ok(_) => Ok(()),
             Err((fault, _)) => Err(fault),
         }
     }
 
-    /// What the gate did, unless something went wrong. No thread works at the gate any more.
+    /// What the gate did, unless something went wrong, or the notes of its passes and its journal don't agree. No thread works at the gate any more.
     pub(crate) fn end(self) -> Result<Report, RunFault> {
-        let Service { gate, outcome, .. } = self;
-        match outcome.into_inner().first() {
-            Some(fault) => Err(fault),
-            None => Ok(gate.into_counted().report()),
+        let Service {
+            rt,
+            gate,
+            tickets,
+            receipts,
+            outcome,
+            ..
+        } = self;
+        if let Some(fault) = outcome.into_inner().first() {
+            return Err(fault);
         }
+        let mut receipts = receipts.into_inner();
+        // (the parts that no thread had counted nothing)
+        let unused = gate.pass(rt.alloc(), rt, tickets.into_inner().rest());
+        receipts.push(unused.end())?;
+        let mut counted = gate.into_counted();
+        join_all(rt.alloc(), &mut counted, receipts)
     }
 }
 
@@ -183,13 +212,15 @@ impl<L: Ledger, R: Wait + AllocGlobal + Clock + Eprint> Service<'_, L, R> {
         let mut clock = Utc::new(self.rt, self.start);
         let mut reader = Reads::new(stream);
         let mut writer = Writes::new(stream);
-        session(
+        let answered = session(
             self.rt.alloc(),
             &mut pass,
             &mut clock,
             &mut reader,
             &mut writer,
-        )
+        );
+        self.hand_in(pass);
+        answered
     }
 
     /// Works on jobs, until no message will arrive any more.
@@ -197,7 +228,9 @@ impl<L: Ledger, R: Wait + AllocGlobal + Clock + Eprint> Service<'_, L, R> {
         let Some(mut pass) = self.pass() else {
             return;
         };
-        if let Err((fault, job)) = worker(self.rt.alloc(), &mut pass, &mut Onward) {
+        let worked = worker(self.rt.alloc(), &mut pass, &mut Onward);
+        self.hand_in(pass);
+        if let Err((fault, job)) = worked {
             let _ = eprintln!(self.rt; "worker {number} ended: fault {}: {fault}", fault.number());
             if let Some(job) = job {
                 self.outcome.lock(self.rt).leave(job);
@@ -243,12 +276,14 @@ impl<L: Ledger, R: Wait + AllocGlobal + Clock + Eprint> Service<'_, L, R> {
         };
         let mut reader = Reads::new(stream);
         let mut writer = Writes::new(stream);
-        courier(
+        let carried = courier(
             self.rt.alloc(),
             &mut pass,
             receiver,
             &mut reader,
             &mut writer,
-        )
+        );
+        self.hand_in(pass);
+        carried
     }
 }

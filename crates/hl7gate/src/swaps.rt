@@ -80,10 +80,19 @@ fn swap_lines<L: Ledger, R: Wait + Files + Print + Eprint + AllocGlobal, I: Read
     service: &Service<'_, L, R>,
     paths: I,
 ) -> Result<(), RunFault> {
-    let rt = service.rt();
     let Some(mut pass) = service.pass() else {
         return Err(RunFault::Memory);
     };
+    let read = swap_with(service.rt(), &mut pass, paths);
+    service.hand_in(pass);
+    read
+}
+
+fn swap_with<L: Ledger, R: Wait + Files + Print + Eprint + AllocGlobal, I: Read + Drop>(
+    rt: &R,
+    pass: &mut Pass<'_, L, R>,
+    paths: I,
+) -> Result<(), RunFault> {
     let Ok(mut lines) = BufReader::new(rt.alloc(), paths) else {
         return Err(RunFault::Memory);
     };
@@ -91,7 +100,7 @@ fn swap_lines<L: Ledger, R: Wait + Files + Print + Eprint + AllocGlobal, I: Read
         let mut line = String::new(rt.alloc());
         match lines.read_line(&mut line) {
             Ok(0) => return Ok(()),
-            Ok(_) => swap_one(&mut pass, rt, line.trim_end_matches('\n')),
+            Ok(_) => swap_one(pass, rt, line.trim_end_matches('\n')),
             Err(error) if error.kind() == ErrorKind::InvalidData => {
                 let _ = eprintln!(rt; "plan unread\na line of standard input isn't text");
             }

@@ -1,5 +1,5 @@
 //! The parts of a service's ledger.
-ghost use Rattle.std.specs.Prelude.{◌≡◌};
+ghost use Rattle.std.specs.Prelude.{◌≡◌, ◌<◌};
 
 use std::sync::ledger::{Ledger, Share};
 
@@ -10,15 +10,17 @@ pub(crate) struct Tickets<L: Ledger> {
     left: u64,
     ghost parts: { share.parts ≡ left },
     ghost unused: { share.amount ≡ 0 },
+    ghost some: { 0 < left },
 }
 
 impl<L: Ledger> Tickets<L> {
     ghost use Rattle.std.specs.Prelude.{◌≡◌, IfSome};
 
-    /// So many parts.
+    /// So many parts, one at least.
     pub(crate) fn new(share: Share<L>, left: u64) -> Self
         requires parts { share.parts ≡ left }
         requires unused { share.amount ≡ 0 }
+        requires some { 0 < left }
     {
         Tickets { share, left }
     }
@@ -35,5 +37,14 @@ impl<L: Ledger> Tickets<L> {
         let part = share.split_off(1, 0);
         *left -= 1;
         Some(part)
+    }
+
+    /// The parts that were not taken, one at least.
+    pub(crate) fn rest(self) -> Share<L>
+        ensures some { 0 < result.parts }
+        ensures unused { result.amount ≡ 0 }
+    {
+        let Tickets { share, .. } = self;
+        share
     }
 }

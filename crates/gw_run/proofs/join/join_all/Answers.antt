@@ -1,0 +1,9 @@
+use Rattle.std.proofs.Common.{◌≡◌, IfErr, List, subst}
+use Rattle.gw_stream.specs.declared.fault.RunFault.TheVariants as run
+use Rattle.gw_run.specs.Passes.{PassSeen}
+use Rattle.gw_run.specs.Settled.{AreSettled}
+use Rattle.gw_run.proofs.join.join_all.Goals as goal
+
+pub returns-clause-unsettled : goal.returns-clause-unsettled
+returns-clause-unsettled g c =
+    subst (λ (l : List PassSeen). IfErr c.settled-answer.result (λ f. f ≡ run.Unsettled → AreSettled c.args.counted.now l → ⊥)) c.deref.ensures.value c.settled-answer.ensures.unsettled
