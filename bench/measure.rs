@@ -1,4 +1,4 @@
-//! `measure PROGRAM BASELINE PROFILES TRAFFIC ROUNDS`: runs both over each stream, compares their answers, and prints what they took.
+//! `measure PROGRAM BASELINE PROFILES TRAFFIC ROUNDS`: runs the program and the baseline, with owned texts and with lent ones, over each stream, compares their answers, and prints what they took.
 //!
 //! It reads no file whole: a child's peak counts what its parent had when it began.
 //! Times are processor seconds (user and system) of the best of so many rounds, which other work on the machine disturbs less than the clock's.
@@ -22,13 +22,14 @@ struct Bench {
     rounds: usize,
 }
 
-/// What both took for a stream.
+/// What the program and the baseline's two forms took for a stream.
 struct Row {
     name: &'static str,
     bytes: f64,
     messages: usize,
     program: Taken,
     baseline: Taken,
+    lending: Taken,
 }
 
 impl Row {
@@ -63,6 +64,7 @@ impl Bench {
         let input = self.traffic.join(name);
         let answers = self.traffic.join(format!("{name}.program"));
         let plain = self.traffic.join(format!("{name}.baseline"));
+        let lent = self.traffic.join(format!("{name}.lending"));
         let program = best(self.rounds, || {
             run(
                 Command::new(&self.program)
@@ -80,8 +82,18 @@ impl Bench {
                 &plain,
             )
         })?;
+        let lending = best(self.rounds, || {
+            run(
+                Command::new(&self.baseline)
+                    .arg(&profile)
+                    .args([STAMP, "lending"]),
+                &input,
+                &lent,
+            )
+        })?;
         let same = same_answers(&answers, &plain)?.filter(|_| program.status == baseline.status);
-        let Some(messages) = same else {
+        let lent = same_answers(&answers, &lent)?.filter(|_| program.status == lending.status);
+        let (Some(messages), Some(_)) = (same, lent) else {
             return Err(io::Error::other(format!(
                 "{name}: the answers or the statuses differ"
             )));
@@ -92,16 +104,17 @@ impl Bench {
             messages,
             program,
             baseline,
+            lending,
         })
     }
 
     fn print_honest(&self, streams: &[(&'static str, &str)]) -> io::Result<()> {
-        println!("| Stream | MB | Messages | Program MB/s | messages/s | peak kB | Baseline MB/s | messages/s | peak kB | Speed ratio | Memory ratio |");
-        println!("|---|---|---|---|---|---|---|---|---|---|---|");
+        println!("| Stream | MB | Messages | Program MB/s | messages/s | peak kB | Baseline MB/s | messages/s | peak kB | Speed ratio | Memory ratio | Lending MB/s | peak kB | Speed ratio |");
+        println!("|---|---|---|---|---|---|---|---|---|---|---|---|---|---|");
         for (name, profile) in streams {
             let row = self.row(name, profile)?;
             println!(
-                "| {} | {:.1} | {} | {:.1} | {:.0} | {} | {:.1} | {:.0} | {} | {:.2} | {:.2} |",
+                "| {} | {:.1} | {} | {:.1} | {:.0} | {} | {:.1} | {:.0} | {} | {:.2} | {:.2} | {:.1} | {} | {:.2} |",
                 row.name,
                 row.bytes / 1e6,
                 row.messages,
@@ -113,6 +126,9 @@ impl Bench {
                 row.baseline.kilobytes,
                 row.baseline.seconds / row.program.seconds,
                 row.program.kilobytes as f64 / row.baseline.kilobytes as f64,
+                row.speed(row.lending),
+                row.lending.kilobytes,
+                row.lending.seconds / row.program.seconds,
             );
         }
         Ok(())

@@ -1,5 +1,5 @@
 //! Answers in original acknowledgment mode (HL7 v2.5.1 chapter 2, 2.9.2).
-use crate::er7::{is_present, read, write_repetition, Message, Repetition};
+use crate::message::Message;
 use crate::profile::Profile;
 use crate::validate::{validate, Breach};
 
@@ -13,48 +13,42 @@ fn text_of(code: u16) -> &'static str {
     }
 }
 
-/// The fields of MSH that an answer takes: 3 to 6 and 11, 9.2 and 10.
-struct Header<'a> {
-    message: Option<&'a Message>,
-}
-
-impl Header<'_> {
-    fn first_repetition(&self, field: usize) -> &[Vec<Vec<u8>>] {
-        self.message
-            .and_then(|message| message.segments[0].field(field).first())
-            .map_or(&[], |repetition: &Repetition| repetition)
-    }
-
-    fn text(&self, field: usize, comp: usize) -> &[u8] {
-        self.message
-            .map_or(&[], |message| message.segments[0].text(field, 1, comp, 1))
-    }
-
-    fn processing(&self) -> Vec<u8> {
-        let repetition = self.first_repetition(11).to_vec();
-        let mut written = Vec::new();
-        if is_present(&repetition) {
-            write_repetition(&mut written, &repetition);
-        } else {
-            written.push(b'P');
-        }
-        written
+fn write_header<'a, M: Message<'a>>(message: Option<&M>, out: &mut Vec<u8>, field: usize) {
+    if let Some(message) = message {
+        message.write_header(out, field);
     }
 }
 
-fn begun(header: &Header, stamp: &str, number: u64, code: &str) -> Vec<u8> {
+fn header_text<'m, 'a, M: Message<'a>>(
+    message: Option<&'m M>,
+    field: usize,
+    comp: usize,
+) -> &'m [u8] {
+    message.map_or(&[], |message| message.header_text(field, comp))
+}
+
+fn write_processing<'a, M: Message<'a>>(message: Option<&M>, out: &mut Vec<u8>) {
+    let before = out.len();
+    write_header(message, out, 11);
+    if out.len() == before {
+        out.push(b'P');
+    }
+}
+
+/// An answer up to its MSA.
+fn begun<'a, M: Message<'a>>(message: Option<&M>, stamp: &str, number: u64, code: &str) -> Vec<u8> {
     let mut out = b"MSH|^~\\&|".to_vec();
     for field in [5, 6, 3, 4] {
-        write_repetition(&mut out, header.first_repetition(field));
+        write_header(message, &mut out, field);
         out.push(b'|');
     }
     out.extend_from_slice(stamp.as_bytes());
     out.extend_from_slice(b"||ACK^");
-    out.extend_from_slice(header.text(9, 2));
+    out.extend_from_slice(header_text(message, 9, 2));
     out.extend_from_slice(format!("^ACK|G{number}|").as_bytes());
-    out.extend_from_slice(&header.processing());
+    write_processing(message, &mut out);
     out.extend_from_slice(format!("|2.5.1\rMSA|{code}").as_bytes());
-    let control = header.text(10, 1);
+    let control = header_text(message, 10, 1);
     if !control.is_empty() {
         out.push(b'|');
         out.extend_from_slice(control);
@@ -81,19 +75,21 @@ fn location(breach: &Breach) -> String {
 }
 
 /// The answer of this number to a content, and whether it is AA.
-pub fn answer(profile: &Profile, stamp: &str, number: u64, content: &[u8]) -> (bool, Vec<u8>) {
-    let Ok(message) = read(content) else {
-        let mut out = begun(&Header { message: None }, stamp, number, "AR");
+pub fn answer<'a, M: Message<'a>>(
+    profile: &Profile,
+    stamp: &str,
+    number: u64,
+    content: &'a [u8],
+) -> (bool, Vec<u8>) {
+    let Ok(message) = M::read(content) else {
+        let mut out = begun::<M>(None, stamp, number, "AR");
         add_error(&mut out, "", 207);
         return (false, out);
     };
-    let header = Header {
-        message: Some(&message),
-    };
     match validate(profile, &message) {
-        None => (true, begun(&header, stamp, number, "AA")),
+        None => (true, begun(Some(&message), stamp, number, "AA")),
         Some(breach) => {
-            let mut out = begun(&header, stamp, number, "AE");
+            let mut out = begun(Some(&message), stamp, number, "AE");
             add_error(&mut out, &location(&breach), breach.code);
             (false, out)
         }

@@ -1,130 +1,39 @@
-//! ER7: contents as messages (HL7 v2.5.1 chapter 2, 2.5 to 2.7).
+//! ER7 with owned texts: a content as a message of nested vectors, each text a vector of its own (HL7 v2.5.1 chapter 2, 2.5 to 2.7).
+use crate::delimiters::{canonical, delimiters_of, is_allowed, is_named, Delimiters};
+use crate::message::{Message, Unreadable};
+use crate::profile::{Comp, Field as FieldShape, Profile, Usage};
+use crate::validate::{sub_breach, Found, DATA, MISSING};
 
-pub type Text = Vec<u8>;
-pub type Component = Vec<Text>;
-pub type Repetition = Vec<Component>;
-pub type Field = Vec<Repetition>;
+type Text = Vec<u8>;
+type Component = Vec<Text>;
+type Repetition = Vec<Component>;
+type Field = Vec<Repetition>;
 
 /// A segment; field n stands at n - 1.
-pub struct Segment {
-    pub name: [u8; 3],
-    pub fields: Vec<Field>,
+struct Segment {
+    name: [u8; 3],
+    fields: Vec<Field>,
 }
 
-pub struct Message {
-    pub segments: Vec<Segment>,
-}
-
-/// The content is no message.
-#[derive(Debug)]
-pub struct Unreadable;
-
-struct Delimiters {
-    field: u8,
-    component: u8,
-    repetition: u8,
-    escape: u8,
-    subcomponent: u8,
+pub struct Owned {
+    segments: Vec<Segment>,
 }
 
 impl Segment {
-    pub fn field(&self, number: usize) -> &[Repetition] {
+    fn field(&self, number: usize) -> &[Repetition] {
         match self.fields.get(number - 1) {
             Some(field) => field,
             None => &[],
         }
     }
-
-    /// The text at a place, empty where it is absent.
-    pub fn text(&self, field: usize, rep: usize, comp: usize, sub: usize) -> &[u8] {
-        self.field(field)
-            .get(rep - 1)
-            .and_then(|repetition| repetition.get(comp - 1))
-            .and_then(|component| component.get(sub - 1))
-            .map_or(&[], |text| text)
-    }
 }
 
-pub fn is_component_present(component: &Component) -> bool {
+fn is_component_present(component: &Component) -> bool {
     component.iter().any(|text| !text.is_empty())
 }
 
-pub fn is_present(repetition: &Repetition) -> bool {
+fn is_present(repetition: &Repetition) -> bool {
     repetition.iter().any(is_component_present)
-}
-
-fn is_special(byte: u8) -> bool {
-    matches!(byte, b'|' | b'^' | b'~' | b'\\' | b'&')
-}
-
-fn is_delimiter(byte: u8) -> bool {
-    byte.is_ascii_graphic() && !byte.is_ascii_alphanumeric() && byte != b'"'
-}
-
-fn delimiters_of(header: &[u8]) -> Result<Delimiters, Unreadable> {
-    if header.len() < 8 {
-        return Err(Unreadable);
-    }
-    let five = &header[3..8];
-    let distinct = (0..5).all(|i| !five[..i].contains(&five[i]));
-    let ended = header.len() == 8 || header[8] == header[3];
-    if !distinct || !ended || !five.iter().all(|byte| is_delimiter(*byte)) {
-        return Err(Unreadable);
-    }
-    Ok(Delimiters {
-        field: five[0],
-        component: five[1],
-        repetition: five[2],
-        escape: five[3],
-        subcomponent: five[4],
-    })
-}
-
-fn push_plainly(text: &mut Text, byte: u8) {
-    match byte {
-        b'|' => text.extend_from_slice(b"\\F\\"),
-        b'^' => text.extend_from_slice(b"\\S\\"),
-        b'&' => text.extend_from_slice(b"\\T\\"),
-        b'~' => text.extend_from_slice(b"\\R\\"),
-        b'\\' => text.extend_from_slice(b"\\E\\"),
-        _ => text.push(byte),
-    }
-}
-
-/// The canonical text of a raw value.
-fn canonical(delimiters: &Delimiters, raw: &[u8]) -> Text {
-    let mut text = Vec::with_capacity(raw.len());
-    let mut at = 0;
-    while at < raw.len() {
-        let byte = raw[at];
-        at += 1;
-        if byte != delimiters.escape {
-            push_plainly(&mut text, byte);
-            continue;
-        }
-        let body = match raw[at..].iter().position(|byte| *byte == delimiters.escape) {
-            Some(end) => &raw[at..at + end],
-            None => &[],
-        };
-        if body.is_empty() || body.iter().any(|byte| is_special(*byte)) {
-            push_plainly(&mut text, byte);
-            continue;
-        }
-        at += body.len() + 1;
-        match body {
-            b"F" => push_plainly(&mut text, delimiters.field),
-            b"S" => push_plainly(&mut text, delimiters.component),
-            b"T" => push_plainly(&mut text, delimiters.subcomponent),
-            b"R" => push_plainly(&mut text, delimiters.repetition),
-            b"E" => push_plainly(&mut text, delimiters.escape),
-            _ => {
-                text.push(b'\\');
-                text.extend_from_slice(body);
-                text.push(b'\\');
-            }
-        }
-    }
-    text
 }
 
 /// What stands between separators, each part read by itself; nothing where there are no bytes.
@@ -139,19 +48,14 @@ fn read_field(delimiters: &Delimiters, raw: &[u8]) -> Field {
     parts(raw, delimiters.repetition, |raw| {
         parts(raw, delimiters.component, |raw| {
             parts(raw, delimiters.subcomponent, |raw| {
-                canonical(delimiters, raw)
+                canonical(delimiters, raw).into_owned()
             })
         })
     })
 }
 
 fn read_segment(delimiters: &Delimiters, line: &[u8]) -> Result<Segment, Unreadable> {
-    let named = line.len() >= 3
-        && line[0].is_ascii_uppercase()
-        && line[1..3]
-            .iter()
-            .all(|byte| byte.is_ascii_uppercase() || byte.is_ascii_digit());
-    if !named || &line[..3] == b"MSH" || (line.len() > 3 && line[3] != delimiters.field) {
+    if !is_named(delimiters, line) {
         return Err(Unreadable);
     }
     let behind = line.get(4..).unwrap_or(&[]);
@@ -174,37 +78,13 @@ fn read_header(delimiters: &Delimiters, line: &[u8]) -> Segment {
     }
 }
 
-/// The message of a content.
-pub fn read(content: &[u8]) -> Result<Message, Unreadable> {
-    let is_allowed = |byte: &u8| *byte >= 0x20 || matches!(byte, b'\t' | b'\r' | b'\n');
-    if !content.iter().all(is_allowed) {
-        return Err(Unreadable);
-    }
-    let mut lines = content
-        .split(|byte| matches!(byte, b'\r' | b'\n'))
-        .filter(|line| !line.is_empty());
-    let header = lines.next().ok_or(Unreadable)?;
-    if !header.starts_with(b"MSH") {
-        return Err(Unreadable);
-    }
-    let delimiters = delimiters_of(header)?;
-    let mut segments = vec![read_header(&delimiters, header)];
-    for line in lines {
-        if segments.len() == 10_000 {
-            return Err(Unreadable);
-        }
-        segments.push(read_segment(&delimiters, line)?);
-    }
-    Ok(Message { segments })
-}
-
 fn trimmed<'a, T>(items: &'a [T], present: impl Fn(&T) -> bool) -> &'a [T] {
     let count = items.iter().rposition(present).map_or(0, |last| last + 1);
     &items[..count]
 }
 
 /// Writes a repetition with no separator that could be left out.
-pub fn write_repetition(out: &mut Vec<u8>, repetition: &[Component]) {
+fn write_repetition(out: &mut Vec<u8>, repetition: &[Component]) {
     for (i, component) in trimmed(repetition, is_component_present).iter().enumerate() {
         if i > 0 {
             out.push(b'^');
@@ -217,6 +97,111 @@ pub fn write_repetition(out: &mut Vec<u8>, repetition: &[Component]) {
                 out.push(b'&');
             }
             out.extend_from_slice(text);
+        }
+    }
+}
+
+fn comp_breach(profile: &Profile, shape: &Comp, repetition: &Repetition) -> Found<1> {
+    let component = repetition
+        .get(shape.number - 1)
+        .filter(|found| is_component_present(found));
+    let Some(component) = component else {
+        return (shape.usage == Usage::Required).then_some((MISSING, [0]));
+    };
+    if shape.usage == Usage::Forbidden {
+        return Some((DATA, [0]));
+    }
+    shape.subs.iter().find_map(|sub| {
+        let text = component.get(sub.number - 1).map_or(&[][..], |text| text);
+        sub_breach(profile, sub, text).map(|code| (code, [sub.number]))
+    })
+}
+
+fn rep_breach(profile: &Profile, shape: &FieldShape, repetition: &Repetition) -> Found<2> {
+    shape.comps.iter().find_map(|comp| {
+        let (code, [sub]) = comp_breach(profile, comp, repetition)?;
+        Some((code, [comp.number, sub]))
+    })
+}
+
+fn field_breach(profile: &Profile, shape: &FieldShape, segment: &Segment) -> Found<3> {
+    let field = segment.field(shape.number);
+    let count = field
+        .iter()
+        .filter(|repetition| is_present(repetition))
+        .count();
+    if shape.usage == Usage::Forbidden {
+        return (count > 0).then_some((DATA, [0; 3]));
+    }
+    if count < shape.card.min {
+        return Some((MISSING, [0; 3]));
+    }
+    let present = field
+        .iter()
+        .enumerate()
+        .filter(|(_, repetition)| is_present(repetition));
+    for (before, (i, repetition)) in present.enumerate() {
+        if before == shape.card.max {
+            return Some((DATA, [i + 1, 0, 0]));
+        }
+        if let Some((code, [comp, sub])) = rep_breach(profile, shape, repetition) {
+            return Some((code, [i + 1, comp, sub]));
+        }
+    }
+    None
+}
+
+fn segment_breach(profile: &Profile, shapes: &[FieldShape], segment: &Segment) -> Found<4> {
+    shapes.iter().find_map(|shape| {
+        let (code, [rep, comp, sub]) = field_breach(profile, shape, segment)?;
+        Some((code, [shape.number, rep, comp, sub]))
+    })
+}
+
+impl Message<'_> for Owned {
+    fn read(content: &[u8]) -> Result<Self, Unreadable> {
+        if !content.iter().all(is_allowed) {
+            return Err(Unreadable);
+        }
+        let mut lines = content
+            .split(|byte| matches!(byte, b'\r' | b'\n'))
+            .filter(|line| !line.is_empty());
+        let header = lines.next().ok_or(Unreadable)?;
+        let delimiters = delimiters_of(header)?;
+        let mut segments = vec![read_header(&delimiters, header)];
+        for line in lines {
+            if segments.len() == 10_000 {
+                return Err(Unreadable);
+            }
+            segments.push(read_segment(&delimiters, line)?);
+        }
+        Ok(Owned { segments })
+    }
+
+    fn segment_count(&self) -> usize {
+        self.segments.len()
+    }
+
+    fn name(&self, number: usize) -> [u8; 3] {
+        self.segments[number].name
+    }
+
+    fn breach_in(&self, number: usize, profile: &Profile, shapes: &[FieldShape]) -> Found<4> {
+        segment_breach(profile, shapes, &self.segments[number])
+    }
+
+    fn header_text(&self, field: usize, comp: usize) -> &[u8] {
+        self.segments[0]
+            .field(field)
+            .first()
+            .and_then(|repetition| repetition.get(comp - 1))
+            .and_then(|component| component.first())
+            .map_or(&[], |text| text)
+    }
+
+    fn write_header(&self, out: &mut Vec<u8>, field: usize) {
+        if let Some(repetition) = self.segments[0].field(field).first() {
+            write_repetition(out, repetition);
         }
     }
 }

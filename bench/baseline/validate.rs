@@ -1,6 +1,6 @@
 //! Whether a message conforms to a profile, and if not, its least breach (HL7 v2.5.1 chapter 2, 2.12).
-use crate::er7::{is_component_present, is_present, Message, Repetition, Segment};
-use crate::profile::{Comp, Field, Node, Profile, Sub, Usage};
+use crate::message::Message;
+use crate::profile::{Field, Node, Profile, Sub, Usage};
 
 /// A breach: its code, and its place with 0 for what isn't said.
 pub struct Breach {
@@ -11,8 +11,8 @@ pub struct Breach {
 }
 
 const SEQUENCE: u16 = 100;
-const MISSING: u16 = 101;
-const DATA: u16 = 102;
+pub const MISSING: u16 = 101;
+pub const DATA: u16 = 102;
 const TABLE: u16 = 103;
 
 fn can_begin(nodes: &[Node], name: [u8; 3]) -> bool {
@@ -49,17 +49,17 @@ enum Misfit {
 }
 
 /// The listed segments of a message, cut along a profile.
-struct Cut<'a> {
-    message: &'a Message,
+struct Cut<'a, M> {
+    message: &'a M,
     listed: Vec<usize>,
     next: usize,
     assigned: Vec<(usize, &'a [Field])>,
 }
 
-impl<'a> Cut<'a> {
+impl<'a, 'm, M: Message<'m>> Cut<'a, M> {
     fn name(&self) -> Option<[u8; 3]> {
         let number = self.listed.get(self.next)?;
-        Some(self.message.segments[*number].name)
+        Some(self.message.name(*number))
     }
 
     fn take_segment(&mut self, fields: &'a [Field]) {
@@ -106,9 +106,10 @@ impl<'a> Cut<'a> {
 }
 
 /// A code, and the numbers below it.
-type Found<const N: usize> = Option<(u16, [usize; N])>;
+pub type Found<const N: usize> = Option<(u16, [usize; N])>;
 
-fn sub_breach(profile: &Profile, shape: &Sub, text: &[u8]) -> Option<u16> {
+/// What a text breaks of a subcomponent's rules; an empty text is an absent one.
+pub fn sub_breach(profile: &Profile, shape: &Sub, text: &[u8]) -> Option<u16> {
     if text.is_empty() {
         return (shape.usage == Usage::Required).then_some(MISSING);
     }
@@ -125,73 +126,15 @@ fn sub_breach(profile: &Profile, shape: &Sub, text: &[u8]) -> Option<u16> {
     (!profile.tables[table].contains(text)).then_some(TABLE)
 }
 
-fn comp_breach(profile: &Profile, shape: &Comp, repetition: &Repetition) -> Found<1> {
-    let component = repetition
-        .get(shape.number - 1)
-        .filter(|found| is_component_present(found));
-    let Some(component) = component else {
-        return (shape.usage == Usage::Required).then_some((MISSING, [0]));
-    };
-    if shape.usage == Usage::Forbidden {
-        return Some((DATA, [0]));
-    }
-    shape.subs.iter().find_map(|sub| {
-        let text = component.get(sub.number - 1).map_or(&[][..], |text| text);
-        sub_breach(profile, sub, text).map(|code| (code, [sub.number]))
-    })
-}
-
-fn rep_breach(profile: &Profile, shape: &Field, repetition: &Repetition) -> Found<2> {
-    shape.comps.iter().find_map(|comp| {
-        let (code, [sub]) = comp_breach(profile, comp, repetition)?;
-        Some((code, [comp.number, sub]))
-    })
-}
-
-fn field_breach(profile: &Profile, shape: &Field, segment: &Segment) -> Found<3> {
-    let field = segment.field(shape.number);
-    let count = field
-        .iter()
-        .filter(|repetition| is_present(repetition))
-        .count();
-    if shape.usage == Usage::Forbidden {
-        return (count > 0).then_some((DATA, [0; 3]));
-    }
-    if count < shape.card.min {
-        return Some((MISSING, [0; 3]));
-    }
-    let present = field
-        .iter()
-        .enumerate()
-        .filter(|(_, repetition)| is_present(repetition));
-    for (before, (i, repetition)) in present.enumerate() {
-        if before == shape.card.max {
-            return Some((DATA, [i + 1, 0, 0]));
-        }
-        if let Some((code, [comp, sub])) = rep_breach(profile, shape, repetition) {
-            return Some((code, [i + 1, comp, sub]));
-        }
-    }
-    None
-}
-
-fn segment_breach(profile: &Profile, shapes: &[Field], segment: &Segment) -> Found<4> {
-    shapes.iter().find_map(|shape| {
-        let (code, [rep, comp, sub]) = field_breach(profile, shape, segment)?;
-        Some((code, [shape.number, rep, comp, sub]))
-    })
-}
-
-fn breach_at(
-    message: &Message,
+fn breach_at<'m, M: Message<'m>>(
+    message: &M,
     number: usize,
     name: [u8; 3],
     code: u16,
     place: [usize; 4],
 ) -> Breach {
-    let before = message.segments[..number]
-        .iter()
-        .filter(|segment| segment.name == name)
+    let before = (0..number)
+        .filter(|earlier| message.name(*earlier) == name)
         .count();
     Breach {
         code,
@@ -202,9 +145,9 @@ fn breach_at(
 }
 
 /// The least breach of a message, if there is one.
-pub fn validate(profile: &Profile, message: &Message) -> Option<Breach> {
-    let listed = (0..message.segments.len())
-        .filter(|number| profile.names.contains(&message.segments[*number].name))
+pub fn validate<'m, M: Message<'m>>(profile: &Profile, message: &M) -> Option<Breach> {
+    let listed = (0..message.segment_count())
+        .filter(|number| profile.names.contains(&message.name(*number)))
         .collect();
     let mut cut = Cut {
         message,
@@ -221,20 +164,25 @@ pub fn validate(profile: &Profile, message: &Message) -> Option<Breach> {
     };
     match misfit {
         Some(Misfit::OutOfOrder(number)) => {
-            let name = message.segments[number].name;
+            let name = message.name(number);
             Some(breach_at(message, number, name, SEQUENCE, [0; 4]))
         }
         Some(Misfit::Missing(name)) => Some(breach_at(
             message,
-            message.segments.len(),
+            message.segment_count(),
             name,
             SEQUENCE,
             [0; 4],
         )),
         None => cut.assigned.iter().find_map(|(number, shapes)| {
-            let segment = &message.segments[*number];
-            let (code, place) = segment_breach(profile, shapes, segment)?;
-            Some(breach_at(message, *number, segment.name, code, place))
+            let (code, place) = message.breach_in(*number, profile, shapes)?;
+            Some(breach_at(
+                message,
+                *number,
+                message.name(*number),
+                code,
+                place,
+            ))
         }),
     }
 }
