@@ -4,6 +4,8 @@ use Rattle.std.specs.List.{All}
 use Rattle.gw_er7.specs.declared.delimiters.Delimiters.{Delimiters}
 use Rattle.gw_er7.specs.Text.{canon}
 use Rattle.gw_er7.specs.Entries.{Entry}
+use Rattle.gw_er7.specs.View.{entries_of, held}
+use Rattle.gw_er7.specs.declared.reading.Scratch.{Scratch}
 
 -- those that cut fields, repetitions, components and subcomponents
 abbrev pub separators : Delimiters → List ℕ
@@ -23,6 +25,10 @@ next_numbers (t ∷ ts) (n ∷ ns) b = if b == t then (n + 1) ∷ map (λ t. 1) 
 abbrev pub value_at : Delimiters → List ℕ → List ℕ → List Entry
 value_at d ns [] = []
 value_at d ns (b ∷ bs) = (ns, canon d (b ∷ bs)) ∷ []
+
+-- what was read of a segment so far
+abbrev pub taken : Scratch → List Entry
+taken s = entries_of (held s.bytes.items s.leaves)
 
 -- no separator stands in it
 abbrev pub IsClear : List ℕ → List ℕ → Type 0

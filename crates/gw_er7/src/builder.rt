@@ -113,6 +113,7 @@ impl Builder {
         } = self;
         let mut segments = segments;
         close_into(&mut segments, draft);
+        segments.shrink_to_fit();
         Message::of(segments)
     }
 }

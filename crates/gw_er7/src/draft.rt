@@ -51,13 +51,14 @@ impl Draft {
         Ok(())
     }
 
-    /// The segment of what was put. It takes no memory.
+    /// The segment of what was put, in memory that fits it. It takes no memory.
     pub(crate) fn close(self) -> StoredSegment
         ensures { result ≡ self }
     {
         let Draft { name, texts } = self;
         let mut texts = texts;
         texts.sort();
+        texts.fit();
         StoredSegment::of(name, texts)
     }
 }

@@ -190,6 +190,14 @@ impl Leaves {
         sort_wide(&mut self.wide);
     }
 
+    /// Gives back the memory that the leaves don't take.
+    pub(crate) fn fit(&mut self)
+        ensures { self.new ≡ self.old }
+    {
+        self.narrow.shrink_to_fit();
+        self.wide.shrink_to_fit();
+    }
+
     /// The same leaves once more, in memory that fits them.
     pub(crate) fn copy(&self, alloc: Global) -> Result<Leaves, AllocError>
         ensures { IfOk result (λ leaves. leaves ≡ self.now) }

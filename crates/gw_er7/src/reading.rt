@@ -2,8 +2,8 @@
 ghost use Rattle.std.specs.Prelude.{◌≡◌, ◌+◌, ◌<◌, ◌≤◌, ◌^◌, ◌++◌, ◌-◌, true, position, OnOk, IfOk, MatchOption};
 ghost use Rattle.gw_er7.specs.Message.{numbers};
 ghost use Rattle.gw_er7.specs.Entries.{fields};
-ghost use Rattle.gw_er7.specs.Separators.{separators, is_separator, next_numbers, value_at, IsLastValue, IsNextValue};
-ghost use Rattle.gw_er7.specs.View.{entries_of, held, AreInside};
+ghost use Rattle.gw_er7.specs.Separators.{separators, is_separator, next_numbers, value_at, taken, IsLastValue, IsNextValue};
+ghost use Rattle.gw_er7.specs.View.{entries_of, AreInside};
 
 use crate::delimiters::Delimiters;
 use crate::leaves::{Leaf, Leaves};
@@ -108,7 +108,7 @@ fn push_value(
 ) -> Result<(), AllocError>
     requires { AreInside scratch.old.bytes.items scratch.old.leaves }
     ensures inside { OnOk result (AreInside scratch.new.bytes.items scratch.new.leaves) }
-    ensures entries { OnOk result (entries_of (held scratch.new.bytes.items scratch.new.leaves) ≡ entries_of (held scratch.old.bytes.items scratch.old.leaves) ++ value_at delimiters (numbers place) raw.now) }
+    ensures entries { OnOk result (taken scratch.new ≡ taken scratch.old ++ value_at delimiters (numbers place) raw.now) }
 {
     if raw.is_empty() {
         return Ok(());
@@ -129,7 +129,7 @@ fn take_fields(
 ) -> Result<(), AllocError>
     requires { first ≤ 3 }
     ensures inside { OnOk result (AreInside scratch.new.bytes.items scratch.new.leaves) }
-    ensures entries { OnOk result (entries_of (held scratch.new.bytes.items scratch.new.leaves) ≡ fields delimiters first bytes.now) }
+    ensures entries { OnOk result (taken scratch.new ≡ fields delimiters first bytes.now) }
 {
     scratch.leaves.clear();
     scratch.bytes.clear();

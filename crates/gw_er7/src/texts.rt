@@ -92,6 +92,14 @@ impl SegmentTexts {
         self.leaves.sort();
     }
 
+    /// Gives back the memory that the texts don't take.
+    pub(crate) fn fit(&mut self)
+        ensures { self.new ≡ self.old }
+    {
+        self.leaves.fit();
+        self.bytes.shrink_to_fit();
+    }
+
     pub(crate) fn len(&self) -> usize
         ensures { result ≡ length self.now }
     {
