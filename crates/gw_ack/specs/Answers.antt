@@ -79,6 +79,6 @@ reported ack h stamp arrival location code =
 abbrev pub refused : HeaderValue → List ℕ → ℕ → Breach → List SegmentValue
 refused h stamp arrival breach = reported (codes "AE") h stamp arrival (location_of breach) (code_of breach.kind)
 
--- AR: the message isn't for this profile, or can't be read
+-- AR: there is no route for the message, or it can't be read or taken
 abbrev pub rejected : HeaderValue → List ℕ → ℕ → ℕ → List SegmentValue
 rejected h stamp arrival code = reported (codes "AR") h stamp arrival (location_for code) code

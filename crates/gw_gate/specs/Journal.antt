@@ -20,7 +20,7 @@ pub record Version : Type 0 where
   pub number : ℕ
   pub plan : PlanSeen
 
--- where a journal starts: under which version, and after how many acceptances, arrivals and entries
+-- where a journal starts: under which version and plan, and after how many acceptances, arrivals and entries
 pub record Start : Type 0 where
   pub version : ℕ
   pub plan : PlanSeen

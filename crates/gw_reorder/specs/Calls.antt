@@ -1,3 +1,4 @@
+-- What the calls of a desk do to it, and what they answer.
 use Rattle.std.specs.Prelude.{ℕ, List, Option, None, Some, ◌-◌, ◌+◌, ◌==◌, nat_lt, if◌then◌else◌, position, slice_get, slice_set, drop}
 use Rattle.gw_reorder.specs.State.{DeskState}
 use Rattle.gw_reorder.specs.declared.desk.Status.{Status}

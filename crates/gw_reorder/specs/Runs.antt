@@ -1,3 +1,4 @@
+-- Lists of calls on a desk, and what is given out by them.
 use Rattle.std.specs.Prelude.{ℕ, List, Option, None, Some, [], ◌∷◌, ◌++◌, ◌≡◌, ◌==◌, ◌&&◌, if◌then◌else◌, is_some, option_map, position, slice_get, length, take, map, All}
 use Rattle.std.specs.Option.{option_to_list}
 use Rattle.gw_reorder.specs.State.{DeskState, nothing_due, with_due}

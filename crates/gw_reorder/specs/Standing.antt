@@ -1,3 +1,4 @@
+-- What stands at a desk after what became due, was kept and was given out.
 use Rattle.std.specs.Prelude.{◌≡◌, ◌≢◌, ℕ, ◌+◌, ◌<◌, ◌≤◌, List, Option, None, Some, get_or, map, take, length, All}
 use Rattle.gw_reorder.specs.State.{DeskState}
 

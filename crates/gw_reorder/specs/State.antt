@@ -1,3 +1,4 @@
+-- What a desk holds.
 use Rattle.std.specs.Prelude.{ℕ, List, Option, None, [], ◌∷◌, ◌++◌, ◌≡◌, ◌-◌, ◌+◌}
 use Rattle.std.specs.List.Sorted.{IsStrictlyIncreasing}
 

@@ -54,7 +54,7 @@ impl Owed {
         }
     }
 
-    // One more number is due, unless it is the last one already: a route that names a receiver twice sends it one.
+    // One more number is due, unless it is the last one already.
     fn accept(&mut self, n: u64) -> Result<(), AllocError>
         ensures { OnOk result (self.new ≡ with_due self.old n) }
     {
