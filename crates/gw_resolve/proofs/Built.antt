@@ -1,5 +1,5 @@
--- Lists and items made one after the other.
-use Rattle.std.proofs.Common.{◌≡◌, ℕ, ◌+◌, ◌<◌, ◌≤◌, List, [], ◌∷◌, ◌++◌, map, drop, get_or, length, refl, sym, ap, ◌∙◌}
+-- Items made one after the other.
+use Rattle.std.proofs.Common.{◌≡◌, ℕ, ◌+◌, ◌<◌, ◌≤◌, List, [], ◌∷◌, ◌++◌, drop, get_or, length, refl, sym, ap, ◌∙◌}
 use Rattle.gw_maplang.specs.Shapes.{TableValue}
 use Rattle.gw_maplang.specs.Shapes as raw
 use Rattle.gw_maplang.specs.Seen as raws
@@ -19,22 +19,6 @@ use Rattle.gw_resolve.specs.Seen.{place, with_item, all_items}
 use Rattle.gw_resolve.specs.Naming.{node_or, place_or, resolved_items}
 use Rattle.gw_resolve.proofs.Rows.{group_items, flat_items}
 use Rattle.gw_resolve.proofs.Noting.{front}
-
-map_more : {A B : Type 0} (f : A → B) (xs : List A) (x : A) → map f (xs ++ x ∷ []) ≡ map f xs ++ f x ∷ []
-map_more f [] x = refl
-map_more f (y ∷ xs) x = ap (λ l. f y ∷ l) (map_more f xs x)
-
-behind : {B : Type 0} (xs : List B) (x : B) (ys : List B) → xs ++ x ∷ ys ≡ (xs ++ x ∷ []) ++ ys
-behind [] x ys = refl
-behind (y ∷ xs) x ys = ap (λ l. y ∷ l) (behind xs x ys)
-
--- one more of those that are made
-pub made_next : {A B C D : Type 0} (f : B → C) (view : A → B) (seen : D → C) (whole : List C) (xs : List A) (i : ℕ) (x : A) (ys zs : List D) (y : D) → i < length xs → x ≡ get_or xs i x → zs ≡ ys ++ y ∷ [] → seen y ≡ f (view x) → whole ≡ map seen ys ++ map f (map view (drop i xs)) → whole ≡ map seen zs ++ map f (map view (drop (i + 1) xs))
-made_next f view seen whole xs i x ys zs y m e pushed one so_far =
-    so_far ∙ ap (λ l. map seen ys ++ map f (map view l)) (front xs i x m e)
-    ∙ ap (λ z. map seen ys ++ z ∷ map f (map view (drop (i + 1) xs))) (sym one)
-    ∙ behind (map seen ys) (seen y) (map f (map view (drop (i + 1) xs)))
-    ∙ ap (λ l. l ++ map f (map view (drop (i + 1) xs))) (sym (map_more seen ys y) ∙ ap (map seen) (sym pushed))
 
 -- ---- items
 

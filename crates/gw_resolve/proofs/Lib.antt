@@ -8,3 +8,4 @@ pub mod Labels
 pub mod Targeting
 pub mod Built
 pub mod Inside
+pub mod Listing
