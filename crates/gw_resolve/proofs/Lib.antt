@@ -9,3 +9,5 @@ pub mod Targeting
 pub mod Built
 pub mod Inside
 pub mod Listing
+pub mod Segments
+pub mod Following

@@ -1,6 +1,7 @@
 -- The failures of target labels, one item after the other.
-use Rattle.std.proofs.Common.{◌≡◌, ℕ, ◌+◌, ◌<◌, List, [], ◌++◌, drop, get_or, length, Option, Some, None, refl, sym, ap, ◌∙◌}
+use Rattle.std.proofs.Common.{◌≡◌, ℕ, ◌+◌, ◌<◌, ◌≤◌, List, [], ◌++◌, drop, get_or, length, Option, Some, None, refl, sym, ap, ◌∙◌}
 use Rattle.std.specs.Prelude.{not, nat_lt, unwrap_or, option_and_then}
+use Rattle.std.proofs.Math.ListN.{drop_of_length-le}
 use Rattle.std.proofs.lemmas.List.{append-nil}
 use Rattle.gw_profile.specs.Shapes.{Forest}
 use Rattle.gw_maplang.specs.declared.item.GroupItem.{GroupItem}
@@ -36,6 +37,11 @@ targets_next nodes xs i x old new j k m e made at =
     (ap (λ l. target_failures nodes j (all_items l)) (front xs i x m e) ∙ one_target nodes j x rest) made
     ∙ ap (λ n. new ++ target_failures nodes n rest) (sym at)
 
+-- none is left
+pub targets_done : (nodes : Forest) (j : ℕ) (xs : List Item) (i : ℕ) (new whole : List Failure) → length xs ≤ i → whole ≡ new ++ target_failures nodes j (all_items (drop i xs)) → new ≡ whole
+targets_done nodes j xs i new whole le so_far =
+    sym (so_far ∙ ap (λ l. new ++ target_failures nodes j (all_items l)) (drop_of_length-le xs le) ∙ append-nil new)
+
 -- ---- a group or a flat, and the items in it
 
 -- where the label is that of no node, what is within is hidden
@@ -62,6 +68,9 @@ flat_targets nodes j f xs ys a b =
     (λ i. or_later (flat_failures nodes j f.line (labels (all_items (a i)))) (target_failures nodes 0 (all_items (b i))))
     ∙ sym (append-nil (or_later (flat_failures nodes j f.line (labels (all_items f.items.items))) (target_failures nodes 0 (all_items f.items.items))))
     ∙ ap (target_failures nodes j) (sym (flat_items f nothing))
+
+pub group_reached : (nodes : Forest) (j : ℕ) (g : GroupItem) → node_or j nodes g.label.items ≡ reached nodes j (EachAs g)
+group_reached nodes j g = ap (λ l. node_or j nodes (first_or (labels l))) (sym (group_items g nothing))
 
 pub flat_reached : (nodes : Forest) (j node : ℕ) (f : FlatItem) (xs : List Item) → xs ≡ f.items.items → node ≡ node_or j nodes (first_or (labels (all_items xs))) → node ≡ reached nodes j (EachFlat f)
 flat_reached nodes j node f xs a n = n ∙ ap (node_or j nodes) (ap first_or (flat_labels (EachFlat f) f xs refl a))

@@ -1,14 +1,16 @@
-use Rattle.std.proofs.Common.{ap, ◌∙◌, ◌++◌, not, refl}
+use Rattle.std.proofs.Common.{◌≡◌, IfOk, OnOk, ap, ◌∙◌, ◌++◌, not, refl, sym, subst}
 use Rattle.gw_maplang.specs.Seen as raw
 use Rattle.gw_profile.specs.Labels.{nodes_in}
 use Rattle.gw_resolve.specs.Failures.{fails}
 use Rattle.gw_resolve.specs.Naming as spec
 use Rattle.gw_resolve.specs.Placed.{is_group}
 use Rattle.gw_resolve.specs.Places.{within}
+use Rattle.gw_resolve.specs.Noted.{Notes}
+use Rattle.gw_resolve.specs.Resolving.{MakesItem, path_failures, target_failures, reached}
 use Rattle.gw_resolve.specs.Seen.{scope as walked, failure, failures}
 use Rattle.gw_resolve.proofs.Built.{items_made, items_done, made_group, made_flat}
-use Rattle.gw_resolve.proofs.Noting.{as_many, found_both, group_paths, flat_paths, items_next}
-use Rattle.gw_resolve.proofs.Targeting.{targets_next, group_targets, flat_targets, flat_reached}
+use Rattle.gw_resolve.proofs.Noting.{as_many, found_both, group_paths, flat_paths, items_next, paths_done}
+use Rattle.gw_resolve.proofs.Targeting.{targets_next, group_targets, flat_targets, group_reached, flat_reached, targets_done}
 use Rattle.gw_resolve.proofs.items.+items.Goals as goal
 
 -- ---- a group
@@ -48,6 +50,9 @@ group-returns-clause-targets t c =
     (group_targets (nodes_in c.args.level) (nodes_in c.nodes_of_child-below.result) c.args.j c.in_ok-aimed.aimed.child c.args.made.now c.deref-2.result.now c.deref-4.result.now
     c.deref-2.ensures.value c.deref-4.ensures.value c.in_ok-aimed.ensures.child c.nodes_of_child-below.ensures)
 
+pub group-returns-clause-node : goal.group-returns-clause-node
+group-returns-clause-node t c = c.in_ok-aimed.ensures.node ∙ ap (spec.node_or c.args.j (nodes_in c.args.level)) c.deref-2.ensures.value ∙ group_reached (nodes_in c.args.level) c.args.j c.args.made.now
+
 -- ---- a flat
 
 pub flat-returns-clause-item : goal.flat-returns-clause-item
@@ -86,6 +91,56 @@ flat-returns-clause-targets t c =
     ∙ ap (λ l. first ++ l)
     (flat_targets (nodes_in c.args.level) c.args.j c.args.made.now c.deref-2.result.now c.deref-4.result.now c.deref-2.ensures.value c.deref-4.ensures.value)
 
+-- ---- an item of any kind
+
+pub resolve_item-returns-in-SegFrom-clause-item : goal.resolve_item-returns-in-SegFrom-clause-item
+resolve_item-returns-in-SegFrom-clause-item t c = subst (λ x. IfOk c.segment_from.result (λ l. MakesItem (walked c.args.scope.now) (nodes_in c.args.level) x l.item)) (sym c.in-SegFrom.is) c.segment_from.ensures.item
+
+pub resolve_item-returns-in-SegFrom-clause-node : goal.resolve_item-returns-in-SegFrom-clause-node
+resolve_item-returns-in-SegFrom-clause-node t c = subst (λ x. IfOk c.segment_from.result (λ l. l.node ≡ reached (nodes_in c.args.level) c.args.j x)) (sym c.in-SegFrom.is) c.segment_from.ensures.node
+
+pub resolve_item-returns-in-SegFrom-clause-paths : goal.resolve_item-returns-in-SegFrom-clause-paths
+resolve_item-returns-in-SegFrom-clause-paths t c = subst (λ x. OnOk c.segment_from.result (Notes c.args.lost.now.paths c.segment_from.new.lost.paths (path_failures (walked c.args.scope.now) x))) (sym c.in-SegFrom.is) c.segment_from.ensures.paths
+
+pub resolve_item-returns-in-SegFrom-clause-targets : goal.resolve_item-returns-in-SegFrom-clause-targets
+resolve_item-returns-in-SegFrom-clause-targets t c = subst (λ x. OnOk c.segment_from.result (Notes c.args.lost.now.targets c.segment_from.new.lost.targets (target_failures (nodes_in c.args.level) c.args.j x))) (sym c.in-SegFrom.is) c.segment_from.ensures.targets
+
+pub resolve_item-returns-in-SegAlways-clause-item : goal.resolve_item-returns-in-SegAlways-clause-item
+resolve_item-returns-in-SegAlways-clause-item t c = subst (λ x. IfOk c.segment_always.result (λ l. MakesItem (walked c.args.scope.now) (nodes_in c.args.level) x l.item)) (sym c.in-SegAlways.is) c.segment_always.ensures.item
+
+pub resolve_item-returns-in-SegAlways-clause-node : goal.resolve_item-returns-in-SegAlways-clause-node
+resolve_item-returns-in-SegAlways-clause-node t c = subst (λ x. IfOk c.segment_always.result (λ l. l.node ≡ reached (nodes_in c.args.level) c.args.j x)) (sym c.in-SegAlways.is) c.segment_always.ensures.node
+
+pub resolve_item-returns-in-SegAlways-clause-paths : goal.resolve_item-returns-in-SegAlways-clause-paths
+resolve_item-returns-in-SegAlways-clause-paths t c = subst (λ x. OnOk c.segment_always.result (Notes c.args.lost.now.paths c.segment_always.new.lost.paths (path_failures (walked c.args.scope.now) x))) (sym c.in-SegAlways.is) c.segment_always.ensures.paths
+
+pub resolve_item-returns-in-SegAlways-clause-targets : goal.resolve_item-returns-in-SegAlways-clause-targets
+resolve_item-returns-in-SegAlways-clause-targets t c = subst (λ x. OnOk c.segment_always.result (Notes c.args.lost.now.targets c.segment_always.new.lost.targets (target_failures (nodes_in c.args.level) c.args.j x))) (sym c.in-SegAlways.is) c.segment_always.ensures.targets
+
+pub resolve_item-returns-in-EachAs-clause-item : goal.resolve_item-returns-in-EachAs-clause-item
+resolve_item-returns-in-EachAs-clause-item t c = subst (λ x. IfOk c.group.result (λ l. MakesItem (walked c.args.scope.now) (nodes_in c.args.level) x l.item)) (sym c.in-EachAs.is) c.group.ensures.item
+
+pub resolve_item-returns-in-EachAs-clause-node : goal.resolve_item-returns-in-EachAs-clause-node
+resolve_item-returns-in-EachAs-clause-node t c = subst (λ x. IfOk c.group.result (λ l. l.node ≡ reached (nodes_in c.args.level) c.args.j x)) (sym c.in-EachAs.is) c.group.ensures.node
+
+pub resolve_item-returns-in-EachAs-clause-paths : goal.resolve_item-returns-in-EachAs-clause-paths
+resolve_item-returns-in-EachAs-clause-paths t c = subst (λ x. OnOk c.group.result (Notes c.args.lost.now.paths c.group.new.lost.paths (path_failures (walked c.args.scope.now) x))) (sym c.in-EachAs.is) c.group.ensures.paths
+
+pub resolve_item-returns-in-EachAs-clause-targets : goal.resolve_item-returns-in-EachAs-clause-targets
+resolve_item-returns-in-EachAs-clause-targets t c = subst (λ x. OnOk c.group.result (Notes c.args.lost.now.targets c.group.new.lost.targets (target_failures (nodes_in c.args.level) c.args.j x))) (sym c.in-EachAs.is) c.group.ensures.targets
+
+pub resolve_item-returns-in-EachFlat-clause-item : goal.resolve_item-returns-in-EachFlat-clause-item
+resolve_item-returns-in-EachFlat-clause-item t c = subst (λ x. IfOk c.flat.result (λ l. MakesItem (walked c.args.scope.now) (nodes_in c.args.level) x l.item)) (sym c.in-EachFlat.is) c.flat.ensures.item
+
+pub resolve_item-returns-in-EachFlat-clause-node : goal.resolve_item-returns-in-EachFlat-clause-node
+resolve_item-returns-in-EachFlat-clause-node t c = subst (λ x. IfOk c.flat.result (λ l. l.node ≡ reached (nodes_in c.args.level) c.args.j x)) (sym c.in-EachFlat.is) c.flat.ensures.node
+
+pub resolve_item-returns-in-EachFlat-clause-paths : goal.resolve_item-returns-in-EachFlat-clause-paths
+resolve_item-returns-in-EachFlat-clause-paths t c = subst (λ x. OnOk c.flat.result (Notes c.args.lost.now.paths c.flat.new.lost.paths (path_failures (walked c.args.scope.now) x))) (sym c.in-EachFlat.is) c.flat.ensures.paths
+
+pub resolve_item-returns-in-EachFlat-clause-targets : goal.resolve_item-returns-in-EachFlat-clause-targets
+resolve_item-returns-in-EachFlat-clause-targets t c = subst (λ x. OnOk c.flat.result (Notes c.args.lost.now.targets c.flat.new.lost.targets (target_failures (nodes_in c.args.level) c.args.j x))) (sym c.in-EachFlat.is) c.flat.ensures.targets
+
 -- ---- one item after the other
 
 pub resolve_items-loop-i-preserved : goal.resolve_items-loop-i-preserved
@@ -104,3 +159,9 @@ resolve_items-loop-i-preserved t c =
 pub resolve_items-returns-clause-items : goal.resolve_items-returns-clause-items
 resolve_items-returns-clause-items t c = λ tables.
     items_done tables (walked c.args.scope.now) (nodes_in c.args.level) (spec.resolved_items tables (walked c.args.scope.now) (nodes_in c.args.level) (raw.all_items c.args.items.now)) c.args.items.now c.loop-i.i c.loop-i.built.items c.loop-i-test.false (c.loop-i.invariant.items tables)
+
+pub resolve_items-returns-clause-paths : goal.resolve_items-returns-clause-paths
+resolve_items-returns-clause-paths t c = paths_done (walked c.args.scope.now) c.args.items.now c.loop-i.i (failures c.loop-i.lost.paths.items) _ c.loop-i-test.false c.loop-i.invariant.paths
+
+pub resolve_items-returns-clause-targets : goal.resolve_items-returns-clause-targets
+resolve_items-returns-clause-targets t c = targets_done (nodes_in c.args.level) c.loop-i.node c.args.items.now c.loop-i.i (failures c.loop-i.lost.targets.items) _ c.loop-i-test.false c.loop-i.invariant.targets

@@ -1,0 +1,31 @@
+use Rattle.std.proofs.Common.{ap, ◌∙◌, ◌++◌, map, flat_map, not, refl}
+use Rattle.gw_maplang.specs.Seen as raw
+use Rattle.gw_resolve.specs.Failures.{fails}
+use Rattle.gw_resolve.specs.Naming as spec
+use Rattle.gw_resolve.specs.Places.{within}
+use Rattle.gw_resolve.specs.Seen.{scope as walked, failure, failures}
+use Rattle.gw_resolve.proofs.Noting.{as_many, found_both, from_paths}
+use Rattle.gw_resolve.proofs.items.rules_walked.Goals as goal
+
+pub returns-clause-place : goal.returns-clause-place
+returns-clause-place c = c.in_ok-led.ensures.place ∙ ap (λ p. spec.place_or (walked c.args.scope.now) (raw.items_all p)) c.deref.ensures.value
+
+pub returns-clause-rules : goal.returns-clause-rules
+returns-clause-rules c = λ tables.
+    let led = c.in_ok-led.ensures.place ∙ ap (λ p. spec.place_or (walked c.args.scope.now) (raw.items_all p)) c.deref.ensures.value in
+    let inner = ap walked c.deref-2.ensures.value ∙ c.in_ok-inner.ensures ∙ ap (within (walked c.args.scope.now)) led in
+    c.in_ok-rules.ensures.made tables ∙ (λ i. map (spec.rule tables (inner i)) (map raw.rule (c.deref-3.ensures.value i)))
+
+pub returns-clause-failures : goal.returns-clause-failures
+returns-clause-failures c =
+    let first = failures c.args.paths.now.items in
+    let own = fails 1 c.args.made.now.line (not c.in_ok-led.led.leads) ++ fails 2 c.args.made.now.line (not c.in_ok-led.led.once) in
+    let later = flat_map (spec.rule_failures (walked c.deref-2.result.now)) (map raw.rule c.deref-3.result.now) in
+    c.hide.ensures first own later
+    (as_many failure c.args.paths.now.items first _ (c.len-before.ensures ∙ c.args.paths.now.ok.0) refl)
+    (as_many failure c.note_led.new.found.items (first ++ own) _ (c.len-kept.ensures ∙ c.note_led.new.found.ok.0) c.in_ok-note_led.ensures)
+    (found_both failure first c.note_led.new.found.items c.rules.new.found.items own later c.in_ok-note_led.ensures c.in_ok-rules.ensures.failures)
+    ∙ ap (λ l. first ++ l)
+    (from_paths (walked c.args.scope.now) (walked c.deref-2.result.now) c.args.made.now c.in_ok-led.led.leads c.in_ok-led.led.once c.deref.result.now c.deref-3.result.now
+    c.deref.ensures.value c.deref-3.ensures.value c.in_ok-led.ensures.leads c.in_ok-led.ensures.once
+    (ap walked c.deref-2.ensures.value ∙ c.in_ok-inner.ensures ∙ ap (within (walked c.args.scope.now)) c.in_ok-led.ensures.place))
