@@ -11,3 +11,4 @@ pub mod Inside
 pub mod Listing
 pub mod Segments
 pub mod Following
+pub mod Fields
