@@ -18,7 +18,7 @@ use Rattle.gw_maplang.specs.Seen.{path, items_all, with_item, row_items, all_ite
 use Rattle.gw_resolve.specs.Places.{Element, within}
 use Rattle.gw_resolve.specs.Failures.{Failure, fails, or_later}
 use Rattle.gw_resolve.specs.Looking.{each_within}
-use Rattle.gw_resolve.specs.Naming.{but_last, place_of, place_or, has_place, ends_at_segment, is_single_place, walked_if, source_failures, rule_failures, path_failures}
+use Rattle.gw_resolve.specs.Naming.{but_last, place_of, place_or, walk_failures, ends_at_segment, is_single_place, walked_if, source_failures, rule_failures, path_failures}
 
 -- one more, and those behind it
 pub added_one : {A : Type 0} (old new a b whole : List A) → whole ≡ a ++ b → new ≡ old ++ a → old ++ whole ≡ new ++ b
@@ -138,17 +138,14 @@ from_paths scope inner s leads once p rules a b c d e =
     inner' = e ∙ ap (λ x. within scope (place_or scope (items_all x))) a
 
 -- of what is walked, and of the items within
-walked : (scope inner : List Element) (line : ℕ) (leads once : Bool) (p : List (Vec ℕ)) (items : List Item)
-    → leads ≡ has_place (place_of scope (items_all p)) → once ≡ is_single_place scope but_last (place_of scope (items_all p)) → inner ≡ within scope (place_or scope (items_all p))
-    → or_later (led line leads once) (path_failures inner (all_items items)) ≡ each scope line p items
-walked scope inner line leads once p items c d e = λ i. or_later (led line (c i) (d i)) (path_failures (e i) (all_items items))
+walked : (scope inner : List Element) (line : ℕ) (p : List (Vec ℕ)) (items : List Item) → inner ≡ within scope (place_or scope (items_all p))
+    → or_later (walk_failures scope line (items_all p)) (path_failures inner (all_items items)) ≡ each scope line p items
+walked scope inner line p items e = ap (λ x. or_later (walk_failures scope line (items_all p)) (path_failures x (all_items items))) e
 
-pub group_paths : (scope inner : List Element) (g : GroupItem) (leads once : Bool) (p : List (Vec ℕ)) (items : List Item) → p ≡ g.path.items → items ≡ g.items.items
-    → leads ≡ has_place (place_of scope (items_all p)) → once ≡ is_single_place scope but_last (place_of scope (items_all p)) → inner ≡ within scope (place_or scope (items_all p))
-    → or_later (led g.line leads once) (path_failures inner (all_items items)) ≡ path_failures scope (with_item (EachAs g) nothing)
-group_paths scope inner g leads once p items a b c d e = walked scope inner g.line leads once p items c d e ∙ group_failures scope (EachAs g) g p items refl a b
+pub group_paths : (scope inner : List Element) (g : GroupItem) (p : List (Vec ℕ)) (items : List Item) → p ≡ g.path.items → items ≡ g.items.items → inner ≡ within scope (place_or scope (items_all p))
+    → or_later (walk_failures scope g.line (items_all p)) (path_failures inner (all_items items)) ≡ path_failures scope (with_item (EachAs g) nothing)
+group_paths scope inner g p items a b e = walked scope inner g.line p items e ∙ group_failures scope (EachAs g) g p items refl a b
 
-pub flat_paths : (scope inner : List Element) (g : FlatItem) (leads once : Bool) (p : List (Vec ℕ)) (items : List Item) → p ≡ g.path.items → items ≡ g.items.items
-    → leads ≡ has_place (place_of scope (items_all p)) → once ≡ is_single_place scope but_last (place_of scope (items_all p)) → inner ≡ within scope (place_or scope (items_all p))
-    → or_later (led g.line leads once) (path_failures inner (all_items items)) ≡ path_failures scope (with_item (EachFlat g) nothing)
-flat_paths scope inner g leads once p items a b c d e = walked scope inner g.line leads once p items c d e ∙ flat_failures scope (EachFlat g) g p items refl a b
+pub flat_paths : (scope inner : List Element) (g : FlatItem) (p : List (Vec ℕ)) (items : List Item) → p ≡ g.path.items → items ≡ g.items.items → inner ≡ within scope (place_or scope (items_all p))
+    → or_later (walk_failures scope g.line (items_all p)) (path_failures inner (all_items items)) ≡ path_failures scope (with_item (EachFlat g) nothing)
+flat_paths scope inner g p items a b e = walked scope inner g.line p items e ∙ flat_failures scope (EachFlat g) g p items refl a b

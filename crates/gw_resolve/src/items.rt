@@ -5,6 +5,7 @@ ghost use Rattle.gw_maplang.specs.declared.item.Item.{SegFrom, SegAlways, EachAs
 ghost use Rattle.gw_profile.specs.Labels.{nodes_in};
 ghost use Rattle.gw_resolve.specs.Naming as spec;
 ghost use Rattle.gw_resolve.specs.Noted.{Notes};
+ghost use Rattle.gw_resolve.specs.Places.{within as scope_within};
 ghost use Rattle.gw_resolve.specs.Resolving.{MakesItem, MakesItems, MakesRules, path_failures, target_failures, reached};
 ghost use Rattle.gw_resolve.specs.Seen.{scope as walked, place as seen_place};
 
@@ -30,6 +31,34 @@ pub(crate) struct Looked {
 struct Ruled {
     place: Place,
     rules: Vec<Rule>,
+}
+
+/// The place that a group or a flat walks, and the scope there.
+#[derive(Drop)]
+struct Entered<'a, 'p> {
+    place: Place,
+    inner: Vec<Element<'a, 'p>>,
+}
+
+// Where the path of a group or a flat leads, with the failures of that path.
+fn enter<'a, 'p>(
+    alloc: Global,
+    found: &mut Vec<Failure>,
+    scope: &[Element<'a, 'p>],
+    line: u32,
+    path: &[Vec<u8>],
+) -> Result<Entered<'a, 'p>, AllocError>
+    ensures place { IfOk result (λ e. seen_place e.place ≡ spec.place_or (walked scope.now) (raw.items_all path.now)) }
+    ensures inner { IfOk result (λ e. walked e.inner.items ≡ scope_within (walked scope.now) (spec.place_or (walked scope.now) (raw.items_all path.now))) }
+    ensures failures { OnOk result (Notes found.old found.new (spec.walk_failures (walked scope.now) line (raw.items_all path.now))) }
+{
+    let led = walk_led(alloc, scope, path)?;
+    note_led(found, line, &led)?;
+    let inner = within(alloc, scope, &led.place)?;
+    Ok(Entered {
+        place: led.place,
+        inner,
+    })
 }
 
 // What a segment item walks, and its rules.
@@ -126,19 +155,17 @@ fn group(
     ensures targets { OnOk result (Notes lost.old.targets lost.new.targets (target_failures (nodes_in level.entry) j (EachAs made.now))) }
 {
     let before = mark(lost);
-    let led = walk_led(alloc, scope, &made.path)?;
-    note_led(&mut lost.paths, made.line, &led)?;
+    let entered = enter(alloc, &mut lost.paths, scope, made.line, &made.path)?;
     let aimed = group_target(&mut lost.targets, level, j, made.line, &made.label)?;
     let kept = mark(lost);
-    let inner = within(alloc, scope, &led.place)?;
     let below = nodes_of_child(level, aimed.child);
-    let items = resolve_items(alloc, lost, &inner, below, &made.items)?;
+    let items = resolve_items(alloc, lost, &entered.inner, below, &made.items)?;
     hide_both(lost, before, kept);
     Ok(Looked {
         item: Item::Group(GroupItem {
             line: made.line,
             child: aimed.child,
-            place: led.place,
+            place: entered.place,
             items,
         }),
         node: aimed.node,
@@ -161,17 +188,15 @@ fn flat(
     ensures targets { OnOk result (Notes lost.old.targets lost.new.targets (target_failures (nodes_in level.entry) j (EachFlat made.now))) }
 {
     let before = mark(lost);
-    let led = walk_led(alloc, scope, &made.path)?;
-    note_led(&mut lost.paths, made.line, &led)?;
+    let entered = enter(alloc, &mut lost.paths, scope, made.line, &made.path)?;
     let node = flat_target(&mut lost.targets, level, j, made.line, &made.items)?;
     let kept = mark(lost);
-    let inner = within(alloc, scope, &led.place)?;
-    let items = resolve_items(alloc, lost, &inner, level, &made.items)?;
+    let items = resolve_items(alloc, lost, &entered.inner, level, &made.items)?;
     hide_both(lost, before, kept);
     Ok(Looked {
         item: Item::Flat(FlatItem {
             line: made.line,
-            place: led.place,
+            place: entered.place,
             items,
         }),
         node,

@@ -1,10 +1,8 @@
-use Rattle.std.proofs.Common.{◌≡◌, IfOk, OnOk, ap, ◌∙◌, ◌++◌, not, refl, sym, subst}
+use Rattle.std.proofs.Common.{◌≡◌, IfOk, OnOk, ap, ◌∙◌, ◌++◌, refl, sym, subst}
 use Rattle.gw_maplang.specs.Seen as raw
 use Rattle.gw_profile.specs.Labels.{nodes_in}
-use Rattle.gw_resolve.specs.Failures.{fails}
 use Rattle.gw_resolve.specs.Naming as spec
 use Rattle.gw_resolve.specs.Placed.{is_group}
-use Rattle.gw_resolve.specs.Places.{within}
 use Rattle.gw_resolve.specs.Noted.{Notes}
 use Rattle.gw_resolve.specs.Resolving.{MakesItem, path_failures, target_failures, reached}
 use Rattle.gw_resolve.specs.Seen.{scope as walked, failure, failures}
@@ -18,24 +16,24 @@ use Rattle.gw_resolve.proofs.items.+items.Goals as goal
 pub group-returns-clause-item : goal.group-returns-clause-item
 group-returns-clause-item t c = λ tables rest.
     made_group tables (walked c.args.scope.now) (walked c.deref-3.result.now) (nodes_in c.args.level) (nodes_in c.nodes_of_child-below.result) c.args.made.now
-    (record { line = c.args.made.now.line; child = c.in_ok-aimed.aimed.child; place = c.in_ok-led.led.place; items = c.in_ok-items.items }) _ _ _ _ rest
-    c.deref.ensures.value c.deref.ensures.value c.deref-2.ensures.value c.deref-4.ensures.value refl c.in_ok-led.ensures.place
-    (ap walked c.deref-3.ensures.value ∙ c.in_ok-inner.ensures ∙ ap (within (walked c.args.scope.now)) c.in_ok-led.ensures.place)
+    (record { line = c.args.made.now.line; child = c.in_ok-aimed.aimed.child; place = c.in_ok-entered.entered.place; items = c.in_ok-items.items }) _ _ _ _ rest
+    c.deref.ensures.value c.deref.ensures.value c.deref-2.ensures.value c.deref-4.ensures.value refl c.in_ok-entered.ensures.place
+    (ap walked c.deref-3.ensures.value ∙ c.in_ok-entered.ensures.inner)
     c.in_ok-aimed.ensures.child c.nodes_of_child-below.ensures c.in_ok-items.ensures.items
 
 pub group-returns-clause-paths : goal.group-returns-clause-paths
 group-returns-clause-paths t c =
     let first = failures c.args.lost.now.paths.items in
-    let own = fails 1 c.args.made.now.line (not c.in_ok-led.led.leads) ++ fails 2 c.args.made.now.line (not c.in_ok-led.led.once) in
+    let own = spec.walk_failures (walked c.args.scope.now) c.args.made.now.line (raw.items_all c.deref.result.now) in
     let later = spec.path_failures (walked c.deref-3.result.now) (raw.all_items c.deref-4.result.now) in
     c.hide_both.ensures.paths first own later
     (as_many failure c.args.lost.now.paths.items first _ c.mark-before.ensures.paths refl)
-    (as_many failure c.note_led.new.found.items (first ++ own) _ c.mark-kept.ensures.paths c.in_ok-note_led.ensures)
-    (found_both failure first c.note_led.new.found.items c.resolve_items.new.lost.paths.items own later c.in_ok-note_led.ensures c.in_ok-items.ensures.paths)
+    (as_many failure c.enter.new.found.items (first ++ own) _ c.mark-kept.ensures.paths c.in_ok-entered.ensures.failures)
+    (found_both failure first c.enter.new.found.items c.resolve_items.new.lost.paths.items own later c.in_ok-entered.ensures.failures c.in_ok-items.ensures.paths)
     ∙ ap (λ l. first ++ l)
-    (group_paths (walked c.args.scope.now) (walked c.deref-3.result.now) c.args.made.now c.in_ok-led.led.leads c.in_ok-led.led.once c.deref.result.now c.deref-4.result.now
-    c.deref.ensures.value c.deref-4.ensures.value c.in_ok-led.ensures.leads c.in_ok-led.ensures.once
-    (ap walked c.deref-3.ensures.value ∙ c.in_ok-inner.ensures ∙ ap (within (walked c.args.scope.now)) c.in_ok-led.ensures.place))
+    (group_paths (walked c.args.scope.now) (walked c.deref-3.result.now) c.args.made.now c.deref.result.now c.deref-4.result.now
+    c.deref.ensures.value c.deref-4.ensures.value
+    (ap walked c.deref-3.ensures.value ∙ c.in_ok-entered.ensures.inner))
 
 pub group-returns-clause-targets : goal.group-returns-clause-targets
 group-returns-clause-targets t c =
@@ -58,9 +56,9 @@ group-returns-clause-node t c = c.in_ok-aimed.ensures.node ∙ ap (spec.node_or 
 pub flat-returns-clause-item : goal.flat-returns-clause-item
 flat-returns-clause-item t c = λ tables rest.
     made_flat tables (walked c.args.scope.now) (walked c.deref-3.result.now) (nodes_in c.args.level) c.args.made.now
-    (record { line = c.args.made.now.line; place = c.in_ok-led.led.place; items = c.in_ok-items.items }) _ _ _ rest
-    c.deref.ensures.value c.deref.ensures.value c.deref-4.ensures.value refl c.in_ok-led.ensures.place
-    (ap walked c.deref-3.ensures.value ∙ c.in_ok-inner.ensures ∙ ap (within (walked c.args.scope.now)) c.in_ok-led.ensures.place) c.in_ok-items.ensures.items
+    (record { line = c.args.made.now.line; place = c.in_ok-entered.entered.place; items = c.in_ok-items.items }) _ _ _ rest
+    c.deref.ensures.value c.deref.ensures.value c.deref-4.ensures.value refl c.in_ok-entered.ensures.place
+    (ap walked c.deref-3.ensures.value ∙ c.in_ok-entered.ensures.inner) c.in_ok-items.ensures.items
 
 pub flat-returns-clause-node : goal.flat-returns-clause-node
 flat-returns-clause-node t c = flat_reached (nodes_in c.args.level) c.args.j c.in_ok-node.node c.args.made.now c.deref-2.result.now c.deref-2.ensures.value c.in_ok-node.ensures.node
@@ -68,16 +66,16 @@ flat-returns-clause-node t c = flat_reached (nodes_in c.args.level) c.args.j c.i
 pub flat-returns-clause-paths : goal.flat-returns-clause-paths
 flat-returns-clause-paths t c =
     let first = failures c.args.lost.now.paths.items in
-    let own = fails 1 c.args.made.now.line (not c.in_ok-led.led.leads) ++ fails 2 c.args.made.now.line (not c.in_ok-led.led.once) in
+    let own = spec.walk_failures (walked c.args.scope.now) c.args.made.now.line (raw.items_all c.deref.result.now) in
     let later = spec.path_failures (walked c.deref-3.result.now) (raw.all_items c.deref-4.result.now) in
     c.hide_both.ensures.paths first own later
     (as_many failure c.args.lost.now.paths.items first _ c.mark-before.ensures.paths refl)
-    (as_many failure c.note_led.new.found.items (first ++ own) _ c.mark-kept.ensures.paths c.in_ok-note_led.ensures)
-    (found_both failure first c.note_led.new.found.items c.resolve_items.new.lost.paths.items own later c.in_ok-note_led.ensures c.in_ok-items.ensures.paths)
+    (as_many failure c.enter.new.found.items (first ++ own) _ c.mark-kept.ensures.paths c.in_ok-entered.ensures.failures)
+    (found_both failure first c.enter.new.found.items c.resolve_items.new.lost.paths.items own later c.in_ok-entered.ensures.failures c.in_ok-items.ensures.paths)
     ∙ ap (λ l. first ++ l)
-    (flat_paths (walked c.args.scope.now) (walked c.deref-3.result.now) c.args.made.now c.in_ok-led.led.leads c.in_ok-led.led.once c.deref.result.now c.deref-4.result.now
-    c.deref.ensures.value c.deref-4.ensures.value c.in_ok-led.ensures.leads c.in_ok-led.ensures.once
-    (ap walked c.deref-3.ensures.value ∙ c.in_ok-inner.ensures ∙ ap (within (walked c.args.scope.now)) c.in_ok-led.ensures.place))
+    (flat_paths (walked c.args.scope.now) (walked c.deref-3.result.now) c.args.made.now c.deref.result.now c.deref-4.result.now
+    c.deref.ensures.value c.deref-4.ensures.value
+    (ap walked c.deref-3.ensures.value ∙ c.in_ok-entered.ensures.inner))
 
 pub flat-returns-clause-targets : goal.flat-returns-clause-targets
 flat-returns-clause-targets t c =
