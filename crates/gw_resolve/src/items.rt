@@ -240,7 +240,7 @@ pub(crate) fn resolve_items(
 {
     let mut built = Vec::new(alloc);
     let mut node = 0;
-    for (i, item) in items.iter().enumerate() {
+    for item in items {
         let looked = resolve_item(alloc, lost, scope, level, node, item)?;
         node = looked.node;
         built.push(looked.item)?;

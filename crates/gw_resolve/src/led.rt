@@ -54,7 +54,7 @@ fn are_single<'a, 'p>(level: Option<&'a Level<'p>>, steps: &[usize]) -> bool
     ensures { result ≡ spec.are_single (nodes_in level.entry) steps.now }
 {
     let mut level = level;
-    for (i, step) in steps.iter().enumerate() {
+    for step in steps {
         if comes_often(level, *step) {
             return false;
         }

@@ -76,7 +76,7 @@ fn all_left_out(
     ensures failures { OnOk result (Notes found.old found.new (flat_map (spec.drop_failures (seen message.entry)) (map raw.dropped drops.now))) }
 {
     let mut built = Vec::new(alloc);
-    for (i, dropped) in drops.iter().enumerate() {
+    for dropped in drops {
         let one = left_out(alloc, found, message, dropped)?;
         built.push(one)?;
     }

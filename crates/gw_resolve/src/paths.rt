@@ -105,7 +105,7 @@ fn follow<'a, 'p>(
 {
     let mut level = level;
     let mut steps = steps;
-    for (i, label) in path.iter().enumerate() {
+    for label in path {
         let Some(number) = labelled(level, label) else {
             return Ok(None);
         };

@@ -112,7 +112,7 @@ fn leaves(
     ensures failures { OnOk result (Notes found.old found.new (flat_map (spec.leaf_failures (walked scope.now)) (map raw.leaf_value all.now))) }
 {
     let mut built = Vec::new(alloc);
-    for (i, made) in all.iter().enumerate() {
+    for made in all {
         let one = at_leaf(alloc, found, scope, made)?;
         built.push(one)?;
     }
@@ -177,7 +177,7 @@ pub(crate) fn rules(
     ensures failures { OnOk result (Notes found.old found.new (flat_map (spec.rule_failures (walked scope.now)) (map raw.rule all.now))) }
 {
     let mut built = Vec::new(alloc);
-    for (i, made) in all.iter().enumerate() {
+    for made in all {
         let one = rule(alloc, found, scope, made)?;
         built.push(one)?;
     }

@@ -37,7 +37,7 @@ fn first_of_item(item: &Item) -> Option<&[u8]>
 fn first_of(items: &[Item]) -> Option<&[u8]>
     ensures { now result ≡ slice_get (spec.labels (all_items items.now)) 0 }
 {
-    for (i, item) in items.iter().enumerate() {
+    for item in items {
         let first = first_of_item(item);
         if first.is_some() {
             return first;
@@ -63,7 +63,7 @@ fn item_has(item: &Item, label: &[u8]) -> bool
 fn all_have(items: &[Item], label: &[u8]) -> bool
     ensures { result ≡ list_all (bytes_eq label.now) (spec.labels (all_items items.now)) }
 {
-    for (i, item) in items.iter().enumerate() {
+    for item in items {
         if !item_has(item, label) {
             return false;
         }

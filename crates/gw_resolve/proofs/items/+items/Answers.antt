@@ -141,25 +141,25 @@ resolve_item-returns-in-EachFlat-clause-targets t c = subst (λ x. OnOk c.flat.r
 
 -- ---- one item after the other
 
-pub resolve_items-loop-i-preserved : goal.resolve_items-loop-i-preserved
-resolve_items-loop-i-preserved t c =
+pub resolve_items-loop-item-preserved : goal.resolve_items-loop-item-preserved
+resolve_items-loop-item-preserved t c =
     record {
       items = λ tables.
-          items_made tables (walked c.args.scope.now) (nodes_in c.args.level) _ c.args.items.now c.loop-i.i c.index-items-i.result c.loop-i.built.items _ c.in_ok-looked.looked.item c.loop-i-test.true c.index-items-i.is c.in_ok-push.ensures.items c.in_ok-looked.ensures.item (c.loop-i.invariant.items tables);
+          items_made tables (walked c.args.scope.now) (nodes_in c.args.level) _ c.args.items.now c.loop-item.item-index c.item-item.result c.loop-item.built.items _ c.in_ok-looked.looked.item c.loop-item-test.true c.item-item.is c.in_ok-push.ensures.items c.in_ok-looked.ensures.item (c.loop-item.invariant.items tables);
       paths =
-          c.loop-i.invariant.paths
-          ∙ items_next (walked c.args.scope.now) c.args.items.now c.loop-i.i c.index-items-i.result (failures c.loop-i.lost.paths.items) (failures c.resolve_item.new.lost.paths.items) c.loop-i-test.true c.index-items-i.is c.in_ok-looked.ensures.paths;
+          c.loop-item.invariant.paths
+          ∙ items_next (walked c.args.scope.now) c.args.items.now c.loop-item.item-index c.item-item.result (failures c.loop-item.lost.paths.items) (failures c.resolve_item.new.lost.paths.items) c.loop-item-test.true c.item-item.is c.in_ok-looked.ensures.paths;
       targets =
-          c.loop-i.invariant.targets
-          ∙ targets_next (nodes_in c.args.level) c.args.items.now c.loop-i.i c.index-items-i.result (failures c.loop-i.lost.targets.items) (failures c.resolve_item.new.lost.targets.items) c.loop-i.node c.in_ok-looked.looked.node c.loop-i-test.true c.index-items-i.is c.in_ok-looked.ensures.targets c.in_ok-looked.ensures.node;
+          c.loop-item.invariant.targets
+          ∙ targets_next (nodes_in c.args.level) c.args.items.now c.loop-item.item-index c.item-item.result (failures c.loop-item.lost.targets.items) (failures c.resolve_item.new.lost.targets.items) c.loop-item.node c.in_ok-looked.looked.node c.loop-item-test.true c.item-item.is c.in_ok-looked.ensures.targets c.in_ok-looked.ensures.node;
     }
 
 pub resolve_items-returns-clause-items : goal.resolve_items-returns-clause-items
 resolve_items-returns-clause-items t c = λ tables.
-    items_done tables (walked c.args.scope.now) (nodes_in c.args.level) (spec.resolved_items tables (walked c.args.scope.now) (nodes_in c.args.level) (raw.all_items c.args.items.now)) c.args.items.now c.loop-i.i c.loop-i.built.items c.loop-i-test.false (c.loop-i.invariant.items tables)
+    items_done tables (walked c.args.scope.now) (nodes_in c.args.level) (spec.resolved_items tables (walked c.args.scope.now) (nodes_in c.args.level) (raw.all_items c.args.items.now)) c.args.items.now c.loop-item.item-index c.loop-item.built.items c.loop-item-test.false (c.loop-item.invariant.items tables)
 
 pub resolve_items-returns-clause-paths : goal.resolve_items-returns-clause-paths
-resolve_items-returns-clause-paths t c = paths_done (walked c.args.scope.now) c.args.items.now c.loop-i.i (failures c.loop-i.lost.paths.items) _ c.loop-i-test.false c.loop-i.invariant.paths
+resolve_items-returns-clause-paths t c = paths_done (walked c.args.scope.now) c.args.items.now c.loop-item.item-index (failures c.loop-item.lost.paths.items) _ c.loop-item-test.false c.loop-item.invariant.paths
 
 pub resolve_items-returns-clause-targets : goal.resolve_items-returns-clause-targets
-resolve_items-returns-clause-targets t c = targets_done (nodes_in c.args.level) c.loop-i.node c.args.items.now c.loop-i.i (failures c.loop-i.lost.targets.items) _ c.loop-i-test.false c.loop-i.invariant.targets
+resolve_items-returns-clause-targets t c = targets_done (nodes_in c.args.level) c.loop-item.node c.args.items.now c.loop-item.item-index (failures c.loop-item.lost.targets.items) _ c.loop-item-test.false c.loop-item.invariant.targets

@@ -4,5 +4,5 @@ use Rattle.gw_resolve.specs.Naming as spec
 use Rattle.gw_profile.specs.Labels.{nodes_in}
 use Rattle.gw_resolve.proofs.paths.follow.Given as goal
 
-abbrev pub invariant-loop-i : goal.invariant-loop-i
-invariant-loop-i l = option_map (λ more. l.fn.steps.items ++ more) (spec.steps_of (nodes_in l.fn.level) (items_all l.path)) ≡ option_map (λ more. l.steps.items ++ more) (spec.steps_of (nodes_in l.level) (items_all (drop l.i l.path)))
+abbrev pub invariant-loop-label : goal.invariant-loop-label
+invariant-loop-label l = option_map (λ more. l.fn.steps.items ++ more) (spec.steps_of (nodes_in l.fn.level) (items_all l.path)) ≡ option_map (λ more. l.steps.items ++ more) (spec.steps_of (nodes_in l.level) (items_all (drop l.label-index l.path)))

@@ -6,8 +6,8 @@ use Rattle.gw_resolve.specs.Seen as seen
 use Rattle.gw_resolve.specs.Seen.{scope as walked}
 use Rattle.gw_resolve.proofs.rules.rules.Given as goal
 
-abbrev pub invariant-loop-i : goal.invariant-loop-i
-invariant-loop-i l = record {
-  made : (tables : List TableValue) → map (spec.rule tables (walked l.scope)) (map raw.rule l.all) ≡ map (seen.rule tables) l.built.items ++ map (spec.rule tables (walked l.scope)) (map raw.rule (drop l.i l.all));
-  failures : seen.failures l.initial.found.items ++ (flat_map (spec.rule_failures (walked l.scope)) (map raw.rule l.all)) ≡ seen.failures l.found.items ++ (flat_map (spec.rule_failures (walked l.scope)) (map raw.rule (drop l.i l.all)));
+abbrev pub invariant-loop-made : goal.invariant-loop-made
+invariant-loop-made l = record {
+  made : (tables : List TableValue) → map (spec.rule tables (walked l.scope)) (map raw.rule l.all) ≡ map (seen.rule tables) l.built.items ++ map (spec.rule tables (walked l.scope)) (map raw.rule (drop l.made-index l.all));
+  failures : seen.failures l.initial.found.items ++ (flat_map (spec.rule_failures (walked l.scope)) (map raw.rule l.all)) ≡ seen.failures l.found.items ++ (flat_map (spec.rule_failures (walked l.scope)) (map raw.rule (drop l.made-index l.all)));
 }

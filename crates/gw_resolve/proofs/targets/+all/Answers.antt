@@ -8,8 +8,8 @@ item_has-returns-in-EachFlat t c = c.all_have.ensures ∙ ap (list_all (bytes_eq
 
 pub all_have-returns-then-not-item_has : goal.all_have-returns-then-not-item_has
 all_have-returns-then-not-item_has t c =
-    one_other (bytes_eq c.args.label.now) _ _ _ _ c.if-not-item_has.ensures (labels_front c.args.items.now c.loop-i.i c.index-items-i.result c.loop-i-test.true c.index-items-i.is) c.loop-i.invariant
+    one_other (bytes_eq c.args.label.now) _ _ _ _ c.if-not-item_has.ensures (labels_front c.args.items.now c.loop-item.item-index c.item-item.result c.loop-item-test.true c.item-item.is) c.loop-item.invariant
 
-pub all_have-loop-i-preserved : goal.all_have-loop-i-preserved
-all_have-loop-i-preserved t c =
-    one_more (bytes_eq c.args.label.now) _ _ _ _ c.if-not-item_has.ensures (labels_front c.args.items.now c.loop-i.i c.index-items-i.result c.loop-i-test.true c.index-items-i.is) c.loop-i.invariant
+pub all_have-loop-item-preserved : goal.all_have-loop-item-preserved
+all_have-loop-item-preserved t c =
+    one_more (bytes_eq c.args.label.now) _ _ _ _ c.if-not-item_has.ensures (labels_front c.args.items.now c.loop-item.item-index c.item-item.result c.loop-item-test.true c.item-item.is) c.loop-item.invariant

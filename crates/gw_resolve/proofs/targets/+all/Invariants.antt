@@ -5,5 +5,5 @@ use Rattle.gw_maplang.specs.Seen.{all_items}
 use Rattle.gw_resolve.specs.Naming as spec
 use Rattle.gw_resolve.proofs.targets.+all.Given as goal
 
-abbrev pub invariant-all_have-loop-i : goal.invariant-all_have-loop-i
-invariant-all_have-loop-i l = list_all (bytes_eq l.label) (spec.labels (all_items l.items)) ≡ list_all (bytes_eq l.label) (spec.labels (all_items (drop l.i l.items)))
+abbrev pub invariant-all_have-loop-item : goal.invariant-all_have-loop-item
+invariant-all_have-loop-item l = list_all (bytes_eq l.label) (spec.labels (all_items l.items)) ≡ list_all (bytes_eq l.label) (spec.labels (all_items (drop l.item-index l.items)))

@@ -9,8 +9,8 @@ first_of_item-returns-in-EachFlat t c = c.first_of.ensures ∙ ap (λ l. slice_g
 
 pub first_of-returns-then-is_some : goal.first_of-returns-then-is_some
 first_of-returns-then-is_some t c =
-    first_there c.first_of_item-first.result (spec.labels (all_items c.args.items.now)) _ _ _ c.if-is_some.ensures (labels_front c.args.items.now c.loop-i.i c.index-items-i.result c.loop-i-test.true c.index-items-i.is) c.loop-i.invariant c.first_of_item-first.ensures
+    first_there c.first_of_item-first.result (spec.labels (all_items c.args.items.now)) _ _ _ c.if-is_some.ensures (labels_front c.args.items.now c.loop-item.item-index c.item-item.result c.loop-item-test.true c.item-item.is) c.loop-item.invariant c.first_of_item-first.ensures
 
-pub first_of-loop-i-preserved : goal.first_of-loop-i-preserved
-first_of-loop-i-preserved t c =
-    first_missing c.first_of_item-first.result (spec.labels (all_items c.args.items.now)) _ _ _ c.if-is_some.ensures (labels_front c.args.items.now c.loop-i.i c.index-items-i.result c.loop-i-test.true c.index-items-i.is) c.loop-i.invariant c.first_of_item-first.ensures
+pub first_of-loop-item-preserved : goal.first_of-loop-item-preserved
+first_of-loop-item-preserved t c =
+    first_missing c.first_of_item-first.result (spec.labels (all_items c.args.items.now)) _ _ _ c.if-is_some.ensures (labels_front c.args.items.now c.loop-item.item-index c.item-item.result c.loop-item-test.true c.item-item.is) c.loop-item.invariant c.first_of_item-first.ensures
