@@ -13,7 +13,7 @@ use Rattle.gw_profile.specs.WellFormed as profiles
 use Rattle.gw_profile.specs.WellFormed.{EachSegment}
 use Rattle.gw_maplang.specs.Among.{Distinct}
 use Rattle.gw_maplang.specs.Shapes as raw
-use Rattle.gw_maplang.specs.Shapes.{TableValue, Rows, table_of, MapValue}
+use Rattle.gw_maplang.specs.Shapes.{TableValue, table_of, MapValue}
 use Rattle.gw_maplang.specs.Lawful as theirs
 use Rattle.gw_resolve.specs.Places.{Element, the_whole, child, nodes_of_child, name_of, within}
 use Rattle.gw_resolve.specs.Resolved.{Rule}

@@ -15,7 +15,8 @@ use Rattle.gw_resolve.specs.Resolved.{Items, no_items}
 use Rattle.gw_check.specs.Levels.{level_failures, items_failures}
 use Rattle.gw_resolve.specs.declared.element.Element as elements
 use Rattle.gw_resolve.specs.Seen.{failures, place, with_item, all_items, scope}
-use Rattle.gw_check.specs.Checking.{weight, weight_one, weight_all, NotesLevel, NotesItem, NotesItems}
+use Rattle.gw_resolve.specs.Noted.{Notes}
+use Rattle.gw_check.specs.Checking.{weight, weight_one, weight_all, NotesLevel}
 use Rattle.gw_resolve.proofs.Noting.{front, added_one}
 use Rattle.gw_resolve.proofs.Rows.{group_items, flat_items}
 
@@ -59,7 +60,7 @@ module _ (tables : List TableValue) (from to : profiles.ProfileValue) where
   first_and_rest scope nodes (Group' line j from' shape row) rest = ap (λ l. l ++ items_failures from to scope nodes rest) (sym (append-nil _))
   first_and_rest scope nodes (Flat' line from' shape row) rest = ap (λ l. l ++ items_failures from to scope nodes rest) (sym (append-nil _))
 
-  pub items_more : (scope : List Element) (nodes : Forest) (items : List Item) (k : ℕ) (i : Item) (first : List Failure) (old new : Vec declared.Failure) → k < length items → i ≡ get_or items k i → NotesItem tables from to scope nodes i old new →
+  pub items_more : (scope : List Element) (nodes : Forest) (items : List Item) (k : ℕ) (i : Item) (first : List Failure) (old new : Vec declared.Failure) → k < length items → i ≡ get_or items k i → Notes old new (items_failures from to scope nodes (with_item tables i no_items)) →
       first ++ items_failures from to scope nodes (all_items tables items) ≡ failures old.items ++ items_failures from to scope nodes (all_items tables (drop k items)) →
       first ++ items_failures from to scope nodes (all_items tables items) ≡ failures new.items ++ items_failures from to scope nodes (all_items tables (drop (k + 1) items))
   items_more scope nodes items k i first old new low at notes h =
@@ -70,7 +71,7 @@ module _ (tables : List TableValue) (from to : profiles.ProfileValue) where
   -- ---- a group, and a flat
 
   pub group_noted : (scope inner : List Element) (nodes below : Forest) (i : Item) (g : GroupItem) (is : List Item) (first middle last : Vec declared.Failure) → i ≡ Group g → is ≡ g.items.items → inner ≡ within scope (place g.place) → below ≡ nodes_of_child nodes g.child →
-      NotesLevel tables inner g.line 0 below is first middle → NotesItems tables from to inner below is middle last → NotesItem tables from to scope nodes i first last
+      NotesLevel tables inner g.line 0 below is first middle → Notes middle last (items_failures from to inner below (all_items tables is)) → Notes first last (items_failures from to scope nodes (with_item tables i no_items))
   group_noted scope inner nodes below i g is first middle last same items there under level inside =
       inside ∙ ap (λ w. w ++ items_failures from to inner below (all_items tables is)) level
       ∙ append_assoc (failures first.items) (level_failures inner g.line 0 below (all_items tables is)) (items_failures from to inner below (all_items tables is))
@@ -80,7 +81,7 @@ module _ (tables : List TableValue) (from to : profiles.ProfileValue) where
       ∙ sym (ap (items_failures from to scope nodes) (ap (λ j. with_item tables j no_items) same ∙ group_items tables g no_items)))
 
   pub flat_noted : (scope inner : List Element) (nodes : Forest) (i : Item) (f : FlatItem) (is : List Item) (first last : Vec declared.Failure) → i ≡ Flat f → is ≡ f.items.items → inner ≡ within scope (place f.place) →
-      NotesItems tables from to inner nodes is first last → NotesItem tables from to scope nodes i first last
+      Notes first last (items_failures from to inner nodes (all_items tables is)) → Notes first last (items_failures from to scope nodes (with_item tables i no_items))
   flat_noted scope inner nodes i f is first last same items there inside =
       inside
       ∙ ap (λ l. failures first.items ++ l)

@@ -4,6 +4,7 @@ use Rattle.gw_profile.specs.Shapes.{ProfileValue}
 use Rattle.gw_profile.specs.WellFormed.{WellFormed}
 use Rattle.gw_maplang.specs.Shapes.{MapValue}
 use Rattle.gw_maplang.specs.Seen.{Contents}
+use Rattle.gw_check.specs.declared.checker.Examined.{Examined}
 use Rattle.gw_check.specs.declared.checker.Judged as judged
 use Rattle.gw_check.specs.declared.checker.CheckFault as faults
 use Rattle.gw_check.specs.declared.checker.Refusal as refusals
@@ -24,6 +25,10 @@ pub record IsUnlabelled (from to : ProfileValue) (m : MapValue) (is : List Item)
   pub source : WellFormed from
   pub target : WellFormed to
   pub items : all_items m.tables is ≡ (resolved from to m).items
+
+-- where there is no failure
+abbrev pub UnlabelledIfAllowed : ProfileValue → ProfileValue → MapValue → Examined → Type 0
+UnlabelledIfAllowed from to m e = e.found.items ≡ [] → IsUnlabelled from to m e.items.items
 
 pub record IsAllowed (from to : ProfileValue) (m : MapValue) (is : List Item) : Type 0 where
   pub source : WellFormed from

@@ -1,7 +1,9 @@
 -- Gaps of a map, as the program gathers them.
 use Rattle.std.specs.Prelude.{◌≡◌, ◌++◌, ◌∷◌, [], ℕ, List, flat_map, map}
 use Rattle.gw_profile.specs.declared.node.Node.{Node}
+use Rattle.gw_profile.specs.declared.shape.FieldShape.{FieldShape}
 use Rattle.gw_profile.specs.Nodes.{card_of}
+use Rattle.gw_profile.specs.Seen.{field as field_value}
 use Rattle.gw_profile.specs.Shapes.{FieldValue, Forest}
 use Rattle.gw_maplang.specs.Shapes.{TableValue}
 use Rattle.gw_resolve.specs.declared.resolved.Item.{Item}
@@ -40,6 +42,12 @@ FindsItems tables above nodes is old new = Finds old new (items_gaps above nodes
 
 abbrev pub FindsFields : List TableValue → ℕ → Position → List Rule → List FieldValue → List declared.Gap → List declared.Gap → Type 0
 FindsFields tables line at rules fields old new = Finds old new (flat_map (field_gaps line at (map (seen_rule tables) rules)) fields)
+
+abbrev pub FindsField : List TableValue → ℕ → Position → List Rule → FieldShape → List declared.Gap → List declared.Gap → Type 0
+FindsField tables line at rules f old new = Finds old new (field_gaps line at (map (seen_rule tables) rules) (field_value f))
+
+abbrev pub FindsShapes : List TableValue → ℕ → Position → List Rule → List FieldShape → List declared.Gap → List declared.Gap → Type 0
+FindsShapes tables line at rules fields old new = FindsFields tables line at rules (map field_value fields) old new
 
 abbrev pub FindsSegment : List TableValue → Position → Forest → SegmentItem → List declared.Gap → List declared.Gap → Type 0
 FindsSegment tables above nodes s old new =

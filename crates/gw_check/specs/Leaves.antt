@@ -137,6 +137,10 @@ pub record Sources : Type 0 where
 abbrev pub at_field : Sources → Reference → Option FieldValue
 at_field s from = field_of (known s.scope from.place).fields from.field
 
+-- of the first repetition of the field of a reference
+abbrev pub reference_presence : Sources → Reference → Presence
+reference_presence s from = field_presence (known s.scope from.place) (at_field s from)
+
 abbrev pub source_shape : Sources → Source → Shape
 source_shape s (of_field from comp sub) =
     record {

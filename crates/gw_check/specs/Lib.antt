@@ -11,6 +11,7 @@ pub mod Counted
 pub mod Checking
 pub mod Collected
 pub mod Unread
+pub mod Seen
 pub mod Gaps
 pub mod Gathered
 pub mod CheckedMap

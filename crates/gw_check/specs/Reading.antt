@@ -7,13 +7,14 @@ use Rattle.gw_profile.specs.declared.shape.FieldShape.{FieldShape}
 use Rattle.gw_profile.specs.Shapes.{SubValue, CompValue, FieldValue}
 use Rattle.gw_profile.specs.Seen.{field, comp, sub, profile_value}
 use Rattle.gw_maplang.specs.Shapes.{TableValue}
+use Rattle.gw_resolve.specs.declared.resolved.At as ats
 use Rattle.gw_resolve.specs.declared.resolved.Rule as rules_of
 use Rattle.gw_check.specs.declared.sources.Sources as declared
 use Rattle.gw_check.specs.declared.known.Known as the_known
 use Rattle.gw_resolve.specs.Places.{Known}
-use Rattle.gw_resolve.specs.Resolved.{Rule}
+use Rattle.gw_resolve.specs.Resolved.{At, Rule}
 use Rattle.gw_check.specs.Leaves.{Sources}
-use Rattle.gw_resolve.specs.Seen.{scope, interval, saturated, rule}
+use Rattle.gw_resolve.specs.Seen.{scope, interval, saturated, at_leaf, rule}
 
 abbrev pub sources_value : declared.Sources → Sources
 sources_value s = record { profile = profile_value s.profile.now; scope = scope s.scope.now; current = option_map (λ f. field f.now) s.current }
@@ -21,6 +22,12 @@ sources_value s = record { profile = profile_value s.profile.now; scope = scope 
 -- the tables of the map
 abbrev pub map_tables : declared.Sources → List TableValue
 map_tables s = s.map.now.tables
+
+abbrev pub leaves_value : declared.Sources → List ats.At → List At
+leaves_value s leaves = map (at_leaf (map_tables s)) leaves
+
+abbrev pub rules_value : declared.Sources → List rules_of.Rule → List Rule
+rules_value s rules = map (rule (map_tables s)) rules
 
 -- ---- elements that may be there
 

@@ -1,5 +1,5 @@
 -- The texts that a leaf can give, as the program holds them: without a list of their own.
-use Rattle.std.specs.Prelude.{ℕ, Bool, true, false, not, nat_lt, List, [], ◌∷◌, map, filter, Option, Some, None, option_copied, option_map, unwrap_or}
+use Rattle.std.specs.Prelude.{ℕ, Bool, true, false, ◌&&◌, not, nat_lt, List, [], ◌∷◌, map, filter, Option, Some, None, option_copied, option_map, unwrap_or}
 use Rattle.std.specs.List.{list_any}
 use Rattle.std.specs.Global.{Vec}
 use denote.Ref.{Bor}
@@ -33,6 +33,10 @@ abbrev pub texts_value : declared.Texts → Values
 texts_value (declared.TheVariants.One text) = listed (text.now ∷ [])
 texts_value (declared.TheVariants.Of read) = read_value read
 texts_value (declared.TheVariants.LookedUp table read) = listed (given_values (rows_value table) (read_value read))
+
+-- one of the texts that aren't longer passes
+abbrev pub some_short : Option ℕ → (List ℕ → Bool) → List (Vec ℕ) → Bool
+some_short len test all = list_any (λ v. is_short octets len v.items && test v.items) all
 
 -- which texts fail a test
 abbrev pub test_value : tests.Test → List ℕ → Bool

@@ -7,7 +7,7 @@ use Rattle.gw_profile.specs.Shapes.{FieldValue, Forest, nothing, segment, group,
 use Rattle.gw_profile.specs.Value.{leaf_comp}
 use Rattle.gw_maplang.specs.declared.rule.LeafPlace.{LeafPlace}
 use Rattle.gw_maplang.specs.Shapes as raw
-use Rattle.gw_maplang.specs.Shapes.{MapValue, Row, TableValue}
+use Rattle.gw_maplang.specs.Shapes.{MapValue, Row}
 use Rattle.gw_resolve.specs.Failures.{Failure}
 
 abbrev card : ℕ → ℕ → Card

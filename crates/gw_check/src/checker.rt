@@ -6,11 +6,11 @@ ghost use Rattle.gw_profile.specs.WellFormed.{WellFormed};
 ghost use Rattle.gw_profile.specs.Shapes.{ProfileValue};
 ghost use Rattle.gw_maplang.specs.Seen.{map_value, Contents};
 ghost use Rattle.gw_maplang.specs.Shapes.{MapValue};
-ghost use Rattle.gw_check.specs.Answers.{unlabelled, Judges, IsUnlabelled, IsRefusal, IsTold};
+ghost use Rattle.gw_check.specs.Answers.{Judges, UnlabelledIfAllowed, IsRefusal, IsTold};
 ghost use Rattle.gw_check.specs.Checked.{all_failures};
 ghost use Rattle.gw_resolve.specs.Noted.{Notes};
 ghost use Rattle.gw_resolve.specs.Seen.{failures as seen_failures};
-ghost use Rattle.gw_check.specs.Typed as typed;
+ghost use Rattle.gw_check.specs.Seen as seen;
 
 use crate::checked::CheckedMap;
 use crate::failure::least;
@@ -76,7 +76,7 @@ fn add_failures(
     requires { level.now ≡ sides.source.now.nodes }
     ensures source { WellFormed (profile_value sides.entry.source.now) }
     ensures target { WellFormed (profile_value sides.entry.target.now) }
-    ensures found { OnOk result (Notes found.old found.new (typed.failures (profile_value sides.entry.source.now) (profile_value sides.entry.target.now) (unlabelled (map_value sides.entry.map.now) items.now drops.now))) }
+    ensures found { OnOk result (Notes found.old found.new (seen.failures sides.entry items.now drops.now)) }
 {
     let whole = sides.source.nodes();
     let nodes = sides.target.nodes();
@@ -95,7 +95,7 @@ fn look(
     map: &Map,
 ) -> Result<Examined, AllocError>
     ensures found { IfOk result (λ e. seen_failures e.found.items ≡ all_failures (profile_value source.now) (profile_value target.now) (map_value map.now)) }
-    ensures items { IfOk result (λ e. e.found.items ≡ [] → IsUnlabelled (profile_value source.now) (profile_value target.now) (map_value map.now) e.items.items) }
+    ensures items { IfOk result (UnlabelledIfAllowed (profile_value source.now) (profile_value target.now) (map_value map.now)) }
 {
     let from = Level::of(alloc, source)?;
     let to = Level::of(alloc, target)?;

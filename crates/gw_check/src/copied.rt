@@ -1,10 +1,8 @@
 //! The rules on fields that are copied: a component or subcomponent stands for that of the same number.
-ghost use Rattle.std.specs.Prelude.{◌≡◌, map, flat_map, OnOk};
-ghost use Rattle.gw_profile.specs.Seen.{sub as sub_value, comp as comp_value, field as field_value, profile_value};
-ghost use Rattle.gw_check.specs.Fields as spec;
+ghost use Rattle.std.specs.Prelude.{map, flat_map, OnOk};
+ghost use Rattle.gw_profile.specs.Seen.{sub as sub_value, comp as comp_value};
 ghost use Rattle.gw_resolve.specs.Noted.{Notes};
-ghost use Rattle.gw_check.specs.Reading.{sources_value, some_field, some_comp};
-ghost use Rattle.gw_resolve.specs.Seen.{reference};
+ghost use Rattle.gw_check.specs.Seen as seen;
 
 use crate::known::{at_field, comp_of, sub_of};
 use crate::leaf::sub_texts;
@@ -24,7 +22,7 @@ fn check_sub(
     from: Option<&CompShape>,
     sub: &SubShape,
 ) -> Result<(), AllocError>
-    ensures { OnOk result (Notes found.old found.new (spec.copied_sub (profile_value source.now) (profile_value target.now) line (some_comp from.entry) (sub_value sub.now))) }
+    ensures { OnOk result (Notes found.old found.new (seen.copied_sub source.now target.now line from.entry (sub_value sub.now))) }
 {
     let same = sub_of(from, sub.number);
     let presence = sub_presence(from, same);
@@ -48,7 +46,7 @@ fn check_subs(
     from: Option<&CompShape>,
     subs: &[SubShape],
 ) -> Result<(), AllocError>
-    ensures { OnOk result (Notes found.old found.new (flat_map (spec.copied_sub (profile_value source.now) (profile_value target.now) line (some_comp from.entry)) (map sub_value subs.now))) }
+    ensures { OnOk result (Notes found.old found.new (flat_map (seen.copied_sub source.now target.now line from.entry) (map sub_value subs.now))) }
 {
     for (i, sub) in subs.iter().enumerate() {
         check_sub(found, source, target, line, from, sub)?;
@@ -64,7 +62,7 @@ fn check_comp(
     from: Option<&FieldShape>,
     comp: &CompShape,
 ) -> Result<(), AllocError>
-    ensures { OnOk result (Notes found.old found.new (spec.copied_comp (profile_value source.now) (profile_value target.now) line (some_field from.entry) (comp_value comp.now))) }
+    ensures { OnOk result (Notes found.old found.new (seen.copied_comp source.now target.now line from.entry (comp_value comp.now))) }
 {
     let same = comp_of(from, comp.number);
     let presence = comp_presence(same);
@@ -81,7 +79,7 @@ fn check_comps(
     from: Option<&FieldShape>,
     comps: &[CompShape],
 ) -> Result<(), AllocError>
-    ensures { OnOk result (Notes found.old found.new (flat_map (spec.copied_comp (profile_value source.now) (profile_value target.now) line (some_field from.entry)) (map comp_value comps.now))) }
+    ensures { OnOk result (Notes found.old found.new (flat_map (seen.copied_comp source.now target.now line from.entry) (map comp_value comps.now))) }
 {
     for (i, comp) in comps.iter().enumerate() {
         check_comp(found, source, target, line, from, comp)?;
@@ -98,7 +96,7 @@ pub(crate) fn check_copied(
     from: &Reference,
     field: &FieldShape,
 ) -> Result<(), AllocError>
-    ensures { OnOk result (Notes found.old found.new (spec.copied_field (sources_value sources.entry) (profile_value target.now) line (reference from.now) (field_value field.now))) }
+    ensures { OnOk result (Notes found.old found.new (seen.copied_field sources.entry target.now line from.now field.now)) }
 {
     check_comps(
         found,

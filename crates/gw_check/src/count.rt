@@ -1,8 +1,9 @@
 //! How often a rule gives its field.
-ghost use Rattle.std.specs.Prelude.{◌≡◌, map};
+ghost use Rattle.std.specs.Prelude.{◌≡◌};
 ghost use Rattle.gw_check.specs.Counts as spec;
-ghost use Rattle.gw_check.specs.Reading.{sources_value, map_tables, some_field, some_rule, known_value};
-ghost use Rattle.gw_resolve.specs.Seen.{interval, saturated, reference, at_leaf, making as seen_making};
+ghost use Rattle.gw_check.specs.Seen as seen;
+ghost use Rattle.gw_check.specs.Reading.{sources_value, map_tables, leaves_value, some_field, known_value};
+ghost use Rattle.gw_resolve.specs.Seen.{interval, saturated, reference, making as seen_making};
 
 use crate::known::{Known, at_field, field_of, segment_at};
 use crate::presence::{is_absent, is_always, leaf_presence};
@@ -56,7 +57,7 @@ pub(crate) fn walking<'p, 'm, 's, 'e, 'l>(
 
 // Whether some leaf is always there.
 fn some_always(sources: Sources<'_, '_, '_, '_, '_>, leaves: &[At]) -> bool
-    ensures { result ≡ spec.some_always (sources_value sources.entry) (map (at_leaf (map_tables sources.entry)) leaves.now) }
+    ensures { result ≡ spec.some_always (sources_value sources.entry) (leaves_value sources.entry leaves.now) }
 {
     for (i, at) in leaves.iter().enumerate() {
         if is_always(leaf_presence(sources, &at.leaf)) {
@@ -68,7 +69,7 @@ fn some_always(sources: Sources<'_, '_, '_, '_, '_>, leaves: &[At]) -> bool
 
 // Whether no leaf ever is.
 fn all_absent(sources: Sources<'_, '_, '_, '_, '_>, leaves: &[At]) -> bool
-    ensures { result ≡ spec.all_absent (sources_value sources.entry) (map (at_leaf (map_tables sources.entry)) leaves.now) }
+    ensures { result ≡ spec.all_absent (sources_value sources.entry) (leaves_value sources.entry leaves.now) }
 {
     for (i, at) in leaves.iter().enumerate() {
         if !is_absent(leaf_presence(sources, &at.leaf)) {
@@ -80,7 +81,7 @@ fn all_absent(sources: Sources<'_, '_, '_, '_, '_>, leaves: &[At]) -> bool
 
 // What leaves give where there is something to give them for.
 fn leaves_count(sources: Sources<'_, '_, '_, '_, '_>, leaves: &[At], count: Interval) -> Interval
-    ensures { interval result ≡ spec.leaves_count (sources_value sources.entry) (map (at_leaf (map_tables sources.entry)) leaves.now) (interval count) }
+    ensures { interval result ≡ spec.leaves_count (sources_value sources.entry) (leaves_value sources.entry leaves.now) (interval count) }
 {
     if all_absent(sources, leaves) {
         return never();
@@ -108,7 +109,7 @@ fn making_count(sources: Sources<'_, '_, '_, '_, '_>, making: &Making) -> Interv
 
 /// How often a rule gives its field.
 pub(crate) fn rule_count(sources: Sources<'_, '_, '_, '_, '_>, rule: Option<&Rule>) -> Interval
-    ensures { interval result ≡ saturated (spec.rule_count (sources_value sources.entry) (some_rule (map_tables sources.entry) rule.entry)) }
+    ensures { seen.CountsRule sources.entry rule.entry result }
 {
     match rule {
         None => never(),

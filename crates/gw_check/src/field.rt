@@ -1,12 +1,11 @@
 //! The rules on target fields.
-ghost use Rattle.std.specs.Prelude.{◌≡◌, ◌++◌, List, map, flat_map, OnOk};
-ghost use Rattle.gw_profile.specs.Seen.{field as field_value, profile_value};
+ghost use Rattle.std.specs.Prelude.{◌≡◌, List, map, flat_map, OnOk};
+ghost use Rattle.gw_profile.specs.Seen.{field as field_value};
 ghost use Rattle.gw_maplang.specs.Shapes.{TableValue};
-ghost use Rattle.gw_check.specs.Counts as counts;
 ghost use Rattle.gw_check.specs.Fields as spec;
 ghost use Rattle.gw_resolve.specs.Noted.{Notes};
-ghost use Rattle.gw_check.specs.Reading.{sources_value, map_tables, some_rule};
-ghost use Rattle.gw_resolve.specs.Seen.{interval, saturated, rule as seen_rule, making as seen_making};
+ghost use Rattle.gw_check.specs.Reading.{some_rule};
+ghost use Rattle.gw_check.specs.Seen as seen;
 
 use crate::copied::check_copied;
 use crate::count::{rule_count, walking};
@@ -29,7 +28,7 @@ fn check_making(
     making: &Making,
     field: &FieldShape,
 ) -> Result<(), AllocError>
-    ensures { OnOk result (Notes found.old found.new (spec.making_failures (sources_value sources.entry) (profile_value target.now) line (seen_making (map_tables sources.entry) making.now) (field_value field.now))) }
+    ensures { OnOk result (Notes found.old found.new (seen.making_failures sources.entry target.now line making.now field.now)) }
 {
     match making {
         Making::Copy(from) => check_copied(found, sources, target, line, from, field),
@@ -55,7 +54,8 @@ fn check_content(
     rule: Option<&Rule>,
     count: Interval,
 ) -> Result<(), AllocError>
-    ensures { interval count ≡ saturated (counts.rule_count (sources_value sources.entry) (some_rule (map_tables sources.entry) rule.entry)) → OnOk result (Notes found.old found.new (spec.content_failures (sources_value sources.entry) (profile_value target.now) (field_value field.now) (some_rule (map_tables sources.entry) rule.entry))) }
+    ensures { seen.CountsRule sources.entry rule.entry count →
+        OnOk result (Notes found.old found.new (seen.content_failures sources.entry target.now field.now rule.entry)) }
 {
     let Some(rule) = rule else {
         return Ok(());
@@ -113,7 +113,7 @@ fn check_by(
     rule: Option<&Rule>,
     field: &FieldShape,
 ) -> Result<(), AllocError>
-    ensures { OnOk result (Notes found.old found.new (spec.count_failures holder (counts.rule_count (sources_value sources.entry) (some_rule (map_tables sources.entry) rule.entry)) (field_value field.now) (some_rule (map_tables sources.entry) rule.entry) ++ spec.content_failures (sources_value sources.entry) (profile_value target.now) (field_value field.now) (some_rule (map_tables sources.entry) rule.entry))) }
+    ensures { OnOk result (Notes found.old found.new (seen.failures_by sources.entry target.now holder field.now rule.entry)) }
 {
     let count = rule_count(sources, rule);
     check_often(found, asked(holder, rule, field), count)?;
@@ -128,7 +128,7 @@ fn check_field(
     rules: &[Rule],
     field: &FieldShape,
 ) -> Result<(), AllocError>
-    ensures { OnOk result (Notes found.old found.new (spec.field_failures (sources_value sources.entry) (profile_value target.now) holder (map (seen_rule (map_tables sources.entry)) rules.now) (field_value field.now))) }
+    ensures { OnOk result (Notes found.old found.new (seen.field_failures sources.entry target.now holder rules.now (field_value field.now))) }
 {
     check_by(
         found,
@@ -148,7 +148,7 @@ fn check_fields(
     rules: &[Rule],
     fields: &[FieldShape],
 ) -> Result<(), AllocError>
-    ensures { OnOk result (Notes found.old found.new (flat_map (spec.field_failures (sources_value sources.entry) (profile_value target.now) holder (map (seen_rule (map_tables sources.entry)) rules.now)) (map field_value fields.now))) }
+    ensures { OnOk result (Notes found.old found.new (flat_map (seen.field_failures sources.entry target.now holder rules.now) (map field_value fields.now))) }
 {
     for (i, field) in fields.iter().enumerate() {
         check_field(found, sources, target, holder, rules, field)?;
@@ -165,7 +165,7 @@ pub(crate) fn check_segment(
     rules: &[Rule],
     fields: &[FieldShape],
 ) -> Result<(), AllocError>
-    ensures { OnOk result (Notes found.old found.new (spec.segment_failures (sources_value sources.entry) (profile_value target.now) holder (map (seen_rule (map_tables sources.entry)) rules.now) (map field_value fields.now))) }
+    ensures { OnOk result (Notes found.old found.new (seen.segment_failures sources.entry target.now holder rules.now (map field_value fields.now))) }
 {
     check_fields(found, sources, target, holder, rules, fields)?;
     check_rules(found, sources, rules)

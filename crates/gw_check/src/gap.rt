@@ -1,12 +1,10 @@
 //! What a target asks for and a map gives by no item and no rule.
-ghost use Rattle.std.specs.Prelude.{◌≡◌, ◌∷◌, ◌++◌, [], List, Some, map, flat_map, IfOk, OnOk};
+ghost use Rattle.std.specs.Prelude.{◌≡◌, ◌∷◌, ◌++◌, [], List, IfOk, OnOk};
 ghost use Rattle.gw_maplang.specs.Seen.{map_value};
 ghost use Rattle.gw_maplang.specs.Shapes.{TableValue};
-ghost use Rattle.gw_profile.specs.Seen.{forest, field as field_value, profile_value};
-ghost use Rattle.gw_resolve.specs.Places as places;
-ghost use Rattle.gw_resolve.specs.Seen.{rule as seen_rule, all_items};
+ghost use Rattle.gw_profile.specs.Seen.{forest, profile_value};
 ghost use Rattle.gw_check.specs.Gaps as spec;
-ghost use Rattle.gw_check.specs.Gathered.{Finds, FindsAll, FindsFields, FindsItem, FindsItems, FindsLevel, FindsNode, FindsSegment, all_gaps};
+ghost use Rattle.gw_check.specs.Gathered.{Finds, FindsAll, FindsField, FindsItem, FindsItems, FindsLevel, FindsNode, FindsSegment, FindsShapes, all_gaps};
 
 use crate::field::is_missing;
 use crate::inside::fields_at;
@@ -63,7 +61,7 @@ fn add_field(
     rules: &[Rule],
     field: &FieldShape,
 ) -> Result<(), AllocError>
-    ensures { (tables : List TableValue) → OnOk result (Finds found.old.items found.new.items (spec.field_gaps line at.now (map (seen_rule tables) rules.now) (field_value field.now))) }
+    ensures { (tables : List TableValue) → OnOk result (FindsField tables line at.now rules.now field.now found.old.items found.new.items) }
 {
     let asked = is_asked(field.usage, field.card);
     let missing = is_missing(rule_of(rules, field.number));
@@ -78,7 +76,7 @@ fn add_fields(
     rules: &[Rule],
     fields: &[FieldShape],
 ) -> Result<(), AllocError>
-    ensures { (tables : List TableValue) → OnOk result (FindsFields tables line at.now rules.now (map field_value fields.now) found.old.items found.new.items) }
+    ensures { (tables : List TableValue) → OnOk result (FindsShapes tables line at.now rules.now fields.now found.old.items found.new.items) }
 {
     for (i, field) in fields.iter().enumerate() {
         add_field(alloc, found, line, at, rules, field)?;

@@ -1,6 +1,6 @@
 //! The rules within the items of a map.
 ghost use Rattle.std.specs.Prelude.{◌≡◌, map, IfOk, OnOk, option_map};
-ghost use Rattle.gw_profile.specs.Seen.{forest, node_forest, field, profile_value};
+ghost use Rattle.gw_profile.specs.Seen.{forest, node_forest, field};
 ghost use Rattle.gw_profile.specs.Shapes.{nothing};
 ghost use Rattle.gw_resolve.specs.Places as places;
 ghost use Rattle.gw_check.specs.Checking.{NotesSegment, NotesItem, NotesItems};
@@ -64,7 +64,7 @@ fn check_given(
     nodes: &[Node],
     segment: &SegmentItem,
 ) -> Result<(), AllocError>
-    ensures { OnOk result (NotesSegment sides.entry.map.now.tables (profile_value sides.entry.source.now) (profile_value sides.entry.target.now) (walked scope.now) (forest nodes.now) segment.now found.old found.new) }
+    ensures { OnOk result (NotesSegment sides.entry (walked scope.now) (forest nodes.now) segment.now found.old found.new) }
 {
     let inner = within_if(alloc, scope, &segment.place)?;
     let sources = Sources {
@@ -94,7 +94,7 @@ fn check_item(
     nodes: &[Node],
     item: &Item,
 ) -> Result<(), AllocError>
-    ensures { OnOk result (NotesItem sides.entry.map.now.tables (profile_value sides.entry.source.now) (profile_value sides.entry.target.now) (walked scope.now) (forest nodes.now) item.now found.old found.new) }
+    ensures { OnOk result (NotesItem sides.entry (walked scope.now) (forest nodes.now) item.now found.old found.new) }
 {
     match item {
         Item::Segment(segment) => check_given(alloc, found, sides, scope, nodes, segment),
@@ -121,7 +121,7 @@ pub(crate) fn check_items(
     nodes: &[Node],
     items: &[Item],
 ) -> Result<(), AllocError>
-    ensures { OnOk result (NotesItems sides.entry.map.now.tables (profile_value sides.entry.source.now) (profile_value sides.entry.target.now) (walked scope.now) (forest nodes.now) items.now found.old found.new) }
+    ensures { OnOk result (NotesItems sides.entry (walked scope.now) (forest nodes.now) items.now found.old found.new) }
 {
     for (i, item) in items.iter().enumerate() {
         check_item(alloc, found, sides, scope, nodes, item)?;

@@ -1,11 +1,10 @@
 //! The rule on lookups: without a value for texts that have no row, each text of the source needs one.
-ghost use Rattle.std.specs.Prelude.{◌≡◌, map, flat_map, OnOk};
+ghost use Rattle.std.specs.Prelude.{flat_map, OnOk};
 ghost use Rattle.gw_check.specs.Fields as spec;
 ghost use Rattle.gw_resolve.specs.Noted.{Notes};
-ghost use Rattle.gw_check.specs.Reading.{sources_value, map_tables};
-ghost use Rattle.gw_resolve.specs.Resolved.{looked_up};
-ghost use Rattle.gw_resolve.specs.Seen.{at_leaf, source as seen_source, rule as seen_rule};
-ghost use Rattle.gw_check.specs.Texts.{rows_value};
+ghost use Rattle.gw_check.specs.Reading.{sources_value, map_tables, leaves_value, rules_value};
+ghost use Rattle.gw_resolve.specs.Seen.{at_leaf, rule as seen_rule};
+ghost use Rattle.gw_check.specs.Seen as seen;
 
 use crate::count::walking;
 use crate::leaf::source_texts;
@@ -23,7 +22,7 @@ fn check_rows(
     table: Option<&Rows>,
     source: &Source,
 ) -> Result<(), AllocError>
-    ensures { OnOk result (Notes found.old found.new (spec.lookup_failures (sources_value sources.entry) (record { line = at.now.line; comp = at.now.place.comp; sub = at.now.place.sub; leaf = looked_up (rows_value table.entry) (seen_source source.now) }))) }
+    ensures { OnOk result (Notes found.old found.new (seen.rows_failures sources.entry at.now table.entry source.now)) }
 {
     match other(table) {
         Some(_) => Ok(()),
@@ -57,7 +56,7 @@ fn check_lookups(
     sources: Sources<'_, '_, '_, '_, '_>,
     leaves: &[At],
 ) -> Result<(), AllocError>
-    ensures { OnOk result (Notes found.old found.new (flat_map (spec.lookup_failures (sources_value sources.entry)) (map (at_leaf (map_tables sources.entry)) leaves.now))) }
+    ensures { OnOk result (Notes found.old found.new (flat_map (spec.lookup_failures (sources_value sources.entry)) (leaves_value sources.entry leaves.now))) }
 {
     for (i, at) in leaves.iter().enumerate() {
         check_lookup(found, sources, at)?;
@@ -86,7 +85,7 @@ pub(crate) fn check_rules(
     sources: Sources<'_, '_, '_, '_, '_>,
     rules: &[Rule],
 ) -> Result<(), AllocError>
-    ensures { OnOk result (Notes found.old found.new (flat_map (spec.rule_lookups (sources_value sources.entry)) (map (seen_rule (map_tables sources.entry)) rules.now))) }
+    ensures { OnOk result (Notes found.old found.new (flat_map (spec.rule_lookups (sources_value sources.entry)) (rules_value sources.entry rules.now))) }
 {
     for (i, rule) in rules.iter().enumerate() {
         check_rule(found, sources, rule)?;

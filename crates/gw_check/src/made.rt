@@ -1,15 +1,15 @@
 //! The rules on fields that are made of leaves.
-ghost use Rattle.std.specs.Prelude.{◌≡◌, ◌&&◌, ◌||◌, not, map, flat_map, ◌∷◌, [], IfOk, OnOk};
-ghost use Rattle.gw_profile.specs.Seen.{sub as sub_value, comp as comp_value, field as field_value, profile_value};
-ghost use Rattle.gw_profile.specs.Lengths.{octets};
+ghost use Rattle.std.specs.Prelude.{◌≡◌, ◌&&◌, ◌||◌, not, map, flat_map, IfOk, OnOk};
+ghost use Rattle.gw_profile.specs.Seen.{sub as sub_value, comp as comp_value};
 ghost use Rattle.gw_validate.specs.Breaches.{is_null};
 ghost use Rattle.gw_resolve.specs.Failures.{fails};
 ghost use Rattle.gw_check.specs.Fields as spec;
 ghost use Rattle.gw_check.specs.Lacking.{there_of, there_value, has_comp, has_only_comp, has_sub, has_only_sub, sub_lacks, comp_lacks, all_lacks};
 ghost use Rattle.gw_check.specs.Leaves as leaves_spec;
 ghost use Rattle.gw_resolve.specs.Noted.{Notes};
-ghost use Rattle.gw_check.specs.Reading.{sources_value, map_tables, some_comp, some_sub};
-ghost use Rattle.gw_resolve.specs.Seen.{at_leaf, leaf as seen_leaf};
+ghost use Rattle.gw_check.specs.Reading.{sources_value, map_tables, leaves_value, some_comp, some_sub};
+ghost use Rattle.gw_resolve.specs.Seen.{at_leaf};
+ghost use Rattle.gw_check.specs.Seen as seen;
 ghost use Rattle.gw_check.specs.Texts.{texts_value};
 
 use crate::known::{comp_of, sub_of};
@@ -33,7 +33,7 @@ struct There {
 
 // The leaves, each with its presence.
 fn all_there(sources: Sources<'_, '_, '_, '_, '_>, leaves: &[At]) -> Result<Vec<There>, AllocError>
-    ensures { IfOk result (λ v. map there_value v.items ≡ map (there_of (sources_value sources.entry)) (map (at_leaf (map_tables sources.entry)) leaves.now)) }
+    ensures { IfOk result (λ v. map there_value v.items ≡ map (there_of (sources_value sources.entry)) (leaves_value sources.entry leaves.now)) }
 {
     let mut all = Vec::new(sources.alloc);
     for (i, at) in leaves.iter().enumerate() {
@@ -188,7 +188,7 @@ fn check_lacking(
     leaves: &[At],
     comps: &[CompShape],
 ) -> Result<(), AllocError>
-    ensures { OnOk result (Notes found.old found.new (flat_map (spec.made_comp (sources_value sources.entry) line (map (at_leaf (map_tables sources.entry)) leaves.now)) (map comp_value comps.now))) }
+    ensures { OnOk result (Notes found.old found.new (flat_map (seen.made_comp sources.entry line leaves.now) (map comp_value comps.now))) }
 {
     let there = all_there(sources, leaves)?;
     check_comps(found, line, &there, comps)
@@ -204,7 +204,7 @@ fn is_null(text: &[u8]) -> bool
 
 // Another value than the table's, or too long.
 fn breaks(target: &Profile, texts: Texts<'_>, sub: &SubShape) -> bool
-    ensures { result ≡ (leaves_spec.may_be_unlisted (texts_value texts.entry) (spec.table_values target.now.tables (sub_value sub.now)) || leaves_spec.may_be_long octets (texts_value texts.entry) sub.now.len) }
+    ensures { result ≡ seen.may_break target.now (texts_value texts.entry) sub.now }
 {
     may_be_unlisted(texts, table_of(target, sub)) || may_be_long(texts, sub.len)
 }
@@ -216,7 +216,7 @@ fn check_const(
     text: &[u8],
     sub: &SubShape,
 ) -> Result<(), AllocError>
-    ensures { OnOk result (Notes found.old found.new (fails 12 line (not (is_null text.now) && (leaves_spec.may_be_unlisted (leaves_spec.listed (text.now ∷ [])) (spec.table_values target.now.tables (sub_value sub.now)) || leaves_spec.may_be_long octets (leaves_spec.listed (text.now ∷ [])) sub.now.len)))) }
+    ensures { OnOk result (Notes found.old found.new (seen.const_failures target.now line text.now sub.now)) }
 {
     if is_null(text) {
         return Ok(());
@@ -232,7 +232,7 @@ fn check_source(
     leaf: &Leaf,
     sub: &SubShape,
 ) -> Result<(), AllocError>
-    ensures { OnOk result (Notes found.old found.new (spec.value_failures (profile_value target.now) line (leaves_spec.leaf_shape (sources_value sources.entry) (seen_leaf (map_tables sources.entry) leaf.now)) (sub_value sub.now))) }
+    ensures { OnOk result (Notes found.old found.new (seen.source_failures sources.entry target.now line leaf.now sub.now)) }
 {
     check_values(
         found,
@@ -252,7 +252,7 @@ fn check_leaf(
     leaf: &Leaf,
     sub: &SubShape,
 ) -> Result<(), AllocError>
-    ensures { OnOk result (Notes found.old found.new (spec.leaf_failures (sources_value sources.entry) (profile_value target.now) line (seen_leaf (map_tables sources.entry) leaf.now) (sub_value sub.now))) }
+    ensures { OnOk result (Notes found.old found.new (seen.leaf_failures sources.entry target.now line leaf.now sub.now)) }
 {
     match leaf {
         Leaf::Const(text) => check_const(found, target, line, text, sub),
@@ -269,7 +269,7 @@ fn check_placed(
     at: &At,
     sub: Option<&SubShape>,
 ) -> Result<(), AllocError>
-    ensures { OnOk result (Notes found.old found.new (spec.placed (sources_value sources.entry) (profile_value target.now) at.now.line (seen_leaf (map_tables sources.entry) at.now.leaf) (some_sub sub.entry))) }
+    ensures { OnOk result (Notes found.old found.new (seen.placed sources.entry target.now at.now sub.entry)) }
 {
     match sub {
         None => Ok(()),
@@ -322,7 +322,7 @@ fn check_at(
     field: &FieldShape,
     at: &At,
 ) -> Result<(), AllocError>
-    ensures { OnOk result (Notes found.old found.new (spec.made_leaf (sources_value sources.entry) (profile_value target.now) (field_value field.now) (at_leaf (map_tables sources.entry) at.now))) }
+    ensures { OnOk result (Notes found.old found.new (seen.made_leaf sources.entry target.now field.now (at_leaf (map_tables sources.entry) at.now))) }
 {
     let comp = comp_of(Some(field), at.place.comp);
     let sub = sub_of(comp, at.place.sub);
@@ -338,7 +338,7 @@ fn check_leaves(
     field: &FieldShape,
     leaves: &[At],
 ) -> Result<(), AllocError>
-    ensures { OnOk result (Notes found.old found.new (flat_map (spec.made_leaf (sources_value sources.entry) (profile_value target.now) (field_value field.now)) (map (at_leaf (map_tables sources.entry)) leaves.now))) }
+    ensures { OnOk result (Notes found.old found.new (flat_map (seen.made_leaf sources.entry target.now field.now) (leaves_value sources.entry leaves.now))) }
 {
     for (i, at) in leaves.iter().enumerate() {
         check_at(found, sources, target, field, at)?;
@@ -355,7 +355,7 @@ pub(crate) fn check_made(
     leaves: &[At],
     field: &FieldShape,
 ) -> Result<(), AllocError>
-    ensures { OnOk result (Notes found.old found.new (spec.made_field (sources_value sources.entry) (profile_value target.now) line (map (at_leaf (map_tables sources.entry)) leaves.now) (field_value field.now))) }
+    ensures { OnOk result (Notes found.old found.new (seen.made_field sources.entry target.now line leaves.now field.now)) }
 {
     check_lacking(found, sources, line, leaves, &field.comps)?;
     check_leaves(found, sources, target, field, leaves)

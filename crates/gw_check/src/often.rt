@@ -1,7 +1,8 @@
 //! The rules on how often a field, a segment or a group comes.
 ghost use Rattle.std.specs.Prelude.{◌≡◌, ◌&&◌, not, OnOk};
 ghost use Rattle.gw_validate.specs.Breaches.{is_forbidden};
-ghost use Rattle.gw_check.specs.Fields.{is_expected, often_failures};
+ghost use Rattle.gw_check.specs.Fields.{is_expected};
+ghost use Rattle.gw_check.specs.Seen as seen;
 ghost use Rattle.gw_resolve.specs.Intervals as intervals;
 ghost use Rattle.gw_resolve.specs.Noted.{Notes};
 ghost use Rattle.gw_resolve.specs.Seen.{interval, saturated};
@@ -48,7 +49,7 @@ fn is_unwanted(asked: Asked, count: Interval) -> bool
 }
 
 fn check_capped(found: &mut Vec<Failure>, asked: Asked, count: Interval) -> Result<(), AllocError>
-    ensures { OnOk result (Notes found.old found.new (often_failures asked.holder asked.line (interval count) asked.usage asked.card asked.is_missing)) }
+    ensures { OnOk result (Notes found.old found.new (seen.often_failures asked (interval count))) }
 {
     let lacking = is_expected(asked.usage) && asked.is_missing;
     note(found, 4, asked.line, is_too_often(asked, count))?;
@@ -68,7 +69,7 @@ pub(crate) fn check_often(
     asked: Asked,
     count: Interval,
 ) -> Result<(), AllocError>
-    ensures { (whole : intervals.Interval) → interval count ≡ saturated whole → OnOk result (Notes found.old found.new (often_failures asked.holder asked.line whole asked.usage asked.card asked.is_missing)) }
+    ensures { (full : intervals.Interval) → interval count ≡ saturated full → OnOk result (Notes found.old found.new (seen.often_failures asked full)) }
 {
     check_capped(found, asked, count)
 }

@@ -1,11 +1,10 @@
 //! The fields of the source that a map passes over, each by its place.
-ghost use Rattle.std.specs.Prelude.{◌≡◌, ◌∷◌, [], List, map, flat_map, IfOk, OnOk};
+ghost use Rattle.std.specs.Prelude.{◌≡◌, List, map, flat_map, IfOk, OnOk};
 ghost use Rattle.gw_profile.specs.Seen.{forest, profile_value, segment_value, field as seen_field};
 ghost use Rattle.gw_maplang.specs.Seen.{map_value};
 ghost use Rattle.gw_maplang.specs.Shapes.{TableValue};
 ghost use Rattle.gw_check.specs.Collected.{Adds, fields_at};
-ghost use Rattle.gw_check.specs.Reads.{items_read};
-ghost use Rattle.gw_resolve.specs.Seen.{all_items, left_out as seen_drop};
+ghost use Rattle.gw_check.specs.Seen as seen;
 ghost use Rattle.gw_check.specs.Unread as spec;
 
 use crate::accounted::{Accounted, FieldAt};
@@ -133,7 +132,7 @@ fn passed_over(
     items: &[Item],
     drops: &[LeftOut],
 ) -> Result<Vec<FieldAt>, AllocError>
-    ensures { IfOk result (λ found. (tables : List TableValue) → fields_at found.items ≡ spec.passed_over (items_read ([] ∷ []) (all_items tables items.now)) (map seen_drop drops.now) [] 0 (forest nodes.now)) }
+    ensures { IfOk result (λ found. (tables : List TableValue) → fields_at found.items ≡ seen.passed_over tables items.now drops.now (forest nodes.now)) }
 {
     let reads = all_read(alloc, items)?;
     let known = Accounted::of(alloc, reads, drops)?;

@@ -2,9 +2,8 @@
 ghost use Rattle.std.specs.Prelude.{◌≡◌, ◌&&◌, nat_le, if◌then◌else◌};
 ghost use Rattle.gw_resolve.specs.Intervals.{is_sure};
 ghost use Rattle.gw_check.specs.Leaves as spec;
-ghost use Rattle.gw_resolve.specs.Places.{known};
 ghost use Rattle.gw_check.specs.Reading.{sources_value, map_tables, some_field, some_comp, some_sub, known_value};
-ghost use Rattle.gw_resolve.specs.Seen.{interval, scope as walked, place as seen_place, reference, source as seen_source, leaf as seen_leaf};
+ghost use Rattle.gw_resolve.specs.Seen.{interval, reference, source as seen_source, leaf as seen_leaf};
 ghost use Rattle.gw_check.specs.declared.shape.Presence.TheVariants as presences;
 
 use crate::known::{Known, at_field, comp_of, field_of, segment_at, sub_of};
@@ -118,7 +117,7 @@ fn field_presence(known: Known<'_>, field: Option<&FieldShape>) -> Presence
 
 // Of the first repetition of the field of a reference.
 fn reference_presence(sources: Sources<'_, '_, '_, '_, '_>, from: &Reference) -> Presence
-    ensures { result ≡ spec.field_presence (known (walked sources.entry.scope.now) (seen_place from.now.place)) (spec.at_field (sources_value sources.entry) (reference from.now)) }
+    ensures { result ≡ spec.reference_presence (sources_value sources.entry) (reference from.now) }
 {
     let known = segment_at(sources.scope, &from.place);
     field_presence(known, field_of(known.fields, from.field))

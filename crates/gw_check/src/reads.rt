@@ -1,12 +1,12 @@
 //! Which fields of the source are read, and which are passed over.
-ghost use Rattle.std.specs.Prelude.{◌≡◌, ◌++◌, ◌∷◌, [], List, map, flat_map, option_map, IfOk, OnOk};
+ghost use Rattle.std.specs.Prelude.{◌≡◌, ◌∷◌, [], List, map, IfOk, OnOk};
 ghost use Rattle.std.specs.List.{list_any};
 ghost use Rattle.gw_profile.specs.Seen.{forest, segment_value, field as seen_field};
 ghost use Rattle.gw_check.specs.Reads as spec;
 ghost use Rattle.gw_check.specs.Collected.{Adds, fields_at, positions, is_missed, segment_misses, some_missed, within_misses, node_misses};
-ghost use Rattle.gw_resolve.specs.Seen.{place as seen_place, reference, source, leaf, at_leaf, making, rule, with_item, all_items, left_out as seen_drop};
+ghost use Rattle.gw_check.specs.Seen as seen;
+ghost use Rattle.gw_resolve.specs.Seen.{place as seen_place, reference, source, at_leaf};
 ghost use Rattle.gw_maplang.specs.Shapes.{TableValue};
-ghost use Rattle.gw_resolve.specs.Resolved.{no_items};
 
 use crate::accounted::{Accounted, FieldAt};
 use crate::values::is_forbidden;
@@ -185,7 +185,7 @@ fn add_leaves(
     scope: &[Vec<usize>],
     leaves: &[At],
 ) -> Result<(), AllocError>
-    ensures { (tables : List TableValue) → OnOk result (Adds reads.old.items reads.new.items (flat_map (spec.at_reads (positions scope.now)) (map (at_leaf tables) leaves.now))) }
+    ensures { (tables : List TableValue) → OnOk result (Adds reads.old.items reads.new.items (seen.leaves_read tables scope.now leaves.now)) }
 {
     for (i, at) in leaves.iter().enumerate() {
         add_leaf(alloc, reads, scope, at)?;
@@ -199,7 +199,7 @@ fn add_rule(
     scope: &[Vec<usize>],
     of: &Rule,
 ) -> Result<(), AllocError>
-    ensures { (tables : List TableValue) → OnOk result (Adds reads.old.items reads.new.items (spec.making_reads (positions scope.now) (making tables of.now.making))) }
+    ensures { (tables : List TableValue) → OnOk result (Adds reads.old.items reads.new.items (seen.making_reads tables scope.now of.now.making)) }
 {
     match &of.making {
         Making::Copy(from) | Making::First(from) => add_reference(alloc, reads, scope, from),
@@ -217,7 +217,7 @@ fn add_rules(
     scope: &[Vec<usize>],
     rules: &[Rule],
 ) -> Result<(), AllocError>
-    ensures { (tables : List TableValue) → OnOk result (Adds reads.old.items reads.new.items (spec.rules_read (positions scope.now) (map (rule tables) rules.now))) }
+    ensures { (tables : List TableValue) → OnOk result (Adds reads.old.items reads.new.items (seen.rules_read tables scope.now rules.now)) }
 {
     for (i, of) in rules.iter().enumerate() {
         add_rule(alloc, reads, scope, of)?;
@@ -244,7 +244,7 @@ fn add_segment(
     scope: &[Vec<usize>],
     segment: &SegmentItem,
 ) -> Result<(), AllocError>
-    ensures { (tables : List TableValue) → OnOk result (Adds reads.old.items reads.new.items (spec.rules_read (spec.inner_if (positions scope.now) (option_map seen_place segment.now.place)) (map (rule tables) segment.now.rules.items))) }
+    ensures { (tables : List TableValue) → OnOk result (Adds reads.old.items reads.new.items (seen.segment_reads tables scope.now segment.now)) }
 {
     match &segment.place {
         None => add_rules(alloc, reads, scope, &segment.rules),
@@ -263,7 +263,7 @@ fn add_item(
     scope: &[Vec<usize>],
     item: &Item,
 ) -> Result<(), AllocError>
-    ensures { (tables : List TableValue) → OnOk result (Adds reads.old.items reads.new.items (spec.items_read (positions scope.now) (with_item tables item.now no_items))) }
+    ensures { (tables : List TableValue) → OnOk result (Adds reads.old.items reads.new.items (seen.item_reads tables scope.now item.now)) }
 {
     match item {
         Item::Segment(segment) => add_segment(alloc, reads, scope, segment),
@@ -286,7 +286,7 @@ fn add_items(
     scope: &[Vec<usize>],
     items: &[Item],
 ) -> Result<(), AllocError>
-    ensures { (tables : List TableValue) → OnOk result (Adds reads.old.items reads.new.items (spec.items_read (positions scope.now) (all_items tables items.now))) }
+    ensures { (tables : List TableValue) → OnOk result (Adds reads.old.items reads.new.items (seen.items_read tables scope.now items.now)) }
 {
     for (i, item) in items.iter().enumerate() {
         add_item(alloc, reads, scope, item)?;
@@ -296,7 +296,7 @@ fn add_items(
 
 /// What the items read.
 pub(crate) fn all_read(alloc: Global, items: &[Item]) -> Result<Vec<FieldAt>, AllocError>
-    ensures { IfOk result (λ reads. (tables : List TableValue) → fields_at reads.items ≡ spec.items_read ([] ∷ []) (all_items tables items.now)) }
+    ensures { IfOk result (λ reads. (tables : List TableValue) → fields_at reads.items ≡ seen.all_read tables items.now) }
 {
     let mut scope = Vec::new(alloc);
     scope.push(Vec::new(alloc))?;
@@ -312,7 +312,7 @@ pub(crate) fn passes_over(
     items: &[Item],
     drops: &[LeftOut],
 ) -> Result<bool, AllocError>
-    ensures { IfOk result (λ b. (tables : List TableValue) → b ≡ spec.some_passed_over (spec.items_read ([] ∷ []) (all_items tables items.now)) (map seen_drop drops.now) [] 0 (forest nodes.now)) }
+    ensures { IfOk result (λ b. (tables : List TableValue) → b ≡ seen.some_passed_over tables items.now drops.now (forest nodes.now)) }
 {
     let reads = all_read(alloc, items)?;
     let known = Accounted::of(alloc, reads, drops)?;

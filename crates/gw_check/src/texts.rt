@@ -1,12 +1,12 @@
 //! Which texts a leaf can give, looked at one by one and without a list of them.
-ghost use Rattle.std.specs.Prelude.{◌≡◌, ◌&&◌, ◌||◌, not, map, length, nat_lt, bytes_eq, option_copied, IsTrue};
+ghost use Rattle.std.specs.Prelude.{◌≡◌, not, map, length, nat_lt, bytes_eq, option_copied, IsTrue};
 ghost use Rattle.gw_profile.specs.Fault.{is_among};
 ghost use Rattle.gw_profile.specs.Lengths.{octets};
 ghost use Rattle.std.specs.List.{list_any};
 ghost use Rattle.gw_maplang.specs.Seen.{now};
 ghost use Rattle.gw_maplang.specs.Shapes.{second_of};
 ghost use Rattle.gw_check.specs.Leaves as spec;
-ghost use Rattle.gw_check.specs.Texts.{read_value, texts_value, rows_value, test_value, fails_some, some_fails, some_items, items_all, is_any, is_any_long, is_there};
+ghost use Rattle.gw_check.specs.Texts.{read_value, texts_value, rows_value, some_short, test_value, fails_some, some_fails, some_items, items_all, is_any, is_any_long, is_there};
 
 use gw_maplang::Table as Rows;
 use gw_profile::Table;
@@ -111,7 +111,7 @@ fn given<'a>(table: Option<&'a Rows>, text: &[u8]) -> Option<&'a [u8]>
 
 // Whether one of the texts that aren't longer is missing from the table.
 fn some_short_unlisted(table: &Table, len: Option<u32>, all: &[Vec<u8>]) -> bool
-    ensures { result ≡ list_any (λ v. spec.is_short octets len v.items && not (is_among v.items table.now)) all.now }
+    ensures { result ≡ some_short len (λ text. not (is_among text table.now)) all.now }
 {
     for (i, text) in all.iter().enumerate() {
         if is_short(len, text) && !is_listed(table, i, text) {
@@ -123,7 +123,7 @@ fn some_short_unlisted(table: &Table, len: Option<u32>, all: &[Vec<u8>]) -> bool
 
 // Whether one of the texts that aren't longer fails the test, looked at one by one.
 fn some_short_fails_alone(test: Test<'_>, len: Option<u32>, all: &[Vec<u8>]) -> bool
-    ensures { result ≡ list_any (λ v. spec.is_short octets len v.items && test_value test.entry v.items) all.now }
+    ensures { result ≡ some_short len (test_value test.entry) all.now }
 {
     for (i, text) in all.iter().enumerate() {
         if is_short(len, text) && fails(test, text) {
@@ -135,7 +135,7 @@ fn some_short_fails_alone(test: Test<'_>, len: Option<u32>, all: &[Vec<u8>]) -> 
 
 // Whether one of the texts that aren't longer fails the test.
 fn some_short_fails(test: Test<'_>, len: Option<u32>, all: &[Vec<u8>]) -> bool
-    ensures { result ≡ list_any (λ v. spec.is_short octets len v.items && test_value test.entry v.items) all.now }
+    ensures { result ≡ some_short len (test_value test.entry) all.now }
 {
     match test {
         Test::Unlisted(table) => some_short_unlisted(table, len, all),
@@ -146,7 +146,7 @@ fn some_short_fails(test: Test<'_>, len: Option<u32>, all: &[Vec<u8>]) -> bool
 
 // Whether what the rows give for one of the texts that aren't longer fails the test.
 fn some_given_fails(test: Test<'_>, table: Option<&Rows>, len: Option<u32>, all: &[Vec<u8>]) -> bool
-    ensures { result ≡ list_any (λ v. spec.is_short octets len v.items && fails_some (test_value test.entry) (spec.given (rows_value table.entry) v.items)) all.now }
+    ensures { result ≡ some_short len (λ text. fails_some (test_value test.entry) (spec.given (rows_value table.entry) text)) all.now }
 {
     for (i, text) in all.iter().enumerate() {
         if is_short(len, text) && fails_some(test, given(table, text)) {
@@ -293,7 +293,7 @@ fn is_there(text: Option<&[u8]>) -> bool
 }
 
 fn some_unrowed(table: Option<&Rows>, len: Option<u32>, all: &[Vec<u8>]) -> bool
-    ensures { result ≡ list_any (λ v. spec.is_short octets len v.items && not (is_there (second_of v.items (rows_value table.entry).rows))) all.now }
+    ensures { result ≡ some_short len (λ text. not (is_there (second_of text (rows_value table.entry).rows))) all.now }
 {
     for (i, text) in all.iter().enumerate() {
         if is_short(len, text) && !has_row(table, text) {

@@ -1,13 +1,10 @@
 //! The rules on what can stand at one place: usage, table and length.
 ghost use Rattle.std.specs.Prelude.{◌≡◌, ◌&&◌, not, OnOk};
-ghost use Rattle.gw_profile.specs.Seen.{sub as sub_value, profile_value};
-ghost use Rattle.gw_profile.specs.Lengths.{octets};
 ghost use Rattle.gw_validate.specs.Breaches.{is_required, is_forbidden};
 ghost use Rattle.gw_resolve.specs.Failures.{fails};
-ghost use Rattle.gw_check.specs.Fields as spec;
 ghost use Rattle.gw_check.specs.Leaves as leaves_spec;
 ghost use Rattle.gw_resolve.specs.Noted.{Notes};
-ghost use Rattle.gw_check.specs.Texts.{texts_value};
+ghost use Rattle.gw_check.specs.Seen as seen;
 
 use crate::leaf::table_of;
 use crate::presence::{is_absent, is_always};
@@ -73,7 +70,7 @@ fn check_table(
     texts: Texts<'_>,
     sub: &SubShape,
 ) -> Result<(), AllocError>
-    ensures { OnOk result (Notes found.old found.new (fails 6 line (not (leaves_spec.is_absent presence) && leaves_spec.may_be_unlisted (texts_value texts.entry) (spec.table_values target.now.tables (sub_value sub.now))))) }
+    ensures { OnOk result (Notes found.old found.new (seen.table_failures target.now line presence texts.entry sub.now)) }
 {
     if is_absent(presence) {
         return Ok(());
@@ -93,7 +90,7 @@ fn check_length(
     texts: Texts<'_>,
     sub: &SubShape,
 ) -> Result<(), AllocError>
-    ensures { OnOk result (Notes found.old found.new (fails 7 line (not (leaves_spec.is_absent presence) && leaves_spec.may_be_long octets (texts_value texts.entry) sub.now.len))) }
+    ensures { OnOk result (Notes found.old found.new (seen.length_failures line presence texts.entry sub.now)) }
 {
     if is_absent(presence) {
         return Ok(());
@@ -110,7 +107,7 @@ pub(crate) fn check_values(
     texts: Texts<'_>,
     sub: &SubShape,
 ) -> Result<(), AllocError>
-    ensures { OnOk result (Notes found.old found.new (spec.value_failures (profile_value target.now) line (record { presence = presence; values = texts_value texts.entry }) (sub_value sub.now))) }
+    ensures { OnOk result (Notes found.old found.new (seen.value_failures target.now line presence texts.entry sub.now)) }
 {
     check_table(found, target, line, presence, texts, sub)?;
     check_length(found, line, presence, texts, sub)
