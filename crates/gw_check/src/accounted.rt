@@ -58,7 +58,7 @@ fn add_fields(known: &mut Accounted, fields: Vec<FieldAt>) -> Result<(), AllocEr
 fn add_drops(alloc: Global, known: &mut Accounted, drops: &[LeftOut]) -> Result<(), AllocError>
     ensures { OnOk result (Gains known.old known.new (drops_field (map seen_drop drops.now)) (drops_element (map seen_drop drops.now))) }
 {
-    for (i, left_out) in drops.iter().enumerate() {
+    for left_out in drops {
         add_drop(alloc, known, left_out)?;
     }
     Ok(())

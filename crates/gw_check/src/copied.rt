@@ -48,7 +48,7 @@ fn check_subs(
 ) -> Result<(), AllocError>
     ensures { OnOk result (Notes found.old found.new (flat_map (seen.copied_sub source.now target.now line from.entry) (map sub_value subs.now))) }
 {
-    for (i, sub) in subs.iter().enumerate() {
+    for sub in subs {
         check_sub(found, source, target, line, from, sub)?;
     }
     Ok(())
@@ -81,7 +81,7 @@ fn check_comps(
 ) -> Result<(), AllocError>
     ensures { OnOk result (Notes found.old found.new (flat_map (seen.copied_comp source.now target.now line from.entry) (map comp_value comps.now))) }
 {
-    for (i, comp) in comps.iter().enumerate() {
+    for comp in comps {
         check_comp(found, source, target, line, from, comp)?;
     }
     Ok(())

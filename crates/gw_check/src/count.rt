@@ -59,7 +59,7 @@ pub(crate) fn walking<'p, 'm, 's, 'e, 'l>(
 fn some_always(sources: Sources<'_, '_, '_, '_, '_>, leaves: &[At]) -> bool
     ensures { result ≡ spec.some_always (sources_value sources.entry) (leaves_value sources.entry leaves.now) }
 {
-    for (i, at) in leaves.iter().enumerate() {
+    for at in leaves {
         if is_always(leaf_presence(sources, &at.leaf)) {
             return true;
         }
@@ -71,7 +71,7 @@ fn some_always(sources: Sources<'_, '_, '_, '_, '_>, leaves: &[At]) -> bool
 fn all_absent(sources: Sources<'_, '_, '_, '_, '_>, leaves: &[At]) -> bool
     ensures { result ≡ spec.all_absent (sources_value sources.entry) (leaves_value sources.entry leaves.now) }
 {
-    for (i, at) in leaves.iter().enumerate() {
+    for at in leaves {
         if !is_absent(leaf_presence(sources, &at.leaf)) {
             return false;
         }

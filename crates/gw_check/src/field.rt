@@ -150,7 +150,7 @@ fn check_fields(
 ) -> Result<(), AllocError>
     ensures { OnOk result (Notes found.old found.new (flat_map (seen.field_failures sources.entry target.now holder rules.now) (map field_value fields.now))) }
 {
-    for (i, field) in fields.iter().enumerate() {
+    for field in fields {
         check_field(found, sources, target, holder, rules, field)?;
     }
     Ok(())

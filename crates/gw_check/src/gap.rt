@@ -78,7 +78,7 @@ fn add_fields(
 ) -> Result<(), AllocError>
     ensures { (tables : List TableValue) → OnOk result (FindsShapes tables line at.now rules.now fields.now found.old.items found.new.items) }
 {
-    for (i, field) in fields.iter().enumerate() {
+    for field in fields {
         add_field(alloc, found, line, at, rules, field)?;
     }
     Ok(())
@@ -189,7 +189,7 @@ fn add_items(
 ) -> Result<(), AllocError>
     ensures { (tables : List TableValue) → OnOk result (FindsItems tables above.now (forest nodes.now) items.now found.old.items found.new.items) }
 {
-    for (i, item) in items.iter().enumerate() {
+    for item in items {
         add_item(alloc, found, above, nodes, item)?;
     }
     Ok(())

@@ -123,7 +123,7 @@ pub(crate) fn check_items(
 ) -> Result<(), AllocError>
     ensures { OnOk result (NotesItems sides.entry (walked scope.now) (forest nodes.now) items.now found.old found.new) }
 {
-    for (i, item) in items.iter().enumerate() {
+    for item in items {
         check_item(alloc, found, sides, scope, nodes, item)?;
     }
     Ok(())

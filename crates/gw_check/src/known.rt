@@ -56,7 +56,7 @@ pub(crate) fn segment_at<'a>(scope: &[Element<'a, '_>], place: &Place) -> Known<
 pub(crate) fn field_of(fields: &[FieldShape], number: u32) -> Option<&FieldShape>
     ensures { some_field result ≡ spec.field_of (map field fields.now) number }
 {
-    for (i, field) in fields.iter().enumerate() {
+    for field in fields {
         if field.number == number {
             return Some(field);
         }
@@ -67,7 +67,7 @@ pub(crate) fn field_of(fields: &[FieldShape], number: u32) -> Option<&FieldShape
 fn comp_among(comps: &[CompShape], number: u32) -> Option<&CompShape>
     ensures { some_comp result ≡ find (λ c. c.number == number) (map comp comps.now) }
 {
-    for (i, comp) in comps.iter().enumerate() {
+    for comp in comps {
         if comp.number == number {
             return Some(comp);
         }
@@ -88,7 +88,7 @@ pub(crate) fn comp_of(field: Option<&FieldShape>, number: u32) -> Option<&CompSh
 fn sub_among(subs: &[SubShape], number: u32) -> Option<&SubShape>
     ensures { some_sub result ≡ find (λ s. s.number == number) (map sub subs.now) }
 {
-    for (i, sub) in subs.iter().enumerate() {
+    for sub in subs {
         if sub.number == number {
             return Some(sub);
         }
@@ -110,7 +110,7 @@ pub(crate) fn sub_of(comp: Option<&CompShape>, number: u32) -> Option<&SubShape>
 pub(crate) fn rule_of(rules: &[Rule], number: u32) -> Option<&Rule>
     ensures { (tables : List TableValue) → some_rule tables result ≡ resolved.rule_of (map (seen_rule tables) rules.now) number }
 {
-    for (i, rule) in rules.iter().enumerate() {
+    for rule in rules {
         if rule.field == number {
             return Some(rule);
         }

@@ -58,7 +58,7 @@ fn check_lookups(
 ) -> Result<(), AllocError>
     ensures { OnOk result (Notes found.old found.new (flat_map (spec.lookup_failures (sources_value sources.entry)) (leaves_value sources.entry leaves.now))) }
 {
-    for (i, at) in leaves.iter().enumerate() {
+    for at in leaves {
         check_lookup(found, sources, at)?;
     }
     Ok(())
@@ -87,7 +87,7 @@ pub(crate) fn check_rules(
 ) -> Result<(), AllocError>
     ensures { OnOk result (Notes found.old found.new (flat_map (spec.rule_lookups (sources_value sources.entry)) (rules_value sources.entry rules.now))) }
 {
-    for (i, rule) in rules.iter().enumerate() {
+    for rule in rules {
         check_rule(found, sources, rule)?;
     }
     Ok(())

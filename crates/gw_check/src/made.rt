@@ -36,7 +36,7 @@ fn all_there(sources: Sources<'_, '_, '_, '_, '_>, leaves: &[At]) -> Result<Vec<
     ensures { IfOk result (λ v. map there_value v.items ≡ map (there_of (sources_value sources.entry)) (leaves_value sources.entry leaves.now)) }
 {
     let mut all = Vec::new(sources.alloc);
-    for (i, at) in leaves.iter().enumerate() {
+    for at in leaves {
         all.push(There {
             place: at.place,
             presence: leaf_presence(sources, &at.leaf),
@@ -51,7 +51,7 @@ fn all_there(sources: Sources<'_, '_, '_, '_, '_>, leaves: &[At]) -> Result<Vec<
 fn has_comp(leaves: &[There], comp: u32) -> bool
     ensures { result ≡ has_comp (map there_value leaves.now) comp }
 {
-    for (i, leaf) in leaves.iter().enumerate() {
+    for leaf in leaves {
         if leaf.place.comp == comp && is_always(leaf.presence) {
             return true;
         }
@@ -63,7 +63,7 @@ fn has_comp(leaves: &[There], comp: u32) -> bool
 fn has_only_comp(leaves: &[There], comp: u32) -> bool
     ensures { result ≡ has_only_comp (map there_value leaves.now) comp }
 {
-    for (i, leaf) in leaves.iter().enumerate() {
+    for leaf in leaves {
         if leaf.place.comp != comp && !is_absent(leaf.presence) {
             return false;
         }
@@ -75,7 +75,7 @@ fn has_only_comp(leaves: &[There], comp: u32) -> bool
 fn has_sub(leaves: &[There], comp: u32, sub: u32) -> bool
     ensures { result ≡ has_sub (map there_value leaves.now) comp sub }
 {
-    for (i, leaf) in leaves.iter().enumerate() {
+    for leaf in leaves {
         if leaf.place.comp == comp && leaf.place.sub == sub && is_always(leaf.presence) {
             return true;
         }
@@ -87,7 +87,7 @@ fn has_sub(leaves: &[There], comp: u32, sub: u32) -> bool
 fn has_only_sub(leaves: &[There], comp: u32, sub: u32) -> bool
     ensures { result ≡ has_only_sub (map there_value leaves.now) comp sub }
 {
-    for (i, leaf) in leaves.iter().enumerate() {
+    for leaf in leaves {
         if leaf.place.comp == comp && leaf.place.sub != sub && !is_absent(leaf.presence) {
             return false;
         }
@@ -133,7 +133,7 @@ fn check_subs(
 ) -> Result<(), AllocError>
     ensures { OnOk result (Notes found.old found.new (flat_map (sub_lacks line (map there_value leaves.now) comp) (map sub_value subs.now))) }
 {
-    for (i, sub) in subs.iter().enumerate() {
+    for sub in subs {
         check_sub(found, line, leaves, comp, sub)?;
     }
     Ok(())
@@ -174,7 +174,7 @@ fn check_comps(
 ) -> Result<(), AllocError>
     ensures { OnOk result (Notes found.old found.new (flat_map (all_lacks line (map there_value leaves.now)) (map comp_value comps.now))) }
 {
-    for (i, comp) in comps.iter().enumerate() {
+    for comp in comps {
         check_comp(found, line, leaves, comp)?;
     }
     Ok(())
@@ -340,7 +340,7 @@ fn check_leaves(
 ) -> Result<(), AllocError>
     ensures { OnOk result (Notes found.old found.new (flat_map (seen.made_leaf sources.entry target.now field.now) (leaves_value sources.entry leaves.now))) }
 {
-    for (i, at) in leaves.iter().enumerate() {
+    for at in leaves {
         check_at(found, sources, target, field, at)?;
     }
     Ok(())

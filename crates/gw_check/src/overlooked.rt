@@ -47,7 +47,7 @@ fn add_fields(
 ) -> Result<(), AllocError>
     ensures { OnOk result (Adds found.old.items found.new.items (flat_map (spec.missed_field known.now at.now) (map seen_field fields.now))) }
 {
-    for (i, field) in fields.iter().enumerate() {
+    for field in fields {
         add_field(alloc, known, at, field, found)?;
     }
     Ok(())

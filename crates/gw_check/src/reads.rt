@@ -104,7 +104,7 @@ fn some_field_missed(
 ) -> Result<bool, AllocError>
     ensures { IfOk result (λ b. b ≡ list_any (is_missed known.now at.now) (map seen_field fields.now)) }
 {
-    for (i, field) in fields.iter().enumerate() {
+    for field in fields {
         if is_missed(alloc, known, at, field)? {
             return Ok(true);
         }
@@ -187,7 +187,7 @@ fn add_leaves(
 ) -> Result<(), AllocError>
     ensures { (tables : List TableValue) → OnOk result (Adds reads.old.items reads.new.items (seen.leaves_read tables scope.now leaves.now)) }
 {
-    for (i, at) in leaves.iter().enumerate() {
+    for at in leaves {
         add_leaf(alloc, reads, scope, at)?;
     }
     Ok(())
@@ -219,7 +219,7 @@ fn add_rules(
 ) -> Result<(), AllocError>
     ensures { (tables : List TableValue) → OnOk result (Adds reads.old.items reads.new.items (seen.rules_read tables scope.now rules.now)) }
 {
-    for (i, of) in rules.iter().enumerate() {
+    for of in rules {
         add_rule(alloc, reads, scope, of)?;
     }
     Ok(())
@@ -230,7 +230,7 @@ fn inner(alloc: Global, scope: &[Vec<usize>], place: &Place) -> Result<Vec<Vec<u
 {
     let at = position(alloc, scope, place)?;
     let mut inner = Vec::new(alloc);
-    for (i, outer) in scope.iter().enumerate() {
+    for outer in scope {
         let copy = Vec::from_slice(alloc, outer)?;
         inner.push(copy)?;
     }
@@ -288,7 +288,7 @@ fn add_items(
 ) -> Result<(), AllocError>
     ensures { (tables : List TableValue) → OnOk result (Adds reads.old.items reads.new.items (seen.items_read tables scope.now items.now)) }
 {
-    for (i, item) in items.iter().enumerate() {
+    for item in items {
         add_item(alloc, reads, scope, item)?;
     }
     Ok(())

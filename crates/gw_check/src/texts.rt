@@ -53,7 +53,7 @@ fn is_short(len: Option<u32>, text: &[u8]) -> bool
 fn is_one_of(text: &[u8], all: &[Vec<u8>]) -> bool
     ensures { result ≡ list_any (λ v. bytes_eq text.now v.items) all.now }
 {
-    for (i, other) in all.iter().enumerate() {
+    for other in all {
         if text == other.as_slice() {
             return true;
         }
@@ -125,7 +125,7 @@ fn some_short_unlisted(table: &Table, len: Option<u32>, all: &[Vec<u8>]) -> bool
 fn some_short_fails_alone(test: Test<'_>, len: Option<u32>, all: &[Vec<u8>]) -> bool
     ensures { result ≡ some_short len (test_value test.entry) all.now }
 {
-    for (i, text) in all.iter().enumerate() {
+    for text in all {
         if is_short(len, text) && fails(test, text) {
             return true;
         }
@@ -148,7 +148,7 @@ fn some_short_fails(test: Test<'_>, len: Option<u32>, all: &[Vec<u8>]) -> bool
 fn some_given_fails(test: Test<'_>, table: Option<&Rows>, len: Option<u32>, all: &[Vec<u8>]) -> bool
     ensures { result ≡ some_short len (λ text. fails_some (test_value test.entry) (spec.given (rows_value table.entry) text)) all.now }
 {
-    for (i, text) in all.iter().enumerate() {
+    for text in all {
         if is_short(len, text) && fails_some(test, given(table, text)) {
             return true;
         }
@@ -295,7 +295,7 @@ fn is_there(text: Option<&[u8]>) -> bool
 fn some_unrowed(table: Option<&Rows>, len: Option<u32>, all: &[Vec<u8>]) -> bool
     ensures { result ≡ some_short len (λ text. not (is_there (second_of text (rows_value table.entry).rows))) all.now }
 {
-    for (i, text) in all.iter().enumerate() {
+    for text in all {
         if is_short(len, text) && !has_row(table, text) {
             return true;
         }

@@ -6,7 +6,7 @@ use Rattle.gw_check.specs.Reading.{some_field}
 use Rattle.gw_resolve.specs.Seen.{failures}
 use Rattle.gw_check.proofs.copied.check_comps.Given as goal
 
-abbrev pub invariant-loop-i : goal.invariant-loop-i
-invariant-loop-i l =
+abbrev pub invariant-loop-comp : goal.invariant-loop-comp
+invariant-loop-comp l =
     failures l.initial.found.items ++ (flat_map (copied_comp (profile_value l.source) (profile_value l.target) l.line (some_field l.from)) (map comp l.comps))
-    ≡ failures l.found.items ++ (flat_map (copied_comp (profile_value l.source) (profile_value l.target) l.line (some_field l.from)) (map comp (drop l.i l.comps)))
+    ≡ failures l.found.items ++ (flat_map (copied_comp (profile_value l.source) (profile_value l.target) l.line (some_field l.from)) (map comp (drop l.comp-index l.comps)))

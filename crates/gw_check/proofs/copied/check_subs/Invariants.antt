@@ -6,7 +6,7 @@ use Rattle.gw_check.specs.Reading.{some_comp}
 use Rattle.gw_resolve.specs.Seen.{failures}
 use Rattle.gw_check.proofs.copied.check_subs.Given as goal
 
-abbrev pub invariant-loop-i : goal.invariant-loop-i
-invariant-loop-i l =
+abbrev pub invariant-loop-sub : goal.invariant-loop-sub
+invariant-loop-sub l =
     failures l.initial.found.items ++ (flat_map (copied_sub (profile_value l.source) (profile_value l.target) l.line (some_comp l.from)) (map sub l.subs))
-    ≡ failures l.found.items ++ (flat_map (copied_sub (profile_value l.source) (profile_value l.target) l.line (some_comp l.from)) (map sub (drop l.i l.subs)))
+    ≡ failures l.found.items ++ (flat_map (copied_sub (profile_value l.source) (profile_value l.target) l.line (some_comp l.from)) (map sub (drop l.sub-index l.subs)))

@@ -4,6 +4,6 @@ use Rattle.gw_check.specs.Reading.{sources_value, map_tables}
 use Rattle.gw_resolve.specs.Seen.{at_leaf}
 use Rattle.gw_check.proofs.count.some_always.Given as goal
 
-abbrev pub invariant-loop-i : goal.invariant-loop-i
-invariant-loop-i l =
-    spec.some_always (sources_value l.sources) (map (at_leaf (map_tables l.sources)) l.leaves) ≡ spec.some_always (sources_value l.sources) (map (at_leaf (map_tables l.sources)) (drop l.i l.leaves))
+abbrev pub invariant-loop-at : goal.invariant-loop-at
+invariant-loop-at l =
+    spec.some_always (sources_value l.sources) (map (at_leaf (map_tables l.sources)) l.leaves) ≡ spec.some_always (sources_value l.sources) (map (at_leaf (map_tables l.sources)) (drop l.at-index l.leaves))

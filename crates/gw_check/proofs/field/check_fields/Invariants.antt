@@ -6,7 +6,7 @@ use Rattle.gw_check.specs.Reading.{sources_value, map_tables}
 use Rattle.gw_resolve.specs.Seen.{failures, rule}
 use Rattle.gw_check.proofs.field.check_fields.Given as goal
 
-abbrev pub invariant-loop-i : goal.invariant-loop-i
-invariant-loop-i l =
+abbrev pub invariant-loop-field : goal.invariant-loop-field
+invariant-loop-field l =
     failures l.initial.found.items ++ (flat_map (field_failures (sources_value l.sources) (profile_value l.target) l.holder (map (rule (map_tables l.sources)) l.rules)) (map field l.fields))
-    ≡ failures l.found.items ++ (flat_map (field_failures (sources_value l.sources) (profile_value l.target) l.holder (map (rule (map_tables l.sources)) l.rules)) (map field (drop l.i l.fields)))
+    ≡ failures l.found.items ++ (flat_map (field_failures (sources_value l.sources) (profile_value l.target) l.holder (map (rule (map_tables l.sources)) l.rules)) (map field (drop l.field-index l.fields)))

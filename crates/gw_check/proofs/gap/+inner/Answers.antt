@@ -18,7 +18,7 @@ add_item-add_items-requires-in-Flat t c =
 
 pub add_items-add_item-requires : goal.add_items-add_item-requires
 add_items-add_item-requires t c =
-    let smaller : weight_one c.index-items-i.result ≤ weight_all c.args.items.now = not_heavier c.args.items.now c.loop-i.i c.index-items-i.result c.loop-i-test.true c.index-items-i.is in
+    let smaller : weight_one c.item-item.result ≤ weight_all c.args.items.now = not_heavier c.args.items.now c.loop-item.item-index c.item-item.result c.loop-item-test.true c.item-item.is in
     search rules
 
 pub add_item-returns-in-Segment : goal.add_item-returns-in-Segment
@@ -39,6 +39,6 @@ add_item-returns-in-Flat t c = λ tables.
     (flat_found tables c.args.above.now (forest c.args.nodes.now) c.args.item.now c.in-Flat.flat c.deref-in-Flat.result.now c.args.found.now.items c.add_items-in-Flat.new.found.items c.in-Flat.is c.deref-in-Flat.ensures.value)
     (c.add_items-in-Flat.ensures tables)
 
-pub add_items-loop-i-preserved : goal.add_items-loop-i-preserved
-add_items-loop-i-preserved t c = λ tables.
-    item_found tables c.args.above.now (forest c.args.nodes.now) c.args.items.now c.loop-i.i c.index-items-i.result c.args.found.now.items c.loop-i.found.items c.add_item.new.found.items c.loop-i-test.true c.index-items-i.is (c.in_ok-add_item.ensures tables) (c.loop-i.invariant tables)
+pub add_items-loop-item-preserved : goal.add_items-loop-item-preserved
+add_items-loop-item-preserved t c = λ tables.
+    item_found tables c.args.above.now (forest c.args.nodes.now) c.args.items.now c.loop-item.item-index c.item-item.result c.args.found.now.items c.loop-item.found.items c.add_item.new.found.items c.loop-item-test.true c.item-item.is (c.in_ok-add_item.ensures tables) (c.loop-item.invariant tables)

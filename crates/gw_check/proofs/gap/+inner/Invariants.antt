@@ -13,7 +13,7 @@ decreases-add_item l = 2 * weight_one l.item.now
 abbrev pub decreases-add_items : goal.decreases-add_items
 decreases-add_items l = 2 * weight_all l.items.now + 1
 
-abbrev pub invariant-add_items-loop-i : goal.invariant-add_items-loop-i
-invariant-add_items-loop-i l =
+abbrev pub invariant-add_items-loop-item : goal.invariant-add_items-loop-item
+invariant-add_items-loop-item l =
     (tables : List TableValue) →
-    all_gaps l.initial.found.items ++ items_gaps l.above (forest l.nodes) (all_items tables l.items) ≡ all_gaps l.found.items ++ items_gaps l.above (forest l.nodes) (all_items tables (drop l.i l.items))
+    all_gaps l.initial.found.items ++ items_gaps l.above (forest l.nodes) (all_items tables l.items) ≡ all_gaps l.found.items ++ items_gaps l.above (forest l.nodes) (all_items tables (drop l.item-index l.items))

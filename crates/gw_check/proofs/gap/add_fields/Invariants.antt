@@ -7,8 +7,8 @@ use Rattle.gw_check.specs.Gaps.{field_gaps}
 use Rattle.gw_check.specs.Gathered.{all_gaps}
 use Rattle.gw_check.proofs.gap.add_fields.Given as goal
 
-abbrev pub invariant-loop-i : goal.invariant-loop-i
-invariant-loop-i l =
+abbrev pub invariant-loop-field : goal.invariant-loop-field
+invariant-loop-field l =
     (tables : List TableValue) →
     all_gaps l.initial.found.items ++ flat_map (field_gaps l.line l.at (map (rule tables) l.rules)) (map field l.fields)
-    ≡ all_gaps l.found.items ++ flat_map (field_gaps l.line l.at (map (rule tables) l.rules)) (map field (drop l.i l.fields))
+    ≡ all_gaps l.found.items ++ flat_map (field_gaps l.line l.at (map (rule tables) l.rules)) (map field (drop l.field-index l.fields))

@@ -6,10 +6,10 @@ use Rattle.gw_check.proofs.Collecting.{on_ok}
 use Rattle.gw_check.proofs.Within.{items_more, group_noted, flat_noted, lighter_group, lighter_flat, not_heavier, level_same}
 use Rattle.gw_check.proofs.inside.+inside.Goals as goal
 
-pub check_items-loop-i-preserved : goal.check_items-loop-i-preserved
-check_items-loop-i-preserved t c =
-    items_more c.args.sides.map.now.tables (profile_value c.args.sides.source.now) (profile_value c.args.sides.target.now) (scope c.args.scope.now) (forest c.args.nodes.now) c.args.items.now c.loop-i.i c.index-items-i.result
-    (failures c.args.found.now.items) c.loop-i.found c.check_item.new.found c.loop-i-test.true c.index-items-i.is c.in_ok-check_item.ensures c.loop-i.invariant
+pub check_items-loop-item-preserved : goal.check_items-loop-item-preserved
+check_items-loop-item-preserved t c =
+    items_more c.args.sides.map.now.tables (profile_value c.args.sides.source.now) (profile_value c.args.sides.target.now) (scope c.args.scope.now) (forest c.args.nodes.now) c.args.items.now c.loop-item.item-index c.item-item.result
+    (failures c.args.found.now.items) c.loop-item.found c.check_item.new.found c.loop-item-test.true c.item-item.is c.in_ok-check_item.ensures c.loop-item.invariant
 
 pub check_item-check_items-requires : goal.check_item-check_items-requires
 check_item-check_items-requires t c =
@@ -23,7 +23,7 @@ check_item-check_items-requires-in-Flat t c =
 
 pub check_items-check_item-requires : goal.check_items-check_item-requires
 check_items-check_item-requires t c =
-    let smaller : weight_one c.index-items-i.result ≤ weight_all c.args.items.now = not_heavier c.args.items.now c.loop-i.i c.index-items-i.result c.loop-i-test.true c.index-items-i.is in
+    let smaller : weight_one c.item-item.result ≤ weight_all c.args.items.now = not_heavier c.args.items.now c.loop-item.item-index c.item-item.result c.loop-item-test.true c.item-item.is in
     search rules
 
 pub check_item-returns-in_ok-check_level-in-Group : goal.check_item-returns-in_ok-check_level-in-Group

@@ -5,7 +5,7 @@ use Rattle.gw_check.specs.Reading.{sources_value, map_tables}
 use Rattle.gw_resolve.specs.Seen.{failures, rule}
 use Rattle.gw_check.proofs.lookup.check_rules.Given as goal
 
-abbrev pub invariant-loop-i : goal.invariant-loop-i
-invariant-loop-i l =
+abbrev pub invariant-loop-rule : goal.invariant-loop-rule
+invariant-loop-rule l =
     failures l.initial.found.items ++ (flat_map (rule_lookups (sources_value l.sources)) (map (rule (map_tables l.sources)) l.rules))
-    ≡ failures l.found.items ++ (flat_map (rule_lookups (sources_value l.sources)) (map (rule (map_tables l.sources)) (drop l.i l.rules)))
+    ≡ failures l.found.items ++ (flat_map (rule_lookups (sources_value l.sources)) (map (rule (map_tables l.sources)) (drop l.rule-index l.rules)))

@@ -5,7 +5,7 @@ use Rattle.gw_check.specs.Lacking.{there_value, all_lacks}
 use Rattle.gw_resolve.specs.Seen.{failures}
 use Rattle.gw_check.proofs.made.check_comps.Given as goal
 
-abbrev pub invariant-loop-i : goal.invariant-loop-i
-invariant-loop-i l =
+abbrev pub invariant-loop-comp : goal.invariant-loop-comp
+invariant-loop-comp l =
     failures l.initial.found.items ++ flat_map (all_lacks l.line (map there_value l.leaves)) (map comp l.comps)
-    ≡ failures l.found.items ++ flat_map (all_lacks l.line (map there_value l.leaves)) (map comp (drop l.i l.comps))
+    ≡ failures l.found.items ++ flat_map (all_lacks l.line (map there_value l.leaves)) (map comp (drop l.comp-index l.comps))

@@ -5,7 +5,7 @@ use Rattle.gw_check.specs.Lacking.{there_value, sub_lacks}
 use Rattle.gw_resolve.specs.Seen.{failures}
 use Rattle.gw_check.proofs.made.check_subs.Given as goal
 
-abbrev pub invariant-loop-i : goal.invariant-loop-i
-invariant-loop-i l =
+abbrev pub invariant-loop-sub : goal.invariant-loop-sub
+invariant-loop-sub l =
     failures l.initial.found.items ++ flat_map (sub_lacks l.line (map there_value l.leaves) l.comp) (map sub l.subs)
-    ≡ failures l.found.items ++ flat_map (sub_lacks l.line (map there_value l.leaves) l.comp) (map sub (drop l.i l.subs))
+    ≡ failures l.found.items ++ flat_map (sub_lacks l.line (map there_value l.leaves) l.comp) (map sub (drop l.sub-index l.subs))

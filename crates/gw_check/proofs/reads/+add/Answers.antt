@@ -21,6 +21,6 @@ add_item-returns-in_ok-within-in-Flat t c = λ tables.
     (ap positions c.deref-in-Flat.ensures.value ∙ c.in_ok-within-in-Flat.ensures))
     (c.add_items-in-Flat.ensures tables)
 
-pub add_items-loop-i-preserved : goal.add_items-loop-i-preserved
-add_items-loop-i-preserved t c = λ tables.
-    item_added tables (positions c.args.scope.now) c.args.items.now c.loop-i.i c.index-items-i.result c.args.reads.now.items c.loop-i.reads.items c.add_item.new.reads.items c.loop-i-test.true c.index-items-i.is (c.in_ok-add_item.ensures tables) (c.loop-i.invariant tables)
+pub add_items-loop-item-preserved : goal.add_items-loop-item-preserved
+add_items-loop-item-preserved t c = λ tables.
+    item_added tables (positions c.args.scope.now) c.args.items.now c.loop-item.item-index c.item-item.result c.args.reads.now.items c.loop-item.reads.items c.add_item.new.reads.items c.loop-item-test.true c.item-item.is (c.in_ok-add_item.ensures tables) (c.loop-item.invariant tables)

@@ -12,7 +12,7 @@ decreases-add_item l = 2 * size-Item l.item.now
 abbrev pub decreases-add_items : goal.decreases-add_items
 decreases-add_items l = 2 * goal.size-add_items l + 1
 
-abbrev pub invariant-add_items-loop-i : goal.invariant-add_items-loop-i
-invariant-add_items-loop-i l =
+abbrev pub invariant-add_items-loop-item : goal.invariant-add_items-loop-item
+invariant-add_items-loop-item l =
     (tables : List TableValue) →
-    fields_at l.initial.reads.items ++ items_read (positions l.scope) (all_items tables l.items) ≡ fields_at l.reads.items ++ items_read (positions l.scope) (all_items tables (drop l.i l.items))
+    fields_at l.initial.reads.items ++ items_read (positions l.scope) (all_items tables l.items) ≡ fields_at l.reads.items ++ items_read (positions l.scope) (all_items tables (drop l.item-index l.items))

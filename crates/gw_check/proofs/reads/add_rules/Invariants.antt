@@ -5,8 +5,8 @@ use Rattle.gw_check.specs.Collected.{fields_at, positions}
 use Rattle.gw_resolve.specs.Seen.{rule}
 use Rattle.gw_check.proofs.reads.add_rules.Given as goal
 
-abbrev pub invariant-loop-i : goal.invariant-loop-i
-invariant-loop-i l =
+abbrev pub invariant-loop-of : goal.invariant-loop-of
+invariant-loop-of l =
     (tables : List TableValue) →
     fields_at l.initial.reads.items ++ rules_read (positions l.scope) (map (rule tables) l.rules)
-    ≡ fields_at l.reads.items ++ rules_read (positions l.scope) (map (rule tables) (drop l.i l.rules))
+    ≡ fields_at l.reads.items ++ rules_read (positions l.scope) (map (rule tables) (drop l.of-index l.rules))

@@ -6,5 +6,5 @@ use Rattle.gw_check.specs.Leaves.{is_short}
 use Rattle.gw_check.specs.Texts.{test_value}
 use Rattle.gw_check.proofs.texts.some_short_fails_alone.Given as goal
 
-abbrev pub invariant-loop-i : goal.invariant-loop-i
-invariant-loop-i l = list_any (λ v. is_short octets l.len v.items && test_value l.test v.items) l.all ≡ list_any (λ v. is_short octets l.len v.items && test_value l.test v.items) (drop l.i l.all)
+abbrev pub invariant-loop-text : goal.invariant-loop-text
+invariant-loop-text l = list_any (λ v. is_short octets l.len v.items && test_value l.test v.items) l.all ≡ list_any (λ v. is_short octets l.len v.items && test_value l.test v.items) (drop l.text-index l.all)

@@ -7,5 +7,5 @@ use Rattle.gw_check.specs.Leaves.{is_short}
 use Rattle.gw_check.specs.Texts.{rows_value, is_there}
 use Rattle.gw_check.proofs.texts.some_unrowed.Given as goal
 
-abbrev pub invariant-loop-i : goal.invariant-loop-i
-invariant-loop-i l = list_any (λ v. is_short octets l.len v.items && not (is_there (second_of v.items (rows_value l.table).rows))) l.all ≡ list_any (λ v. is_short octets l.len v.items && not (is_there (second_of v.items (rows_value l.table).rows))) (drop l.i l.all)
+abbrev pub invariant-loop-text : goal.invariant-loop-text
+invariant-loop-text l = list_any (λ v. is_short octets l.len v.items && not (is_there (second_of v.items (rows_value l.table).rows))) l.all ≡ list_any (λ v. is_short octets l.len v.items && not (is_there (second_of v.items (rows_value l.table).rows))) (drop l.text-index l.all)
