@@ -24,7 +24,7 @@ passed_over reads drops above j (segment s rest) =
 passed_over reads drops above j (group g nodes rest) =
     passed_over reads drops (above ++ j ∷ []) 0 nodes ++ passed_over reads drops above (suc j) rest
 
-abbrev none_if : List Failure → List SourceField → List SourceField
+abbrev pub none_if : List Failure → List SourceField → List SourceField
 none_if [] fields = fields
 none_if (f ∷ failures) fields = []
 
