@@ -2,11 +2,11 @@
 use crate::elements::{Named, field_of, node_at, tell_name, usage_of};
 use crate::maps::Sides;
 use crate::subjects::Told;
-use gw_check::{FieldAt, Gap};
+use gw_check::{FieldAt, Gap, gaps, unread};
 use gw_maplang::Map;
 use gw_profile::{Profile, Usage};
 use gw_resolve::Failure;
-use gw_subjects::{Site, site_at};
+use gw_subjects::{Site, site_at, sites};
 use std::alloc::{AllocError, Global};
 use std::collections::BTreeSet;
 use std::io::Write;
@@ -21,26 +21,31 @@ pub(crate) struct Written<'a> {
     pub(crate) text: Vec<u8>,
 }
 
-/// All that fails of a map that a rule refuses.
+/// A map that a rule refuses: the least failure, and all of them.
 #[derive(Drop)]
-pub(crate) struct Found {
-    /// The fields that the map passes over.
-    pub(crate) unread: Vec<FieldAt>,
-    /// What the target asks for and the map says nothing of.
-    pub(crate) gaps: Vec<Gap>,
-    /// What each line makes, and of what.
-    pub(crate) sites: Vec<Site>,
+pub(crate) struct Refused {
+    pub(crate) least: Failure,
     pub(crate) failures: Vec<Failure>,
     pub(crate) map: Map,
 }
 
-/// A rule that refuses a map: the least, at its least line.
+/// What the failures of a map speak of.
 #[derive(Drop)]
+pub(crate) struct Found {
+    /// The fields that the map passes over.
+    unread: Vec<FieldAt>,
+    /// What the target asks for and the map says nothing of.
+    gaps: Vec<Gap>,
+    /// What each line makes, and of what.
+    sites: Vec<Site>,
+}
+
+/// A map that a rule refuses, with its text and its profiles.
+#[derive(Clone, Copy)]
 pub(crate) struct Refusal<'a> {
-    pub(crate) least: Failure,
-    pub(crate) written: Written<'a>,
-    pub(crate) sides: Sides,
-    pub(crate) found: Found,
+    pub(crate) sides: &'a Sides,
+    pub(crate) written: &'a Written<'a>,
+    pub(crate) refused: &'a Refused,
 }
 
 /// What a rule demands, and what to do.
@@ -144,6 +149,20 @@ fn is_expected(target: &Profile, gap: &Gap) -> bool {
 }
 
 impl Refusal<'_> {
+    /// What its failures speak of.
+    pub(crate) fn found(&self, alloc: Global) -> Result<Found, AllocError> {
+        let Sides { source, target } = self.sides;
+        let map = &self.refused.map;
+        let unread = unread(alloc, source, target, map)?;
+        let gaps = gaps(alloc, source, target, map)?;
+        let sites = sites(alloc, source, target, map)?;
+        Ok(Found {
+            unread,
+            gaps,
+            sites,
+        })
+    }
+
     /// Whether this is what a failure speaks of.
     fn is_missing(&self, gap: &Gap, failure: Failure) -> bool {
         if gap.line != failure.line {
@@ -158,8 +177,8 @@ impl Refusal<'_> {
     }
 
     /// Tells the fields that are passed over.
-    fn tell_unread<E: Write>(&self, errors: &mut E) {
-        for (i, field) in self.found.unread.iter().enumerate() {
+    fn tell_unread<E: Write>(&self, errors: &mut E, unread: &[FieldAt]) {
+        for (i, field) in unread.iter().enumerate() {
             if i > 0 {
                 let _ = errors.write_all(b", ");
             }
@@ -169,9 +188,9 @@ impl Refusal<'_> {
     }
 
     /// Tells what nothing gives of which a failure speaks. False where there is nothing.
-    fn tell_missing<E: Write>(&self, errors: &mut E, failure: Failure) -> bool {
+    fn tell_missing<E: Write>(&self, errors: &mut E, gaps: &[Gap], failure: Failure) -> bool {
         let mut any = false;
-        for gap in &self.found.gaps {
+        for gap in gaps {
             if self.is_missing(gap, failure) {
                 if any {
                     let _ = errors.write_all(b", ");
@@ -191,14 +210,15 @@ impl Refusal<'_> {
         &self,
         alloc: Global,
         errors: &mut E,
+        sites: &[Site],
         failure: Failure,
     ) -> Result<(), AllocError> {
-        let Some(site) = site_at(&self.found.sites, failure.line) else {
+        let Some(site) = site_at(sites, failure.line) else {
             return Ok(());
         };
         let told = Told {
-            sides: &self.sides,
-            map: &self.found.map,
+            sides: self.sides,
+            map: &self.refused.map,
             site,
         };
         told.tell(alloc, errors, failure.rule)
@@ -209,18 +229,19 @@ impl Refusal<'_> {
         &self,
         alloc: Global,
         errors: &mut E,
+        found: &Found,
         failure: Failure,
     ) -> Result<(), AllocError> {
         let is_told = match failure.rule {
             9 => {
-                self.tell_unread(errors);
+                self.tell_unread(errors, &found.unread);
                 true
             }
-            5 | 8 => self.tell_missing(errors, failure),
+            5 | 8 => self.tell_missing(errors, &found.gaps, failure),
             _ => false,
         };
         if !is_told {
-            self.tell_made(alloc, errors, failure)?;
+            self.tell_made(alloc, errors, &found.sites, failure)?;
         }
         Ok(())
     }
@@ -228,8 +249,13 @@ impl Refusal<'_> {
     /// The rules that fail as well, by their lines, each once at one line.
     fn others(&self, alloc: Global) -> Result<BTreeSet<(u32, u8)>, AllocError> {
         let mut others = BTreeSet::new(alloc);
-        for failure in &self.found.failures {
-            if failure.rule != self.least.rule || failure.line != self.least.line {
+        let Refused {
+            least,
+            failures,
+            ..
+        } = self.refused;
+        for failure in failures {
+            if failure.rule != least.rule || failure.line != least.line {
                 others.insert((failure.line, failure.rule))?;
             }
         }
@@ -241,6 +267,7 @@ impl Refusal<'_> {
         &self,
         alloc: Global,
         errors: &mut E,
+        found: &Found,
         failure: Failure,
         text: &[u8],
     ) -> Result<(), AllocError> {
@@ -250,14 +277,19 @@ impl Refusal<'_> {
         if rule <= LAST_OF_LABELS {
             let _ = errors.write_all(first_line(text));
         } else {
-            self.tell_subject(alloc, errors, failure)?;
+            self.tell_subject(alloc, errors, found, failure)?;
         }
         let _ = errors.write_all(b"\n");
         Ok(())
     }
 
     /// Tells how many more rules fail, and each in a line of its own.
-    fn tell_others<E: Write>(&self, alloc: Global, errors: &mut E) -> Result<(), AllocError> {
+    fn tell_others<E: Write>(
+        &self,
+        alloc: Global,
+        errors: &mut E,
+        found: &Found,
+    ) -> Result<(), AllocError> {
         let others = self.others(alloc)?;
         if others.is_empty() {
             return Ok(());
@@ -273,23 +305,28 @@ impl Refusal<'_> {
                 rule: *rule,
                 line: *line,
             };
-            self.tell_other(alloc, errors, failure, text)?;
+            self.tell_other(alloc, errors, found, failure, text)?;
         }
         Ok(())
     }
 
     /// Tells the file with its line, what the failure speaks of, what to do, and what fails as well.
-    pub(crate) fn tell<E: Write>(&self, alloc: Global, errors: &mut E) -> Result<(), AllocError> {
-        let Written { path, text } = &self.written;
-        let Failure { rule, line } = self.least;
+    pub(crate) fn tell<E: Write>(
+        &self,
+        alloc: Global,
+        errors: &mut E,
+        found: &Found,
+    ) -> Result<(), AllocError> {
+        let Written { path, text } = self.written;
+        let Failure { rule, line } = self.refused.least;
         let _ = write!(errors, "{path}:{line}: ");
         let _ = errors.write_all(line_at(text, line));
         let _ = errors.write_all(b"\n");
         if rule > LAST_OF_LABELS {
-            self.tell_subject(alloc, errors, self.least)?;
+            self.tell_subject(alloc, errors, found, self.refused.least)?;
             let _ = errors.write_all(b"\n");
         }
         let _ = writeln!(errors, "{}", advice(rule));
-        self.tell_others(alloc, errors)
+        self.tell_others(alloc, errors, found)
     }
 }

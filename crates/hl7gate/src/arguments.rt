@@ -96,29 +96,42 @@ fn on_map<'a>(alloc: Global, name: &'a str, about: &'a str) -> Result<Command<'a
         .arg(file(alloc, "MAP", "The file of the map"))
 }
 
-/// All commands.
-fn grammar<'a>(alloc: Global) -> Result<Command<'a>, AllocError> {
-    Command::new(alloc, "hl7gate")
+/// The program without its commands.
+fn program<'a>(alloc: Global) -> Result<Command<'a>, AllocError> {
+    let program = Command::new(alloc, "hl7gate")
         .bin_name("hl7gate")?
         .version("0.1.0")
         .about("A message gateway for HL7 v2.5.1")
         .after_help(
             "Statuses: 0 done, 1 refused, 2 usage, 3 read, write or frame fault, 4 out of memory\nThe numbers on standard error are explained in docs/PROGRAM.md",
         )
-        .subcommand_required(true)
-        .subcommand(validate(alloc)?)?
-        .subcommand(on_map(
-            alloc,
-            "check",
-            "Tells whether the rules allow a map: whether each message that conforms to SOURCE has a translation that conforms to TARGET",
-        )?)?
-        .subcommand(on_map(
-            alloc,
-            "translate",
-            "Translates the message on standard input, which has no frame, by a map that the rules allow",
-        )?)?
-        .subcommand(run(alloc)?)?
-        .subcommand(serve(alloc)?)
+        .subcommand_required(true);
+    Ok(program)
+}
+
+/// The program with one command more.
+fn with<'a>(
+    program: Result<Command<'a>, AllocError>,
+    command: Result<Command<'a>, AllocError>,
+) -> Result<Command<'a>, AllocError> {
+    program?.subcommand(command?)
+}
+
+/// All commands.
+fn grammar<'a>(alloc: Global) -> Result<Command<'a>, AllocError> {
+    let check = on_map(
+        alloc,
+        "check",
+        "Tells whether the rules allow a map: whether each message that conforms to SOURCE has a translation that conforms to TARGET",
+    );
+    let translate = on_map(
+        alloc,
+        "translate",
+        "Translates the message on standard input, which has no frame, by a map that the rules allow",
+    );
+    let program = with(program(alloc), validate(alloc));
+    let program = with(with(program, check), translate);
+    with(with(program, run(alloc)), serve(alloc))
 }
 
 /// The command that the words ask for.

@@ -147,10 +147,15 @@ pub(crate) fn field_of<'a>(
     at: &[usize],
     number: u32,
 ) -> Option<&'a FieldShape> {
-    match node_at(profile.nodes(), at)? {
-        Node::Seg(segment) => segment.fields.iter().find(|field| field.number == number),
-        Node::Group(_) => None,
+    let Node::Seg(segment) = node_at(profile.nodes(), at)? else {
+        return None;
+    };
+    for field in &segment.fields {
+        if field.number == number {
+            return Some(field);
+        }
     }
+    None
 }
 
 /// Tells how the node to which the numbers lead may come.

@@ -1,5 +1,6 @@
 //! What was expected at a line that is no line of its form, and what is wrong with a profile or a map of a plan.
 use crate::advice::{advice, behind, line_at};
+use crate::refusals::letters;
 use gw_lines::{Expected, keyword_of};
 use gw_maplang::MapFault;
 use gw_plan::PlanFault;
@@ -105,7 +106,7 @@ fn of_profile(alloc: Global, text: &[u8], line: u32, number: u8) -> Result<Strin
             format!(in alloc; "profile refused 2: {expected}")
         }
         ProfileFault::Ambiguous(name) => {
-            let [first, second, third] = name.map(char::from);
+            let (first, second, third) = letters(name);
             format!(in alloc; "profile refused 7 {first}{second}{third}: {fault}")
         }
         _ => format!(in alloc; "profile refused {number}: {fault}"),

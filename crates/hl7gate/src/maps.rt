@@ -3,24 +3,38 @@ ghost use Rattle.std.specs.Prelude.{◌≡◌, IfOk};
 ghost use Rattle.std.specs.Arc.{arc_value};
 ghost use Rattle.gw_profile.specs.Seen.{profile_value};
 
-use crate::advice::{Found, Refusal, Written};
+use crate::advice::{Refusal, Refused, Written};
 use crate::ended::Ended;
 use crate::expected;
 use crate::files::{read_all, read_text};
 use crate::report::write_all;
 use clap::ArgMatches;
-use gw_check::{CheckedMap, gaps, unread};
+use gw_check::CheckedMap;
 use gw_er7::Message;
 use gw_maplang::Map;
 use gw_profile::Profile;
 use gw_resolve::Failure;
 use gw_stream::RunFault;
-use gw_subjects::sites;
 use gw_validate::{Tree, Verdict};
 use std::alloc::{AllocError, Global};
 use std::io::{Read, Write};
 use std::rt::Files;
 use std::sync::Arc;
+
+/// The profile of a file's text.
+fn parse_profile<'a>(alloc: Global, path: &'a str, text: &[u8]) -> Result<Arc<Profile>, Ended<'a>> {
+    match gw_profile::parse(alloc, text) {
+        Ok(profile) => Ok(Arc::new(alloc, profile)?),
+        Err(fault) => {
+            let expected = expected::in_profile(alloc, text, fault)?;
+            Err(Ended::Profile {
+                path,
+                fault,
+                expected,
+            })
+        }
+    }
+}
 
 /// The profile in the file that a word names.
 pub(crate) fn read_profile<'a, R: Files + AllocGlobal>(
@@ -30,17 +44,7 @@ pub(crate) fn read_profile<'a, R: Files + AllocGlobal>(
 ) -> Result<Arc<Profile>, Ended<'a>> {
     let path = words.get_str(word).unwrap_or("");
     let text = read_text(rt, path)?;
-    match gw_profile::parse(rt.alloc(), &text) {
-        Ok(profile) => Ok(Arc::new(rt.alloc(), profile)?),
-        Err(fault) => {
-            let expected = expected::in_profile(rt.alloc(), &text, fault)?;
-            Err(Ended::Profile {
-                path,
-                fault,
-                expected,
-            })
-        }
-    }
+    parse_profile(rt.alloc(), path, &text)
 }
 
 /// The profiles between which a map goes.
@@ -59,11 +63,11 @@ impl Sides {
     }
 }
 
-/// A map that was checked, or the rule that refuses it.
+/// What the rules say of a map.
 #[derive(Drop)]
-enum Checked<'a> {
+enum Judged {
     Allowed(CheckedMap),
-    Refused(Refusal<'a>),
+    Refused(Refused),
 }
 
 /// The profiles of the files SOURCE and TARGET, in this order.
@@ -101,87 +105,60 @@ fn parse_map<'a>(alloc: Global, written: &Written<'a>) -> Result<Map, Ended<'a>>
     }
 }
 
-/// All that fails of a map that a rule refuses, and what it fails of.
-fn found_of(
-    alloc: Global,
-    failures: Vec<Failure>,
-    sides: &Sides,
-    map: Map,
-) -> Result<Found, AllocError> {
-    let Sides { source, target } = sides;
-    let unread = unread(alloc, source, target, &map)?;
-    let gaps = gaps(alloc, source, target, &map)?;
-    let sites = sites(alloc, source, target, &map)?;
-    Ok(Found {
-        unread,
-        gaps,
-        sites,
-        failures,
-        map,
-    })
-}
-
-/// A map by the rules.
-fn judge<'a>(
-    alloc: Global,
-    sides: Sides,
-    written: Written<'a>,
-    map: Map,
-) -> Result<Checked<'a>, Ended<'a>> {
+/// What the rules say of a map between two profiles.
+fn examined<'a>(alloc: Global, sides: &Sides, map: Map) -> Result<Judged, Ended<'a>> {
     let Sides { source, target } = sides.shared()?;
     match gw_check::examine(alloc, source, target, map) {
-        Ok(checked) => Ok(Checked::Allowed(checked)),
+        Ok(checked) => Ok(Judged::Allowed(checked)),
         Err(gw_check::Refusal::Memory(_)) => Err(Ended::Run(RunFault::Memory)),
-        Err(gw_check::Refusal::Rules { least, found, map }) => {
-            let found = found_of(alloc, found, &sides, map)?;
-            Ok(Checked::Refused(Refusal {
-                least,
-                written,
-                sides,
-                found,
-            }))
-        }
+        Err(gw_check::Refusal::Rules { least, found, map }) => Ok(Judged::Refused(Refused {
+            least,
+            failures: found,
+            map,
+        })),
     }
 }
 
-/// The map of the files SOURCE, TARGET and MAP, each read and parsed before the next, and checked.
-fn read_checked<'a, R: Files + AllocGlobal>(
-    rt: &R,
-    words: &ArgMatches<'a>,
-) -> Result<Checked<'a>, Ended<'a>> {
-    let sides = read_sides(rt, words)?;
-    let written = read_written(rt, words)?;
-    let map = parse_map(rt.alloc(), &written)?;
-    judge(rt.alloc(), sides, written, map)
+/// The map of a text, by the rules.
+fn judge<'a>(alloc: Global, sides: &Sides, written: &Written<'a>) -> Result<Judged, Ended<'a>> {
+    let map = parse_map(alloc, written)?;
+    examined(alloc, sides, map)
 }
 
 /// Prints the rule that refuses a map; what a person needs to mend it goes to `errors`.
 fn write_refusal<'a, O: Write, E: Write>(
     alloc: Global,
-    refusal: &Refusal<'a>,
+    refusal: Refusal<'_>,
     output: &mut O,
     errors: &mut E,
 ) -> Result<(), Ended<'a>> {
-    let Failure { rule, line } = refusal.least;
+    let found = refusal.found(alloc)?;
+    let Failure { rule, line } = refusal.refused.least;
     let said = format!(in alloc; "refused K{rule} line {line}\n")?;
     write_all(output, said.as_bytes())?;
-    refusal.tell(alloc, errors)?;
+    refusal.tell(alloc, errors, &found)?;
     Ok(())
 }
 
 // Prints what the rules say of a map. False where they refuse it.
-fn write_checked<'a, O: Write, E: Write>(
+fn write_judged<'a, O: Write, E: Write>(
     alloc: Global,
-    checked: &Checked<'a>,
+    sides: &Sides,
+    written: &Written<'a>,
     output: &mut O,
     errors: &mut E,
 ) -> Result<bool, Ended<'a>> {
-    match checked {
-        Checked::Allowed(_) => {
+    match &judge(alloc, sides, written)? {
+        Judged::Allowed(_) => {
             write_all(output, b"accepted\n")?;
             Ok(true)
         }
-        Checked::Refused(refusal) => {
+        Judged::Refused(refused) => {
+            let refusal = Refusal {
+                sides,
+                written,
+                refused,
+            };
             write_refusal(alloc, refusal, output, errors)?;
             Ok(false)
         }
@@ -189,29 +166,31 @@ fn write_checked<'a, O: Write, E: Write>(
 }
 
 /// Prints whether the rules allow a map, and else the rule that refuses it; what a person needs to mend it goes to `errors`. False where it is refused.
+/// The files SOURCE, TARGET and MAP are each read and parsed before the next.
 pub(crate) fn check<'a, R: Files + AllocGlobal, O: Write, E: Write>(
     rt: &R,
     words: &ArgMatches<'a>,
     output: &mut O,
     errors: &mut E,
 ) -> Result<bool, Ended<'a>> {
-    let checked = read_checked(rt, words)?;
-    write_checked(rt.alloc(), &checked, output, errors)
+    let sides = read_sides(rt, words)?;
+    let written = read_written(rt, words)?;
+    write_judged(rt.alloc(), &sides, &written, output, errors)
 }
 
 /// The tree of a content that conforms to a profile.
 fn tree_of<'a, R: AllocGlobal>(
     rt: &R,
-    profile: Arc<Profile>,
+    profile: &Arc<Profile>,
     content: &[u8],
 ) -> Result<Tree, Ended<'a>>
-    ensures { IfOk result (λ tree. profile_value tree.profile ≡ profile_value (arc_value profile)) }
+    ensures { IfOk result (λ tree. profile_value tree.profile ≡ profile_value (arc_value profile.now)) }
 {
     let message = match gw_er7::read(rt.alloc(), content) {
         Ok(message) => message,
         Err(fault) => return Err(Ended::Message { fault }),
     };
-    match gw_validate::validate(rt.alloc(), profile, message) {
+    match gw_validate::validate(rt.alloc(), profile.clone()?, message) {
         Ok(Verdict::Fits(tree)) => Ok(tree),
         Ok(Verdict::Breaks(breach, _)) => Err(Ended::Breaks(breach)),
         Err(_) => Err(Ended::Run(RunFault::Memory)),
@@ -224,7 +203,7 @@ fn translated<'a, R: AllocGlobal>(
     map: &CheckedMap,
     content: &[u8],
 ) -> Result<Message, Ended<'a>> {
-    let tree = tree_of(rt, map.source().clone()?, content)?;
+    let tree = tree_of(rt, map.source(), content)?;
     let message = gw_interp::translate(rt.alloc(), map, &tree)?;
     Ok(message)
 }
@@ -255,29 +234,36 @@ fn write_translation<'a, R: AllocGlobal, I: Read, O: Write>(
 /// Tells the rule that refuses a map, and what a person needs to mend it.
 fn tell_refusal<'a, E: Write>(
     alloc: Global,
-    refusal: &Refusal<'a>,
+    refusal: Refusal<'_>,
     errors: &mut E,
 ) -> Result<(), Ended<'a>> {
-    let Failure { rule, line } = refusal.least;
+    let found = refusal.found(alloc)?;
+    let Failure { rule, line } = refusal.refused.least;
     let _ = writeln!(errors, "refused K{rule} line {line}");
-    refusal.tell(alloc, errors)?;
+    refusal.tell(alloc, errors, &found)?;
     Ok(())
 }
 
 // Writes the translation by a map that the rules allow, and else tells the rule that refuses it: then it answers false.
-fn translate_by<'a, R: AllocGlobal, I: Read, O: Write, E: Write>(
+fn translate_judged<'a, R: AllocGlobal, I: Read, O: Write, E: Write>(
     rt: &R,
-    checked: &Checked<'a>,
+    sides: &Sides,
+    written: &Written<'a>,
     input: &mut I,
     output: &mut O,
     errors: &mut E,
 ) -> Result<bool, Ended<'a>> {
-    match checked {
-        Checked::Allowed(map) => {
+    match &judge(rt.alloc(), sides, written)? {
+        Judged::Allowed(map) => {
             write_translation(rt, map, input, output)?;
             Ok(true)
         }
-        Checked::Refused(refusal) => {
+        Judged::Refused(refused) => {
+            let refusal = Refusal {
+                sides,
+                written,
+                refused,
+            };
             tell_refusal(rt.alloc(), refusal, errors)?;
             Ok(false)
         }
@@ -285,6 +271,7 @@ fn translate_by<'a, R: AllocGlobal, I: Read, O: Write, E: Write>(
 }
 
 /// Prints the translation of the content on standard input. A map that is refused is told before that is read: then it answers false.
+/// The files SOURCE, TARGET and MAP are each read and parsed before the next.
 pub(crate) fn translate<'a, R: Files + AllocGlobal, I: Read, O: Write, E: Write>(
     rt: &R,
     words: &ArgMatches<'a>,
@@ -292,6 +279,7 @@ pub(crate) fn translate<'a, R: Files + AllocGlobal, I: Read, O: Write, E: Write>
     output: &mut O,
     errors: &mut E,
 ) -> Result<bool, Ended<'a>> {
-    let checked = read_checked(rt, words)?;
-    translate_by(rt, &checked, input, output, errors)
+    let sides = read_sides(rt, words)?;
+    let written = read_written(rt, words)?;
+    translate_judged(rt, &sides, &written, input, output, errors)
 }

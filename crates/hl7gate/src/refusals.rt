@@ -31,13 +31,19 @@ struct Subject<'a> {
     expected: Option<&'a str>,
 }
 
+/// The letters of a segment name.
+pub(crate) fn letters(name: [u8; 3]) -> (char, char, char) {
+    let [first, second, third] = name;
+    (char::from(first), char::from(second), char::from(third))
+}
+
 // The first line of a refusal: its number, with its line or name.
 fn tell_number<E: Write>(errors: &mut E, word: &str, number: u8, place: Place) {
     let _ = match place {
         Place::Whole => writeln!(errors, "{word} refused {number}"),
         Place::Line(line) => writeln!(errors, "{word} refused {number} line {line}"),
         Place::Name(name) => {
-            let [first, second, third] = name.map(char::from);
+            let (first, second, third) = letters(name);
             writeln!(errors, "{word} refused {number} {first}{second}{third}")
         }
     };
@@ -147,7 +153,7 @@ pub(crate) fn tell_message<E: Write>(errors: &mut E, fault: ReadFault) -> u8 {
 /// Tells what a message breaks: the code, and the place up to its last number.
 pub(crate) fn tell_breach<E: Write>(errors: &mut E, breach: Breach) -> u8 {
     let code = breach.code();
-    let [first, second, third] = breach.segment.map(char::from);
+    let (first, second, third) = letters(breach.segment);
     let _ = write!(errors, "breaks {code} {first}{second}{third}");
     for number in [
         breach.sequence,

@@ -441,7 +441,21 @@ impl Told<'_> {
 }
 
 impl Told<'_> {
-    /// Tells what the target asks for within a copied field, and what the source has there. False where the field is none, or has all of it.
+    /// Tells what the target asks for in a part of a copied field, and what the source has there.
+    fn tell_part<E: Write>(&self, errors: &mut E, rule: u8, pair: &Pair) {
+        let Sides { source, target } = self.sides;
+        if comps_fail(self.sides, rule, pair) {
+            tell_comp(errors, target, &pair.target);
+            let _ = errors.write_all(b", and ");
+            tell_comp(errors, source, &pair.source);
+        } else {
+            tell_sub(errors, target, &pair.target);
+            let _ = errors.write_all(b", and ");
+            tell_sub(errors, source, &pair.source);
+        }
+    }
+
+    /// Tells the first part of a copied field of which a rule on what stands within it fails. False where the field is none, or has all of it.
     fn tell_within<E: Write>(
         &self,
         alloc: Global,
@@ -454,20 +468,13 @@ impl Told<'_> {
         let Some((to, from)) = copied(self.site) else {
             return Ok(false);
         };
-        let Some(pair) = first_pair(alloc, self.sides, rule, to, from)? else {
-            return Ok(false);
-        };
-        let Sides { source, target } = self.sides;
-        if comps_fail(self.sides, rule, &pair) {
-            tell_comp(errors, target, &pair.target);
-            let _ = errors.write_all(b", and ");
-            tell_comp(errors, source, &pair.source);
-        } else {
-            tell_sub(errors, target, &pair.target);
-            let _ = errors.write_all(b", and ");
-            tell_sub(errors, source, &pair.source);
+        match &first_pair(alloc, self.sides, rule, to, from)? {
+            None => Ok(false),
+            Some(pair) => {
+                self.tell_part(errors, rule, pair);
+                Ok(true)
+            }
         }
-        Ok(true)
     }
 
     /// Tells the elements of which rule 6 or 7 fails.
