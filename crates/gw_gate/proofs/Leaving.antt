@@ -1,9 +1,9 @@
 -- How a function of the books that makes an entry is left.
 use Rattle.std.proofs.Common.{◌≡◌, ◌≢◌, ◌+◌, ◌∙◌, ℕ, true, false, Bool, if◌then◌else◌, List, ◌∷◌, [], ◌++◌, Option, None, Some, length, refl, sym, ap, subst, arith}
 use Rattle.gw_gate.specs.declared.event.Entry.{Entry}
-use Rattle.gw_gate.specs.Parts.{PlanSeen, same_receivers}
-use Rattle.gw_gate.specs.Journal.{EntrySeen, Journal, current, next_arrival}
-use Rattle.gw_gate.specs.Replies.{EventSeen, ReplySeen, Refuses, IsRefused, Swaps, IsSwapped, IsUnlike, reply_to, added, most, noted, Noted, Refused}
+use Rattle.gw_gate.specs.Parts.{PlanSeen, ConformingSeen, is_under, same_receivers}
+use Rattle.gw_gate.specs.Journal.{EntrySeen, Journal, current, next_number, next_arrival}
+use Rattle.gw_gate.specs.Replies.{EventSeen, ReplySeen, Arrives, IsAccepted, IsStale, Refuses, IsRefused, Swaps, IsSwapped, IsUnlike, reply_to, added, most, noted, Noted, Refused}
 use Rattle.gw_gate.specs.Values.{entry_seen, entries_seen}
 use Rattle.gw_gate.specs.Books.{BooksSeen, Fits, journal_of}
 use Rattle.gw_gate.proofs.Answering.{short, done}
@@ -17,11 +17,19 @@ pub left_short : (p : PlanSeen) (items mid : List Entry) (b : BooksSeen) (old : 
     → reply_to old event ≡ given → added event given ≡ Some e → Refused old event event (journal_of p (entries_seen mid))
 left_short p items mid b old event given e was view room same row one = short p items old view mid event given e row one (room_left p items b was room) same
 
+-- the same, where no room was made
+pub left_back : (p : PlanSeen) (items : List Entry) (b : BooksSeen) (old : Journal) (event : EventSeen) (given : ReplySeen) (e : EntrySeen) → Fits p (entries_seen items) b → journal_of p (entries_seen items) ≡ old → length items ≢ most
+    → reply_to old event ≡ given → added event given ≡ Some e → Refused old event event old
+left_back p items b old event given e was view room row one = subst (Refused old event event) view (left_short p items items b old event given e was view room refl row one)
+
 pub left_done : (p : PlanSeen) (items mid more : List Entry) (b : BooksSeen) (old : Journal) (takes : Bool) (event : EventSeen) (given : ReplySeen) (e : Entry) (note : Option EntrySeen) → Fits p (entries_seen items) b → journal_of p (entries_seen items) ≡ old → length items ≢ most
     → mid ≡ items → more ≡ mid ++ e ∷ [] → note ≡ noted takes (Some (entry_seen e)) → reply_to old event ≡ given → added event given ≡ Some (entry_seen e) → Noted takes old event given note (journal_of p (entries_seen more))
 left_done p items mid more b old takes event given e note was view room same is told row one = done p items old view takes mid more e event given note row one (room_left p items b was room) same is told
 
--- ---- the rows of a refusal and a swap
+-- ---- the rows of an arrival, a refusal and a swap
+
+pub accept_row : (j : Journal) (c : ConformingSeen) → is_under c (current j).number (current j).plan ≡ true → reply_to j (Arrives c) ≡ IsAccepted (next_number j) (next_arrival j)
+accept_row j c under = ap (λ u. if u then IsAccepted (next_number j) (next_arrival j) else IsStale (current j).number c) under
 
 pub refuse_is : (p : PlanSeen) (h : List EntrySeen) (b : BooksSeen) (code : ℕ) → Fits p h b → reply_to (journal_of p h) (Refuses code) ≡ IsRefused (b.arrivals + 1)
 refuse_is p h b code was =

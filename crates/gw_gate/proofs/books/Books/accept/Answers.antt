@@ -13,7 +13,8 @@ use Rattle.gw_gate.specs.Desks.{desk_at, due_to}
 use Rattle.gw_gate.proofs.Standing.{due_below}
 use Rattle.gw_gate.proofs.Fitting.{fits_more, fits_accepted, fits_roomier}
 use Rattle.gw_gate.proofs.Accounts.{number_is, accept_is, room_left}
-use Rattle.gw_gate.proofs.Answering.{done}
+use Rattle.gw_gate.proofs.Answering.{done, full}
+use Rattle.gw_gate.proofs.Leaving.{fits_again, left_short, left_back, accept_row}
 use Rattle.gw_gate.proofs.books.Books.accept.Goals as goal
 
 abbrev seen : Arc Conforming Global → ConformingSeen
@@ -37,7 +38,6 @@ make_due-requires-clause-above c r =
 
 pub invariant_of-self-2 : goal.invariant_of-self-2
 invariant_of-self-2 c =
-    let jok = c.self.inside.journal.ok in
     let ok = c.self.inside.accepted.ok in
     let s = c.self.inside in
     let p = plan_seen (arc_value s.opening) in
@@ -53,7 +53,7 @@ invariant_of-self-2 c =
     ∙ ap (λ x. map pair_seen s.issued.items ++ map (pair n) (conforming_seen x).receivers) c.deref-2.ensures in
     let grown = fits_roomier p h _ (desk_at c.make_rooms-grown.new.desks.items) (λ r. (c.make_rooms-grown.ensures.desks r).same) c.self.invariant in
     fits_more p s.journal.items c.prepared.new.journal.items c.push_reserved-2.new.self.items (entry.TheVariants.Accepted n (s.arrivals + 1) c.in-Ok.copy) _ _
-    c.prepared.ensures.same c.push_reserved-2.ensures.items (λ e. c.if-len-eq-MOST.false (omega (arith, c.len.ensures))) c.self.invariant
+    c.prepared.ensures.same c.push_reserved-2.ensures.items (λ e. c.if-len-eq-MOST.false (c.len.ensures ∙ s.journal.ok.0 ∙ e)) c.self.invariant
     (λ room. rw (c.in-Ok.ensures, all, pairs)
     (fits_accepted p h _ n (s.arrivals + 1) m (desk_at c.make_due.new.desks.items) is
     (λ r. c.make_due.ensures r ∙ ap (λ x. due_to (conforming_seen x) n r (desk_at c.make_rooms-grown.new.desks.items r)) c.deref-3.ensures)
@@ -61,7 +61,6 @@ invariant_of-self-2 c =
 
 pub returns : goal.returns
 returns c =
-    let jok = c.self.inside.journal.ok in
     let ok = c.self.inside.accepted.ok in
     let s = c.self.inside in
     let p = plan_seen (arc_value s.opening) in
@@ -74,5 +73,37 @@ returns c =
     done p s.journal.items c.args.self.now c.self.view_is c.args.takes c.prepared.new.journal.items c.push_reserved-2.new.self.items (entry.TheVariants.Accepted n a c.in-Ok.copy) (Arrives m) (IsAccepted n a) _
     (ap (λ j. reply_to j (Arrives m)) (sym c.self.view_is) ∙ accept_is p h _ n a m c.self.invariant is refl (ap (λ j. is_under m (current j).number (current j).plan) c.self.view_is ∙ c.requires))
     (ap (λ x. Some (WasAccepted n a (conforming_seen x))) (sym c.in-Ok.ensures))
-    (room_left p s.journal.items _ c.self.invariant (λ e. c.if-len-eq-MOST.false (omega (arith, c.len.ensures))))
+    (room_left p s.journal.items _ c.self.invariant (λ e. c.if-len-eq-MOST.false (c.len.ensures ∙ s.journal.ok.0 ∙ e)))
     c.prepared.ensures.same c.push_reserved-2.ensures.items c.in-Ok-prepared.ensures.note
+
+pub returns-then-len-eq-MOST : goal.returns-then-len-eq-MOST
+returns-then-len-eq-MOST c =
+    let s = c.self.inside in
+    full (plan_seen (arc_value s.opening)) s.journal.items c.args.self.now c.self.view_is c.args.takes (Arrives (conforming_seen (arc_value c.args.conforming))) _ _ (accept_row c.args.self.now (conforming_seen (arc_value c.args.conforming)) c.requires) refl (sym (c.len.ensures ∙ s.journal.ok.0) ∙ c.if-len-eq-MOST.true)
+
+pub returns-in_default : goal.returns-in_default
+returns-in_default c =
+    let s = c.self.inside in
+    left_back (plan_seen (arc_value s.opening)) s.journal.items _ c.args.self.now (Arrives (conforming_seen (arc_value c.args.conforming))) _ _ c.self.invariant c.self.view_is
+    (λ e. c.if-len-eq-MOST.false (c.len.ensures ∙ s.journal.ok.0 ∙ e)) (accept_row c.args.self.now (conforming_seen (arc_value c.args.conforming)) c.requires) refl
+
+pub overflow_add-arrival : goal.overflow_add-arrival
+overflow_add-arrival c = let k = c.self.invariant.arrivals.few in let w = c.self.invariant.within in omega (arith, k, w)
+
+pub invariant_of-self : goal.invariant_of-self
+invariant_of-self c = fits_again (plan_seen (arc_value c.self.inside.opening)) c.self.inside.journal.items _ _ c.prepared.ensures.same c.self.invariant
+
+pub returns-in_default-prepared : goal.returns-in_default-prepared
+returns-in_default-prepared c =
+    let s = c.self.inside in
+    left_short (plan_seen (arc_value s.opening)) s.journal.items c.prepared.new.journal.items _ c.args.self.now (Arrives (conforming_seen (arc_value c.args.conforming))) _ _ c.self.invariant c.self.view_is
+    (λ e. c.if-len-eq-MOST.false (c.len.ensures ∙ s.journal.ok.0 ∙ e)) c.prepared.ensures.same (accept_row c.args.self.now (conforming_seen (arc_value c.args.conforming)) c.requires) refl
+
+pub returns-then-is_err : goal.returns-then-is_err
+returns-then-is_err c =
+    let s = c.self.inside in
+    left_short (plan_seen (arc_value s.opening)) s.journal.items c.prepared.new.journal.items _ c.args.self.now (Arrives (conforming_seen (arc_value c.args.conforming))) _ _ c.self.invariant c.self.view_is
+    (λ e. c.if-len-eq-MOST.false (c.len.ensures ∙ s.journal.ok.0 ∙ e)) c.prepared.ensures.same (accept_row c.args.self.now (conforming_seen (arc_value c.args.conforming)) c.requires) refl
+
+pub push_reserved-requires-2 : goal.push_reserved-requires-2
+push_reserved-requires-2 c = omega (arith, c.in-Ok-prepared.ensures.room)
