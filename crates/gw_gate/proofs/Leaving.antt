@@ -1,5 +1,5 @@
 -- How a function of the books that makes an entry is left.
-use Rattle.std.proofs.Common.{◌≡◌, ◌≢◌, ◌+◌, ◌∙◌, ℕ, true, false, Bool, if◌then◌else◌, List, ◌∷◌, ◌++◌, Option, Some, length, refl, sym, ap, subst, arith}
+use Rattle.std.proofs.Common.{◌≡◌, [], ◌≢◌, ◌+◌, ◌∙◌, ℕ, true, false, Bool, if◌then◌else◌, List, ◌∷◌, ◌++◌, Option, Some, length, refl, sym, ap, subst, arith}
 use Rattle.gw_gate.specs.declared.event.Entry.{Entry}
 use Rattle.gw_gate.specs.Parts.{PlanSeen, ConformingSeen, is_under, same_receivers}
 use Rattle.gw_gate.specs.Journal.{EntrySeen, Journal, current, next_number, next_arrival}

@@ -1,4 +1,4 @@
-use Rattle.std.proofs.Common.{◌≡◌, ◌++◌, ◌∷◌, arith, ap, ◌∙◌, map, sym, refl}
+use Rattle.std.proofs.Common.{◌≡◌, [], ◌++◌, ◌∷◌, arith, ap, ◌∙◌, map, sym, refl}
 use Rattle.std.proofs.lemmas.List.{map-append}
 use Rattle.std.specs.Arc.{arc_value}
 use Rattle.gw_gate.specs.declared.event.Entry as entry
