@@ -1,13 +1,16 @@
 -- Replies to events in turn.
 use Rattle.std.proofs.Common.{◌≡◌, true, false, List, [], ◌∷◌, ◌++◌, refl, sym, ap, ◌∙◌, append_assoc}
-use Rattle.std.specs.Prelude.{Result, Ok, Err, is_ok, is_err}
+use Rattle.std.specs.Prelude.{Result, Ok, Err, is_ok, is_err, cond}
 use Rattle.std.proofs.lemmas.Bool.{false≢true}
 use Rattle.gw_gate.specs.Journal.{Journal}
 use Rattle.gw_gate.specs.Replies.{EventSeen, ReplySeen, Replied, most, reply, replies, run}
 
-pub ok_then : {X E : Type 0} (r : Result X E) → is_err r ≡ false → is_ok r ≡ true
+ok_then : {X E : Type 0} (r : Result X E) → is_err r ≡ false → is_ok r ≡ true
 ok_then (Ok x) e = refl
 ok_then (Err x) e = absurd (false≢true (sym e))
+
+pub pushed : {X E Y : Type 0} (r : Result X E) (old more new : List Y) → new ≡ cond (is_ok r) more old → false ≡ is_err r → new ≡ more
+pushed r old more new is told = is ∙ ap (λ b. cond b more old) (ok_then r (sym told))
 
 -- one event less is to come
 pub run_on : (g new start : Journal) (event : EventSeen) (given : ReplySeen) (before rest all : List EventSeen) → before ≡ event ∷ rest → Replied g event given new

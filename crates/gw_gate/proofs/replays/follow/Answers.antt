@@ -1,10 +1,9 @@
-use Rattle.std.proofs.Common.{◌≡◌, [], ◌∷◌, ◌++◌, map, refl, sym, ap, ◌∙◌}
+use Rattle.std.proofs.Common.{[], ◌∷◌, ◌++◌, map, refl, ap, ◌∙◌}
 use Rattle.std.proofs.lemmas.List.{map-append}
-use Rattle.std.specs.Prelude.{cond}
 use Rattle.std.specs.Vec.Iter.{into_iter_items}
 use Rattle.gw_gate.specs.Replies.{most, replies}
 use Rattle.gw_gate.specs.Values.{event_seen, reply_seen}
-use Rattle.gw_gate.proofs.Following.{ok_then, run_on, replies_on}
+use Rattle.gw_gate.proofs.Following.{pushed, run_on, replies_on}
 use Rattle.gw_gate.proofs.replays.follow.Goals as goal
 
 pub loop-event-init : goal.loop-event-init
@@ -19,9 +18,9 @@ loop-event-preserved c =
     let rest = map event_seen (into_iter_items c.next.new.self) in
     let all = map event_seen (into_iter_items c.into_iter-event-iterator.result) in
     let next = ap (map event_seen) c.in-Some.ensures.steps.0 in
-    let pushed : c.push.new.self.items ≡ l.replies.items ++ c.in-Ok.reply ∷ [] = c.push.ensures.items ∙ ap (λ b. cond b (l.replies.items ++ c.in-Ok.reply ∷ []) l.replies.items) (ok_then c.push.result (sym c.if-is_err.ensures.value)) in
+    let grown = pushed c.push.result l.replies.items (l.replies.items ++ c.in-Ok.reply ∷ []) _ c.push.ensures.items c.if-is_err.ensures.value in
     record {
       journal = run_on l.gate c.step.new.self c.args.gate (event_seen c.in-Some.event) _ (map event_seen (into_iter_items l.event-iterator)) rest all next c.in-Ok.ensures l.invariant.journal;
       replies = replies_on l.gate c.step.new.self c.args.gate (event_seen c.in-Some.event) _ (map event_seen (into_iter_items l.event-iterator)) rest all (map reply_seen l.replies.items) _ next c.in-Ok.ensures
-          (ap (map reply_seen) pushed ∙ map-append reply_seen l.replies.items _) l.invariant.replies;
+          (ap (map reply_seen) grown ∙ map-append reply_seen l.replies.items _) l.invariant.replies;
     }
