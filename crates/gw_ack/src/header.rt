@@ -11,7 +11,7 @@ use std::alloc::{AllocError, Global};
 use std::marker::Model;
 
 /// A text of a repetition, at its component and subcomponent.
-#[derive(Debug, Drop)]
+#[derive(Drop)]
 pub(crate) struct Leaf {
     pub(crate) comp: usize,
     pub(crate) sub: usize,
@@ -19,7 +19,7 @@ pub(crate) struct Leaf {
 }
 
 /// What an answer takes from the header of a message: MSH-3 to MSH-6 and MSH-11, repetition 1, MSH-9.2 and MSH-10.
-#[derive(Debug, Drop)]
+#[derive(Drop)]
 pub struct Header {
     sending_application: Vec<Leaf>,
     sending_facility: Vec<Leaf>,

@@ -39,7 +39,7 @@ fn put_into(draft: &mut Option<Draft>, place: Place, text: &[u8]) -> Result<(), 
 }
 
 /// Makes a message, segment by segment and text by text.
-#[derive(Debug, Drop)]
+#[derive(Drop)]
 pub struct Builder {
     alloc: Global,
     segments: Vec<StoredSegment>,

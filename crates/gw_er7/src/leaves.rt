@@ -13,7 +13,7 @@ use std::cmp::Ordering;
 use std::marker::Model;
 
 /// Where the text at a place lies: so many bytes from this one on.
-#[derive(Clone, Copy, Debug)]
+#[derive(Clone, Copy)]
 pub(crate) struct Leaf {
     pub(crate) place: Place,
     pub(crate) from: usize,
@@ -21,7 +21,7 @@ pub(crate) struct Leaf {
 }
 
 /// The same in 24 bytes.
-#[derive(Clone, Copy, Debug)]
+#[derive(Clone, Copy)]
 pub(crate) struct NarrowLeaf {
     field: u32,
     rep: u32,
@@ -103,7 +103,7 @@ fn sort_wide(leaves: &mut Vec<Leaf>)
 }
 
 /// Leaves: all in 24 bytes, or none.
-#[derive(Debug, Drop)]
+#[derive(Drop)]
 pub(crate) struct Leaves {
     alloc: Global,
     narrow: Vec<NarrowLeaf>,

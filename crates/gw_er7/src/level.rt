@@ -1,7 +1,7 @@
 //! The four levels that separators cut.
 
 /// What a separator cuts, the highest first.
-#[derive(Clone, Copy, Debug)]
+#[derive(Clone, Copy)]
 pub(crate) enum Level {
     Field,
     Repetition,

@@ -9,7 +9,7 @@ use std::alloc::{AllocError, Global};
 use std::marker::Model;
 
 /// At least one segment, the first named MSH and no other; each holds canonical texts that aren't empty, at places of four positive numbers.
-#[derive(Debug, Drop)]
+#[derive(Drop)]
 pub struct Message {
     segments: Vec<StoredSegment>,
 }

@@ -82,7 +82,7 @@ fn next_place(delimiters: Delimiters, place: Place, separator: u8) -> Place
 
 /// The texts of the segment that is being read, before they are copied into memory that fits them.
 /// It serves one segment after the other, so it grows only while segments get longer.
-#[derive(Debug, Drop)]
+#[derive(Drop)]
 pub(crate) struct Scratch {
     leaves: Leaves,
     bytes: Vec<u8>,

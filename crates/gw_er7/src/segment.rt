@@ -7,7 +7,7 @@ use std::alloc::{AllocError, Global};
 use std::marker::Model;
 
 /// A name, and texts at places in rising order.
-#[derive(Debug, Drop)]
+#[derive(Drop)]
 pub(crate) struct StoredSegment {
     pub(crate) name: [u8; 3],
     pub(crate) texts: SegmentTexts,

@@ -7,7 +7,7 @@ use std::alloc::{AllocError, Global};
 use std::marker::Model;
 
 /// Texts at places, in the order in which they were put: leaves, and the one buffer in which their texts lie.
-#[derive(Debug, Drop)]
+#[derive(Drop)]
 pub(crate) struct SegmentTexts {
     leaves: Leaves,
     bytes: Vec<u8>,

@@ -27,7 +27,7 @@ impl<'a> Model for Segment<'a> {
 }
 
 /// A text and its place.
-#[derive(Clone, Copy, Debug)]
+#[derive(Clone, Copy)]
 pub struct Value<'a> {
     pub place: Place,
     pub text: &'a [u8],

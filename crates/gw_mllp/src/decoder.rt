@@ -13,7 +13,7 @@ use std::marker::Model;
 use std::mem;
 
 /// Takes a stream in pieces, and gives its blocks.
-#[derive(Debug, Drop)]
+#[derive(Drop)]
 pub struct Decoder {
     alloc: Global,
     waiting: VecDeque<Vec<u8>>,

@@ -1,7 +1,7 @@
 //! Where a stream has come to.
 
 /// Where a stream has come to.
-#[derive(Debug, Drop)]
+#[derive(Drop)]
 pub enum Tail {
     /// Between two blocks.
     Between,

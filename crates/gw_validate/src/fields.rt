@@ -14,7 +14,7 @@ use gw_er7::{Place, Segment};
 use gw_profile::{CompShape, FieldShape, Profile, SubShape, Usage};
 
 /// Where a breach stands, with 0 for a number that is not said, and its kind.
-#[derive(Clone, Copy, Debug, Drop)]
+#[derive(Clone, Copy, Drop)]
 pub(crate) struct Spot {
     pub(crate) field: usize,
     pub(crate) rep: usize,

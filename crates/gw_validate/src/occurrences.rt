@@ -1,7 +1,7 @@
 //! The occurrences of a profile's nodes in a message, as they are kept.
 
 /// The occurrences of one node, in order.
-#[derive(Debug, Drop)]
+#[derive(Drop)]
 #[cycle(tree)]
 pub(crate) enum Occurrences {
     /// The numbers of the segments.
@@ -10,7 +10,7 @@ pub(crate) enum Occurrences {
 }
 
 /// One occurrence of a group, or of the whole profile.
-#[derive(Debug, Drop)]
+#[derive(Drop)]
 #[cycle(tree)]
 pub(crate) struct Found {
     /// For each child node, its occurrences.

@@ -21,7 +21,7 @@ struct Frame<'a> {
 }
 
 /// What a list of names is.
-#[derive(Clone, Copy, PartialEq, Eq, Debug, Drop)]
+#[derive(Clone, Copy, Drop)]
 pub(crate) enum Answer {
     /// It fits.
     Fits,
