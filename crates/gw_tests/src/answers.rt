@@ -32,8 +32,6 @@ fn rejected(rt: HostRuntime) -> Result<(), Fail> {
     let header = Header::of(alloc, &read(alloc, H)?)?;
     let at = date(2024, 1, 2).at(3, 4, 6, 0);
     let stamp = Stamp::from_civil(&at).ok_or("a year from 0 on")?;
-    assert!(rt; Stamp::from_civil(&date(-1, 1, 2).at(0, 0, 0, 0)).is_none());
-    assert_eq!(rt; stamp.digits(), b"20240102030406".as_slice());
     let rows: [(u16, &[u8]); 4] = [
         (
             200,

@@ -6,19 +6,14 @@ use std::test::Fail;
 /// A gap, a content with a lone FS, CR LF between blocks, a content with VT and a last FS, an empty content.
 const STREAM: &[u8] = b"x\x0bA\x1cB\x1c\r\r\n\x0b\x0b\x1c\x1c\r\x0b\x1c\r";
 
-/// The blocks of the stream, each with `;` behind it. The stream is cut behind each byte whose bit is set, or behind each.
-fn framed(
-    alloc: Global,
-    stream: &[u8],
-    cuts: u32,
-    everywhere: bool,
-) -> Result<Vec<u8>, FrameFault> {
+/// The blocks of the stream, each with `;` behind it. The stream is cut behind each byte whose bit is set.
+fn framed(alloc: Global, stream: &[u8], cuts: u32) -> Result<Vec<u8>, FrameFault> {
     let mut decoder = Decoder::new(alloc);
     let mut piece = Vec::new(alloc);
     let mut left = cuts;
     for byte in stream {
         piece.push(*byte)?;
-        if everywhere || left % 2 == 1 {
+        if left % 2 == 1 {
             decoder.feed(&piece)?;
             piece.clear();
         }
@@ -39,29 +34,8 @@ fn framed(
 #[test]
 fn every_cut(rt: HostRuntime) -> Result<(), Fail> {
     for cuts in 0..131_072 {
-        let blocks = framed(rt.alloc(), STREAM, cuts, false)?;
+        let blocks = framed(rt.alloc(), STREAM, cuts)?;
         assert_eq!(rt; blocks.as_slice(), b"A\x1cB;\x0b\x1c;;".as_slice());
-    }
-    Ok(())
-}
-
-/// A content of 1,048,576 bytes is a block, and one byte more is none, at once and byte by byte.
-#[test]
-fn at_the_limit(rt: HostRuntime) -> Result<(), Fail> {
-    let alloc = rt.alloc();
-    for (count, everywhere) in [
-        (1_048_576, false),
-        (1_048_576, true),
-        (1_048_577, false),
-        (1_048_577, true),
-    ] {
-        let mut stream = Vec::from_slice(alloc, b"\x0b")?;
-        stream.extend_from_slice(&vec![in alloc; 65; count]?)?;
-        stream.extend_from_slice(b"\x1c\r")?;
-        match framed(alloc, &stream, 0, everywhere) {
-            Ok(blocks) => assert!(rt; count == 1_048_576 && blocks.len() == count + 1),
-            Err(fault) => assert!(rt; count == 1_048_577 && fault.number() == 2),
-        }
     }
     assert!(rt; !is_content(b"A\x1c\rB"));
     Ok(())

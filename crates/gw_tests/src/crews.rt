@@ -1,5 +1,6 @@
 //! A worker, a courier and a swap over one gate.
 use crate::streams::Device;
+use crate::worked::plan_text;
 use gw_crew::{Door, Note, Pause, Solo, SwapFault, courier, swap, worker};
 use gw_er7::read;
 use gw_gate::{Event, Gate, MOST, Reply};
@@ -8,16 +9,6 @@ use gw_stream::{Counts, Reads, RunFault, Writes};
 use std::alloc::Global;
 use std::sync::Arc;
 use std::test::Fail;
-
-/// A plan, in the parts before its receiver's name and behind it.
-const PLAN: [&str; 2] = [
-    "plan G\nreceiver ",
-    " 127.0.0.1:7001\naccept version 2.5.1\naccept processing P\nbegin profile\nprofile P2\ntable SEX M F U\nsegment MSH R 1..1\n  field 10 R 1..1\n\
-    segment PID R 1..1\n  field 3 R 1..2\n  field 5 RE 0..1\n  field 8 R 1..1 len 1 table SEX\nsegment NK1 O 0..2\nstop\nbegin profile\nprofile T1\n\
-    table ISO 1 2 9\nsegment MSH R 1..1\n  field 10 R 1..1\nsegment PID R 1..1\n  field 8 R 1..1 len 1 table ISO\nstop\nbegin map\n\
-    map M2 from P2 to T1\ntable SEXMAP\n  row M 1\n  row F 2\n  else 9\nsegment MSH from MSH\n  copy 10 from MSH-10\n\
-    segment PID from PID\n  build 8 lookup SEXMAP PID-8\ndrop PID-3\ndrop PID-5\nstop\nroute ADT A01 from P2\n",
-];
 
 pub(crate) const MESSAGE: &[u8] =
     b"MSH|^~\\&|LAB|H1|GW|H2|20240102030405||ADT^A01^ADT_A01|7|P|2.5.1\rPID|||123|||||F\r";
@@ -50,18 +41,9 @@ const CARRIED: Counts = Counts {
     ar: 0,
 };
 
-// The plan's text, with a receiver of this name.
-fn text(alloc: Global, name: &str) -> Result<Vec<u8>, Fail> {
-    let mut text = Vec::new(alloc);
-    for part in [PLAN[0], name, PLAN[1], "to ", name, " by M2\n"] {
-        text.extend_from_slice(part.as_bytes())?;
-    }
-    Ok(text)
-}
-
 // A door to a gate that opens with the plan.
 pub(crate) fn door(alloc: Global) -> Result<(Arc<Plan>, Solo), Fail> {
-    let Ok(plan) = Plan::parse(alloc, &text(alloc, "ARCHIVE")?) else {
+    let Ok(plan) = Plan::parse(alloc, &plan_text(alloc, "ARCHIVE")?) else {
         return Err("no plan".into());
     };
     let plan = Arc::new(alloc, plan)?;
@@ -196,24 +178,12 @@ fn a_line_fails(rt: HostRuntime) -> Result<(), Fail> {
 fn a_plan_is_swapped_in(rt: HostRuntime) -> Result<(), Fail> {
     let alloc = rt.alloc();
     let (_plan, mut door) = door(alloc)?;
-    assert_eq!(rt; swap(alloc, &mut door, &text(alloc, "ARCHIVE")?), Ok(1));
-    assert_eq!(rt;
-        swap(alloc, &mut door, &text(alloc, "OTHER")?),
-        Err(SwapFault::Unlike)
-    );
-    Ok(())
-}
-
-#[test]
-fn no_plan_is_swapped_in_at_a_full_journal(rt: HostRuntime) -> Result<(), Fail> {
-    let alloc = rt.alloc();
-    let (_plan, mut door) = door(alloc)?;
+    let (like, other) = (plan_text(alloc, "ARCHIVE")?, plan_text(alloc, "OTHER")?);
+    assert_eq!(rt; swap(alloc, &mut door, &like), Ok(1));
+    assert_eq!(rt; swap(alloc, &mut door, &other), Err(SwapFault::Unlike));
     for _entry in 0..MOST {
         let _ = door.call(Event::Refuse(207));
     }
-    assert_eq!(rt;
-        swap(alloc, &mut door, &text(alloc, "ARCHIVE")?),
-        Err(SwapFault::Full)
-    );
+    assert_eq!(rt; swap(alloc, &mut door, &like), Err(SwapFault::Full));
     Ok(())
 }

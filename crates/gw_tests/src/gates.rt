@@ -23,6 +23,9 @@ pub(crate) fn plan(alloc: Global, word: &str) -> Result<Arc<Plan>, Fail> {
     Ok(shared)
 }
 
+/// A plan of another receiver.
+const OTHER: &[u8] = b"plan G\nreceiver B x\nbegin profile\nprofile P\nsegment MSH R 1..1\nstop\n";
+
 // A message with this control id, admitted under this version of the plan.
 pub(crate) fn admitted(
     alloc: Global,
@@ -77,48 +80,102 @@ pub(crate) fn said(reply: &Reply) -> (&'static str, u64) {
     }
 }
 
-// What the gate replies to an event.
-fn told(gate: &mut Gate, event: Event) -> Result<(&'static str, u64), Fail> {
-    match gate.step(event) {
-        Ok(reply) => Ok(said(&reply)),
-        Err(_) => Err("no memory".into()),
-    }
+/// Events, what a gate replies to each, and how many messages it accepted, results it kept, results it gave out and entries it made.
+#[derive(Drop)]
+pub(crate) struct History {
+    pub(crate) events: Vec<Event>,
+    pub(crate) replies: &'static [(&'static str, u64)],
+    pub(crate) counts: [u64; 4],
 }
 
-#[test]
-fn results_are_given_in_order(rt: HostRuntime) -> Result<(), Fail> {
-    let alloc = rt.alloc();
-    let plan = plan(alloc, "ONE")?;
-    let mut gate = begun(alloc, &plan)?;
+// Three messages, whose results come in another order, one of them twice.
+pub(crate) fn out_of_order(alloc: Global, plan: &Arc<Plan>) -> Result<History, Fail> {
+    let mut events = Vec::new(alloc);
     for n in 0..3 {
-        let message = admitted(alloc, &plan, 0, n)?;
-        assert_eq!(rt; told(&mut gate, Event::Arrive(message))?, ("Accepted", n));
+        events.push(Event::Arrive(admitted(alloc, plan, 0, n)?))?;
     }
-    for (n, expected) in [(2, "Kept"), (0, "Kept"), (0, "Repeat"), (1, "Kept")] {
-        let translated = made(alloc, &admitted(alloc, &plan, 0, n)?)?;
-        assert_eq!(rt;
-            told(&mut gate, Event::Put { n, translated })?,
-            (expected, 0)
-        );
+    for n in [2, 0, 0, 1] {
+        let translated = made(alloc, &admitted(alloc, plan, 0, n)?)?;
+        events.push(Event::Put { n, translated })?;
     }
-    for expected in [("Out", 0), ("Out", 1), ("Out", 2), ("Nothing", 0)] {
-        assert_eq!(rt; told(&mut gate, Event::Release(0))?, expected);
+    for _release in 0..4 {
+        events.push(Event::Release(0))?;
     }
-    Ok(())
+    Ok(History {
+        events,
+        replies: &[
+            ("Accepted", 0),
+            ("Accepted", 1),
+            ("Accepted", 2),
+            ("Kept", 0),
+            ("Kept", 0),
+            ("Repeat", 0),
+            ("Kept", 0),
+            ("Out", 0),
+            ("Out", 1),
+            ("Out", 2),
+            ("Nothing", 0),
+        ],
+        counts: [3, 3, 3, 9],
+    })
 }
 
-// Plans are swapped over a message that was accepted: the plan that opens the gate, and what comes then.
-fn swapping(alloc: Global) -> Result<Vec<Event>, Fail> {
-    let (one, two) = (plan(alloc, "ONE")?, plan(alloc, "TWO")?);
-    let first = admitted(alloc, &one, 0, 7)?;
-    let second = admitted(alloc, &one, 0, 8)?;
+// A pair is issued again before its result and after it, and one that isn't due; a plan of another receiver comes.
+fn issued_again(alloc: Global, plan: &Arc<Plan>) -> Result<History, Fail> {
+    let message = admitted(alloc, plan, 0, 0)?;
+    let (once, again) = (made(alloc, &message)?, made(alloc, &message)?);
+    let Ok(other) = Plan::parse(alloc, OTHER) else {
+        return Err("no plan".into());
+    };
+    let mut events = Vec::new(alloc);
+    for event in [
+        Event::Arrive(message),
+        Event::Take,
+        Event::Take,
+        Event::Reissue { n: 0, receiver: 0 },
+        Event::Take,
+        Event::Put {
+            n: 0,
+            translated: once,
+        },
+        Event::Put {
+            n: 0,
+            translated: again,
+        },
+        Event::Reissue { n: 0, receiver: 0 },
+        Event::Reissue { n: 5, receiver: 0 },
+        Event::Swap(Arc::new(alloc, other)?),
+    ] {
+        events.push(event)?;
+    }
+    Ok(History {
+        events,
+        replies: &[
+            ("Accepted", 0),
+            ("Job", 0),
+            ("Idle", 0),
+            ("Issued", 0),
+            ("Job", 0),
+            ("Kept", 0),
+            ("Repeat", 0),
+            ("Done", 0),
+            ("Stranger", 0),
+            ("Unlike", 0),
+        ],
+        counts: [1, 1, 0, 5],
+    })
+}
+
+// A plan is swapped in over a message that was accepted.
+fn swapped(alloc: Global, plan: &Arc<Plan>, later: Arc<Plan>) -> Result<History, Fail> {
+    let first = admitted(alloc, plan, 0, 7)?;
+    let second = admitted(alloc, plan, 0, 8)?;
     let translated = made(alloc, &first)?;
     let mut events = Vec::new(alloc);
     for event in [
-        Event::Swap(one),
         Event::Look,
         Event::Arrive(first),
-        Event::Swap(two),
+        Event::Swap(later),
         Event::Arrive(second),
         Event::Look,
         Event::Take,
@@ -127,20 +184,67 @@ fn swapping(alloc: Global) -> Result<Vec<Event>, Fail> {
     ] {
         events.push(event)?;
     }
-    Ok(events)
+    Ok(History {
+        events,
+        replies: &[
+            ("Current", 0),
+            ("Accepted", 0),
+            ("Swapped", 1),
+            ("Stale", 1),
+            ("Current", 1),
+            ("Job", 0),
+            ("Kept", 0),
+            ("Out", 0),
+        ],
+        counts: [1, 1, 1, 5],
+    })
 }
 
-/// The replies to them, behind the opening plan.
-const SWAPPED: [(&str, u64); 8] = [
-    ("Current", 0),
-    ("Accepted", 0),
-    ("Swapped", 1),
-    ("Stale", 1),
-    ("Current", 1),
-    ("Job", 0),
-    ("Kept", 0),
-    ("Out", 0),
-];
+// What may happen at a gate that opens with the plan.
+pub(crate) fn histories(
+    alloc: Global,
+    plan: &Arc<Plan>,
+    later: Arc<Plan>,
+) -> Result<Vec<History>, Fail> {
+    let mut all = Vec::new(alloc);
+    all.push(out_of_order(alloc, plan)?)?;
+    all.push(issued_again(alloc, plan)?)?;
+    all.push(swapped(alloc, plan, later)?)?;
+    Ok(all)
+}
+
+// What a gate that opens with the plan replies to the events, in order.
+fn stepped(
+    alloc: Global,
+    plan: &Arc<Plan>,
+    events: Vec<Event>,
+) -> Result<Vec<(&'static str, u64)>, Fail> {
+    let mut gate = begun(alloc, plan)?;
+    let mut replies = Vec::new(alloc);
+    for event in events {
+        let Ok(reply) = gate.step(event) else {
+            return Err("no memory".into());
+        };
+        replies.push(said(&reply))?;
+    }
+    Ok(replies)
+}
+
+#[test]
+fn a_gate_replies_in_turn(rt: HostRuntime) -> Result<(), Fail> {
+    let alloc = rt.alloc();
+    let first = plan(alloc, "ONE")?;
+    for history in histories(alloc, &first, plan(alloc, "TWO")?)? {
+        let History {
+            events,
+            replies,
+            ..
+        } = history;
+        let found = stepped(alloc, &first, events)?;
+        assert_eq!(rt; found.as_slice(), replies);
+    }
+    Ok(())
+}
 
 // What is sent, where the reply sends something.
 fn sent(alloc: Global, reply: Option<&Reply>) -> Result<Vec<u8>, Fail> {
@@ -153,63 +257,20 @@ fn sent(alloc: Global, reply: Option<&Reply>) -> Result<Vec<u8>, Fail> {
 
 #[test]
 fn a_message_stays_under_its_plan(rt: HostRuntime) -> Result<(), Fail> {
-    let Ok((gate, replies)) = replay(rt.alloc(), swapping(rt.alloc())?) else {
+    let alloc = rt.alloc();
+    let first = plan(alloc, "ONE")?;
+    let later = swapped(alloc, &first, plan(alloc, "TWO")?)?;
+    let mut events = Vec::new(alloc);
+    events.push(Event::Swap(first))?;
+    for event in later.events {
+        events.push(event)?;
+    }
+    let Ok((gate, replies)) = replay(alloc, events) else {
         return Err("it is no replay".into());
     };
-    assert_eq!(rt; (gate.journal().len(), replies.len()), (5, SWAPPED.len()));
-    for (reply, expected) in replies.iter().zip(SWAPPED) {
-        assert_eq!(rt; said(reply), expected);
-    }
-    let text = sent(rt.alloc(), replies.last())?;
+    assert_eq!(rt; (gate.journal().len(), replies.len()), (5, 8));
+    let text = sent(alloc, replies.last())?;
     assert_eq!(rt; text.as_slice(), b"MSH|^~\\&|||ONE|||||7\r".as_slice());
-    Ok(())
-}
-
-#[test]
-fn steps_reply_as_a_replay(rt: HostRuntime) -> Result<(), Fail> {
-    let mut events = swapping(rt.alloc())?.into_iter();
-    let Some(Event::Swap(plan)) = events.next() else {
-        return Err("no plan".into());
-    };
-    let mut gate = begun(rt.alloc(), &plan)?;
-    for (event, expected) in events.zip(SWAPPED) {
-        assert_eq!(rt; told(&mut gate, event)?, expected);
-    }
-    Ok(())
-}
-
-#[test]
-fn a_pair_is_issued_again(rt: HostRuntime) -> Result<(), Fail> {
-    let alloc = rt.alloc();
-    let plan = plan(alloc, "ONE")?;
-    let mut gate = begun(alloc, &plan)?;
-    let message = admitted(alloc, &plan, 0, 0)?;
-    let (once, again) = (made(alloc, &message)?, made(alloc, &message)?);
-    for (event, expected) in [
-        (Event::Arrive(message), "Accepted"),
-        (Event::Take, "Job"),
-        (Event::Take, "Idle"),
-        (Event::Reissue { n: 0, receiver: 0 }, "Issued"),
-        (Event::Take, "Job"),
-        (
-            Event::Put {
-                n: 0,
-                translated: once,
-            },
-            "Kept",
-        ),
-        (
-            Event::Put {
-                n: 0,
-                translated: again,
-            },
-            "Repeat",
-        ),
-        (Event::Reissue { n: 0, receiver: 0 }, "Done"),
-        (Event::Reissue { n: 5, receiver: 0 }, "Stranger"),
-    ] {
-        assert_eq!(rt; told(&mut gate, event)?, (expected, 0));
-    }
     Ok(())
 }
 
@@ -221,7 +282,11 @@ fn a_full_journal_takes_no_entry(rt: HostRuntime) -> Result<(), Fail> {
         let _ = gate.step(Event::Refuse(207));
     }
     assert_eq!(rt; gate.journal().len(), 262_144);
-    assert_eq!(rt; told(&mut gate, Event::Refuse(207))?, ("Full", 0));
-    assert_eq!(rt; told(&mut gate, Event::Look)?, ("Current", 0));
+    for (event, expected) in [(Event::Refuse(207), "Full"), (Event::Look, "Current")] {
+        let Ok(reply) = gate.step(event) else {
+            return Err("no memory".into());
+        };
+        assert_eq!(rt; said(&reply), (expected, 0));
+    }
     Ok(())
 }

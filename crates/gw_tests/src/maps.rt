@@ -1,5 +1,5 @@
-//! A map, looked at, and what is said of a line that is no line of a map.
-use gw_maplang::{expected, parse};
+//! A map, looked at.
+use gw_maplang::parse;
 use std::test::Fail;
 
 #[test]
@@ -14,14 +14,5 @@ fn values(rt: HostRuntime) -> Result<(), Fail> {
     assert!(rt; table.rows().len() == 1 && map.tables().len() == 1);
     assert_eq!(rt; table.second(b"F"), Some(b"2".as_slice()));
     assert_eq!(rt; table.other(), Some(b"9".as_slice()));
-    Ok(())
-}
-
-#[test]
-fn sentences(rt: HostRuntime) -> Result<(), Fail> {
-    let expected = expected(rt.alloc(), b"map M\n", 1)?;
-    let said = format!(in rt.alloc(); "{expected}")?;
-    let sentence = "expected: map NAME from SOURCE to TARGET, as the first line, found: \"map M\"";
-    assert_eq!(rt; said.as_str(), sentence);
     Ok(())
 }

@@ -1,5 +1,5 @@
-//! Profiles, looked at, and what is said of a line that is no line of a profile.
-use gw_profile::{expected, parse};
+//! Profiles, looked at.
+use gw_profile::parse;
 use std::test::Fail;
 
 /// Profiles, and whether they are the first of them.
@@ -41,14 +41,5 @@ fn same(rt: HostRuntime) -> Result<(), Fail> {
         let other = parse(rt.alloc(), text)?;
         assert_eq!(rt; profile.same(&other), want);
     }
-    Ok(())
-}
-
-#[test]
-fn sentences(rt: HostRuntime) -> Result<(), Fail> {
-    let expected = expected(rt.alloc(), b"profile P\ntable T \"a\xff\n", 2)?;
-    let said = format!(in rt.alloc(); "{expected}")?;
-    let sentence = "expected: table NAME VALUE .., found: \"table T \\\"a\\xff\"";
-    assert_eq!(rt; said.as_str(), sentence);
     Ok(())
 }

@@ -1,6 +1,6 @@
 //! A stream served under a plan, over devices that give and take little, and fail.
-use crate::plans::{M2, P2, worked};
 use crate::streams::Device;
+use crate::worked::plan_text;
 use gw_ack::Stamp;
 use gw_plan::Plan;
 use gw_stream::{Counts, Reads, RunFault, Writes, serve_once};
@@ -47,8 +47,7 @@ fn run<'a>(
     mut answers: Device<'a>,
     mut archive: Device<'a>,
 ) -> Result<(Result<Counts, RunFault>, Device<'a>, Device<'a>), Fail> {
-    let text = worked(alloc, P2, M2, "route ADT A01 from P2\nto ARCHIVE by M2\n")?;
-    let Ok(plan) = Plan::parse(alloc, &text) else {
+    let Ok(plan) = Plan::parse(alloc, &plan_text(alloc, "ARCHIVE")?) else {
         return Err("no plan".into());
     };
     if plan.receivers().len() != 1 {

@@ -12,18 +12,6 @@ use std::test::Fail;
 const ACCEPTED: &[u8] =
     b"\x0bMSH|^~\\&|GW|H2|LAB|H1|20240102030406||ACK^A01^ACK|G1|P|2.5.1\rMSA|AA|7\r\x1c\r";
 
-/// Blocks of a message without PID-3, of one with another event, and of one that can't be read.
-const REFUSED: &[u8] =
-    b"\x0bMSH|^~\\&|LAB|H1|GW|H2|20240102030405||ADT^A01^ADT_A01|7|P|2.5.1\rPID|||||DOE\r\x1c\r\
-    \x0bMSH|^~\\&|LAB|H1|GW|H2|20240102030405||ADT^A99|7|P|2.5.1\r\x1c\r\x0b\x1c\r";
-
-const REFUSALS: &[u8] =
-    b"\x0bMSH|^~\\&|GW|H2|LAB|H1|20240102030406||ACK^A01^ACK|G1|P|2.5.1\rMSA|AE|7\r\
-    ERR||PID^1^3|101^Required field missing^HL70357|E\r\x1c\r\
-    \x0bMSH|^~\\&|GW|H2|LAB|H1|20240102030406||ACK^A99^ACK|G2|P|2.5.1\rMSA|AR|7\r\
-    ERR||MSH^1^9^1^2|201^Unsupported event code^HL70357|E\r\x1c\r\
-    \x0bMSH|^~\\&|||||20240102030406||ACK^^ACK|G3|P|2.5.1\rMSA|AR\rERR|||207^Application internal error^HL70357|E\r\x1c\r";
-
 const WITHOUT_ROOM: &[u8] =
     b"\x0bMSH|^~\\&|GW|H2|LAB|H1|20240102030406||ACK^A01^ACK|G0|P|2.5.1\rMSA|AR|7\r\
     ERR|||207^Application internal error^HL70357|E\r\x1c\r";
@@ -68,22 +56,6 @@ fn a_message_arrives(rt: HostRuntime) -> Result<(), Fail> {
     };
     assert!(rt; result == Ok(counts) && held.as_slice() == ACCEPTED);
     assert_eq!(rt; (door.notes().len(), door.gate().journal().len()), (2, 1));
-    Ok(())
-}
-
-#[test]
-fn contents_are_refused(rt: HostRuntime) -> Result<(), Fail> {
-    let alloc = rt.alloc();
-    let (_plan, mut door) = door(alloc)?;
-    let (result, held) = run(alloc, &mut door, REFUSED, 1_000, 1_000);
-    let counts = Counts {
-        answered: 3,
-        ae: 1,
-        ar: 2,
-        ..NOTHING
-    };
-    assert!(rt; result == Ok(counts) && held.as_slice() == REFUSALS);
-    assert_eq!(rt; (door.notes().len(), door.gate().journal().len()), (5, 3));
     Ok(())
 }
 

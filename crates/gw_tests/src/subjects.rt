@@ -2,9 +2,7 @@
 use crate::worked::{P1, profile};
 use gw_maplang::Map;
 use gw_profile::Usage;
-use gw_subjects::{
-    Origin, Site, Spot, comp_at, field_at, site_at, sites, sub_at, unlisted, unrowed,
-};
+use gw_subjects::{Origin, Site, comp_at, field_at, site_at, sites, sub_at, unlisted, unrowed};
 use std::alloc::Global;
 use std::test::Fail;
 
@@ -26,33 +24,6 @@ fn made(alloc: Global, map: &Map) -> Result<Vec<Site>, Fail> {
     let target = profile(alloc, T1)?;
     let made = sites(alloc, &source, &target, map)?;
     Ok(made)
-}
-
-/// The numbers of an element.
-fn numbers(spot: &Spot) -> (usize, u32, u32, u32) {
-    let node = spot.at.first().copied().unwrap_or(9);
-    (node, spot.field, spot.comp, spot.sub)
-}
-
-/// Each line that makes something, with the element of the target; a rule of one leaf in one line has the leaf first.
-#[test]
-fn lines(rt: HostRuntime) -> Result<(), Fail> {
-    let alloc = rt.alloc();
-    let made = made(alloc, &map_of(alloc, M1)?)?;
-    let mut found = Vec::new(alloc);
-    for site in &made {
-        found.push((site.line, numbers(&site.target)))?;
-    }
-    let expected = [
-        (5, (0, 0, 0, 0)),
-        (6, (0, 10, 0, 0)),
-        (7, (1, 0, 0, 0)),
-        (8, (1, 8, 1, 1)),
-        (8, (1, 8, 0, 0)),
-    ];
-    assert_eq!(rt; found.as_slice(), expected.as_slice());
-    assert!(rt; site_at(&made, 4).is_none());
-    Ok(())
 }
 
 /// What the lookup reads, and the texts that stand in its way.
