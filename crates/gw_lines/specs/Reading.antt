@@ -82,6 +82,10 @@ abbrev pub Answers : {S X E : Type 0} → (S → ℕ → Result X E → Type 0) 
 Answers gives at (Ok last) result = gives last at result
 Answers gives at (Err e) result = result ≡ Err e
 
+-- the same for these lines from the first on, that come below what stands at the start
+abbrev pub AnswersLines : {S X E : Type 0} → (ℕ → E) → Step S E → (S → ℕ → Result X E → Type 0) → S → List (List ℕ) → Result X E → Type 0
+AnswersLines broken step gives start all result = Answers gives (1 + length all) (with_lines broken step start 1 all) result
+
 -- the same for a text, told whether it is too large
 abbrev pub AnswersText : {S X E : Type 0} → E → (S → ℕ → Result X E → Type 0) → Bool → ℕ → Result S E → Result X E → Type 0
 AnswersText too_large gives true at lines result = result ≡ Err too_large

@@ -1,7 +1,7 @@
 //! Text forms: what takes the lines of a text in turn, and then gives the value of the whole.
 ghost use Rattle.std.specs.Prelude.{◌≡◌, ◌≤◌, ◌<◌, ◌+◌, ◌^◌, ℕ, List, Result, map, length, if◌then◌else◌, Err};
 ghost use Rattle.gw_lines.specs.Words.{words, lines};
-ghost use Rattle.gw_lines.specs.Reading.{Gives, Answers, AnswersText, with_line, with_lines, is_too_large, Unless};
+ghost use Rattle.gw_lines.specs.Reading.{Gives, AnswersLines, AnswersText, with_line, with_lines, is_too_large, Unless};
 
 use crate::lines::lines_of;
 use crate::words::{Word, words_of};
@@ -89,7 +89,7 @@ pub fn take_lines<'a, F: Form<'a>>(
 {
     let mut form = form;
     let mut at = first;
-    for (i, bytes) in all.iter().enumerate() {
+    for bytes in all {
         form = match take_line(alloc, form, at, bytes) {
             Err(fault) => return Err(fault),
             Ok(next) => next,
@@ -105,7 +105,7 @@ fn finish_lines<'a, F: Form<'a>>(
     all: &[&'a [u8]],
 ) -> Result<F::Value, F::Fault>
     requires { 1 + length all.now < 2 ^ 32 }
-    ensures { Unless F.Fault.memory result (Answers F.gives (1 + length all.now) (with_lines F.Fault.broken F.step form 1 (map (λ line. line.now) all.now)) result) }
+    ensures { Unless F.Fault.memory result (AnswersLines F.Fault.broken F.step F.gives form (map (λ line. line.now) all.now) result) }
 {
     match take_lines(alloc, form, 1, all) {
         Err(fault) => Err(fault),
@@ -122,7 +122,8 @@ pub fn read_text<'a, F: Form<'a>>(
     text: &'a [u8],
 ) -> Result<F::Value, F::Fault>
     requires { 1 + most_lines < 2 ^ 32 }
-    ensures { Unless F.Fault.memory result (AnswersText F.Fault.too_large F.gives (is_too_large most_bytes most_lines text.now) (1 + length (lines text.now)) (with_lines F.Fault.broken F.step form 1 (lines text.now)) result) }
+    ensures { Unless F.Fault.memory result (AnswersText F.Fault.too_large F.gives (is_too_large most_bytes most_lines text.now)
+        (1 + length (lines text.now)) (with_lines F.Fault.broken F.step form 1 (lines text.now)) result) }
 {
     if text.len() > most_bytes {
         return Err(F::Fault::too_large());

@@ -84,7 +84,7 @@ fn values<'a>(alloc: Global, words: &[Word<'a>]) -> Result<Option<Vec<&'a [u8]>>
     ensures { IfOk result (λ found. option_map (λ v. map (λ b. b.now) v.items) found ≡ spec.values (map word words.now)) }
 {
     let mut values = Vec::new(alloc);
-    for (i, next) in words.iter().enumerate() {
+    for next in words {
         let Some(value) = value_bytes(*next) else {
             return Ok(None);
         };

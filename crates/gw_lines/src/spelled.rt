@@ -64,7 +64,7 @@ fn value_of(digits: &[u8]) -> Option<u32>
     ensures { MatchOption result (999999 < decimal 0 digits.now) (λ n. n ≡ decimal 0 digits.now) }
 {
     let mut value: u32 = 0;
-    for (i, digit) in digits.iter().enumerate() {
+    for digit in digits {
         if value > 99_999 {
             return None;
         }
