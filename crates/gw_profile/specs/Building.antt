@@ -1,6 +1,9 @@
 -- How the parts of a profile stand for the lines that they were built from.
-use Rattle.std.specs.Prelude.{◌≡◌, ℕ, Option, unwrap_or, List, ◌∷◌, map, reverse}
+use Rattle.std.specs.Prelude.{◌≡◌, ℕ, Option, unwrap_or, List, ◌∷◌, map, reverse, Result}
 use Rattle.std.specs.Global.{Vec}
+use Rattle.gw_lines.specs.Reading.{Gives}
+use Rattle.gw_profile.specs.declared.fault.ProfileFault.{ProfileFault}
+use Rattle.gw_profile.specs.declared.fault.ProfileFault.TheVariants.{Memory}
 use Rattle.gw_profile.specs.declared.build.Below.{Below}
 use Rattle.gw_profile.specs.declared.node.Node.{Node}
 use Rattle.gw_profile.specs.Shapes.{Forest, group, TableValue, ProfileValue}
@@ -9,7 +12,7 @@ use Rattle.gw_profile.specs.declared.shape.Usage.TheVariants.{O}
 use Rattle.gw_profile.specs.declared.shape.Card.{Card}
 use Rattle.gw_profile.specs.Line.{Line}
 use Rattle.gw_profile.specs.Seen.{sub, comp, field, forest, node_forest}
-use Rattle.gw_profile.specs.Whole.{empty_group}
+use Rattle.gw_profile.specs.Whole.{empty_group, is_headed, filled}
 use Rattle.gw_profile.specs.declared.build.Built.{Built}
 use Rattle.gw_profile.specs.Value.{Parts, Nodes, parts, nodes}
 
@@ -43,3 +46,8 @@ built b = (b.name.items, forest b.nodes.items)
 -- the same with its tables
 abbrev pub built_value : Built → List TableValue → ProfileValue
 built_value b tables = record { name = b.name.items; tables = tables; nodes = forest b.nodes.items }
+
+-- whatever its tables are, it keeps the rules of the whole for these lines, or this is their fault
+abbrev pub KeepsRules : {A : Type 0} → List Line → Built → Result A ProfileFault → Type 0
+KeepsRules lines b result =
+    (tables : List TableValue) → Gives Memory (λ _. built_value b tables) result (filled b.empty (is_headed lines) (built_value b tables))

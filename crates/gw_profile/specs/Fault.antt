@@ -120,9 +120,12 @@ part_tests at number lawful leaf parent names =
 abbrev pub begins_tests : List Line → ℕ → List (Bool × ProfileFault)
 begins_tests above at = (begun above, Syntax at) ∷ []
 
+-- those of the line of a table, told whether one of its values stands there twice
+abbrev pub told_table_tests : List Line → ℕ → List ℕ → Bool → List (Bool × ProfileFault)
+told_table_tests above at name repeats = (not (begun above), Syntax at) ∷ (is_among name (tables above) || repeats, Duplicate at) ∷ []
+
 abbrev pub table_tests : List Line → ℕ → List ℕ → List (List ℕ) → List (Bool × ProfileFault)
-table_tests above at name values =
-    (not (begun above), Syntax at) ∷ (is_among name (tables above) || has_repeat values, Duplicate at) ∷ []
+table_tests above at name values = told_table_tests above at name (has_repeat values)
 
 abbrev pub segment_tests : List Line → ℕ → List ℕ → Option declared.Usage → Card → List (Bool × ProfileFault)
 segment_tests above at label usage card =

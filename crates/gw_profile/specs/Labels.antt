@@ -35,6 +35,15 @@ number_of numbers label = lookup (λ k. bytes_eq label.now k.now) numbers
 abbrev pub Numbers : List (Bor (List ℕ) × ℕ) → List Node → Type 0
 Numbers numbers nodes = (label : Bor (List ℕ)) → number_of numbers label ≡ labelled (forest nodes) label.now
 
+-- this number is kept for this label, and for each other label what was kept before
+abbrev pub PutsNumber : List ℕ → ℕ → List (Bor (List ℕ) × ℕ) → List (Bor (List ℕ) × ℕ) → Type 0
+PutsNumber label number old new = (other : Bor (List ℕ)) → number_of new other ≡ (if bytes_eq label other.now then Some number else number_of old other)
+
+-- the node is looked up by this label, before those that stand behind it
+abbrev pub IsLabel : List ℕ → Node → Type 0
+IsLabel own node =
+    (rest : Forest) (label : List ℕ) → labelled (node_forest node rest) label ≡ (if bytes_eq own label then Some 0 else option_map suc (labelled rest label))
+
 -- the nodes within a node
 abbrev pub inner : Node → Forest
 inner node = within (node_forest node nothing) 0

@@ -1,9 +1,7 @@
 //! The nodes of a profile, looked up by their labels.
-ghost use Rattle.std.specs.Prelude.{◌≡◌, ℕ, List, [], if◌then◌else◌, IfOk, OnOk, Some, option_map, suc, bytes_eq, map};
-ghost use denote.Ref.{Bor};
-ghost use Rattle.gw_profile.specs.Labels.{labelled, number_of, Numbers, inner};
-ghost use Rattle.gw_profile.specs.Seen.{forest, node_forest};
-ghost use Rattle.gw_profile.specs.Shapes.{Forest};
+ghost use Rattle.std.specs.Prelude.{◌≡◌, [], IfOk, OnOk, map};
+ghost use Rattle.gw_profile.specs.Labels.{Numbers, PutsNumber, IsLabel, inner};
+ghost use Rattle.gw_profile.specs.Seen.{forest};
 
 use crate::node::Node;
 use crate::profile::Profile;
@@ -44,7 +42,7 @@ impl<'p> Model for Level<'p> {
 
 // The node's label.
 fn label_of(node: &Node) -> &[u8]
-    ensures { (rest : Forest) (label : List ℕ) → labelled (node_forest node.now rest) label ≡ (if bytes_eq result.now label then Some 0 else option_map suc (labelled rest label)) }
+    ensures { IsLabel result.now node.now }
 {
     match node {
         Node::Seg(segment) => &segment.label,
@@ -58,7 +56,7 @@ fn put_number<'p>(
     label: &'p [u8],
     number: usize,
 ) -> Result<(), AllocError>
-    ensures { OnOk result ((other : Bor (List ℕ)) → number_of numbers.new.entries other ≡ (if bytes_eq label.now other.now then Some number else number_of numbers.old.entries other)) }
+    ensures { OnOk result (PutsNumber label.now number numbers.old.entries numbers.new.entries) }
 {
     numbers.insert(label, number)?;
     Ok(())
@@ -104,7 +102,7 @@ fn each_within<'p>(alloc: Global, nodes: &'p [Node]) -> Result<Vec<Level<'p>>, A
     ensures { IfOk result (λ below. map forest below.items ≡ map inner nodes.now) }
 {
     let mut below = Vec::new(alloc);
-    for (i, node) in nodes.iter().enumerate() {
+    for node in nodes {
         let one = within(alloc, node)?;
         below.push(one)?;
     }

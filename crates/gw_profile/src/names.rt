@@ -29,7 +29,7 @@ fn add_node(names: &mut HashSet<[u8; 3]>, node: &Node) -> Result<(), AllocError>
 fn add_names(names: &mut HashSet<[u8; 3]>, nodes: &[Node]) -> Result<(), AllocError>
     ensures { OnOk result (Adds names.old names.new (forest nodes.now)) }
 {
-    for (i, node) in nodes.iter().enumerate() {
+    for node in nodes {
         add_node(names, node)?;
     }
     Ok(())

@@ -1,5 +1,5 @@
 //! Reading of a profile, line by line.
-ghost use Rattle.std.specs.Prelude.{◌≡◌, ◌∷◌, ◌||◌, [], map, not, IfOk, OnOk};
+ghost use Rattle.std.specs.Prelude.{◌≡◌, ◌∷◌, [], map, IfOk, OnOk};
 ghost use Rattle.gw_lines.specs.Seen.{word};
 ghost use Rattle.gw_lines.specs.Reading.{Gives, first_of, adding};
 ghost use Rattle.gw_profile.specs.declared.fault.ProfileFault.TheVariants as fault;
@@ -97,7 +97,7 @@ impl<'a> Above<'a> {
 
     fn table_fault(&self, at: u32, name: &[u8], repeats: bool) -> Option<ProfileFault>
         requires { Agreed self.now }
-        ensures { result ≡ first_of ((not (spec.begun (said self.now)), fault.Syntax at) ∷ (spec.is_among name.now (spec.tables (said self.now)) || repeats, fault.Duplicate at) ∷ []) }
+        ensures { result ≡ first_of (spec.told_table_tests (said self.now) at name.now repeats) }
     {
         if self.lines.is_empty() {
             return Some(ProfileFault::Syntax(at));

@@ -33,7 +33,7 @@ impl Node {
 pub fn is_optional(nodes: &[Node]) -> bool
     ensures { result ≡ spec.is_optional (forest nodes.now) }
 {
-    for (i, node) in nodes.iter().enumerate() {
+    for node in nodes {
         if node.card().min != 0 {
             return false;
         }
@@ -63,7 +63,7 @@ fn add_first_of(out: &mut Vec<[u8; 3]>, node: &Node) -> Result<(), AllocError>
 fn add_first(out: &mut Vec<[u8; 3]>, nodes: &[Node]) -> Result<(), AllocError>
     ensures { OnOk result (out.new.items ≡ out.old.items ++ spec.first_names (forest nodes.now)) }
 {
-    for (i, node) in nodes.iter().enumerate() {
+    for node in nodes {
         add_first_of(out, node)?;
         if node.card().min > 0 {
             return Ok(());
@@ -76,7 +76,7 @@ fn add_first(out: &mut Vec<[u8; 3]>, nodes: &[Node]) -> Result<(), AllocError>
 fn put_names(held: &mut IndexSet<[u8; 3]>, names: &[[u8; 3]]) -> Result<(), AllocError>
     ensures { OnOk result (Joins names.now held.old.keys held.new.keys) }
 {
-    for (i, name) in names.iter().enumerate() {
+    for name in names {
         held.insert(*name)?;
     }
     Ok(())
@@ -156,7 +156,7 @@ fn least(name: [u8; 3], found: Option<[u8; 3]>) -> [u8; 3]
 fn in_some(name: [u8; 3], sets: &[IndexSet<[u8; 3]>]) -> bool
     ensures { result ≡ fault.is_among name (joined sets.now) }
 {
-    for (i, names) in sets.iter().enumerate() {
+    for names in sets {
         if names.contains(&name) {
             return true;
         }

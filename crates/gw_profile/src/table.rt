@@ -37,7 +37,7 @@ impl Table {
         ensures { IfOk result (λ made. made ≡ (if has_repeat (now_all values.now) then None else Some (now_all values.now))) }
     {
         let mut held = IndexSet::new(alloc);
-        for (i, value) in values.iter().enumerate() {
+        for value in values {
             if !put(alloc, &mut held, value)? {
                 return Ok(None);
             }

@@ -1,12 +1,11 @@
 //! The rules of the whole profile, after all of its lines.
-ghost use Rattle.std.specs.Prelude.{◌≡◌, List, map, not};
+ghost use Rattle.std.specs.Prelude.{◌≡◌, map, not};
 ghost use Rattle.std.specs.List.{list_all};
 ghost use Rattle.gw_lines.specs.Reading.{Gives};
 ghost use Rattle.gw_profile.specs.declared.fault.ProfileFault.TheVariants as fault;
 ghost use Rattle.gw_profile.specs.Whole as spec;
 ghost use Rattle.gw_profile.specs.Seen.{line};
-ghost use Rattle.gw_profile.specs.Shapes.{TableValue};
-ghost use Rattle.gw_profile.specs.Building.{built_value};
+ghost use Rattle.gw_profile.specs.Building.{built_value, KeepsRules};
 ghost use Rattle.gw_profile.specs.Value.{tables as tables_of};
 
 use crate::build::{Built, build};
@@ -68,7 +67,7 @@ fn is_preamble(whole: &Line) -> bool
 fn has_no_header(lines: &[Line]) -> bool
     ensures { result ≡ list_all (λ other. not (spec.is_header other)) (map line lines.now) }
 {
-    for (i, whole) in lines.iter().enumerate() {
+    for whole in lines {
         if is_header(whole) {
             return false;
         }
@@ -89,7 +88,7 @@ fn is_headed(lines: &[Line]) -> bool
 
 // Whether what these lines spell keeps the rules of the whole.
 fn keep_rules(alloc: Global, lines: &[Line], spelled: &Built) -> Result<(), ProfileFault>
-    ensures { (ts : List TableValue) → Gives fault.Memory (λ _. built_value spelled.now ts) result (spec.filled spelled.now.empty (spec.is_headed (map line lines.now)) (built_value spelled.now ts)) }
+    ensures { KeepsRules (map line lines.now) spelled.now result }
 {
     if let Some(at) = spelled.empty {
         return Err(ProfileFault::EmptyGroup(at));

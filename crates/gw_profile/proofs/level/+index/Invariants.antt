@@ -3,5 +3,5 @@ use Rattle.gw_profile.specs.Seen.{forest}
 use Rattle.gw_profile.specs.Labels.{inner}
 use Rattle.gw_profile.proofs.level.+index.Given as goal
 
-abbrev pub invariant-each_within-loop-i : goal.invariant-each_within-loop-i
-invariant-each_within-loop-i l = map inner l.nodes ≡ map forest l.below.items ++ map inner (drop l.i l.nodes)
+abbrev pub invariant-each_within-loop-node : goal.invariant-each_within-loop-node
+invariant-each_within-loop-node l = map inner l.nodes ≡ map forest l.below.items ++ map inner (drop l.node-index l.nodes)

@@ -5,8 +5,8 @@ use Rattle.gw_profile.specs.Seen.{now_all}
 use Rattle.gw_profile.proofs.Kept.{repeats_behind, repeats_none, values_held}
 use Rattle.gw_profile.proofs.table.Table.of.Goals as goal
 
-pub loop-i-init : goal.loop-i-init
-loop-i-init c = record {
+pub loop-value-init : goal.loop-value-init
+loop-value-init c = record {
   held = ap (map (λ (v : Vec ℕ). v.items)) c.new-held.ensures.empty;
   rest = repeats_none (now_all c.args.values.now) ∙ ap (λ (ks : List (Vec ℕ)). repeats_behind (map (λ (v : Vec ℕ). v.items) ks) (now_all c.args.values.now)) (sym c.new-held.ensures.empty);
 }
@@ -15,8 +15,8 @@ is_new : (new among : Bool) → new ≡ true → new ≡ not among → among ≡
 is_new new true e f = cc
 is_new new false e f = cc
 
-pub loop-i-preserved : goal.loop-i-preserved
-loop-i-preserved c =
-    let step = values_held c.args.values.now c.loop-i.i _ (map (λ (v : Vec ℕ). v.items) c.loop-i.held.keys) (map (λ (v : Vec ℕ). v.items) c.put.new.values.keys) c.loop-i-test.true c.loop-i.invariant.held c.loop-i.invariant.rest
+pub loop-value-preserved : goal.loop-value-preserved
+loop-value-preserved c =
+    let step = values_held c.args.values.now c.loop-value.value-index _ (map (λ (v : Vec ℕ). v.items) c.loop-value.held.keys) (map (λ (v : Vec ℕ). v.items) c.put.new.values.keys) c.loop-value-test.true c.loop-value.invariant.held c.loop-value.invariant.rest
     (is_new c.in_ok-put.field-0 _ c.if-not-branch.false c.in_ok-put.ensures.new) (c.in_ok-put.ensures.put c.if-not-branch.false) in
     record { held = step.0; rest = step.1 }
