@@ -58,3 +58,7 @@ segment_at m i = unwrap_or (slice_get m i) (record { name = 0 ∷ 0 ∷ 0 ∷ []
 
 abbrev pub named : List SegmentValue → ℕ → Name
 named m i = (segment_at m i).name
+
+-- it meets the shape
+abbrev pub MeetsAt : ProfileValue → List SegmentValue → List FieldValue → ℕ → Type 0
+MeetsAt p m shape i = Meets p shape (segment_at m i).at

@@ -1,5 +1,5 @@
 -- The least breach of a segment, and how a search comes to it.
-use Rattle.std.specs.Prelude.{◌≡◌, ℕ, ◌<◌, ◌≤◌, ◌⊎◌, Bool, false, nat_eq, List, [], ◌∷◌, Option, Some, None}
+use Rattle.std.specs.Prelude.{◌≡◌, ℕ, ◌<◌, ◌≤◌, ◌⊎◌, Bool, false, nat_eq, List, [], ◌∷◌, Option, Some, None, option_map}
 use Rattle.std.specs.List.{AllByRecursion}
 use Rattle.gw_er7.specs.Message.{Texts, text_of, SegmentValue}
 use Rattle.gw_er7.specs.Presence.{RepAt}
@@ -89,3 +89,7 @@ BreachAt profile m shape i spot = SegmentBreach profile shape (segment_at m i).a
 -- what a search found: the number of a segment, and a spot in it
 abbrev pub found_at : ℕ × Spot → ℕ × List ℕ
 found_at x = (x.0, segment_key x.1)
+
+-- this is what a search finds in these segments of a message, each with its shape
+abbrev pub FindsBreach : ProfileValue → List SegmentValue → List (ℕ × List FieldValue) → Option (ℕ × Spot) → Type 0
+FindsBreach profile m shaped found = Searched (BreachAt profile m) shaped (option_map found_at found)

@@ -38,7 +38,7 @@ fn node_begins(node: &Node, name: [u8; 3]) -> bool
 fn can_begin(nodes: &[Node], name: [u8; 3]) -> bool
     ensures { result ≡ can_begin (forest nodes.now) name }
 {
-    for (i, node) in nodes.iter().enumerate() {
+    for node in nodes {
         if node_begins(node, name) {
             return true;
         }
@@ -148,7 +148,7 @@ fn build_nodes<'a>(
 {
     let mut found = Vec::new(alloc);
     let mut rest = taken;
-    for (i, node) in nodes.iter().enumerate() {
+    for node in nodes {
         let (one, behind) = build_node(alloc, node, message, rest)?;
         found.push(one)?;
         rest = behind;

@@ -127,7 +127,7 @@ fn subs_breach(
     requires { Rises (λ s. s.number) 0 (map sub subs.now) }
     ensures { Least (SubsBreach (profile_value profile.now) segment.now.at field rep comp (map sub subs.now)) (option_map comp_key result) }
 {
-    for (i, sub) in subs.iter().enumerate() {
+    for sub in subs {
         let place = Place {
             field,
             rep,
@@ -216,7 +216,7 @@ fn comps_breach(
     requires each { AllByRecursion CompRises (map comp_value comps.now) }
     ensures { Least (CompsBreach (profile_value profile.now) segment.now.at field rep (map comp_value comps.now)) (option_map rep_key result) }
 {
-    for (i, comp) in comps.iter().enumerate() {
+    for comp in comps {
         if let Some(found) = comp_breach(profile, segment, near, field, rep, comp) {
             return Some(Spot {
                 comp: comp.number as usize,
@@ -373,7 +373,7 @@ pub(crate) fn least_breach(
     requires { ShapeRises (map field_value fields.now) }
     ensures { Least (SegmentBreach (profile_value profile.now) (map field_value fields.now) segment.now.at) (option_map segment_key result) }
 {
-    for (i, field) in fields.iter().enumerate() {
+    for field in fields {
         if let Some(found) = field_breach(profile, segment, field) {
             return Some(Spot {
                 field: field.number as usize,

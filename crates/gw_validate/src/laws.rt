@@ -5,9 +5,8 @@ ghost use Rattle.gw_profile.specs.Shapes.{ProfileValue};
 ghost use Rattle.gw_profile.specs.Deterministic.{Name};
 ghost use Rattle.gw_profile.specs.WellFormed.{WellFormed};
 ghost use Rattle.gw_validate.specs.declared.breach.Breach.{Breach};
-ghost use Rattle.gw_validate.specs.Breaches.{Meets};
 ghost use Rattle.gw_validate.specs.Cuts.{IsShortest};
-ghost use Rattle.gw_validate.specs.Conforming.{names, numbers, named, segment_at, NamesFit, Conforms};
+ghost use Rattle.gw_validate.specs.Conforming.{names, numbers, named, MeetsAt, NamesFit, Conforms};
 ghost use Rattle.gw_validate.specs.Trees.{Tree, AllMeet, MeetingTree, assigned};
 ghost use Rattle.gw_validate.specs.Broken.{IsTreeOf, Breaks, IsLeast};
 
@@ -18,7 +17,8 @@ pub fn one_tree()
 
 /// The names of a message have one shortest completion at most, the whole of it.
 pub fn one_completion()
-    ensures { (p : ProfileValue) (m : List SegmentValue) (a b : List Name) → WellFormed p → IsShortest p.nodes (names p.nodes m) a → IsShortest p.nodes (names p.nodes m) b → a ≡ b }
+    ensures { (p : ProfileValue) (m : List SegmentValue) (a b : List Name) → WellFormed p →
+        IsShortest p.nodes (names p.nodes m) a → IsShortest p.nodes (names p.nodes m) b → a ≡ b }
 {}
 
 /// One breach of a message at most is the least.
@@ -33,12 +33,13 @@ pub fn conforming_breaks_nothing()
 
 /// A message conforms exactly where it has a tree in which each segment meets the shape of its node.
 pub fn conforms_by_tree()
-    ensures { (p : ProfileValue) (m : List SegmentValue) → WellFormed p → (Conforms p m ↔ MeetingTree (named m) (λ shape i. Meets p shape (segment_at m i).at) p.nodes (numbers p.nodes m)) }
+    ensures { (p : ProfileValue) (m : List SegmentValue) → WellFormed p → (Conforms p m ↔ MeetingTree (named m) (MeetsAt p m) p.nodes (numbers p.nodes m)) }
 {}
 
 /// The one tree decides whether a message conforms.
 pub fn tree_decides()
-    ensures { (p : ProfileValue) (m : List SegmentValue) (t : Tree) → WellFormed p → IsTreeOf p m t → (Conforms p m ↔ AllMeet (λ shape i. Meets p shape (segment_at m i).at) (assigned t p.nodes)) }
+    ensures { (p : ProfileValue) (m : List SegmentValue) (t : Tree) → WellFormed p → IsTreeOf p m t →
+        (Conforms p m ↔ AllMeet (MeetsAt p m) (assigned t p.nodes)) }
 {}
 
 /// The names of a message that has a tree fit.

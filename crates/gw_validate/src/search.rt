@@ -1,11 +1,11 @@
 //! The first segment of a tree that breaks the shape of its node.
-ghost use Rattle.std.specs.Prelude.{◌≡◌, ◌<◌, length, map, option_map};
+ghost use Rattle.std.specs.Prelude.{◌<◌, length, map};
 ghost use Rattle.std.specs.List.{AllByRecursion};
 ghost use Rattle.gw_profile.specs.Shapes.{nothing};
 ghost use Rattle.gw_profile.specs.Seen.{field, forest, node_forest, profile_value};
 ghost use Rattle.gw_validate.specs.Trees.{leaf, flatten, flatten_all, assigned, assigned_all};
 ghost use Rattle.gw_validate.specs.Occurring.{tree_of, trees_of, occurrences_tree};
-ghost use Rattle.gw_validate.specs.Least.{ShapeRises, EachRises, Searched, BreachAt, found_at};
+ghost use Rattle.gw_validate.specs.Least.{ShapeRises, EachRises, FindsBreach};
 
 use crate::fields::{Spot, least_breach};
 use crate::occurrences::{Found, Occurrences};
@@ -21,9 +21,9 @@ fn search_segments(
 ) -> Option<(usize, Spot)>
     requires rises { ShapeRises (map field fields.now) }
     requires within { AllByRecursion (λ i. i < length message.now) numbers.now }
-    ensures { Searched (BreachAt (profile_value profile.now) message.now) (map (λ i. (i, map field fields.now)) numbers.now) (option_map found_at result) }
+    ensures { FindsBreach (profile_value profile.now) message.now (map (λ i. (i, map field fields.now)) numbers.now) result }
 {
-    for (i, number) in numbers.iter().enumerate() {
+    for number in numbers {
         let segment = message.segment(*number);
         if let Some(spot) = least_breach(profile, &segment, fields) {
             return Some((*number, spot));
@@ -41,9 +41,9 @@ fn search_groups(
 ) -> Option<(usize, Spot)>
     requires rises { EachRises (forest nodes.now) }
     requires within { AllByRecursion (λ i. i < length message.now) (flatten_all (trees_of groups.now)) }
-    ensures { Searched (BreachAt (profile_value profile.now) message.now) (assigned_all (trees_of groups.now) (forest nodes.now)) (option_map found_at result) }
+    ensures { FindsBreach (profile_value profile.now) message.now (assigned_all (trees_of groups.now) (forest nodes.now)) result }
 {
-    for (i, group) in groups.iter().enumerate() {
+    for group in groups {
         if let Some(found) = search_nodes(profile, message, &group.each, nodes) {
             return Some(found);
         }
@@ -60,7 +60,7 @@ fn search_node(
 ) -> Option<(usize, Spot)>
     requires rises { EachRises (node_forest node.now nothing) }
     requires within { AllByRecursion (λ i. i < length message.now) (flatten (occurrences_tree occurrences.now leaf)) }
-    ensures { Searched (BreachAt (profile_value profile.now) message.now) (assigned (occurrences_tree occurrences.now leaf) (node_forest node.now nothing)) (option_map found_at result) }
+    ensures { FindsBreach (profile_value profile.now) message.now (assigned (occurrences_tree occurrences.now leaf) (node_forest node.now nothing)) result }
 {
     match node {
         Node::Seg(segment) => {
@@ -88,7 +88,7 @@ pub(crate) fn search_nodes(
 ) -> Option<(usize, Spot)>
     requires rises { EachRises (forest nodes.now) }
     requires within { AllByRecursion (λ i. i < length message.now) (flatten (tree_of each.now)) }
-    ensures { Searched (BreachAt (profile_value profile.now) message.now) (assigned (tree_of each.now) (forest nodes.now)) (option_map found_at result) }
+    ensures { FindsBreach (profile_value profile.now) message.now (assigned (tree_of each.now) (forest nodes.now)) result }
 {
     for (i, node) in nodes.iter().enumerate() {
         let Some(occurrences) = each.get(i) else {

@@ -190,7 +190,7 @@ fn missing_node(node: &Node, due: Card) -> Option<[u8; 3]>
 fn missing_nodes(nodes: &[Node]) -> Option<[u8; 3]>
     ensures { result ≡ head (shortest (forest nodes.now)) }
 {
-    for (i, node) in nodes.iter().enumerate() {
+    for node in nodes {
         let name = missing_node(node, node.card());
         if name.is_some() {
             return name;

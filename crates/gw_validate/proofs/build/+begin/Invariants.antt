@@ -3,5 +3,5 @@ use Rattle.gw_profile.specs.Seen.{forest}
 use Rattle.gw_validate.specs.Tests.{can_begin}
 use Rattle.gw_validate.proofs.build.+begin.Given as goal
 
-abbrev pub invariant-can_begin-loop-i : goal.invariant-can_begin-loop-i
-invariant-can_begin-loop-i l = can_begin (forest l.nodes) l.name ≡ can_begin (forest (drop l.i l.nodes)) l.name
+abbrev pub invariant-can_begin-loop-node : goal.invariant-can_begin-loop-node
+invariant-can_begin-loop-node l = can_begin (forest l.nodes) l.name ≡ can_begin (forest (drop l.node-index l.nodes)) l.name

@@ -28,6 +28,6 @@ pub build_node-returns-in_ok-found-in-Group : goal.build_node-returns-in_ok-foun
 build_node-returns-in_ok-found-in-Group t c =
     group_built_node (named c.args.message.now) c.args.node.now c.in-Group.group _ c.args.taken.now c.in_ok-found-in-Group.found c.in_ok-found-in-Group.rest.now c.in-Group.is c.deref.ensures.value c.in_ok-found-in-Group.ensures
 
-pub build_nodes-loop-i-preserved : goal.build_nodes-loop-i-preserved
-build_nodes-loop-i-preserved t c =
-    nodes_more (named c.args.message.now) c.args.nodes.now c.loop-i.i c.index-nodes-i.result c.args.taken.now c.loop-i.found.items _ c.in_ok-one.one c.loop-i.rest.now c.in_ok-one.behind.now c.loop-i-test.true c.index-nodes-i.is c.in_ok-push.ensures.items c.loop-i.invariant c.in_ok-one.ensures
+pub build_nodes-loop-node-preserved : goal.build_nodes-loop-node-preserved
+build_nodes-loop-node-preserved t c =
+    nodes_more (named c.args.message.now) c.args.nodes.now c.loop-node.node-index c.node-item.result c.args.taken.now c.loop-node.found.items _ c.in_ok-one.one c.loop-node.rest.now c.in_ok-one.behind.now c.loop-node-test.true c.node-item.is c.in_ok-push.ensures.items c.loop-node.invariant c.in_ok-one.ensures

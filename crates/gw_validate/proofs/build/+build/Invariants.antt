@@ -11,5 +11,5 @@ invariant-build_groups-loop-rest l = GoGroups (named l.message) l.fn.card.min l.
 abbrev pub decreases-build_groups-loop-rest : goal.decreases-build_groups-loop-rest
 decreases-build_groups-loop-rest l = length l.rest
 
-abbrev pub invariant-build_nodes-loop-i : goal.invariant-build_nodes-loop-i
-invariant-build_nodes-loop-i l = GoNodes (named l.message) (forest l.nodes) (forest (take l.i l.nodes)) (forest (drop l.i l.nodes)) l.taken (tree_of l.found.items) l.rest
+abbrev pub invariant-build_nodes-loop-node : goal.invariant-build_nodes-loop-node
+invariant-build_nodes-loop-node l = GoNodes (named l.message) (forest l.nodes) (forest (take l.node-index l.nodes)) (forest (drop l.node-index l.nodes)) l.taken (tree_of l.found.items) l.rest

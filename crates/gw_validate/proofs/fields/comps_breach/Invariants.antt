@@ -4,5 +4,5 @@ use Rattle.gw_validate.specs.Least.{NoneYet}
 use Rattle.gw_validate.specs.Breaches.{CompBreach}
 use Rattle.gw_validate.proofs.fields.comps_breach.Given as goal
 
-abbrev pub invariant-loop-i : goal.invariant-loop-i
-invariant-loop-i l = NoneYet (CompBreach (profile_value l.profile) l.segment.at l.field l.rep) (map comp (take l.i l.comps))
+abbrev pub invariant-loop-comp : goal.invariant-loop-comp
+invariant-loop-comp l = NoneYet (CompBreach (profile_value l.profile) l.segment.at l.field l.rep) (map comp (take l.comp-index l.comps))

@@ -6,15 +6,15 @@ use Rattle.gw_validate.proofs.fields.least_breach.Goals as goal
 
 pub returns-in-Some : goal.returns-in-Some
 returns-in-Some c =
-    any_least field (λ s. s.number) (FieldBreach (profile_value c.args.profile.now) c.args.segment.now.at) c.args.fields.now c.loop-i.i c.index-fields-i.result _ c.loop-i-test.true c.index-fields-i.is c.loop-i.invariant c.requires.rises c.in-Some.ensures
+    any_least field (λ s. s.number) (FieldBreach (profile_value c.args.profile.now) c.args.segment.now.at) c.args.fields.now c.loop-field.field-index c.field-item.result _ c.loop-field-test.true c.field-item.is c.loop-field.invariant c.requires.rises c.in-Some.ensures
 
-pub loop-i-preserved : goal.loop-i-preserved
-loop-i-preserved c =
-    any_more field (λ s. s.number) (FieldBreach (profile_value c.args.profile.now) c.args.segment.now.at) c.args.fields.now c.loop-i.i c.index-fields-i.result c.loop-i-test.true c.index-fields-i.is c.loop-i.invariant c.in_default.ensures
+pub loop-field-preserved : goal.loop-field-preserved
+loop-field-preserved c =
+    any_more field (λ s. s.number) (FieldBreach (profile_value c.args.profile.now) c.args.segment.now.at) c.args.fields.now c.loop-field.field-index c.field-item.result c.loop-field-test.true c.field-item.is c.loop-field.invariant c.in_default.ensures
 
 pub returns : goal.returns
 returns c =
-    any_none field (λ s. s.number) (FieldBreach (profile_value c.args.profile.now) c.args.segment.now.at) c.args.fields.now c.loop-i.i c.loop-i-test.false c.loop-i.invariant
+    any_none field (λ s. s.number) (FieldBreach (profile_value c.args.profile.now) c.args.segment.now.at) c.args.fields.now c.loop-field.field-index c.loop-field-test.false c.loop-field.invariant
 
 pub field_breach-requires : goal.field_breach-requires
-field_breach-requires c = all_at field FieldRises c.args.fields.now c.loop-i.i c.index-fields-i.result c.loop-i-test.true c.index-fields-i.is c.requires.each
+field_breach-requires c = all_at field FieldRises c.args.fields.now c.loop-field.field-index c.field-item.result c.loop-field-test.true c.field-item.is c.requires.each

@@ -8,12 +8,12 @@ use Rattle.gw_validate.proofs.fields.subs_breach.Goals as goal
 
 pub returns-in-Some : goal.returns-in-Some
 returns-in-Some c =
-    sub_found sub (profile_value c.args.profile.now) c.args.segment.now.at c.args.field c.args.rep c.args.comp c.args.subs.now c.loop-i.i c.index-subs-i.result c.text_near-text.result.now c.loop-i-test.true c.index-subs-i.is c.text_near-text.ensures c.in-Some.kind _ (ap (λ (s : Spot). s.kind) c.of_kind.ensures) c.loop-i.invariant c.requires c.in-Some.ensures
+    sub_found sub (profile_value c.args.profile.now) c.args.segment.now.at c.args.field c.args.rep c.args.comp c.args.subs.now c.loop-sub.sub-index c.sub-item.result c.text_near-text.result.now c.loop-sub-test.true c.sub-item.is c.text_near-text.ensures c.in-Some.kind _ (ap (λ (s : Spot). s.kind) c.of_kind.ensures) c.loop-sub.invariant c.requires c.in-Some.ensures
 
-pub loop-i-preserved : goal.loop-i-preserved
-loop-i-preserved c =
-    sub_more sub (profile_value c.args.profile.now) c.args.segment.now.at c.args.field c.args.rep c.args.comp c.args.subs.now c.loop-i.i c.index-subs-i.result c.text_near-text.result.now c.loop-i-test.true c.index-subs-i.is c.text_near-text.ensures c.loop-i.invariant c.in_default.ensures
+pub loop-sub-preserved : goal.loop-sub-preserved
+loop-sub-preserved c =
+    sub_more sub (profile_value c.args.profile.now) c.args.segment.now.at c.args.field c.args.rep c.args.comp c.args.subs.now c.loop-sub.sub-index c.sub-item.result c.text_near-text.result.now c.loop-sub-test.true c.sub-item.is c.text_near-text.ensures c.loop-sub.invariant c.in_default.ensures
 
 pub returns : goal.returns
 returns c =
-    any_none sub (λ s. s.number) (λ s. SubBreach (profile_value c.args.profile.now) s (text_of c.args.segment.now.at c.args.field c.args.rep c.args.comp s.number)) c.args.subs.now c.loop-i.i c.loop-i-test.false c.loop-i.invariant
+    any_none sub (λ s. s.number) (λ s. SubBreach (profile_value c.args.profile.now) s (text_of c.args.segment.now.at c.args.field c.args.rep c.args.comp s.number)) c.args.subs.now c.loop-sub.sub-index c.loop-sub-test.false c.loop-sub.invariant

@@ -5,5 +5,5 @@ use Rattle.gw_validate.specs.Least.{NoneYet}
 use Rattle.gw_validate.specs.Breaches.{SubBreach}
 use Rattle.gw_validate.proofs.fields.subs_breach.Given as goal
 
-abbrev pub invariant-loop-i : goal.invariant-loop-i
-invariant-loop-i l = NoneYet (λ s. SubBreach (profile_value l.profile) s (text_of l.segment.at l.field l.rep l.comp s.number)) (map sub (take l.i l.subs))
+abbrev pub invariant-loop-sub : goal.invariant-loop-sub
+invariant-loop-sub l = NoneYet (λ s. SubBreach (profile_value l.profile) s (text_of l.segment.at l.field l.rep l.comp s.number)) (map sub (take l.sub-index l.subs))

@@ -13,23 +13,23 @@ pub search_groups-search_nodes-requires : goal.search_groups-search_nodes-requir
 search_groups-search_nodes-requires t c =
     let smaller : weight (tree_of c.deref.result.now) < weight_all (trees_of c.args.groups.now) =
     subst (λ (l : List Occurrences). weight (tree_of l) < weight_all (trees_of c.args.groups.now)) (sym c.deref.ensures.value)
-    (weight_group c.args.groups.now c.loop-i.i c.index-groups-i.result c.loop-i-test.true c.index-groups-i.is) in (
+    (weight_group c.args.groups.now c.loop-group.group-index c.group-item.result c.loop-group-test.true c.group-item.is) in (
       search rules,
       (
         c.requires.rises,
         subst (λ (l : List Occurrences). AllByRecursion (λ i. i < length c.args.message.now) (flatten (tree_of l))) (sym c.deref.ensures.value)
-            (groups_within (length c.args.message.now) c.args.groups.now c.loop-i.i c.index-groups-i.result c.loop-i-test.true c.index-groups-i.is c.loop-i.invariant.within).0,
+            (groups_within (length c.args.message.now) c.args.groups.now c.loop-group.group-index c.group-item.result c.loop-group-test.true c.group-item.is c.loop-group.invariant.within).0,
       ),
     )
 
 pub search_groups-returns-in-Some : goal.search_groups-returns-in-Some
 search_groups-returns-in-Some t c =
-    groups_some (length c.args.message.now) c.args.groups.now c.loop-i.i c.index-groups-i.result c.loop-i-test.true c.index-groups-i.is (BreachAt (profile_value c.args.profile.now) c.args.message.now) (forest c.args.nodes.now) c.loop-i.invariant.on (found_at c.in-Some.found) (rw c.deref.ensures.value at c.in-Some.ensures)
+    groups_some (length c.args.message.now) c.args.groups.now c.loop-group.group-index c.group-item.result c.loop-group-test.true c.group-item.is (BreachAt (profile_value c.args.profile.now) c.args.message.now) (forest c.args.nodes.now) c.loop-group.invariant.on (found_at c.in-Some.found) (rw c.deref.ensures.value at c.in-Some.ensures)
 
-pub search_groups-loop-i-preserved : goal.search_groups-loop-i-preserved
-search_groups-loop-i-preserved t c = record {
-  within = (groups_within (length c.args.message.now) c.args.groups.now c.loop-i.i c.index-groups-i.result c.loop-i-test.true c.index-groups-i.is c.loop-i.invariant.within).1;
-  on = groups_none (length c.args.message.now) c.args.groups.now c.loop-i.i c.index-groups-i.result c.loop-i-test.true c.index-groups-i.is (BreachAt (profile_value c.args.profile.now) c.args.message.now) (forest c.args.nodes.now) c.loop-i.invariant.on (rw c.deref.ensures.value at c.in_default.ensures);
+pub search_groups-loop-group-preserved : goal.search_groups-loop-group-preserved
+search_groups-loop-group-preserved t c = record {
+  within = (groups_within (length c.args.message.now) c.args.groups.now c.loop-group.group-index c.group-item.result c.loop-group-test.true c.group-item.is c.loop-group.invariant.within).1;
+  on = groups_none (length c.args.message.now) c.args.groups.now c.loop-group.group-index c.group-item.result c.loop-group-test.true c.group-item.is (BreachAt (profile_value c.args.profile.now) c.args.message.now) (forest c.args.nodes.now) c.loop-group.invariant.on (rw c.deref.ensures.value at c.in_default.ensures);
 }
 
 pub search_node-search_groups-requires : goal.search_node-search_groups-requires

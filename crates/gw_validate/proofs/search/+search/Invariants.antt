@@ -7,10 +7,10 @@ use Rattle.gw_validate.specs.Least.{EachRises, Searched, BreachAt}
 use Rattle.gw_validate.specs.Joining.{weight, weight_all}
 use Rattle.gw_validate.proofs.search.+search.Given as goal
 
-abbrev pub invariant-search_groups-loop-i : goal.invariant-search_groups-loop-i
-invariant-search_groups-loop-i l = record {
-  within : AllByRecursion (λ i. i < length l.message) (flatten_all (trees_of (drop l.i l.groups)));
-  on : (r : Option (ℕ × List ℕ)) → Searched (BreachAt (profile_value l.profile) l.message) (assigned_all (trees_of (drop l.i l.groups)) (forest l.nodes)) r → Searched (BreachAt (profile_value l.profile) l.message) (assigned_all (trees_of l.groups) (forest l.nodes)) r;
+abbrev pub invariant-search_groups-loop-group : goal.invariant-search_groups-loop-group
+invariant-search_groups-loop-group l = record {
+  within : AllByRecursion (λ i. i < length l.message) (flatten_all (trees_of (drop l.group-index l.groups)));
+  on : (r : Option (ℕ × List ℕ)) → Searched (BreachAt (profile_value l.profile) l.message) (assigned_all (trees_of (drop l.group-index l.groups)) (forest l.nodes)) r → Searched (BreachAt (profile_value l.profile) l.message) (assigned_all (trees_of l.groups) (forest l.nodes)) r;
 }
 
 abbrev pub invariant-search_nodes-loop-i : goal.invariant-search_nodes-loop-i

@@ -6,10 +6,10 @@ use Rattle.gw_validate.proofs.search.search_segments.Goals as goal
 
 pub returns-in-Some : goal.returns-in-Some
 returns-in-Some c =
-    segments_some (profile_value c.args.profile.now) c.args.message.now (map field c.args.fields.now) c.args.numbers.now c.loop-i.i _ c.segment-segment.result (segment_key c.in-Some.spot) c.loop-i-test.true (any_default c.args.numbers.now c.loop-i.i 0 _ c.loop-i-test.true) c.segment-segment.ensures c.in-Some.ensures c.loop-i.invariant.on
+    segments_some (profile_value c.args.profile.now) c.args.message.now (map field c.args.fields.now) c.args.numbers.now c.loop-number.number-index _ c.segment-segment.result (segment_key c.in-Some.spot) c.loop-number-test.true (any_default c.args.numbers.now c.loop-number.number-index 0 _ c.loop-number-test.true) c.segment-segment.ensures c.in-Some.ensures c.loop-number.invariant.on
 
-pub loop-i-preserved : goal.loop-i-preserved
-loop-i-preserved c = record {
-  within = (within_at (length c.args.message.now) c.args.numbers.now c.loop-i.i _ c.loop-i-test.true (any_default c.args.numbers.now c.loop-i.i 0 _ c.loop-i-test.true) c.loop-i.invariant.within).1;
-  on = segments_none (profile_value c.args.profile.now) c.args.message.now (map field c.args.fields.now) c.args.numbers.now c.loop-i.i _ c.segment-segment.result c.loop-i-test.true (any_default c.args.numbers.now c.loop-i.i 0 _ c.loop-i-test.true) c.segment-segment.ensures c.in_default.ensures c.loop-i.invariant.on;
+pub loop-number-preserved : goal.loop-number-preserved
+loop-number-preserved c = record {
+  within = (within_at (length c.args.message.now) c.args.numbers.now c.loop-number.number-index _ c.loop-number-test.true (any_default c.args.numbers.now c.loop-number.number-index 0 _ c.loop-number-test.true) c.loop-number.invariant.within).1;
+  on = segments_none (profile_value c.args.profile.now) c.args.message.now (map field c.args.fields.now) c.args.numbers.now c.loop-number.number-index _ c.segment-segment.result c.loop-number-test.true (any_default c.args.numbers.now c.loop-number.number-index 0 _ c.loop-number-test.true) c.segment-segment.ensures c.in_default.ensures c.loop-number.invariant.on;
 }

@@ -4,8 +4,8 @@ use Rattle.gw_profile.specs.Seen.{field, profile_value}
 use Rattle.gw_validate.specs.Least.{Searched, BreachAt}
 use Rattle.gw_validate.proofs.search.search_segments.Given as goal
 
-abbrev pub invariant-loop-i : goal.invariant-loop-i
-invariant-loop-i l = record {
-  within : AllByRecursion (λ i. i < length l.message) (drop l.i l.numbers);
-  on : (r : Option (ℕ × List ℕ)) → Searched (BreachAt (profile_value l.profile) l.message) (map (λ i. (i, map field l.fields)) (drop l.i l.numbers)) r → Searched (BreachAt (profile_value l.profile) l.message) (map (λ i. (i, map field l.fields)) l.numbers) r;
+abbrev pub invariant-loop-number : goal.invariant-loop-number
+invariant-loop-number l = record {
+  within : AllByRecursion (λ i. i < length l.message) (drop l.number-index l.numbers);
+  on : (r : Option (ℕ × List ℕ)) → Searched (BreachAt (profile_value l.profile) l.message) (map (λ i. (i, map field l.fields)) (drop l.number-index l.numbers)) r → Searched (BreachAt (profile_value l.profile) l.message) (map (λ i. (i, map field l.fields)) l.numbers) r;
 }
