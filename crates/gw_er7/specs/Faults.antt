@@ -2,6 +2,7 @@
 use Rattle.std.specs.Prelude.{◌≡◌, ℕ, ◌<◌, false, not, List, [], length, drop, Some, position}
 use Rattle.gw_er7.specs.declared.delimiters.Delimiters.{Delimiters}
 use Rattle.gw_er7.specs.declared.fault.ReadFault.{ReadFault}
+use Rattle.gw_er7.specs.declared.lines.Checked.{Checked}
 use Rattle.gw_er7.specs.declared.fault.ReadFault.TheVariants.{Memory, Empty, Control, NoHeader, BadDelimiters, BadSegment, TooManySegments}
 use Rattle.gw_er7.specs.Names.{is_header}
 use Rattle.gw_er7.specs.Content.{Line, Begins, lines, header_line, is_allowed, is_delimited, delimiters_of, first_bad}
@@ -40,3 +41,7 @@ pub record IsChecked (content : List ℕ) (d : Delimiters) (header : Line) (behi
   pub readable : IsReadable content
   pub begins : Begins 0 content header behind
   pub delimiters : d ≡ delimiters_of header.bytes
+
+-- the content passes them, and this was told
+abbrev pub Passes : List ℕ → Checked → Type 0
+Passes content k = IsChecked content k.delimiters (record { at = k.header.at; bytes = k.header.bytes.now }) k.header.behind.now

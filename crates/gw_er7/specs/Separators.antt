@@ -1,6 +1,7 @@
 -- The values between the separators of a segment's fields, one after the other. The reader's own words.
-use Rattle.std.specs.Prelude.{◌≡◌, ℕ, ◌+◌, ◌==◌, ◌||◌, Bool, false, true, if◌then◌else◌, List, [], ◌∷◌, ◌++◌, map}
+use Rattle.std.specs.Prelude.{◌≡◌, ℕ, ◌+◌, ◌==◌, ◌||◌, Bool, false, true, if◌then◌else◌, List, [], ◌∷◌, ◌++◌, map, Option, MatchOption}
 use Rattle.std.specs.List.{All}
+use denote.Ref.{Bor}
 use Rattle.gw_er7.specs.declared.delimiters.Delimiters.{Delimiters}
 use Rattle.gw_er7.specs.Text.{canon}
 use Rattle.gw_er7.specs.Entries.{Entry}
@@ -44,3 +45,7 @@ pub record IsNextValue (ts bytes value : List ℕ) (separator : ℕ) (behind : L
   pub whole : bytes ≡ value ++ separator ∷ behind
   pub clear : IsClear ts value
   pub separates : is_separator ts separator ≡ true
+
+-- the value that is cut off, and the separator and the bytes behind it, where one stands there
+abbrev pub IsCut : List ℕ → List ℕ → List ℕ → Option (ℕ × Bor (List ℕ)) → Type 0
+IsCut ts bytes value behind = MatchOption behind (IsLastValue ts bytes value) (λ b. IsNextValue ts bytes value b.0 b.1.now)

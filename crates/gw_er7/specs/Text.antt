@@ -1,5 +1,5 @@
 -- The canonical text of a value: escape sequences read once and for all (HL7 v2.5.1 chapter 2, 2.7 "Use of escape sequences in text fields").
-use Rattle.std.specs.Prelude.{◌≡◌, ℕ, zero, suc, ◌+◌, ◌<◌, Bool, false, not, ◌&&◌, ◌||◌, ◌==◌, nat_le, nat_lt, if◌then◌else◌, List, [], ◌∷◌, ◌++◌, length, Option, None, Some}
+use Rattle.std.specs.Prelude.{◌≡◌, ℕ, zero, suc, ◌+◌, ◌<◌, Bool, true, false, not, ◌&&◌, ◌||◌, ◌==◌, nat_le, nat_lt, if◌then◌else◌, List, [], ◌∷◌, ◌++◌, length, Option, None, Some}
 use Rattle.std.specs.List.{list_all, before_first, flat_map, AllByRecursion}
 use Rattle.std.specs.Str.{bytes_eq}
 use Rattle.gw_er7.specs.declared.delimiters.Delimiters.{Delimiters}
@@ -50,6 +50,10 @@ body_of d after = before_first (λ b. b == d.escape) after
 -- whether this byte and those after it begin with a sequence: an escape character, a body, an escape character
 abbrev pub opens : Delimiters → ℕ → List ℕ → Bool
 opens d b after = b == d.escape && (nat_lt (length (body_of d after)) (length after) && is_body (body_of d after))
+
+-- a sequence begins so, and this is its body
+abbrev pub IsBodyAt : Delimiters → ℕ → List ℕ → List ℕ → Type 0
+IsBodyAt d b after body = (opens d b after ≡ true) × (body ≡ body_of d after) × (length body < length after)
 
 -- the canonical text of the bytes behind those that are passed over
 abbrev pub canon_from : Delimiters → ℕ → List ℕ → List ℕ

@@ -65,6 +65,10 @@ delimiters_text name = if is_header name then 124 ∷ 94 ∷ 126 ∷ 92 ∷ 38 �
 abbrev pub line_text : SegmentValue → List ℕ
 line_text s = s.name ++ delimiters_text s.name ++ behind_separator (first_field s.name) (texts.entries s.at)
 
+-- the line of this name and these values, with a CR behind it
+abbrev pub closed_line : List ℕ → List Entry → List ℕ
+closed_line name es = name ++ delimiters_text name ++ behind_separator (first_field name) es ++ 13 ∷ []
+
 -- each line with a CR behind it
 abbrev pub written : List SegmentValue → List ℕ
 written message = flat_map (λ s. line_text s ++ 13 ∷ []) message

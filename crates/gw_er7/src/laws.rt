@@ -21,14 +21,15 @@ pub fn canonical_is_decided()
 
 /// A content reads as one message, or has one fault, and not both.
 pub fn reads_once()
-    ensures message { (content : List ℕ) → (a : List SegmentValue) → (b : List SegmentValue) → IsMessage a → IsMessage b → Reads content a → Reads content b → a ≡ b }
-    ensures fault { (content : List ℕ) → (a : ReadFault) → (b : ReadFault) → Faulty content a → Faulty content b → a ≡ b }
-    ensures apart { (content : List ℕ) → (a : List SegmentValue) → (b : ReadFault) → Reads content a → ¬ (Faulty content b) }
+    ensures message { (content : List ℕ) (a b : List SegmentValue) → IsMessage a → IsMessage b → Reads content a → Reads content b → a ≡ b }
+    ensures fault { (content : List ℕ) (a b : ReadFault) → Faulty content a → Faulty content b → a ≡ b }
+    ensures apart { (content : List ℕ) (a : List SegmentValue) (b : ReadFault) → Reads content a → ¬ (Faulty content b) }
 {}
 
 /// Each content of bytes reads as a message or has a fault.
 pub fn reads_or_fails()
-    ensures { (content : List ℕ) → ((k : ℕ) → slice_index content k < 256) → ((fault : ReadFault) × Faulty content fault) ⊎ ((message : List SegmentValue) × (IsMessage message × Reads content message)) }
+    ensures { (content : List ℕ) → ((k : ℕ) → slice_index content k < 256) →
+        ((fault : ReadFault) × Faulty content fault) ⊎ ((message : List SegmentValue) × (IsMessage message × Reads content message)) }
 {}
 
 /// What is written for a message of at most 10,000 segments reads as that message.
@@ -73,5 +74,6 @@ pub fn rows_of_reading()
 pub fn rows_of_writing()
     ensures header { fields_text 3 ((3 ∷ 1 ∷ 1 ∷ 1 ∷ [], codes "LAB") ∷ []) ≡ codes "LAB" }
     ensures third { fields_text 1 ((3 ∷ 1 ∷ 1 ∷ 1 ∷ [], codes "a#b\\F\\c") ∷ []) ≡ codes "||a#b\\F\\c" }
-    ensures levels { fields_text 1 ((2 ∷ 1 ∷ 1 ∷ 1 ∷ [], codes "x") ∷ (3 ∷ 1 ∷ 2 ∷ 2 ∷ [], codes "c") ∷ (3 ∷ 3 ∷ 1 ∷ 1 ∷ [], codes "d") ∷ []) ≡ codes "|x|^&c~~d" }
+    ensures levels { fields_text 1 ((2 ∷ 1 ∷ 1 ∷ 1 ∷ [], codes "x") ∷ (3 ∷ 1 ∷ 2 ∷ 2 ∷ [], codes "c") ∷ (3 ∷ 3 ∷ 1 ∷ 1 ∷ [], codes "d") ∷ []) ≡
+        codes "|x|^&c~~d" }
 {}

@@ -1,8 +1,8 @@
 //! The lines of a content: its parts between CR and LF that aren't empty.
 ghost use Rattle.std.specs.Prelude.{◌≡◌, ℕ, ◌+◌, ◌-◌, ◌^◌, ◌≤◌, ◌<◌, [], ◌∷◌, None, Some, length, MatchOption, MatchResult};
 ghost use Rattle.std.specs.List.{slice_split};
-ghost use Rattle.gw_er7.specs.Content.{is_line_end, placed, lines_from, Begins, first_bad, delimiters_of, header_line, lines};
-ghost use Rattle.gw_er7.specs.Faults.{Faulty, IsReadable, IsChecked};
+ghost use Rattle.gw_er7.specs.Content.{is_line_end, placed, lines_from, Begins, first_bad};
+ghost use Rattle.gw_er7.specs.Faults.{Faulty, Passes};
 
 use crate::checks::{first_control, header_delimiters, is_header, is_segment_line};
 use crate::delimiters::Delimiters;
@@ -84,7 +84,7 @@ pub(crate) struct Checked<'a> {
 
 /// Tests a content for its faults, in their order.
 pub(crate) fn check(content: &[u8]) -> Result<Checked<'_>, ReadFault>
-    ensures { MatchResult result (λ k. IsChecked content.now k.delimiters (record { at = k.header.at; bytes = k.header.bytes.now }) k.header.behind.now) (λ f. Faulty content.now f) }
+    ensures { MatchResult result (Passes content.now) (Faulty content.now) }
 {
     let Some(header) = next_line(0, content) else {
         return Err(ReadFault::Empty);

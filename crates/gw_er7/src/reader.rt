@@ -1,11 +1,10 @@
 //! How a content is read as a message (HL7 v2.5.1 chapter 2, sections 2.5.4 "Message delimiters" and 2.6 "Message construction rules").
-ghost use Rattle.std.specs.Prelude.{◌≡◌, ◌+◌, ◌-◌, ◌<◌, ◌≤◌, ◌++◌, ◌^◌, drop, length, ℕ, IfOk, OnOk, OnErr, ◌⊎◌, IfErr, None, Err, [], ◌∷◌};
+ghost use Rattle.std.specs.Prelude.{◌≡◌, ◌+◌, ◌-◌, ◌<◌, ◌≤◌, ◌++◌, ◌^◌, drop, length, IfOk, OnOk, ◌⊎◌, IfErr, None, Err};
 ghost use Rattle.gw_er7.specs.declared.fault.ReadFault.{ReadFault};
-ghost use Rattle.gw_er7.specs.Content.{lines, lines_from, first_bad, delimiters_of, header_line};
-ghost use Rattle.gw_er7.specs.Faults.{Faulty, IsReadable};
+ghost use Rattle.gw_er7.specs.Content.{lines_from, first_bad};
+ghost use Rattle.gw_er7.specs.Faults.{Faulty};
 ghost use Rattle.gw_er7.specs.Reading.{Reads};
-ghost use Rattle.gw_er7.specs.Message.{SegmentValue};
-ghost use Rattle.gw_er7.specs.Gathered.{segment_of, others_of, message_of};
+ghost use Rattle.gw_er7.specs.Gathered.{segment_of, others_of, segments_of};
 
 use crate::delimiters::Delimiters;
 use crate::fault::ReadFault;
@@ -78,7 +77,7 @@ fn read_segments(
     requires good { first_bad delimiters.field (lines_from (header.at + length header.bytes.now + 1) header.behind.now) ≡ None }
     requires room { header.at + length header.bytes.now + 1 < 2 ^ 64 - 1 }
     requires later { 0 < length header.behind.now → header.at + length header.bytes.now + 1 + length header.behind.now < 2 ^ 64 - 1 }
-    ensures { IfOk result (λ ss. ss.items ≡ segment_of delimiters 3 9 header.entry.bytes.now ∷ others_of delimiters (lines_from (header.entry.at + length header.entry.bytes.now + 1) header.entry.behind.now)) }
+    ensures { IfOk result (λ ss. ss.items ≡ segments_of delimiters header.entry) }
 {
     let mut scratch = Scratch::with_room(alloc, header.bytes.len())?;
     let mut segments = Vec::new(alloc);

@@ -1,8 +1,8 @@
 //! The texts of a segment's fields.
-ghost use Rattle.std.specs.Prelude.{◌≡◌, ◌+◌, ◌<◌, ◌≤◌, ◌^◌, ◌++◌, ◌-◌, true, position, OnOk, IfOk, MatchOption};
+ghost use Rattle.std.specs.Prelude.{◌≡◌, ◌+◌, ◌<◌, ◌≤◌, ◌^◌, ◌++◌, ◌-◌, true, position, OnOk, IfOk};
 ghost use Rattle.gw_er7.specs.Message.{numbers};
 ghost use Rattle.gw_er7.specs.Entries.{fields};
-ghost use Rattle.gw_er7.specs.Separators.{separators, is_separator, next_numbers, value_at, taken, IsLastValue, IsNextValue};
+ghost use Rattle.gw_er7.specs.Separators.{separators, is_separator, next_numbers, value_at, taken, IsCut};
 ghost use Rattle.gw_er7.specs.View.{entries_of, AreInside};
 
 use crate::delimiters::Delimiters;
@@ -31,7 +31,7 @@ fn first_separator(delimiters: Delimiters, bytes: &[u8]) -> Option<usize>
 
 /// The bytes up to the first separator, and the separator and the bytes behind it where there is one.
 fn cut_value(delimiters: Delimiters, bytes: &[u8]) -> (&[u8], Option<(u8, &[u8])>)
-    ensures { MatchOption result.1 (IsLastValue (separators delimiters) bytes.now result.0.now) (λ b. IsNextValue (separators delimiters) bytes.now result.0.now b.0 b.1.now) }
+    ensures { IsCut (separators delimiters) bytes.now result.0.now result.1 }
 {
     match first_separator(delimiters, bytes) {
         None => (bytes, None),

@@ -1,7 +1,7 @@
 //! The canonical text of a raw value (HL7 v2.5.1 chapter 2, 2.7 "Use of escape sequences in text fields").
-ghost use Rattle.std.specs.Prelude.{◌≡◌, ◌+◌, ◌≤◌, ◌<◌, ◌++◌, ◌∷◌, ◌==◌, ◌||◌, [], length, drop, position, IsTrue, IfOk, IfNone, IfSome, OnOk, OnErr, ◌↔◌, Some, None, true, false, not};
+ghost use Rattle.std.specs.Prelude.{◌≡◌, ◌+◌, ◌++◌, ◌==◌, ◌||◌, drop, position, IfOk, IfNone, IfSome, OnOk, false, not};
 ghost use Rattle.std.specs.List.{list_all, position_or_len, before_first};
-ghost use Rattle.gw_er7.specs.Text.{canon, escaped, plainly, meaning, delimiter_of, is_body, is_special, body_of, opens};
+ghost use Rattle.gw_er7.specs.Text.{canon, escaped, plainly, meaning, delimiter_of, is_body, is_special, opens, IsBodyAt};
 
 use crate::delimiters::Delimiters;
 use memchr::memchr;
@@ -31,7 +31,7 @@ fn is_body(body: &[u8]) -> bool
 /// The body of the sequence that begins with this byte, if one does.
 fn body_at(delimiters: Delimiters, first: u8, after: &[u8]) -> Option<&[u8]>
     ensures none { IfNone result (opens delimiters first after.now ≡ false) }
-    ensures some { IfSome result (λ body. (opens delimiters first after.now ≡ true) × (body.now ≡ body_of delimiters after.now) × (length body.now < length after.now)) }
+    ensures some { IfSome result (λ body. IsBodyAt delimiters first after.now body.now) }
 {
     if first != delimiters.escape {
         return None;

@@ -1,8 +1,8 @@
 //! How texts are written.
-ghost use Rattle.std.specs.Prelude.{◌≡◌, ◌-◌, ◌<◌, ◌++◌, ◌==◌, ◌&&◌, if◌then◌else◌, replicate, OnOk, MatchResult, [], ◌∷◌};
+ghost use Rattle.std.specs.Prelude.{◌≡◌, ◌-◌, ◌<◌, ◌++◌, ◌==◌, ◌&&◌, if◌then◌else◌, replicate, OnOk, MatchResult};
 ghost use Rattle.gw_er7.specs.Message.{first_field};
 ghost use Rattle.gw_er7.specs.View.{entries_of};
-ghost use Rattle.gw_er7.specs.Written.{fields_text, behind_separator, delimiters_text};
+ghost use Rattle.gw_er7.specs.Written.{fields_text, behind_separator, delimiters_text, closed_line};
 ghost use Rattle.gw_er7.specs.Ordered.{IsOrdered};
 ghost use Rattle.gw_er7.specs.Layers.{number_at, separator_of};
 
@@ -127,7 +127,7 @@ pub(crate) fn write_line(
     values: &Values<'_>,
 ) -> Result<(), AllocError>
     requires { IsOrdered (first_field name) (entries_of values.now) }
-    ensures { OnOk result (out.new.items ≡ out.old.items ++ (name ++ delimiters_text name ++ behind_separator (first_field name) (entries_of values.now) ++ 13 ∷ [])) }
+    ensures { OnOk result (out.new.items ≡ out.old.items ++ closed_line name (entries_of values.now)) }
 {
     let first = write_name(out, name)?;
     write_behind(out, first, values)?;
