@@ -1,4 +1,5 @@
 pub mod Places
 pub mod Slots
+pub mod Giving
 pub mod Steps
 pub mod Runs

@@ -1,5 +1,5 @@
 -- One more call on a desk: its due numbers, what was given out and what was kept grow by that call.
-use Rattle.std.proofs.Common.{◌≡◌, ◌≢◌, ◌==◌, ◌&&◌, ℕ, ◌+◌, ◌-◌, ◌<◌, ◌≤◌, Bool, true, false, List, [], ◌∷◌, ◌++◌, Option, None, Some, position, slice_get, slice_set, get_or, is_some, option_map, length, take, map, All, if◌then◌else◌, refl, sym, ap, ◌∙◌, subst, arith, ◌⊎◌, inl, inr, length-append, length-drop, length-set}
+use Rattle.std.proofs.Common.{◌≡◌, ◌≢◌, ◌==◌, ◌&&◌, ℕ, ◌+◌, ◌-◌, ◌<◌, ◌≤◌, Bool, true, false, List, [], ◌∷◌, ◌++◌, Option, None, Some, position, slice_get, slice_set, get_or, is_some, option_map, length, take, if◌then◌else◌, refl, sym, ap, ◌∙◌, subst, arith, ◌⊎◌, inl, inr, length-append, length-drop, length-set}
 use Rattle.std.specs.Option.{option_to_list}
 use Rattle.std.specs.List.Sorted.{IsStrictlyIncreasing}
 use Rattle.std.proofs.lemmas.Grind.{common_steps, get_or-set_at}
@@ -16,7 +16,7 @@ use Rattle.gw_reorder.specs.Runs.{earlier, brought_for, with_its_value}
 use Rattle.gw_reorder.specs.declared.desk.Status.{Status}
 use Rattle.gw_reorder.specs.declared.desk.Status.TheVariants.{Waiting, Repeat, Stranger}
 use Rattle.gw_reorder.proofs.Places.{equals, differs, equal_numbers, rising_differ}
-use Rattle.gw_reorder.proofs.Slots.{status_here}
+use Rattle.gw_reorder.proofs.Slots.{status_here, before}
 
 -- a number is due, or it isn't among those that are
 found_or_not : (due : List ℕ) (n : ℕ) → ((p : ℕ) × (position (λ m. m == n) due ≡ Some p)) ⊎ (position (λ m. m == n) due ≡ None)
@@ -256,7 +256,7 @@ module _ {T : Type 0} where
               (kept_anew s due given kept m p x old rising here behind (sym value ∙ e)))
 
       early : (p : ℕ) → place_of s m ≡ Some p → p < s.released → status_of s m ≡ Repeat
-      early p here lt = grind (arith, common_steps)
+      early p here lt = ap (status_at s) here ∙ before s p lt
 
       place : ((p : ℕ) × (position (λ k. k == m) due ≡ Some p)) ⊎ (position (λ k. k == m) due ≡ None) → Stands (after_holding s m x) due given (λ n. earlier (kept n) (brought_for due m x n))
       place (inr none) = by_status Stranger (ap (status_at s) (stands_at None none)) (kept_as_it_was s due given kept m x old (stranger_as due kept m x none))
