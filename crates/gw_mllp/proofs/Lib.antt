@@ -1,3 +1,4 @@
+pub mod Gaps
 pub mod Ends
 pub mod Fronts
 pub mod Has
