@@ -10,6 +10,7 @@ pub mod Ranges
 pub mod Keys
 pub mod Levels
 pub mod Messages
+pub mod Gathers
 pub mod Writes
 pub mod Steps
 pub mod Runs

@@ -1,8 +1,7 @@
 -- What is gathered from the lines of a content without a fault.
 use Rattle.std.proofs.Common.{◌≡◌, ℕ, zero, suc, ◌+◌, ◌<◌, ◌≤◌, Bool, true, false, cond, not, List, [], ◌∷◌, length, take, drop, get_or, Option, None, Some, refl, sym, ap, subst, ◌∙◌, arith}
-use Rattle.std.specs.Prelude.{◌&&◌, nat_le, nat_lt, if◌then◌else◌, position}
-use Rattle.std.proofs.lemmas.Bool.Decides.{nat_tests}
-use Rattle.std.proofs.lemmas.Bool.{cases_lt, lt-ltb}
+use Rattle.std.specs.Prelude.{◌&&◌, ◌||◌, ◌==◌, nat_le, nat_lt, if◌then◌else◌, position}
+use Rattle.std.proofs.lemmas.Bool.{cases_lt, lt-ltb, leb-true, le-leb, eqb-true, false_from_ne_true, true≢false}
 use Rattle.std.proofs.Common.{inl, inr}
 use Rattle.std.specs.Ordering.{nat_cmp}
 use Rattle.std.specs.Cmp.Lexicographic.{slice_cmp}
@@ -42,8 +41,21 @@ pub record IsByte (b : ℕ) : Type 0 where
 abbrev pub Bytes : List ℕ → Type 0
 Bytes bs = AllByRecursion IsByte bs
 
+by_the_left : (u v : Bool) → (u || v) ≡ true → v ≡ false → u ≡ true
+by_the_left true v e out = refl
+by_the_left false v e out = absurd (true≢false (sym e ∙ out))
+
+by_the_right : (u v : Bool) → (u || v) ≡ true → u ≡ false → v ≡ true
+by_the_right true v e out = absurd (true≢false out)
+by_the_right false v e out = e
+
 in_range : (b : ℕ) → IsByte b → is_line_end b ≡ false → IsInRange b
-in_range b is inside = (is.small, λ low. let a = is.allowed in grind (arith, nat_tests))
+in_range b is inside = (
+  is.small,
+  λ low.
+      let under : nat_le 32 b ≡ false = false_from_ne_true (nat_le 32 b) (λ e. let over = leb-true 32 b e in omega arith) in
+      eqb-true b 9 (by_the_left (b == 9) (is_line_end b) (by_the_right (nat_le 32 b) _ is.allowed under) inside),
+)
 
 lawful-onto : (b : ℕ) (ps : List (List ℕ)) → IsInRange b → AllByRecursion Lawful ps → AllByRecursion Lawful (onto_first b ps)
 lawful-onto b [] is h = ((is, tt), tt)
@@ -70,7 +82,7 @@ lawful-drop zero bs h = h
 lawful-drop (suc n) [] h = tt
 lawful-drop (suc n) (b ∷ bs) h = lawful-drop n bs h.1
 
-both-first : (u v : Bool) → (u && v) ≡ true → u ≡ true
+pub both-first : (u v : Bool) → (u && v) ≡ true → u ≡ true
 both-first true v e = refl
 both-first false v e = absurd (let z : ⊥ = cc in z)
 
@@ -83,7 +95,7 @@ not_is true e = absurd (let z : ⊥ = cc in z)
 not_is false e = refl
 
 pub long : (a b c : ℕ) (bs : List ℕ) → nat_le 3 (length (a ∷ b ∷ c ∷ bs)) ≡ true
-long a b c bs = grind (arith, nat_tests)
+long a b c bs = le-leb 3 (length (a ∷ b ∷ c ∷ bs)) (omega arith)
 
 -- ---- names
 
@@ -93,15 +105,18 @@ name_is (a ∷ []) e = absurd (let z : ⊥ = cc in z)
 name_is (a ∷ b ∷ []) e = absurd (let z : ⊥ = cc in z)
 name_is (a ∷ b ∷ c ∷ bs) e = record { three = refl; lawful = both-second (nat_le 3 (length (a ∷ b ∷ c ∷ bs))) _ e }
 
+-- the three bytes of a name that is MSH
+letters : (a b c : ℕ) (bs : List ℕ) → is_header (a ∷ b ∷ c ∷ bs) ≡ true → (a ≡ 77) × (b ≡ 83) × (c ≡ 72)
+letters a b c bs e =
+    let all = both-second (nat_le 3 (length (a ∷ b ∷ c ∷ bs))) _ e in
+    let two = both-second (a == 77) _ all in
+    (eqb-true a 77 (both-first (a == 77) _ all), eqb-true b 83 (both-first (b == 83) _ two), eqb-true c 72 (both-second (b == 83) _ two))
+
 pub header_is : (line : List ℕ) → is_header line ≡ true → take 3 line ≡ header_name
 header_is [] e = absurd (let z : ⊥ = cc in z)
 header_is (a ∷ []) e = absurd (let z : ⊥ = cc in z)
 header_is (a ∷ b ∷ []) e = absurd (let z : ⊥ = cc in z)
-header_is (a ∷ b ∷ c ∷ bs) e =
-    let m : a ≡ 77 = grind (arith, nat_tests) in
-    let s : b ≡ 83 = grind (arith, nat_tests) in
-    let h : c ≡ 72 = grind (arith, nat_tests) in
-    rw (m, s, h) refl
+header_is (a ∷ b ∷ c ∷ bs) e = let is = letters a b c bs e in rw (is.0, is.1, is.2) refl
 
 other_is : (line : List ℕ) → is_named line ≡ true → is_header (take 3 line) ≡ is_header line
 other_is [] e = refl
@@ -115,7 +130,10 @@ first_other : (name : List ℕ) → is_header name ≡ false → first_field nam
 first_other name e = ap (λ (v : Bool). if v then 3 else 1) e
 
 lawful-delimiter : (b : ℕ) → is_delimiter b ≡ true → IsInRange b
-lawful-delimiter b e = (grind (arith, nat_tests), λ low. grind (arith, nat_tests))
+lawful-delimiter b e =
+    let low = leb-true 33 b (both-first (nat_le 33 b) _ e) in
+    let high = leb-true b 126 (both-first (nat_le b 126) _ (both-second (nat_le 33 b) _ e)) in
+    (omega arith, λ under. absurd (omega arith))
 
 pub lawful-delimiters : (d : Delimiters) → are_delimiters d ≡ true → HasLawful d
 lawful-delimiters d e =
@@ -149,11 +167,7 @@ header_kept d line delimiters h is =
     named [] e = absurd (let z : ⊥ = cc in z)
     named (a ∷ []) e = absurd (let z : ⊥ = cc in z)
     named (a ∷ b ∷ []) e = absurd (let z : ⊥ = cc in z)
-    named (a ∷ b ∷ c ∷ bs) e =
-        let m : a ≡ 77 = grind (arith, nat_tests) in
-        let s : b ≡ 83 = grind (arith, nat_tests) in
-        let h : c ≡ 72 = grind (arith, nat_tests) in
-        rw (long a b c bs, m, s, h) refl
+    named (a ∷ b ∷ c ∷ bs) e = let is = letters a b c bs e in rw (long a b c bs, is.0, is.1, is.2) refl
 
 other_kept : (d : Delimiters) (field : ℕ) (line : List ℕ) → HasLawful d → Lawful line → is_segment_line field line ≡ true → IsOther (segment_of d 1 4 line)
 other_kept d field line delimiters h is =
@@ -242,3 +256,6 @@ header_long [] e = absurd (let z : ⊥ = cc in z)
 header_long (a ∷ []) e = absurd (let z : ⊥ = cc in z)
 header_long (a ∷ b ∷ []) e = absurd (let z : ⊥ = cc in z)
 header_long (a ∷ b ∷ c ∷ bs) e = omega arith
+
+pub name_long : (line : List ℕ) → is_named line ≡ true → 3 ≤ length line
+name_long line e = leb-true 3 (length line) (both-first (nat_le 3 (length line)) _ e)
