@@ -1,9 +1,10 @@
 -- The map that makes of each message of a profile the message itself, as far as the profile lists it.
 use Rattle.std.specs.Prelude.{◌≡◌, ℕ, if◌then◌else◌, List, [], ◌∷◌, Option, Some, None}
 use Rattle.gw_profile.specs.declared.node.Node.{Node}
+use Rattle.gw_profile.specs.declared.node.SegNode.{SegNode}
 use Rattle.gw_profile.specs.Shapes as Profile
 use Rattle.gw_profile.specs.Line.{is_forbidden}
-use Rattle.gw_profile.specs.Seen.{node_forest}
+use Rattle.gw_profile.specs.Seen.{segment_value, forest, node_forest}
 use Rattle.gw_maplang.specs.declared.item.Item.{Item}
 use Rattle.gw_maplang.specs.Shapes.{Copies, RuleValue, Items, nothing, segment, group, MapValue}
 use Rattle.gw_maplang.specs.Seen.{with_item}
@@ -35,6 +36,15 @@ identity p = record { name = p.name; source = p.name; target = p.name; line = 0;
 abbrev pub with_some : Option Item → Items → Items
 with_some None rest = rest
 with_some (Some item) rest = with_item item rest
+
+-- the item, if any, is what stands for the segment
+abbrev pub IsSameSegment : Option Item → SegNode → Type 0
+IsSameSegment item s = (rest : Profile.Forest) → with_some item (same_items rest) ≡ same_items (Profile.segment (segment_value s) rest)
+
+-- it is what stands for the group of this label and these nodes
+abbrev pub IsSameGroup : Option Item → List ℕ → List Node → Type 0
+IsSameGroup item label nodes =
+    (rest : Items) → with_some item rest ≡ group (record { line = 0; label = label; path = label ∷ [] }) (same_items (forest nodes)) rest
 
 -- the item, if any, is what stands for the node
 abbrev pub IsSame : Option Item → Node → Type 0

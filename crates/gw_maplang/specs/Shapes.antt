@@ -70,6 +70,9 @@ pub record Row : Type 0 where
   pub first : List ℕ
   pub second : List ℕ
 
+abbrev pub row_of : List ℕ → List ℕ → Row
+row_of first second = record { first = first; second = second }
+
 -- the rows of a table, and what stands for each other value
 pub record Rows : Type 0 where
   pub rows : List Row

@@ -2,6 +2,7 @@
 ghost use Rattle.std.specs.Prelude.{◌≡◌, ◌∷◌, [], ◌++◌, map, IfOk, OnOk, false};
 ghost use Rattle.gw_maplang.specs.Fault as spec;
 ghost use Rattle.gw_maplang.specs.Lawful.{table_names, firsts};
+ghost use Rattle.gw_maplang.specs.Shapes.{row_of};
 ghost use Rattle.gw_maplang.specs.Seen.{line, now, rule, table, open_segment, open_rule, StandingFollows, HasRoom, IsNewTable, IsNewField, IsNewPlace};
 
 use crate::form::Line;
@@ -229,7 +230,7 @@ fn put_row(
     second: &[u8],
 ) -> Result<(), AllocError>
     requires { spec.is_among first.now (firsts (spec.last_table (map table tables.old.entries)).rows) ≡ false }
-    ensures { OnOk result (map table tables.new.entries ≡ spec.at_last (spec.with_row (record { first = first.now; second = second.now })) (map table tables.old.entries)) }
+    ensures { OnOk result (map table tables.new.entries ≡ spec.at_last (spec.with_row (row_of first.now second.now)) (map table tables.old.entries)) }
 {
     match tables.last_mut() {
         None => Ok(()),

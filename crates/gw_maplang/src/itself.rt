@@ -1,11 +1,9 @@
 //! The map that makes of each message of a profile the message itself.
 ghost use Rattle.std.specs.Prelude.{◌≡◌, ◌∷◌, [], map, reverse, IfOk, OnOk, Some};
 ghost use Rattle.gw_profile.specs.Line.{is_forbidden};
-ghost use Rattle.gw_profile.specs.Seen.{field as field_value, segment_value, forest, profile_value};
-ghost use Rattle.gw_profile.specs.Shapes as profiles;
-ghost use Rattle.gw_maplang.specs.Shapes.{Items, group};
+ghost use Rattle.gw_profile.specs.Seen.{field as field_value, forest, profile_value};
 ghost use Rattle.gw_maplang.specs.Identity as spec;
-ghost use Rattle.gw_maplang.specs.Identity.{IsSame, with_some};
+ghost use Rattle.gw_maplang.specs.Identity.{IsSame, IsSameSegment, IsSameGroup, with_some};
 ghost use Rattle.gw_maplang.specs.Seen.{rule, path, all_items, map_value};
 
 use crate::build::{group_item, segment_item};
@@ -63,7 +61,7 @@ fn field_rules(alloc: Global, label: &[u8], fields: &[FieldShape]) -> Result<Vec
     ensures { IfOk result (λ v. map rule v.items ≡ spec.field_rules label.now (map field_value fields.now)) }
 {
     let mut rules = Vec::new(alloc);
-    for (i, field) in fields.iter().enumerate() {
+    for field in fields {
         if !is_forbidden(field.usage) {
             let rule = same_field(alloc, label, field.number)?;
             rules.push(rule)?;
@@ -74,7 +72,7 @@ fn field_rules(alloc: Global, label: &[u8], fields: &[FieldShape]) -> Result<Vec
 
 // The segment from itself, unless it is X.
 fn same_segment(alloc: Global, segment: &SegNode) -> Result<Option<Item>, AllocError>
-    ensures { IfOk result (λ item. (rest : profiles.Forest) → with_some item (spec.same_items rest) ≡ spec.same_items (profiles.segment (segment_value segment.now) rest)) }
+    ensures { IfOk result (λ item. IsSameSegment item segment.now) }
 {
     if is_forbidden(segment.usage) {
         return Ok(None);
@@ -99,7 +97,7 @@ fn push_some(items: &mut Vec<Item>, item: Option<Item>) -> Result<(), AllocError
 
 #[cycle(same)]
 fn same_group(alloc: Global, label: &[u8], nodes: &[Node]) -> Result<Option<Item>, AllocError>
-    ensures { IfOk result (λ item. (rest : Items) → with_some item rest ≡ group (record { line = 0; label = label.now; path = label.now ∷ [] }) (spec.same_items (forest nodes.now)) rest) }
+    ensures { IfOk result (λ item. IsSameGroup item label.now nodes.now) }
 {
     let items = same_items(alloc, nodes)?;
     let from = path_to(alloc, label)?;

@@ -34,9 +34,25 @@ impl Model for Map {
 
     ghost coded = { Prim.hlevel (codes, item.the_row.coded) };
 
-    ghost view = { λ m. record { name = m.name.items; source = m.source.items; target = m.target.items; line = m.line; tables = map table m.tables.entries; items = m.items.items; drops = map dropped m.drops.items } };
+    ghost view = { λ m. record {
+      name = m.name.items;
+      source = m.source.items;
+      target = m.target.items;
+      line = m.line;
+      tables = map table m.tables.entries;
+      items = m.items.items;
+      drops = map dropped m.drops.items;
+    } };
 
-    ghost invariant = { λ m. Lawful (record { name = m.name.items; source = m.source.items; target = m.target.items; line = m.line; tables = map table m.tables.entries; items = all_items m.items.items; drops = map dropped m.drops.items }) };
+    ghost invariant = { λ m. Lawful (record {
+      name = m.name.items;
+      source = m.source.items;
+      target = m.target.items;
+      line = m.line;
+      tables = map table m.tables.entries;
+      items = all_items m.items.items;
+      drops = map dropped m.drops.items;
+    }) };
 }
 
 impl Map {

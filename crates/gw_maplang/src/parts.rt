@@ -49,7 +49,7 @@ fn cut_labels(alloc: Global, bytes: &[u8]) -> Result<Vec<&[u8]>, AllocError>
 fn are_names(labels: &[&[u8]]) -> bool
     ensures { result ≡ list_all is_name (now_all labels.now) }
 {
-    for (i, label) in labels.iter().enumerate() {
+    for label in labels {
         if !is_name(label) {
             return false;
         }
@@ -61,7 +61,7 @@ fn copies(alloc: Global, labels: &[&[u8]]) -> Result<Vec<Vec<u8>>, AllocError>
     ensures { IfOk result (λ v. path v ≡ now_all labels.now) }
 {
     let mut all = Vec::new(alloc);
-    for (i, label) in labels.iter().enumerate() {
+    for label in labels {
         let copy = Vec::from_slice(alloc, label)?;
         all.push(copy)?;
     }

@@ -7,6 +7,7 @@ ghost use Rattle.gw_lines.specs.Values.{is_value};
 ghost use Rattle.gw_maplang.specs.declared.fault.MapFault.TheVariants as fault;
 ghost use Rattle.gw_maplang.specs.Fault as spec;
 ghost use Rattle.gw_maplang.specs.Lawful.{table_names};
+ghost use Rattle.gw_maplang.specs.Shapes.{row_of};
 ghost use Rattle.gw_maplang.specs.Line as form;
 ghost use Rattle.gw_lines.specs.Grammar.{Taken};
 ghost use Rattle.gw_maplang.specs.Seen.{line, above, rule, leaf, leaf_value, table, open_segment, open_rule, map_value, IsNewField, IsNewPlace, IsNewTable};
@@ -105,7 +106,7 @@ fn own_leaf(made: &Rule) -> &[LeafRule]
 fn any_stray(leaves: &[LeafRule]) -> bool
     ensures { result ≡ list_any (λ l. spec.is_stray false l.leaf) (map leaf_value leaves.now) }
 {
-    for (i, own) in leaves.iter().enumerate() {
+    for own in leaves {
         if is_stray(false, &own.leaf) {
             return true;
         }
@@ -116,7 +117,7 @@ fn any_stray(leaves: &[LeafRule]) -> bool
 fn any_unknown(tables: &IndexMap<Vec<u8>, Table>, leaves: &[LeafRule]) -> bool
     ensures { result ≡ list_any (λ l. spec.is_unknown (table_names (map table tables.now.entries)) l.leaf) (map leaf_value leaves.now) }
 {
-    for (i, own) in leaves.iter().enumerate() {
+    for own in leaves {
         if is_unknown(tables, &own.leaf) {
             return true;
         }
@@ -127,7 +128,7 @@ fn any_unknown(tables: &IndexMap<Vec<u8>, Table>, leaves: &[LeafRule]) -> bool
 fn any_bad(leaves: &[LeafRule]) -> bool
     ensures { result ≡ list_any (λ l. spec.is_bad l.leaf) (map leaf_value leaves.now) }
 {
-    for (i, own) in leaves.iter().enumerate() {
+    for own in leaves {
         if is_bad(&own.leaf) {
             return true;
         }
@@ -209,7 +210,7 @@ impl<'a> Reader<'a> {
     }
 
     fn row_fault(&self, at: u32, first: &[u8], second: &[u8]) -> Option<MapFault>
-        ensures { result ≡ first_of (spec.row_tests self.now at (record { first = first.now; second = second.now })) }
+        ensures { result ≡ first_of (spec.row_tests self.now at (row_of first.now second.now)) }
     {
         if !self.standing.in_table {
             return Some(MapFault::Syntax(at));

@@ -1,7 +1,7 @@
 //! Tables of a map.
 ghost use Rattle.std.specs.Prelude.{◌≡◌, ◌++◌, ◌∷◌, [], map, OnOk, None, Some, false};
 ghost use Rattle.gw_maplang.specs.Fault.{is_among};
-ghost use Rattle.gw_maplang.specs.Shapes.{second_of};
+ghost use Rattle.gw_maplang.specs.Shapes.{row_of, second_of};
 ghost use Rattle.gw_maplang.specs.Seen.{row, now, items_of};
 
 use indexmap::IndexMap;
@@ -44,7 +44,7 @@ impl Table {
         second: &[u8],
     ) -> Result<(), AllocError>
         requires { is_among first.now (map (λ r. r.first) self.old.rows) ≡ false }
-        ensures { OnOk result (self.new ≡ record { rows = self.old.rows ++ record { first = first.now; second = second.now } ∷ []; other = self.old.other }) }
+        ensures { OnOk result (self.new ≡ record { rows = self.old.rows ++ row_of first.now second.now ∷ []; other = self.old.other }) }
     {
         let first = Vec::from_slice(alloc, first)?;
         let second = Vec::from_slice(alloc, second)?;

@@ -5,5 +5,5 @@ use Rattle.gw_maplang.specs.Fault.{is_stray}
 use Rattle.gw_maplang.specs.Seen.{leaf_value}
 use Rattle.gw_maplang.proofs.reader.any_stray.Given as goal
 
-abbrev pub invariant-loop-i : goal.invariant-loop-i
-invariant-loop-i l = list_any (λ (o : LeafValue). is_stray false o.leaf) (map leaf_value l.leaves) ≡ list_any (λ (o : LeafValue). is_stray false o.leaf) (map leaf_value (drop l.i l.leaves))
+abbrev pub invariant-loop-own : goal.invariant-loop-own
+invariant-loop-own l = list_any (λ (o : LeafValue). is_stray false o.leaf) (map leaf_value l.leaves) ≡ list_any (λ (o : LeafValue). is_stray false o.leaf) (map leaf_value (drop l.own-index l.leaves))

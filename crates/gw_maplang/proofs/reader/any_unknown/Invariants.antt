@@ -6,7 +6,7 @@ use Rattle.gw_maplang.specs.Fault.{is_unknown}
 use Rattle.gw_maplang.specs.Seen.{leaf_value, table}
 use Rattle.gw_maplang.proofs.reader.any_unknown.Given as goal
 
-abbrev pub invariant-loop-i : goal.invariant-loop-i
-invariant-loop-i l =
+abbrev pub invariant-loop-own : goal.invariant-loop-own
+invariant-loop-own l =
     list_any (λ (o : LeafValue). is_unknown (table_names (map table l.tables.entries)) o.leaf) (map leaf_value l.leaves)
-    ≡ list_any (λ (o : LeafValue). is_unknown (table_names (map table l.tables.entries)) o.leaf) (map leaf_value (drop l.i l.leaves))
+    ≡ list_any (λ (o : LeafValue). is_unknown (table_names (map table l.tables.entries)) o.leaf) (map leaf_value (drop l.own-index l.leaves))
