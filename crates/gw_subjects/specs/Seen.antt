@@ -1,5 +1,5 @@
 -- What the program holds of the lines of a map, without where it lies in memory.
-use Rattle.std.specs.Prelude.{◌≡◌, ◌++◌, ℕ, List, map, Option, option_map, unwrap_or}
+use Rattle.std.specs.Prelude.{◌≡◌, ◌++◌, ℕ, List, map, Option, option_map, unwrap_or, Result, IfOk}
 use denote.Ref.{Bor}
 use Rattle.gw_maplang.specs.Shapes.{TableValue, Rows, table_of}
 use Rattle.gw_resolve.specs.Naming.{no_rows}
@@ -26,6 +26,10 @@ origin tables (origins.TheVariants.Text octets) = text octets.items
 origin tables (origins.TheVariants.Read from) = read (spot from)
 origin tables (origins.TheVariants.Repeated from) = repeated (spot from)
 origin tables (origins.TheVariants.LookedUp name from) = given (rows_of tables name.items) (spot from)
+
+-- the origin that was made, if any, whatever the map's tables are
+abbrev pub OriginIs : {E : Type 0} → Result origins.Origin E → (List TableValue → Origin) → Type 0
+OriginIs result made = (tables : List TableValue) → IfOk result (λ o. origin tables o ≡ made tables)
 
 abbrev pub site : List TableValue → declared.Site → Site
 site tables s = record { line = s.line; target = spot s.target; origin = origin tables s.origin }

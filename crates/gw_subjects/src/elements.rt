@@ -36,7 +36,7 @@ fn fields_below<'a>(nodes: &'a [Node], first: usize, rest: &[usize]) -> &'a [Fie
 {
     let mut level = nodes;
     let mut number = first;
-    for (i, next) in rest.iter().enumerate() {
+    for next in rest {
         level = nodes_within(level, number);
         number = *next;
     }
@@ -55,7 +55,7 @@ fn fields_in<'a>(nodes: &'a [Node], at: &[usize]) -> &'a [FieldShape]
 fn field_of(fields: &[FieldShape], number: u32) -> Option<&FieldShape>
     ensures { some_field result ≡ spec.field_of (map seen_field fields.now) number }
 {
-    for (i, field) in fields.iter().enumerate() {
+    for field in fields {
         if field.number == number {
             return Some(field);
         }
@@ -66,7 +66,7 @@ fn field_of(fields: &[FieldShape], number: u32) -> Option<&FieldShape>
 fn comp_among(comps: &[CompShape], number: u32) -> Option<&CompShape>
     ensures { some_comp result ≡ find (λ c. c.number == number) (map seen_comp comps.now) }
 {
-    for (i, comp) in comps.iter().enumerate() {
+    for comp in comps {
         if comp.number == number {
             return Some(comp);
         }
@@ -86,7 +86,7 @@ fn comp_of(field: Option<&FieldShape>, number: u32) -> Option<&CompShape>
 fn sub_among(subs: &[SubShape], number: u32) -> Option<&SubShape>
     ensures { some_sub result ≡ find (λ s. s.number == number) (map seen_sub subs.now) }
 {
-    for (i, sub) in subs.iter().enumerate() {
+    for sub in subs {
         if sub.number == number {
             return Some(sub);
         }

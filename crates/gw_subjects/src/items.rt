@@ -148,7 +148,7 @@ fn add_items(
     ensures { (tables : List TableValue) → OnOk result (Adds tables sites.old.items sites.new.items
         (spec.items_sites (positions scope.now) above.now (all_items tables items.now))) }
 {
-    for (i, item) in items.iter().enumerate() {
+    for item in items {
         add_item(alloc, sites, scope, above, item)?;
     }
     Ok(())
@@ -206,7 +206,7 @@ pub fn sites(
 pub fn site_at(sites: &[Site], line: u32) -> Option<&Site>
     ensures { (tables : List TableValue) → some_site tables result ≡ spec.site_at (all_sites tables sites.now) line }
 {
-    for (i, site) in sites.iter().enumerate() {
+    for site in sites {
         if site.line == line {
             return Some(site);
         }

@@ -1,10 +1,9 @@
 //! What the lines of a map read.
-ghost use Rattle.std.specs.Prelude.{◌≡◌, List, IfOk};
-ghost use Rattle.gw_maplang.specs.Shapes.{TableValue};
+ghost use Rattle.std.specs.Prelude.{◌≡◌, IfOk};
 ghost use Rattle.gw_subjects.specs.Positions.{positions};
 ghost use Rattle.gw_subjects.specs.Positions as places;
 ghost use Rattle.gw_resolve.specs.Seen.{place as seen_place, reference, source as seen_source, leaf as seen_leaf};
-ghost use Rattle.gw_subjects.specs.Seen.{spot as seen_spot, origin as seen_origin, some_reference, rows_of};
+ghost use Rattle.gw_subjects.specs.Seen.{spot as seen_spot, some_reference, rows_of, OriginIs};
 ghost use Rattle.gw_subjects.specs.Sites as spec;
 
 use crate::site::{Origin, Spot};
@@ -48,7 +47,7 @@ pub(crate) fn inner(
 {
     let at = position(alloc, scope, place)?;
     let mut inner = Vec::new(alloc);
-    for (i, outer) in scope.iter().enumerate() {
+    for outer in scope {
         let copy = Vec::from_slice(alloc, outer)?;
         inner.push(copy)?;
     }
@@ -82,7 +81,7 @@ pub(crate) fn field_origin(
     scope: &[Vec<usize>],
     from: &Reference,
 ) -> Result<Origin, AllocError>
-    ensures { (tables : List TableValue) → IfOk result (λ o. seen_origin tables o ≡ spec.read (spec.read_at (positions scope.now) (reference from.now) 0 0)) }
+    ensures { OriginIs result (λ _. spec.read (spec.read_at (positions scope.now) (reference from.now) 0 0)) }
 {
     let field = read_at(alloc, scope, from, 0, 0)?;
     Ok(Origin::Read(field))
@@ -94,7 +93,7 @@ pub(crate) fn repeated_origin(
     scope: &[Vec<usize>],
     from: &Reference,
 ) -> Result<Origin, AllocError>
-    ensures { (tables : List TableValue) → IfOk result (λ o. seen_origin tables o ≡ spec.repeated (spec.read_at (positions scope.now) (reference from.now) 0 0)) }
+    ensures { OriginIs result (λ _. spec.repeated (spec.read_at (positions scope.now) (reference from.now) 0 0)) }
 {
     let field = read_at(alloc, scope, from, 0, 0)?;
     Ok(Origin::Repeated(field))
@@ -106,7 +105,7 @@ pub(crate) fn node_origin(
     scope: &[Vec<usize>],
     place: &Place,
 ) -> Result<Origin, AllocError>
-    ensures { (tables : List TableValue) → IfOk result (λ o. seen_origin tables o ≡ spec.node_origin (positions scope.now) (seen_place place.now)) }
+    ensures { OriginIs result (λ _. spec.node_origin (positions scope.now) (seen_place place.now)) }
 {
     let at = position(alloc, scope, place)?;
     Ok(Origin::Read(Spot {
@@ -161,8 +160,8 @@ fn looked_up(
     name: &[u8],
     from: &Source,
 ) -> Result<Origin, AllocError>
-    ensures { (tables : List TableValue) → IfOk result (λ o. seen_origin tables o ≡
-        spec.given (rows_of tables name.now) (spec.source_spot (positions scope.now) (some_reference walked.entry) (seen_source from.now))) }
+    ensures { OriginIs result (λ tables. spec.given (rows_of tables name.now)
+        (spec.source_spot (positions scope.now) (some_reference walked.entry) (seen_source from.now))) }
 {
     let name = Vec::from_slice(alloc, name)?;
     let from = source_spot(alloc, scope, walked, from)?;
@@ -176,7 +175,7 @@ pub(crate) fn leaf_origin(
     walked: Option<&Reference>,
     leaf: &Leaf,
 ) -> Result<Origin, AllocError>
-    ensures { (tables : List TableValue) → IfOk result (λ o. seen_origin tables o ≡ spec.leaf_origin (positions scope.now) (some_reference walked.entry) (seen_leaf tables leaf.now)) }
+    ensures { OriginIs result (λ tables. spec.leaf_origin (positions scope.now) (some_reference walked.entry) (seen_leaf tables leaf.now)) }
 {
     match leaf {
         Leaf::Const(text) => {

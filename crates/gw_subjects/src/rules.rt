@@ -89,7 +89,7 @@ fn add_leaves(
     ensures { (tables : List TableValue) → OnOk result (Adds tables sites.old.items sites.new.items
         (flat_map (spec.leaf_sites (positions scope.now) (some_reference walked.entry) target.entry.at.now target.entry.field) (map (at_leaf tables) leaves.now))) }
 {
-    for (i, leaf) in leaves.iter().enumerate() {
+    for leaf in leaves {
         add_leaf(alloc, sites, scope, walked, target, leaf)?;
     }
     Ok(())
@@ -168,7 +168,7 @@ pub(crate) fn add_rules(
     ensures { (tables : List TableValue) → OnOk result (Adds tables sites.old.items sites.new.items
         (spec.rules_sites (positions scope.now) at.now (map (seen_rule tables) rules.now))) }
 {
-    for (i, rule) in rules.iter().enumerate() {
+    for rule in rules {
         add_rule(alloc, sites, scope, at, rule)?;
     }
     Ok(())

@@ -42,7 +42,7 @@ fn listed<'a>(profile: &'a Profile, sub: &SubShape) -> &'a [Vec<u8>]
 fn first_unlisted<'a>(len: Option<u32>, all: &'a [Vec<u8>], table: &Table) -> Option<&'a [u8]>
     ensures { now result ≡ find (λ text. spec.is_short len text && not (is_among text table.now)) (items_all all.now) }
 {
-    for (i, text) in all.iter().enumerate() {
+    for text in all {
         if is_short(len, text) && !table.contains(text) {
             return Some(text.as_slice());
         }
@@ -63,7 +63,7 @@ fn has_row(rows: &Rows, text: &[u8]) -> bool
 fn first_unrowed<'a>(len: Option<u32>, all: &'a [Vec<u8>], rows: &Rows) -> Option<&'a [u8]>
     ensures { now result ≡ find (λ text. spec.is_short len text && not (spec.has_row rows.now text)) (items_all all.now) }
 {
-    for (i, text) in all.iter().enumerate() {
+    for text in all {
         if is_short(len, text) && !has_row(rows, text) {
             return Some(text.as_slice());
         }

@@ -3,5 +3,5 @@ use Rattle.gw_profile.specs.Seen.{field}
 use Rattle.gw_subjects.specs.Elements as spec
 use Rattle.gw_subjects.proofs.elements.field_of.Given as goal
 
-abbrev pub invariant-loop-i : goal.invariant-loop-i
-invariant-loop-i l = spec.field_of (map field l.fields) l.number ≡ spec.field_of (map field (drop l.i l.fields)) l.number
+abbrev pub invariant-loop-field : goal.invariant-loop-field
+invariant-loop-field l = spec.field_of (map field l.fields) l.number ≡ spec.field_of (map field (drop l.field-index l.fields)) l.number

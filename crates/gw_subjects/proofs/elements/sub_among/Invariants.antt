@@ -3,5 +3,5 @@ use Rattle.std.specs.Prelude.{◌==◌, find}
 use Rattle.gw_profile.specs.Seen.{sub}
 use Rattle.gw_subjects.proofs.elements.sub_among.Given as goal
 
-abbrev pub invariant-loop-i : goal.invariant-loop-i
-invariant-loop-i l = find (λ x. x.number == l.number) (map sub l.subs) ≡ find (λ x. x.number == l.number) (map sub (drop l.i l.subs))
+abbrev pub invariant-loop-sub : goal.invariant-loop-sub
+invariant-loop-sub l = find (λ x. x.number == l.number) (map sub l.subs) ≡ find (λ x. x.number == l.number) (map sub (drop l.sub-index l.subs))

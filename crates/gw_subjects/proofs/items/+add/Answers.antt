@@ -23,6 +23,6 @@ add_item-returns-in_ok-within-in-Flat t c = λ tables.
     (c.in_ok-add_node-in-Flat.ensures tables))
     (c.add_items-in-Flat.ensures tables)
 
-pub add_items-loop-i-preserved : goal.add_items-loop-i-preserved
-add_items-loop-i-preserved t c = λ tables.
-    item_made tables (positions c.args.scope.now) c.args.above.now c.args.items.now c.loop-i.i c.index-items-i.result c.args.sites.now.items c.loop-i.sites.items c.add_item.new.sites.items c.loop-i-test.true c.index-items-i.is (c.in_ok-add_item.ensures tables) (c.loop-i.invariant tables)
+pub add_items-loop-item-preserved : goal.add_items-loop-item-preserved
+add_items-loop-item-preserved t c = λ tables.
+    item_made tables (positions c.args.scope.now) c.args.above.now c.args.items.now c.loop-item.item-index c.item-item.result c.args.sites.now.items c.loop-item.sites.items c.add_item.new.sites.items c.loop-item-test.true c.item-item.is (c.in_ok-add_item.ensures tables) (c.loop-item.invariant tables)

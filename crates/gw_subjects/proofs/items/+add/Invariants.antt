@@ -13,8 +13,8 @@ decreases-add_item l = 2 * size-Item l.item.now
 abbrev pub decreases-add_items : goal.decreases-add_items
 decreases-add_items l = 2 * goal.size-add_items l + 1
 
-abbrev pub invariant-add_items-loop-i : goal.invariant-add_items-loop-i
-invariant-add_items-loop-i l =
+abbrev pub invariant-add_items-loop-item : goal.invariant-add_items-loop-item
+invariant-add_items-loop-item l =
     (tables : List TableValue) →
     all_sites tables l.initial.sites.items ++ items_sites (positions l.scope) l.above (all_items tables l.items)
-    ≡ all_sites tables l.sites.items ++ items_sites (positions l.scope) l.above (all_items tables (drop l.i l.items))
+    ≡ all_sites tables l.sites.items ++ items_sites (positions l.scope) l.above (all_items tables (drop l.item-index l.items))

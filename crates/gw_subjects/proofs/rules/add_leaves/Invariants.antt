@@ -7,8 +7,8 @@ use Rattle.gw_subjects.specs.Seen.{all_sites, some_reference}
 use Rattle.gw_subjects.specs.Sites.{leaf_sites}
 use Rattle.gw_subjects.proofs.rules.add_leaves.Given as goal
 
-abbrev pub invariant-loop-i : goal.invariant-loop-i
-invariant-loop-i l =
+abbrev pub invariant-loop-leaf : goal.invariant-loop-leaf
+invariant-loop-leaf l =
     (tables : List TableValue) →
     all_sites tables l.initial.sites.items ++ flat_map (leaf_sites (positions l.scope) (some_reference l.walked) l.target.at.now l.target.field) (map (at_leaf tables) l.leaves)
-    ≡ all_sites tables l.sites.items ++ flat_map (leaf_sites (positions l.scope) (some_reference l.walked) l.target.at.now l.target.field) (map (at_leaf tables) (drop l.i l.leaves))
+    ≡ all_sites tables l.sites.items ++ flat_map (leaf_sites (positions l.scope) (some_reference l.walked) l.target.at.now l.target.field) (map (at_leaf tables) (drop l.leaf-index l.leaves))

@@ -6,8 +6,8 @@ use Rattle.gw_subjects.specs.Seen.{all_sites}
 use Rattle.gw_subjects.specs.Sites.{rules_sites}
 use Rattle.gw_subjects.proofs.rules.add_rules.Given as goal
 
-abbrev pub invariant-loop-i : goal.invariant-loop-i
-invariant-loop-i l =
+abbrev pub invariant-loop-rule : goal.invariant-loop-rule
+invariant-loop-rule l =
     (tables : List TableValue) →
     all_sites tables l.initial.sites.items ++ rules_sites (positions l.scope) l.at (map (rule tables) l.rules)
-    ≡ all_sites tables l.sites.items ++ rules_sites (positions l.scope) l.at (map (rule tables) (drop l.i l.rules))
+    ≡ all_sites tables l.sites.items ++ rules_sites (positions l.scope) l.at (map (rule tables) (drop l.rule-index l.rules))
