@@ -1,7 +1,13 @@
+use Rattle.std.proofs.Common.{List, sym, subst}
+use Rattle.std.proofs.lemmas.Result.{IfOk-from_err}
+use Rattle.gw_profile.specs.Shapes.{nothing}
+use Rattle.gw_validate.specs.declared.occurrences.Found.{Found}
+use Rattle.gw_validate.specs.declared.occurrences.Occurrences.{Occurrences}
+use Rattle.gw_validate.specs.Building.{GoGroups, GoNodes}
 use Rattle.gw_validate.specs.Conforming.{named}
 use Rattle.gw_profile.specs.Seen.{forest}
-use Rattle.gw_validate.specs.Occurring.{tree_of}
-use Rattle.gw_validate.proofs.Building.{groups_over, groups_stopped, groups_never, groups_next, segment_built_node, group_built_node, nodes_more}
+use Rattle.gw_validate.specs.Occurring.{tree_of, trees_of}
+use Rattle.gw_validate.proofs.Building.{groups_init, nodes_init, nodes_end, groups_over, groups_stopped, groups_never, groups_next, segment_built_node, group_built_node, nodes_more}
 use Rattle.gw_validate.proofs.build.+build.Goals as goal
 
 pub build_groups-returns-then-not-can_go_on : goal.build_groups-returns-then-not-can_go_on
@@ -31,3 +37,35 @@ build_node-returns-in_ok-found-in-Group t c =
 pub build_nodes-loop-node-preserved : goal.build_nodes-loop-node-preserved
 build_nodes-loop-node-preserved t c =
     nodes_more (named c.args.message.now) c.args.nodes.now c.loop-node.node-index c.node-item.result c.args.taken.now c.loop-node.found.items _ c.in_ok-one.one c.loop-node.rest.now c.in_ok-one.behind.now c.loop-node-test.true c.node-item.is c.in_ok-push.ensures.items c.loop-node.invariant c.in_ok-one.ensures
+
+pub build_groups-loop-rest-init : goal.build_groups-loop-rest-init
+build_groups-loop-rest-init t c =
+    subst (λ (fs : List Found). GoGroups (named c.args.message.now) c.args.card.min c.args.card.max (forest c.args.children.now) c.args.taken.now (trees_of fs) c.args.card.min c.args.card.max c.args.taken.now) (sym c.new-found.ensures.items)
+    (groups_init (named c.args.message.now) c.args.card.min c.args.card.max (forest c.args.children.now) c.args.taken.now)
+
+pub build_nodes-loop-node-init : goal.build_nodes-loop-node-init
+build_nodes-loop-node-init t c =
+    subst (λ (os : List Occurrences). GoNodes (named c.args.message.now) (forest c.args.nodes.now) nothing (forest c.args.nodes.now) c.args.taken.now (tree_of os) c.args.taken.now) (sym c.new-found.ensures.items)
+    (nodes_init (named c.args.message.now) c.args.nodes.now c.args.taken.now)
+
+pub build_nodes-returns : goal.build_nodes-returns
+build_nodes-returns t c =
+    nodes_end (named c.args.message.now) c.args.nodes.now c.loop-node.node-index c.args.taken.now (tree_of c.loop-node.found.items) c.loop-node.rest.now c.loop-node-test.false c.loop-node.node-indexnvariant
+
+pub build_groups-returns-in_err-each : goal.build_groups-returns-in_err-each
+build_groups-returns-in_err-each t c = IfOk-from_err _ _ c.from_residual.ensures.0
+
+pub build_groups-returns-in_err-push : goal.build_groups-returns-in_err-push
+build_groups-returns-in_err-push t c = IfOk-from_err _ _ c.from_residual-in_err-push.ensures.0
+
+pub build_nodes-returns-in_err-one : goal.build_nodes-returns-in_err-one
+build_nodes-returns-in_err-one t c = IfOk-from_err _ _ c.from_residual.ensures.0
+
+pub build_nodes-returns-in_err-push : goal.build_nodes-returns-in_err-push
+build_nodes-returns-in_err-push t c = IfOk-from_err _ _ c.from_residual-in_err-push.ensures.0
+
+pub build_node-returns-in_err-found-in-Seg : goal.build_node-returns-in_err-found-in-Seg
+build_node-returns-in_err-found-in-Seg t c = IfOk-from_err _ _ c.from_residual.ensures.0
+
+pub build_node-returns-in_err-found-in-Group : goal.build_node-returns-in_err-found-in-Group
+build_node-returns-in_err-found-in-Group t c = IfOk-from_err _ _ c.from_residual-in_err-found-in-Group.ensures.0

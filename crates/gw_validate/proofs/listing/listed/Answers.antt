@@ -1,8 +1,9 @@
 use Rattle.std.proofs.Common.{◌∙◌, ap, arith, ◌<◌, length, ℕ}
+use Rattle.std.proofs.lemmas.Result.{IfOk-from_err}
 use Rattle.std.specs.declared.vec.Vec.{Vec}
 use Rattle.std.specs.Global.{Global}
 use Rattle.gw_profile.specs.Seen.{forest}
-use Rattle.gw_validate.proofs.Gathered.{number_found, number_passed}
+use Rattle.gw_validate.proofs.Gathered.{number_found, number_passed, numbers_all}
 use Rattle.gw_validate.proofs.listing.listed.Goals as goal
 use Rattle.gw_validate.proofs.listing.listed.Goals.{then-knows+in_ok-push, else-knows}
 
@@ -15,3 +16,13 @@ loop-number-preserved c =
       | else-knows w ↦ ap (λ (v : Vec ℕ Global). v.items) w.found-is ∙
           number_passed (forest c.args.profile.now.nodes) c.args.message.now c.loop-number.number lt c.loop-number.found.items c.loop-number.invariant c.name_at.result c.name_at.ensures c.knows.result c.knows.ensures w.if-knows.false
     ]
+
+pub loop-number-init : goal.loop-number-init
+loop-number-init c = c.new-found.ensures.items
+
+pub returns : goal.returns
+returns c =
+    numbers_all (forest c.args.profile.now.nodes) c.args.message.now c.loop-number.number c.segment_count-number-end.result c.loop-number.found.items c.segment_count-number-end.ensures.count c.loop-number-test.false c.loop-number.invariant
+
+pub returns-in_err-push : goal.returns-in_err-push
+returns-in_err-push c = IfOk-from_err _ _ c.from_residual.ensures.0

@@ -1,4 +1,5 @@
-use Rattle.std.proofs.Common.{◌≡◌, ◌∙◌, ap, subst, List, map, get_or}
+use Rattle.std.proofs.Common.{◌≡◌, ◌<◌, ◌∙◌, sym, ap, subst, List, length, map, get_or}
+use Rattle.std.proofs.lemmas.Result.{IfOk-from_err}
 use Rattle.gw_profile.specs.declared.node.Node.{Node}
 use Rattle.gw_profile.specs.Seen.{forest, profile_value}
 use Rattle.gw_validate.specs.declared.walk.Answer.TheVariants as answer
@@ -45,3 +46,27 @@ returns c =
     (subst (λ (l : List Node). Answers (forest l) c.deref-2.result.now (answer.Missing c.in-Missing.name)) c.nodes.ensures.value (rw c.in-Missing.is at c.in_ok-walk.ensures))
     c.segment_count.ensures.count c.breach_at-in-Missing.ensures.segment c.breach_at-in-Missing.ensures.sequence
     (c.breach_at-in-Missing.ensures.spot ∙ ap (λ (s : Spot). segment_key s) c.of_kind-in-Missing.ensures))
+
+pub judge_segments-requires-clause-taken : goal.judge_segments-requires-clause-taken
+judge_segments-requires-clause-taken c = c.deref-in-Fits.ensures.value ∙ c.in_ok-taken.ensures
+
+pub returns-in-Fits : goal.returns-in-Fits
+returns-in-Fits c = c.judge_segments.ensures
+
+pub index-number-requires : goal.index-number-requires
+index-number-requires c =
+    let taken : c.in_ok-taken.taken.items ≡ numbers (forest c.args.profile.now.nodes) c.args.message.now = c.in_ok-taken.ensures in
+    let known : c.deref-2.result.now ≡ map (named c.args.message.now) (numbers (forest c.args.profile.now.nodes) c.args.message.now) =
+    c.deref-2.ensures.value ∙ c.in_ok-names.ensures ∙ ap (map (named c.args.message.now)) (c.deref.ensures.value ∙ taken) in
+    let walked = (subst (λ (l : List Node). Answers (forest l) c.deref-2.result.now (answer.OutOfOrder c.in-OutOfOrder.i)) c.nodes.ensures.value (rw c.in-OutOfOrder.is at c.in_ok-walk.ensures)) in
+    subst (λ n. c.in-OutOfOrder.i < n) (sym (c.in_ok-taken.taken.ok.0 ∙ ap length taken))
+    (order_within (profile_value c.args.profile.now) c.args.message.now c.nodes.ensures.formed.determined c.deref-2.result.now c.in-OutOfOrder.i known walked)
+
+pub returns-in_err-taken : goal.returns-in_err-taken
+returns-in_err-taken c = IfOk-from_err _ _ c.from_residual.ensures.0
+
+pub returns-in_err-names : goal.returns-in_err-names
+returns-in_err-names c = IfOk-from_err _ _ c.from_residual-in_err-names.ensures.0
+
+pub returns-in_err-walk : goal.returns-in_err-walk
+returns-in_err-walk c = IfOk-from_err _ _ c.from_residual-in_err-walk.ensures.0

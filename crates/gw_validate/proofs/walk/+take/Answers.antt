@@ -1,4 +1,5 @@
-use Rattle.std.proofs.Common.{sym, ap, ◌∙◌, [], take}
+use Rattle.std.proofs.Common.{refl, sym, ap, ◌∙◌, [], take}
+use Rattle.std.proofs.lemmas.Result.{IfOk-from_err}
 use Rattle.std.proofs.Common.{arith}
 use Rattle.std.proofs.lemmas.Grind.{common_steps}
 use Rattle.std.proofs.lemmas.List.{take_at}
@@ -22,3 +23,18 @@ take_node-returns-in_default t c =
 pub take_nodes-returns-in_default : goal.take_nodes-returns-in_default
 take_nodes-returns-in_default t c =
     tried_at c.index-nodes-i.result c.card.result _ c.args.nodes.now c.args.name c.args.stack.now.items c.loop-i.stack.items c.take_node.new.stack.items c.loop-i.i c.in_ok-taken.taken c.loop-i-test.true c.index-nodes-i.is c.card.ensures (grind (arith, common_steps)) c.loop-i.invariant.same c.loop-i.invariant.closed_still c.loop-i.invariant.kept c.in_default.not-Passed c.in_ok-taken.ensures
+
+pub take_node-returns-in_err-push-in-Group : goal.take_node-returns-in_err-push-in-Group
+take_node-returns-in_err-push-in-Group t c = IfOk-from_err _ _ c.from_residual-in_err-push-in-Group.ensures.0
+
+pub take_node-returns-in_err-push-in-Seg : goal.take_node-returns-in_err-push-in-Seg
+take_node-returns-in_err-push-in-Seg t c = IfOk-from_err _ _ c.from_residual.ensures.0
+
+pub take_node-returns-in_err-take_nodes-in-Group : goal.take_node-returns-in_err-take_nodes-in-Group
+take_node-returns-in_err-take_nodes-in-Group t c = IfOk-from_err _ _ c.from_residual-in_err-take_nodes-in-Group.ensures.0
+
+pub take_nodes-returns-in_err-taken : goal.take_nodes-returns-in_err-taken
+take_nodes-returns-in_err-taken t c = IfOk-from_err _ _ c.from_residual.ensures.0
+
+pub take_nodes-loop-i-init : goal.take_nodes-loop-i-init
+take_nodes-loop-i-init t c = record { same = refl; open_still = λ all. all; closed_still = λ all. all; kept = refl }
