@@ -19,7 +19,6 @@ pub(crate) struct Leaf {
 }
 
 /// What an answer takes from the header of a message: MSH-3 to MSH-6 and MSH-11, repetition 1, MSH-9.2 and MSH-10.
-#[derive(Drop)]
 pub struct Header {
     sending_application: Vec<Leaf>,
     sending_facility: Vec<Leaf>,
@@ -28,6 +27,21 @@ pub struct Header {
     event: Vec<u8>,
     control: Vec<u8>,
     processing: Vec<Leaf>,
+}
+
+// (by hand: so no crate above proves again how what lies in it is let go)
+impl Drop for Header {
+    fn drop(self) {
+        let Header {
+            sending_application: _,
+            sending_facility: _,
+            receiving_application: _,
+            receiving_facility: _,
+            event: _,
+            control: _,
+            processing: _,
+        } = self;
+    }
 }
 
 impl Model for Header {

@@ -9,10 +9,17 @@ use indexmap::IndexSet;
 use std::alloc::{AllocError, Global};
 
 /// A field of the segment at a position: the numbers of the nodes that lead to it, from the profile's top on and each from 0.
-#[derive(PartialEq, Eq, Hash, Drop)]
+#[derive(PartialEq, Eq, Hash)]
 pub struct FieldAt {
     pub at: Vec<usize>,
     pub field: u32,
+}
+
+// (by hand: so no crate above proves again how what lies in it is let go)
+impl Drop for FieldAt {
+    fn drop(self) {
+        let FieldAt { at: _, field: _ } = self;
+    }
 }
 
 /// The fields that are read or dropped by themselves, and the positions of the elements that are dropped with all that is in them.

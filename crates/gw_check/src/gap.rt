@@ -19,11 +19,21 @@ use gw_resolve::{Item, Resolving, Rule, SegmentItem, nodes_within};
 use std::alloc::{AllocError, Global};
 
 /// A node that no item gives, by the numbers of the nodes that lead to it from the target's top on and each from 0, or a field of it that no rule gives; and the line of what should hold it.
-#[derive(Drop)]
 pub struct Gap {
     pub line: u32,
     pub at: Vec<usize>,
     pub field: Option<u32>,
+}
+
+// (by hand: so no crate above proves again how what lies in it is let go)
+impl Drop for Gap {
+    fn drop(self) {
+        let Gap {
+            line: _,
+            at: _,
+            field: _,
+        } = self;
+    }
 }
 
 fn is_asked(usage: Usage, card: Card) -> bool

@@ -13,10 +13,16 @@ use std::marker::Model;
 use std::sync::Arc;
 
 /// A gate for one thread, with the notes of its replies.
-#[derive(Drop)]
 pub struct Solo {
     gate: Gate,
     notes: Vec<Note>,
+}
+
+// (by hand: so no crate above proves again how what lies in it is let go)
+impl Drop for Solo {
+    fn drop(self) {
+        let Solo { gate: _, notes: _ } = self;
+    }
 }
 
 impl Model for Solo {

@@ -18,9 +18,15 @@ use std::marker::Model;
 use std::sync::Arc;
 
 /// A gate: what it entered in its journal since it opened with a plan. Its journal is lawful by its type.
-#[derive(Drop)]
 pub struct Gate {
     books: Books,
+}
+
+// (by hand: so no crate above proves again how what lies in it is let go)
+impl Drop for Gate {
+    fn drop(self) {
+        let Gate { books: _ } = self;
+    }
 }
 
 impl Model for Gate {

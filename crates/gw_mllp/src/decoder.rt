@@ -13,11 +13,21 @@ use std::marker::Model;
 use std::mem;
 
 /// Takes a stream in pieces, and gives its blocks.
-#[derive(Drop)]
 pub struct Decoder {
     alloc: Global,
     waiting: VecDeque<Vec<u8>>,
     tail: Tail,
+}
+
+// (by hand: so no crate above proves again how what lies in it is let go)
+impl Drop for Decoder {
+    fn drop(self) {
+        let Decoder {
+            alloc: _,
+            waiting: _,
+            tail: _,
+        } = self;
+    }
 }
 
 impl Model for Decoder {

@@ -20,12 +20,23 @@ use std::marker::Model;
 use std::sync::Arc;
 
 /// A message that was admitted under a plan and its version: the plan has a route for it, and it conforms to the route's profile. It is made by `admit` alone.
-#[derive(Drop)]
 pub struct Conforming {
     tree: Tree,
     number: usize,
     plan: Arc<Plan>,
     version: u64,
+}
+
+// (by hand: so no crate above proves again how what lies in it is let go)
+impl Drop for Conforming {
+    fn drop(self) {
+        let Conforming {
+            tree: _,
+            number: _,
+            plan: _,
+            version: _,
+        } = self;
+    }
 }
 
 impl Model for Conforming {
@@ -111,6 +122,19 @@ impl Conforming {
 }
 
 impl Conforming {
+    // The message that was admitted.
+    fn into_message(self) -> Message
+        ensures { result ≡ self.tree.message }
+    {
+        let Conforming {
+            tree,
+            number: _,
+            plan: _,
+            version: _,
+        } = self;
+        tree.into_message()
+    }
+
     // Its plan is the meaning of its text.
     pub(crate) fn is_spelled(&self)
         ensures { spelled self.now.plan.text ≡ Ok (plan_value self.now.plan) }
@@ -157,10 +181,7 @@ fn shared(
     };
     match Arc::new(alloc, conforming) {
         Ok(shared) => Ok(shared),
-        Err(failed) => {
-            let Conforming { tree, .. } = failed.value;
-            Err(tree.into_message())
-        }
+        Err(failed) => Err(failed.value.into_message()),
     }
 }
 

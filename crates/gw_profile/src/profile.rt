@@ -16,12 +16,23 @@ use std::collections::HashSet;
 use std::marker::Model;
 
 /// A message profile: its tables in order, its tree of segments and groups, and the names of its segments. It is well formed by its type.
-#[derive(Drop)]
 pub struct Profile {
     name: Vec<u8>,
     tables: IndexMap<Vec<u8>, Table>,
     nodes: Vec<Node>,
     names: HashSet<[u8; 3]>,
+}
+
+// (by hand: so no crate above proves again how what lies in it is let go)
+impl Drop for Profile {
+    fn drop(self) {
+        let Profile {
+            name: _,
+            tables: _,
+            nodes: _,
+            names: _,
+        } = self;
+    }
 }
 
 impl Model for Profile {
