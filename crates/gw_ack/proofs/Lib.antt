@@ -3,5 +3,5 @@ pub mod Finding
 pub mod Lawful
 pub mod Says
 pub mod Stamped
-pub mod Tabled
+pub mod AnswerRows
 pub mod Tables

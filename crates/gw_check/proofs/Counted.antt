@@ -11,7 +11,7 @@ use Rattle.gw_resolve.specs.Places.{Element, count_at, within}
 use Rattle.gw_resolve.specs.Resolved.{Items, no_items, first_child}
 use Rattle.gw_check.specs.Counts.{items_count}
 use Rattle.gw_resolve.specs.Seen.{interval, saturated, place, with_item, all_items}
-use Rattle.gw_check.specs.Counted.{first_count, CountsOne, CountsAll, FirstChild, ChildOf, Leads}
+use Rattle.gw_check.specs.own.ItemByItem.{first_count, CountsOne, CountsAll, FirstChild, ChildOf, Leads}
 use Rattle.gw_check.specs.Levels.{is_of, its, beyond, has_no_item}
 use Rattle.std.proofs.lemmas.Bool.Decides.{eqb_tells}
 use Rattle.gw_resolve.proofs.Saturation.{sum_saturated, product_saturated}

@@ -17,12 +17,12 @@ use Rattle.gw_resolve.specs.declared.resolved.Item.{Item, Segment, Group, Flat, 
 use Rattle.gw_resolve.specs.Places.{child, fields_of, nodes_of_child}
 use Rattle.gw_resolve.specs.Resolved.{Items, no_items}
 use Rattle.gw_resolve.specs.Naming.{resolved}
-use Rattle.gw_resolve.specs.Resolving.{IsNamed, IsLost}
+use Rattle.gw_resolve.specs.Outcome.{IsNamed, IsLost}
 use Rattle.gw_resolve.specs.Seen.{failures, rule, with_item, all_items}
 use Rattle.gw_resolve.proofs.Noting.{added_one, front}
 use Rattle.gw_resolve.proofs.Rows.{group_items, flat_items}
-use Rattle.gw_check.specs.Checking.{usage_of}
-use Rattle.gw_check.specs.Counted.{Leads}
+use Rattle.gw_check.specs.Found.{usage_of}
+use Rattle.gw_check.specs.own.ItemByItem.{Leads}
 use Rattle.gw_check.specs.Gaps.{Gap, field_gaps, node_gaps, level_gaps, items_gaps, none_if, gaps}
 use Rattle.gw_check.specs.Gathered.{all_gaps, Finds, FindsNode, FindsLevel, FindsItem, FindsItems}
 use Rattle.gw_check.specs.Levels.{its, beyond}

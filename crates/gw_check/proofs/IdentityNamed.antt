@@ -14,7 +14,7 @@ use Rattle.gw_maplang.specs.Identity.{field_rules, copy_rule, same_items}
 use Rattle.gw_resolve.specs.Failures.{Failure, fails, or_later}
 use Rattle.gw_resolve.specs.Places.{Element, a_segment, a_group, Found, nodes_of, child, nodes_of_child, found, element_of, within}
 use Rattle.gw_resolve.specs.Intervals.{once, product}
-use Rattle.gw_resolve.specs.Placed.{is_segment, is_group}
+use Rattle.gw_resolve.specs.Order.{is_segment, is_group}
 use Rattle.gw_resolve.specs.Resolved.{copy, segment_item, group_item}
 use Rattle.gw_profile.specs.Labels.{labelled}
 use Rattle.gw_resolve.specs.Naming.{place_of, place_or, itself, walked_if, node_or, ends_at_segment, is_single_place, has_place, but_last, label_failures, segments_failures, walk_failures, rule_failures, path_failures, target_failures, rule, resolved_items}

@@ -2,7 +2,7 @@
 use Rattle.std.proofs.Common.{◌≡◌, Result, Ok, Err, IfOk}
 use Rattle.gw_profile.specs.Shapes.{Forest, ProfileValue}
 use Rattle.gw_maplang.specs.Shapes.{MapValue}
-use Rattle.gw_resolve.specs.Resolving.{Resolves, ResolvesBy}
+use Rattle.gw_resolve.specs.Outcome.{Resolves, ResolvesBy}
 use Rattle.gw_resolve.specs.declared.named.Resolving as resolving
 
 -- what the levels of two profiles give is what the profiles give

@@ -17,7 +17,7 @@ use Rattle.gw_maplang.specs.Shapes.{TableValue, table_of, MapValue}
 use Rattle.gw_maplang.specs.Lawful as theirs
 use Rattle.gw_resolve.specs.Places.{Element, the_whole, child, nodes_of_child, name_of, within}
 use Rattle.gw_resolve.specs.Resolved.{Rule}
-use Rattle.gw_resolve.specs.Placed.{is_segment, is_group, are_placed}
+use Rattle.gw_resolve.specs.Order.{is_segment, is_group, are_placed}
 use Rattle.gw_resolve.specs.Lawful.{LawfulRows, LawfulSource, LawfulLeaf, LawfulAt, LawfulLeaves, LawfulMaking, LawfulRule, LawfulItems, places}
 use Rattle.gw_profile.specs.Labels.{labelled}
 use Rattle.gw_resolve.specs.Naming.{node_or, walked_if, place_or, target_failures, naming_failures, no_rows, source, leaf, at_leaf, making, rule, resolved_items, resolved}

@@ -7,7 +7,7 @@ use Rattle.gw_resolve.specs.Failures.{fails}
 use Rattle.gw_check.specs.Fields.{made_sub, made_comp}
 use Rattle.gw_check.specs.Leaves.{Sources, is_always, is_absent}
 use Rattle.gw_resolve.specs.Resolved.{At}
-use Rattle.gw_check.specs.Lacking.{There, there_of, sub_lacks, all_lacks}
+use Rattle.gw_check.specs.own.Lacking.{There, there_of, sub_lacks, all_lacks}
 use Rattle.gw_check.proofs.Lists.{any_map, all_map}
 
 module _ (s : Sources) (leaves : List At) (line : ℕ) where

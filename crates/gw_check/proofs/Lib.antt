@@ -13,7 +13,7 @@ pub mod Keeping
 pub mod Judging
 pub mod Lists
 pub mod Tested
-pub mod Counting
+pub mod Capped
 pub mod IdentityItems
 pub mod IdentityNamed
 pub mod IdentityFields

@@ -19,10 +19,10 @@ use Rattle.gw_resolve.specs.declared.resolved.Item.{Item}
 use Rattle.gw_resolve.specs.declared.resolved.LeftOut.{LeftOut}
 use Rattle.gw_resolve.specs.Naming.{resolved}
 use Rattle.gw_resolve.specs.Resolved.{Drop}
-use Rattle.gw_resolve.specs.Resolving.{Resolves, IsNamed}
+use Rattle.gw_resolve.specs.Outcome.{Resolves, IsNamed}
 use Rattle.gw_resolve.specs.Seen.{all_items, left_out}
 use Rattle.gw_check.specs.Reads.{Position, SourceField, items_read}
-use Rattle.gw_check.specs.Seen as seen
+use Rattle.gw_check.specs.own.Seen as seen
 use Rattle.gw_check.specs.Collected.{Adds, Accounts, has_element, drops_element, fields_at}
 use Rattle.gw_check.specs.Unread.{passed_field, passed_over, missed_field, segment_missed, all_missed, within_missed, node_missed, none_if, unread}
 use Rattle.gw_check.proofs.Passing.{is_around, around_below, at_the_top, field_dropped, field_missed, around_here}

@@ -13,7 +13,7 @@ use Rattle.gw_maplang.specs.Lawful as theirs
 use Rattle.gw_resolve.specs.Failures.{Failure, fails, or_later}
 use Rattle.gw_resolve.specs.Places.{Element, child, nodes_of_child, within}
 use Rattle.gw_resolve.specs.Resolved.{Items, first_child}
-use Rattle.gw_resolve.specs.Placed.{is_segment, is_group, all_for, are_placed, follows, number_or}
+use Rattle.gw_resolve.specs.Order.{is_segment, is_group, all_for, are_placed, follows, number_or}
 use Rattle.gw_profile.specs.Labels.{labelled}
 use Rattle.gw_resolve.specs.Naming.{node_or, first_or, labels, are_one, label_failures, target_failures, resolved_items, place_or}
 

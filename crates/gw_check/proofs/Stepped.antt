@@ -14,9 +14,9 @@ use Rattle.gw_resolve.specs.Resolved.{Items}
 use Rattle.gw_check.specs.Counts.{items_count}
 use Rattle.gw_check.specs.Levels.{its, beyond, node_failures, level_failures}
 use Rattle.gw_resolve.specs.Failures.{Failure}
-use Rattle.gw_check.specs.Counted.{Leads}
+use Rattle.gw_check.specs.own.ItemByItem.{Leads}
 use Rattle.gw_resolve.specs.Seen.{failures, all_items}
-use Rattle.gw_check.specs.Checking.{NotesNode, usage_of}
+use Rattle.gw_check.specs.Found.{NotesNode, usage_of}
 use Rattle.gw_resolve.proofs.Noting.{added_one}
 
 pub drop_drop : {X : Type 0} (a b : ℕ) (l : List X) → drop b (drop a l) ≡ drop (a + b) l

@@ -16,7 +16,7 @@ use Rattle.gw_check.specs.Levels.{level_failures, items_failures}
 use Rattle.gw_resolve.specs.declared.element.Element as elements
 use Rattle.gw_resolve.specs.Seen.{failures, place, with_item, all_items, scope}
 use Rattle.gw_resolve.specs.Noted.{Notes}
-use Rattle.gw_check.specs.Checking.{weight, weight_one, weight_all, NotesLevel}
+use Rattle.gw_check.specs.Found.{weight, weight_one, weight_all, NotesLevel}
 use Rattle.gw_resolve.proofs.Noting.{front, added_one}
 use Rattle.gw_resolve.proofs.Rows.{group_items, flat_items}
 

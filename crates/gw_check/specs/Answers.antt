@@ -4,10 +4,10 @@ use Rattle.gw_profile.specs.Shapes.{ProfileValue}
 use Rattle.gw_profile.specs.WellFormed.{WellFormed}
 use Rattle.gw_maplang.specs.Shapes.{MapValue}
 use Rattle.gw_maplang.specs.Seen.{Contents}
-use Rattle.gw_check.specs.declared.checker.Examined.{Examined}
-use Rattle.gw_check.specs.declared.checker.Judged as judged
-use Rattle.gw_check.specs.declared.checker.CheckFault as faults
-use Rattle.gw_check.specs.declared.checker.Refusal as refusals
+use Rattle.gw_check.specs.declared.rules.Examined.{Examined}
+use Rattle.gw_check.specs.declared.rules.Judged as judged
+use Rattle.gw_check.specs.declared.rules.CheckFault as faults
+use Rattle.gw_check.specs.declared.rules.Refusal as refusals
 use Rattle.gw_resolve.specs.declared.failure.Failure.{Failure}
 use Rattle.gw_resolve.specs.declared.resolved.Item.{Item}
 use Rattle.gw_resolve.specs.declared.resolved.LeftOut.{LeftOut}

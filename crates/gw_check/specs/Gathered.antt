@@ -12,7 +12,7 @@ use Rattle.gw_resolve.specs.declared.resolved.SegmentItem.{SegmentItem}
 use Rattle.gw_resolve.specs.Places.{child, fields_of}
 use Rattle.gw_resolve.specs.Resolved.{no_items}
 use Rattle.gw_resolve.specs.Seen.{with_item, all_items, rule as seen_rule}
-use Rattle.gw_check.specs.Checking.{usage_of}
+use Rattle.gw_check.specs.Found.{usage_of}
 use Rattle.gw_check.specs.Gaps.{Gap, field_gaps, node_gaps, level_gaps, items_gaps}
 use Rattle.gw_check.specs.Reads.{Position}
 use Rattle.gw_check.specs.declared.gap.Gap as declared

@@ -6,7 +6,7 @@ use Rattle.gw_resolve.specs.Resolved.{Resolved}
 use Rattle.gw_resolve.specs.Failures.{Failure, fails}
 use Rattle.gw_check.specs.Levels.{level_failures, items_failures}
 use Rattle.gw_check.specs.Reads.{items_read, some_passed_over}
-use Rattle.gw_resolve.specs.Placed.{are_placed}
+use Rattle.gw_resolve.specs.Order.{are_placed}
 
 -- the failures of the rules 4 to 12
 abbrev pub failures : ProfileValue → ProfileValue → Resolved → List Failure

@@ -32,7 +32,7 @@ impl Model for CheckedMap {
     ghost use Rattle.gw_profile.specs.contracts.node.Node as node;
     ghost use Rattle.gw_maplang.specs.contracts.item.Item as raw_item;
     ghost use Rattle.gw_resolve.specs.contracts.resolved.Item as item;
-    ghost use Rattle.gw_check.specs.CheckedMap.{CheckedValue, IsChecked};
+    ghost use Rattle.gw_check.specs.Kept.{CheckedValue, IsChecked};
 
     ghost Value = { CheckedValue };
 
@@ -47,7 +47,7 @@ impl CheckedMap {
     ghost use Rattle.std.specs.Prelude.{◌≡◌, ◌↔◌, IsTrue};
     ghost use Rattle.std.specs.Arc.{arc_value};
     ghost use Rattle.gw_profile.specs.Seen.{profile_value};
-    ghost use Rattle.gw_check.specs.CheckedMap.{CheckedValue, IsChecked};
+    ghost use Rattle.gw_check.specs.Kept.{CheckedValue, IsChecked};
 
     /// The map of these parts.
     pub(crate) fn of(

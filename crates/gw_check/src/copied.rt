@@ -2,7 +2,7 @@
 ghost use Rattle.std.specs.Prelude.{map, flat_map, OnOk};
 ghost use Rattle.gw_profile.specs.Seen.{sub as sub_value, comp as comp_value};
 ghost use Rattle.gw_resolve.specs.Noted.{Notes};
-ghost use Rattle.gw_check.specs.Seen as seen;
+ghost use Rattle.gw_check.specs.own.Seen as seen;
 
 use crate::known::{at_field, comp_of, sub_of};
 use crate::leaf::sub_texts;

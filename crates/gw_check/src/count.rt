@@ -1,8 +1,8 @@
 //! How often a rule gives its field.
 ghost use Rattle.std.specs.Prelude.{◌≡◌};
 ghost use Rattle.gw_check.specs.Counts as spec;
-ghost use Rattle.gw_check.specs.Seen as seen;
-ghost use Rattle.gw_check.specs.Reading.{sources_value, map_tables, leaves_value, some_field, known_value};
+ghost use Rattle.gw_check.specs.own.Seen as seen;
+ghost use Rattle.gw_check.specs.own.Uses.{sources_value, map_tables, leaves_value, some_field, known_value};
 ghost use Rattle.gw_resolve.specs.Seen.{interval, saturated, reference, making as seen_making};
 
 use crate::known::{Known, at_field, field_of, segment_at};

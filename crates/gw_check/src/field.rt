@@ -4,8 +4,8 @@ ghost use Rattle.gw_profile.specs.Seen.{field as field_value};
 ghost use Rattle.gw_maplang.specs.Shapes.{TableValue};
 ghost use Rattle.gw_check.specs.Fields as spec;
 ghost use Rattle.gw_resolve.specs.Noted.{Notes};
-ghost use Rattle.gw_check.specs.Reading.{some_rule};
-ghost use Rattle.gw_check.specs.Seen as seen;
+ghost use Rattle.gw_check.specs.own.Uses.{some_rule};
+ghost use Rattle.gw_check.specs.own.Seen as seen;
 
 use crate::copied::check_copied;
 use crate::count::{rule_count, walking};

@@ -3,7 +3,7 @@ ghost use Rattle.std.specs.Prelude.{◌≡◌, map, IfOk, OnOk, option_map};
 ghost use Rattle.gw_profile.specs.Seen.{forest, node_forest, field};
 ghost use Rattle.gw_profile.specs.Shapes.{nothing};
 ghost use Rattle.gw_resolve.specs.Places as places;
-ghost use Rattle.gw_check.specs.Checking.{NotesSegment, NotesItem, NotesItems};
+ghost use Rattle.gw_check.specs.Found.{NotesSegment, NotesItem, NotesItems};
 ghost use Rattle.gw_resolve.specs.Seen.{scope as walked, place as seen_place};
 
 use crate::field::check_segment;

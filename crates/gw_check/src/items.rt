@@ -1,6 +1,6 @@
 //! The items of a level: how often they come, and for which target node.
 ghost use Rattle.std.specs.Prelude.{◌≡◌, IfOk};
-ghost use Rattle.gw_check.specs.Counted.{CountsOne, CountsAll, FirstChild, ChildOf, Leads};
+ghost use Rattle.gw_check.specs.own.ItemByItem.{CountsOne, CountsAll, FirstChild, ChildOf, Leads};
 ghost use Rattle.gw_check.specs.Levels.{is_of};
 ghost use Rattle.gw_resolve.specs.Seen.{scope as walked};
 

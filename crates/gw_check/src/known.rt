@@ -4,7 +4,7 @@ ghost use Rattle.gw_profile.specs.Seen.{field, comp, sub};
 ghost use Rattle.gw_resolve.specs.Founds.{found_value};
 ghost use Rattle.gw_check.specs.Leaves as spec;
 ghost use Rattle.gw_resolve.specs.Places as places;
-ghost use Rattle.gw_check.specs.Reading.{sources_value, some_field, some_comp, some_sub, some_rule, known_value, saturated_known};
+ghost use Rattle.gw_check.specs.own.Uses.{sources_value, some_field, some_comp, some_sub, some_rule, known_value, saturated_known};
 ghost use Rattle.gw_resolve.specs.Resolved as resolved;
 ghost use Rattle.gw_resolve.specs.Seen.{scope as walked, place as seen_place, reference, rule as seen_rule};
 ghost use Rattle.gw_maplang.specs.Shapes.{TableValue};

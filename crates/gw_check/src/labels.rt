@@ -2,7 +2,7 @@
 ghost use Rattle.std.specs.Prelude.{◌≡◌, IfOk};
 ghost use Rattle.gw_profile.specs.Seen.{profile_value};
 ghost use Rattle.gw_maplang.specs.Seen.{map_value};
-ghost use Rattle.gw_resolve.specs.Resolving.{Resolves};
+ghost use Rattle.gw_resolve.specs.Outcome.{Resolves};
 
 use gw_maplang::Map;
 use gw_profile::{Level, Profile};

@@ -5,7 +5,7 @@ ghost use Rattle.gw_profile.specs.Value.{table_of};
 ghost use Rattle.gw_profile.specs.Lengths.{octets};
 ghost use Rattle.gw_check.specs.Fields.{table_values};
 ghost use Rattle.gw_check.specs.Leaves as spec;
-ghost use Rattle.gw_check.specs.Reading.{sources_value, map_tables, some_sub};
+ghost use Rattle.gw_check.specs.own.Uses.{sources_value, map_tables, some_sub};
 ghost use Rattle.gw_resolve.specs.Seen.{source as seen_source, leaf as seen_leaf};
 ghost use Rattle.gw_check.specs.Texts.{read_value, texts_value, items_all, values_value, shape_value, some_items, meets};
 

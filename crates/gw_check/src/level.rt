@@ -5,7 +5,7 @@ ghost use Rattle.gw_check.specs.Levels as spec;
 ghost use Rattle.gw_resolve.specs.Resolved as resolved;
 ghost use Rattle.gw_resolve.specs.Places as places;
 ghost use Rattle.gw_resolve.specs.Seen.{interval, saturated, scope as walked, place as seen_place, with_item, all_items};
-ghost use Rattle.gw_check.specs.Checking.{NotesNode, NotesLevel, usage_of};
+ghost use Rattle.gw_check.specs.Found.{NotesNode, NotesLevel, usage_of};
 ghost use Rattle.gw_maplang.specs.Shapes.{TableValue};
 
 use crate::items::{items_count, leading};

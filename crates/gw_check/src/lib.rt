@@ -3,7 +3,6 @@
 
 mod accounted;
 mod checked;
-mod checker;
 mod copied;
 mod count;
 mod failure;
@@ -22,6 +21,7 @@ mod often;
 mod overlooked;
 mod presence;
 mod reads;
+mod rules;
 mod shape;
 mod sources;
 mod texts;
@@ -29,8 +29,8 @@ mod values;
 
 pub use accounted::FieldAt;
 pub use checked::CheckedMap;
-pub use checker::{CheckFault, Refusal, check, examine, failures};
 pub use gap::{Gap, gaps};
 pub use leaf::included;
 pub use overlooked::unread;
+pub use rules::{CheckFault, Refusal, check, examine, failures};
 pub use shape::{Presence, Shape, Values};

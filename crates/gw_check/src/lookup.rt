@@ -2,9 +2,9 @@
 ghost use Rattle.std.specs.Prelude.{flat_map, OnOk};
 ghost use Rattle.gw_check.specs.Fields as spec;
 ghost use Rattle.gw_resolve.specs.Noted.{Notes};
-ghost use Rattle.gw_check.specs.Reading.{sources_value, map_tables, leaves_value, rules_value};
+ghost use Rattle.gw_check.specs.own.Uses.{sources_value, map_tables, leaves_value, rules_value};
 ghost use Rattle.gw_resolve.specs.Seen.{at_leaf, rule as seen_rule};
-ghost use Rattle.gw_check.specs.Seen as seen;
+ghost use Rattle.gw_check.specs.own.Seen as seen;
 
 use crate::count::walking;
 use crate::leaf::source_texts;

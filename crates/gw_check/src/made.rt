@@ -4,12 +4,12 @@ ghost use Rattle.gw_profile.specs.Seen.{sub as sub_value, comp as comp_value};
 ghost use Rattle.gw_validate.specs.Breaches.{is_null};
 ghost use Rattle.gw_resolve.specs.Failures.{fails};
 ghost use Rattle.gw_check.specs.Fields as spec;
-ghost use Rattle.gw_check.specs.Lacking.{there_of, there_value, has_comp, has_only_comp, has_sub, has_only_sub, sub_lacks, comp_lacks, all_lacks};
+ghost use Rattle.gw_check.specs.own.Lacking.{there_of, there_value, has_comp, has_only_comp, has_sub, has_only_sub, sub_lacks, comp_lacks, all_lacks};
 ghost use Rattle.gw_check.specs.Leaves as leaves_spec;
 ghost use Rattle.gw_resolve.specs.Noted.{Notes};
-ghost use Rattle.gw_check.specs.Reading.{sources_value, map_tables, leaves_value, some_comp, some_sub};
+ghost use Rattle.gw_check.specs.own.Uses.{sources_value, map_tables, leaves_value, some_comp, some_sub};
 ghost use Rattle.gw_resolve.specs.Seen.{at_leaf};
-ghost use Rattle.gw_check.specs.Seen as seen;
+ghost use Rattle.gw_check.specs.own.Seen as seen;
 ghost use Rattle.gw_check.specs.Texts.{texts_value};
 
 use crate::known::{comp_of, sub_of};

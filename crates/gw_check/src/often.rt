@@ -2,7 +2,7 @@
 ghost use Rattle.std.specs.Prelude.{◌≡◌, ◌&&◌, not, OnOk};
 ghost use Rattle.gw_validate.specs.Breaches.{is_forbidden};
 ghost use Rattle.gw_check.specs.Fields.{is_expected};
-ghost use Rattle.gw_check.specs.Seen as seen;
+ghost use Rattle.gw_check.specs.own.Seen as seen;
 ghost use Rattle.gw_resolve.specs.Intervals as intervals;
 ghost use Rattle.gw_resolve.specs.Noted.{Notes};
 ghost use Rattle.gw_resolve.specs.Seen.{interval, saturated};

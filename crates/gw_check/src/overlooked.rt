@@ -4,7 +4,7 @@ ghost use Rattle.gw_profile.specs.Seen.{forest, profile_value, segment_value, fi
 ghost use Rattle.gw_maplang.specs.Seen.{map_value};
 ghost use Rattle.gw_maplang.specs.Shapes.{TableValue};
 ghost use Rattle.gw_check.specs.Collected.{Adds, fields_at};
-ghost use Rattle.gw_check.specs.Seen as seen;
+ghost use Rattle.gw_check.specs.own.Seen as seen;
 ghost use Rattle.gw_check.specs.Unread as spec;
 
 use crate::accounted::{Accounted, FieldAt};

@@ -2,7 +2,7 @@
 ghost use Rattle.std.specs.Prelude.{◌≡◌, ◌&&◌, nat_le, if◌then◌else◌};
 ghost use Rattle.gw_resolve.specs.Intervals.{is_sure};
 ghost use Rattle.gw_check.specs.Leaves as spec;
-ghost use Rattle.gw_check.specs.Reading.{sources_value, map_tables, some_field, some_comp, some_sub, known_value};
+ghost use Rattle.gw_check.specs.own.Uses.{sources_value, map_tables, some_field, some_comp, some_sub, known_value};
 ghost use Rattle.gw_resolve.specs.Seen.{interval, reference, source as seen_source, leaf as seen_leaf};
 ghost use Rattle.gw_check.specs.declared.shape.Presence.TheVariants as presences;
 

@@ -4,7 +4,7 @@ ghost use Rattle.std.specs.List.{list_any};
 ghost use Rattle.gw_profile.specs.Seen.{forest, segment_value, field as seen_field};
 ghost use Rattle.gw_check.specs.Reads as spec;
 ghost use Rattle.gw_check.specs.Collected.{Adds, fields_at, positions, is_missed, segment_misses, some_missed, within_misses, node_misses};
-ghost use Rattle.gw_check.specs.Seen as seen;
+ghost use Rattle.gw_check.specs.own.Seen as seen;
 ghost use Rattle.gw_resolve.specs.Seen.{place as seen_place, reference, source, at_leaf};
 ghost use Rattle.gw_maplang.specs.Shapes.{TableValue};
 

@@ -4,7 +4,7 @@ ghost use Rattle.gw_validate.specs.Breaches.{is_required, is_forbidden};
 ghost use Rattle.gw_resolve.specs.Failures.{fails};
 ghost use Rattle.gw_check.specs.Leaves as leaves_spec;
 ghost use Rattle.gw_resolve.specs.Noted.{Notes};
-ghost use Rattle.gw_check.specs.Seen as seen;
+ghost use Rattle.gw_check.specs.own.Seen as seen;
 
 use crate::leaf::table_of;
 use crate::presence::{is_absent, is_always};

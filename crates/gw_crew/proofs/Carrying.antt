@@ -21,7 +21,7 @@ use Rattle.gw_stream.specs.Sent.{BeginsWith, SendsPart}
 use Rattle.gw_stream.specs.Streams.{HasFirst}
 use Rattle.gw_crew.specs.Notes.{NoteSeen, WasFull, WasNothing, Added}
 use Rattle.gw_crew.specs.Streams.{Reading, Feeds}
-use Rattle.gw_crew.specs.Turns.{Adds, Waits, never, again, ComesOut, ComesNone}
+use Rattle.gw_crew.specs.own.Turns.{Adds, Waits, never, again, ComesOut, ComesNone}
 use Rattle.gw_crew.specs.Carries.{Rounds, no_round, sent_one, waited, none_left, full, Carried, Carries, write, read, ended, denied, LineFails}
 use Rattle.gw_crew.specs.Carries.{memory, turns, line, Breaks, empty_handed, in_hand, GivesNext, GivesNone, Sent, Unsent, Unwritten, WriteFails}
 use Rattle.gw_crew.specs.Carries.{write_memory, write_line, Denies, no_memory, not_acknowledged, Progress, control_of, with_sent}

@@ -10,7 +10,7 @@ use Rattle.gw_crew.specs.declared.workers.Became.{Became}
 use Rattle.gw_crew.specs.declared.workers.Became.TheVariants as became
 use Rattle.gw_crew.specs.Notes.{NoteSeen, WasFull, WasIdle, Added, Notes}
 use Rattle.gw_crew.specs.Works.{Rounds, no_round, kept, dropped, waited, Ends, idle, full, full_in_hand, stopped, InHand, empty, job, Worked, Works, Breaks}
-use Rattle.gw_crew.specs.Turns.{Finishes, is_kept, is_dropped, is_full, is_stopped, Turn, keeps, drops, waits, ends, Adds, Put, became_of}
+use Rattle.gw_crew.specs.own.Turns.{Finishes, is_kept, is_dropped, is_full, is_stopped, Turn, keeps, drops, waits, ends, Adds, Put, became_of}
 use Rattle.gw_stream.specs.declared.counts.Counts.{Counts}
 use Rattle.gw_stream.specs.Counted.{nothing}
 

@@ -5,4 +5,4 @@ pub mod Works
 pub mod Swapping
 pub mod Streams
 pub mod Carries
-pub mod Turns
+pub mod own

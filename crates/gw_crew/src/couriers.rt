@@ -6,7 +6,7 @@ ghost use Rattle.gw_gate.specs.Values.{reply_seen};
 ghost use Rattle.gw_mllp.specs.Stream.{block};
 ghost use Rattle.gw_stream.specs.declared.fault.RunFault.TheVariants.{Memory};
 ghost use Rattle.gw_crew.specs.Carries.{Breaks, Carries, Sent, Unsent, Unwritten, control_of, with_sent};
-ghost use Rattle.gw_crew.specs.Turns.{Adds, Comes, GaveOut, Waits, given_of, given_seen, out_seen};
+ghost use Rattle.gw_crew.specs.own.Turns.{Adds, Comes, GaveOut, Waits, given_of, given_seen, out_seen};
 ghost use Rattle.std.specs.Option.{option_map};
 
 use crate::blocks::answered;

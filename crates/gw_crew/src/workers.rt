@@ -4,7 +4,7 @@ ghost use Rattle.std.specs.Arc.{arc_value};
 ghost use Rattle.gw_gate.specs.Values.{reply_seen};
 ghost use Rattle.gw_plan.specs.Admitted.{IsOf};
 ghost use Rattle.gw_stream.specs.declared.fault.RunFault.TheVariants.{Memory};
-ghost use Rattle.gw_crew.specs.Turns.{Adds, Finishes, Put, Took, Turn, became_of, taken_of, taken_seen};
+ghost use Rattle.gw_crew.specs.own.Turns.{Adds, Finishes, Put, Took, Turn, became_of, taken_of, taken_seen};
 ghost use Rattle.gw_crew.specs.Works.{Breaks, InHand, Works};
 
 use crate::door::{Door, Phase};

@@ -6,7 +6,7 @@ use Rattle.std.proofs.lemmas.List.{take-append-drop, drop_more, drop_at, take_at
 use Rattle.std.proofs.lemmas.Slice.Eq.{bytes_eq-Decides}
 use Rattle.std.specs.List.{list_all, flat_map, position_or_len, AllByRecursion}
 use Rattle.gw_er7.specs.Text.{canon, standard, is_special, is_text_byte, is_canonical, body_of, Item, Plain, Escape, spelled, IsItem, IsInRange, IsPlain, IsCanonical}
-use Rattle.gw_er7.specs.Canonical.{is_plain, Follows}
+use Rattle.gw_er7.specs.own.Canonical.{is_plain, Follows}
 use Rattle.gw_er7.proofs.Fixed.{canonical_stays}
 use Rattle.gw_er7.proofs.Ranges.{Lawful, HasLawful, canonical-from}
 use Rattle.gw_er7.proofs.Rounds.{IsTextByte, text_bytes}

@@ -4,13 +4,13 @@ use Rattle.std.specs.Prelude.{◌==◌, not}
 use Rattle.std.specs.List.{prefix_len}
 use Rattle.gw_er7.specs.declared.level.Level.TheVariants.{Field, Repetition, Component, Subcomponent}
 use Rattle.gw_er7.specs.Entries.{Entry}
-use Rattle.gw_er7.specs.Layers.{inside, part_text}
-use Rattle.gw_er7.specs.Ordered.{IsOrdered, IsCut}
+use Rattle.gw_er7.specs.own.Layers.{inside, part_text}
+use Rattle.gw_er7.specs.own.Ordered.{IsOrdered, IsCut}
 use Rattle.gw_er7.specs.View.{Held, entries_of}
 use Rattle.gw_er7.specs.Written.{last_number, layer, fields_text}
 use Rattle.gw_er7.proofs.Runs.{cut_run}
 use Rattle.gw_er7.proofs.Steps.{levels, ones, steps, behind, steps-under}
-use Rattle.gw_er7.proofs.Writes.{layer-last, layer-more, IsFurther, further}
+use Rattle.gw_er7.proofs.PartByPart.{layer-last, layer-more, IsFurther, further}
 
 module _ (head : Held → ℕ) (tail : Held → Entry) (t : ℕ) (ts : List ℕ) (inner : List Entry → List ℕ) where
   abbrev full : Held → Entry

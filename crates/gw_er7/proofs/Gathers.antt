@@ -6,7 +6,7 @@ use Rattle.gw_er7.specs.declared.delimiters.Delimiters.{Delimiters}
 use Rattle.gw_er7.specs.Content.{Line, Begins, lines_from, first_bad, is_segment_line}
 use Rattle.gw_er7.specs.Names.{is_named}
 use Rattle.gw_er7.specs.Message.{SegmentValue}
-use Rattle.gw_er7.specs.Gathered.{segment_of, others_of}
+use Rattle.gw_er7.specs.own.Gathered.{segment_of, others_of}
 use Rattle.gw_er7.proofs.Messages.{both-first, name_long}
 
 -- ---- where lines are none but segments'

@@ -11,7 +11,7 @@ pub mod Keys
 pub mod Levels
 pub mod Messages
 pub mod Gathers
-pub mod Writes
+pub mod PartByPart
 pub mod Steps
 pub mod Runs
 pub mod Flat

@@ -18,7 +18,7 @@ use Rattle.gw_er7.specs.Names.{header_name, IsName}
 use Rattle.gw_er7.specs.Message.{first_field, IsEntry, IsSegment, IsHeader, IsOther, IsMessage}
 use Rattle.gw_er7.specs.Reading.{ReadsOthers, ReadsLines, Reads}
 use Rattle.gw_er7.specs.Entries.{fields}
-use Rattle.gw_er7.specs.Gathered.{segment_of, others_of}
+use Rattle.gw_er7.specs.own.Gathered.{segment_of, others_of}
 use Rattle.gw_er7.proofs.Ranges.{Lawful, HasLawful, fields_kept}
 use Rattle.gw_er7.proofs.Sorted.{sorted-fields}
 use Rattle.gw_er7.proofs.Levels.{reads_fields}

@@ -8,7 +8,7 @@ use Rattle.std.specs.Cmp.{nat_cmp_is}
 use Rattle.std.specs.FinMap.Entries.{below_all}
 use Rattle.gw_er7.specs.View.{Held}
 use Rattle.gw_er7.specs.Entries.{Entry, under}
-use Rattle.gw_er7.specs.Ordered.{IsAtLeast, Above, IsOrdered, IsCut}
+use Rattle.gw_er7.specs.own.Ordered.{IsAtLeast, Above, IsOrdered, IsCut}
 use Rattle.gw_er7.proofs.Sorted.{order, both, first, second, cmp-same}
 
 less-le : (a b : ℕ) (key other : List ℕ) → T (is_lt (order (a ∷ key) (b ∷ other))) → a ≤ b

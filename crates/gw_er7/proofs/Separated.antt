@@ -11,7 +11,7 @@ use Rattle.std.proofs.lemmas.List.Splits.{slice_split_none, slice_split_at}
 use Rattle.gw_er7.specs.declared.delimiters.Delimiters.{Delimiters}
 use Rattle.gw_er7.specs.Text.{canon}
 use Rattle.gw_er7.specs.Entries.{Entry, under, numbered, level, value, fields}
-use Rattle.gw_er7.specs.Separators.{separators, is_separator, next_numbers, value_at, IsClear, IsLastValue, IsNextValue}
+use Rattle.gw_er7.specs.own.Separators.{separators, is_separator, next_numbers, value_at, IsClear, IsLastValue, IsNextValue}
 
 -- the entries of bytes that are cut at these separators, the highest first
 abbrev pub entries_at : Delimiters → List ℕ → List ℕ → List Entry

@@ -7,7 +7,7 @@ use Rattle.std.specs.List.{join_with_byte, AllByRecursion}
 use Rattle.gw_er7.specs.Message.{first_number, IsEntry}
 use Rattle.gw_er7.specs.Entries.{Entry}
 use Rattle.gw_er7.specs.Written.{strip, those, last_number, parts_from, layer, leaf_text, component_text, repetition_text, field_text, fields_text}
-use Rattle.gw_er7.specs.Writing.{rank, IsIdle, HasNoIdle}
+use Rattle.gw_er7.specs.Encoding.{rank, IsIdle, HasNoIdle}
 use Rattle.gw_er7.proofs.Uniques.{LastFull, not_eq}
 use Rattle.gw_er7.proofs.Rounds.{IsTextByte, IsText, Texts, canonical_text, leaf_cases, Each-join, leaf-each, component-each, repetition-each, field-each}
 

@@ -9,7 +9,7 @@ use Rattle.gw_er7.specs.Message.{SegmentValue, numbers, IsPlace, IsEntry}
 use Rattle.gw_er7.specs.Reading.{part, raw_at}
 use Rattle.gw_er7.specs.Entries.{Entry, numbered, level}
 use Rattle.gw_er7.specs.Written.{leaf_text, component_text, repetition_text, field_text, fields_text}
-use Rattle.gw_er7.specs.Writing.{Spells}
+use Rattle.gw_er7.specs.Encoding.{Spells}
 use Rattle.gw_er7.proofs.Levels.{look, look-numbered, look-level}
 use Rattle.gw_er7.proofs.Rounds.{IsText, Texts, IsAgain, again-at, again-level, leaf_cases, leaf-each, component-each, repetition-each, field-each, kept_texts}
 

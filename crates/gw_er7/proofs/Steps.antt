@@ -7,8 +7,8 @@ use Rattle.gw_er7.specs.declared.level.Level.{Level}
 use Rattle.gw_er7.specs.declared.level.Level.TheVariants.{Field, Repetition, Component, Subcomponent}
 use Rattle.gw_er7.specs.Message.{numbers}
 use Rattle.gw_er7.specs.Entries.{Entry, under}
-use Rattle.gw_er7.specs.Layers.{number_at, separator_of}
-use Rattle.gw_er7.specs.Ordered.{IsAbove, Above}
+use Rattle.gw_er7.specs.own.Layers.{number_at, separator_of}
+use Rattle.gw_er7.specs.own.Ordered.{IsAbove, Above}
 use Rattle.gw_er7.specs.View.{Held, entries_of}
 
 -- as many separators of each level as lie between two keys

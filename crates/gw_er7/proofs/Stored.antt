@@ -9,7 +9,7 @@ use Rattle.std.specs.FinMap as texts
 use Rattle.std.specs.FinMap.{is_sorted, entries-from_sorted}
 use Rattle.gw_er7.specs.Message.{SegmentValue, first_number, first_field, IsEntry, IsSegment, IsOther, IsMessage}
 use Rattle.gw_er7.specs.Entries.{Entry}
-use Rattle.gw_er7.specs.Ordered.{IsAtLeast, IsOrdered}
+use Rattle.gw_er7.specs.own.Ordered.{IsAtLeast, IsOrdered}
 use Rattle.gw_er7.specs.Written.{line_text, delimiters_text, behind_separator, written}
 
 abbrev pub stored : List ℕ → List Entry → SegmentValue

@@ -10,7 +10,7 @@ use Rattle.gw_er7.specs.Content.{Line, lines, header_line, is_line_end, is_allow
 use Rattle.gw_er7.specs.Faults.{Faulty}
 use Rattle.gw_er7.specs.Message.{SegmentValue, IsMessage}
 use Rattle.gw_er7.specs.Reading.{ReadsLines, Reads}
-use Rattle.gw_er7.specs.Gathered.{segment_of, others_of}
+use Rattle.gw_er7.specs.own.Gathered.{segment_of, others_of}
 use Rattle.gw_er7.proofs.Levels.{reads_fields}
 use Rattle.gw_er7.proofs.Faults.{HasLine, HasNoControl, no_lines, a_control, no_header, bad_delimiters, bad_segment, too_many, readable}
 use Rattle.gw_er7.proofs.Messages.{LawfulLines, clean, unfound, lawful-delimiters, header_kept, others_kept, others_read, lawful-placed, lawful-parts}

@@ -5,7 +5,7 @@ use Rattle.std.proofs.lemmas.Bool.{eqb-true}
 use Rattle.std.proofs.lemmas.List.Splits.{join_with_byte-slice_split}
 use Rattle.std.specs.List.{slice_split, onto_first, join_with_byte, AllByRecursion}
 use Rattle.gw_er7.specs.Reading.{part}
-use Rattle.gw_er7.specs.Writing.{rank, IsIdle, HasNoIdle}
+use Rattle.gw_er7.specs.Encoding.{rank, IsIdle, HasNoIdle}
 
 -- no idle separator, where one of the rank r stands behind the bytes
 abbrev pub Good : ℕ → List ℕ → Type 0

@@ -15,7 +15,7 @@ use Rattle.gw_er7.specs.Message.{SegmentValue, IsPlace, IsEntry, IsSegment, IsOt
 use Rattle.gw_er7.specs.Reading.{raw_at, ReadsOthers, ReadsLines}
 use Rattle.gw_er7.specs.Entries.{Entry}
 use Rattle.gw_er7.specs.Written.{fields_text, behind_separator, delimiters_text, line_text, written}
-use Rattle.gw_er7.specs.Writing.{rank, IsIdle, HasNoIdle, Spells, WritesHeader, WritesOther, WritesOthers, WritesLines, IsWriting}
+use Rattle.gw_er7.specs.Encoding.{rank, IsIdle, HasNoIdle, Spells, WritesHeader, WritesOther, WritesOthers, WritesLines, IsWriting}
 use Rattle.gw_er7.proofs.Messages.{header_is}
 use Rattle.gw_er7.proofs.Uniques.{Good, good_of, raw, Falls, same_bytes}
 use Rattle.gw_er7.proofs.Solids.{Solid, Plains, tight_of, solid_append, solid_plain, rank_other, shaped, from_first, fields_solid, fields_some, fields_low}

@@ -7,12 +7,8 @@ pub mod Presence
 pub mod Reading
 pub mod Building
 pub mod Written
-pub mod Writing
+pub mod Encoding
 pub mod Entries
-pub mod Separators
-pub mod Gathered
 pub mod View
-pub mod Ordered
-pub mod Layers
-pub mod Canonical
 pub mod Numbers
+pub mod own

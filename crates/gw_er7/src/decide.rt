@@ -2,9 +2,9 @@
 ghost use Rattle.std.specs.Prelude.{◌≡◌, ◌<◌, ◌↔◌, ◌∷◌, IsTrue, length, MatchOption};
 ghost use Rattle.std.specs.List.{list_all};
 ghost use Rattle.gw_er7.specs.Text.{is_canonical, IsCanonical};
-ghost use Rattle.gw_er7.specs.Canonical.{is_plain, Follows};
+ghost use Rattle.gw_er7.specs.own.Canonical.{is_plain, Follows};
 
-use crate::text::is_special;
+use crate::escapes::is_special;
 use memchr::memchr;
 
 fn is_plain(byte: u8) -> bool

@@ -7,7 +7,7 @@ ghost use Rattle.gw_er7.specs.Message.{SegmentValue, IsMessage};
 ghost use Rattle.gw_er7.specs.Reading.{raw_at, Reads};
 ghost use Rattle.gw_er7.specs.Content.{lines, is_delimited, is_segment_line};
 ghost use Rattle.gw_er7.specs.Written.{fields_text, written};
-ghost use Rattle.gw_er7.specs.Writing.{HasNoIdle, IsWriting};
+ghost use Rattle.gw_er7.specs.Encoding.{HasNoIdle, IsWriting};
 
 /// A canonical text is its own canonical text under the standard delimiters.
 pub fn canonical_stays()

@@ -7,29 +7,30 @@ mod counts;
 mod decide;
 mod delimiters;
 mod draft;
+mod escapes;
 mod fault;
+mod fields;
 mod laws;
+mod layout;
 mod leaves;
 mod level;
 mod lines;
 mod message;
 mod place;
 mod reader;
-mod reading;
 pub mod same;
 mod search;
 mod segment;
-mod text;
 mod texts;
 mod values;
 mod view;
 mod writer;
-mod writing;
 
 pub use builder::Builder;
 pub use checks::is_segment_name;
 pub use decide::is_canonical;
 pub use delimiters::Delimiters;
+pub use escapes::canonical;
 pub use fault::ReadFault;
 pub use laws::{
     canonical_is_decided, canonical_stays, reads_once, reads_or_fails, rows, rows_of_reading,
@@ -38,6 +39,5 @@ pub use laws::{
 pub use message::Message;
 pub use place::Place;
 pub use reader::read;
-pub use text::canonical;
 pub use view::{Segment, Value};
 pub use writer::write;

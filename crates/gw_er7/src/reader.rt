@@ -4,13 +4,13 @@ ghost use Rattle.gw_er7.specs.declared.fault.ReadFault.{ReadFault};
 ghost use Rattle.gw_er7.specs.Content.{lines_from, first_bad};
 ghost use Rattle.gw_er7.specs.Faults.{Faulty};
 ghost use Rattle.gw_er7.specs.Reading.{Reads};
-ghost use Rattle.gw_er7.specs.Gathered.{segment_of, others_of, segments_of};
+ghost use Rattle.gw_er7.specs.own.Gathered.{segment_of, others_of, segments_of};
 
 use crate::delimiters::Delimiters;
 use crate::fault::ReadFault;
+use crate::fields::{Scratch, read_fields};
 use crate::lines::{NextLine, check, next_line};
 use crate::message::Message;
-use crate::reading::{Scratch, read_fields};
 use crate::segment::StoredSegment;
 use std::alloc::{AllocError, Global};
 

@@ -1,8 +1,8 @@
 //! Segments as they are stored: a name, and texts at places.
 
+use crate::layout::write_line;
 use crate::texts::SegmentTexts;
 use crate::view::Segment;
-use crate::writing::write_line;
 use std::alloc::{AllocError, Global};
 use std::marker::Model;
 

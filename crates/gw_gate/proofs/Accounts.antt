@@ -14,7 +14,7 @@ use Rattle.gw_gate.specs.Parts.{PlanSeen, ConformingSeen, TranslatedSeen, is_und
 use Rattle.gw_gate.specs.Journal.{EntrySeen, Pair, Acceptance, accepted, acceptance, issued, due, is_due, kept, released, current, next_number, next_arrival}
 use Rattle.gw_gate.specs.Replies.{ReplySeen, Arrives, IsAccepted, IsStale, most, Takes, Puts, Reissues, Releases, IsStranger, IsRepeat, IsKept, IsDone, IsIssued, IsOut, IsNothing, job_with, job_of, is_of, is_kept, out_with, out_of, reply_to}
 use Rattle.gw_gate.specs.Headline.{CountFrom}
-use Rattle.gw_gate.specs.Books.{given, StandsAt, BooksSeen, Fits, journal_of, FitsQueue, job_by, next_job, job_reply, put_reply, issue_reply, release_reply}
+use Rattle.gw_gate.specs.own.Books.{given, StandsAt, BooksSeen, Fits, journal_of, FitsQueue, job_by, next_job, job_reply, put_reply, issue_reply, release_reply}
 use Rattle.gw_gate.specs.declared.event.Entry.{Entry}
 use Rattle.gw_gate.specs.Values.{entries_seen}
 use Rattle.gw_gate.proofs.Entering.{as_long}

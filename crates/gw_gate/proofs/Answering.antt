@@ -7,7 +7,7 @@ use Rattle.gw_gate.specs.Parts.{PlanSeen}
 use Rattle.gw_gate.specs.Journal.{EntrySeen, Journal, with_entry}
 use Rattle.gw_gate.specs.Replies.{EventSeen, ReplySeen, IsCurrent, IsFull, reply_to, added, most, limited, reply, with_added, takes_memory, Refused, noted, Noted}
 use Rattle.gw_gate.specs.Values.{entry_seen, entries_seen}
-use Rattle.gw_gate.specs.Books.{journal_of}
+use Rattle.gw_gate.specs.own.Books.{journal_of}
 use Rattle.gw_gate.proofs.Entering.{entered, as_long}
 use Rattle.gw_gate.proofs.Releasing.{added_full}
 

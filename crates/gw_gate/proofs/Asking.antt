@@ -9,7 +9,7 @@ use Rattle.std.proofs.lemmas.Bool.{false≢true}
 use Rattle.std.proofs.lemmas.Slice.Eq.{bytes_eq-Decides}
 use Rattle.gw_er7.specs.Message.{SegmentValue}
 use Rattle.gw_plan.specs.Shapes.{Leg, RouteValue}
-use Rattle.gw_check.specs.CheckedMap.{CheckedValue}
+use Rattle.gw_check.specs.Kept.{CheckedValue}
 use Rattle.gw_plan.specs.Held.{PlanHeld, RouteHeld, plan_value, route_value, leg}
 use Rattle.gw_plan.specs.Routing.{routed}
 use Rattle.gw_plan.specs.Whole.{spelled}

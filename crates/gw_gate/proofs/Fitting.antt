@@ -8,8 +8,8 @@ use Rattle.gw_gate.specs.Parts.{PlanSeen, ConformingSeen, TranslatedSeen}
 use Rattle.gw_gate.specs.Journal.{EntrySeen, WasAccepted, WasRefused, WasSwapped, WasTaken, WasKept, WasIssued, WasOut, Pair, pair, Acceptance, Version, opening, swapped, accepted, arrivals, issued, jobs, due, is_due, kept, released, current, last_of}
 use Rattle.gw_gate.specs.Replies.{most}
 use Rattle.gw_gate.specs.Headline.{CountFrom}
-use Rattle.gw_gate.specs.Desks.{due_to}
-use Rattle.gw_gate.specs.Books.{given, BooksSeen, journal_of, StandsAt, FitsPlan, FitsArrivals, FitsQueue, Fits}
+use Rattle.gw_gate.specs.own.Desks.{due_to}
+use Rattle.gw_gate.specs.own.Books.{given, BooksSeen, journal_of, StandsAt, FitsPlan, FitsArrivals, FitsQueue, Fits}
 use Rattle.gw_gate.proofs.Journals.{accepted-append, current-append}
 use Rattle.gw_gate.proofs.Numbering.{n_of, count_last}
 use Rattle.gw_gate.specs.declared.event.Entry.{Entry}

@@ -5,7 +5,7 @@ use Rattle.gw_gate.specs.Parts.{PlanSeen, ConformingSeen, is_under, same_receive
 use Rattle.gw_gate.specs.Journal.{EntrySeen, Journal, current, next_number, next_arrival}
 use Rattle.gw_gate.specs.Replies.{EventSeen, ReplySeen, Arrives, IsAccepted, IsStale, Refuses, IsRefused, Swaps, IsSwapped, IsUnlike, reply_to, added, most, noted, Noted, Refused}
 use Rattle.gw_gate.specs.Values.{entry_seen, entries_seen}
-use Rattle.gw_gate.specs.Books.{BooksSeen, Fits, journal_of}
+use Rattle.gw_gate.specs.own.Books.{BooksSeen, Fits, journal_of}
 use Rattle.gw_gate.proofs.Answering.{short, done}
 use Rattle.gw_gate.proofs.Accounts.{room_left}
 

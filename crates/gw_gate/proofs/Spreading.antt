@@ -3,7 +3,7 @@ use Rattle.std.proofs.Common.{◌≡◌, [], ◌≢◌, ℕ, zero, suc, ◌+◌,
 use Rattle.std.proofs.lemmas.Bool.{cases_eq, cases_lt}
 use Rattle.gw_reorder.specs.State.{DeskState, with_due}
 use Rattle.gw_gate.specs.Parts.{ConformingSeen, TranslatedSeen, delivers}
-use Rattle.gw_gate.specs.Desks.{Held, desk_at, due_to, HasRoomFor}
+use Rattle.gw_gate.specs.own.Desks.{Held, desk_at, due_to, HasRoomFor}
 
 -- where there is room there is a desk
 pub room_there : (desks : List Held) (k : ℕ) → 0 < (desk_at desks k).room → k < length desks

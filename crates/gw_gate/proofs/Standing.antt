@@ -18,13 +18,13 @@ use Rattle.gw_reorder.specs.Calls.{place_of, status_of, status_at, slot_status, 
 use Rattle.gw_reorder.specs.Runs.{earlier, brought_for}
 use Rattle.gw_reorder.specs.declared.desk.Status.TheVariants.{Waiting, Repeat, Stranger}
 use Rattle.gw_reorder.proofs.Places.{rising_more, equal_numbers, equals, differs}
-use Rattle.gw_reorder.specs.Standing.{Stands}
+use Rattle.gw_reorder.specs.own.Standing.{Stands}
 use Rattle.gw_reorder.proofs.Steps.{more_due, after_release, after_hold, roomier}
 use Rattle.gw_gate.specs.Parts.{ConformingSeen, TranslatedSeen, delivers}
 use Rattle.gw_gate.specs.Journal.{EntrySeen, WasAccepted, WasKept, WasOut, Acceptance, Release, accepted, due, kept, released}
 use Rattle.gw_gate.specs.Headline.{CountFrom, RiseFrom}
-use Rattle.gw_gate.specs.Books.{given, StandsAt}
-use Rattle.gw_gate.specs.Desks.{due_to}
+use Rattle.gw_gate.specs.own.Books.{given, StandsAt}
+use Rattle.gw_gate.specs.own.Desks.{due_to}
 use Rattle.gw_gate.proofs.Journals.{either, due-append, kept-append, released-append}
 use Rattle.gw_gate.proofs.Numbering.{n_of, rise_among}
 

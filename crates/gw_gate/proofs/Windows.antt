@@ -15,7 +15,7 @@ use Rattle.std.specs.List.{list_any}
 use Rattle.gw_reorder.proofs.Places.{equal_numbers}
 use Rattle.gw_gate.specs.Parts.{TranslatedSeen}
 use Rattle.gw_gate.specs.Seen.{Translated}
-use Rattle.gw_gate.specs.Desks.{Held, value_seen, desk_seen, desk_at, given_seen, IsRoomier}
+use Rattle.gw_gate.specs.own.Desks.{Held, value_seen, desk_seen, desk_at, given_seen, IsRoomier}
 
 abbrev slot_seen : Option (Arc Translated Global) → Option TranslatedSeen
 slot_seen o = option_map value_seen o

@@ -8,7 +8,6 @@ pub mod Replay
 pub mod Lawful
 pub mod Meaning
 pub mod Headline
-pub mod Desks
-pub mod Books
 pub mod Toy
 pub mod Rows
+pub mod own

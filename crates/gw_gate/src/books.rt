@@ -5,9 +5,9 @@ ghost use Rattle.std.specs.Arc.{arc_value};
 ghost use Rattle.gw_gate.specs.Parts.{is_under};
 ghost use Rattle.gw_gate.specs.Seen.{plan_seen, conforming_seen, translated_seen};
 ghost use Rattle.gw_gate.specs.Journal.{Journal, current, opening, pair};
-ghost use Rattle.gw_gate.specs.Desks.{AreRoomier, HasRoomFor};
+ghost use Rattle.gw_gate.specs.own.Desks.{AreRoomier, HasRoomFor};
 ghost use Rattle.gw_gate.specs.Replies.{Looks, Arrives, Refuses, Swaps, Takes, Puts, Reissues, Releases, IsKept, IsIssued, Steps, StepsNoted, most, reply_to};
-ghost use Rattle.gw_gate.specs.Books.{issue_reply, job_reply, next_job, put_reply, release_reply};
+ghost use Rattle.gw_gate.specs.own.Books.{issue_reply, job_reply, next_job, put_reply, release_reply};
 ghost use Rattle.gw_gate.specs.Values.{entries_seen, event_seen, answer_seen, conforming_at, job_seen, noted_seen, pair_seen};
 
 use crate::copies::prepared;
@@ -108,8 +108,8 @@ impl Model for Books {
     ghost use Rattle.gw_gate.specs.Journal.{Journal};
     ghost use Rattle.gw_gate.specs.Seen.{plan_seen, conforming_seen};
     ghost use Rattle.gw_gate.specs.Values.{entries_seen, pair_seen};
-    ghost use Rattle.gw_gate.specs.Desks.{desk_at};
-    ghost use Rattle.gw_gate.specs.Books.{Fits, journal_of};
+    ghost use Rattle.gw_gate.specs.own.Desks.{desk_at};
+    ghost use Rattle.gw_gate.specs.own.Books.{Fits, journal_of};
 
     ghost Value = { Journal };
 

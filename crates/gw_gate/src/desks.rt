@@ -4,7 +4,7 @@ ghost use Rattle.gw_reorder.specs.State.{SameButRoom, with_due};
 ghost use Rattle.gw_reorder.specs.Calls.{status_of, after_holding, next_of};
 ghost use Rattle.gw_reorder.specs.declared.desk.Status.TheVariants as status;
 ghost use Rattle.gw_gate.specs.Seen.{conforming_seen};
-ghost use Rattle.gw_gate.specs.Desks.{desk_at, given_out, value_seen, AreRoomier, HasRoomFor, due_to};
+ghost use Rattle.gw_gate.specs.own.Desks.{desk_at, given_out, value_seen, AreRoomier, HasRoomFor, due_to};
 
 use crate::plans::{goes_to, receiver_at, receiver_count};
 use gw_plan::{Conforming, Translated};

@@ -10,7 +10,7 @@ use Rattle.gw_maplang.specs.Seen.{map_value}
 use Rattle.gw_resolve.specs.Naming.{naming_failures, resolved}
 use Rattle.gw_check.specs.Typed.{failures}
 use Rattle.gw_resolve.specs.Failures.{Failure, or_later}
-use Rattle.gw_check.specs.CheckedMap.{CheckedValue, resolved_map, IsChecked}
+use Rattle.gw_check.specs.Kept.{CheckedValue, resolved_map, IsChecked}
 use Rattle.gw_check.proofs.Keeping.{placed_items, lawful_items}
 use Rattle.gw_interp.proofs.Typed.{Allows}
 

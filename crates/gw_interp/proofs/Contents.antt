@@ -14,7 +14,7 @@ use Rattle.gw_interp.proofs.Lists.{all_as, none_fails, three_empty, each_empty}
 use Rattle.gw_interp.proofs.Shaped.{IsShaped, IsFit, fit_values, no_text, text_there}
 use Rattle.gw_interp.proofs.Held.{HasTables}
 use Rattle.gw_interp.proofs.Sources.{IsHeld, held_copied, held_comp_there, held_comp_gone}
-use Rattle.gw_interp.proofs.Copied.{IsCopy, copy_rep, IsFirstOf, first_only, first_taken, first_text}
+use Rattle.gw_interp.proofs.Carried.{IsCopy, copy_rep, IsFirstOf, first_only, first_taken, first_text}
 
 -- ---- breaches
 

@@ -10,8 +10,8 @@ use Rattle.gw_er7.specs.Presence.{RepAt, IsLast, IsStart}
 use Rattle.gw_validate.specs.Breaches.{NotAfter}
 use Rattle.gw_validate.proofs.Keys.{order, never_less, rising_at, found_at, find_at}
 use Rattle.gw_interp.specs.declared.copying.Spot.{Spot}
-use Rattle.gw_interp.specs.Putting.{last_texts, MayStand, IsPut}
-use Rattle.gw_interp.specs.Making.{MayMake, AreMade, comp_key, field_key, MayMakeField, IsFieldMade, rep_key}
+use Rattle.gw_interp.specs.own.Putting.{last_texts, MayStand, IsPut}
+use Rattle.gw_interp.specs.own.Making.{MayMake, AreMade, comp_key, field_key, MayMakeField, IsFieldMade, rep_key}
 use Rattle.gw_interp.proofs.Fills.{same_last}
 use Rattle.gw_interp.proofs.Makings.{split_at, others_on, name_on, begun_on, UpTo, none_made, may_next, next_made, all_made}
 

@@ -11,8 +11,8 @@ use Rattle.gw_maplang.specs.Among.{Among}
 use Rattle.gw_maplang.specs.Shapes.{Rows}
 use Rattle.gw_interp.specs.Occurrences.{texts_at}
 use Rattle.gw_interp.specs.Meaning.{InFirst, Walked, SourceMeans, look_up, LeafMeans, AtMeans, Where, walking, MakingMeans, RuleMeans, IsImage}
-use Rattle.gw_interp.specs.Sourced.{IsFault}
-use Rattle.gw_interp.specs.Ready.{NoFaults, NoFaultIn, MayImage}
+use Rattle.gw_interp.specs.own.Sourced.{IsFault}
+use Rattle.gw_interp.specs.own.Ready.{NoFaults, NoFaultIn, MayImage}
 use Rattle.gw_interp.proofs.Lists.{found_test, found_all}
 use Rattle.gw_interp.proofs.Shaped.{text_there}
 use Rattle.gw_interp.proofs.Made.{comp_is, sub_is}

@@ -23,7 +23,7 @@ use Rattle.gw_check.specs.Fields.{is_expected, has_no_rule, line_of_rule, making
 use Rattle.gw_resolve.specs.Lawful.{LawfulMaking, LawfulRule, LawfulRules}
 use Rattle.gw_interp.specs.Occurrences.{texts_at}
 use Rattle.gw_interp.specs.Meaning.{Walked, walking, MakingMeans, RuleMeans, IsImage}
-use Rattle.gw_interp.specs.Ready.{NoFaultIn}
+use Rattle.gw_interp.specs.own.Ready.{NoFaultIn}
 use Rattle.gw_interp.proofs.Walks.{IsWalked}
 use Rattle.gw_interp.proofs.Lists.{all_as, all_with, found_all, none_fails, both_empty, four_empty, each_empty}
 use Rattle.gw_interp.proofs.Shaped.{text_there}
@@ -31,7 +31,7 @@ use Rattle.gw_interp.proofs.Held.{HasTables}
 use Rattle.gw_interp.proofs.Sources.{known_held}
 use Rattle.gw_interp.proofs.Leaves.{walked_on, no_fault_of_rule}
 use Rattle.gw_interp.proofs.Repetitions.{IsCounted, never_counted, counted_never, single}
-use Rattle.gw_interp.proofs.Copied.{source_counted, copy_counted, first_counted}
+use Rattle.gw_interp.proofs.Carried.{source_counted, copy_counted, first_counted}
 use Rattle.gw_interp.proofs.Contents.{none_broken, demanded, copied_whole, copied_first, comps_kept}
 use Rattle.gw_interp.proofs.Made.{made_counted, comps_made}
 

@@ -10,7 +10,7 @@ use Rattle.gw_er7.specs.Message.{Texts, SegmentValue, first_field, IsEntry, IsOt
 use Rattle.gw_er7.specs.Building.{IsBegun, with_last, MayPut}
 use Rattle.gw_er7.proofs.Keys.{tie, no_tie}
 use Rattle.gw_er7.proofs.Lasts.{kept_put}
-use Rattle.gw_interp.specs.Putting.{last_name, last_texts, MayStand, IsPut}
+use Rattle.gw_interp.specs.own.Putting.{last_name, last_texts, MayStand, IsPut}
 
 pub may_put : (key text : List ℕ) (old : List SegmentValue) → 0 < length text → MayStand key text old → MayPut key text old
 may_put key text old lt may = go old may.begun may.free (may.entry lt)

@@ -7,7 +7,7 @@ use Rattle.gw_er7.specs.Message.{SegmentValue}
 use Rattle.gw_er7.specs.Building.{IsBegun}
 use Rattle.gw_interp.specs.Occurrences.{Occurrence}
 use Rattle.gw_interp.specs.Meaning.{ForEach}
-use Rattle.gw_interp.specs.Ready.{IsOtherName, AreNames, MayBegin, Adds}
+use Rattle.gw_interp.specs.own.Ready.{IsOtherName, AreNames, MayBegin, Adds}
 use Rattle.gw_interp.proofs.Trees.{all_left, all_right}
 use Rattle.gw_interp.proofs.Naming.{names_each}
 use Rattle.gw_interp.proofs.Lending.{flat_two}

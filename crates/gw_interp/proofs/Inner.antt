@@ -5,8 +5,8 @@ use Rattle.std.proofs.lemmas.List.{map-append, reverse-append}
 use Rattle.gw_er7.specs.Message.{SegmentValue}
 use Rattle.gw_validate.specs.Fitting.{OccValue}
 use Rattle.gw_interp.specs.Occurrences.{Occurrence}
-use Rattle.gw_interp.specs.Lent.{occurrence, scope, AreOf}
-use Rattle.gw_interp.specs.Filling.{message_of}
+use Rattle.gw_interp.specs.own.Lent.{occurrence, scope, AreOf}
+use Rattle.gw_interp.specs.own.Filling.{message_of}
 
 of_message : (m : List SegmentValue) (os : List OccValue) (o : OccValue) → AreOf m os → o.message ≡ m → AreOf m (os ++ o ∷ [])
 of_message m [] o a e = (e, tt)

@@ -20,8 +20,8 @@ use Rattle.gw_check.specs.Fields.{lookup_failures, rule_lookups}
 use Rattle.gw_resolve.specs.Lawful.{LawfulRows, LawfulLeaf}
 use Rattle.gw_interp.specs.Occurrences.{texts_at}
 use Rattle.gw_interp.specs.Meaning.{Walked, SourceMeans, LeafMeans, look_up, walking}
-use Rattle.gw_interp.specs.Sourced.{IsFault}
-use Rattle.gw_interp.specs.Ready.{NoFaultIn}
+use Rattle.gw_interp.specs.own.Sourced.{IsFault}
+use Rattle.gw_interp.specs.own.Ready.{NoFaultIn}
 use Rattle.gw_interp.proofs.Walks.{IsCurrent, IsWalked}
 use Rattle.gw_interp.proofs.Lists.{all_as, none_fails, each_empty}
 use Rattle.gw_interp.proofs.Shaped.{IsShaped}

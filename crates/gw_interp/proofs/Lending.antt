@@ -12,7 +12,7 @@ use Rattle.gw_validate.specs.Viewing as viewing
 use Rattle.gw_validate.specs.Viewing.{number, row, tree_at, count_at, occurrence_at, occurrence_of}
 use Rattle.gw_resolve.specs.Places.{Place}
 use Rattle.gw_interp.specs.Occurrences.{Occurrence, a_segment, nodes, list_of, level_at, children, below, in_scope, at_place}
-use Rattle.gw_interp.specs.Lent.{numbered, occurrence, scope, AreOf, IsFirstOf}
+use Rattle.gw_interp.specs.own.Lent.{numbered, occurrence, scope, AreOf, IsFirstOf}
 
 -- ---- the children of a node
 

@@ -16,7 +16,7 @@ use Rattle.gw_check.specs.Counts.{items_count}
 use Rattle.gw_resolve.specs.Failures.{fails}
 use Rattle.gw_check.specs.Fields.{segment_failures}
 use Rattle.gw_check.specs.Levels.{sources, level_failures, items_failures}
-use Rattle.gw_resolve.specs.Placed.{is_segment, is_group, all_for, are_placed}
+use Rattle.gw_resolve.specs.Order.{is_segment, is_group, all_for, are_placed}
 use Rattle.gw_resolve.specs.Lawful.{LawfulRules, LawfulItems}
 use Rattle.gw_interp.specs.Occurrences.{Occurrence, at_place}
 use Rattle.gw_interp.specs.Meaning.{Walked, IsOne, walked, SegmentsBy, GiveBy}

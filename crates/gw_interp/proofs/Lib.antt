@@ -15,7 +15,7 @@ pub mod Held
 pub mod Sources
 pub mod Leaves
 pub mod Repetitions
-pub mod Copied
+pub mod Carried
 pub mod Contents
 pub mod Made
 pub mod FieldSound
@@ -29,14 +29,14 @@ pub mod Tabled
 pub mod Existing
 pub mod Makes
 mod Lending
-mod Sourcing
+mod ReadTexts
 mod Fills
-mod Filled
+mod PutInTurn
 mod Makings
 mod Copies
 mod Placed
 mod Ruled
-mod Imaged
+mod RuleByRule
 mod Inner
 mod Giving
 mod Levels

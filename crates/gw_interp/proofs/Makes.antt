@@ -13,7 +13,7 @@ use Rattle.gw_resolve.specs.Resolved.{Rule, Items, no_items, segment_item, group
 use Rattle.gw_interp.specs.Occurrences as occurrences
 use Rattle.gw_interp.specs.Occurrences.{Occurrence, at_place}
 use Rattle.gw_interp.specs.Meaning.{Walked, IsImage, IsOne, ForEach, walked, Segments, Give}
-use Rattle.gw_interp.specs.Ready.{MayImage, MaySegments, MayGive, IsOtherName, AreNames}
+use Rattle.gw_interp.specs.own.Ready.{MayImage, MaySegments, MayGive, IsOtherName, AreNames}
 use Rattle.gw_interp.specs.Sound.{IsMade}
 use Rattle.gw_interp.proofs.Paths.{all_append}
 use Rattle.gw_interp.proofs.Lists.{all_as}

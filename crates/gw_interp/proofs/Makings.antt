@@ -5,10 +5,10 @@ use Rattle.std.proofs.lemmas.Bool.Decides.{leb_tells}
 use Rattle.std.specs.FinMap as texts
 use Rattle.gw_er7.specs.Message.{SegmentValue, first_field, IsEntry}
 use Rattle.gw_er7.specs.Building.{IsBegun, with_last}
-use Rattle.gw_interp.specs.Putting.{last_name, last_texts}
-use Rattle.gw_interp.specs.Making.{MayMake, AreMade}
+use Rattle.gw_interp.specs.own.Putting.{last_name, last_texts}
+use Rattle.gw_interp.specs.own.Making.{MayMake, AreMade}
 use Rattle.gw_interp.proofs.Fills.{same_last}
-use Rattle.gw_interp.proofs.Filled.{at_last, same_name, same_length, twice}
+use Rattle.gw_interp.proofs.PutInTurn.{at_last, same_name, same_length, twice}
 
 pub split_at : (k n : ℕ) → (k ≤ n) ⊎ (n < k)
 split_at k n =

@@ -20,7 +20,7 @@ use Rattle.gw_resolve.specs.Resolved.{Rule, Items, no_items, segment_item, group
 use Rattle.gw_interp.specs.Occurrences as occurrences
 use Rattle.gw_interp.specs.Occurrences.{Occurrence, at_place}
 use Rattle.gw_interp.specs.Meaning.{Walked, IsImage, IsOne, ForEach, walked, SegmentsBy, GiveBy, Give}
-use Rattle.gw_interp.specs.Ready.{names_if, names_given, IsOtherName, AreNames}
+use Rattle.gw_interp.specs.own.Ready.{names_if, names_given, IsOtherName, AreNames}
 use Rattle.gw_interp.proofs.LevelsSound.{from_eq}
 use Rattle.gw_interp.proofs.Named.{seq_each, each_both}
 use Rattle.gw_interp.proofs.Typed.{Allows, seq_of}

@@ -11,10 +11,10 @@ use Rattle.gw_maplang.specs.Among.{Among, Distinct}
 use Rattle.gw_resolve.specs.Lawful.{place, places}
 use Rattle.gw_resolve.specs.Resolved.{At, leaf_at}
 use Rattle.gw_interp.specs.Meaning.{Walked, LeafMeans, AtMeans}
-use Rattle.gw_interp.specs.Sourced.{IsFault}
-use Rattle.gw_interp.specs.Putting.{last_name, last_texts}
-use Rattle.gw_interp.specs.Filling.{key_of, MayHold, MayFill, AreFilled}
-use Rattle.gw_interp.specs.Making.{rep_key, LeavesMean, MayFillRep, IsRepFilled}
+use Rattle.gw_interp.specs.own.Sourced.{IsFault}
+use Rattle.gw_interp.specs.own.Putting.{last_name, last_texts}
+use Rattle.gw_interp.specs.own.Filling.{key_of, MayHold, MayFill, AreFilled}
+use Rattle.gw_interp.specs.own.Making.{rep_key, LeavesMean, MayFillRep, IsRepFilled}
 use Rattle.gw_interp.proofs.Lists.{all_with, found_all, found_each}
 use Rattle.gw_interp.proofs.Made.{own_number, same_place, comp_is, sub_is}
 

@@ -14,7 +14,7 @@ use Rattle.gw_resolve.specs.Lawful.{LawfulRules, LawfulItems}
 use Rattle.gw_interp.specs.Occurrences as occurrences
 use Rattle.gw_interp.specs.Occurrences.{Occurrence, at_place}
 use Rattle.gw_interp.specs.Meaning.{walked}
-use Rattle.gw_interp.specs.Ready.{MayImage, MaySegments, MayGive}
+use Rattle.gw_interp.specs.own.Ready.{MayImage, MaySegments, MayGive}
 use Rattle.gw_interp.proofs.Walks.{IsOccurrence}
 use Rattle.gw_interp.proofs.Lists.{all_as}
 use Rattle.gw_interp.proofs.FieldSound.{no_faults}

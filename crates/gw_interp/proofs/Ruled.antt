@@ -9,12 +9,12 @@ use Rattle.gw_er7.specs.Presence.{RepAt, IsLast}
 use Rattle.gw_resolve.specs.Resolved.{Reference, At, leaf_at, copy, first, repeat, build}
 use Rattle.gw_interp.specs.Occurrences.{texts_at}
 use Rattle.gw_interp.specs.Meaning.{Walked, walking, AtMeans, InFirst, Where, MakingMeans}
-use Rattle.gw_interp.specs.Sourced.{IsFirstRep}
-use Rattle.gw_interp.specs.Putting.{last_texts}
-use Rattle.gw_interp.specs.Making.{MayMake, AreMade, rep_key, field_key, LeavesMean, MayMakeField, IsFieldMade, Copies, MayCopyRep, IsRepCopied, MayFillRep, IsRepFilled, MayMakeBy, IsMadeBy}
+use Rattle.gw_interp.specs.own.Sourced.{IsFirstRep}
+use Rattle.gw_interp.specs.own.Putting.{last_texts}
+use Rattle.gw_interp.specs.own.Making.{MayMake, AreMade, rep_key, field_key, LeavesMean, MayMakeField, IsFieldMade, Copies, MayCopyRep, IsRepCopied, MayFillRep, IsRepFilled, MayMakeBy, IsMadeBy}
 use Rattle.gw_interp.proofs.Fills.{same_last}
 use Rattle.gw_interp.proofs.Shaped.{text_there}
-use Rattle.gw_interp.proofs.Sourcing.{in_none, in_absent, in_some}
+use Rattle.gw_interp.proofs.ReadTexts.{in_none, in_absent, in_some}
 use Rattle.gw_interp.proofs.Makings.{split_at, no_text_there}
 use Rattle.gw_interp.proofs.Copies.{In, RepsUpTo, no_reps, may_rep, next_reps, all_reps}
 

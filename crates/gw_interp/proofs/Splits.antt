@@ -9,7 +9,7 @@ use Rattle.gw_validate.specs.Cuts.{Cut}
 use Rattle.gw_resolve.specs.Places.{Element, child, nodes_of_child}
 use Rattle.gw_resolve.specs.Resolved.{Rule, Items, no_items, segment_item, group_item, flat_item, first_child}
 use Rattle.gw_check.specs.Levels.{is_of, its, beyond, items_failures}
-use Rattle.gw_resolve.specs.Placed.{is_segment, is_group, follows, number_or, all_for, are_placed}
+use Rattle.gw_resolve.specs.Order.{is_segment, is_group, follows, number_or, all_for, are_placed}
 use Rattle.gw_resolve.specs.Lawful.{LawfulItems}
 use Rattle.gw_interp.specs.Occurrences.{Occurrence}
 use Rattle.gw_interp.specs.Meaning.{Walked, GiveBy}

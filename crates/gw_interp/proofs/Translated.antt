@@ -12,12 +12,12 @@ use Rattle.gw_validate.specs.Broken.{IsTreeOf}
 use Rattle.gw_maplang.specs.Lawful.{Lawful}
 use Rattle.gw_maplang.specs.Seen.{map_value}
 use Rattle.gw_resolve.specs.Resolved.{Items}
-use Rattle.gw_check.specs.CheckedMap.{CheckedValue, resolved_map, IsChecked}
+use Rattle.gw_check.specs.Kept.{CheckedValue, resolved_map, IsChecked}
 use Rattle.gw_interp.specs.Occurrences.{Occurrence}
-use Rattle.gw_interp.specs.Lent.{scope}
-use Rattle.gw_interp.specs.Filling.{message_of}
+use Rattle.gw_interp.specs.own.Lent.{scope}
+use Rattle.gw_interp.specs.own.Filling.{message_of}
 use Rattle.gw_interp.specs.Meaning.{Give, Means}
-use Rattle.gw_interp.specs.Ready.{MayGive, names_given, MayBegin, Adds}
+use Rattle.gw_interp.specs.own.Ready.{MayGive, names_given, MayBegin, Adds}
 use Rattle.gw_interp.proofs.Typed.{Allows}
 use Rattle.gw_interp.proofs.Checked.{checked_allows}
 use Rattle.gw_interp.proofs.Readiness.{ready}

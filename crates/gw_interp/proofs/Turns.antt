@@ -4,10 +4,10 @@ use Rattle.std.proofs.lemmas.List.{drop_all}
 use Rattle.gw_er7.specs.Message.{SegmentValue}
 use Rattle.gw_resolve.specs.Resolved.{At, Rule}
 use Rattle.gw_interp.specs.Meaning.{Walked}
-use Rattle.gw_interp.specs.Filling.{IsHeld, MayFill, AreFilled}
-use Rattle.gw_interp.specs.Making.{IsRuleMade, MayMakeRules, AreRulesMade}
-use Rattle.gw_interp.proofs.Filled.{none_filled, may_go_on, more_filled}
-use Rattle.gw_interp.proofs.Imaged.{none_ruled, rules_go_on, more_ruled}
+use Rattle.gw_interp.specs.own.Filling.{IsHeld, MayFill, AreFilled}
+use Rattle.gw_interp.specs.own.Making.{IsRuleMade, MayMakeRules, AreRulesMade}
+use Rattle.gw_interp.proofs.PutInTurn.{none_filled, may_go_on, more_filled}
+use Rattle.gw_interp.proofs.RuleByRule.{none_ruled, rules_go_on, more_ruled}
 use Rattle.gw_interp.proofs.Giving.{next_drop}
 
 module _ {X : Type 0} (May : List X → List SegmentValue → Type 0) (Done : List X → List SegmentValue → List SegmentValue → Type 0) where

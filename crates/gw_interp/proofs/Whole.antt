@@ -19,7 +19,7 @@ use Rattle.gw_check.specs.Counts.{items_count}
 use Rattle.gw_resolve.specs.Failures.{fails}
 use Rattle.gw_check.specs.Fields.{is_expected}
 use Rattle.gw_check.specs.Levels.{its, beyond, first_line, has_no_item, node_failures, level_failures, items_failures}
-use Rattle.gw_resolve.specs.Placed.{is_segment, is_group, follows, number_or, all_for, are_placed}
+use Rattle.gw_resolve.specs.Order.{is_segment, is_group, follows, number_or, all_for, are_placed}
 use Rattle.gw_resolve.specs.Lawful.{LawfulItems}
 use Rattle.gw_interp.specs.Occurrences.{Occurrence}
 use Rattle.gw_interp.specs.Meaning.{Walked, GiveBy}

@@ -1,6 +1,6 @@
 //! Fields of the source, copied to fields of the last segment.
 ghost use Rattle.std.specs.Prelude.{◌≡◌, OnOk};
-ghost use Rattle.gw_interp.specs.Making.{MayCopyRep, IsRepCopied, Copies, MayMakeField, IsFieldMade};
+ghost use Rattle.gw_interp.specs.own.Making.{MayCopyRep, IsRepCopied, Copies, MayMakeField, IsFieldMade};
 
 use crate::putting::put_text;
 use gw_er7::{Builder, Place, Segment};

@@ -2,10 +2,10 @@
 ghost use Rattle.std.specs.Prelude.{◌≡◌, ◌<◌, length, None, OnOk, map};
 ghost use Rattle.std.specs.FinMap as texts;
 ghost use Rattle.gw_resolve.specs.Seen.{at_leaf};
-ghost use Rattle.gw_interp.specs.Lent.{AreOf};
-ghost use Rattle.gw_interp.specs.Putting.{last_name, last_texts};
-ghost use Rattle.gw_interp.specs.Filling.{message_of, read_by, key_of, MayHold, IsHeld, MayFill, AreFilled};
-ghost use Rattle.gw_interp.specs.Making.{MayFillRep, IsRepFilled};
+ghost use Rattle.gw_interp.specs.own.Lent.{AreOf};
+ghost use Rattle.gw_interp.specs.own.Putting.{last_name, last_texts};
+ghost use Rattle.gw_interp.specs.own.Filling.{message_of, read_by, key_of, MayHold, IsHeld, MayFill, AreFilled};
+ghost use Rattle.gw_interp.specs.own.Making.{MayFillRep, IsRepFilled};
 
 use crate::lookup::leaf_text;
 use crate::putting::put_text;

@@ -7,12 +7,12 @@ ghost use Rattle.gw_resolve.specs.Places.{child, name_of};
 ghost use Rattle.gw_resolve.specs.Resolved.{no_items};
 ghost use Rattle.gw_resolve.specs.Seen.{with_item, all_items};
 ghost use Rattle.gw_interp.specs.Occurrences.{below};
-ghost use Rattle.gw_interp.specs.Lent.{occurrence, scope as walked_in, AreOf};
-ghost use Rattle.gw_interp.specs.Filling.{message_of};
-ghost use Rattle.gw_interp.specs.Ready.{MayBegin, Adds};
-ghost use Rattle.gw_interp.specs.Parts.{items_names, MayItems, ItemsGive, found_at, node_name, segments_names};
-ghost use Rattle.gw_interp.specs.Parts.{MaySegment, GivesSegment, MaySegmentsOf, SegmentsOf, part_names, MayPart, PartGives};
-ghost use Rattle.gw_interp.specs.Parts.{names_within, MayWithin, GivesWithin, each_names, MayEach, EachGives};
+ghost use Rattle.gw_interp.specs.own.Lent.{occurrence, scope as walked_in, AreOf};
+ghost use Rattle.gw_interp.specs.own.Filling.{message_of};
+ghost use Rattle.gw_interp.specs.own.Ready.{MayBegin, Adds};
+ghost use Rattle.gw_interp.specs.own.Parts.{items_names, MayItems, ItemsGive, found_at, node_name, segments_names};
+ghost use Rattle.gw_interp.specs.own.Parts.{MaySegment, GivesSegment, MaySegmentsOf, SegmentsOf, part_names, MayPart, PartGives};
+ghost use Rattle.gw_interp.specs.own.Parts.{names_within, MayWithin, GivesWithin, each_names, MayEach, EachGives};
 
 use crate::places::walked_at;
 use crate::segments::put_segment;

@@ -7,9 +7,9 @@ ghost use Rattle.gw_resolve.specs.Naming.{no_rows};
 ghost use Rattle.gw_check.specs.Leaves.{given};
 ghost use Rattle.gw_resolve.specs.Seen.{leaf as seen_leaf};
 ghost use Rattle.gw_validate.specs.Breaches.{is_null};
-ghost use Rattle.gw_interp.specs.Lent.{AreOf};
+ghost use Rattle.gw_interp.specs.own.Lent.{AreOf};
 ghost use Rattle.gw_interp.specs.Meaning.{look_up};
-ghost use Rattle.gw_interp.specs.Sourced.{walks, LeafGives};
+ghost use Rattle.gw_interp.specs.own.Sourced.{walks, LeafGives};
 
 use crate::reading::{Reading, source_text};
 use gw_maplang::{Map, Table};

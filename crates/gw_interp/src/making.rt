@@ -2,9 +2,9 @@
 ghost use Rattle.std.specs.Prelude.{OnOk};
 ghost use Rattle.gw_resolve.specs.Resolved.{copy, first, repeat, build};
 ghost use Rattle.gw_resolve.specs.Seen.{reference, rule as seen_rule};
-ghost use Rattle.gw_interp.specs.Lent.{AreOf};
-ghost use Rattle.gw_interp.specs.Filling.{message_of};
-ghost use Rattle.gw_interp.specs.Making.{seen_from, in_repetition, at_leaves, MayFillRep, IsRepFilled, MayMakeBy, IsMadeBy, MayMakeRule, IsRuleMade};
+ghost use Rattle.gw_interp.specs.own.Lent.{AreOf};
+ghost use Rattle.gw_interp.specs.own.Filling.{message_of};
+ghost use Rattle.gw_interp.specs.own.Making.{seen_from, in_repetition, at_leaves, MayFillRep, IsRepFilled, MayMakeBy, IsMadeBy, MayMakeRule, IsRuleMade};
 
 use crate::copying::{Spot, copy_rep, copy_reps};
 use crate::filling::fill_rep;

@@ -4,7 +4,7 @@ ghost use Rattle.std.specs.Option.{option_to_list};
 ghost use Rattle.gw_er7.specs.Message.{SegmentValue};
 ghost use Rattle.gw_resolve.specs.Seen.{place as seen_place};
 ghost use Rattle.gw_interp.specs.Occurrences as spec;
-ghost use Rattle.gw_interp.specs.Lent.{occurrence, scope as walked, AreOf, IsFirstOf};
+ghost use Rattle.gw_interp.specs.own.Lent.{occurrence, scope as walked, AreOf, IsFirstOf};
 
 use gw_resolve::Place;
 use gw_validate::Occ;

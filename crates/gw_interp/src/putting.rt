@@ -1,7 +1,7 @@
 //! Texts put into the segment that was begun last.
 ghost use Rattle.std.specs.Prelude.{◌≡◌, OnOk, OnErr};
 ghost use Rattle.gw_er7.specs.Message.{numbers};
-ghost use Rattle.gw_interp.specs.Putting.{MayStand, IsPut};
+ghost use Rattle.gw_interp.specs.own.Putting.{MayStand, IsPut};
 
 use gw_er7::{Builder, Place};
 use std::alloc::AllocError;

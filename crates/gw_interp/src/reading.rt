@@ -4,9 +4,9 @@ ghost use Rattle.gw_er7.specs.Message.{SegmentValue, text_of};
 ghost use Rattle.gw_er7.specs.Presence.{RepAt, IsLast};
 ghost use Rattle.gw_resolve.specs.Seen.{place as seen_place, source as seen_source};
 ghost use Rattle.gw_interp.specs.Occurrences.{texts_at};
-ghost use Rattle.gw_interp.specs.Lent.{scope as walked, AreOf};
+ghost use Rattle.gw_interp.specs.own.Lent.{scope as walked, AreOf};
 ghost use Rattle.gw_interp.specs.Meaning.{InFirst, SourceMeans};
-ghost use Rattle.gw_interp.specs.Sourced.{texts_of, IsFirstRep, current_texts, walks};
+ghost use Rattle.gw_interp.specs.own.Sourced.{texts_of, IsFirstRep, current_texts, walks};
 
 use crate::places::first_at_place;
 use gw_er7::Segment;

@@ -2,11 +2,11 @@
 ghost use Rattle.std.specs.Prelude.{◌≡◌, OnOk, map, ◌∷◌, []};
 ghost use Rattle.gw_er7.specs.Building.{IsBegun};
 ghost use Rattle.gw_resolve.specs.Seen.{rule as seen_rule};
-ghost use Rattle.gw_interp.specs.Lent.{AreOf};
+ghost use Rattle.gw_interp.specs.own.Lent.{AreOf};
 ghost use Rattle.gw_interp.specs.Meaning.{IsImage, IsOne};
-ghost use Rattle.gw_interp.specs.Filling.{message_of};
-ghost use Rattle.gw_interp.specs.Ready.{MayImage, MayBegin, Adds};
-ghost use Rattle.gw_interp.specs.Making.{seen_from, MayMakeRules, AreRulesMade};
+ghost use Rattle.gw_interp.specs.own.Filling.{message_of};
+ghost use Rattle.gw_interp.specs.own.Ready.{MayImage, MayBegin, Adds};
+ghost use Rattle.gw_interp.specs.own.Making.{seen_from, MayMakeRules, AreRulesMade};
 
 use crate::making::make_rule;
 use gw_er7::Builder;

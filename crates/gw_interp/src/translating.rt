@@ -7,7 +7,7 @@ ghost use Rattle.gw_validate.specs.Occurring.{tree_of};
 ghost use Rattle.gw_validate.specs.Broken.{IsTreeOf};
 ghost use Rattle.gw_maplang.specs.Lawful.{Lawful};
 ghost use Rattle.gw_maplang.specs.Seen.{map_value};
-ghost use Rattle.gw_check.specs.CheckedMap.{resolved_map};
+ghost use Rattle.gw_check.specs.Kept.{resolved_map};
 ghost use Rattle.gw_interp.specs.Meaning.{Means};
 
 use crate::items::put_items;

@@ -7,6 +7,6 @@ pub mod Fault
 pub mod Value
 pub mod Whole
 pub mod Seen
-pub mod Building
 pub mod Identity
 pub mod Patterns
+pub mod own

@@ -1,6 +1,6 @@
 //! Building of a map from its lines.
 ghost use Rattle.std.specs.Prelude.{◌≡◌, map, reverse, IfOk, OnOk, Some, None};
-ghost use Rattle.gw_maplang.specs.Building.{Stands, Grows, parts_of, levels_of, all_behind, IsSegment, IsEach, head_value};
+ghost use Rattle.gw_maplang.specs.own.Building.{Stands, Grows, parts_of, levels_of, all_behind, IsSegment, IsEach, head_value};
 ghost use Rattle.gw_maplang.specs.Seen.{line, rule, leaf_value, dropped, all_items, now, items_of, path, path_some};
 ghost use Rattle.gw_maplang.specs.Line as line_of;
 ghost use Rattle.gw_maplang.specs.Value as spec;

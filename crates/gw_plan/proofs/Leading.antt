@@ -4,13 +4,13 @@ use Rattle.std.specs.Prelude.{Result, Ok, Err, bytes_eq, if◌then◌else◌}
 use Rattle.std.specs.List.{list_any}
 use Rattle.gw_profile.specs.Seen.{profile_value}
 use Rattle.gw_profile.specs.Shapes.{ProfileValue}
-use Rattle.gw_check.specs.CheckedMap.{CheckedValue}
+use Rattle.gw_check.specs.Kept.{CheckedValue}
 use Rattle.gw_plan.specs.declared.fault.PlanFault.{PlanFault}
 use Rattle.gw_plan.specs.declared.fault.PlanFault.TheVariants.{Syntax, Duplicate, UnknownName, WrongMap}
 use Rattle.gw_plan.specs.Shapes.{MapBetween, RouteValue, named}
 use Rattle.gw_plan.specs.Held.{RouteHeld, map_between, route_value, longer, leg}
 use Rattle.gw_plan.specs.Above.{BeginsAt, named_profile}
-use Rattle.gw_plan.specs.Drafted.{StandsAmong}
+use Rattle.gw_plan.specs.own.SoFar.{StandsAmong}
 use Rattle.gw_plan.specs.Draft.{Draft, receiver_number, map_named, goes, with_leg, with_map, delivered}
 use Rattle.std.proofs.lemmas.List.{map-append}
 use Rattle.std.proofs.lemmas.Slice.Eq.{bytes_eq-Decides}

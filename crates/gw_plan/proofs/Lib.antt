@@ -12,4 +12,4 @@ pub mod Leading
 pub mod Listing
 pub mod Receiving
 pub mod Stopping
-pub mod Receivable
+pub mod Reachable

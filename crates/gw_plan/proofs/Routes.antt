@@ -10,7 +10,7 @@ use denote.Ref.{Bor}
 use Rattle.gw_profile.specs.Seen.{profile_value}
 use Rattle.std.specs.Global.{Vec}
 use Rattle.gw_er7.specs.Message.{SegmentValue}
-use Rattle.gw_check.specs.CheckedMap.{CheckedValue}
+use Rattle.gw_check.specs.Kept.{CheckedValue}
 use Rattle.gw_plan.specs.Shapes.{Leg, RouteValue}
 use Rattle.gw_plan.specs.Index.{is_key, number_for, number_if_some}
 use Rattle.gw_plan.specs.Held.{RouteHeld, PlanHeld, IsRoute, longer, leg, plan_value, route_value, tested, FoundAt}

@@ -10,7 +10,7 @@ use Rattle.gw_validate.specs.Conforming.{Conforms}
 use Rattle.gw_validate.specs.Broken.{IsTreeOf}
 use Rattle.gw_validate.specs.Fitting.{TreeValue}
 use Rattle.gw_validate.specs.Occurring.{tree_of}
-use Rattle.gw_check.specs.CheckedMap.{CheckedValue, resolved_map}
+use Rattle.gw_check.specs.Kept.{CheckedValue, resolved_map}
 use Rattle.gw_interp.specs.Meaning.{Means}
 use Rattle.gw_plan.specs.Held.{RouteHeld, map_between, plan_value, route_value}
 use Rattle.gw_plan.specs.Routing.{routed}

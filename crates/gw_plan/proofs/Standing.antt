@@ -14,11 +14,11 @@ use Rattle.gw_profile.specs.Seen as profiles
 use Rattle.gw_profile.specs.Seen.{profile_value}
 use Rattle.gw_profile.specs.Shapes.{ProfileValue}
 use Rattle.gw_maplang.specs.Seen as maps
-use Rattle.gw_check.specs.CheckedMap.{CheckedValue}
+use Rattle.gw_check.specs.Kept.{CheckedValue}
 use Rattle.gw_plan.specs.Shapes.{MapBetween, named}
 use Rattle.gw_plan.specs.Held.{map_between}
 use Rattle.gw_plan.specs.Above.{IsAbove, BeginsAt, named_profile, named_map}
-use Rattle.gw_plan.specs.Made.{IsCheckedSo, IsTaken}
+use Rattle.gw_plan.specs.own.Made.{IsCheckedSo, IsTaken}
 use Rattle.gw_plan.proofs.Keys.{some_same}
 
 all_push : {A : Type 0} (P : A → Type 0) (xs : List A) (x : A) → AllByRecursion P xs → P x → AllByRecursion P (xs ++ x ∷ [])

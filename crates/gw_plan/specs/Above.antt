@@ -4,7 +4,7 @@ use Rattle.std.specs.List.{AllByRecursion}
 use Rattle.gw_profile.specs.Seen as profiles
 use Rattle.gw_profile.specs.Seen.{profile_value}
 use Rattle.gw_profile.specs.Shapes.{ProfileValue}
-use Rattle.gw_check.specs.CheckedMap.{CheckedValue}
+use Rattle.gw_check.specs.Kept.{CheckedValue}
 use Rattle.gw_plan.specs.Shapes.{MapBetween, named}
 use Rattle.gw_plan.specs.Held.{map_between}
 

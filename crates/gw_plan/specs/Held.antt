@@ -6,7 +6,7 @@ use Rattle.gw_er7.specs.Message.{SegmentValue}
 use Rattle.gw_profile.specs.Seen as profiles
 use Rattle.gw_profile.specs.Seen.{profile_value}
 use Rattle.gw_maplang.specs.Seen.{map_value}
-use Rattle.gw_check.specs.CheckedMap.{CheckedValue}
+use Rattle.gw_check.specs.Kept.{CheckedValue}
 use Rattle.gw_plan.specs.Shapes.{ReceiverValue, MapBetween, Leg, RouteValue, PlanValue}
 use Rattle.gw_plan.specs.Routing.{header_text, is_accepted}
 

@@ -11,9 +11,8 @@ pub mod Index
 pub mod Held
 pub mod Above
 pub mod Inner
-pub mod Made
 pub mod Kept
-pub mod Drafted
 pub mod Admitted
 pub mod Translating
 pub mod Worked
+pub mod own

@@ -6,7 +6,7 @@ use Rattle.std.specs.declared.alloc.Global.{Global}
 use Rattle.std.specs.declared.sync.Arc.{Arc}
 use denote.Ref.{Bor}
 use Rattle.gw_profile.specs.Seen as profiles
-use Rattle.gw_check.specs.CheckedMap.{CheckedValue}
+use Rattle.gw_check.specs.Kept.{CheckedValue}
 use Rattle.gw_plan.specs.declared.form.Line as declared
 use Rattle.gw_plan.specs.declared.plan.Receiver.{Receiver}
 use Rattle.gw_plan.specs.Shapes.{ReceiverValue}

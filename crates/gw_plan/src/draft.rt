@@ -2,9 +2,9 @@
 ghost use Rattle.std.specs.Prelude.{◌≡◌, IfOk, IfErr, OnOk, None, Err};
 ghost use Rattle.std.specs.Arc.{arc_value};
 ghost use Rattle.gw_plan.specs.Draft as spec;
-ghost use Rattle.gw_plan.specs.Drafted.{draft_value, IsKept, Leads, Makes};
+ghost use Rattle.gw_plan.specs.own.SoFar.{draft_value, IsKept, Leads, Makes};
 ghost use Rattle.gw_plan.specs.Inner.{takes_profile, takes_map, takes_part};
-ghost use Rattle.gw_plan.specs.Made.{inner, IsNumbered};
+ghost use Rattle.gw_plan.specs.own.Made.{inner, IsNumbered};
 ghost use Rattle.gw_plan.specs.Seen.{now_all, line};
 
 use crate::above::Above;

@@ -3,7 +3,7 @@ ghost use Rattle.std.specs.Prelude.{◌≡◌, map, IfOk};
 ghost use Rattle.std.specs.Option.{option_map};
 ghost use Rattle.gw_lines.specs.Seen.{word};
 ghost use Rattle.gw_plan.specs.Inner as spec;
-ghost use Rattle.gw_plan.specs.Made.{inner, IsNumbered, map_head};
+ghost use Rattle.gw_plan.specs.own.Made.{inner, IsNumbered, map_head};
 
 use crate::inner::{Inner, first_said};
 use gw_lines::{Word, behind, name_at};

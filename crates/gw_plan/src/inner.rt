@@ -5,7 +5,7 @@ ghost use Rattle.gw_lines.specs.Seen.{word};
 ghost use Rattle.gw_lines.specs.Words.{words};
 ghost use Rattle.gw_plan.specs.Inner as spec;
 ghost use Rattle.gw_plan.specs.Joined.{joined};
-ghost use Rattle.gw_plan.specs.Made.{inner, IsNumbered};
+ghost use Rattle.gw_plan.specs.own.Made.{inner, IsNumbered};
 
 use crate::fault::PlanFault;
 use crate::order::earliest;

@@ -10,7 +10,7 @@ ghost use Rattle.gw_resolve.specs.Seen.{failure};
 ghost use Rattle.gw_plan.specs.declared.fault.PlanFault.TheVariants as fault;
 ghost use Rattle.gw_plan.specs.Above.{profiles_of, maps_of, named_profile, IsNewMap};
 ghost use Rattle.gw_plan.specs.Inner as spec;
-ghost use Rattle.gw_plan.specs.Made.{inner, map_head, shared_map, lent_profile, with_found, IsNumbered, IsLasting, Spells, Checks, IsTaken};
+ghost use Rattle.gw_plan.specs.own.Made.{inner, map_head, shared_map, lent_profile, with_found, IsNumbered, IsLasting, Spells, Checks, IsTaken};
 
 use crate::above::Above;
 use crate::fault::PlanFault;

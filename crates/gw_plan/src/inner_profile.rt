@@ -8,7 +8,7 @@ ghost use Rattle.gw_profile.specs.declared.fault.ProfileFault.TheVariants as pro
 ghost use Rattle.gw_plan.specs.declared.fault.PlanFault.TheVariants as fault;
 ghost use Rattle.gw_plan.specs.Above.{profiles_of, IsNewProfile};
 ghost use Rattle.gw_plan.specs.Inner as spec;
-ghost use Rattle.gw_plan.specs.Made.{inner, shared_profile, IsNumbered, IsLasting, Spells};
+ghost use Rattle.gw_plan.specs.own.Made.{inner, shared_profile, IsNumbered, IsLasting, Spells};
 
 use crate::above::Above;
 use crate::fault::PlanFault;

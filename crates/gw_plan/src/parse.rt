@@ -5,10 +5,10 @@ ghost use Rattle.gw_lines.specs.Seen.{word};
 ghost use Rattle.gw_lines.specs.Words.{words};
 ghost use Rattle.gw_plan.specs.declared.fault.PlanFault.TheVariants as fault;
 ghost use Rattle.gw_plan.specs.Draft.{nothing};
-ghost use Rattle.gw_plan.specs.Drafted.{draft_value, IsKept, Makes, MakesBy};
+ghost use Rattle.gw_plan.specs.own.SoFar.{draft_value, IsKept, Makes, MakesBy};
 ghost use Rattle.gw_plan.specs.Held.{plan_value};
 ghost use Rattle.gw_plan.specs.Line as lines;
-ghost use Rattle.gw_plan.specs.Made.{inner};
+ghost use Rattle.gw_plan.specs.own.Made.{inner};
 ghost use Rattle.gw_plan.specs.Seen.{line, now_all};
 ghost use Rattle.gw_plan.specs.Whole as spec;
 

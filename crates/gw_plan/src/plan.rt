@@ -5,7 +5,7 @@ ghost use Rattle.gw_plan.specs.Routing.{header_text, is_accepted, routed};
 ghost use Rattle.gw_plan.specs.Held.{plan_value, lent, tested_for, FoundAt};
 ghost use Rattle.gw_plan.specs.Seen.{receiver_value};
 ghost use Rattle.gw_plan.specs.Draft.{plan_of};
-ghost use Rattle.gw_plan.specs.Drafted.{draft_value, IsKept};
+ghost use Rattle.gw_plan.specs.own.SoFar.{draft_value, IsKept};
 ghost use Rattle.gw_plan.specs.Whole.{spelled};
 ghost use Rattle.gw_plan.specs.Within.{IsWithin};
 

@@ -5,7 +5,7 @@ ghost use Rattle.std.specs.Option.{option_map};
 ghost use Rattle.std.specs.Arc.{arc_value};
 ghost use Rattle.gw_plan.specs.Draft.{is_for};
 ghost use Rattle.gw_plan.specs.Held.{route_value, longer, IsNewLeg};
-ghost use Rattle.gw_plan.specs.Drafted.{all_routes, IsListed};
+ghost use Rattle.gw_plan.specs.own.SoFar.{all_routes, IsListed};
 
 use crate::index::Index;
 use crate::route::Route;

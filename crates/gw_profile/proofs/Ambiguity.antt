@@ -8,7 +8,7 @@ use Rattle.gw_profile.specs.Among.{Among}
 use Rattle.gw_profile.specs.Shapes.{Forest, nothing, segment, group}
 use Rattle.gw_profile.specs.Line.{allows}
 use Rattle.gw_profile.specs.Fault.{is_among}
-use Rattle.gw_profile.specs.Determinism.{is_optional, first_names, follow_names, behind_child, is_before, least, least_shared, clash, or_else, ambiguous}
+use Rattle.gw_profile.specs.LookAhead.{is_optional, first_names, follow_names, behind_child, is_before, least, least_shared, clash, or_else, ambiguous}
 use Rattle.gw_profile.specs.Deterministic.{Name, AtMost, Below, First, Optional, Demands, Follows, BehindChildren, NoName, Apart, Deterministic, LeastShared, FirstShared}
 use Rattle.gw_profile.proofs.Facts.{both, and_of, either, or_left, or_right, tells}
 use Rattle.gw_profile.proofs.Among.{among_is, not_among, among_append, among_one, among_if}

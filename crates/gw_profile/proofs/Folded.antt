@@ -10,7 +10,7 @@ use Rattle.gw_profile.specs.Shapes.{SubValue, CompValue, FieldValue, SegmentValu
 use Rattle.gw_profile.specs.Line.{Line, Begins, Table, Segment, Field, Comp, Sub, Group, End, said_leaf}
 use Rattle.gw_profile.specs.Value as Value
 use Rattle.gw_profile.specs.Value.{Parts, no_parts, parts, Nodes, nodes, next, past, with_group, name_of, profile, sub_of}
-use Rattle.gw_profile.specs.Determinism.{is_optional}
+use Rattle.gw_profile.specs.LookAhead.{is_optional}
 use Rattle.gw_profile.specs.Deterministic.{Name, Determined}
 use Rattle.gw_profile.specs.Whole.{empty_group, is_msh, is_header, is_first, is_headed}
 use Rattle.gw_profile.specs.WellFormed.{EachSegment, IsHeader, IsOther, Headed, once}

@@ -10,7 +10,7 @@ use Rattle.gw_profile.specs.Shapes.{Forest, nothing, segment, group}
 use Rattle.gw_profile.specs.Line.{allows}
 use Rattle.gw_profile.specs.Fault.{is_among}
 use Rattle.gw_profile.specs.Seen.{node_forest, row_forest, forest}
-use Rattle.gw_profile.specs.Determinism.{is_optional, first_names, follow_names, behind_child, least, least_shared, clash, or_else, ambiguous, group_ambiguous}
+use Rattle.gw_profile.specs.LookAhead.{is_optional, first_names, follow_names, behind_child, least, least_shared, clash, or_else, ambiguous, group_ambiguous}
 use Rattle.gw_profile.specs.Nodes.{first_of_node, node_ambiguous, card_of, Joins, joined}
 use Rattle.indexmap.specs.IndexSet.{IndexSet}
 use Rattle.std.proofs.lemmas.List.{drop-append-le}

@@ -17,7 +17,7 @@ use Rattle.gw_profile.specs.Line.{Line, Leaf, Begins, Table, Segment, Field, Com
 use Rattle.gw_profile.specs.Fault.{levels, outside, has_leaf, begun, takes}
 use Rattle.gw_profile.specs.Value as Value
 use Rattle.gw_profile.specs.Value.{Parts, Nodes, parts, nodes, next, past, name_of, profile, sub_of, subs_of, comps_of}
-use Rattle.gw_profile.specs.Determinism.{ambiguous}
+use Rattle.gw_profile.specs.LookAhead.{ambiguous}
 use Rattle.gw_profile.specs.Deterministic.{Name}
 use Rattle.gw_profile.specs.Whole.{empty_group, is_headed, is_unclosed, unambiguous, filled, ruled, whole, spelled, most_bytes, most_lines}
 use Rattle.gw_profile.specs.WellFormed.{table_names}

@@ -16,7 +16,7 @@ use Rattle.gw_profile.specs.Line.{Line, Leaf, Begins, Table, Segment, Field, Com
 use Rattle.gw_profile.specs.Fault.{Parent, parents, tables, levels, is_among, has_repeat, is_unknown, names_unknown, begins_tests, table_tests, segment_tests, group_tests, end_tests, part_tests, tests, takes, grammar}
 use Rattle.gw_lines.specs.Grammar.{tested}
 use Rattle.gw_profile.specs.Value.{profile}
-use Rattle.gw_profile.specs.Determinism.{ambiguous}
+use Rattle.gw_profile.specs.LookAhead.{ambiguous}
 use Rattle.gw_profile.specs.Deterministic.{Name, NoName, Deterministic, Determined}
 use Rattle.gw_profile.specs.Whole.{is_headed, is_unclosed, unambiguous, headed, filled, ruled, whole, spelled, most_bytes, most_lines}
 use Rattle.gw_profile.specs.WellFormed.{WellFormed}

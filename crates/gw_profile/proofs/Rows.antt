@@ -2,7 +2,7 @@
 use Rattle.std.proofs.Common.{◌≡◌, ℕ, Bool, true, false, List, [], refl, sym, ap, ◌∙◌}
 use Rattle.std.specs.Prelude.{if◌then◌else◌}
 use Rattle.gw_profile.specs.Line.{allows}
-use Rattle.gw_profile.specs.Determinism.{first_names, group_ambiguous}
+use Rattle.gw_profile.specs.LookAhead.{first_names, group_ambiguous}
 use Rattle.gw_profile.specs.Nodes.{first_of_node, node_ambiguous}
 use mathlib.Core.Former.{Count}
 use Rattle.gw_profile.specs.declared.node.GroupNode.{GroupNode}

@@ -8,7 +8,7 @@ use Rattle.gw_profile.specs.declared.build.Built.{Built}
 use Rattle.gw_profile.specs.declared.fault.ProfileFault.{ProfileFault}
 use Rattle.gw_profile.specs.declared.fault.ProfileFault.TheVariants.{Memory, Syntax}
 use Rattle.gw_profile.specs.Shapes.{TableValue, ProfileValue}
-use Rattle.gw_profile.specs.Building.{built_value}
+use Rattle.gw_profile.specs.own.Building.{built_value}
 use Rattle.gw_profile.specs.Seen.{kept}
 use Rattle.gw_profile.proofs.Kept.{kept_lines}
 use Rattle.gw_profile.specs.Value.{tables}

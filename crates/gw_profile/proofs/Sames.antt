@@ -12,7 +12,7 @@ use Rattle.gw_profile.specs.declared.node.GroupNode.{GroupNode}
 use Rattle.gw_profile.specs.declared.node.Node.{Node, Seg, Group, Group'}
 use Rattle.gw_profile.specs.Shapes.{Forest, nothing, segment, group, SegmentValue, GroupValue, TableValue}
 use Rattle.gw_profile.specs.Seen.{sub, comp, field, segment_value, node_forest, row_forest, forest}
-use Rattle.gw_profile.specs.Same.{SameNode, group_of}
+use Rattle.gw_profile.specs.own.Same.{SameNode, group_of}
 use Rattle.gw_profile.proofs.Rows.{group_forest}
 
 moved : {A : Type 0} (R : A → A → Type 0) (r : Bool) (xs ys zs ws : List A) → xs ≡ zs → ys ≡ ws → IsTrue r ↔ AllZip R xs ys → IsTrue r ↔ AllZip R zs ws

@@ -18,7 +18,7 @@ use Rattle.gw_profile.specs.Fault as Fault
 use Rattle.gw_profile.specs.Fault.{levels, takes}
 use Rattle.gw_profile.specs.Value as Value
 use Rattle.gw_profile.specs.Value.{Nodes, nodes, next, past, name_of, profile}
-use Rattle.gw_profile.specs.Determinism.{is_optional, ambiguous}
+use Rattle.gw_profile.specs.LookAhead.{is_optional, ambiguous}
 use Rattle.gw_profile.specs.Deterministic.{Name, AtMost, Demands, NoName, Deterministic, Determined}
 use Rattle.gw_profile.specs.Whole.{empty_group, is_msh, is_once, is_header, is_headed, is_unclosed, unambiguous, filled, ruled, whole, spelled, most_bytes, most_lines}
 use Rattle.gw_profile.specs.WellFormed.{Agrees, LawfulSegment, LawfulGroup, LawfulTable, EachSegment, EachGroup, once, IsOther, Headed, table_names, WellFormed}

@@ -2,7 +2,7 @@
 use Rattle.std.specs.Prelude.{◌≡◌, ℕ, suc, ◌≤◌, ◌<◌, ◌⊎◌, true, List, Option, Some, None}
 use Rattle.gw_profile.specs.declared.shape.Card.{Card}
 use Rattle.gw_profile.specs.Shapes.{Forest, nothing, segment, group}
-use Rattle.gw_profile.specs.Determinism.{is_before}
+use Rattle.gw_profile.specs.LookAhead.{is_before}
 
 -- the three bytes of a segment's name
 abbrev pub Name : Type 0

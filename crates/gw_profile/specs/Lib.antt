@@ -4,7 +4,7 @@ pub mod Lengths
 pub mod Among
 pub mod Line
 pub mod Fault
-pub mod Determinism
+pub mod LookAhead
 pub mod Deterministic
 pub mod WellFormed
 pub mod Seen
@@ -13,10 +13,9 @@ pub mod Names
 pub mod Labels
 pub mod Heights
 pub mod Kept
-pub mod Same
 pub mod Value
-pub mod Building
 pub mod Whole
 pub mod Written
 pub mod Worked
 pub mod Patterns
+pub mod own

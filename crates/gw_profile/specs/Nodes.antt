@@ -6,7 +6,7 @@ use Rattle.gw_profile.specs.declared.node.Node.{Node, Seg, Group'}
 use Rattle.gw_profile.specs.Line.{allows}
 use Rattle.gw_profile.specs.Fault.{is_among}
 use Rattle.gw_profile.specs.Seen.{row_forest}
-use Rattle.gw_profile.specs.Determinism.{first_names, clash, group_ambiguous}
+use Rattle.gw_profile.specs.LookAhead.{first_names, clash, group_ambiguous}
 
 abbrev pub node_ambiguous : Node → List (List ℕ) → Option (List ℕ)
 node_ambiguous (Seg s) after = clash s.card (s.name ∷ []) after

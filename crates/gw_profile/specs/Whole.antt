@@ -11,7 +11,7 @@ use Rattle.gw_profile.specs.Shapes.{ProfileValue}
 use Rattle.gw_profile.specs.Line.{Line, Begins, Table, Segment, Group, allows}
 use Rattle.gw_profile.specs.Fault.{begun, levels, takes}
 use Rattle.gw_profile.specs.Value.{nodes, profile}
-use Rattle.gw_profile.specs.Determinism.{is_optional, ambiguous}
+use Rattle.gw_profile.specs.LookAhead.{is_optional, ambiguous}
 
 -- the line of the first group without a child of min at least 1
 abbrev pub empty_group : List Line → Option ℕ

@@ -1,7 +1,7 @@
 //! What holds of the definitions.
 ghost use Rattle.std.specs.Prelude.{◌≡◌, ◌↔◌, [], ℕ, List, Ok, Some, None, false};
 ghost use Rattle.gw_profile.specs.Shapes.{Forest, ProfileValue};
-ghost use Rattle.gw_profile.specs.Determinism.{ambiguous};
+ghost use Rattle.gw_profile.specs.LookAhead.{ambiguous};
 ghost use Rattle.gw_profile.specs.Deterministic.{Name, NoName, Deterministic, FirstShared};
 ghost use Rattle.gw_lines.specs.Reading.{is_too_large};
 ghost use Rattle.gw_profile.specs.Whole.{spelled, most_bytes, most_lines};

@@ -7,7 +7,7 @@ ghost use Rattle.gw_profile.specs.Fault as spec;
 ghost use Rattle.gw_profile.specs.Line as form;
 ghost use Rattle.gw_lines.specs.Grammar.{Taken};
 ghost use Rattle.gw_profile.specs.Seen.{line, made, kept, said, Agreed};
-ghost use Rattle.gw_profile.specs.Building.{built_value};
+ghost use Rattle.gw_profile.specs.own.Building.{built_value};
 ghost use Rattle.gw_profile.specs.declared.reader.Tested.{Tested};
 ghost use Rattle.gw_profile.specs.Whole.{whole, is_unclosed};
 

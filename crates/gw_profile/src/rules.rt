@@ -3,7 +3,7 @@ ghost use Rattle.std.specs.Prelude.{◌≡◌, ◌++◌, ◌∷◌, ◌+◌, ◌
 ghost use Rattle.gw_profile.specs.Seen.{forest};
 ghost use Rattle.gw_profile.specs.Fault as fault;
 ghost use Rattle.gw_profile.specs.Line as line_of;
-ghost use Rattle.gw_profile.specs.Determinism as spec;
+ghost use Rattle.gw_profile.specs.LookAhead as spec;
 ghost use Rattle.gw_profile.specs.Nodes as node_spec;
 ghost use Rattle.gw_profile.specs.Nodes.{Joins, joined, TakesBack};
 

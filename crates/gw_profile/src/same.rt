@@ -2,7 +2,7 @@
 ghost use Rattle.std.specs.Prelude.{◌≡◌, ◌↔◌, IsTrue, map, slice_get};
 ghost use Rattle.std.specs.Option.{option_map};
 ghost use Rattle.gw_profile.specs.Seen.{segment_value, table, forest};
-ghost use Rattle.gw_profile.specs.Same.{SameNode, group_of, lent_table};
+ghost use Rattle.gw_profile.specs.own.Same.{SameNode, group_of, lent_table};
 ghost use Rattle.gw_profile.specs.declared.node.Node.{Seg, Group};
 
 use crate::node::{GroupNode, Node, SegNode};

@@ -5,7 +5,7 @@ ghost use Rattle.gw_lines.specs.Reading.{Gives};
 ghost use Rattle.gw_profile.specs.declared.fault.ProfileFault.TheVariants as fault;
 ghost use Rattle.gw_profile.specs.Whole as spec;
 ghost use Rattle.gw_profile.specs.Seen.{line};
-ghost use Rattle.gw_profile.specs.Building.{built_value, KeepsRules};
+ghost use Rattle.gw_profile.specs.own.Building.{built_value, KeepsRules};
 ghost use Rattle.gw_profile.specs.Value.{tables as tables_of};
 
 use crate::build::{Built, build};

@@ -3,7 +3,7 @@ use Rattle.std.proofs.Common.{◌≡◌, ℕ, ◌+◌, ◌<◌, List, [], ◌∷
 use Rattle.std.specs.List.Sorted.{IsStrictlyIncreasing}
 use Rattle.std.proofs.lemmas.Grind.{common_steps}
 use Rattle.gw_reorder.specs.Runs.{Call, due, hold, release, room, desk_after, due_in, given_in, kept_for, IsGivenInOrder}
-use Rattle.gw_reorder.specs.Standing.{Stands}
+use Rattle.gw_reorder.specs.own.Standing.{Stands}
 use Rattle.gw_reorder.proofs.Steps.{none_due, more_due, more_given, after_release, after_hold, roomier}
 
 rising_before : (xs : List ℕ) (n : ℕ) → IsStrictlyIncreasing (xs ++ n ∷ []) → IsStrictlyIncreasing xs

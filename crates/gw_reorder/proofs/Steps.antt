@@ -11,7 +11,7 @@ use Rattle.std.proofs.lemmas.Bool.{cases_lt, cases_eq}
 use Rattle.std.proofs.lemmas.List.Kept.{AllPairs-from_increasing}
 use Rattle.gw_reorder.specs.State.{DeskState, with_due, nothing_due}
 use Rattle.gw_reorder.specs.Calls.{place_of, status_of, status_at, slot_status, after_holding, after_bringing, next_of, after_giving, kept_with, kept_pair}
-use Rattle.gw_reorder.specs.Standing.{Stands}
+use Rattle.gw_reorder.specs.own.Standing.{Stands}
 use Rattle.gw_reorder.specs.Runs.{earlier, brought_for, with_its_value}
 use Rattle.gw_reorder.specs.declared.desk.Status.{Status}
 use Rattle.gw_reorder.specs.declared.desk.Status.TheVariants.{Waiting, Repeat, Stranger}

@@ -1,4 +1,4 @@
 pub mod State
 pub mod Calls
-pub mod Standing
 pub mod Runs
+pub mod own

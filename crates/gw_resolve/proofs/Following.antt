@@ -9,7 +9,7 @@ use Rattle.gw_profile.specs.Labels.{labelled}
 use Rattle.gw_maplang.specs.Seen.{items_all}
 use Rattle.gw_resolve.specs.Places.{Element, nodes_of_child}
 use Rattle.gw_resolve.specs.declared.resolved.Place.{Place}
-use Rattle.gw_resolve.specs.Looking.{onwards}
+use Rattle.gw_resolve.specs.own.Looking.{onwards}
 use Rattle.gw_resolve.specs.Naming.{first_label, steps_of, place_of}
 use Rattle.gw_resolve.specs.Seen.{place}
 use Rattle.gw_resolve.proofs.Noting.{front}

@@ -17,7 +17,7 @@ use Rattle.gw_maplang.specs.Shapes.{Items, nothing}
 use Rattle.gw_maplang.specs.Seen.{path, items_all, with_item, row_items, all_items, rule}
 use Rattle.gw_resolve.specs.Places.{Element, within}
 use Rattle.gw_resolve.specs.Failures.{Failure, fails, or_later}
-use Rattle.gw_resolve.specs.Looking.{each_within}
+use Rattle.gw_resolve.specs.own.Looking.{each_within}
 use Rattle.gw_resolve.specs.Naming.{but_last, place_of, place_or, walk_failures, ends_at_segment, is_single_place, walked_if, source_failures, rule_failures, path_failures}
 
 -- one more, and those behind it

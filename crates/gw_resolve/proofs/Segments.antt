@@ -14,7 +14,7 @@ use Rattle.gw_resolve.specs.declared.resolved.Item.{Item, Segment}
 use Rattle.gw_resolve.specs.declared.resolved.Place.{Place}
 use Rattle.gw_resolve.specs.declared.resolved.Rule.{Rule}
 use Rattle.gw_resolve.specs.Places.{Element}
-use Rattle.gw_resolve.specs.Placed.{is_segment}
+use Rattle.gw_resolve.specs.Order.{is_segment}
 use Rattle.gw_resolve.specs.Failures.{Failure}
 use Rattle.gw_resolve.specs.Resolved.{segment_item}
 use Rattle.gw_resolve.specs.Seen.{place, rule, with_item}

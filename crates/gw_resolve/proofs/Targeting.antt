@@ -11,11 +11,11 @@ use Rattle.gw_maplang.specs.Shapes.{Items, nothing}
 use Rattle.gw_maplang.specs.Seen.{with_item, row_items, all_items}
 use Rattle.gw_maplang.proofs.Rows.{group_items, flat_items}
 use Rattle.gw_resolve.specs.Failures.{Failure, fails, or_later}
-use Rattle.gw_resolve.specs.Placed.{is_segment, is_group}
+use Rattle.gw_resolve.specs.Order.{is_segment, is_group}
 use Rattle.gw_resolve.specs.Places.{child, nodes_of_child}
 use Rattle.gw_profile.specs.Labels.{labelled}
 use Rattle.gw_resolve.specs.Naming.{labels, first_or, node_or, label_failures, flat_failures, target_failures}
-use Rattle.gw_resolve.specs.Resolving.{reached}
+use Rattle.gw_resolve.specs.Outcome.{reached}
 use Rattle.gw_resolve.proofs.Noting.{front, joined, added_one}
 use Rattle.gw_resolve.proofs.Labels.{flat_labels}
 

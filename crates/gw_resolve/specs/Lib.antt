@@ -2,11 +2,11 @@ pub mod Intervals
 pub mod Places
 pub mod Resolved
 pub mod Failures
-pub mod Placed
+pub mod Order
 pub mod Lawful
 pub mod Naming
 pub mod Seen
 pub mod Noted
-pub mod Looking
 pub mod Founds
-pub mod Resolving
+pub mod Outcome
+pub mod own

@@ -8,7 +8,7 @@ use Rattle.gw_maplang.specs.Shapes as raw
 use Rattle.gw_maplang.specs.Shapes.{MapValue, TableValue, Rows, table_of}
 use Rattle.gw_resolve.specs.Places.{Element, a_segment, a_group, the_whole, nodes_of, child, nodes_of_child, Place, found, element_of, within}
 use Rattle.gw_resolve.specs.Resolved.{Reference, Source, of_field, of_current, Leaf, const, copied, looked_up, At, Making, copy, first, repeat, build, Rule, Items, no_items, segment_item, group_item, flat_item, Drop, Resolved}
-use Rattle.gw_resolve.specs.Placed.{is_segment, is_group}
+use Rattle.gw_resolve.specs.Order.{is_segment, is_group}
 use Rattle.gw_resolve.specs.Failures.{Failure, fails, or_later}
 
 -- ---- labels

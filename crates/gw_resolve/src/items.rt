@@ -6,7 +6,7 @@ ghost use Rattle.gw_profile.specs.Labels.{nodes_in};
 ghost use Rattle.gw_resolve.specs.Naming as spec;
 ghost use Rattle.gw_resolve.specs.Noted.{Notes};
 ghost use Rattle.gw_resolve.specs.Places.{within as scope_within};
-ghost use Rattle.gw_resolve.specs.Resolving.{MakesItem, MakesItems, MakesRules, path_failures, target_failures, reached};
+ghost use Rattle.gw_resolve.specs.Outcome.{MakesItem, MakesItems, MakesRules, path_failures, target_failures, reached};
 ghost use Rattle.gw_resolve.specs.Seen.{scope as walked, place as seen_place};
 
 use crate::element::{Element, nodes_of_child, within};

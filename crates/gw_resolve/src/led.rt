@@ -4,10 +4,10 @@ ghost use Rattle.gw_maplang.specs.Seen.{items_all};
 ghost use Rattle.gw_profile.specs.Labels.{nodes_in};
 ghost use Rattle.gw_profile.specs.Line.{allows};
 ghost use Rattle.gw_resolve.specs.Failures.{fails};
-ghost use Rattle.gw_resolve.specs.Looking.{comes_often, place_there, all_steps};
+ghost use Rattle.gw_resolve.specs.own.Looking.{comes_often, place_there, all_steps};
 ghost use Rattle.gw_resolve.specs.Naming as spec;
 ghost use Rattle.gw_resolve.specs.Noted.{Notes};
-ghost use Rattle.gw_resolve.specs.Placed.{is_segment};
+ghost use Rattle.gw_resolve.specs.Order.{is_segment};
 ghost use Rattle.gw_resolve.specs.Places as places;
 ghost use Rattle.gw_resolve.specs.Seen.{element as seen, scope as walked, place as seen_place};
 

@@ -1,6 +1,6 @@
 //! The failures of labels, while a map is walked.
 ghost use Rattle.std.specs.Prelude.{◌≡◌, length};
-ghost use Rattle.gw_resolve.specs.Resolving.{Hides};
+ghost use Rattle.gw_resolve.specs.Outcome.{Hides};
 
 use crate::failure::Failure;
 

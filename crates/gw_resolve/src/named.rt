@@ -3,10 +3,10 @@ ghost use Rattle.std.specs.Prelude.{◌≡◌, ◌++◌, if◌then◌else◌, is
 ghost use Rattle.gw_profile.specs.Seen.{forest};
 ghost use Rattle.gw_maplang.specs.Seen as raw;
 ghost use Rattle.gw_maplang.specs.Seen.{map_value};
-ghost use Rattle.gw_resolve.specs.Looking.{place_there};
+ghost use Rattle.gw_resolve.specs.own.Looking.{place_there};
 ghost use Rattle.gw_resolve.specs.Naming as spec;
 ghost use Rattle.gw_resolve.specs.Noted.{Notes};
-ghost use Rattle.gw_resolve.specs.Resolving.{ResolvesBy};
+ghost use Rattle.gw_resolve.specs.Outcome.{ResolvesBy};
 ghost use Rattle.gw_resolve.specs.Seen.{element as seen, scope as walked, failures, left_out};
 
 use crate::element::Element;

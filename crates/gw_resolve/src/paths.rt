@@ -3,7 +3,7 @@ ghost use Rattle.std.specs.Prelude.{◌≡◌, ℕ, ◌++◌, IfOk, option_map, 
 ghost use Rattle.std.specs.Global.{Vec};
 ghost use Rattle.gw_maplang.specs.Seen.{items_all};
 ghost use Rattle.gw_resolve.specs.Naming as spec;
-ghost use Rattle.gw_resolve.specs.Looking.{inwards, further, begun, onwards};
+ghost use Rattle.gw_resolve.specs.own.Looking.{inwards, further, begun, onwards};
 ghost use Rattle.gw_profile.specs.Labels.{nodes_in, labelled as spec_labelled};
 ghost use Rattle.gw_resolve.specs.Seen.{element as seen, scope as walked, place as seen_place};
 

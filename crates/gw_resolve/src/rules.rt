@@ -4,7 +4,7 @@ ghost use Rattle.gw_maplang.specs.Seen as raw;
 ghost use Rattle.gw_maplang.specs.Shapes.{TableValue};
 ghost use Rattle.gw_resolve.specs.Naming as spec;
 ghost use Rattle.gw_resolve.specs.Noted.{Notes};
-ghost use Rattle.gw_resolve.specs.Resolving.{MakesLeaf, MakesLeaves, MakesMaking, MakesRule, MakesRules};
+ghost use Rattle.gw_resolve.specs.Outcome.{MakesLeaf, MakesLeaves, MakesMaking, MakesRule, MakesRules};
 ghost use Rattle.gw_resolve.specs.Seen as seen;
 ghost use Rattle.gw_resolve.specs.Seen.{scope as walked};
 

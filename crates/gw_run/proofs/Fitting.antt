@@ -11,7 +11,7 @@ use Rattle.gw_gate.specs.Replies.{most}
 use Rattle.gw_crew.specs.Notes.{WasFull}
 use Rattle.gw_run.specs.Settled.{fits, fits_between, until}
 use Rattle.gw_run.specs.Turns.{Passes, HoldsFrom, is_within}
-use Rattle.gw_run.specs.Joins.{PlansAt}
+use Rattle.gw_run.specs.own.Joins.{PlansAt}
 use Rattle.gw_run.proofs.Turning.{passed, none_between, first_between}
 
 -- ---- a plan that was in force as some version

@@ -1,7 +1,7 @@
 -- The receipts of all passes, put together.
 use Rattle.std.proofs.Common.{◌≡◌, ℕ, ◌+◌, List, [], ◌∷◌, ◌++◌, length, ap, subst, ◌∙◌, zero-add}
 use Rattle.std.proofs.lemmas.List.Sums.{sum_by-append}
-use Rattle.gw_gate.specs.Books.{journal_of}
+use Rattle.gw_gate.specs.own.Books.{journal_of}
 use Rattle.gw_gate.specs.Journal.{EntrySeen, Journal, opening}
 use Rattle.gw_gate.specs.Parts.{PlanSeen}
 use Rattle.gw_crew.specs.Notes.{NoteSeen}

@@ -12,9 +12,9 @@ use Rattle.gw_crew.specs.declared.note.Note.{Note}
 use Rattle.gw_crew.specs.Notes.{NoteSeen, ReceiptSeen, receipt_of}
 use Rattle.gw_crew.specs.Seen.{note_seen, notes_seen}
 use Rattle.gw_run.specs.Passes.{PassSeen, receipts}
-use Rattle.gw_run.specs.Tellings.{notes_of}
+use Rattle.gw_run.specs.own.Tellings.{notes_of}
 use Rattle.gw_run.specs.Settled.{are_all, having}
-use Rattle.gw_run.specs.Joins.{Marks}
+use Rattle.gw_run.specs.own.Joins.{Marks}
 
 -- ---- one receipt more
 

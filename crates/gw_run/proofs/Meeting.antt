@@ -6,7 +6,7 @@ use Rattle.std.proofs.lemmas.Bool.{cases_lt}
 use Rattle.gw_gate.specs.Journal.{EntrySeen, Journal, end}
 use Rattle.gw_crew.specs.Notes.{NoteSeen, Looked, WasStale, WasFull, WasIdle, WasNothing, Added}
 use Rattle.gw_run.specs.Settled.{agrees, fits_between, is_same, next_at, stands}
-use Rattle.gw_run.specs.Joins.{IsFirst, is_receipt, meets}
+use Rattle.gw_run.specs.own.Joins.{IsFirst, is_receipt, meets}
 use Rattle.gw_run.specs.Turns.{is_within}
 
 and_false : (b : Bool) → (b && false) ≡ false

@@ -5,7 +5,7 @@ use Rattle.std.proofs.lemmas.List.{length-map, take-append-le}
 use Rattle.std.proofs.lemmas.Option.{none-some, slice_get_past}
 use Rattle.gw_reorder.proofs.Places.{equal_numbers}
 use Rattle.gw_gate.specs.Parts.{MessageSeen, PlanSeen, TranslatedSeen}
-use Rattle.gw_gate.specs.Books.{journal_of}
+use Rattle.gw_gate.specs.own.Books.{journal_of}
 use Rattle.gw_gate.specs.Headline.{CountFrom, IsTranslated}
 use Rattle.gw_gate.specs.Journal.{EntrySeen, WasAccepted, WasRefused, WasSwapped, WasTaken, WasKept, WasIssued, WasOut, Start, Acceptance, acceptance, accepted, kept, opening}
 use Rattle.gw_gate.specs.Lawful.{Lawful, empty, more, IsLawful}

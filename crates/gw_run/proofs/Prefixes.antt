@@ -4,13 +4,13 @@ use Rattle.std.specs.Prelude.{replicate, slice_get}
 use Rattle.std.proofs.lemmas.List.{map-append}
 use Rattle.gw_gate.specs.declared.event.Entry.{Entry}
 use Rattle.gw_gate.specs.Parts.{PlanSeen}
-use Rattle.gw_gate.specs.Books.{journal_of}
+use Rattle.gw_gate.specs.own.Books.{journal_of}
 use Rattle.gw_gate.specs.Journal.{EntrySeen, WasAccepted, WasRefused, WasSwapped, WasTaken, WasKept, WasIssued, WasOut, Pair, pair, Version, accepted, issued, jobs, plans, swapped}
 use Rattle.gw_gate.specs.Values.{entry_seen, entries_seen}
 use Rattle.gw_gate.proofs.Journals.{swapped-append, accepted-append}
 use Rattle.gw_gate.proofs.Entering.{jobs-append, issued-append}
 use Rattle.gw_run.specs.Gathers.{is_idle_after, is_idle_by, is_swap, numbers_issued, swaps_in}
-use Rattle.gw_run.specs.Queues.{Queues, Grows}
+use Rattle.gw_run.specs.own.Queues.{Queues, Grows}
 use Rattle.gw_run.specs.declared.queue.Queue.{Queue}
 
 pub entry_next : (entries : List Entry) (k : ℕ) (e : Entry) → k < length entries → e ≡ get_or entries k e → take (k + 1) (entries_seen entries) ≡ take k (entries_seen entries) ++ entry_seen e ∷ []

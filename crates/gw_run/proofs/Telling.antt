@@ -6,7 +6,7 @@ use Rattle.std.proofs.lemmas.Bool.{cases_lt}
 use Rattle.std.proofs.lemmas.List.{length-map, take-append-drop}
 use Rattle.std.proofs.lemmas.Option.{slice_get-map, slice_get-get_or, slice_get_past, none-some}
 use Rattle.gw_gate.specs.Parts.{PlanSeen, ConformingSeen, TranslatedSeen}
-use Rattle.gw_gate.specs.Books.{journal_of}
+use Rattle.gw_gate.specs.own.Books.{journal_of}
 use Rattle.gw_gate.specs.Headline.{CountFrom, IsTranslated}
 use Rattle.gw_gate.specs.Journal.{EntrySeen, Journal, Pair, Version, acceptance, accepted, current, due, issued, jobs, opening, plans, released, swapped}
 use Rattle.gw_gate.specs.Lawful.{IsLawful}
@@ -16,7 +16,7 @@ use Rattle.gw_gate.proofs.Accounts.{acceptance_is, under}
 use Rattle.gw_gate.proofs.Journals.{last_stands, plan_stays}
 use Rattle.gw_gate.proofs.Numbering.{n_of, lawful_numbers}
 use Rattle.gw_run.specs.Gathers.{is_idle_after, is_idle_by, is_nothing_after, is_nothing_by, kept_of, numbers_issued, swaps_in}
-use Rattle.gw_run.specs.Joins.{IdleAt, NothingAt, PlansAt}
+use Rattle.gw_run.specs.own.Joins.{IdleAt, NothingAt, PlansAt}
 use Rattle.gw_run.specs.Settled.{is_idle, is_nothing, until}
 use Rattle.gw_run.specs.Turns.{CountsTo, TurnsTo}
 use Rattle.gw_run.proofs.Dues.{counted_until}

@@ -3,8 +3,6 @@ pub mod Settled
 pub mod Rows
 pub mod Report
 pub mod Turns
-pub mod Joins
-pub mod Tellings
 pub mod Gathers
-pub mod Queues
 pub mod Owing
+pub mod own

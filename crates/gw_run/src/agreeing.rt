@@ -4,9 +4,9 @@ ghost use Rattle.gw_gate.specs.Journal.{Journal};
 ghost use Rattle.gw_gate.specs.Values.{entry_seen, entries_seen};
 ghost use Rattle.gw_crew.specs.Notes.{Added};
 ghost use Rattle.gw_crew.specs.Seen.{note_seen, notes_seen};
-ghost use Rattle.gw_run.specs.Joins.{FollowsBy, IsFirst};
+ghost use Rattle.gw_run.specs.own.Joins.{FollowsBy, IsFirst};
 ghost use Rattle.gw_run.specs.Settled.{agrees, is_same};
-ghost use Rattle.gw_run.specs.Tellings.{Follows, PastSeen, Tells, TellsBoth};
+ghost use Rattle.gw_run.specs.own.Tellings.{Follows, PastSeen, Tells, TellsBoth};
 
 use crate::past::Past;
 use gw_crew::{Note, Receipt};

@@ -1,12 +1,12 @@
 //! What is gathered of a journal, entry by entry.
 ghost use Rattle.std.specs.Prelude.{◌≡◌, ◌∷◌, ◌++◌, [], IfOk, OnOk, map, length};
 ghost use Rattle.std.specs.Arc.{arc_value};
-ghost use Rattle.gw_gate.specs.Books.{journal_of};
+ghost use Rattle.gw_gate.specs.own.Books.{journal_of};
 ghost use Rattle.gw_gate.specs.Journal.{plans, swapped};
 ghost use Rattle.gw_gate.specs.Seen.{plan_seen};
 ghost use Rattle.gw_gate.specs.Values.{entry_seen, entries_seen};
 ghost use Rattle.gw_run.specs.Gathers.{is_swap, swaps_in};
-ghost use Rattle.gw_run.specs.Joins.{plans_at};
+ghost use Rattle.gw_run.specs.own.Joins.{plans_at};
 ghost use Rattle.gw_run.specs.Turns.{CountsTo};
 
 use crate::turns::count_to;

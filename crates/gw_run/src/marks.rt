@@ -4,7 +4,7 @@ ghost use Rattle.gw_gate.specs.Journal.{EntrySeen};
 ghost use Rattle.std.specs.Option.{option_to_list};
 ghost use Rattle.gw_crew.specs.Notes.{ReceiptSeen, receipt_of};
 ghost use Rattle.gw_crew.specs.Seen.{note_seen, notes_seen};
-ghost use Rattle.gw_run.specs.Joins.{Marks, MarksMore};
+ghost use Rattle.gw_run.specs.own.Joins.{Marks, MarksMore};
 ghost use Rattle.gw_run.specs.Passes.{receipts};
 ghost use Rattle.gw_run.specs.Settled.{are_all};
 

@@ -4,7 +4,7 @@ ghost use Rattle.std.specs.List.Sorted.{IsStrictlyIncreasing};
 ghost use Rattle.gw_gate.specs.Seen.{conforming_seen, translated_seen};
 ghost use Rattle.gw_gate.specs.Values.{entry_seen, entries_seen};
 ghost use Rattle.gw_run.specs.Gathers.{is_nothing_after};
-ghost use Rattle.gw_run.specs.Joins.{of_receiver};
+ghost use Rattle.gw_run.specs.own.Joins.{of_receiver};
 ghost use Rattle.gw_run.specs.Owing.{ChangedAt, Ordered, TurnsFor, TurnsOn, after_entry, due_to, has_nothing, is_last, may_turn, owed_at, with_due, with_given, with_kept};
 ghost use Rattle.gw_run.specs.Turns.{TurnsTo};
 

@@ -2,14 +2,14 @@
 ghost use Rattle.std.specs.Prelude.{◌≡◌, ℕ, length, slice_get, bytes_eq};
 ghost use Rattle.std.specs.Option.{option_map};
 ghost use Rattle.std.specs.Arc.{arc_value};
-ghost use Rattle.gw_gate.specs.Books.{journal_of};
+ghost use Rattle.gw_gate.specs.own.Books.{journal_of};
 ghost use Rattle.gw_gate.specs.Journal.{Journal};
 ghost use Rattle.gw_gate.specs.Parts.{is_under};
 ghost use Rattle.gw_gate.specs.Seen.{plan_seen, conforming_seen};
 ghost use Rattle.gw_crew.specs.Notes.{Looked, WasStale, WasFull, WasIdle, WasNothing};
 ghost use Rattle.gw_crew.specs.Seen.{note_seen};
-ghost use Rattle.gw_run.specs.Joins.{IsFirst, of_receiver, plans_at};
-ghost use Rattle.gw_run.specs.Tellings.{Tells};
+ghost use Rattle.gw_run.specs.own.Joins.{IsFirst, of_receiver, plans_at};
+ghost use Rattle.gw_run.specs.own.Tellings.{Tells};
 
 use crate::gathering::{plans_in, swaps_in};
 use crate::owed::nothing_in;
@@ -63,7 +63,7 @@ fn have_same_text(plan: &Plan, other: &Plan) -> bool
 
 impl Past {
     ghost use Rattle.std.specs.Prelude.{◌≡◌, IfOk, length};
-    ghost use Rattle.gw_gate.specs.Books.{journal_of};
+    ghost use Rattle.gw_gate.specs.own.Books.{journal_of};
     ghost use Rattle.gw_gate.specs.Headline.{IsTranslated};
     ghost use Rattle.gw_gate.specs.Lawful.{IsLawful};
     ghost use Rattle.gw_gate.specs.Meaning.{Makes};
@@ -73,8 +73,8 @@ impl Past {
     ghost use Rattle.gw_gate.specs.Seen.{plan_seen, conforming_seen};
     ghost use Rattle.gw_crew.specs.Notes.{Looked, WasStale, WasFull, WasIdle, WasNothing, NoteSeen};
     ghost use Rattle.gw_crew.specs.Seen.{note_seen};
-    ghost use Rattle.gw_run.specs.Joins.{IsFirst};
-    ghost use Rattle.gw_run.specs.Tellings.{Tells};
+    ghost use Rattle.gw_run.specs.own.Joins.{IsFirst};
+    ghost use Rattle.gw_run.specs.own.Tellings.{Tells};
 
     // What a journal changed.
     pub(crate) fn of(

@@ -4,7 +4,7 @@ ghost use Rattle.gw_gate.specs.Journal.{accepted, issued, jobs, pair};
 ghost use Rattle.gw_gate.specs.Seen.{conforming_seen};
 ghost use Rattle.gw_gate.specs.Values.{entry_seen, entries_seen};
 ghost use Rattle.gw_run.specs.Gathers.{is_idle_after, is_idle_by, numbers_issued};
-ghost use Rattle.gw_run.specs.Queues.{Queues, Grows};
+ghost use Rattle.gw_run.specs.own.Queues.{Queues, Grows};
 ghost use Rattle.gw_run.specs.Turns.{TurnsTo};
 
 use crate::routes::receiver_count;
@@ -35,7 +35,7 @@ impl Queue {
     ghost use Rattle.std.specs.Prelude.{◌≡◌, ◌+◌, ◌<◌, ◌^◌, OnOk, slice_get};
     ghost use Rattle.gw_gate.specs.Values.{entry_seen};
     ghost use Rattle.gw_run.specs.Gathers.{is_idle_by};
-    ghost use Rattle.gw_run.specs.Queues.{Grows};
+    ghost use Rattle.gw_run.specs.own.Queues.{Grows};
 
     // One entry more.
     fn enter(&mut self, entry: &Entry) -> Result<(), AllocError>

@@ -1,7 +1,7 @@
 //! Whether the notes of all passes are settled.
 ghost use Rattle.std.specs.Prelude.{◌≡◌, ◌↔◌, ◌≤◌, ℕ, IfOk, IsTrue, flat_map, length, replicate};
 ghost use Rattle.std.specs.Arc.{arc_value};
-ghost use Rattle.gw_gate.specs.Books.{journal_of};
+ghost use Rattle.gw_gate.specs.own.Books.{journal_of};
 ghost use Rattle.gw_gate.specs.Headline.{IsTranslated};
 ghost use Rattle.gw_gate.specs.Lawful.{IsLawful};
 ghost use Rattle.gw_gate.specs.Meaning.{Makes};
@@ -9,10 +9,10 @@ ghost use Rattle.gw_gate.specs.Seen.{plan_seen};
 ghost use Rattle.gw_gate.specs.Values.{entries_seen};
 ghost use Rattle.std.specs.List.{list_all};
 ghost use Rattle.gw_gate.specs.Journal.{Journal};
-ghost use Rattle.gw_run.specs.Joins.{Marks};
+ghost use Rattle.gw_run.specs.own.Joins.{Marks};
 ghost use Rattle.gw_run.specs.Passes.{receipts};
 ghost use Rattle.gw_run.specs.Settled.{Settled, agrees};
-ghost use Rattle.gw_run.specs.Tellings.{TellsBoth, notes_of};
+ghost use Rattle.gw_run.specs.own.Tellings.{TellsBoth, notes_of};
 
 use crate::agreeing::agrees;
 use crate::marks::{are_all_marked, mark_notes};

@@ -7,12 +7,12 @@ use Rattle.gw_gate.specs.Seen.{message_seen}
 use Rattle.gw_gate.proofs.Asking.{same_messages}
 use Rattle.gw_stream.specs.Answers.{Reply, accept, reject}
 use Rattle.gw_crew.specs.Notes.{NoteSeen, Looked, WasStale, WasFull, Added}
-use Rattle.gw_crew.specs.Turns.{Adds}
+use Rattle.gw_crew.specs.own.Turns.{Adds}
 use Rattle.gw_session.specs.declared.turn.Turn.{Turn}
 use Rattle.gw_session.specs.Sessions.{Decides, HasCode, IsCutShort, IsTurn, Tries}
 use Rattle.gw_session.specs.Sessions as sessions
-use Rattle.gw_session.specs.Steps.{Asks, CameSeen, Taken, Back, NoRoom, ComesTo, CutsShort, EndsIn, JudgementSeen, MayLook, OnceMore, Settles, reply_of}
-use Rattle.gw_session.specs.Steps as steps
+use Rattle.gw_session.specs.own.Steps.{Asks, CameSeen, Taken, Back, NoRoom, ComesTo, CutsShort, EndsIn, JudgementSeen, MayLook, OnceMore, Settles, reply_of}
+use Rattle.gw_session.specs.own.Steps as steps
 
 abbrev Message : Type 0
 Message = List SegmentValue

@@ -6,10 +6,10 @@ use Rattle.gw_gate.specs.Replies.{Arrives, Refuses, ReplySeen, IsCurrent, IsAcce
 use Rattle.gw_gate.specs.Replies.{IsRepeat, IsStranger, IsIssued, IsDone, IsOut, IsNothing, IsFull}
 use Rattle.gw_stream.specs.Answers.{Reply, reject}
 use Rattle.gw_crew.specs.Notes.{NoteSeen, WasStale, WasFull, Added, Notes}
-use Rattle.gw_crew.specs.Turns.{Adds}
+use Rattle.gw_crew.specs.own.Turns.{Adds}
 use Rattle.gw_session.specs.Sessions.{HasCode}
-use Rattle.gw_session.specs.Steps.{CameSeen, ComesTo, EndsIn, arrival_of, came_of}
-use Rattle.gw_session.specs.Steps as steps
+use Rattle.gw_session.specs.own.Steps.{CameSeen, ComesTo, EndsIn, arrival_of, came_of}
+use Rattle.gw_session.specs.own.Steps as steps
 
 came_noted : (c : ConformingSeen) (given : ReplySeen) (old new : List NoteSeen) → Notes (Arrives c) given old new → Adds (ComesTo c (came_of given)) old new
 came_noted c (IsAccepted n arrival) old new noted =

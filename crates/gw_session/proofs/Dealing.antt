@@ -8,11 +8,11 @@ use Rattle.gw_mllp.specs.Stream.{HasNoEnd}
 use Rattle.gw_stream.specs.Answers.{Reply, reject}
 use Rattle.gw_stream.proofs.Replying.{acknowledges_has_no_end}
 use Rattle.gw_crew.specs.Notes.{NoteSeen}
-use Rattle.gw_crew.specs.Turns.{Adds}
+use Rattle.gw_crew.specs.own.Turns.{Adds}
 use Rattle.gw_session.specs.declared.answer.Answer.{Answer}
 use Rattle.gw_session.specs.Sessions.{Begun, Decides, IsCutShort, IsDealt, IsReadAs, IsTurn, Says, header_for}
 use Rattle.gw_session.specs.Sessions as sessions
-use Rattle.gw_session.specs.Steps.{EndsIn, MayBeSaid, answered, dealt}
+use Rattle.gw_session.specs.own.Steps.{EndsIn, MayBeSaid, answered, dealt}
 use Rattle.gw_session.proofs.Arriving.{ended_so}
 use Rattle.gw_session.proofs.Judging.{judged_lawful}
 

@@ -17,10 +17,10 @@ use Rattle.gw_stream.proofs.Answering.{blocks_more}
 use Rattle.gw_stream.proofs.Counting.{all_more, counted_more, total_more}
 use Rattle.gw_stream.proofs.Walking.{walk_few, walk_first, walk_turns, walk_counted}
 use Rattle.gw_crew.specs.Notes.{NoteSeen}
-use Rattle.gw_crew.specs.Turns.{Adds}
+use Rattle.gw_crew.specs.own.Turns.{Adds}
 use Rattle.gw_session.specs.Sessions.{Begun, Dealt, IsDealt, SessionAll, SessionPart, answer_of, content_of, notes_of}
 use Rattle.gw_session.specs.Sessions as sessions
-use Rattle.gw_session.specs.Steps.{DealtSoFar, dealt}
+use Rattle.gw_session.specs.own.Steps.{DealtSoFar, dealt}
 
 abbrev Stamps : Type 1
 Stamps = List ℕ → Type 0

@@ -15,7 +15,7 @@ use Rattle.gw_gate.proofs.Asking.{under_is}
 use Rattle.gw_stream.specs.Answers.{Reply, accept, refuse, reject}
 use Rattle.gw_stream.specs.Served.{SaidBy}
 use Rattle.gw_session.specs.Sessions.{Judged}
-use Rattle.gw_session.specs.Steps.{IsAdmitted, MayBeSaid}
+use Rattle.gw_session.specs.own.Steps.{IsAdmitted, MayBeSaid}
 
 pub admitted_so : (plan : PlanHeld) (version : ℕ) (m : List SegmentValue) (c : ConformingHeld) → spelled plan.text ≡ Ok (plan_value plan)
     → plans.IsAdmitted plan version m c → IsAdmitted m version (plan_seen plan) (conforming_seen c)

@@ -1,2 +1,2 @@
 pub mod Sessions
-pub mod Steps
+pub mod own

@@ -1,13 +1,13 @@
 //! The answer to a content.
 ghost use Rattle.std.specs.Prelude.{◌≡◌, ◌↔◌, ◌∷◌, [], ℕ, List, IfOk, OnErr};
-ghost use Rattle.gw_crew.specs.Turns.{Adds};
+ghost use Rattle.gw_crew.specs.own.Turns.{Adds};
 ghost use Rattle.gw_er7.specs.Faults.{Faulty};
 ghost use Rattle.gw_er7.specs.Reading.{Reads};
 ghost use Rattle.gw_er7.specs.Written.{written};
 ghost use Rattle.gw_mllp.specs.Stream.{HasNoEnd};
 ghost use Rattle.gw_stream.specs.Answers.{said_by};
 ghost use Rattle.gw_session.specs.Sessions.{Begun, IsDealt, Says};
-ghost use Rattle.gw_session.specs.Steps.{MayBeSaid, answered, dealt, reply_of};
+ghost use Rattle.gw_session.specs.own.Steps.{MayBeSaid, answered, dealt, reply_of};
 
 use crate::arrival::arrive_in_time;
 use crate::doors::refuse;

@@ -1,10 +1,10 @@
 //! How a message arrives.
 ghost use Rattle.std.specs.Prelude.{◌≡◌, IfOk, OnErr, Some};
 ghost use Rattle.std.specs.Arc.{arc_value};
-ghost use Rattle.gw_crew.specs.Turns.{Adds};
+ghost use Rattle.gw_crew.specs.own.Turns.{Adds};
 ghost use Rattle.gw_gate.specs.Seen.{plan_seen};
 ghost use Rattle.gw_session.specs.Sessions.{IsCutShort, IsTurn};
-ghost use Rattle.gw_session.specs.Steps.{Asks, Attempts, CutsShort, Judges, MayLook, attempt_seen, judgement_seen, reply_of};
+ghost use Rattle.gw_session.specs.own.Steps.{Asks, Attempts, CutsShort, Judges, MayLook, attempt_seen, judgement_seen, reply_of};
 
 use crate::doors::{Came, Current, arrive, look, refuse};
 use crate::turn::{INTERNAL, Said, Turn, Why};

@@ -5,8 +5,8 @@ ghost use Rattle.std.specs.Option.{option_map};
 ghost use Rattle.gw_gate.specs.Seen.{plan_seen};
 ghost use Rattle.gw_gate.specs.Values.{conforming_at, reply_seen};
 ghost use Rattle.gw_crew.specs.Notes.{Looked};
-ghost use Rattle.gw_crew.specs.Turns.{Adds};
-ghost use Rattle.gw_session.specs.Steps.{ComesTo, EndsIn, arrival_of, came_of, came_seen, current_of, current_seen, reason, reply_of};
+ghost use Rattle.gw_crew.specs.own.Turns.{Adds};
+ghost use Rattle.gw_session.specs.own.Steps.{ComesTo, EndsIn, arrival_of, came_of, came_seen, current_of, current_seen, reason, reply_of};
 
 use crate::turn::{Said, Turn, Why};
 use gw_crew::Door;

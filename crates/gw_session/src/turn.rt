@@ -2,7 +2,7 @@
 ghost use Rattle.std.specs.Prelude.{◌≡◌};
 ghost use Rattle.gw_stream.specs.Answers.{code_of, reject};
 ghost use Rattle.gw_session.specs.Sessions.{HasCode};
-ghost use Rattle.gw_session.specs.Steps.{reason, reply_of};
+ghost use Rattle.gw_session.specs.own.Steps.{reason, reply_of};
 
 use gw_ack::Ack;
 use gw_validate::Breach;

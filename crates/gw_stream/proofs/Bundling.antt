@@ -9,7 +9,7 @@ use Rattle.std.specs.Prelude.{nat_eq, slice_get, unwrap_or}
 use Rattle.gw_ack.specs.declared.receipt.Ack.TheVariants.{AA, AE, AR}
 use Rattle.gw_ack.specs.Answers.{accepted, refused, rejected}
 use Rattle.gw_ack.specs.Headers.{HeaderValue, blank, header_of}
-use Rattle.gw_check.specs.CheckedMap.{CheckedValue}
+use Rattle.gw_check.specs.Kept.{CheckedValue}
 use Rattle.gw_er7.specs.declared.fault.ReadFault.{ReadFault}
 use Rattle.gw_er7.specs.Faults.{Faulty}
 use Rattle.gw_er7.specs.Message.{SegmentValue, IsMessage}
@@ -27,7 +27,7 @@ use Rattle.gw_validate.specs.Conforming.{Conforms}
 use Rattle.gw_stream.specs.declared.bundle.Bundle.{Bundle}
 use Rattle.gw_stream.specs.declared.parcel.Parcel.{Parcel}
 use Rattle.gw_stream.specs.Answers.{Answer, Reply, accept, refuse, reject}
-use Rattle.gw_stream.specs.Bundled.{AreParcels, AreWithin, Bundles, IsParcel, post, posts}
+use Rattle.gw_stream.specs.own.Bundled.{AreParcels, AreWithin, Bundles, IsParcel, post, posts}
 use Rattle.gw_stream.specs.Posts.{Post, Whom, receiver, sender}
 use Rattle.gw_stream.specs.Served as served
 use Rattle.gw_stream.specs.Served.{AreDeliveries, Delivery, IsDelivery, IsServing, Routed, SaidBy, Serving, delivered, posts_of, receivers_of}

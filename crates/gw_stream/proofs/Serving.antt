@@ -7,7 +7,7 @@ use Rattle.gw_mllp.specs.Stream.{Overlong, Tail, Within}
 use Rattle.gw_plan.specs.Shapes.{PlanValue}
 use Rattle.gw_stream.specs.declared.bundle.Bundle.{Bundle}
 use Rattle.gw_stream.specs.declared.counts.Counts.{Counts}
-use Rattle.gw_stream.specs.Bundled.{Bundles, ServesSoFar, posts}
+use Rattle.gw_stream.specs.own.Bundled.{Bundles, ServesSoFar, posts}
 use Rattle.gw_stream.specs.Counted.{nothing, with_one, IsTotal}
 use Rattle.gw_stream.specs.Posts.{Known, Sends, SendsSome}
 use Rattle.gw_stream.specs.Reading.{ReadTimes}

@@ -7,4 +7,4 @@ pub mod Walked
 pub mod Streams
 pub mod Posts
 pub mod Served
-pub mod Bundled
+pub mod own

@@ -7,7 +7,7 @@ ghost use Rattle.gw_er7.specs.Reading.{Reads};
 ghost use Rattle.gw_er7.specs.Written.{written};
 ghost use Rattle.gw_mllp.specs.Stream.{HasNoEnd, block};
 ghost use Rattle.gw_plan.specs.Held.{plan_value};
-ghost use Rattle.gw_stream.specs.Bundled.{AreParcels, AreWithin, Bundles};
+ghost use Rattle.gw_stream.specs.own.Bundled.{AreParcels, AreWithin, Bundles};
 
 use crate::answer::answer_unreadable;
 use crate::frame::framed;

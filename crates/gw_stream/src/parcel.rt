@@ -5,7 +5,7 @@ ghost use Rattle.gw_plan.specs.Admitted.{IsOf};
 ghost use Rattle.gw_plan.specs.Held.{plan_value};
 ghost use Rattle.gw_plan.specs.Routing.{routed};
 ghost use Rattle.gw_plan.specs.Shapes.{RouteValue};
-ghost use Rattle.gw_stream.specs.Bundled.{AreParcels, AreWithin, IsParcel};
+ghost use Rattle.gw_stream.specs.own.Bundled.{AreParcels, AreWithin, IsParcel};
 
 use crate::frame::framed;
 use gw_er7::{write, written_is_read};

@@ -2,7 +2,7 @@
 ghost use Rattle.std.specs.Prelude.{◌≡◌, ◌↔◌, ◌<◌, ◌∷◌, [], IsTrue, IsErr, OnOk, OnErr, false, length, map};
 ghost use Rattle.std.specs.List.{list_any};
 ghost use Rattle.std.specs.Io.KnownBytes.{Appends};
-ghost use Rattle.gw_stream.specs.Bundled.{AreWithin, post, posts};
+ghost use Rattle.gw_stream.specs.own.Bundled.{AreWithin, post, posts};
 ghost use Rattle.gw_stream.specs.Posts.{Sends, SendsOut, SendsSome, SendsSomeOut, known, receiver, some_failed};
 ghost use Rattle.gw_stream.specs.Sent.{SendsPart};
 

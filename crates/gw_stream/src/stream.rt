@@ -7,7 +7,7 @@ ghost use Rattle.gw_plan.specs.Held.{plan_value};
 ghost use Rattle.gw_profile.specs.Seen.{profile_value};
 ghost use Rattle.gw_stream.specs.declared.counts.Counts.{Counts};
 ghost use Rattle.gw_stream.specs.Answers.{Validated};
-ghost use Rattle.gw_stream.specs.Bundled.{AreWithin, posts};
+ghost use Rattle.gw_stream.specs.own.Bundled.{AreWithin, posts};
 ghost use Rattle.gw_stream.specs.Counted.{IsTotal, with_one};
 ghost use Rattle.gw_stream.specs.Faults.{OfStream};
 ghost use Rattle.gw_stream.specs.Posts.{Sends, SendsSome, known, some_failed};

@@ -18,7 +18,7 @@ use Rattle.gw_resolve.specs.declared.resolved.Place as places
 use Rattle.gw_resolve.specs.declared.resolved.Rule as rules_of
 use Rattle.gw_resolve.specs.Resolved.{Items, no_items, first_child}
 use Rattle.gw_resolve.specs.Naming.{resolved}
-use Rattle.gw_resolve.specs.Resolving.{IsNamed, IsLost}
+use Rattle.gw_resolve.specs.Outcome.{IsNamed, IsLost}
 use Rattle.gw_resolve.specs.Seen.{failures, place, reference, at_leaf, making, rule, with_item, row_items, all_items}
 use Rattle.gw_resolve.proofs.Rows.{group_items, flat_items}
 use Rattle.gw_subjects.specs.Positions.{Position, inner, inner_if, positions}

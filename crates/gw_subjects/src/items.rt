@@ -5,7 +5,7 @@ ghost use Rattle.gw_maplang.specs.Shapes.{TableValue};
 ghost use Rattle.gw_profile.specs.Seen.{profile_value};
 ghost use Rattle.gw_subjects.specs.Positions.{positions};
 ghost use Rattle.gw_resolve.specs.Resolved.{no_items, first_child as spec_first_child};
-ghost use Rattle.gw_resolve.specs.Resolving.{Resolves};
+ghost use Rattle.gw_resolve.specs.Outcome.{Resolves};
 ghost use Rattle.gw_resolve.specs.Seen.{place as seen_place, with_item, all_items};
 ghost use Rattle.gw_subjects.specs.Seen.{Adds, ChildOf, FirstChild, all_sites, some_site, segment_item as seen_segment};
 ghost use Rattle.gw_subjects.specs.Sites as spec;

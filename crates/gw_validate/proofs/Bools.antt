@@ -1,7 +1,7 @@
 -- Tests that are joined.
 use Rattle.std.proofs.Common.{◌≡◌, ℕ, zero, suc, ◌⊎◌, inl, inr, Bool, true, false, refl, arith, ◌↔◌}
 use Rattle.std.specs.Prelude.{◌&&◌, ◌||◌}
-use Rattle.gw_validate.specs.Tests.{is_zero}
+use Rattle.gw_validate.specs.own.Tests.{is_zero}
 
 pub both : (a b : Bool) → a && b ≡ true → (a ≡ true) × (b ≡ true)
 both true true e = (refl, refl)

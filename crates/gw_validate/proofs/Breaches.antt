@@ -11,7 +11,7 @@ use Rattle.gw_validate.specs.declared.fields.Spot.{Spot}
 use Rattle.gw_er7.specs.Message.{Texts, text_of}
 use Rattle.gw_er7.specs.Presence.{CompAt, RepAt, IsLast}
 use Rattle.gw_validate.specs.Breaches.{Counted, is_required, is_forbidden, is_long, is_unlisted, is_null, SubBreach, sub_absent, sub_forbidden, too_long, not_listed, InAny, in_first, in_later, CompBreach, comp_absent, comp_forbidden, in_sub, RepBreach, one_too_many, in_comp, RepsBreach, in_rep, FieldBreach, too_few, field_forbidden, in_reps, NotAfter}
-use Rattle.gw_validate.specs.Least.{Least, Rises, CompRises, FieldRises, comp_key, is_full, SubsBreach, CompsBreach, NoneYet, RepsGoing}
+use Rattle.gw_validate.specs.own.Least.{Least, Rises, CompRises, FieldRises, comp_key, is_full, SubsBreach, CompsBreach, NoneYet, RepsGoing}
 use Rattle.gw_validate.specs.declared.breach.Kind.{Kind}
 use Rattle.gw_validate.specs.declared.breach.Kind.TheVariants.{MissingValue}
 use Rattle.gw_validate.specs.Kinds.{number_of}

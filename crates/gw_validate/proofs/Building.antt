@@ -11,8 +11,8 @@ use Rattle.gw_profile.specs.Seen.{row_forest, node_forest, forest, segment_value
 use Rattle.gw_profile.specs.Shapes.{SegmentValue, GroupValue}
 use Rattle.gw_profile.specs.Shapes.{Forest, nothing, segment, group}
 use Rattle.gw_validate.specs.Cuts.{Cut, Times, Fits}
-use Rattle.gw_validate.specs.Residual.{less, append, has_room, seg, grp}
-use Rattle.gw_validate.specs.Tests.{can_begin}
+use Rattle.gw_validate.specs.own.Residual.{less, append, has_room, seg, grp}
+use Rattle.gw_validate.specs.own.Tests.{can_begin}
 use Rattle.gw_validate.specs.Trees.{Tree, leaf, segments, groups, Trees, no_trees, trees, count_of, IsTree, AreTrees}
 use Rattle.gw_validate.specs.declared.occurrences.Occurrences.{Occurrences, Segments, Groups}
 use Rattle.gw_validate.specs.declared.occurrences.Found.{Found}
@@ -23,14 +23,14 @@ use Rattle.gw_validate.proofs.Joined.{append_nothing}
 use Rattle.gw_validate.proofs.Unique.{tree_fits}
 use Rattle.std.proofs.lemmas.List.{take_more}
 use Rattle.std.proofs.lemmas.Grind.{common_steps}
-use Rattle.gw_validate.specs.Building.{Built, Builds, BuiltGroups, BuildsGroups, BuiltSegments, BuildsSegments, Still, GoingSegments, GoSegments, GoingGroups, GoGroups, GoNodes}
+use Rattle.gw_validate.specs.own.Building.{Built, Builds, BuiltGroups, BuildsGroups, BuiltSegments, BuildsSegments, Still, GoingSegments, GoSegments, GoingGroups, GoGroups, GoNodes}
 use Rattle.gw_validate.proofs.Cuts.{passed, taken, starts, none, at_most_zero, at_most_more, less_least, below_less}
 use Rattle.gw_validate.proofs.Names.{names_equal, equal_names}
 use Rattle.gw_validate.proofs.Step.{fits_first, child_full, join_fits, well_joined, narrow}
 use Rattle.gw_validate.proofs.Exact.{room, behind_left, well_left}
 use Rattle.gw_validate.proofs.Bools.{both, either, or_left, or_right, and_of, zero_is}
 use Rattle.gw_profile.specs.Deterministic.{Name, AtMost, Below, First, Determined, NoName}
-use Rattle.gw_validate.specs.Joining.{append_tree, append_trees}
+use Rattle.gw_validate.specs.own.Joining.{append_tree, append_trees}
 
 pub can_begin_is : (f : Forest) (x : Name) → (can_begin f x ≡ true) ↔ First f x
 can_begin_is nothing x = (λ e. cc, λ h. absurd h)

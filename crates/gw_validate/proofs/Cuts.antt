@@ -1,7 +1,7 @@
 -- Cutting lists of names.
 use Rattle.std.proofs.Common.{◌≡◌, ℕ, zero, suc, ◌-◌, ◌≤◌, List, [], ◌∷◌, ◌++◌, Option, Some, None, refl, sym, ap, ◌∙◌, subst, arith, append_assoc}
 use Rattle.gw_validate.specs.Cuts.{Cut, Many, Times}
-use Rattle.gw_validate.specs.Residual.{less}
+use Rattle.gw_validate.specs.own.Residual.{less}
 use Rattle.gw_profile.specs.Deterministic.{Name, AtMost, Below}
 
 nil_front : (a b : List Name) → [] ≡ a ++ b → a ≡ []

@@ -6,11 +6,11 @@ use Rattle.gw_profile.specs.Shapes.{Forest, FieldValue, ProfileValue}
 use Rattle.gw_profile.specs.Deterministic.{Name, Determined, NoName}
 use Rattle.gw_validate.specs.declared.breach.Breach.{Breach}
 use Rattle.gw_validate.specs.declared.walk.Answer.TheVariants as answer
-use Rattle.gw_validate.specs.Answers.{Answers}
+use Rattle.gw_validate.specs.own.Answers.{Answers}
 use Rattle.gw_validate.specs.Cuts.{Fits, Begins, IsShortest}
 use Rattle.gw_validate.specs.Conforming.{names, NamesFit, numbers, segment_at, named, Conforms}
 use Rattle.gw_validate.specs.Trees.{Tree, IsTree, flatten, assigned}
-use Rattle.gw_validate.specs.Least.{Searched, BreachAt}
+use Rattle.gw_validate.specs.own.Least.{Searched, BreachAt}
 use Rattle.gw_validate.specs.Broken.{IsTreeOf, Assigns, Breaks, sequence, spot_of, IsLeast}
 use Rattle.gw_validate.proofs.Listed.{Place, place, numbers_below}
 use Rattle.gw_validate.proofs.Flat.{tree_flat, assigned_flat}

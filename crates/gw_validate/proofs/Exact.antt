@@ -6,7 +6,7 @@ use Rattle.gw_validate.proofs.Names.{name_tells}
 use Rattle.gw_profile.specs.Shapes.{Forest, nothing, segment, group}
 use Rattle.gw_validate.specs.Cuts.{Fits}
 use Rattle.gw_validate.proofs.Cuts.{passed, taken, starts, begin_taken, begin_passed, below_less, less_least, below_one, below_two}
-use Rattle.gw_validate.specs.Residual.{less, append, has_room, when, pass, or_else, before, after_name, seg, grp}
+use Rattle.gw_validate.specs.own.Residual.{less, append, has_room, when, pass, or_else, before, after_name, seg, grp}
 use Rattle.gw_validate.proofs.Step.{fits_join, join_fits, narrow, well_joined, child_full, fits_first}
 use Rattle.gw_profile.specs.Deterministic.{Name, Below, First, Follows, Determined}
 

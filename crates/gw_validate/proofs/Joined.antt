@@ -7,11 +7,11 @@ use Rattle.gw_validate.specs.declared.walk.Frame.{Frame}
 use Rattle.gw_validate.specs.declared.walk.Step.TheVariants.{Taken, Passed, Stuck}
 use Rattle.std.specs.Str.{bytes_eq}
 use Rattle.gw_profile.specs.Shapes.{Forest, nothing, segment, group}
-use Rattle.gw_validate.specs.Residual.{less, append, has_room, when, pass, or_else, before, after_name, seg, grp}
+use Rattle.gw_validate.specs.own.Residual.{less, append, has_room, when, pass, or_else, before, after_name, seg, grp}
 use Rattle.gw_profile.specs.Seen.{forest, row_forest, node_forest}
 use Rattle.gw_profile.specs.Nodes.{card_of}
-use Rattle.gw_validate.specs.Shortest.{head, several, shortest, shortest_node}
-use Rattle.gw_validate.specs.State.{due_forest, frame_forest, stack_on, Tries}
+use Rattle.gw_validate.specs.own.Shortest.{head, several, shortest, shortest_node}
+use Rattle.gw_validate.specs.own.State.{due_forest, frame_forest, stack_on, Tries}
 use Rattle.gw_validate.proofs.Walking.{append_assoc_forest, stack_on-push, node_due}
 use Rattle.gw_profile.specs.Deterministic.{Name, Optional}
 

@@ -11,7 +11,7 @@ use Rattle.gw_validate.specs.Cuts.{Fits, Begins, IsShortest}
 use Rattle.gw_profile.specs.Names.{stands}
 use Rattle.gw_validate.specs.Conforming.{listed, names, NamesFit, numbers, segment_at, named, Seq, Conforms}
 use Rattle.gw_validate.specs.Trees.{Tree, assigned, AllMeet, MeetingTree}
-use Rattle.gw_validate.specs.Least.{Searched, BreachAt}
+use Rattle.gw_validate.specs.own.Least.{Searched, BreachAt}
 use Rattle.gw_validate.specs.Broken.{IsTreeOf, Assigns, Breaks, out_of_order, missing, in_segment}
 use Rattle.gw_validate.proofs.Breaches.{not_after_self}
 use Rattle.gw_validate.proofs.Listed.{of_numbers, RisesFrom, numbers_rise}

@@ -5,7 +5,7 @@ use Rattle.std.specs.List.{AllByRecursion}
 use Rattle.gw_profile.specs.Shapes.{Forest, nothing, segment, group, SubValue, CompValue, FieldValue, SegmentValue}
 use Rattle.gw_profile.specs.WellFormed.{Rising, LawfulComp, LawfulField, LawfulSegment, EachSegment}
 use Rattle.gw_profile.specs.Fault.{least_field}
-use Rattle.gw_validate.specs.Least.{Rises, CompRises, FieldRises, ShapeRises, EachRises}
+use Rattle.gw_validate.specs.own.Least.{Rises, CompRises, FieldRises, ShapeRises, EachRises}
 
 module _ {A : Type 0} (number : A → ℕ) where
   rises : (k low high : ℕ) (xs : List A) → k < low → Rising low high (map number xs) → Rises number k xs

@@ -6,7 +6,7 @@ pub mod Exact
 pub mod Runs
 pub mod Walking
 pub mod Joined
-pub mod Walked
+pub mod Passed
 pub mod Unique
 pub mod Rows
 pub mod Building

@@ -6,7 +6,7 @@ use Rattle.gw_validate.specs.declared.occurrences.Occurrences.{Occurrences, Segm
 use Rattle.gw_validate.specs.declared.occurrences.Found.{Found}
 use Rattle.gw_validate.specs.Trees.{Tree, leaf, segments, groups, no_trees, trees}
 use Rattle.gw_validate.specs.Occurring.{occurrences_tree, found_row, occurrences_row, tree_of, trees_of}
-use Rattle.gw_validate.specs.Joining.{append_tree, append_trees}
+use Rattle.gw_validate.specs.own.Joining.{append_tree, append_trees}
 
 row_items : (n : _) (row : Row_of-Occurrences n) → occurrences_row row ≡ tree_of (items-the_row-Occurrences n row)
 row_items n end_of-Occurrences = refl

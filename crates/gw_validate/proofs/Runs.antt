@@ -3,8 +3,8 @@ use Rattle.std.proofs.Common.{◌≡◌, ℕ, zero, suc, ◌+◌, ◌<◌, ◌�
 use Rattle.gw_profile.specs.Shapes.{Forest, nothing, segment, group}
 use Rattle.gw_validate.specs.Cuts.{Cut, Many, Times, Fits}
 use Rattle.gw_validate.specs.Cuts.{Begins, IsShortest}
-use Rattle.gw_validate.specs.Residual.{after_name}
-use Rattle.gw_validate.specs.Shortest.{several, shortest}
+use Rattle.gw_validate.specs.own.Residual.{after_name}
+use Rattle.gw_validate.specs.own.Shortest.{several, shortest}
 use Rattle.gw_validate.proofs.Step.{empty_fits, optional_fits, fits_first, child_full}
 use Rattle.gw_validate.proofs.Exact.{Step, Steps, step}
 use Rattle.gw_profile.specs.Deterministic.{Name, Optional, Determined}

@@ -13,12 +13,12 @@ use Rattle.gw_validate.specs.declared.occurrences.Found.{Found}
 use Rattle.gw_validate.specs.Occurring.{tree_of, trees_of, occurrences_tree, found_row}
 use Rattle.gw_validate.specs.Trees.{Tree, leaf, segments, groups, flatten, flatten_all, assigned, assigned_all}
 use Rattle.gw_validate.specs.Breaches.{SegmentBreach}
-use Rattle.gw_validate.specs.Least.{Least, ShapeRises, EachRises, Searched, BreachAt}
+use Rattle.gw_validate.specs.own.Least.{Least, ShapeRises, EachRises, Searched, BreachAt}
 use Rattle.gw_validate.proofs.Judged.{searched_none, searched_some, segment_is}
 use Rattle.gw_validate.proofs.Rows.{groups_tree}
 use Rattle.gw_validate.proofs.Walking.{forest_group, value_of}
 use Rattle.std.proofs.lemmas.Grind.{common_steps}
-use Rattle.gw_validate.specs.Joining.{weight, weight_all}
+use Rattle.gw_validate.specs.own.Joining.{weight, weight_all}
 
 pub all_front : {X : Type 0} (P : X → Type 0) (xs ys : List X) → AllByRecursion P (xs ++ ys) → AllByRecursion P xs
 all_front P [] ys a = tt

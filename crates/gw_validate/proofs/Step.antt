@@ -2,7 +2,7 @@
 use Rattle.std.proofs.Common.{◌≡◌, ◌⊎◌, inl, inr, List, [], ◌∷◌, ◌++◌, refl, sym, ap, ◌∙◌, subst, arith}
 use Rattle.gw_profile.specs.Shapes.{Forest, nothing, segment, group}
 use Rattle.gw_validate.specs.Cuts.{Cut, Fits}
-use Rattle.gw_validate.specs.Residual.{append}
+use Rattle.gw_validate.specs.own.Residual.{append}
 use Rattle.gw_validate.proofs.Cuts.{passed, taken, starts, begin_passed, none, cut_left, cut_right, cut_map}
 use Rattle.gw_profile.specs.Deterministic.{Name, AtMost, First, Optional, Demands, Follows, Determined}
 

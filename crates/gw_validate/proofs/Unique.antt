@@ -5,7 +5,7 @@ use Rattle.std.specs.List.{AllByRecursion}
 use Rattle.gw_profile.specs.Shapes.{Forest, nothing, segment, group}
 use Rattle.gw_validate.specs.Cuts.{Many, Fits}
 use Rattle.gw_validate.specs.Trees.{Tree, leaf, segments, groups, Trees, no_trees, trees, count_of, IsTree, AreTrees}
-use Rattle.gw_validate.specs.Residual.{seg, grp}
+use Rattle.gw_validate.specs.own.Residual.{seg, grp}
 use Rattle.gw_validate.proofs.Step.{fits_first, empty_fits, child_full}
 use Rattle.gw_profile.specs.Deterministic.{Name, AtMost, Below, First, Follows, Apart, Determined}
 

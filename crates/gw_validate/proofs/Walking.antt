@@ -8,13 +8,13 @@ use Rattle.gw_profile.specs.declared.node.GroupNode as declared_group
 use Rattle.gw_profile.specs.declared.node.Node.{Node, Seg, Group, Group', Row_of-Node, end_of-Node, more_of-Node, items-the_row-Node, items_hidden-the_row-Node-0}
 use Rattle.gw_validate.specs.declared.walk.Frame.{Frame}
 use Rattle.gw_profile.specs.Shapes.{Forest, nothing, segment, group, GroupValue}
-use Rattle.gw_validate.specs.Residual.{less, append, has_room, when, pass, or_else, after_name, seg, grp}
+use Rattle.gw_validate.specs.own.Residual.{less, append, has_room, when, pass, or_else, after_name, seg, grp}
 use Rattle.gw_profile.specs.Seen.{node_forest, row_forest, forest}
 use Rattle.gw_profile.specs.Nodes.{card_of}
 use Rattle.std.specs.Prelude.{◌&&◌}
-use Rattle.gw_validate.specs.Tests.{can_begin, node_begins}
-use Rattle.gw_validate.specs.Shortest.{shortest, shortest_node}
-use Rattle.gw_validate.specs.State.{due_forest, frame_forest, stack_on, left_out, NodeTried, TriesNode, Tries}
+use Rattle.gw_validate.specs.own.Tests.{can_begin, node_begins}
+use Rattle.gw_validate.specs.own.Shortest.{shortest, shortest_node}
+use Rattle.gw_validate.specs.own.State.{due_forest, frame_forest, stack_on, left_out, NodeTried, TriesNode, Tries}
 use Rattle.gw_validate.specs.declared.walk.Step.{Step}
 use Rattle.gw_validate.specs.declared.walk.Step.TheVariants.{Taken, Passed, Stuck}
 use Rattle.gw_profile.specs.Deterministic.{Name, Optional}

@@ -1,13 +1,13 @@
 //! The tree of a list that fits.
 ghost use Rattle.std.specs.Prelude.{◌≡◌, ◌&&◌, IfOk, map};
-ghost use Rattle.gw_validate.specs.Residual.{has_room};
+ghost use Rattle.gw_validate.specs.own.Residual.{has_room};
 ghost use Rattle.std.specs.Str.{bytes_eq};
-ghost use Rattle.gw_validate.specs.Building.{Builds, BuildsGroups, BuildsSegments};
+ghost use Rattle.gw_validate.specs.own.Building.{Builds, BuildsGroups, BuildsSegments};
 ghost use Rattle.gw_profile.specs.Shapes.{nothing};
 ghost use Rattle.gw_profile.specs.Seen.{forest, node_forest, segment_value};
 ghost use Rattle.gw_validate.specs.Occurring.{tree_of, trees_of, occurrences_tree};
 ghost use Rattle.gw_validate.specs.Trees.{leaf, IsTree};
-ghost use Rattle.gw_validate.specs.Tests.{can_begin, node_begins};
+ghost use Rattle.gw_validate.specs.own.Tests.{can_begin, node_begins};
 ghost use Rattle.gw_validate.specs.Conforming.{named};
 ghost use Rattle.gw_validate.specs.Cuts.{Fits};
 ghost use Rattle.gw_profile.specs.Deterministic.{Determined, NoName};

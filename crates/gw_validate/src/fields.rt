@@ -7,7 +7,7 @@ ghost use Rattle.gw_profile.specs.Seen.{sub, comp as comp_value, field as field_
 ghost use Rattle.gw_validate.specs.declared.breach.Kind.TheVariants.{MissingValue};
 ghost use Rattle.gw_validate.specs.Kinds.{number_of};
 ghost use Rattle.gw_validate.specs.Breaches.{is_required, is_forbidden, is_long, is_unlisted, is_null, SubBreach, CompBreach, RepBreach, RepsBreach, FieldBreach, SegmentBreach, Counted};
-ghost use Rattle.gw_validate.specs.Least.{Least, CompRises, FieldRises, ShapeRises, Rises, comp_key, rep_key, field_key, segment_key, is_full, SubsBreach, CompsBreach};
+ghost use Rattle.gw_validate.specs.own.Least.{Least, CompRises, FieldRises, ShapeRises, Rises, comp_key, rep_key, field_key, segment_key, is_full, SubsBreach, CompsBreach};
 
 use crate::breach::Kind;
 use gw_er7::{Place, Segment};

@@ -5,7 +5,7 @@ ghost use Rattle.gw_profile.specs.Shapes.{nothing};
 ghost use Rattle.gw_profile.specs.Seen.{field, forest, node_forest, profile_value};
 ghost use Rattle.gw_validate.specs.Trees.{leaf, flatten, flatten_all, assigned, assigned_all};
 ghost use Rattle.gw_validate.specs.Occurring.{tree_of, trees_of, occurrences_tree};
-ghost use Rattle.gw_validate.specs.Least.{ShapeRises, EachRises, FindsBreach};
+ghost use Rattle.gw_validate.specs.own.Least.{ShapeRises, EachRises, FindsBreach};
 
 use crate::fields::{Spot, least_breach};
 use crate::occurrences::{Found, Occurrences};

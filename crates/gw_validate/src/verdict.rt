@@ -5,7 +5,7 @@ ghost use Rattle.std.specs.List.{count_by};
 ghost use Rattle.std.specs.Str.{bytes_eq};
 ghost use Rattle.gw_profile.specs.Seen.{profile_value, forest};
 ghost use Rattle.gw_validate.specs.Conforming.{NamesFit, numbers, Conforms};
-ghost use Rattle.gw_validate.specs.Least.{segment_key};
+ghost use Rattle.gw_validate.specs.own.Least.{segment_key};
 ghost use Rattle.gw_validate.specs.Broken.{sequence, spot_of};
 ghost use Rattle.gw_validate.specs.Verdict.{is_fit, IfFits, IfBreaks, HasTree, HasBreach, IsJudged};
 

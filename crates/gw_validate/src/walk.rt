@@ -1,12 +1,12 @@
 //! A walk over a profile by one name of look-ahead.
 ghost use Rattle.std.specs.Prelude.{◌≡◌, IfOk, ◌-◌};
 ghost use Rattle.std.specs.Str.{bytes_eq};
-ghost use Rattle.gw_validate.specs.Residual.{has_room, less, after_name};
+ghost use Rattle.gw_validate.specs.own.Residual.{has_room, less, after_name};
 ghost use Rattle.gw_profile.specs.Seen.{forest};
-ghost use Rattle.gw_validate.specs.State.{Tries, TriesNode, left_out, frame_forest, stack_on, Advances};
+ghost use Rattle.gw_validate.specs.own.State.{Tries, TriesNode, left_out, frame_forest, stack_on, Advances};
 ghost use Rattle.gw_profile.specs.Shapes.{nothing};
-ghost use Rattle.gw_validate.specs.Shortest.{head, several, shortest, shortest_node};
-ghost use Rattle.gw_validate.specs.Answers.{Answers};
+ghost use Rattle.gw_validate.specs.own.Shortest.{head, several, shortest, shortest_node};
+ghost use Rattle.gw_validate.specs.own.Answers.{Answers};
 ghost use Rattle.gw_profile.specs.Deterministic.{Determined, NoName};
 
 use gw_profile::{Card, Node};

@@ -11,9 +11,9 @@ use Rattle.gw_ack.proofs.stamp.Stamp.TheSendSync as stamp
 use Rattle.gw_run.proofs.Crossing.{LockedGate-sync, Receipts-send}
 use Rattle.hl7gate.specs.contracts.outcome.Outcome as Outcome
 use Rattle.hl7gate.specs.contracts.tickets.Tickets as Tickets
-use Rattle.hl7gate.specs.contracts.service.Connection as Connection
-use Rattle.hl7gate.specs.contracts.service.Line as Line
-use Rattle.hl7gate.specs.contracts.service.Service as Service
+use Rattle.hl7gate.specs.contracts.threads.Connection as Connection
+use Rattle.hl7gate.specs.contracts.threads.Line as Line
+use Rattle.hl7gate.specs.contracts.threads.Service as Service
 
 Tickets-send : (L : RattleType) (g : ledger.Ghosts L.Denot) → IsSend (Tickets.the_field L g).row
 Tickets-send L g = search (share.the_send, crosses, sendable) depth 60 fits 50000

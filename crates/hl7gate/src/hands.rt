@@ -1,8 +1,8 @@
 //! The threads of a service, each within the one that waits for it.
 ghost use Rattle.std.specs.Thread.{IsSend, IsSync};
 
-use crate::service::{Connection, Line, Service};
 use crate::swaps::swap_all;
+use crate::threads::{Connection, Line, Service};
 use gw_run::Phase;
 use gw_stream::RunFault;
 use std::fs::File;

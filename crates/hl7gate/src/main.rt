@@ -18,10 +18,10 @@ mod progress;
 mod refusals;
 mod report;
 mod serve;
-mod service;
 mod stamps;
 mod subjects;
 mod swaps;
+mod threads;
 mod tickets;
 
 use arguments::{is_serve, process_words};

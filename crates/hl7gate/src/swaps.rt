@@ -3,7 +3,7 @@ use crate::ended::Ended;
 use crate::files::read_text;
 use crate::plans::refused;
 use crate::report::tell;
-use crate::service::Service;
+use crate::threads::Service;
 use gw_run::{Pass, SwapFault, swap};
 use gw_stream::RunFault;
 use std::alloc::AllocError;

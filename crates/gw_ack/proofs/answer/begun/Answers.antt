@@ -1,7 +1,7 @@
 use Rattle.std.proofs.Common.{refl, ◌∙◌}
 use Rattle.std.proofs.lemmas.Result.{IfOk-from_err}
 use Rattle.gw_ack.proofs.Begun.{header_begins, goes_on, some_segment, msa_is_other}
-use Rattle.gw_ack.proofs.Tabled.{msh_rows, msa_rows}
+use Rattle.gw_ack.proofs.AnswerRows.{msh_rows, msa_rows}
 use Rattle.gw_ack.proofs.answer.begun.Goals as goal
 
 pub add_segment-requires-clause-begun : goal.add_segment-requires-clause-begun

@@ -1,6 +1,6 @@
 use Rattle.std.proofs.Common.{refl}
 use Rattle.std.proofs.lemmas.Result.{IfOk-from_err}
-use Rattle.gw_ack.proofs.Tabled.{code_is_canonical}
+use Rattle.gw_ack.proofs.AnswerRows.{code_is_canonical}
 use Rattle.gw_ack.proofs.Says.{acknowledges}
 use Rattle.gw_ack.proofs.answer.error_ack.Goals as goal
 

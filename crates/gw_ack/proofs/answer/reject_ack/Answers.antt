@@ -1,5 +1,5 @@
 use Rattle.std.proofs.Common.{refl}
-use Rattle.gw_ack.proofs.Tabled.{code_is_canonical, location_for_is_canonical}
+use Rattle.gw_ack.proofs.AnswerRows.{code_is_canonical, location_for_is_canonical}
 use Rattle.gw_ack.proofs.Says.{acknowledges}
 use Rattle.gw_ack.proofs.answer.reject_ack.Goals as goal
 

@@ -1,7 +1,7 @@
 use Rattle.std.proofs.Common.{◌<◌, refl, ◌∙◌, arith}
 use Rattle.std.proofs.lemmas.Result.{IfOk-from_err}
 use Rattle.gw_ack.proofs.Begun.{goes_on, err_is_other}
-use Rattle.gw_ack.proofs.Tabled.{err_rows}
+use Rattle.gw_ack.proofs.AnswerRows.{err_rows}
 use Rattle.gw_ack.proofs.answer.report.Goals as goal
 
 pub add_segment-requires-clause-begun : goal.add_segment-requires-clause-begun

@@ -1,5 +1,5 @@
 use Rattle.std.proofs.lemmas.Result.{IfOk-from_err}
-use Rattle.gw_ack.proofs.Tabled.{named_is_canonical}
+use Rattle.gw_ack.proofs.AnswerRows.{named_is_canonical}
 use Rattle.gw_ack.proofs.condition.location_of.Goals as goal
 
 pub returns-clause-texts : goal.returns-clause-texts

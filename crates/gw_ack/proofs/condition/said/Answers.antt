@@ -1,4 +1,4 @@
-use Rattle.gw_ack.proofs.Tabled.{said_is_canonical}
+use Rattle.gw_ack.proofs.AnswerRows.{said_is_canonical}
 use Rattle.gw_ack.proofs.condition.said.Goals as goal
 
 pub returns-clause-canonical : goal.returns-clause-canonical

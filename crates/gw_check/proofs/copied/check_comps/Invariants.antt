@@ -2,7 +2,7 @@ use Rattle.std.proofs.Common.{◌≡◌, ◌++◌, map, drop}
 use Rattle.std.specs.Prelude.{flat_map}
 use Rattle.gw_profile.specs.Seen.{comp, profile_value}
 use Rattle.gw_check.specs.Fields.{copied_comp}
-use Rattle.gw_check.specs.Reading.{some_field}
+use Rattle.gw_check.specs.own.Uses.{some_field}
 use Rattle.gw_resolve.specs.Seen.{failures}
 use Rattle.gw_check.proofs.copied.check_comps.Given as goal
 

@@ -1,6 +1,6 @@
 use Rattle.std.proofs.Common.{◌≡◌, drop, map}
 use Rattle.gw_check.specs.Counts as spec
-use Rattle.gw_check.specs.Reading.{sources_value, map_tables}
+use Rattle.gw_check.specs.own.Uses.{sources_value, map_tables}
 use Rattle.gw_resolve.specs.Seen.{at_leaf}
 use Rattle.gw_check.proofs.count.all_absent.Given as goal
 

@@ -2,7 +2,7 @@ use Rattle.std.proofs.Common.{rules, ◌<◌, ◌≤◌, ◌∙◌}
 use Rattle.gw_profile.specs.Seen.{forest}
 use Rattle.gw_check.proofs.Collecting.{on_ok}
 use Rattle.gw_check.proofs.Gapping.{item_found, segment_found, group_found, flat_found}
-use Rattle.gw_check.specs.Checking.{weight_one, weight_all}
+use Rattle.gw_check.specs.Found.{weight_one, weight_all}
 use Rattle.gw_check.proofs.Within.{lighter_group, lighter_flat, not_heavier}
 use Rattle.gw_check.proofs.gap.+inner.Goals as goal
 

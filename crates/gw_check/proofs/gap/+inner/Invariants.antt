@@ -2,7 +2,7 @@ use Rattle.std.proofs.Common.{◌≡◌, ◌++◌, ◌+◌, ◌*◌, drop, List}
 use Rattle.gw_maplang.specs.Shapes.{TableValue}
 use Rattle.gw_profile.specs.Seen.{forest}
 use Rattle.gw_resolve.specs.Seen.{all_items}
-use Rattle.gw_check.specs.Checking.{weight_one, weight_all}
+use Rattle.gw_check.specs.Found.{weight_one, weight_all}
 use Rattle.gw_check.specs.Gaps.{items_gaps}
 use Rattle.gw_check.specs.Gathered.{all_gaps}
 use Rattle.gw_check.proofs.gap.+inner.Given as goal

@@ -1,5 +1,5 @@
 use Rattle.std.proofs.Common.{subst, take, drop, ◌≤◌, ◌∙◌, length}
-use Rattle.gw_check.specs.Counted.{Leads}
+use Rattle.gw_check.specs.own.ItemByItem.{Leads}
 use Rattle.gw_check.specs.Gathered.{all_gaps, FindsNode}
 use Rattle.gw_check.proofs.Gapping.{level_more}
 use Rattle.gw_check.proofs.Stepped.{from_there, more_within}

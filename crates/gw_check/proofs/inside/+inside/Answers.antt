@@ -1,7 +1,7 @@
 use Rattle.std.proofs.Common.{rules, ◌<◌, ◌≤◌, sym, ap, ◌∙◌}
 use Rattle.gw_profile.specs.Seen.{forest, profile_value}
 use Rattle.gw_resolve.specs.Seen.{failures, scope}
-use Rattle.gw_check.specs.Checking.{weight_one, weight_all}
+use Rattle.gw_check.specs.Found.{weight_one, weight_all}
 use Rattle.gw_check.proofs.Collecting.{on_ok}
 use Rattle.gw_check.proofs.Within.{items_more, group_noted, flat_noted, lighter_group, lighter_flat, not_heavier, level_same}
 use Rattle.gw_check.proofs.inside.+inside.Goals as goal

@@ -1,7 +1,7 @@
 use Rattle.std.proofs.Common.{◌≡◌, ◌++◌, ◌+◌, ◌*◌, drop}
 use Rattle.gw_profile.specs.Seen.{forest, profile_value}
 use Rattle.gw_check.specs.Levels.{items_failures}
-use Rattle.gw_check.specs.Checking.{weight_one, weight_all}
+use Rattle.gw_check.specs.Found.{weight_one, weight_all}
 use Rattle.gw_resolve.specs.Seen.{failures, scope, all_items}
 use Rattle.gw_check.proofs.inside.+inside.Given as goal
 

@@ -1,6 +1,6 @@
 use Rattle.std.proofs.Common.{ap, ◌∙◌, subst, arith}
 use Rattle.gw_resolve.specs.Seen.{scope}
-use Rattle.gw_check.specs.Counted.{CountsAll}
+use Rattle.gw_check.specs.own.ItemByItem.{CountsAll}
 use Rattle.gw_check.proofs.Counted.{count_flat, count_step, count_done}
 use Rattle.gw_check.proofs.items.+count.Goals as goal
 

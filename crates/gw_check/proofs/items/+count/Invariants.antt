@@ -1,6 +1,6 @@
 use Rattle.std.proofs.Common.{◌≤◌, ◌+◌, ◌*◌, drop, length}
 use Rattle.gw_resolve.specs.declared.resolved.Item.{size-Item}
-use Rattle.gw_check.specs.Counted.{CountsAll}
+use Rattle.gw_check.specs.own.ItemByItem.{CountsAll}
 use Rattle.gw_resolve.specs.Seen.{scope}
 use Rattle.gw_check.proofs.items.+count.Given as goal
 

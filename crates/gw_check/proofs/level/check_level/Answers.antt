@@ -1,7 +1,7 @@
 use Rattle.std.proofs.Common.{subst, take, ◌≤◌, length}
 use Rattle.gw_resolve.specs.Seen.{failures, scope}
-use Rattle.gw_check.specs.Counted.{Leads}
-use Rattle.gw_check.specs.Checking.{NotesNode}
+use Rattle.gw_check.specs.own.ItemByItem.{Leads}
+use Rattle.gw_check.specs.Found.{NotesNode}
 use Rattle.gw_check.proofs.Stepped.{level_more, from_there, more_within}
 use Rattle.gw_check.proofs.level.check_level.Goals as goal
 

@@ -1,7 +1,7 @@
 use Rattle.std.proofs.Common.{◌≡◌, ◌++◌, map, drop}
 use Rattle.std.specs.Prelude.{flat_map}
 use Rattle.gw_check.specs.Fields.{rule_lookups}
-use Rattle.gw_check.specs.Reading.{sources_value, map_tables}
+use Rattle.gw_check.specs.own.Uses.{sources_value, map_tables}
 use Rattle.gw_resolve.specs.Seen.{failures, rule}
 use Rattle.gw_check.proofs.lookup.check_rules.Given as goal
 

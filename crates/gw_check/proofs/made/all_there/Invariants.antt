@@ -1,6 +1,6 @@
 use Rattle.std.proofs.Common.{◌≡◌, take, map}
-use Rattle.gw_check.specs.Lacking.{there_of, there_value}
-use Rattle.gw_check.specs.Reading.{sources_value, map_tables}
+use Rattle.gw_check.specs.own.Lacking.{there_of, there_value}
+use Rattle.gw_check.specs.own.Uses.{sources_value, map_tables}
 use Rattle.gw_resolve.specs.Seen.{at_leaf}
 use Rattle.gw_check.proofs.made.all_there.Given as goal
 

@@ -1,8 +1,8 @@
 use Rattle.std.proofs.Common.{ap, map, subst, OnOk, ◌∙◌}
 use Rattle.gw_profile.specs.Seen.{comp}
-use Rattle.gw_check.specs.Lacking.{there_value}
+use Rattle.gw_check.specs.own.Lacking.{there_value}
 use Rattle.gw_resolve.specs.Noted.{Notes}
-use Rattle.gw_check.specs.Reading.{sources_value, map_tables}
+use Rattle.gw_check.specs.own.Uses.{sources_value, map_tables}
 use Rattle.gw_resolve.specs.Seen.{at_leaf}
 use Rattle.gw_check.proofs.Lacks.{made_lacks}
 use Rattle.gw_check.proofs.made.check_lacking.Goals as goal

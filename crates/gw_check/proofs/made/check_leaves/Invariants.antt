@@ -2,7 +2,7 @@ use Rattle.std.proofs.Common.{◌≡◌, ◌++◌, map, drop}
 use Rattle.std.specs.Prelude.{flat_map}
 use Rattle.gw_profile.specs.Seen.{field, profile_value}
 use Rattle.gw_check.specs.Fields.{made_leaf}
-use Rattle.gw_check.specs.Reading.{sources_value, map_tables}
+use Rattle.gw_check.specs.own.Uses.{sources_value, map_tables}
 use Rattle.gw_resolve.specs.Seen.{failures, at_leaf}
 use Rattle.gw_check.proofs.made.check_leaves.Given as goal
 

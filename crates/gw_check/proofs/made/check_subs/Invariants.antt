@@ -1,7 +1,7 @@
 use Rattle.std.proofs.Common.{◌≡◌, ◌++◌, drop, map}
 use Rattle.std.specs.Prelude.{flat_map}
 use Rattle.gw_profile.specs.Seen.{sub}
-use Rattle.gw_check.specs.Lacking.{there_value, sub_lacks}
+use Rattle.gw_check.specs.own.Lacking.{there_value, sub_lacks}
 use Rattle.gw_resolve.specs.Seen.{failures}
 use Rattle.gw_check.proofs.made.check_subs.Given as goal
 

@@ -1,5 +1,5 @@
 use Rattle.std.proofs.Common.{◌≡◌, drop, map}
-use Rattle.gw_check.specs.Lacking.{there_value, has_sub}
+use Rattle.gw_check.specs.own.Lacking.{there_value, has_sub}
 use Rattle.gw_check.proofs.made.has_sub.Given as goal
 
 abbrev pub invariant-loop-leaf : goal.invariant-loop-leaf

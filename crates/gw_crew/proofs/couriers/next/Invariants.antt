@@ -1,5 +1,5 @@
 use Rattle.std.proofs.Common.{◌-◌, ◌^◌, length}
-use Rattle.gw_crew.specs.Turns.{Adds, Waits}
+use Rattle.gw_crew.specs.own.Turns.{Adds, Waits}
 use Rattle.gw_crew.proofs.couriers.next.Given as goal
 
 abbrev pub invariant-waits : goal.invariant-waits

@@ -1,6 +1,6 @@
 use Rattle.std.proofs.Common.{◌≡◌, ◌+◌, ◌<◌, ◌≤◌, ◌++◌, length, None}
 use Rattle.gw_er7.specs.Content.{lines_from, first_bad}
-use Rattle.gw_er7.specs.Gathered.{others_of}
+use Rattle.gw_er7.specs.own.Gathered.{others_of}
 use Rattle.gw_er7.proofs.reader.read_others.Given as goal
 
 abbrev pub invariant-loop-line : goal.invariant-loop-line

@@ -1,6 +1,6 @@
 use Rattle.std.proofs.Common.{◌<◌, All, arith, refl, sym, ap, subst, ◌∙◌}
 use Rattle.gw_gate.specs.Seen.{conforming_seen}
-use Rattle.gw_gate.specs.Desks.{desk_at}
+use Rattle.gw_gate.specs.own.Desks.{desk_at}
 use Rattle.gw_gate.proofs.Spreading.{room_there, due_here, not_here, due_done, due_left, due_all}
 use Rattle.gw_gate.proofs.desks.make_due.Goals.{then-goes_to, else-goes_to}
 use Rattle.gw_gate.proofs.desks.make_due.Goals as goal

@@ -1,6 +1,6 @@
 use Rattle.std.proofs.Common.{◌≡◌, ℕ, ◌<◌, ◌≤◌}
 use Rattle.gw_gate.specs.Seen.{conforming_seen}
-use Rattle.gw_gate.specs.Desks.{desk_at, due_to}
+use Rattle.gw_gate.specs.own.Desks.{desk_at, due_to}
 use Rattle.gw_gate.proofs.desks.make_due.Given as goal
 
 abbrev pub invariant-loop-receiver : goal.invariant-loop-receiver

@@ -1,6 +1,6 @@
 use Rattle.std.proofs.Common.{◌<◌, arith}
 use Rattle.gw_gate.specs.Seen.{conforming_seen}
-use Rattle.gw_gate.specs.Desks.{desk_at}
+use Rattle.gw_gate.specs.own.Desks.{desk_at}
 use Rattle.gw_gate.proofs.Windows.{at_places}
 use Rattle.gw_gate.proofs.desks.make_room.Goals as goal
 

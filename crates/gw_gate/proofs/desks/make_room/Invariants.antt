@@ -1,6 +1,6 @@
 use Rattle.std.proofs.Common.{◌≡◌, ℕ, ◌<◌, Some, slice_get}
 use Rattle.gw_gate.specs.Seen.{conforming_seen}
-use Rattle.gw_gate.specs.Desks.{desk_at, AreRoomier}
+use Rattle.gw_gate.specs.own.Desks.{desk_at, AreRoomier}
 use Rattle.gw_gate.proofs.desks.make_room.Given as goal
 
 abbrev pub invariant-loop-place : goal.invariant-loop-place

@@ -1,5 +1,5 @@
 use Rattle.std.proofs.Common.{◌+◌, ◌-◌, length}
-use Rattle.gw_gate.specs.Desks.{AreRoomier}
+use Rattle.gw_gate.specs.own.Desks.{AreRoomier}
 use Rattle.gw_gate.proofs.desks.widen.Given as goal
 
 abbrev pub invariant-loop-alloc : goal.invariant-loop-alloc

@@ -1,5 +1,5 @@
 use Rattle.std.proofs.Common.{ℕ, arith}
-use Rattle.gw_interp.specs.Making.{comp_key}
+use Rattle.gw_interp.specs.own.Making.{comp_key}
 use Rattle.gw_interp.proofs.Copies.{none_copied, may_text, next_text, all_copied, in_rep, of_rep, apart_rep}
 use Rattle.gw_interp.proofs.copying.copy_rep.Goals as goal
 

@@ -1,5 +1,5 @@
 use Rattle.std.proofs.Common.{ℕ, arith}
-use Rattle.gw_interp.specs.Making.{field_key}
+use Rattle.gw_interp.specs.own.Making.{field_key}
 use Rattle.gw_interp.proofs.Copies.{none_copied, may_text, next_text, all_copied, in_field, of_field, apart_field}
 use Rattle.gw_interp.proofs.copying.copy_reps.Goals as goal
 

@@ -1,5 +1,5 @@
 use Rattle.std.proofs.Common.{ℕ}
-use Rattle.gw_interp.specs.Making.{field_key}
+use Rattle.gw_interp.specs.own.Making.{field_key}
 use Rattle.gw_interp.proofs.Copies.{CopiedUpTo}
 use Rattle.gw_interp.proofs.copying.copy_reps.Given as goal
 

@@ -1,6 +1,6 @@
 use Rattle.std.proofs.Common.{map}
 use Rattle.gw_resolve.specs.Seen.{at_leaf}
-use Rattle.gw_interp.specs.Filling.{read_by}
+use Rattle.gw_interp.specs.own.Filling.{read_by}
 use Rattle.gw_interp.proofs.Fills.{on_ok}
 use Rattle.gw_interp.proofs.Placed.{may_fill, rep_filled}
 use Rattle.gw_interp.proofs.filling.fill_rep.Goals as goal

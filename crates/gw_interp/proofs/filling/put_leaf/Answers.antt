@@ -1,8 +1,8 @@
 use Rattle.std.proofs.Common.{subst}
 use Rattle.gw_maplang.specs.Seen.{now}
 use Rattle.gw_resolve.specs.Seen.{leaf}
-use Rattle.gw_interp.specs.Sourced.{LeafGives}
-use Rattle.gw_interp.specs.Filling.{message_of, read_by}
+use Rattle.gw_interp.specs.own.Sourced.{LeafGives}
+use Rattle.gw_interp.specs.own.Filling.{message_of, read_by}
 use Rattle.gw_interp.proofs.Fills.{on_ok}
 use Rattle.gw_interp.proofs.filling.put_leaf.Goals as goal
 

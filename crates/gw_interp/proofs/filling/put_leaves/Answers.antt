@@ -1,5 +1,5 @@
 use Rattle.gw_resolve.specs.Seen.{at_leaf}
-use Rattle.gw_interp.specs.Filling.{read_by}
+use Rattle.gw_interp.specs.own.Filling.{read_by}
 use Rattle.gw_interp.proofs.Turns.{no_leaf, may_leaf, next_leaf, all_leaves}
 use Rattle.gw_interp.proofs.filling.put_leaves.Goals as goal
 

@@ -1,5 +1,5 @@
 use Rattle.gw_resolve.specs.Seen.{at_leaf}
-use Rattle.gw_interp.specs.Filling.{read_by}
+use Rattle.gw_interp.specs.own.Filling.{read_by}
 use Rattle.gw_interp.proofs.Turns.{LeavesInTurn}
 use Rattle.gw_interp.proofs.filling.put_leaves.Given as goal
 

@@ -1,6 +1,6 @@
 use Rattle.std.proofs.Common.{map}
 use Rattle.gw_resolve.specs.Seen.{at_leaf}
-use Rattle.gw_interp.specs.Making.{seen_from}
+use Rattle.gw_interp.specs.own.Making.{seen_from}
 use Rattle.gw_interp.proofs.Fills.{on_ok}
 use Rattle.gw_interp.proofs.Ruled.{may_build, built}
 use Rattle.gw_interp.proofs.making.make_build.Goals as goal

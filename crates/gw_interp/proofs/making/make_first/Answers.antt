@@ -1,8 +1,8 @@
 use Rattle.std.proofs.Common.{sym, ap, ◌∙◌}
 use Rattle.gw_resolve.specs.Seen.{reference}
-use Rattle.gw_interp.specs.Sourced.{texts_of}
-use Rattle.gw_interp.specs.Filling.{message_of}
-use Rattle.gw_interp.specs.Making.{seen_from}
+use Rattle.gw_interp.specs.own.Sourced.{texts_of}
+use Rattle.gw_interp.specs.own.Filling.{message_of}
+use Rattle.gw_interp.specs.own.Making.{seen_from}
 use Rattle.gw_interp.proofs.Fills.{on_ok}
 use Rattle.gw_interp.proofs.Ruled.{first_nothing, first_none, may_first, first_copied}
 use Rattle.gw_interp.proofs.making.make_first.Goals as goal

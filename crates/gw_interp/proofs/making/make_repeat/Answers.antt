@@ -1,9 +1,9 @@
 use Rattle.std.proofs.Common.{sym, ap, ◌∙◌, map, arith, subst}
 use Rattle.gw_er7.specs.Message.{SegmentValue}
 use Rattle.gw_resolve.specs.Seen.{reference, at_leaf}
-use Rattle.gw_interp.specs.Sourced.{texts_of}
-use Rattle.gw_interp.specs.Filling.{message_of}
-use Rattle.gw_interp.specs.Making.{seen_from, MayFillRep, IsRepFilled}
+use Rattle.gw_interp.specs.own.Sourced.{texts_of}
+use Rattle.gw_interp.specs.own.Filling.{message_of}
+use Rattle.gw_interp.specs.own.Making.{seen_from, MayFillRep, IsRepFilled}
 use Rattle.gw_interp.proofs.Ruled.{repeat_nothing, repeats_begin, may_next_repeat, next_repeat, all_repeats, same_walk}
 use Rattle.gw_interp.proofs.making.make_repeat.Goals as goal
 

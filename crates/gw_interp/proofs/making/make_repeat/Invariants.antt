@@ -1,6 +1,6 @@
 use Rattle.std.proofs.Common.{◌-◌, map}
 use Rattle.gw_resolve.specs.Seen.{reference, at_leaf}
-use Rattle.gw_interp.specs.Making.{seen_from}
+use Rattle.gw_interp.specs.own.Making.{seen_from}
 use Rattle.gw_interp.proofs.Copies.{RepsUpTo}
 use Rattle.gw_interp.proofs.Ruled.{Repeats}
 use Rattle.gw_interp.proofs.making.make_repeat.Given as goal

@@ -1,7 +1,7 @@
 use Rattle.std.proofs.Common.{sym, subst, map}
 use Rattle.gw_resolve.specs.Resolved.{repeat, build}
 use Rattle.gw_resolve.specs.Seen.{reference, at_leaf, making}
-use Rattle.gw_interp.specs.Making.{seen_from, MayMakeBy, IsMadeBy}
+use Rattle.gw_interp.specs.own.Making.{seen_from, MayMakeBy, IsMadeBy}
 use Rattle.gw_interp.proofs.Fills.{on_ok}
 use Rattle.gw_interp.proofs.making.make_rule.Goals as goal
 

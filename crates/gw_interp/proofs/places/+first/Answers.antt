@@ -3,7 +3,7 @@ use Rattle.std.specs.Prelude.{flat_map}
 use Rattle.gw_er7.proofs.Sequences.{first_is}
 use Rattle.gw_validate.specs.Fitting.{OccValue}
 use Rattle.gw_interp.specs.Occurrences.{below}
-use Rattle.gw_interp.specs.Lent.{occurrence, IsFirstOf}
+use Rattle.gw_interp.specs.own.Lent.{occurrence, IsFirstOf}
 use Rattle.gw_interp.proofs.Lending.{no_children, passed, found_first, none_first}
 use Rattle.gw_interp.proofs.places.+first.Goals as goal
 

@@ -3,7 +3,7 @@ use Rattle.std.specs.Prelude.{◌≡◌, IfSome}
 use Rattle.gw_er7.specs.Message.{SegmentValue}
 use Rattle.gw_resolve.specs.Seen.{place as seen_place}
 use Rattle.gw_interp.specs.Occurrences.{Occurrence, below}
-use Rattle.gw_interp.specs.Lent.{occurrence, IsFirstOf}
+use Rattle.gw_interp.specs.own.Lent.{occurrence, IsFirstOf}
 use Rattle.gw_interp.proofs.Lending.{at_none, at_one}
 use Rattle.gw_interp.proofs.places.first_at_place.Goals as goal
 

@@ -1,4 +1,4 @@
-use Rattle.gw_interp.proofs.Sourcing.{none_present, first_present}
+use Rattle.gw_interp.proofs.ReadTexts.{none_present, first_present}
 use Rattle.gw_interp.proofs.reading.first_rep.Goals as goal
 
 pub returns-then-last-eq0 : goal.returns-then-last-eq0

@@ -1,7 +1,7 @@
 use Rattle.std.proofs.Common.{sym, subst, []}
 use Rattle.gw_interp.specs.Meaning.{InFirst}
-use Rattle.gw_interp.specs.Sourced.{texts_of}
-use Rattle.gw_interp.proofs.Sourcing.{in_none, in_some}
+use Rattle.gw_interp.specs.own.Sourced.{texts_of}
+use Rattle.gw_interp.proofs.ReadTexts.{in_none, in_some}
 use Rattle.gw_interp.proofs.reading.first_text.Goals as goal
 
 pub returns-in_default : goal.returns-in_default

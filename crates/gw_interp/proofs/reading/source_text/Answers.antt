@@ -1,7 +1,7 @@
 use Rattle.std.proofs.Common.{sym, subst}
 use Rattle.gw_resolve.specs.Seen.{source as seen_source}
 use Rattle.gw_interp.specs.Meaning.{InFirst, SourceMeans}
-use Rattle.gw_interp.specs.Sourced.{walks}
+use Rattle.gw_interp.specs.own.Sourced.{walks}
 use Rattle.gw_interp.proofs.reading.source_text.Goals as goal
 
 pub returns-in-OfField : goal.returns-in-OfField

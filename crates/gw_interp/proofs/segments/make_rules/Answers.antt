@@ -1,5 +1,5 @@
 use Rattle.gw_resolve.specs.Seen.{rule}
-use Rattle.gw_interp.specs.Making.{seen_from}
+use Rattle.gw_interp.specs.own.Making.{seen_from}
 use Rattle.gw_interp.proofs.Turns.{no_rule, may_rule, next_rule, all_rules}
 use Rattle.gw_interp.proofs.segments.make_rules.Goals as goal
 

@@ -1,5 +1,5 @@
 use Rattle.gw_resolve.specs.Seen.{rule}
-use Rattle.gw_interp.specs.Making.{seen_from}
+use Rattle.gw_interp.specs.own.Making.{seen_from}
 use Rattle.gw_interp.proofs.Turns.{RulesInTurn}
 use Rattle.gw_interp.proofs.segments.make_rules.Given as goal
 

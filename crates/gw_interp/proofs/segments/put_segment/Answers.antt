@@ -2,9 +2,9 @@ use Rattle.std.proofs.Common.{map, subst, sym, List}
 use Rattle.gw_er7.specs.Message.{SegmentValue}
 use Rattle.gw_er7.specs.Building.{IsBegun}
 use Rattle.gw_resolve.specs.Seen.{rule}
-use Rattle.gw_interp.specs.Making.{seen_from, MayMakeRules, AreRulesMade}
+use Rattle.gw_interp.specs.own.Making.{seen_from, MayMakeRules, AreRulesMade}
 use Rattle.gw_interp.proofs.Fills.{on_ok}
-use Rattle.gw_interp.proofs.Imaged.{may_begin, may_rules, imaged}
+use Rattle.gw_interp.proofs.RuleByRule.{may_begin, may_rules, imaged}
 use Rattle.gw_interp.proofs.segments.put_segment.Goals as goal
 
 pub begin-requires : goal.begin-requires

@@ -1,6 +1,6 @@
 use Rattle.std.proofs.Common.{◌≡◌, ◌++◌, drop, map, length}
 use Rattle.gw_maplang.specs.Seen.{line}
-use Rattle.gw_maplang.specs.Building.{Stands}
+use Rattle.gw_maplang.specs.own.Building.{Stands}
 use Rattle.gw_maplang.proofs.build.all_below.Given as goal
 
 abbrev pub invariant-loop-whole : goal.invariant-loop-whole

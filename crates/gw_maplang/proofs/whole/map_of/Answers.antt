@@ -4,7 +4,7 @@ use Rattle.gw_maplang.specs.declared.form.Line as declared
 use Rattle.gw_maplang.specs.Line.{Line}
 use Rattle.gw_maplang.specs.Lawful.{Lawful}
 use Rattle.gw_maplang.specs.Value.{head, levels, drops}
-use Rattle.gw_maplang.specs.Building.{head_value}
+use Rattle.gw_maplang.specs.own.Building.{head_value}
 use Rattle.gw_maplang.specs.Seen.{line, above, all_items, dropped}
 use Rattle.gw_maplang.proofs.Formed.{formed}
 use Rattle.gw_maplang.proofs.whole.map_of.Goals as goal

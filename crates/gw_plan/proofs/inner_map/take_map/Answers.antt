@@ -4,11 +4,11 @@ use Rattle.std.specs.Arc.{arc_value}
 use Rattle.gw_maplang.specs.Seen as maps
 use Rattle.gw_maplang.specs.Seen.{map_value}
 use Rattle.gw_maplang.specs.Whole.{spelled}
-use Rattle.gw_check.specs.CheckedMap.{CheckedValue}
+use Rattle.gw_check.specs.Kept.{CheckedValue}
 use Rattle.gw_plan.specs.declared.fault.PlanFault.{PlanFault}
 use Rattle.gw_plan.specs.Above.{AboveHeld, profiles_of, maps_of, named_map, IsNewMap}
 use Rattle.gw_plan.specs.Inner.{Inner, text, map_faults_beside}
-use Rattle.gw_plan.specs.Made.{inner, Spells, IsTaken}
+use Rattle.gw_plan.specs.own.Made.{inner, Spells, IsTaken}
 use Rattle.gw_plan.proofs.NamedMap.{map_is_new}
 use Rattle.gw_plan.proofs.inner_map.take_map.Goals as goal
 

@@ -1,7 +1,7 @@
 use Rattle.std.proofs.Common.{subst}
 use Rattle.std.specs.Arc.{arc_value}
 use Rattle.gw_plan.specs.Above.{profiles_of}
-use Rattle.gw_plan.specs.Made.{Checks}
+use Rattle.gw_plan.specs.own.Made.{Checks}
 use Rattle.gw_plan.proofs.Standing.{taken_so}
 use Rattle.gw_plan.proofs.inner_map.with_sides.Goals as goal
 

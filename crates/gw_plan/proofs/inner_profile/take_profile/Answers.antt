@@ -4,7 +4,7 @@ use Rattle.gw_profile.specs.Seen.{profile_value}
 use Rattle.gw_profile.specs.Whole.{spelled}
 use Rattle.gw_plan.specs.Above.{profiles_of}
 use Rattle.gw_plan.specs.Inner.{text}
-use Rattle.gw_plan.specs.Made.{inner, Spells}
+use Rattle.gw_plan.specs.own.Made.{inner, Spells}
 use Rattle.gw_plan.proofs.NamedProfile.{profile_is_new}
 use Rattle.gw_plan.proofs.inner_profile.take_profile.Goals as goal
 

@@ -1,7 +1,7 @@
 use Rattle.std.proofs.Common.{◌≡◌, ◌+◌, drop}
 use Rattle.gw_plan.specs.Seen.{now_all}
 use Rattle.gw_plan.specs.Whole.{reads}
-use Rattle.gw_plan.specs.Drafted.{draft_value, IsKept}
+use Rattle.gw_plan.specs.own.SoFar.{draft_value, IsKept}
 use Rattle.gw_plan.proofs.parse.take_lines.Given as goal
 
 abbrev pub invariant-loop-i : goal.invariant-loop-i

@@ -4,7 +4,7 @@ use Rattle.std.proofs.lemmas.List.{take_rest}
 use Rattle.gw_profile.specs.Fault.{is_among}
 use Rattle.gw_profile.specs.declared.shape.Card.{Card}
 use Rattle.gw_profile.specs.Seen.{forest}
-use Rattle.gw_profile.specs.Determinism.{first_names, clash, ambiguous, group_ambiguous}
+use Rattle.gw_profile.specs.LookAhead.{first_names, clash, ambiguous, group_ambiguous}
 use Rattle.gw_profile.specs.Nodes.{node_ambiguous, first_of_node, card_of, joined, Joins}
 use Rattle.gw_profile.proofs.Rows.{ambiguous_group}
 use Rattle.gw_profile.proofs.Follows.{walk_more, group_more, joins_far, behind_more, passed_within}

@@ -1,7 +1,7 @@
 use Rattle.std.proofs.Common.{◌≡◌, ◌≤◌, ◌++◌, drop, length}
 use Rattle.gw_profile.specs.Nodes.{joined}
 use Rattle.gw_profile.specs.Seen.{forest}
-use Rattle.gw_profile.specs.Determinism.{ambiguous, follow_names}
+use Rattle.gw_profile.specs.LookAhead.{ambiguous, follow_names}
 use Rattle.gw_profile.proofs.Follows.{Same}
 use Rattle.gw_profile.proofs.rules.+ambiguous.Given as goal
 

@@ -2,7 +2,7 @@ use Rattle.std.proofs.Common.{◌≡◌, sym, ap, ◌∙◌, subst, OnOk, List, 
 use Rattle.gw_profile.specs.declared.shape.Card.{Card}
 use Rattle.gw_profile.specs.Line.{allows}
 use Rattle.gw_profile.specs.Seen.{forest}
-use Rattle.gw_profile.specs.Determinism.{first_names}
+use Rattle.gw_profile.specs.LookAhead.{first_names}
 use Rattle.gw_profile.specs.Nodes.{first_of_node, card_of}
 use Rattle.gw_profile.proofs.Rows.{first_of_group}
 use Rattle.gw_profile.proofs.rules.+first.Goals as goal

@@ -1,6 +1,6 @@
 use Rattle.std.proofs.Common.{◌≡◌, ◌≤◌, ◌++◌, drop, length}
 use Rattle.gw_profile.specs.Nodes.{joined}
-use Rattle.gw_profile.specs.Determinism.{least_shared}
+use Rattle.gw_profile.specs.LookAhead.{least_shared}
 use Rattle.gw_profile.proofs.rules.least_shared.Given as goal
 
 abbrev pub invariant-loop-left : goal.invariant-loop-left

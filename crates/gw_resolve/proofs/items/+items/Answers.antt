@@ -2,9 +2,9 @@ use Rattle.std.proofs.Common.{◌≡◌, IfOk, OnOk, ap, ◌∙◌, ◌++◌, re
 use Rattle.gw_maplang.specs.Seen as raw
 use Rattle.gw_profile.specs.Labels.{nodes_in}
 use Rattle.gw_resolve.specs.Naming as spec
-use Rattle.gw_resolve.specs.Placed.{is_group}
+use Rattle.gw_resolve.specs.Order.{is_group}
 use Rattle.gw_resolve.specs.Noted.{Notes}
-use Rattle.gw_resolve.specs.Resolving.{MakesItem, path_failures, target_failures, reached}
+use Rattle.gw_resolve.specs.Outcome.{MakesItem, path_failures, target_failures, reached}
 use Rattle.gw_resolve.specs.Seen.{scope as walked, failure, failures}
 use Rattle.gw_resolve.proofs.Built.{items_made, items_done, made_group, made_flat}
 use Rattle.gw_resolve.proofs.Noting.{as_many, found_both, group_paths, flat_paths, items_next, paths_done}

@@ -1,6 +1,6 @@
 use Rattle.std.proofs.Common.{◌≡◌, ◌-◌, ◌≤◌, length, option_map}
 use Rattle.gw_resolve.specs.Naming as spec
-use Rattle.gw_resolve.specs.Looking.{further}
+use Rattle.gw_resolve.specs.own.Looking.{further}
 use Rattle.gw_resolve.specs.Seen.{scope as walked}
 use Rattle.gw_resolve.proofs.paths.first_label.Given as goal
 

@@ -1,6 +1,6 @@
 use Rattle.std.proofs.Common.{◌∙◌, ◌∷◌, ap}
 use Rattle.gw_crew.specs.Seen.{note_seen}
-use Rattle.gw_run.specs.Joins.{meets}
+use Rattle.gw_run.specs.own.Joins.{meets}
 use Rattle.gw_run.proofs.agreeing.after_note.Goals as goal
 
 pub returns-in-Added : goal.returns-in-Added

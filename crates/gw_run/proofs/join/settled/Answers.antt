@@ -1,10 +1,10 @@
 use Rattle.std.proofs.Common.{◌≡◌, ◌∙◌, sym}
 use Rattle.std.specs.Arc.{arc_value}
 use Rattle.std.proofs.lemmas.Bool.{false≢true}
-use Rattle.gw_gate.specs.Books.{journal_of}
+use Rattle.gw_gate.specs.own.Books.{journal_of}
 use Rattle.gw_gate.specs.Seen.{plan_seen}
 use Rattle.gw_gate.specs.Values.{entries_seen}
-use Rattle.gw_run.specs.Tellings.{notes_of}
+use Rattle.gw_run.specs.own.Tellings.{notes_of}
 use Rattle.gw_run.proofs.Joining.{as_journal, settled_as}
 use Rattle.gw_run.proofs.join.settled.Goals as goal
 

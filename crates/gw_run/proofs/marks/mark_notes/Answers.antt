@@ -2,7 +2,7 @@ use Rattle.std.proofs.Common.{◌++◌, ◌∙◌, ap, sym, subst, take, append_
 use Rattle.std.specs.Option.{option_to_list}
 use Rattle.gw_crew.specs.Notes.{receipt_of}
 use Rattle.gw_crew.specs.Seen.{note_seen, notes_seen}
-use Rattle.gw_run.specs.Joins.{Marks}
+use Rattle.gw_run.specs.own.Joins.{Marks}
 use Rattle.gw_run.specs.Passes.{receipts}
 use Rattle.gw_run.proofs.Marking.{receipts_next, take_past}
 use Rattle.gw_run.proofs.marks.mark_notes.Goals as goal

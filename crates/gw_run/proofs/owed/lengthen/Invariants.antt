@@ -1,5 +1,5 @@
 use Rattle.std.proofs.Common.{◌≡◌, ◌+◌, ◌-◌, ℕ, length}
-use Rattle.gw_run.specs.Joins.{of_receiver}
+use Rattle.gw_run.specs.own.Joins.{of_receiver}
 use Rattle.gw_run.proofs.owed.lengthen.Given as goal
 
 abbrev pub invariant-loop-alloc : goal.invariant-loop-alloc

@@ -1,7 +1,7 @@
 use Rattle.std.proofs.Common.{◌≡◌, ◌+◌, ℕ, arith, subst, length, take}
 use Rattle.gw_gate.specs.Values.{entry_seen, entries_seen}
 use Rattle.gw_run.specs.Gathers.{is_nothing_after}
-use Rattle.gw_run.specs.Joins.{of_receiver}
+use Rattle.gw_run.specs.own.Joins.{of_receiver}
 use Rattle.gw_run.specs.Owing.{Owes, TurnsFor, has_nothing, may_turn, owed_at}
 use Rattle.gw_run.specs.Turns.{TurnsTo}
 use Rattle.gw_run.proofs.Dues.{few_given, owes_next, rising, turns_next}

@@ -1,7 +1,7 @@
 use Rattle.std.proofs.Common.{ℕ, take}
 use Rattle.gw_gate.specs.Values.{entries_seen}
 use Rattle.gw_run.specs.Gathers.{is_nothing_after}
-use Rattle.gw_run.specs.Joins.{of_receiver}
+use Rattle.gw_run.specs.own.Joins.{of_receiver}
 use Rattle.gw_run.specs.Owing.{Owes, owed_at}
 use Rattle.gw_run.specs.Turns.{TurnsTo}
 use Rattle.gw_run.proofs.owed.nothing_in.Given as goal

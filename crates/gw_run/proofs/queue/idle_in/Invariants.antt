@@ -1,7 +1,7 @@
 use Rattle.std.proofs.Common.{◌≤◌, take}
 use Rattle.gw_gate.specs.Values.{entries_seen}
 use Rattle.gw_run.specs.Gathers.{is_idle_after}
-use Rattle.gw_run.specs.Queues.{Queues}
+use Rattle.gw_run.specs.own.Queues.{Queues}
 use Rattle.gw_run.specs.Turns.{TurnsTo}
 use Rattle.gw_run.proofs.queue.idle_in.Given as goal
 

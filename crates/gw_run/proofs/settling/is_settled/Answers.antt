@@ -4,15 +4,15 @@ use Rattle.std.specs.Arc.{arc_value}
 use Rattle.std.proofs.lemmas.Bool.{false≢true}
 use Rattle.gw_gate.specs.declared.event.Entry.{Entry}
 use Rattle.gw_gate.specs.Parts.{PlanSeen}
-use Rattle.gw_gate.specs.Books.{journal_of}
+use Rattle.gw_gate.specs.own.Books.{journal_of}
 use Rattle.gw_gate.specs.Journal.{end}
 use Rattle.gw_gate.specs.Seen.{plan_seen}
 use Rattle.gw_gate.specs.Values.{entries_seen}
 use Rattle.gw_gate.proofs.Entering.{as_long}
-use Rattle.gw_run.specs.Joins.{Marks}
+use Rattle.gw_run.specs.own.Joins.{Marks}
 use Rattle.gw_run.specs.Passes.{PassSeen, receipts}
 use Rattle.gw_run.specs.Settled.{are_all}
-use Rattle.gw_run.specs.Tellings.{notes_of}
+use Rattle.gw_run.specs.own.Tellings.{notes_of}
 use Rattle.gw_run.proofs.settling.is_settled.Goals as goal
 
 -- what was marked tells of all numbers up to the end

@@ -1,5 +1,5 @@
 use Rattle.std.proofs.Common.{◌≡◌}
-use Rattle.gw_crew.specs.Turns.{Adds}
+use Rattle.gw_crew.specs.own.Turns.{Adds}
 use Rattle.gw_session.specs.Sessions.{Tries}
 use Rattle.gw_session.proofs.arrival.arrive_in_time.Given as goal
 

@@ -1,4 +1,4 @@
-use Rattle.gw_session.specs.Steps.{MayLook, not_yet}
+use Rattle.gw_session.specs.own.Steps.{MayLook, not_yet}
 use Rattle.gw_stream.proofs.Posting.{err_gives}
 use Rattle.gw_session.proofs.Arriving.{adds_none, looked_only}
 use Rattle.gw_session.proofs.arrival.ask.Goals as goal

@@ -1,5 +1,5 @@
 use Rattle.std.proofs.Common.{◌≡◌, ◌↔◌, ◌-◌, ℕ, List, false}
-use Rattle.gw_session.specs.Steps.{DealtSoFar}
+use Rattle.gw_session.specs.own.Steps.{DealtSoFar}
 use Rattle.gw_stream.specs.Walked.{place}
 use Rattle.gw_session.proofs.sessions.session.Given as goal
 

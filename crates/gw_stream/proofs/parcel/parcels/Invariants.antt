@@ -2,7 +2,7 @@ use Rattle.std.proofs.Common.{length, take}
 use Rattle.std.specs.Arc.{arc_value}
 use Rattle.std.specs.List.{AllZip}
 use Rattle.gw_plan.specs.Held.{route_value}
-use Rattle.gw_stream.specs.Bundled.{AreWithin, IsParcel}
+use Rattle.gw_stream.specs.own.Bundled.{AreWithin, IsParcel}
 use Rattle.gw_stream.specs.Served.{receivers_of}
 use Rattle.gw_stream.proofs.parcel.parcels.Given as goal
 

@@ -1,5 +1,5 @@
 use Rattle.std.proofs.Common.{rules, ◌∙◌}
-use Rattle.gw_stream.specs.Bundled.{post}
+use Rattle.gw_stream.specs.own.Bundled.{post}
 use Rattle.gw_stream.proofs.Posting.{out_next, some_out_next}
 use Rattle.gw_stream.proofs.send.send_parcels.Goals as goal
 

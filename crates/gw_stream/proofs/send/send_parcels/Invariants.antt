@@ -1,6 +1,6 @@
 use Rattle.std.proofs.Common.{◌≡◌, false, length, map, take}
 use Rattle.std.specs.List.{list_any}
-use Rattle.gw_stream.specs.Bundled.{post}
+use Rattle.gw_stream.specs.own.Bundled.{post}
 use Rattle.gw_stream.specs.Posts.{SendsOut}
 use Rattle.gw_stream.proofs.send.send_parcels.Given as goal
 

@@ -2,7 +2,7 @@ use Rattle.std.proofs.Common.{◌≡◌, ◌-◌, false, length}
 use Rattle.std.specs.Arc.{arc_value}
 use Rattle.std.specs.List.{list_any}
 use Rattle.gw_plan.specs.Held.{plan_value}
-use Rattle.gw_stream.specs.Bundled.{ServesSoFar}
+use Rattle.gw_stream.specs.own.Bundled.{ServesSoFar}
 use Rattle.gw_stream.specs.Posts.{known}
 use Rattle.gw_stream.specs.Walked.{place}
 use Rattle.gw_stream.proofs.stream.serve_once.Given as goal

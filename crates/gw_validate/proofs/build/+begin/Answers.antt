@@ -1,9 +1,9 @@
 use Rattle.std.proofs.Common.{sym, ap, ◌∙◌}
 use Rattle.gw_profile.specs.declared.shape.Card.{Card}
-use Rattle.gw_validate.specs.Residual.{has_room}
+use Rattle.gw_validate.specs.own.Residual.{has_room}
 use Rattle.gw_profile.specs.Seen.{forest}
 use Rattle.gw_profile.specs.Nodes.{card_of}
-use Rattle.gw_validate.specs.Tests.{can_begin, node_begins}
+use Rattle.gw_validate.specs.own.Tests.{can_begin, node_begins}
 use Rattle.gw_validate.proofs.Walking.{begins_group}
 use Rattle.gw_validate.proofs.build.+begin.Goals as goal
 

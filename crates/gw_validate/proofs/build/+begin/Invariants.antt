@@ -1,6 +1,6 @@
 use Rattle.std.proofs.Common.{◌≡◌, drop}
 use Rattle.gw_profile.specs.Seen.{forest}
-use Rattle.gw_validate.specs.Tests.{can_begin}
+use Rattle.gw_validate.specs.own.Tests.{can_begin}
 use Rattle.gw_validate.proofs.build.+begin.Given as goal
 
 abbrev pub invariant-can_begin-loop-node : goal.invariant-can_begin-loop-node

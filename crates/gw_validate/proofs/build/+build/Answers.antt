@@ -3,7 +3,7 @@ use Rattle.std.proofs.lemmas.Result.{IfOk-from_err}
 use Rattle.gw_profile.specs.Shapes.{nothing}
 use Rattle.gw_validate.specs.declared.occurrences.Found.{Found}
 use Rattle.gw_validate.specs.declared.occurrences.Occurrences.{Occurrences}
-use Rattle.gw_validate.specs.Building.{GoGroups, GoNodes}
+use Rattle.gw_validate.specs.own.Building.{GoGroups, GoNodes}
 use Rattle.gw_validate.specs.Conforming.{named}
 use Rattle.gw_profile.specs.Seen.{forest}
 use Rattle.gw_validate.specs.Occurring.{tree_of, trees_of}

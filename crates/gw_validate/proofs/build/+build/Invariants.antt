@@ -1,5 +1,5 @@
 use Rattle.std.proofs.Common.{length, take, drop}
-use Rattle.gw_validate.specs.Building.{GoGroups, GoNodes}
+use Rattle.gw_validate.specs.own.Building.{GoGroups, GoNodes}
 use Rattle.gw_profile.specs.Seen.{forest}
 use Rattle.gw_validate.specs.Occurring.{tree_of, trees_of}
 use Rattle.gw_validate.specs.Conforming.{named}

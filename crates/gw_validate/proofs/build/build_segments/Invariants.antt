@@ -1,6 +1,6 @@
 use Rattle.gw_profile.specs.Seen.{segment_value}
 use Rattle.std.proofs.Common.{length}
-use Rattle.gw_validate.specs.Building.{GoSegments}
+use Rattle.gw_validate.specs.own.Building.{GoSegments}
 use Rattle.gw_validate.specs.Conforming.{named}
 use Rattle.gw_validate.proofs.build.build_segments.Given as goal
 

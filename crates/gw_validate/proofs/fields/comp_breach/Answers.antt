@@ -1,7 +1,7 @@
 use Rattle.gw_profile.specs.Seen.{comp, profile_value}
 use Rattle.std.proofs.Common.{refl, sym, subst, Some}
 use Rattle.gw_validate.specs.declared.fields.Spot.{Spot}
-use Rattle.gw_validate.specs.Least.{Least, comp_key}
+use Rattle.gw_validate.specs.own.Least.{Least, comp_key}
 use Rattle.gw_validate.specs.Breaches.{CompBreach}
 use Rattle.gw_validate.proofs.Breaches.{absent_comp_least, forbidden_comp_least, subs_comp_least}
 use Rattle.gw_validate.proofs.fields.comp_breach.Goals as goal

@@ -1,6 +1,6 @@
 use Rattle.gw_profile.specs.Seen.{comp, profile_value}
 use Rattle.std.proofs.Common.{take, map}
-use Rattle.gw_validate.specs.Least.{NoneYet}
+use Rattle.gw_validate.specs.own.Least.{NoneYet}
 use Rattle.gw_validate.specs.Breaches.{CompBreach}
 use Rattle.gw_validate.proofs.fields.comps_breach.Given as goal
 

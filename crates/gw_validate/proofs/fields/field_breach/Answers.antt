@@ -1,7 +1,7 @@
 use Rattle.gw_profile.specs.Seen.{field, profile_value}
 use Rattle.std.proofs.Common.{refl, sym, subst, Some}
 use Rattle.gw_validate.specs.declared.fields.Spot.{Spot}
-use Rattle.gw_validate.specs.Least.{Least, field_key}
+use Rattle.gw_validate.specs.own.Least.{Least, field_key}
 use Rattle.gw_validate.specs.Breaches.{FieldBreach}
 use Rattle.gw_validate.proofs.Breaches.{forbidden_absent, forbidden_present, few_least, reps_field_least}
 use Rattle.gw_validate.proofs.fields.field_breach.Goals as goal

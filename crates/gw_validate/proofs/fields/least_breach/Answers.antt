@@ -1,7 +1,7 @@
 use Rattle.gw_profile.specs.Seen.{field, profile_value}
 use Rattle.gw_validate.specs.Breaches.{FieldBreach}
 use Rattle.gw_validate.proofs.Breaches.{any_least, any_more, any_none, all_at}
-use Rattle.gw_validate.specs.Least.{FieldRises}
+use Rattle.gw_validate.specs.own.Least.{FieldRises}
 use Rattle.gw_validate.proofs.fields.least_breach.Goals as goal
 
 pub returns-in-Some : goal.returns-in-Some

@@ -1,6 +1,6 @@
 use Rattle.gw_profile.specs.Seen.{field, profile_value}
 use Rattle.std.proofs.Common.{take, map}
-use Rattle.gw_validate.specs.Least.{NoneYet}
+use Rattle.gw_validate.specs.own.Least.{NoneYet}
 use Rattle.gw_validate.specs.Breaches.{FieldBreach}
 use Rattle.gw_validate.proofs.fields.least_breach.Given as goal
 

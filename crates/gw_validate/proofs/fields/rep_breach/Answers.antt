@@ -1,7 +1,7 @@
 use Rattle.gw_profile.specs.Seen.{field, profile_value}
 use Rattle.std.proofs.Common.{sym, subst, Some}
 use Rattle.gw_validate.specs.declared.fields.Spot.{Spot}
-use Rattle.gw_validate.specs.Least.{Least, rep_key}
+use Rattle.gw_validate.specs.own.Least.{Least, rep_key}
 use Rattle.gw_validate.specs.Breaches.{RepBreach}
 use Rattle.gw_validate.proofs.Breaches.{full_least, comps_rep_least}
 use Rattle.gw_validate.proofs.fields.rep_breach.Goals as goal

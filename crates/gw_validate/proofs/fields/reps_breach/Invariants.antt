@@ -1,6 +1,6 @@
 use Rattle.std.proofs.Common.{◌≤◌, ◌-◌}
 use Rattle.gw_profile.specs.Seen.{field, profile_value}
-use Rattle.gw_validate.specs.Least.{RepsGoing}
+use Rattle.gw_validate.specs.own.Least.{RepsGoing}
 use Rattle.gw_validate.proofs.fields.reps_breach.Given as goal
 
 abbrev pub invariant-loop-found : goal.invariant-loop-found

@@ -1,7 +1,7 @@
 use Rattle.gw_profile.specs.Seen.{sub, profile_value}
 use Rattle.std.proofs.Common.{take, map}
 use Rattle.gw_er7.specs.Message.{text_of}
-use Rattle.gw_validate.specs.Least.{NoneYet}
+use Rattle.gw_validate.specs.own.Least.{NoneYet}
 use Rattle.gw_validate.specs.Breaches.{SubBreach}
 use Rattle.gw_validate.proofs.fields.subs_breach.Given as goal
 

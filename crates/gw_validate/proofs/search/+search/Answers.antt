@@ -4,9 +4,9 @@ use Rattle.gw_profile.specs.Seen.{forest, profile_value}
 use Rattle.gw_validate.specs.declared.occurrences.Occurrences.{Occurrences}
 use Rattle.gw_validate.specs.Trees.{leaf, flatten}
 use Rattle.gw_validate.specs.Occurring.{tree_of, trees_of, occurrences_tree}
-use Rattle.gw_validate.specs.Least.{BreachAt, found_at}
+use Rattle.gw_validate.specs.own.Least.{BreachAt, found_at}
 use Rattle.gw_validate.proofs.Searching.{groups_within, groups_some, groups_none, group_rises, group_within, group_node, nodes_rise, nodes_within, nodes_some, nodes_none, nodes_over, weight_group, weight_one, weight_groups}
-use Rattle.gw_validate.specs.Joining.{weight, weight_all}
+use Rattle.gw_validate.specs.own.Joining.{weight, weight_all}
 use Rattle.gw_validate.proofs.search.+search.Goals as goal
 
 pub search_groups-search_nodes-requires : goal.search_groups-search_nodes-requires

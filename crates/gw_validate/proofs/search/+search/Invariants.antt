@@ -3,8 +3,8 @@ use Rattle.std.specs.List.{AllByRecursion}
 use Rattle.gw_profile.specs.Seen.{forest, profile_value}
 use Rattle.gw_validate.specs.Trees.{leaf, flatten, flatten_all, assigned, assigned_all}
 use Rattle.gw_validate.specs.Occurring.{tree_of, trees_of, occurrences_tree}
-use Rattle.gw_validate.specs.Least.{EachRises, Searched, BreachAt}
-use Rattle.gw_validate.specs.Joining.{weight, weight_all}
+use Rattle.gw_validate.specs.own.Least.{EachRises, Searched, BreachAt}
+use Rattle.gw_validate.specs.own.Joining.{weight, weight_all}
 use Rattle.gw_validate.proofs.search.+search.Given as goal
 
 abbrev pub invariant-search_groups-loop-group : goal.invariant-search_groups-loop-group

@@ -1,6 +1,6 @@
 use Rattle.std.proofs.Common.{length, map}
 use Rattle.gw_profile.specs.Seen.{field, profile_value}
-use Rattle.gw_validate.specs.Least.{segment_key}
+use Rattle.gw_validate.specs.own.Least.{segment_key}
 use Rattle.gw_validate.proofs.Searching.{any_default, segments_some, segments_none, within_at}
 use Rattle.gw_validate.proofs.search.search_segments.Goals as goal
 

@@ -1,7 +1,7 @@
 use Rattle.std.proofs.Common.{◌<◌, length, map, drop, Option, ℕ, List}
 use Rattle.std.specs.List.{AllByRecursion}
 use Rattle.gw_profile.specs.Seen.{field, profile_value}
-use Rattle.gw_validate.specs.Least.{Searched, BreachAt}
+use Rattle.gw_validate.specs.own.Least.{Searched, BreachAt}
 use Rattle.gw_validate.proofs.search.search_segments.Given as goal
 
 abbrev pub invariant-loop-number : goal.invariant-loop-number

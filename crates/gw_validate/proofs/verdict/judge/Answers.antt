@@ -3,10 +3,10 @@ use Rattle.std.proofs.lemmas.Result.{IfOk-from_err}
 use Rattle.gw_profile.specs.declared.node.Node.{Node}
 use Rattle.gw_profile.specs.Seen.{forest, profile_value}
 use Rattle.gw_validate.specs.declared.walk.Answer.TheVariants as answer
-use Rattle.gw_validate.specs.Answers.{Answers}
+use Rattle.gw_validate.specs.own.Answers.{Answers}
 use Rattle.gw_validate.specs.Conforming.{named, numbers}
 use Rattle.gw_validate.specs.Broken.{sequence}
-use Rattle.gw_validate.specs.Least.{segment_key}
+use Rattle.gw_validate.specs.own.Least.{segment_key}
 use Rattle.gw_validate.specs.declared.fields.Spot.{Spot}
 use Rattle.gw_validate.proofs.Searching.{any_default}
 use Rattle.gw_validate.proofs.Deciding.{names_fit, order_judged, order_within, missing_judged, not_conforming}

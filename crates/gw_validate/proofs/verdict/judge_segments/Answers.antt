@@ -8,7 +8,7 @@ use Rattle.gw_validate.specs.Cuts.{Fits}
 use Rattle.gw_validate.specs.Occurring.{tree_of}
 use Rattle.gw_validate.specs.Trees.{IsTree, flatten}
 use Rattle.gw_validate.specs.Conforming.{named}
-use Rattle.gw_validate.specs.Least.{EachRises, segment_key}
+use Rattle.gw_validate.specs.own.Least.{EachRises, segment_key}
 use Rattle.gw_validate.specs.Broken.{sequence}
 use Rattle.gw_validate.proofs.Lawful.{each_rises}
 use Rattle.gw_validate.proofs.Deciding.{taken_fit, all_within, fits_judged, segment_judged, not_conforming}

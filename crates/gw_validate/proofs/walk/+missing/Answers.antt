@@ -1,5 +1,5 @@
 use Rattle.std.proofs.Common.{sym, ap, ◌∙◌}
-use Rattle.gw_validate.specs.Shortest.{head, shortest, shortest_node}
+use Rattle.gw_validate.specs.own.Shortest.{head, shortest, shortest_node}
 use Rattle.gw_profile.specs.Seen.{forest}
 use Rattle.gw_validate.proofs.Walking.{shortest_node_group}
 use Rattle.gw_validate.proofs.Joined.{head_several}

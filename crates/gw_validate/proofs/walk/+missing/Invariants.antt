@@ -1,5 +1,5 @@
 use Rattle.std.proofs.Common.{◌≡◌, drop}
-use Rattle.gw_validate.specs.Shortest.{head, shortest}
+use Rattle.gw_validate.specs.own.Shortest.{head, shortest}
 use Rattle.gw_profile.specs.Seen.{forest}
 use Rattle.gw_validate.proofs.walk.+missing.Given as goal
 

@@ -1,6 +1,6 @@
 use Rattle.std.proofs.Common.{◌≡◌, ◌+◌, ◌*◌, drop}
 use Rattle.gw_profile.specs.declared.node.Node.{size-Node}
-use Rattle.gw_validate.specs.Residual.{after_name}
+use Rattle.gw_validate.specs.own.Residual.{after_name}
 use Rattle.gw_profile.specs.Seen.{forest}
 use Rattle.gw_profile.specs.Deterministic.{Optional}
 use Rattle.gw_validate.proofs.walk.+take.Given as goal

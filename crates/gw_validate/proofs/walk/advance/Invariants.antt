@@ -1,6 +1,6 @@
 use Rattle.std.proofs.Common.{◌≡◌, vec_len}
-use Rattle.gw_validate.specs.Residual.{after_name}
-use Rattle.gw_validate.specs.State.{stack_on}
+use Rattle.gw_validate.specs.own.Residual.{after_name}
+use Rattle.gw_validate.specs.own.State.{stack_on}
 use Rattle.gw_profile.specs.Shapes.{nothing}
 use Rattle.gw_validate.proofs.walk.advance.Given as goal
 

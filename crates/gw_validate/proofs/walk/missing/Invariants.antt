@@ -1,6 +1,6 @@
 use Rattle.std.proofs.Common.{◌≡◌, vec_len}
-use Rattle.gw_validate.specs.Shortest.{head, shortest}
-use Rattle.gw_validate.specs.State.{stack_on}
+use Rattle.gw_validate.specs.own.Shortest.{head, shortest}
+use Rattle.gw_validate.specs.own.State.{stack_on}
 use Rattle.gw_profile.specs.Shapes.{nothing}
 use Rattle.gw_validate.proofs.walk.missing.Given as goal
 

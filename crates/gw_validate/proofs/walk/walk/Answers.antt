@@ -1,5 +1,5 @@
 use Rattle.std.proofs.Common.{sym}
-use Rattle.gw_validate.proofs.Walked.{out_of_order, goes_on, at_end, complete, incomplete}
+use Rattle.gw_validate.proofs.Passed.{out_of_order, goes_on, at_end, complete, incomplete}
 use Rattle.gw_profile.specs.Deterministic.{NoName}
 use Rattle.gw_validate.proofs.walk.walk.Goals as goal
 

@@ -1,6 +1,6 @@
 use Rattle.std.proofs.Common.{◌≡◌, take, Some}
 use Rattle.gw_profile.specs.Seen.{forest}
-use Rattle.gw_validate.specs.State.{stack_on}
+use Rattle.gw_validate.specs.own.State.{stack_on}
 use Rattle.gw_profile.specs.Shapes.{nothing}
 use Rattle.gw_validate.proofs.Runs.{left}
 use Rattle.gw_validate.proofs.walk.walk.Given as goal

@@ -9,7 +9,7 @@ use Rattle.gw_gate.specs.Seen.{Conforming, plan_seen, conforming_seen}
 use Rattle.gw_gate.specs.Journal.{WasAccepted, pair, current}
 use Rattle.gw_gate.specs.Replies.{Arrives, IsAccepted, reply_to}
 use Rattle.gw_gate.specs.Values.{entries_seen, pair_seen}
-use Rattle.gw_gate.specs.Desks.{desk_at, due_to}
+use Rattle.gw_gate.specs.own.Desks.{desk_at, due_to}
 use Rattle.gw_gate.proofs.Standing.{due_below}
 use Rattle.gw_gate.proofs.Fitting.{fits_more, fits_accepted, fits_roomier}
 use Rattle.gw_gate.proofs.Accounts.{number_is, accept_is, room_left}

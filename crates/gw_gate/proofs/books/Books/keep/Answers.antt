@@ -6,7 +6,7 @@ use Rattle.gw_gate.specs.Seen.{plan_seen, translated_seen}
 use Rattle.gw_gate.specs.Replies.{Puts, reply_to, IsKept}
 use Rattle.gw_gate.specs.Journal.{is_due, WasKept}
 use Rattle.gw_gate.specs.Values.{entries_seen}
-use Rattle.gw_gate.specs.Desks.{desk_at}
+use Rattle.gw_gate.specs.own.Desks.{desk_at}
 use Rattle.gw_gate.proofs.Fitting.{fits_more, fits_kept}
 use Rattle.gw_gate.proofs.Accounts.{kept_waits}
 use Rattle.gw_gate.proofs.Answering.{full}

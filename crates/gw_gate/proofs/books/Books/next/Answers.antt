@@ -6,7 +6,7 @@ use Rattle.gw_gate.specs.Parts.{ConformingSeen}
 use Rattle.gw_gate.specs.Seen.{Conforming, plan_seen, conforming_seen}
 use Rattle.gw_gate.specs.Values.{entries_seen, pair_seen}
 use Rattle.gw_gate.specs.Replies.{Takes, reply_to}
-use Rattle.gw_gate.specs.Books.{job_reply, next_job}
+use Rattle.gw_gate.specs.own.Books.{job_reply, next_job}
 use Rattle.gw_gate.proofs.Accounts.{job_is}
 use Rattle.gw_gate.proofs.books.Books.next.Goals as goal
 

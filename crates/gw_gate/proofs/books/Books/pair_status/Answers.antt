@@ -4,7 +4,7 @@ use Rattle.gw_reorder.specs.Calls.{status_of}
 use Rattle.gw_gate.specs.Seen.{plan_seen}
 use Rattle.gw_gate.specs.Values.{entries_seen}
 use Rattle.gw_gate.specs.Replies.{Reissues, reply_to}
-use Rattle.gw_gate.specs.Desks.{desk_at}
+use Rattle.gw_gate.specs.own.Desks.{desk_at}
 use Rattle.gw_gate.proofs.Accounts.{reissue_is}
 use Rattle.gw_gate.proofs.books.Books.pair_status.Goals as goal
 

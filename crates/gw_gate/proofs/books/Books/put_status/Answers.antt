@@ -6,7 +6,7 @@ use Rattle.gw_gate.specs.Parts.{same_source}
 use Rattle.gw_gate.specs.Seen.{plan_seen, conforming_seen, translated_seen}
 use Rattle.gw_gate.specs.Values.{entries_seen}
 use Rattle.gw_gate.specs.Replies.{Puts, reply_to}
-use Rattle.gw_gate.specs.Desks.{desk_at}
+use Rattle.gw_gate.specs.own.Desks.{desk_at}
 use Rattle.gw_gate.proofs.Accounts.{put_is, put_other}
 use Rattle.gw_gate.proofs.books.Books.put_status.Goals as goal
 

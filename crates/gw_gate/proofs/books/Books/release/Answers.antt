@@ -4,7 +4,7 @@ use Rattle.gw_gate.specs.declared.event.Entry as entry
 use Rattle.gw_gate.specs.Seen.{plan_seen, translated_seen}
 use Rattle.gw_gate.specs.Replies.{Releases, reply_to, IsOut, IsNothing}
 use Rattle.gw_gate.specs.Values.{entries_seen}
-use Rattle.gw_gate.specs.Desks.{desk_at}
+use Rattle.gw_gate.specs.own.Desks.{desk_at}
 use Rattle.gw_gate.proofs.Fitting.{fits_more, fits_out}
 use Rattle.gw_gate.proofs.Accounts.{out_next}
 use Rattle.gw_gate.proofs.Answering.{full, plain}

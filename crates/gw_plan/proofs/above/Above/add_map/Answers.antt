@@ -1,7 +1,7 @@
 use Rattle.std.proofs.Common.{◌≡◌, ◌∙◌, ap, map, List, sym, subst}
 use Rattle.std.specs.Arc.{arc_value}
 use Rattle.gw_maplang.specs.Seen as maps
-use Rattle.gw_check.specs.CheckedMap.{CheckedValue}
+use Rattle.gw_check.specs.Kept.{CheckedValue}
 use Rattle.gw_plan.specs.Above.{AboveHeld, BeginsAt, profiles_of, maps_of, with_map, named_map}
 use Rattle.gw_plan.proofs.Standing.{map_put, map_kept, one_more}
 use Rattle.gw_plan.proofs.above.Above.add_map.Goals as goal

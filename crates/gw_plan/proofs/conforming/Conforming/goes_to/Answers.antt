@@ -3,7 +3,7 @@ use Rattle.std.specs.List.{list_any}
 use Rattle.std.specs.Prelude.{nat_eq}
 use Rattle.gw_plan.specs.Shapes.{RouteValue}
 use Rattle.gw_plan.specs.Held.{route_value}
-use Rattle.gw_plan.proofs.Receivable.{of_receiver}
+use Rattle.gw_plan.proofs.Reachable.{of_receiver}
 use Rattle.gw_plan.proofs.Routes.{any_legs, ok_same}
 use Rattle.gw_plan.proofs.conforming.Conforming.goes_to.Goals as goal
 

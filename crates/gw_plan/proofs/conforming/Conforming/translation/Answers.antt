@@ -1,6 +1,6 @@
 use Rattle.std.proofs.Common.{◌∙◌, ap, Some}
 use Rattle.gw_profile.specs.Seen.{profile_value}
-use Rattle.gw_check.specs.CheckedMap.{CheckedValue}
+use Rattle.gw_check.specs.Kept.{CheckedValue}
 use Rattle.gw_plan.specs.Admitted.{ConformingHeld}
 use Rattle.gw_plan.proofs.Sendings.{sends}
 use Rattle.gw_plan.proofs.conforming.Conforming.translation.Goals as goal

@@ -4,11 +4,11 @@ use Rattle.std.specs.Option.{option_map, IfSome}
 use Rattle.std.specs.Arc.{arc_value}
 use Rattle.std.proofs.lemmas.Slice.Eq.{bytes_eq-Decides}
 use Rattle.gw_profile.specs.Seen as profiles
-use Rattle.gw_check.specs.CheckedMap.{CheckedValue}
+use Rattle.gw_check.specs.Kept.{CheckedValue}
 use Rattle.gw_plan.specs.Shapes.{RouteValue}
 use Rattle.gw_plan.specs.Held.{RouteHeld, IsNewLeg, map_between, route_value, longer}
 use Rattle.gw_plan.specs.Above.{profiles_of}
-use Rattle.gw_plan.specs.Drafted.{draft_value, StandsAmong}
+use Rattle.gw_plan.specs.own.SoFar.{draft_value, StandsAmong}
 use Rattle.gw_plan.proofs.Routes.{any_legs}
 use Rattle.gw_plan.proofs.Leading.{again, no_map, wrong_map, leads, same_source, longer_value}
 use Rattle.gw_plan.proofs.draft.Draft.leg.Goals as goal

@@ -5,7 +5,7 @@ use Rattle.gw_profile.specs.Seen as profiles
 use Rattle.gw_profile.specs.Seen.{profile_value}
 use Rattle.gw_plan.specs.Held.{RouteHeld}
 use Rattle.gw_plan.specs.Above.{profiles_of}
-use Rattle.gw_plan.specs.Drafted.{StandsAmong}
+use Rattle.gw_plan.specs.own.SoFar.{StandsAmong}
 use Rattle.gw_plan.proofs.Leading.{stands_named}
 use Rattle.gw_plan.proofs.draft.Draft.open_route.Goals as goal
 

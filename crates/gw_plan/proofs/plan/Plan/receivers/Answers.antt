@@ -1,7 +1,7 @@
 use Rattle.std.proofs.Common.{subst}
 use Rattle.gw_plan.specs.Held.{PlanHeld, plan_value}
 use Rattle.gw_plan.specs.Within.{IsWithin}
-use Rattle.gw_plan.proofs.Receivable.{spelled_within}
+use Rattle.gw_plan.proofs.Reachable.{spelled_within}
 use Rattle.gw_plan.proofs.plan.Plan.receivers.Goals as goal
 
 pub returns-clause-within : goal.returns-clause-within

@@ -3,7 +3,7 @@ use Rattle.std.specs.List.{list_any}
 use Rattle.std.specs.Prelude.{nat_eq}
 use Rattle.std.specs.Arc.{arc_value}
 use Rattle.gw_profile.specs.Seen.{profile_value}
-use Rattle.gw_check.specs.CheckedMap.{CheckedValue}
+use Rattle.gw_check.specs.Kept.{CheckedValue}
 use Rattle.gw_plan.specs.Held.{RouteHeld, IsRoute, longer}
 use Rattle.gw_plan.proofs.Routes.{leg_put, route_longer}
 use Rattle.gw_plan.proofs.route.Route.add_leg.Goals as goal

@@ -1,7 +1,7 @@
 use Rattle.std.proofs.Common.{◌∙◌, sym, ap, subst, map, List}
 use Rattle.gw_profile.specs.Shapes.{TableValue}
 use Rattle.gw_profile.specs.Seen.{table, said}
-use Rattle.gw_profile.specs.Building.{built_value}
+use Rattle.gw_profile.specs.own.Building.{built_value}
 use Rattle.gw_profile.specs.WellFormed.{WellFormed}
 use Rattle.gw_profile.proofs.WellFormed.{whole_is}
 use Rattle.gw_profile.proofs.reader.ReaderForm.finish.Goals as goal

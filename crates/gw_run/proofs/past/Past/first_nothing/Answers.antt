@@ -1,7 +1,7 @@
 use Rattle.std.proofs.Common.{◌∙◌, ap}
 use Rattle.gw_gate.specs.Replies.{Releases, reply_to}
 use Rattle.gw_run.specs.Settled.{is_nothing, until}
-use Rattle.gw_run.specs.Joins.{of_receiver}
+use Rattle.gw_run.specs.own.Joins.{of_receiver}
 use Rattle.gw_run.proofs.past.Past.first_nothing.Goals as goal
 
 pub returns : goal.returns

@@ -4,7 +4,7 @@ use Rattle.std.proofs.lemmas.Option.{none-some}
 use Rattle.std.specs.Arc.{arc_value}
 use Rattle.gw_gate.specs.Parts.{PlanSeen, is_under}
 use Rattle.gw_gate.specs.Seen.{plan_seen, conforming_seen}
-use Rattle.gw_run.specs.Joins.{plans_at}
+use Rattle.gw_run.specs.own.Joins.{plans_at}
 use Rattle.gw_run.proofs.Fitting.{suits, suits_from, suits_never, some_is}
 use Rattle.gw_run.proofs.past.Past.first_stale.Goals as goal
 

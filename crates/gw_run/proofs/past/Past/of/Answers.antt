@@ -4,7 +4,7 @@ use Rattle.gw_gate.specs.Seen.{plan_seen}
 use Rattle.gw_gate.specs.Values.{entries_seen}
 use Rattle.gw_gate.proofs.Entering.{as_long}
 use Rattle.gw_run.specs.Gathers.{is_idle_after, is_nothing_after, swaps_in}
-use Rattle.gw_run.specs.Joins.{of_receiver}
+use Rattle.gw_run.specs.own.Joins.{of_receiver}
 use Rattle.gw_run.specs.Turns.{CountsTo, TurnsTo}
 use Rattle.gw_run.proofs.Ordering.{ordered}
 use Rattle.gw_run.proofs.Telling.{tells_plans, tells_idle, tells_nothing}

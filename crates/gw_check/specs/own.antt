@@ -1,0 +1,5 @@
+-- The program's own words: no public contract rests on them.
+pub mod Uses
+pub mod Lacking
+pub mod ItemByItem
+pub mod Seen

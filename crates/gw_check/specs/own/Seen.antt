@@ -1,0 +1,190 @@
+-- The failures and the reads of the definitions, of parts as the program holds them.
+use Rattle.std.specs.Prelude.{◌≡◌, Bool, ℕ, ◌&&◌, ◌||◌, not, List, [], ◌∷◌, ◌++◌, map, flat_map, Option, option_map}
+use Rattle.std.specs.Global.{Vec}
+use denote.Ref.{Bor}
+use Rattle.gw_profile.specs.declared.shape.SubShape.{SubShape}
+use Rattle.gw_profile.specs.declared.shape.CompShape.{CompShape}
+use Rattle.gw_profile.specs.declared.shape.FieldShape.{FieldShape}
+use Rattle.gw_profile.specs.Shapes.{SubValue, CompValue, FieldValue, Forest}
+use Rattle.gw_profile.specs.Lengths.{octets}
+use Rattle.gw_profile.specs.Seen as profiles
+use Rattle.gw_profile.specs.Seen.{sub as sub_value, field as field_value, profile_value}
+use Rattle.gw_maplang.specs.Seen.{map_value}
+use Rattle.gw_maplang.specs.Shapes.{TableValue, Rows}
+use Rattle.gw_validate.specs.Breaches.{is_null}
+use Rattle.gw_resolve.specs.declared.interval.Interval as intervals
+use Rattle.gw_resolve.specs.declared.resolved.Reference.{Reference}
+use Rattle.gw_resolve.specs.declared.resolved.Source.{Source}
+use Rattle.gw_resolve.specs.declared.resolved.Leaf.{Leaf}
+use Rattle.gw_resolve.specs.declared.resolved.At.{At}
+use Rattle.gw_resolve.specs.declared.resolved.Making.{Making}
+use Rattle.gw_resolve.specs.declared.resolved.Rule.{Rule}
+use Rattle.gw_resolve.specs.declared.resolved.SegmentItem.{SegmentItem}
+use Rattle.gw_resolve.specs.declared.resolved.Item.{Item}
+use Rattle.gw_resolve.specs.declared.resolved.LeftOut.{LeftOut}
+use Rattle.gw_resolve.specs.Failures.{Failure, fails}
+use Rattle.gw_resolve.specs.Intervals.{Interval}
+use Rattle.gw_resolve.specs.Resolved as resolved
+use Rattle.gw_resolve.specs.Resolved.{no_items}
+use Rattle.gw_resolve.specs.Seen.{interval, saturated, place, reference, source, leaf, at_leaf, making, rule, with_item, all_items, left_out}
+use Rattle.gw_check.specs.declared.inside.Sides.{Sides}
+use Rattle.gw_check.specs.declared.often.Asked.{Asked}
+use Rattle.gw_check.specs.declared.shape.Presence.{Presence}
+use Rattle.gw_check.specs.declared.sources.Sources.{Sources}
+use Rattle.gw_check.specs.declared.texts.Texts.{Texts}
+use Rattle.gw_check.specs.Answers.{unlabelled}
+use Rattle.gw_check.specs.Collected.{positions}
+use Rattle.gw_check.specs.Counts as counts
+use Rattle.gw_check.specs.Fields as spec
+use Rattle.gw_check.specs.Leaves.{Values, listed, is_absent, leaf_shape, may_be_unlisted, may_be_long}
+use Rattle.gw_check.specs.own.Uses.{sources_value, map_tables, some_comp, some_field, some_rule, some_sub, leaves_value, rules_value}
+use Rattle.gw_check.specs.Reads as reads
+use Rattle.gw_check.specs.Reads.{SourceField}
+use Rattle.gw_check.specs.Texts.{texts_value, rows_value}
+use Rattle.gw_check.specs.Typed as typed
+use Rattle.gw_check.specs.Unread as unread
+
+-- ---- a subcomponent
+
+-- what can stand there has another value than the table's
+abbrev pub table_failures : profiles.Contents → ℕ → Presence → Texts → SubShape → List Failure
+table_failures to line presence texts sub = fails 6 line (not (is_absent presence) && may_be_unlisted (texts_value texts) (spec.table_values to.tables (sub_value sub)))
+
+-- it is too long
+abbrev pub length_failures : ℕ → Presence → Texts → SubShape → List Failure
+length_failures line presence texts sub = fails 7 line (not (is_absent presence) && may_be_long octets (texts_value texts) sub.len)
+
+-- one of the two
+abbrev pub value_failures : profiles.Contents → ℕ → Presence → Texts → SubShape → List Failure
+value_failures to line presence texts sub =
+    spec.value_failures (profile_value to) line (record { presence = presence; values = texts_value texts }) (sub_value sub)
+
+-- a value may be missing from the table, or be too long
+abbrev pub may_break : profiles.Contents → Values → SubShape → Bool
+may_break to values sub = may_be_unlisted values (spec.table_values to.tables (sub_value sub)) || may_be_long octets values sub.len
+
+-- ---- how often something comes
+
+-- of what is asked, where it comes so often
+abbrev pub often_failures : Asked → Interval → List Failure
+often_failures asked count = spec.often_failures asked.holder asked.line count asked.usage asked.card asked.is_missing
+
+-- ---- copied fields
+
+-- of a target subcomponent that is copied from this component
+abbrev pub copied_sub : profiles.Contents → profiles.Contents → ℕ → Option (Bor CompShape) → SubValue → List Failure
+copied_sub from to line c = spec.copied_sub (profile_value from) (profile_value to) line (some_comp c)
+
+-- of a target component that is copied from this field
+abbrev pub copied_comp : profiles.Contents → profiles.Contents → ℕ → Option (Bor FieldShape) → CompValue → List Failure
+copied_comp from to line f = spec.copied_comp (profile_value from) (profile_value to) line (some_field f)
+
+-- of a target field that is copied from this one
+abbrev pub copied_field : Sources → profiles.Contents → ℕ → Reference → FieldShape → List Failure
+copied_field s to line from target = spec.copied_field (sources_value s) (profile_value to) line (reference from) (field_value target)
+
+-- ---- fields made of leaves
+
+-- of a target component where these leaves are given
+abbrev pub made_comp : Sources → ℕ → List At → CompValue → List Failure
+made_comp s line leaves = spec.made_comp (sources_value s) line (leaves_value s leaves)
+
+-- of a constant; "" is exempt
+abbrev pub const_failures : profiles.Contents → ℕ → List ℕ → SubShape → List Failure
+const_failures to line text sub = fails 12 line (not (is_null text) && may_break to (listed (text ∷ [])) sub)
+
+-- of what a leaf reads
+abbrev pub source_failures : Sources → profiles.Contents → ℕ → Leaf → SubShape → List Failure
+source_failures s to line l sub = spec.value_failures (profile_value to) line (leaf_shape (sources_value s) (leaf (map_tables s) l)) (sub_value sub)
+
+-- of a leaf, also of a constant
+abbrev pub leaf_failures : Sources → profiles.Contents → ℕ → Leaf → SubShape → List Failure
+leaf_failures s to line l sub = spec.leaf_failures (sources_value s) (profile_value to) line (leaf (map_tables s) l) (sub_value sub)
+
+-- of a leaf at a place that the target may list
+abbrev pub placed : Sources → profiles.Contents → At → Option (Bor SubShape) → List Failure
+placed s to a sub = spec.placed (sources_value s) (profile_value to) a.line (leaf (map_tables s) a.leaf) (some_sub sub)
+
+-- of a leaf at its place in this target field
+abbrev pub made_leaf : Sources → profiles.Contents → FieldShape → resolved.At → List Failure
+made_leaf s to target = spec.made_leaf (sources_value s) (profile_value to) (field_value target)
+
+-- of a target field
+abbrev pub made_field : Sources → profiles.Contents → ℕ → List At → FieldShape → List Failure
+made_field s to line leaves target = spec.made_field (sources_value s) (profile_value to) line (leaves_value s leaves) (field_value target)
+
+-- ---- a field
+
+-- how often its rule gives it
+abbrev pub rule_count : Sources → Option (Bor Rule) → Interval
+rule_count s r = counts.rule_count (sources_value s) (some_rule (map_tables s) r)
+
+-- the program's count of that
+abbrev pub CountsRule : Sources → Option (Bor Rule) → intervals.Interval → Type 0
+CountsRule s r c = interval c ≡ saturated (rule_count s r)
+
+-- of what a rule makes
+abbrev pub making_failures : Sources → profiles.Contents → ℕ → Making → FieldShape → List Failure
+making_failures s to line m target = spec.making_failures (sources_value s) (profile_value to) line (making (map_tables s) m) (field_value target)
+
+-- of what its rule gives, where it gives something
+abbrev pub content_failures : Sources → profiles.Contents → FieldShape → Option (Bor Rule) → List Failure
+content_failures s to target r = spec.content_failures (sources_value s) (profile_value to) (field_value target) (some_rule (map_tables s) r)
+
+-- of a field with its rule, in a segment that an item at this line gives
+abbrev pub failures_by : Sources → profiles.Contents → ℕ → FieldShape → Option (Bor Rule) → List Failure
+failures_by s to holder target r =
+    spec.count_failures holder (rule_count s r) (field_value target) (some_rule (map_tables s) r) ++ content_failures s to target r
+
+-- of a field in a segment that an item at this line gives by these rules
+abbrev pub field_failures : Sources → profiles.Contents → ℕ → List Rule → FieldValue → List Failure
+field_failures s to holder rules = spec.field_failures (sources_value s) (profile_value to) holder (rules_value s rules)
+
+-- of all fields of the segment
+abbrev pub segment_failures : Sources → profiles.Contents → ℕ → List Rule → List FieldValue → List Failure
+segment_failures s to holder rules = spec.segment_failures (sources_value s) (profile_value to) holder (rules_value s rules)
+
+-- of a leaf that is looked up in these rows
+abbrev pub rows_failures : Sources → At → Option (Bor Rows) → Source → List Failure
+rows_failures s a rows from =
+    spec.lookup_failures (sources_value s) (record { line = a.line; comp = a.place.comp; sub = a.place.sub; leaf = resolved.looked_up (rows_value rows) (source from) })
+
+-- ---- a map
+
+-- of the rules 4 to 12
+abbrev pub failures : Sides → List Item → List LeftOut → List Failure
+failures s items drops = typed.failures (profile_value s.source.now) (profile_value s.target.now) (unlabelled (map_value s.map.now) items drops)
+
+-- ---- what is read
+
+abbrev pub leaves_read : List TableValue → List (Vec ℕ) → List At → List SourceField
+leaves_read tables scope leaves = flat_map (reads.at_reads (positions scope)) (map (at_leaf tables) leaves)
+
+abbrev pub making_reads : List TableValue → List (Vec ℕ) → Making → List SourceField
+making_reads tables scope m = reads.making_reads (positions scope) (making tables m)
+
+abbrev pub rules_read : List TableValue → List (Vec ℕ) → List Rule → List SourceField
+rules_read tables scope rules = reads.rules_read (positions scope) (map (rule tables) rules)
+
+abbrev pub segment_reads : List TableValue → List (Vec ℕ) → SegmentItem → List SourceField
+segment_reads tables scope s = reads.rules_read (reads.inner_if (positions scope) (option_map place s.place)) (map (rule tables) s.rules.items)
+
+abbrev pub item_reads : List TableValue → List (Vec ℕ) → Item → List SourceField
+item_reads tables scope i = reads.items_read (positions scope) (with_item tables i no_items)
+
+abbrev pub items_read : List TableValue → List (Vec ℕ) → List Item → List SourceField
+items_read tables scope items = reads.items_read (positions scope) (all_items tables items)
+
+-- from the top on
+abbrev pub all_read : List TableValue → List Item → List SourceField
+all_read tables items = reads.items_read ([] ∷ []) (all_items tables items)
+
+-- ---- what is passed over
+
+-- some field of these nodes
+abbrev pub some_passed_over : List TableValue → List Item → List LeftOut → Forest → Bool
+some_passed_over tables items drops nodes = reads.some_passed_over (all_read tables items) (map left_out drops) [] 0 nodes
+
+-- those fields
+abbrev pub passed_over : List TableValue → List Item → List LeftOut → Forest → List SourceField
+passed_over tables items drops nodes = unread.passed_over (all_read tables items) (map left_out drops) [] 0 nodes

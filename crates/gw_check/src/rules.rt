@@ -1,0 +1,200 @@
+//! The checker.
+ghost use Rattle.std.specs.Prelude.{◌≡◌, [], IfOk, IfErr, OnOk};
+ghost use Rattle.std.specs.Arc.{arc_value};
+ghost use Rattle.gw_profile.specs.Seen.{profile_value};
+ghost use Rattle.gw_profile.specs.WellFormed.{WellFormed};
+ghost use Rattle.gw_profile.specs.Shapes.{ProfileValue};
+ghost use Rattle.gw_maplang.specs.Seen.{map_value, Contents};
+ghost use Rattle.gw_maplang.specs.Shapes.{MapValue};
+ghost use Rattle.gw_check.specs.Answers.{Judges, UnlabelledIfAllowed, IsRefusal, IsTold};
+ghost use Rattle.gw_check.specs.Checked.{all_failures};
+ghost use Rattle.gw_resolve.specs.Noted.{Notes};
+ghost use Rattle.gw_resolve.specs.Seen.{failures as seen_failures};
+ghost use Rattle.gw_check.specs.own.Seen as seen;
+
+use crate::checked::CheckedMap;
+use crate::failure::least;
+use crate::inside::{Sides, check_items};
+use crate::labels::look_up;
+use crate::level::check_level;
+use crate::reads::passes_over;
+use gw_maplang::Map;
+use gw_profile::{Level, Profile};
+use gw_resolve::{Element, Failure, Item, LeftOut, Resolving, note};
+use std::alloc::{AllocError, Global};
+use std::sync::Arc;
+
+/// Why a map isn't checked. The map is handed back.
+#[derive(Drop)]
+pub enum CheckFault {
+    /// Want of memory.
+    Memory(Map),
+    /// The least rule that fails, at the least line where it fails.
+    Rule { rule: u8, line: u32, map: Map },
+}
+
+/// Why a map isn't checked, with all that fails. The map is handed back.
+#[derive(Drop)]
+pub enum Refusal {
+    /// Want of memory.
+    Memory(Map),
+    /// The least failure, and all of them in the order of the definition.
+    Rules {
+        least: Failure,
+        found: Vec<Failure>,
+        map: Map,
+    },
+}
+
+/// What the rules say of a map.
+#[derive(Drop)]
+struct Examined {
+    /// The failures.
+    found: Vec<Failure>,
+    /// The items without labels, where there is no failure.
+    items: Vec<Item>,
+}
+
+/// What a map is by the rules.
+#[derive(Drop)]
+enum Judged {
+    /// No rule fails, and these are its items without labels.
+    Allowed(Vec<Item>),
+    /// The least failure, and all.
+    Refused(Failure, Vec<Failure>),
+}
+
+// Adds the failures of the rules 4 to 12.
+fn add_failures(
+    alloc: Global,
+    found: &mut Vec<Failure>,
+    sides: Sides<'_, '_, '_>,
+    level: &Level<'_>,
+    items: &[Item],
+    drops: &[LeftOut],
+) -> Result<(), AllocError>
+    requires { level.now ≡ sides.source.now.nodes }
+    ensures source { WellFormed (profile_value sides.entry.source.now) }
+    ensures target { WellFormed (profile_value sides.entry.target.now) }
+    ensures found { OnOk result (Notes found.old found.new (seen.failures sides.entry items.now drops.now)) }
+{
+    let whole = sides.source.nodes();
+    let nodes = sides.target.nodes();
+    let scope = [Element::Whole(Some(level))];
+    check_level(alloc, found, &scope, sides.map.line(), nodes, items)?;
+    check_items(alloc, found, sides, &scope, nodes, items)?;
+    let passed = passes_over(alloc, whole, items, drops)?;
+    note(found, 9, sides.map.line(), passed)
+}
+
+// What the rules say of a map; 4 to 12 are looked at only where 1 to 3 hold.
+fn look(
+    alloc: Global,
+    source: &Profile,
+    target: &Profile,
+    map: &Map,
+) -> Result<Examined, AllocError>
+    ensures found { IfOk result (λ e. seen_failures e.found.items ≡ all_failures (profile_value source.now) (profile_value target.now) (map_value map.now)) }
+    ensures items { IfOk result (UnlabelledIfAllowed (profile_value source.now) (profile_value target.now) (map_value map.now)) }
+{
+    let from = Level::of(alloc, source)?;
+    let to = Level::of(alloc, target)?;
+    match look_up(alloc, source, target, &from, &to, map)? {
+        Resolving::Refused(found) => Ok(Examined {
+            found,
+            items: Vec::new(alloc),
+        }),
+        Resolving::Resolved(named) => {
+            let mut found = Vec::new(alloc);
+            let sides = Sides {
+                source,
+                target,
+                map,
+            };
+            add_failures(alloc, &mut found, sides, &from, &named.items, &named.drops)?;
+            Ok(Examined {
+                found,
+                items: named.items,
+            })
+        }
+    }
+}
+
+/// All failures of a map between two profiles, in the order of the definition; none where the map is allowed.
+///
+/// The rules 4 to 12 are looked at only where 1 to 3 hold. It takes time by the sizes of the profiles and the map. The one error is want of memory.
+pub fn failures(
+    alloc: Global,
+    source: &Profile,
+    target: &Profile,
+    map: &Map,
+) -> Result<Vec<Failure>, AllocError>
+    ensures { IfOk result (λ found. seen_failures found.items ≡ all_failures (profile_value source.now) (profile_value target.now) (map_value map.now)) }
+{
+    let examined = look(alloc, source, target, map)?;
+    Ok(examined.found)
+}
+
+// What a map is by the rules.
+fn judge(alloc: Global, source: &Profile, target: &Profile, map: &Map) -> Result<Judged, AllocError>
+    ensures { IfOk result (Judges (profile_value source.now) (profile_value target.now) (map_value map.now)) }
+{
+    let examined = look(alloc, source, target, map)?;
+    match least(&examined.found) {
+        Some(failure) => Ok(Judged::Refused(failure, examined.found)),
+        None => Ok(Judged::Allowed(examined.items)),
+    }
+}
+
+/// The map with its profiles, where no rule fails, and else all failures: what `check` and `failures` answer, by one look at the map.
+pub fn examine(
+    alloc: Global,
+    source: Arc<Profile>,
+    target: Arc<Profile>,
+    map: Map,
+) -> Result<CheckedMap, Refusal>
+    ensures allowed { IfOk result (λ c. all_failures (profile_value (arc_value source)) (profile_value (arc_value target)) (map_value map) ≡ []) }
+    ensures source { IfOk result (λ c. c.source ≡ arc_value source) }
+    ensures target { IfOk result (λ c. c.target ≡ arc_value target) }
+    ensures map { IfOk result (λ c. c.map ≡ map) }
+    ensures refused { IfErr result (IsTold (profile_value (arc_value source)) (profile_value (arc_value target)) (map_value map) map) }
+{
+    match judge(alloc, &source, &target, &map) {
+        Err(_) => Err(Refusal::Memory(map)),
+        Ok(Judged::Refused(least, found)) => Err(Refusal::Rules { least, found, map }),
+        Ok(Judged::Allowed(items)) => Ok(CheckedMap::of(source, target, map, items)),
+    }
+}
+
+// The least of what fails.
+fn least_of(refusal: Refusal) -> CheckFault
+    ensures { (from to : ProfileValue) (m : MapValue) (given : Contents) → IsTold from to m given refusal → IsRefusal from to m given result }
+{
+    match refusal {
+        Refusal::Memory(map) => CheckFault::Memory(map),
+        Refusal::Rules { least, map, .. } => CheckFault::Rule {
+            rule: least.rule,
+            line: least.line,
+            map,
+        },
+    }
+}
+
+/// The map with its profiles, where no rule fails: each message that conforms to the source has a translation that conforms to the target.
+pub fn check(
+    alloc: Global,
+    source: Arc<Profile>,
+    target: Arc<Profile>,
+    map: Map,
+) -> Result<CheckedMap, CheckFault>
+    ensures allowed { IfOk result (λ c. all_failures (profile_value (arc_value source)) (profile_value (arc_value target)) (map_value map) ≡ []) }
+    ensures source { IfOk result (λ c. c.source ≡ arc_value source) }
+    ensures target { IfOk result (λ c. c.target ≡ arc_value target) }
+    ensures map { IfOk result (λ c. c.map ≡ map) }
+    ensures refused { IfErr result (IsRefusal (profile_value (arc_value source)) (profile_value (arc_value target)) (map_value map) map) }
+{
+    match examine(alloc, source, target, map) {
+        Ok(checked) => Ok(checked),
+        Err(refusal) => Err(least_of(refusal)),
+    }
+}

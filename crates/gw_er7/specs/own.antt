@@ -1,0 +1,6 @@
+-- The program's own words: no public contract rests on them.
+pub mod Separators
+pub mod Gathered
+pub mod Ordered
+pub mod Layers
+pub mod Canonical

@@ -1,0 +1,51 @@
+-- The values between the separators of a segment's fields, one after the other. The reader's own words.
+use Rattle.std.specs.Prelude.{◌≡◌, ℕ, ◌+◌, ◌==◌, ◌||◌, Bool, false, true, if◌then◌else◌, List, [], ◌∷◌, ◌++◌, map, Option, MatchOption}
+use Rattle.std.specs.List.{All}
+use denote.Ref.{Bor}
+use Rattle.gw_er7.specs.declared.delimiters.Delimiters.{Delimiters}
+use Rattle.gw_er7.specs.Text.{canon}
+use Rattle.gw_er7.specs.Entries.{Entry}
+use Rattle.gw_er7.specs.View.{entries_of, held}
+use Rattle.gw_er7.specs.declared.fields.Scratch.{Scratch}
+
+-- those that cut fields, repetitions, components and subcomponents
+abbrev pub separators : Delimiters → List ℕ
+separators d = d.field ∷ d.repetition ∷ d.component ∷ d.subcomponent ∷ []
+
+abbrev pub is_separator : List ℕ → ℕ → Bool
+is_separator [] b = false
+is_separator (t ∷ ts) b = b == t || is_separator ts b
+
+-- the numbers behind a separator: its own is one more, and the lower ones begin again
+abbrev pub next_numbers : List ℕ → List ℕ → ℕ → List ℕ
+next_numbers [] ns b = ns
+next_numbers (t ∷ ts) [] b = []
+next_numbers (t ∷ ts) (n ∷ ns) b = if b == t then (n + 1) ∷ map (λ t. 1) ts else n ∷ next_numbers ts ns b
+
+-- a raw value at a place: an empty one is absent
+abbrev pub value_at : Delimiters → List ℕ → List ℕ → List Entry
+value_at d ns [] = []
+value_at d ns (b ∷ bs) = (ns, canon d (b ∷ bs)) ∷ []
+
+-- what was read of a segment so far
+abbrev pub taken : Scratch → List Entry
+taken s = entries_of (held s.bytes.items s.leaves)
+
+-- no separator stands in it
+abbrev pub IsClear : List ℕ → List ℕ → Type 0
+IsClear ts bytes = All (λ b. is_separator ts b ≡ false) bytes
+
+-- bytes in which no separator stands
+pub record IsLastValue (ts bytes value : List ℕ) : Type 0 where
+  pub whole : bytes ≡ value
+  pub clear : IsClear ts value
+
+-- bytes up to the first separator, the separator, and those behind it
+pub record IsNextValue (ts bytes value : List ℕ) (separator : ℕ) (behind : List ℕ) : Type 0 where
+  pub whole : bytes ≡ value ++ separator ∷ behind
+  pub clear : IsClear ts value
+  pub separates : is_separator ts separator ≡ true
+
+-- the value that is cut off, and the separator and the bytes behind it, where one stands there
+abbrev pub IsCut : List ℕ → List ℕ → List ℕ → Option (ℕ × Bor (List ℕ)) → Type 0
+IsCut ts bytes value behind = MatchOption behind (IsLastValue ts bytes value) (λ b. IsNextValue ts bytes value b.0 b.1.now)

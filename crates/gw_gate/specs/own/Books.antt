@@ -1,0 +1,88 @@
+-- What the books of a gate are of its journal.
+use Rattle.std.specs.Prelude.{◌≡◌, ℕ, ◌≤◌, List, map, length, slice_get, Option, None, Some, option_map}
+use Rattle.gw_reorder.specs.State.{DeskState}
+use Rattle.gw_reorder.specs.declared.desk.Status.{Status}
+use Rattle.gw_reorder.specs.declared.desk.Status.TheVariants.{Waiting, Repeat, Stranger}
+use Rattle.gw_reorder.specs.own.Standing.{Stands}
+use Rattle.gw_gate.specs.Parts.{PlanSeen, ConformingSeen, TranslatedSeen}
+use Rattle.gw_gate.specs.Journal.{EntrySeen, Journal, Pair, Release, opening, current, accepted, arrivals, due, issued, jobs, kept, released}
+use Rattle.gw_gate.specs.Replies.{ReplySeen, IsJob, IsIdle, IsKept, IsRepeat, IsStranger, IsIssued, IsDone, IsOut, IsNothing, most}
+use Rattle.gw_gate.specs.Headline.{CountFrom}
+
+-- the version in force with its plan, the number of arrivals, what was accepted in order, the pairs to be worked on in order, how many of them were taken, and the desks
+pub record BooksSeen : Type 0 where
+  pub version : ℕ
+  pub plan : PlanSeen
+  pub arrivals : ℕ
+  pub accepted : List ConformingSeen
+  pub issued : List Pair
+  pub jobs : ℕ
+  pub desk : ℕ → DeskState TranslatedSeen
+
+abbrev pub journal_of : PlanSeen → List EntrySeen → Journal
+journal_of plan h = record { start = opening plan; entries = h }
+
+-- a released translation with its number
+abbrev pub given : Release → ℕ × TranslatedSeen
+given out = (out.n, out.translated)
+
+-- a receiver's desk is that of the journal
+abbrev pub StandsAt : List EntrySeen → ℕ → DeskState TranslatedSeen → Type 0
+StandsAt h r s = Stands s (due h r) (map given (released h r)) (λ n. kept h n r)
+
+-- the version and the plan in force
+pub record FitsPlan (plan : PlanSeen) (h : List EntrySeen) (version : ℕ) (now : PlanSeen) : Type 0 where
+  pub version_is : version ≡ (current (journal_of plan h)).number
+  pub plan_is : now ≡ (current (journal_of plan h)).plan
+  pub few : version ≤ length h
+
+-- the number of arrivals
+pub record FitsArrivals (h : List EntrySeen) (count : ℕ) : Type 0 where
+  pub count_is : count ≡ arrivals h
+  pub few : count ≤ length h
+
+-- what was accepted, under numbers from 0, and the pairs to be worked on
+pub record FitsQueue (h : List EntrySeen) (all : List ConformingSeen) (pairs : List Pair) (taken : ℕ) : Type 0 where
+  pub accepted_are : all ≡ map (λ a. a.conforming) (accepted h)
+  pub numbered : CountFrom 0 (map (λ a. a.n) (accepted h))
+  pub issued_are : pairs ≡ issued h
+  pub taken_is : taken ≡ jobs h
+  pub few : taken ≤ length h
+
+-- the next pair to be worked on, with what was accepted under its number
+abbrev pub job_by : List ConformingSeen → Option Pair → Option (Pair × ConformingSeen)
+job_by all None = None
+job_by all (Some next) = option_map (λ c. (next, c)) (slice_get all next.n)
+
+abbrev pub next_job : List ConformingSeen → List Pair → ℕ → Option (Pair × ConformingSeen)
+next_job all pairs taken = job_by all (slice_get pairs taken)
+
+-- the reply that gives it
+abbrev pub job_reply : Option (Pair × ConformingSeen) → ReplySeen
+job_reply None = IsIdle
+job_reply (Some job) = IsJob job.0.n job.0.receiver job.1
+
+-- the reply to what is put, by what its pair is
+abbrev pub put_reply : Status → TranslatedSeen → ReplySeen
+put_reply Waiting t = IsKept
+put_reply Repeat t = IsRepeat t
+put_reply Stranger t = IsStranger (Some t)
+
+-- the reply to a pair that is to be issued again, by what it is
+abbrev pub issue_reply : Status → ReplySeen
+issue_reply Waiting = IsIssued
+issue_reply Repeat = IsDone
+issue_reply Stranger = IsStranger None
+
+-- the reply that gives out what is next for a receiver, where it is kept
+abbrev pub release_reply : Option (ℕ × TranslatedSeen) → ReplySeen
+release_reply None = IsNothing
+release_reply (Some next) = IsOut next.0 next.1
+
+-- the books of a gate that opened with this plan and has these entries
+pub record Fits (plan : PlanSeen) (h : List EntrySeen) (b : BooksSeen) : Type 0 where
+  pub plans : FitsPlan plan h b.version b.plan
+  pub arrivals : FitsArrivals h b.arrivals
+  pub queue : FitsQueue h b.accepted b.issued b.jobs
+  pub desks : (r : ℕ) → StandsAt h r (b.desk r)
+  pub within : length h ≤ most

@@ -1,0 +1,8 @@
+-- The program's own words: no public contract rests on them.
+pub mod Lent
+pub mod Sourced
+pub mod Putting
+pub mod Filling
+pub mod Ready
+pub mod Making
+pub mod Parts

@@ -1,0 +1,133 @@
+-- Texts that are put into the last segment at all places of a kind: of a repetition, of a field.
+use Rattle.std.specs.Prelude.{◌≡◌, ℕ, ◌<◌, List, [], ◌∷◌, length, map, Some, None, unwrap_or}
+use Rattle.std.specs.List.{AllByRecursion}
+use Rattle.std.specs.FinMap as texts
+use Rattle.gw_er7.specs.Message.{Texts, text_of, SegmentValue, first_field, IsEntry}
+use Rattle.gw_er7.specs.Building.{IsBegun, with_last}
+use Rattle.gw_validate.specs.Fitting.{OccValue}
+use Rattle.gw_maplang.specs.Among.{Among, Distinct}
+use Rattle.gw_resolve.specs.Lawful.{LawfulMaking, places}
+use Rattle.gw_maplang.specs.Shapes.{TableValue}
+use Rattle.gw_resolve.specs.declared.resolved.At as declared
+use Rattle.gw_resolve.specs.Seen.{at_leaf}
+use Rattle.gw_resolve.specs.Resolved.{At, leaf_at, Making, Rule}
+use Rattle.gw_interp.specs.declared.copying.Spot.{Spot}
+use Rattle.gw_interp.specs.declared.reading.Repetition.{Repetition}
+use Rattle.gw_interp.specs.own.Lent.{scope}
+use Rattle.gw_interp.specs.Meaning.{Walked, walked, AtMeans, MakingMeans}
+use Rattle.gw_interp.specs.own.Sourced.{current_texts}
+use Rattle.gw_interp.specs.own.Putting.{last_name, last_texts}
+use Rattle.gw_interp.specs.own.Filling.{message_of}
+use Rattle.gw_interp.specs.own.Ready.{NoFaults, NoFaultIn}
+
+-- ---- places of a kind
+
+-- none has a text yet, and each text that is meant may stand there
+pub record MayMake (I : Type 0) (key : I → List ℕ) (Means : I → List ℕ → Type 0) (old : List SegmentValue) : Type 0 where
+  pub begun : 0 < length old
+  pub free : (i : I) → texts.get (last_texts old) (key i) ≡ None
+  pub entry : (i : I) (text : List ℕ) → Means i text → 0 < length text → IsEntry (first_field (last_name old)) (key i, text)
+
+-- each has the text that is meant, absent where none is, and nothing else differs
+pub record AreMade (I : Type 0) (key : I → List ℕ) (Means : I → List ℕ → Type 0) (old new : List SegmentValue) : Type 0 where
+  pub others : new ≡ with_last (λ s. record s { at = last_texts new }) old
+  pub each : (i : I) → Means i (unwrap_or (texts.get (last_texts new) (key i)) [])
+  pub elsewhere : (k : List ℕ) → ((i : I) → k ≡ key i → ⊥) → texts.get (last_texts new) k ≡ texts.get (last_texts old) k
+  pub keeps : IsBegun old → IsBegun new
+
+-- ---- copies
+
+abbrev pub comp_key : Spot → ℕ × ℕ → List ℕ
+comp_key to p = to.field ∷ to.rep ∷ p.0 ∷ p.1 ∷ []
+
+abbrev pub RepMeans : Texts → Spot → ℕ × ℕ → List ℕ → Type 0
+RepMeans m from p text = text ≡ text_of m from.field from.rep p.0 p.1
+
+-- a repetition in another
+abbrev pub MayCopyRep : Texts → Spot → Spot → List SegmentValue → Type 0
+MayCopyRep m from to old = MayMake (ℕ × ℕ) (comp_key to) (RepMeans m from) old
+
+abbrev pub IsRepCopied : Texts → Spot → Spot → List SegmentValue → List SegmentValue → Type 0
+IsRepCopied m from to old new = AreMade (ℕ × ℕ) (comp_key to) (RepMeans m from) old new
+
+-- ---- fields
+
+-- repetition, component, subcomponent
+abbrev pub field_key : ℕ → ℕ × (ℕ × ℕ) → List ℕ
+field_key field p = field ∷ p.0 ∷ p.1.0 ∷ p.1.1 ∷ []
+
+abbrev pub FieldMeans : (ℕ → ℕ → ℕ → List ℕ → Type 0) → ℕ × (ℕ × ℕ) → List ℕ → Type 0
+FieldMeans Means p text = Means p.0 p.1.0 p.1.1 text
+
+abbrev pub MayMakeField : ℕ → (ℕ → ℕ → ℕ → List ℕ → Type 0) → List SegmentValue → Type 0
+MayMakeField field Means old = MayMake (ℕ × (ℕ × ℕ)) (field_key field) (FieldMeans Means) old
+
+abbrev pub IsFieldMade : ℕ → (ℕ → ℕ → ℕ → List ℕ → Type 0) → List SegmentValue → List SegmentValue → Type 0
+IsFieldMade field Means old new = AreMade (ℕ × (ℕ × ℕ)) (field_key field) (FieldMeans Means) old new
+
+abbrev pub Copies : Texts → ℕ → ℕ → ℕ → ℕ → List ℕ → Type 0
+Copies m from rep comp sub text = text ≡ text_of m from rep comp sub
+
+-- what is read where these occurrences are walked
+abbrev pub seen_from : List OccValue → Walked
+seen_from os = walked (message_of os) (scope os)
+
+-- with the texts of a repetition
+abbrev pub in_repetition : List OccValue → Repetition → Walked
+in_repetition os r = record (seen_from os) { current = current_texts (Some r) }
+
+-- ---- leaves of a repetition
+
+abbrev pub rep_key : ℕ → ℕ → ℕ × ℕ → List ℕ
+rep_key field rep p = field ∷ rep ∷ p.0 ∷ p.1 ∷ []
+
+abbrev pub at_leaves : List TableValue → List declared.At → List At
+at_leaves tables leaves = map (at_leaf tables) leaves
+
+abbrev pub LeavesMean : Walked → List At → ℕ × ℕ → List ℕ → Type 0
+LeavesMean w leaves p text = AtMeans w (leaf_at leaves p.0 p.1) text
+
+-- no two leaves are for one place, none is a fault, and the texts may stand at their places
+pub record MayFillRep (w : Walked) (field rep : ℕ) (leaves : List At) (old : List SegmentValue) : Type 0 where
+  pub distinct : Distinct (places leaves)
+  pub no_faults : NoFaults w leaves
+  pub make : MayMake (ℕ × ℕ) (rep_key field rep) (LeavesMean w leaves) old
+
+abbrev pub IsRepFilled : Walked → ℕ → ℕ → List At → List SegmentValue → List SegmentValue → Type 0
+IsRepFilled w field rep leaves old new = AreMade (ℕ × ℕ) (rep_key field rep) (LeavesMean w leaves) old new
+
+-- ---- rules
+
+-- the texts that are meant may stand in the field, and none is a fault
+pub record MayMakeBy (w : Walked) (making : Making) (field : ℕ) (old : List SegmentValue) : Type 0 where
+  pub lawful : LawfulMaking making
+  pub no_faults : NoFaultIn w making
+  pub make : MayMakeField field (MakingMeans w making) old
+
+-- the field has the texts that are meant, and nothing else differs
+abbrev pub IsMadeBy : Walked → Making → ℕ → List SegmentValue → List SegmentValue → Type 0
+IsMadeBy w making field old new = IsFieldMade field (MakingMeans w making) old new
+
+abbrev pub MayMakeRule : Walked → Rule → List SegmentValue → Type 0
+MayMakeRule w r old = MayMakeBy w r.making r.field old
+
+abbrev pub IsRuleMade : Walked → Rule → List SegmentValue → List SegmentValue → Type 0
+IsRuleMade w r old new = IsMadeBy w r.making r.field old new
+
+abbrev pub fields : List Rule → List ℕ
+fields = map (λ (r : Rule). r.field)
+
+-- one rule for each field
+pub record MayMakeRules (w : Walked) (rules : List Rule) (old : List SegmentValue) : Type 0 where
+  pub distinct : Distinct (fields rules)
+  pub each : AllByRecursion (λ r. MayMakeRule w r old) rules
+
+abbrev pub HasTexts : Walked → List SegmentValue → Rule → Type 0
+HasTexts w new r = (p : ℕ × (ℕ × ℕ)) → FieldMeans (MakingMeans w r.making) p (unwrap_or (texts.get (last_texts new) (field_key r.field p)) [])
+
+-- each field has the texts of its rule, and nothing else differs
+pub record AreRulesMade (w : Walked) (rules : List Rule) (old new : List SegmentValue) : Type 0 where
+  pub others : new ≡ with_last (λ s. record s { at = last_texts new }) old
+  pub each : AllByRecursion (HasTexts w new) rules
+  pub elsewhere : (field : ℕ) (p : ℕ × (ℕ × ℕ)) → (Among field (fields rules) → ⊥) → texts.get (last_texts new) (field_key field p) ≡ texts.get (last_texts old) (field_key field p)
+  pub keeps : IsBegun old → IsBegun new

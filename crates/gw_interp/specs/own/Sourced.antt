@@ -1,0 +1,39 @@
+-- What the program reads at the sources of a map.
+use Rattle.std.specs.Prelude.{◌≡◌, ℕ, List, [], Option, Some, None}
+use Rattle.std.specs.FinMap as texts
+use Rattle.gw_er7.specs.Message.{Texts, text_of, SegmentValue}
+use Rattle.gw_er7.specs.Presence.{RepAt, FieldAt}
+use Rattle.gw_interp.specs.declared.reading.Repetition.{Repetition}
+use Rattle.gw_interp.specs.declared.reading.Reading.{Reading}
+use Rattle.gw_resolve.specs.Resolved.{Leaf, const, copied, looked_up}
+use Rattle.gw_interp.specs.Meaning.{IsFirst, Walked, SourceMeans, look_up, LeafMeans}
+use Rattle.gw_interp.specs.own.Lent.{scope}
+
+-- no text where there is no segment
+abbrev pub texts_of : Option SegmentValue → Texts
+texts_of None = texts.empty
+texts_of (Some s) = s.at
+
+-- the first present repetition of a field, if there is one
+abbrev pub IsFirstRep : Texts → ℕ → Option ℕ → Type 0
+IsFirstRep m field None = FieldAt m field → ⊥
+IsFirstRep m field (Some rep) = IsFirst (RepAt m field) rep
+
+abbrev pub current_texts : Option Repetition → ℕ → ℕ → List ℕ
+current_texts None comp sub = []
+current_texts (Some r) comp sub = text_of r.segment.at r.field r.rep comp sub
+
+-- what is read in this message
+abbrev pub walks : List SegmentValue → Reading → Walked
+walks m r = record { message = m; scope = scope r.scope.now; current = current_texts r.current }
+
+-- the rows give nothing for what is read
+abbrev pub IsFault : Walked → Leaf → Type 0
+IsFault w (const value) = ⊥
+IsFault w (copied source) = ⊥
+IsFault w (looked_up table source) = (from : List ℕ) × SourceMeans w source from × (look_up table from ≡ None)
+
+-- the text of a leaf, or a fault
+abbrev pub LeafGives : Walked → Leaf → Option (List ℕ) → Type 0
+LeafGives w leaf None = IsFault w leaf
+LeafGives w leaf (Some text) = LeafMeans w leaf text

@@ -1,0 +1,9 @@
+-- The program's own words: no public contract rests on them.
+pub mod Residual
+pub mod Shortest
+pub mod State
+pub mod Tests
+pub mod Joining
+pub mod Least
+pub mod Building
+pub mod Answers
