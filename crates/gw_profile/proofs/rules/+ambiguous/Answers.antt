@@ -1,6 +1,7 @@
 use Rattle.std.proofs.Common.{◌≡◌, ◌++◌, ◌∷◌, [], refl, sym, ap, ◌∙◌, subst, IfOk, List, ℕ, Option, arith, drop, length, HashSet, BuildHasherDefault, FoldHasher}
 use Rattle.std.specs.Prelude.{if◌then◌else◌, ◌==◌, ◌||◌}
 use Rattle.std.proofs.lemmas.List.{take_rest}
+use Rattle.std.proofs.lemmas.Result.{IfOk-from_err}
 use Rattle.gw_profile.specs.Fault.{is_among}
 use Rattle.gw_profile.specs.declared.shape.Card.{Card}
 use Rattle.gw_profile.specs.Seen.{forest}
@@ -63,3 +64,21 @@ group_ambiguous-returns-clause-found t c =
     ∙ ap (λ (s : List Set). clash c.args.card c.deref.result.now (c.args.near.now.keys ++ joined s)) (sym (take_rest c.deref-2.result.now c.args.start)) ∙ sym c.clash.ensures ∙ c.in_default.is)
     (λ x. behind_more x c.args.start c.args.far.now.items c.args.near.now c.in_ok-again.again.keys c.requires ∙ ap (λ b. is_among x after || b) (c.in_ok-again.ensures x)))
     c.inner_ambiguous.ensures.found
+
+pub ambiguous-returns-in_err-name : goal.ambiguous-returns-in_err-name
+ambiguous-returns-in_err-name t c = record { found = IfOk-from_err _ _ c.from_residual.ensures.0; kept = IfOk-from_err _ _ c.from_residual.ensures.0 }
+
+pub ambiguous-returns-in_err-put_before : goal.ambiguous-returns-in_err-put_before
+ambiguous-returns-in_err-put_before t c = record { found = IfOk-from_err _ _ c.from_residual-in_err-put_before.ensures.0; kept = IfOk-from_err _ _ c.from_residual-in_err-put_before.ensures.0 }
+
+pub group_ambiguous-returns-in_err-add_first : goal.group_ambiguous-returns-in_err-add_first
+group_ambiguous-returns-in_err-add_first t c = record { found = IfOk-from_err _ _ c.from_residual.ensures.0; kept = IfOk-from_err _ _ c.from_residual.ensures.0; near = IfOk-from_err _ _ c.from_residual.ensures.0 }
+
+pub group_ambiguous-returns-in_err-again : goal.group_ambiguous-returns-in_err-again
+group_ambiguous-returns-in_err-again t c = record { found = IfOk-from_err _ _ c.from_residual-in_err-again.ensures.0; kept = IfOk-from_err _ _ c.from_residual-in_err-again.ensures.0; near = IfOk-from_err _ _ c.from_residual-in_err-again.ensures.0 }
+
+pub inner_ambiguous-returns-in_err-found : goal.inner_ambiguous-returns-in_err-found
+inner_ambiguous-returns-in_err-found t c = record { found = IfOk-from_err _ _ c.from_residual-in_err-found.ensures.0; kept = IfOk-from_err _ _ c.from_residual-in_err-found.ensures.0; near = IfOk-from_err _ _ c.from_residual-in_err-found.ensures.0 }
+
+pub inner_ambiguous-returns-in_err-push : goal.inner_ambiguous-returns-in_err-push
+inner_ambiguous-returns-in_err-push t c = record { found = IfOk-from_err _ _ c.from_residual.ensures.0; kept = IfOk-from_err _ _ c.from_residual.ensures.0; near = IfOk-from_err _ _ c.from_residual.ensures.0 }

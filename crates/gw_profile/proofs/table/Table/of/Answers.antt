@@ -1,6 +1,7 @@
 use Rattle.std.proofs.Common.{◌≡◌, ◌∙◌, sym, ap, List, ℕ, map, Bool, true, false}
 use Rattle.std.specs.Prelude.{not}
 use Rattle.std.specs.Global.{Vec}
+use Rattle.std.proofs.lemmas.Result.{IfOk-from_err}
 use Rattle.gw_profile.specs.Seen.{now_all}
 use Rattle.gw_profile.proofs.Kept.{repeats_behind, repeats_none, values_held}
 use Rattle.gw_profile.proofs.table.Table.of.Goals as goal
@@ -20,3 +21,6 @@ loop-value-preserved c =
     let step = values_held c.args.values.now c.loop-value.value-index _ (map (λ (v : Vec ℕ). v.items) c.loop-value.held.keys) (map (λ (v : Vec ℕ). v.items) c.put.new.values.keys) c.loop-value-test.true c.loop-value.invariant.held c.loop-value.invariant.rest
     (is_new c.in_ok-put.field-0 _ c.if-not-branch.false c.in_ok-put.ensures.new) (c.in_ok-put.ensures.put c.if-not-branch.false) in
     record { held = step.0; rest = step.1 }
+
+pub returns-in_err-put : goal.returns-in_err-put
+returns-in_err-put c = IfOk-from_err _ _ c.from_residual.ensures.0
