@@ -118,14 +118,6 @@ module _ (tables : List TableValue) (above : Position) (nodes : Forest) where
 
 -- ---- fields
 
-module _ {A B : Type 0} (f : B → List Gap) (view : A → B) (xs : List A) (i : ℕ) (whole : List Gap) where
-  pub more_each : (x : A) (old new : List Gap) → i < length xs → x ≡ get_or xs i x → new ≡ old ++ f (view x) → whole ≡ old ++ flat_map f (map view (drop i xs)) → whole ≡ new ++ flat_map f (map view (drop (i + 1) xs))
-  more_each x old new low at made h =
-      h ∙ added_one old new (f (view x)) (flat_map f (map view (drop (i + 1) xs))) (flat_map f (map view (drop i xs))) (ap (λ l. flat_map f (map view l)) (front xs i x low at)) made
-
-  pub done_each : (now : List Gap) → length xs ≤ i → whole ≡ now ++ flat_map f (map view (drop i xs)) → now ≡ whole
-  done_each now end h = sym (h ∙ ap (λ l. now ++ flat_map f (map view l)) (drop_all i xs end) ∙ append-nil now)
-
 pub same_fields : (tables : List TableValue) (line : ℕ) (at at' : Position) (rules rules' : List Rule) (fields fields' : List FieldValue) (old new : List declared.Gap) → at ≡ at' → rules ≡ rules' → fields ≡ fields'
     → Finds old new (flat_map (field_gaps line at (map (rule tables) rules)) fields) → Finds old new (flat_map (field_gaps line at' (map (rule tables) rules')) fields')
 same_fields tables line at at' rules rules' fields fields' old new a b c h = h ∙ (λ i. all_gaps old ++ flat_map (field_gaps line (a i) (map (rule tables) (b i))) (c i))

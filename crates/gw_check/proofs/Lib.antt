@@ -3,6 +3,7 @@ pub mod Counted
 pub mod Stepped
 pub mod Within
 pub mod Passing
+pub mod Each
 pub mod Gapping
 pub mod Missing
 pub mod Collecting
