@@ -14,7 +14,7 @@ pub length-widened : (ns : List NarrowLeaf) → length (map widened ns) ≡ leng
 length-widened [] = refl
 length-widened (n ∷ ns) = omega (arith, length-widened ns)
 
-none : {X : Type 0} (xs : List X) → length xs ≡ 0 → xs ≡ []
+pub none : {X : Type 0} (xs : List X) → length xs ≡ 0 → xs ≡ []
 none [] e = refl
 none (x ∷ xs) e = absurd (omega arith)
 

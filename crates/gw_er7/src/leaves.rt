@@ -1,5 +1,6 @@
 //! Where the texts of a segment lie among its bytes: in 24 bytes for each text, and in 48 where its numbers are too large for that.
-ghost use Rattle.std.specs.Prelude.{◌≡◌, ◌++◌, map, IfSome, OnOk};
+ghost use Rattle.std.specs.Prelude.{◌≡◌, ◌↔◌, ◌++◌, map, IsTrue, IfSome, OnOk};
+ghost use Rattle.std.specs.List.{AllZip};
 ghost use Rattle.std.specs.List.Sorted.{IsPermutation, IsSortedBy};
 ghost use Rattle.std.specs.Ordering.{nat_cmp, is_lt};
 ghost use Rattle.std.specs.Cmp.Lexicographic.{slice_cmp};
@@ -21,7 +22,7 @@ pub(crate) struct Leaf {
 }
 
 /// The same in 24 bytes.
-#[derive(Clone, Copy)]
+#[derive(Clone, Copy, PartialEq)]
 pub(crate) struct NarrowLeaf {
     field: u32,
     rep: u32,
@@ -80,6 +81,26 @@ fn widen_into(wide: &mut Vec<Leaf>, narrow: &[NarrowLeaf]) -> Result<(), AllocEr
     Ok(())
 }
 
+fn same_leaf(leaf: NarrowLeaf, other: NarrowLeaf) -> bool
+    ensures { IsTrue result ↔ (leaf ≡ other) }
+{
+    leaf == other
+}
+
+fn same_narrow(leaves: &[NarrowLeaf], others: &[NarrowLeaf]) -> bool
+    ensures { IsTrue result ↔ AllZip (λ a b. a ≡ b) leaves.now others.now }
+{
+    if leaves.len() != others.len() {
+        return false;
+    }
+    for (i, leaf) in leaves.iter().enumerate() {
+        if !same_leaf(*leaf, others[i]) {
+            return false;
+        }
+    }
+    true
+}
+
 fn sort_narrow(leaves: &mut Vec<NarrowLeaf>)
     ensures permutation { IsPermutation leaves.old.items leaves.new.items }
     ensures sorted { IsSortedBy (λ a b. is_lt (slice_cmp nat_cmp (numbers (widened a).place) (numbers (widened b).place))) leaves.new.items }
@@ -126,7 +147,7 @@ impl Model for Leaves {
 }
 
 impl Leaves {
-    ghost use Rattle.std.specs.Prelude.{◌≡◌, ◌<◌, ◌++◌, ◌∷◌, [], length, slice_index_or, OnOk, OnErr, IfOk};
+    ghost use Rattle.std.specs.Prelude.{◌≡◌, ◌<◌, ◌++◌, ◌∷◌, [], length, slice_index_or, IsTrue, OnOk, OnErr, IfOk};
     ghost use Rattle.std.specs.List.Sorted.{IsPermutation, IsSortedBy};
     ghost use Rattle.std.specs.Ordering.{nat_cmp, is_lt};
     ghost use Rattle.std.specs.Cmp.Lexicographic.{slice_cmp};
@@ -209,6 +230,19 @@ impl Leaves {
             narrow,
             wide,
         })
+    }
+
+    /// Whether these are known to be the same leaves: only those in 24 bytes are compared. It takes no memory.
+    pub(crate) fn are_alike(&self, other: &Leaves) -> bool
+        ensures { IsTrue result → self.now ≡ other.now }
+    {
+        if !self.wide.is_empty() {
+            return false;
+        }
+        if !other.wide.is_empty() {
+            return false;
+        }
+        same_narrow(&self.narrow, &other.narrow)
     }
 
     pub(crate) fn len(&self) -> usize

@@ -6,6 +6,7 @@ ghost use Rattle.gw_er7.specs.View.{entry_of};
 
 use crate::place::Place;
 use crate::segment::StoredSegment;
+use crate::texts::SegmentTexts;
 use crate::values::Values;
 
 /// A part that can be compared: `same` says what it is to be the same.
@@ -76,6 +77,16 @@ fn same_values(values: &Values<'_>, others: &Values<'_>) -> bool
     true
 }
 
+/// The same of a segment's texts. Where they lie alike, as in one message that two share, none is looked at by itself.
+fn same_texts(texts: &SegmentTexts, others: &SegmentTexts) -> bool
+    ensures { IsTrue result ↔ AllZip (λ a b. entry_of a ≡ entry_of b) texts.now others.now }
+{
+    if texts.lie_alike(others) {
+        return true;
+    }
+    same_values(&texts.lend(), &others.lend())
+}
+
 impl Part for StoredSegment {
     ghost use Rattle.std.specs.Prelude.{◌≡◌};
 
@@ -85,6 +96,6 @@ impl Part for StoredSegment {
         if !same_bytes(&self.name, &other.name) {
             return false;
         }
-        same_values(&self.texts.lend(), &other.texts.lend())
+        same_texts(&self.texts, &other.texts)
     }
 }

@@ -2,6 +2,7 @@
 
 use crate::leaves::{Leaf, Leaves};
 use crate::place::Place;
+use crate::same::same_bytes;
 use crate::values::Values;
 use std::alloc::{AllocError, Global};
 use std::marker::Model;
@@ -28,7 +29,7 @@ impl Model for SegmentTexts {
 }
 
 impl SegmentTexts {
-    ghost use Rattle.std.specs.Prelude.{◌≡◌, ◌++◌, ◌∷◌, [], length, OnOk, OnErr, IfOk};
+    ghost use Rattle.std.specs.Prelude.{◌≡◌, ◌++◌, ◌∷◌, [], length, IsTrue, OnOk, OnErr, IfOk};
     ghost use Rattle.std.specs.List.Sorted.{IsPermutation};
     ghost use Rattle.gw_er7.specs.View.{held, AreInside, AreSorted};
 
@@ -98,6 +99,13 @@ impl SegmentTexts {
     {
         self.leaves.fit();
         self.bytes.shrink_to_fit();
+    }
+
+    /// Whether these are known to be the same texts, since they lie alike in equal bytes: none of them is looked at by itself. It takes no memory.
+    pub(crate) fn lie_alike(&self, other: &SegmentTexts) -> bool
+        ensures { IsTrue result → self.now ≡ other.now }
+    {
+        same_bytes(&self.bytes, &other.bytes) && self.leaves.are_alike(&other.leaves)
     }
 
     pub(crate) fn len(&self) -> usize

@@ -8,7 +8,7 @@ use Rattle.gw_resolve.specs.Seen.{saturated, scope, place, cap}
 use Rattle.gw_resolve.proofs.Saturation.{never_saturated}
 use Rattle.gw_check.specs.Leaves.{by_usage, both, field_of, field_presence}
 use Rattle.gw_check.specs.declared.shape.Presence.TheVariants.{Always, Maybe, Never}
-use Rattle.gw_check.specs.Reading.{known_value, saturated_known}
+use Rattle.gw_check.specs.own.Uses.{known_value, saturated_known}
 use Rattle.gw_check.proofs.presence.reference_presence.Goals as goal
 
 sure_saturated : (i : Interval) → is_sure (saturated i) ≡ is_sure i
