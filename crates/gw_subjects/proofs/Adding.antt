@@ -1,6 +1,7 @@
 -- What lines make, taken together.
+use Rattle.std.proofs.lemmas.Result.{IfOk-from_err}
 use Rattle.std.proofs.Common.{◌≡◌, ℕ, suc, ◌+◌, ◌<◌, ◌≤◌, List, [], ◌∷◌, ◌++◌, drop, drop-cons, get_or, refl, sym, ap, ◌∙◌, arith, map, Option, Some, None, option_map, OnOk, Result, Ok, Err, length, subst}
-use Rattle.std.specs.Prelude.{flat_map, option_to_list}
+use Rattle.std.specs.Prelude.{flat_map, option_to_list, IsErr}
 use Rattle.std.specs.Global.{Vec}
 use Rattle.std.proofs.lemmas.List.{append-nil, append_assoc}
 use Rattle.gw_profile.specs.Shapes.{ProfileValue}
@@ -25,6 +26,10 @@ use Rattle.gw_subjects.specs.Positions.{Position, inner, inner_if, positions}
 use Rattle.gw_subjects.specs.Seen.{Adds, FirstChild, ChildOf, all_sites, segment_item}
 use Rattle.gw_subjects.specs.Sites.{Site, Origin, unsaid, repeated, read_at, leaf_sites, making_sites, rules_sites, node_sites, node_origin, origin_if, segment_sites, items_sites, none_if, sites, site_of}
 use Rattle.gw_subjects.specs.declared.site.Site as declared
+
+-- where a call fails, nothing is said of what it made
+pub failed : {X E : Type 0} (r : Result X E) (P : Type 0) → IsErr r → OnOk r P
+failed r P is = IfOk-from_err r (λ _. P) is
 
 pub on_ok : {A E : Type 0} (r : Result A E) (P Q : Type 0) → (P → Q) → OnOk r P → OnOk r Q
 on_ok (Ok x) P Q f h = f h

@@ -1,6 +1,6 @@
 use Rattle.std.proofs.Common.{ap, ◌∙◌}
 use Rattle.gw_subjects.specs.Positions.{positions}
-use Rattle.gw_subjects.proofs.Adding.{on_ok, group_made, flat_made, item_made}
+use Rattle.gw_subjects.proofs.Adding.{failed, on_ok, group_made, flat_made, item_made}
 use Rattle.gw_subjects.proofs.items.+add.Goals as goal
 
 pub add_item-returns-in_ok-within-in-Group : goal.add_item-returns-in_ok-within-in-Group
@@ -26,3 +26,27 @@ add_item-returns-in_ok-within-in-Flat t c = λ tables.
 pub add_items-loop-item-preserved : goal.add_items-loop-item-preserved
 add_items-loop-item-preserved t c = λ tables.
     item_made tables (positions c.args.scope.now) c.args.above.now c.args.items.now c.loop-item.item-index c.item-item.result c.args.sites.now.items c.loop-item.sites.items c.add_item.new.sites.items c.loop-item-test.true c.item-item.is (c.in_ok-add_item.ensures tables) (c.loop-item.invariant tables)
+
+pub add_item-returns-in_err-add_node-in-Flat : goal.add_item-returns-in_err-add_node-in-Flat
+add_item-returns-in_err-add_node-in-Flat t c = λ tables. failed _ _ c.from_residual-in_err-add_node-in-Flat.ensures.0
+
+pub add_item-returns-in_err-add_node-in-Group : goal.add_item-returns-in_err-add_node-in-Group
+add_item-returns-in_err-add_node-in-Group t c = λ tables. failed _ _ c.from_residual-in_err-add_node-in-Group.ensures.0
+
+pub add_item-returns-in_err-at-in-Flat : goal.add_item-returns-in_err-at-in-Flat
+add_item-returns-in_err-at-in-Flat t c = λ tables. failed _ _ c.from_residual-in_err-at-in-Flat.ensures.0
+
+pub add_item-returns-in_err-at-in-Group : goal.add_item-returns-in_err-at-in-Group
+add_item-returns-in_err-at-in-Group t c = λ tables. failed _ _ c.from_residual-in_err-at-in-Group.ensures.0
+
+pub add_item-returns-in_err-at-in-Segment : goal.add_item-returns-in_err-at-in-Segment
+add_item-returns-in_err-at-in-Segment t c = λ tables. failed _ _ c.from_residual.ensures.0
+
+pub add_item-returns-in_err-within-in-Flat : goal.add_item-returns-in_err-within-in-Flat
+add_item-returns-in_err-within-in-Flat t c = λ tables. failed _ _ c.from_residual-in_err-within-in-Flat.ensures.0
+
+pub add_item-returns-in_err-within-in-Group : goal.add_item-returns-in_err-within-in-Group
+add_item-returns-in_err-within-in-Group t c = λ tables. failed _ _ c.from_residual-in_err-within-in-Group.ensures.0
+
+pub add_items-returns-in_err-add_item : goal.add_items-returns-in_err-add_item
+add_items-returns-in_err-add_item t c = λ tables. failed _ _ c.from_residual.ensures.0
