@@ -50,7 +50,7 @@ build_nodes-loop-node-init t c =
 
 pub build_nodes-returns : goal.build_nodes-returns
 build_nodes-returns t c =
-    nodes_end (named c.args.message.now) c.args.nodes.now c.loop-node.node-index c.args.taken.now (tree_of c.loop-node.found.items) c.loop-node.rest.now c.loop-node-test.false c.loop-node.node-indexnvariant
+    nodes_end (named c.args.message.now) c.args.nodes.now c.loop-node.node-index c.args.taken.now (tree_of c.loop-node.found.items) c.loop-node.rest.now c.loop-node-test.false c.loop-node.invariant
 
 pub build_groups-returns-in_err-each : goal.build_groups-returns-in_err-each
 build_groups-returns-in_err-each t c = IfOk-from_err _ _ c.from_residual.ensures.0
