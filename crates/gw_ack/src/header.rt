@@ -122,8 +122,10 @@ impl Header {
     pub fn of(alloc: Global, message: &Message) -> Result<Header, AllocError>
         ensures { IfOk result (λ header. header ≡ header_of message.now) }
     {
+        // (its clause tells what every message keeps)
         let _count = message.segment_count();
         let msh = message.segment(0);
+        // (its clause tells what every segment keeps)
         let _values = msh.value_count();
         let event = Place {
             field: 9,

@@ -102,6 +102,7 @@ pub fn read_ack(alloc: Global, content: &[u8], control: &[u8]) -> Result<Ack, Ac
     ensures acknowledged { (ack : Ack) → Acknowledges content.now control.now ack → (result ≡ Err AckFault.Memory) ⊎ (result ≡ Ok ack) }
     ensures unreadable { (fault : ReadFault) → Faulty content.now fault → result ≡ Err AckFault.Unreadable }
 {
+    // (a law: a content reads as one message, or has one fault)
     reads_once();
     match read(alloc, content) {
         Ok(message) => acknowledgment(&message, control),

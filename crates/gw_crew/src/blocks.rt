@@ -66,6 +66,7 @@ fn read_answer(alloc: Global, content: &[u8], control: &[u8], n: u64) -> Result<
     ensures says { IfOk result (Acknowledges content.now control.now) }
     ensures not { IfErr result (Denies n content.now control.now) }
 {
+    // (a law: each content reads as a message or has a fault)
     reads_or_fails();
     match read_ack(alloc, content, control) {
         Ok(ack) => Ok(ack),

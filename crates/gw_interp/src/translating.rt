@@ -24,6 +24,7 @@ fn root_of(tree: &Tree) -> Occ<'_>
     ensures conforms { Conforms (profile_value tree.now.profile) tree.now.message }
     ensures message { IsMessage tree.now.message }
 {
+    // (its clause tells what every message keeps)
     let _segments = tree.message().segment_count();
     tree.root()
 }
@@ -34,6 +35,7 @@ fn rows_of(map: &CheckedMap) -> &Map
     ensures lawful { Lawful (map_value map.now.map) }
 {
     let rows = map.map();
+    // (its clause tells what every map keeps)
     let _items = rows.items();
     rows
 }

@@ -12,6 +12,7 @@ use crate::plan::Plan;
 pub fn one_text_is_one_plan(one: &Plan, other: &Plan)
     ensures { one.now.text ≡ other.now.text → plan_value one.now ≡ plan_value other.now }
 {
+    // (what the type keeps is known once its value is looked at)
     let _ = &one.text;
     let _ = &other.text;
 }

@@ -166,6 +166,7 @@ impl Plan {
     pub fn is_spelled(&self)
         ensures { spelled self.now.text ≡ Ok (plan_value self.now) }
     {
+        // (what the type keeps is known once its value is looked at)
         let _ = &self.text;
     }
 

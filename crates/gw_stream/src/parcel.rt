@@ -26,6 +26,7 @@ fn pack(alloc: Global, conforming: &Arc<Conforming>, receiver: usize) -> Result<
     ensures { (route : RouteValue) → routed (plan_value (arc_value conforming.now).plan) (arc_value conforming.now).tree.message ≡ Ok route
         → IfOk result (IsParcel (arc_value conforming.now).tree.message route receiver) }
 {
+    // (a law: what is written of a message reads as it)
     written_is_read();
     let translated = translate_for(alloc, conforming, receiver)?;
     let message = translated.message();
