@@ -110,7 +110,10 @@ fn report(
     let number = format!(in alloc; "{code}")?;
     let err = err(alloc, location, number.as_bytes(), code)?;
     add_segment(&mut builder, *b"ERR", &err)?;
-    let content = write(alloc, &builder.finish())?;
+    let message = builder.finish();
+    // (its clause tells what every message keeps)
+    let _count = message.segment_count();
+    let content = write(alloc, &message)?;
     Ok(content)
 }
 
@@ -125,7 +128,10 @@ pub fn accept_ack(
     ensures read { IfOk result (λ content. Acknowledges content.items header.now.control ack.AA) }
 {
     let builder = begun(alloc, header, &stamp, arrival, b"AA")?;
-    let content = write(alloc, &builder.finish())?;
+    let message = builder.finish();
+    // (its clause tells what every message keeps)
+    let _count = message.segment_count();
+    let content = write(alloc, &message)?;
     Ok(content)
 }
 

@@ -105,7 +105,11 @@ pub fn read_ack(alloc: Global, content: &[u8], control: &[u8]) -> Result<Ack, Ac
     // (a law: a content reads as one message, or has one fault)
     reads_once();
     match read(alloc, content) {
-        Ok(message) => acknowledgment(&message, control),
+        Ok(message) => {
+            // (its clause tells what every message keeps)
+            let _count = message.segment_count();
+            acknowledgment(&message, control)
+        }
         Err(ReadFault::Memory) => Err(AckFault::Memory),
         Err(_) => Err(AckFault::Unreadable),
     }

@@ -39,21 +39,11 @@ fn put_into(draft: &mut Option<Draft>, place: Place, text: &[u8]) -> Result<(), 
 }
 
 /// Makes a message, segment by segment and text by text.
+#[derive(Drop)]
 pub struct Builder {
     alloc: Global,
     segments: Vec<StoredSegment>,
     draft: Option<Draft>,
-}
-
-// (by hand: so no crate above proves again how what lies in it is let go)
-impl Drop for Builder {
-    fn drop(self) {
-        let Builder {
-            alloc: _,
-            segments: _,
-            draft: _,
-        } = self;
-    }
 }
 
 impl Model for Builder {
