@@ -22,7 +22,7 @@ pub(crate) struct Leaf {
 }
 
 /// The same in 24 bytes.
-#[derive(Clone, Copy, PartialEq)]
+#[derive(Clone, Copy)]
 pub(crate) struct NarrowLeaf {
     field: u32,
     rep: u32,
@@ -84,7 +84,12 @@ fn widen_into(wide: &mut Vec<Leaf>, narrow: &[NarrowLeaf]) -> Result<(), AllocEr
 fn same_leaf(leaf: NarrowLeaf, other: NarrowLeaf) -> bool
     ensures { IsTrue result ↔ (leaf ≡ other) }
 {
-    leaf == other
+    leaf.field == other.field
+        && leaf.rep == other.rep
+        && leaf.comp == other.comp
+        && leaf.sub == other.sub
+        && leaf.from == other.from
+        && leaf.len == other.len
 }
 
 fn same_narrow(leaves: &[NarrowLeaf], others: &[NarrowLeaf]) -> bool
