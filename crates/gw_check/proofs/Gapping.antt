@@ -19,7 +19,7 @@ use Rattle.gw_resolve.specs.Resolved.{Items, no_items}
 use Rattle.gw_resolve.specs.Naming.{resolved}
 use Rattle.gw_resolve.specs.Outcome.{IsNamed, IsLost}
 use Rattle.gw_resolve.specs.Seen.{failures, rule, with_item, all_items}
-use Rattle.gw_resolve.proofs.Noting.{added_one, front}
+use Rattle.gw_resolve.proofs.Noting.{added_one}
 use Rattle.gw_resolve.proofs.Rows.{group_items, flat_items}
 use Rattle.gw_check.specs.Found.{usage_of}
 use Rattle.gw_check.specs.own.ItemByItem.{Leads}

@@ -1,10 +1,10 @@
-use Rattle.std.proofs.Common.{◌≡◌, ◌∙◌, ap, ap₂, arith, min, ℕ, Option, None, Some}
+use Rattle.std.proofs.Common.{◌≡◌, ◌∙◌, ap, ap₂, arith, Option, None, Some}
 use Rattle.std.proofs.lemmas.Bool.Decides.{nat_tests}
 use Rattle.std.specs.Prelude.{nat_le, if◌then◌else◌, ◌&&◌}
 use Rattle.gw_profile.specs.Shapes.{FieldValue}
-use Rattle.gw_resolve.specs.Intervals.{Interval, is_never, is_sure}
+use Rattle.gw_resolve.specs.Intervals.{Interval, is_sure}
 use Rattle.gw_resolve.specs.Places.{Known, known}
-use Rattle.gw_resolve.specs.Seen.{saturated, scope, place, cap}
+use Rattle.gw_resolve.specs.Seen.{saturated, scope, place}
 use Rattle.gw_resolve.proofs.Saturation.{never_saturated}
 use Rattle.gw_check.specs.Leaves.{by_usage, both, field_of, field_presence}
 use Rattle.gw_check.specs.declared.shape.Presence.TheVariants.{Always, Maybe, Never}

@@ -7,7 +7,7 @@ use Rattle.gw_maplang.specs.Lawful.{Lawful}
 use Rattle.gw_maplang.specs.Shapes.{Items, TableValue, DropValue, MapValue}
 use Rattle.gw_maplang.specs.Value.{Head, head, levels, drops}
 use Rattle.gw_maplang.specs.own.Building.{head_value}
-use Rattle.gw_maplang.specs.Seen.{line, above, all_items, dropped}
+use Rattle.gw_maplang.specs.Seen.{line, above}
 use Rattle.gw_maplang.specs.Whole.{map_of}
 use Rattle.gw_maplang.proofs.Formed.{formed}
 use Rattle.gw_maplang.proofs.whole.map_of.Goals as goal
