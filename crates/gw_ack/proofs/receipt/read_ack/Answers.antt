@@ -5,5 +5,5 @@ use Rattle.gw_ack.proofs.receipt.read_ack.Goals as goal
 
 pub returns-in-Ok-clause-read : goal.returns-in-Ok-clause-read
 returns-in-Ok-clause-read c = λ message lawful reads.
-    let same = c.reads_once.ensures.message c.args.content.now c.in-Ok.message message c.segment_count.ensures.message lawful c.in-Ok.ensures.ok reads in
+    let same = c.reads_once.ensures.message c.args.content.now c.in-Ok.message message c.segment_count-count.ensures.message lawful c.in-Ok.ensures.ok reads in
     inr (c.acknowledgment.ensures ∙ ap (λ (m : List SegmentValue). acknowledgment m c.args.control.now) same)
