@@ -122,7 +122,8 @@ impl Solo {
     pub fn into_gate(self) -> Gate
         ensures { result ≡ self.gate }
     {
-        self.gate
+        let Solo { gate, notes: _ } = self;
+        gate
     }
 }
 
