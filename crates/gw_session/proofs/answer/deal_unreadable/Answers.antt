@@ -15,8 +15,8 @@ stamped-requires g c = lawful_so None _ _ _ _ (unreadable_turn _ _ _ _ c.in_ok-t
 pub returns-clause-dealt : goal.returns-clause-dealt
 returns-clause-dealt g c content fault faulty =
     let turn = unreadable_turn _ _ _ _ c.in_ok-turn.ensures.refused in
-    if_dealt (g.C.Clock.gives c.args.clock.now) content c.stamped-2.result None _ _ _ _ _ (unreadable fault faulty) c.blank.ensures turn c.stamped-2.ensures.says
+    if_dealt (g.C.Clock.gives c.args.clock.now) content c.stamped.result None _ _ _ _ _ (unreadable fault faulty) c.blank.ensures turn c.stamped.ensures.says
 
 pub returns-clause-begun : goal.returns-clause-begun
 returns-clause-begun g c content fault faulty =
-    let turn = unreadable_turn _ _ _ _ c.in_ok-turn.ensures.refused in unless_dealt content c.stamped-2.result None _ _ _ _ (unreadable fault faulty) turn
+    let turn = unreadable_turn _ _ _ _ c.in_ok-turn.ensures.refused in unless_dealt content c.stamped.result None _ _ _ _ (unreadable fault faulty) turn
