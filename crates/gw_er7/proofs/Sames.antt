@@ -7,9 +7,7 @@ use Rattle.std.specs.Cmp.Lexicographic.{slice_cmp}
 use Rattle.std.specs.FinMap as texts
 use Rattle.std.specs.FinMap.{is_sorted, entries-from_sorted}
 use Rattle.gw_er7.specs.Message.{SegmentValue, numbers}
-use Rattle.gw_er7.specs.declared.leaves.Leaf.{Leaf}
-use Rattle.gw_er7.specs.declared.leaves.NarrowLeaf.{NarrowLeaf}
-use Rattle.gw_er7.specs.View.{Held, entry_of, entries_of, lying, stored}
+use Rattle.gw_er7.specs.View.{Held, entry_of, entries_of, stored}
 
 pub zip_maps : {A B : Type 0} (f : A → B) (xs ys : List A) → AllZip (λ x y. f x ≡ f y) xs ys ↔ (map f xs ≡ map f ys)
 zip_maps f [] [] = (λ h. refl, λ e. tt)
@@ -59,12 +57,6 @@ pub messages_same : (m n xs ys zs ws : List SegmentValue) (r : Bool) → m ≡ x
 messages_same m n xs ys zs ws r a b u v h =
     let z = zip_same zs ws in
     (λ k. a ∙ sym u ∙ z.0 (h.0 k) ∙ v ∙ sym b, λ e. h.1 (z.1 (u ∙ sym a ∙ e ∙ b ∙ sym v)))
-
--- leaves of 24 bytes that are equal one by one
-pub leaves_same : (ns ms xs ys : List NarrowLeaf) (ws vs all others : List Leaf) (r : Bool) → lying ns ws ≡ all → lying ms vs ≡ others → ws ≡ [] → vs ≡ [] → xs ≡ ns → ys ≡ ms → IsTrue r ↔ AllZip (λ a b. a ≡ b) xs ys → IsTrue r → all ≡ others
-leaves_same ns ms xs ys ws vs all others r a b none none_of_others u v h k =
-    let e : ns ≡ ms = sym u ∙ (zip_same xs ys).0 (h.0 k) ∙ v in
-    sym a ∙ (λ i. lying (e i) ((none ∙ sym none_of_others) i)) ∙ b
 
 -- equal texts are the same one by one
 pub texts_same : (xs ys : List Held) → xs ≡ ys → IsTrue true ↔ AllZip (λ a b. entry_of a ≡ entry_of b) xs ys

@@ -13,6 +13,7 @@ use Rattle.std.specs.Coded.{Coded, code_by, coded×, coded_ℕ, coded_list}
 use Rattle.gw_er7.specs.declared.place.Place.{Place}
 use Rattle.gw_er7.specs.declared.leaves.Leaf.{Leaf}
 use Rattle.gw_er7.specs.declared.leaves.NarrowLeaf.{NarrowLeaf}
+use Rattle.gw_er7.specs.declared.leaves.SmallLeaf.{SmallLeaf}
 use Rattle.gw_er7.specs.Message.{numbers, Texts, SegmentValue, IsEntry, IsSegment}
 use Rattle.gw_er7.specs.Building.{IsBegun}
 use Rattle.gw_er7.specs.Entries.{Entry}
@@ -35,15 +36,24 @@ leaf_code =
     (λ l. (l.place.field, (l.place.rep, (l.place.comp, (l.place.sub, (l.from, l.len)))))) (λ p. record { place = record { field = p.0; rep = p.1.0; comp = p.1.1.0; sub = p.1.1.1.0 }; from = p.1.1.1.1.0; len = p.1.1.1.1.1 }) (λ _. refl)
 
 -- a leaf of 24 bytes says the same as one of 48
-abbrev pub widened : NarrowLeaf → Leaf
-widened l = record { place = record { field = l.field; rep = l.rep; comp = l.comp; sub = l.sub }; from = l.from; len = l.len }
+abbrev pub said_narrow : NarrowLeaf → Leaf
+said_narrow l = record { place = record { field = l.field; rep = l.rep; comp = l.comp; sub = l.sub }; from = l.from; len = l.len }
 
-abbrev pub lying : List NarrowLeaf → List Leaf → List Leaf
-lying narrow wide = map widened narrow ++ wide
+-- and so does one of 12
+abbrev pub said_small : SmallLeaf → Leaf
+said_small l = record { place = record { field = l.field; rep = l.rep; comp = l.comp; sub = l.sub }; from = l.from; len = l.len }
 
--- all are of 24 bytes, or none
-abbrev pub AreAlike : List NarrowLeaf → List Leaf → Type 0
-AreAlike narrow wide = (narrow ≡ []) ⊎ (wide ≡ [])
+-- no number of the leaf is larger than this one
+abbrev pub IsUpTo : ℕ → Leaf → Type 0
+IsUpTo largest l = (l.place.field ≤ largest) × (l.place.rep ≤ largest) × (l.place.comp ≤ largest) × (l.place.sub ≤ largest) × (l.from ≤ largest) × (l.len ≤ largest)
+
+-- leaves of one width, and others
+abbrev pub lying : {N : Type 0} → (N → Leaf) → List N → List Leaf → List Leaf
+lying said narrow others = map said narrow ++ others
+
+-- all are of this width, or none
+abbrev pub AreAlike : {N : Type 0} → List N → List Leaf → Type 0
+AreAlike narrow others = (narrow ≡ []) ⊎ (others ≡ [])
 
 -- the text of a leaf lies within the bytes
 abbrev pub IsInside : List ℕ → Leaf → Type 0

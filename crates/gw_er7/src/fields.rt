@@ -7,7 +7,7 @@ ghost use Rattle.gw_er7.specs.View.{entries_of, AreInside};
 
 use crate::delimiters::Delimiters;
 use crate::escapes::push_canonical;
-use crate::leaves::{Leaf, Leaves};
+use crate::leaves::{Leaf, SegmentLeaves, Store};
 use crate::place::Place;
 use crate::texts::SegmentTexts;
 use std::alloc::{AllocError, Global};
@@ -84,7 +84,7 @@ fn next_place(delimiters: Delimiters, place: Place, separator: u8) -> Place
 /// It serves one segment after the other, so it grows only while segments get longer.
 #[derive(Drop)]
 pub(crate) struct Scratch {
-    leaves: Leaves,
+    leaves: SegmentLeaves,
     bytes: Vec<u8>,
 }
 
@@ -93,7 +93,7 @@ impl Scratch {
     pub(crate) fn with_room(alloc: Global, room: usize) -> Result<Scratch, AllocError> {
         let bytes = Vec::with_capacity(alloc, room)?;
         Ok(Scratch {
-            leaves: Leaves::new(alloc),
+            leaves: SegmentLeaves::new(alloc),
             bytes,
         })
     }

@@ -1,11 +1,11 @@
-//! Where the texts of a segment lie among its bytes: in 24 bytes for each text, and in 48 where its numbers are too large for that.
-ghost use Rattle.std.specs.Prelude.{◌≡◌, ◌↔◌, ◌++◌, map, IsTrue, IfSome, OnOk};
+//! Where the texts of a segment lie among its bytes: in 12 bytes for each text where all numbers fit 16 bits, in 24 where they fit 32, else in 48.
+ghost use Rattle.std.specs.Prelude.{◌≡◌, ◌↔◌, ◌++◌, map, IsTrue, OnOk};
 ghost use Rattle.std.specs.List.{AllZip};
 ghost use Rattle.std.specs.List.Sorted.{IsPermutation, IsSortedBy};
 ghost use Rattle.std.specs.Ordering.{nat_cmp, is_lt};
 ghost use Rattle.std.specs.Cmp.Lexicographic.{slice_cmp};
 ghost use Rattle.gw_er7.specs.Message.{numbers};
-ghost use Rattle.gw_er7.specs.View.{widened};
+ghost use Rattle.gw_er7.specs.View.{IsUpTo};
 
 use crate::place::Place;
 use crate::search::compare_places;
@@ -32,111 +32,298 @@ pub(crate) struct NarrowLeaf {
     len: u32,
 }
 
-fn widened(leaf: NarrowLeaf) -> Leaf
-    ensures { result ≡ widened leaf }
+/// The same in 12 bytes.
+#[derive(Clone, Copy)]
+pub(crate) struct SmallLeaf {
+    field: u16,
+    rep: u16,
+    comp: u16,
+    sub: u16,
+    from: u16,
+    len: u16,
+}
+
+/// A width of leaves: `said` is what one says, as a leaf of 48 bytes, and `largest` the largest number that fits.
+pub(crate) trait Width: Copy {
+    ghost use Rattle.std.specs.Prelude.{◌≡◌, ◌↔◌, ℕ, IsTrue, IsSome, IfSome};
+    ghost use Rattle.gw_er7.specs.declared.leaves.Leaf.{Leaf};
+    ghost use Rattle.gw_er7.specs.View.{IsUpTo};
+
+    ghost said: { Self → Leaf };
+
+    ghost largest: { ℕ };
+
+    /// The leaf in this width, where its numbers fit.
+    fn narrowed(leaf: Leaf) -> Option<Self>
+        ensures same { IfSome result (λ narrow. said narrow ≡ leaf) }
+        ensures fits { IsSome result ↔ IsUpTo largest leaf };
+
+    fn widened(self) -> Leaf
+        ensures { result ≡ said self };
+
+    fn is(self, other: Self) -> bool
+        ensures { IsTrue result ↔ (self ≡ other) };
+}
+
+/// Whether no number of the leaf is larger than this one.
+fn is_up_to(largest: usize, leaf: Leaf) -> bool
+    ensures { IsTrue result ↔ IsUpTo largest leaf }
 {
-    Leaf {
-        place: Place {
-            field: leaf.field as usize,
-            rep: leaf.rep as usize,
-            comp: leaf.comp as usize,
-            sub: leaf.sub as usize,
-        },
-        from: leaf.from as usize,
-        len: leaf.len as usize,
+    leaf.place.field <= largest
+        && leaf.place.rep <= largest
+        && leaf.place.comp <= largest
+        && leaf.place.sub <= largest
+        && leaf.from <= largest
+        && leaf.len <= largest
+}
+
+impl Width for NarrowLeaf {
+    ghost use Rattle.std.specs.Prelude.{◌-◌, ◌^◌};
+    ghost use Rattle.gw_er7.specs.View.{said_narrow};
+
+    ghost said = { said_narrow };
+
+    ghost largest = { 2 ^ 32 - 1 };
+
+    fn narrowed(leaf: Leaf) -> Option<NarrowLeaf> {
+        if !is_up_to(u32::MAX as usize, leaf) {
+            return None;
+        }
+        Some(NarrowLeaf {
+            field: leaf.place.field as u32,
+            rep: leaf.place.rep as u32,
+            comp: leaf.place.comp as u32,
+            sub: leaf.place.sub as u32,
+            from: leaf.from as u32,
+            len: leaf.len as u32,
+        })
+    }
+
+    fn widened(self) -> Leaf {
+        Leaf {
+            place: Place {
+                field: self.field as usize,
+                rep: self.rep as usize,
+                comp: self.comp as usize,
+                sub: self.sub as usize,
+            },
+            from: self.from as usize,
+            len: self.len as usize,
+        }
+    }
+
+    fn is(self, other: NarrowLeaf) -> bool {
+        self.field == other.field
+            && self.rep == other.rep
+            && self.comp == other.comp
+            && self.sub == other.sub
+            && self.from == other.from
+            && self.len == other.len
     }
 }
 
-/// The largest number of a leaf in 24 bytes.
-const LARGEST: usize = u32::MAX as usize;
+impl Width for SmallLeaf {
+    ghost use Rattle.std.specs.Prelude.{◌-◌, ◌^◌};
+    ghost use Rattle.gw_er7.specs.View.{said_small};
 
-/// The leaf in 24 bytes, where its numbers fit.
-fn narrowed(leaf: Leaf) -> Option<NarrowLeaf>
-    ensures { IfSome result (λ narrow. widened narrow ≡ leaf) }
-{
-    let place = leaf.place;
-    if place.field > LARGEST || place.rep > LARGEST || place.comp > LARGEST {
-        return None;
+    ghost said = { said_small };
+
+    ghost largest = { 2 ^ 16 - 1 };
+
+    fn narrowed(leaf: Leaf) -> Option<SmallLeaf> {
+        if !is_up_to(u16::MAX as usize, leaf) {
+            return None;
+        }
+        Some(SmallLeaf {
+            field: leaf.place.field as u16,
+            rep: leaf.place.rep as u16,
+            comp: leaf.place.comp as u16,
+            sub: leaf.place.sub as u16,
+            from: leaf.from as u16,
+            len: leaf.len as u16,
+        })
     }
-    if place.sub > LARGEST || leaf.from > LARGEST || leaf.len > LARGEST {
-        return None;
+
+    fn widened(self) -> Leaf {
+        Leaf {
+            place: Place {
+                field: self.field as usize,
+                rep: self.rep as usize,
+                comp: self.comp as usize,
+                sub: self.sub as usize,
+            },
+            from: self.from as usize,
+            len: self.len as usize,
+        }
     }
-    Some(NarrowLeaf {
-        field: place.field as u32,
-        rep: place.rep as u32,
-        comp: place.comp as u32,
-        sub: place.sub as u32,
-        from: leaf.from as u32,
-        len: leaf.len as u32,
-    })
+
+    fn is(self, other: SmallLeaf) -> bool {
+        self.field == other.field
+            && self.rep == other.rep
+            && self.comp == other.comp
+            && self.sub == other.sub
+            && self.from == other.from
+            && self.len == other.len
+    }
 }
 
-/// Puts leaves of 24 bytes behind others, as wide ones.
-fn widen_into(wide: &mut Vec<Leaf>, narrow: &[NarrowLeaf]) -> Result<(), AllocError>
-    ensures { OnOk result (wide.new.items ≡ wide.old.items ++ map widened narrow.now) }
-{
-    for leaf in narrow {
-        wide.push(widened(*leaf))?;
+/// The widest of all.
+impl Width for Leaf {
+    ghost use Rattle.std.specs.Prelude.{◌-◌, ◌^◌};
+
+    ghost said = { λ leaf. leaf };
+
+    ghost largest = { 2 ^ 64 - 1 };
+
+    fn narrowed(leaf: Leaf) -> Option<Leaf> {
+        Some(leaf)
     }
-    Ok(())
+
+    fn widened(self) -> Leaf {
+        self
+    }
+
+    fn is(self, other: Leaf) -> bool {
+        self.place == other.place && self.from == other.from && self.len == other.len
+    }
 }
 
-fn same_leaf(leaf: NarrowLeaf, other: NarrowLeaf) -> bool
-    ensures { IsTrue result ↔ (leaf ≡ other) }
-{
-    leaf.field == other.field
-        && leaf.rep == other.rep
-        && leaf.comp == other.comp
-        && leaf.sub == other.sub
-        && leaf.from == other.from
-        && leaf.len == other.len
-}
-
-fn same_narrow(leaves: &[NarrowLeaf], others: &[NarrowLeaf]) -> bool
+fn same_leaves<N: Width>(leaves: &[N], others: &[N]) -> bool
     ensures { IsTrue result ↔ AllZip (λ a b. a ≡ b) leaves.now others.now }
 {
     if leaves.len() != others.len() {
         return false;
     }
     for (i, leaf) in leaves.iter().enumerate() {
-        if !same_leaf(*leaf, others[i]) {
+        if !leaf.is(others[i]) {
             return false;
         }
     }
     true
 }
 
-fn sort_narrow(leaves: &mut Vec<NarrowLeaf>)
+fn sort_leaves<N: Width>(leaves: &mut Vec<N>)
     ensures permutation { IsPermutation leaves.old.items leaves.new.items }
-    ensures sorted { IsSortedBy (λ a b. is_lt (slice_cmp nat_cmp (numbers (widened a).place) (numbers (widened b).place))) leaves.new.items }
+    ensures sorted { IsSortedBy (λ a b. is_lt (slice_cmp nat_cmp (numbers (N.said a).place) (numbers (N.said b).place))) leaves.new.items }
 {
     leaves.sort_unstable_by(
-        |a: &NarrowLeaf, b: &NarrowLeaf| -> Ordering
-            ensures { result ≡ slice_cmp nat_cmp (numbers (widened a.now).place) (numbers (widened b.now).place) }
-        { compare_places(widened(*a).place, widened(*b).place) },
+        |a: &N, b: &N| -> Ordering
+            ensures { result ≡ slice_cmp nat_cmp (numbers (N.said a.now).place) (numbers (N.said b.now).place) }
+        { compare_places(a.widened().place, b.widened().place) },
     );
 }
 
-fn sort_wide(leaves: &mut Vec<Leaf>)
-    ensures permutation { IsPermutation leaves.old.items leaves.new.items }
-    ensures sorted { IsSortedBy (λ a b. is_lt (slice_cmp nat_cmp (numbers a.place) (numbers b.place))) leaves.new.items }
-{
-    leaves.sort_unstable_by(
-        |a: &Leaf, b: &Leaf| -> Ordering
-            ensures { result ≡ slice_cmp nat_cmp (numbers a.now.place) (numbers b.now.place) }
-        { compare_places(a.place, b.place) },
-    );
+/// Leaves one behind the other, in whatever width: `leaves` is what they say.
+pub(crate) trait Store: Drop {
+    ghost use Rattle.std.specs.Prelude.{◌≡◌, ◌<◌, ◌++◌, ◌∷◌, [], List, length, slice_index_or, IsTrue, OnOk, OnErr, IfOk};
+    ghost use Rattle.std.specs.List.Sorted.{IsPermutation, IsSortedBy};
+    ghost use Rattle.std.specs.Ordering.{nat_cmp, is_lt};
+    ghost use Rattle.std.specs.Cmp.Lexicographic.{slice_cmp};
+    ghost use Rattle.gw_er7.specs.declared.leaves.Leaf.{Leaf};
+    ghost use Rattle.gw_er7.specs.Message.{numbers};
+
+    ghost leaves: { Self → List Leaf };
+
+    /// No leaf. It takes no memory.
+    fn new(alloc: Global) -> Self
+        ensures { leaves result ≡ [] };
+
+    /// Puts a leaf behind the others.
+    fn push(&mut self, leaf: Leaf) -> Result<(), AllocError>
+        ensures ok { OnOk result (leaves self.new ≡ leaves self.old ++ leaf ∷ []) }
+        ensures err { OnErr result (leaves self.new ≡ leaves self.old) };
+
+    /// Takes all leaves away, and keeps their memory for others.
+    fn clear(&mut self)
+        ensures { leaves self.new ≡ [] };
+
+    /// Puts the leaves in the order of their places. It takes no memory.
+    fn sort(&mut self)
+        ensures permutation { IsPermutation (leaves self.old) (leaves self.new) }
+        ensures sorted { IsSortedBy (λ a b. is_lt (slice_cmp nat_cmp (numbers a.place) (numbers b.place))) (leaves self.new) };
+
+    /// Gives back the memory that the leaves don't take.
+    fn fit(&mut self)
+        ensures { leaves self.new ≡ leaves self.old };
+
+    /// The same leaves once more, in memory that fits them.
+    fn copy(&self, alloc: Global) -> Result<Self, AllocError>
+        ensures { IfOk result (λ copied. leaves copied ≡ leaves self.now) };
+
+    /// Whether these are known to be the same leaves: only those of one width are compared. It takes no memory.
+    fn are_alike(&self, other: &Self) -> bool
+        ensures { IsTrue result → leaves self.now ≡ leaves other.now };
+
+    fn len(&self) -> usize
+        ensures { result ≡ length (leaves self.now) };
+
+    /// The leaf of this number, from 0.
+    fn at(&self, i: usize) -> Leaf
+        requires { i < length (leaves self.now) }
+        ensures { (other : Leaf) → slice_index_or (leaves self.now) i other ≡ result };
 }
 
-/// Leaves: all in 24 bytes, or none.
+/// All in 48 bytes.
+impl Store for Vec<Leaf> {
+    ghost leaves = { λ v. v.items };
+
+    fn new(alloc: Global) -> Vec<Leaf> {
+        Vec::new(alloc)
+    }
+
+    fn push(&mut self, leaf: Leaf) -> Result<(), AllocError> {
+        self.push(leaf)?;
+        Ok(())
+    }
+
+    fn clear(&mut self) {
+        self.clear();
+    }
+
+    fn sort(&mut self) {
+        sort_leaves(self);
+    }
+
+    fn fit(&mut self) {
+        self.shrink_to_fit();
+    }
+
+    fn copy(&self, alloc: Global) -> Result<Vec<Leaf>, AllocError> {
+        Ok(Vec::from_slice(alloc, self)?)
+    }
+
+    fn are_alike(&self, other: &Vec<Leaf>) -> bool {
+        same_leaves(self, other)
+    }
+
+    fn len(&self) -> usize {
+        self.len()
+    }
+
+    fn at(&self, i: usize) -> Leaf {
+        self[i]
+    }
+}
+
+/// Puts leaves behind others, in their width.
+fn widen_into<N: Width, L: Store>(others: &mut L, narrow: &[N]) -> Result<(), AllocError>
+    ensures { OnOk result (L.leaves others.new ≡ L.leaves others.old ++ map N.said narrow.now) }
+{
+    for leaf in narrow {
+        others.push(leaf.widened())?;
+    }
+    Ok(())
+}
+
+/// Leaves in two widths: all are in the narrow one, or none is.
 #[derive(Drop)]
-pub(crate) struct Leaves {
+pub(crate) struct Leaves<N: Width, L: Store> {
     alloc: Global,
-    narrow: Vec<NarrowLeaf>,
-    wide: Vec<Leaf>,
+    narrow: Vec<N>,
+    others: L,
 }
 
-impl Model for Leaves {
+impl<N: Width, L: Store> Model for Leaves<N, L> {
     ghost use Rattle.std.specs.Prelude.{List};
     ghost use Rattle.std.specs.Coded.{coded_list};
     ghost use Rattle.gw_er7.specs.declared.leaves.Leaf.{Leaf};
@@ -146,127 +333,96 @@ impl Model for Leaves {
 
     ghost coded = { coded_list leaf_code };
 
-    ghost view = { λ l. lying l.narrow.items l.wide.items };
+    ghost view = { λ l. lying N.said l.narrow.items (L.leaves l.others) };
 
-    ghost invariant = { λ l. AreAlike l.narrow.items l.wide.items };
+    ghost invariant = { λ l. AreAlike l.narrow.items (L.leaves l.others) };
 }
 
-impl Leaves {
-    ghost use Rattle.std.specs.Prelude.{◌≡◌, ◌<◌, ◌++◌, ◌∷◌, [], length, slice_index_or, IsTrue, OnOk, OnErr, IfOk};
-    ghost use Rattle.std.specs.List.Sorted.{IsPermutation, IsSortedBy};
-    ghost use Rattle.std.specs.Ordering.{nat_cmp, is_lt};
-    ghost use Rattle.std.specs.Cmp.Lexicographic.{slice_cmp};
-    ghost use Rattle.gw_er7.specs.Message.{numbers};
+impl<N: Width, L: Store> Leaves<N, L> {
+    ghost use Rattle.std.specs.Prelude.{◌≡◌, ◌++◌, ◌∷◌, [], OnOk, OnErr};
 
-    /// No leaf. It takes no memory.
-    pub(crate) fn new(alloc: Global) -> Leaves
-        ensures { result ≡ [] }
-    {
-        Leaves {
-            alloc,
-            narrow: Vec::new(alloc),
-            wide: Vec::new(alloc),
-        }
-    }
-
-    /// Puts a leaf behind the others. One whose numbers don't fit in 24 bytes widens those before it.
-    pub(crate) fn push(&mut self, leaf: Leaf) -> Result<(), AllocError>
+    /// Puts a leaf behind the others that doesn't fit in the narrow width: none is narrow from now on.
+    fn push_wide(&mut self, leaf: Leaf) -> Result<(), AllocError>
         ensures ok { OnOk result (self.new ≡ self.old ++ leaf ∷ []) }
         ensures err { OnErr result (self.new ≡ self.old) }
     {
-        if !self.wide.is_empty() {
-            self.wide.push(leaf)?;
-            return Ok(());
+        if self.narrow.is_empty() {
+            return self.others.push(leaf);
         }
-        let Some(narrow) = narrowed(leaf) else {
+        let mut others = L::new(self.alloc);
+        widen_into(&mut others, &self.narrow)?;
+        others.push(leaf)?;
+        self.others = others;
+        self.narrow = Vec::new(self.alloc);
+        Ok(())
+    }
+}
+
+impl<N: Width, L: Store> Store for Leaves<N, L> {
+    ghost leaves = { λ leaves. leaves };
+
+    fn new(alloc: Global) -> Leaves<N, L> {
+        Leaves {
+            alloc,
+            narrow: Vec::new(alloc),
+            others: L::new(alloc),
+        }
+    }
+
+    fn push(&mut self, leaf: Leaf) -> Result<(), AllocError> {
+        if self.others.len() > 0 {
+            return self.others.push(leaf);
+        }
+        let Some(narrow) = N::narrowed(leaf) else {
             return self.push_wide(leaf);
         };
         self.narrow.push(narrow)?;
         Ok(())
     }
 
-    /// The same, all in 48 bytes from now on.
-    fn push_wide(&mut self, leaf: Leaf) -> Result<(), AllocError>
-        ensures ok { OnOk result (self.new ≡ self.old ++ leaf ∷ []) }
-        ensures err { OnErr result (self.new ≡ self.old) }
-    {
-        let mut wide = Vec::new(self.alloc);
-        widen_into(&mut wide, &self.narrow)?;
-        wide.extend_from_slice(&self.wide)?;
-        wide.push(leaf)?;
-        self.wide = wide;
-        self.narrow = Vec::new(self.alloc);
-        Ok(())
-    }
-
-    /// Takes all leaves away, and keeps their memory for others.
-    pub(crate) fn clear(&mut self)
-        ensures { self.new ≡ [] }
-    {
+    fn clear(&mut self) {
         self.narrow.clear();
-        self.wide.clear();
+        self.others.clear();
     }
 
-    /// Puts the leaves in the order of their places. It takes no memory.
-    pub(crate) fn sort(&mut self)
-        ensures permutation { IsPermutation self.old self.new }
-        ensures sorted { IsSortedBy (λ a b. is_lt (slice_cmp nat_cmp (numbers a.place) (numbers b.place))) self.new }
-    {
-        sort_narrow(&mut self.narrow);
-        sort_wide(&mut self.wide);
+    fn sort(&mut self) {
+        sort_leaves(&mut self.narrow);
+        self.others.sort();
     }
 
-    /// Gives back the memory that the leaves don't take.
-    pub(crate) fn fit(&mut self)
-        ensures { self.new ≡ self.old }
-    {
+    fn fit(&mut self) {
         self.narrow.shrink_to_fit();
-        self.wide.shrink_to_fit();
+        self.others.fit();
     }
 
-    /// The same leaves once more, in memory that fits them.
-    pub(crate) fn copy(&self, alloc: Global) -> Result<Leaves, AllocError>
-        ensures { IfOk result (λ leaves. leaves ≡ self.now) }
-    {
+    fn copy(&self, alloc: Global) -> Result<Leaves<N, L>, AllocError> {
         let narrow = Vec::from_slice(alloc, &self.narrow)?;
-        let wide = Vec::from_slice(alloc, &self.wide)?;
+        let others = self.others.copy(alloc)?;
         Ok(Leaves {
             alloc,
             narrow,
-            wide,
+            others,
         })
     }
 
-    /// Whether these are known to be the same leaves: only those in 24 bytes are compared. It takes no memory.
-    pub(crate) fn are_alike(&self, other: &Leaves) -> bool
-        ensures { IsTrue result → self.now ≡ other.now }
-    {
-        if !self.wide.is_empty() {
-            return false;
-        }
-        if !other.wide.is_empty() {
-            return false;
-        }
-        same_narrow(&self.narrow, &other.narrow)
+    fn are_alike(&self, other: &Leaves<N, L>) -> bool {
+        same_leaves(&self.narrow, &other.narrow) && self.others.are_alike(&other.others)
     }
 
-    pub(crate) fn len(&self) -> usize
-        ensures { result ≡ length self.now }
-    {
-        if self.wide.is_empty() {
-            return self.narrow.len();
+    fn len(&self) -> usize {
+        if self.narrow.is_empty() {
+            return self.others.len();
         }
-        self.wide.len()
+        self.narrow.len()
     }
 
-    /// The leaf of this number, from 0.
-    pub(crate) fn at(&self, i: usize) -> Leaf
-        requires { i < length self.now }
-        ensures { (other : Leaf) → slice_index_or self.now i other ≡ result }
-    {
+    fn at(&self, i: usize) -> Leaf {
         if i < self.narrow.len() {
-            return widened(self.narrow[i]);
+            return self.narrow[i].widened();
         }
-        self.wide[i]
+        self.others.at(i)
     }
 }
+
+/// The leaves of a segment: all in 12 bytes, in 24, or in 48.
+pub(crate) type SegmentLeaves = Leaves<SmallLeaf, Leaves<NarrowLeaf, Vec<Leaf>>>;

@@ -1,6 +1,6 @@
 //! The texts of a segment: all in one buffer, so that none takes memory of its own.
 
-use crate::leaves::{Leaf, Leaves};
+use crate::leaves::{Leaf, SegmentLeaves, Store};
 use crate::place::Place;
 use crate::same::same_bytes;
 use crate::values::Values;
@@ -10,7 +10,7 @@ use std::marker::Model;
 /// Texts at places, in the order in which they were put: leaves, and the one buffer in which their texts lie.
 #[derive(Drop)]
 pub(crate) struct SegmentTexts {
-    leaves: Leaves,
+    leaves: SegmentLeaves,
     bytes: Vec<u8>,
 }
 
@@ -38,7 +38,7 @@ impl SegmentTexts {
         ensures { result ≡ [] }
     {
         SegmentTexts {
-            leaves: Leaves::new(alloc),
+            leaves: SegmentLeaves::new(alloc),
             bytes: Vec::new(alloc),
         }
     }
@@ -46,7 +46,7 @@ impl SegmentTexts {
     /// The texts that these leaves say of these bytes, in memory that fits them.
     pub(crate) fn fitted(
         alloc: Global,
-        leaves: &Leaves,
+        leaves: &SegmentLeaves,
         bytes: &[u8],
     ) -> Result<SegmentTexts, AllocError>
         requires { AreInside bytes.now leaves.now }

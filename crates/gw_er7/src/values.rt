@@ -1,13 +1,13 @@
 //! Texts at places, as they are lent.
 
-use crate::leaves::Leaves;
+use crate::leaves::{SegmentLeaves, Store};
 use crate::view::Value;
 use std::marker::Model;
 
 /// Texts at places, lent: leaves, and the bytes in which their texts lie.
 #[derive(Drop)]
 pub(crate) struct Values<'a> {
-    leaves: &'a Leaves,
+    leaves: &'a SegmentLeaves,
     bytes: &'a [u8],
 }
 
@@ -30,7 +30,7 @@ impl<'a> Values<'a> {
     ghost use Rattle.gw_er7.specs.View.{Held, held, AreInside};
 
     /// The texts that these leaves say of these bytes.
-    pub(crate) fn of(leaves: &'a Leaves, bytes: &'a [u8]) -> Values<'a>
+    pub(crate) fn of(leaves: &'a SegmentLeaves, bytes: &'a [u8]) -> Values<'a>
         requires { AreInside bytes.now leaves.now }
         ensures { result ≡ held bytes.now leaves.now }
     {
