@@ -9,7 +9,15 @@ use Rattle.gw_crew.specs.declared.note.Note.{Note}
 use Rattle.gw_crew.specs.Notes.{NoteSeen, Notes}
 use Rattle.gw_crew.specs.Seen.{note_seen, notes_seen}
 use Rattle.gw_crew.proofs.Soloing.{quiet, told, pushed}
-use Rattle.gw_run.specs.Passes.{StepsSomewhere}
+use Rattle.gw_run.specs.Passes.{IsReplyTo}
+use Rattle.gw_run.specs.own.Steps.{StepsSomewhere}
+
+-- its reply is that of the journal
+pub replies : (event : EventSeen) (answer : Result (Reply × Option Note) Event) (reply : Reply) (left : Option Note)
+    → StepsSomewhere event answer → answer ≡ Ok (reply, left) → IsReplyTo event (reply_seen reply)
+replies event answer reply left steps is =
+    let s : StepsSomewhere event (Ok (reply, left)) = subst (StepsSomewhere event) is steps in
+    record { journal = s.before; lawful = s.lawful; reply_is = s.step.replied.reply_is }
 
 -- it left no note
 pub quiet_call : (event : EventSeen) (answer : Result (Reply × Option Note) Event) (reply : Reply) (left : Option Note) (old : List NoteSeen) (items same : List Note)

@@ -13,7 +13,8 @@ use Rattle.gw_crew.specs.declared.note.Note.{Note}
 use Rattle.gw_crew.specs.Notes.{NoteSeen, Looked, WasStale, WasFull, WasIdle, WasNothing, Added, plain_note, note_or}
 use Rattle.gw_crew.specs.Seen.{note_seen, notes_seen}
 use Rattle.gw_crew.specs.Solos.{StepsOnce, Stepped}
-use Rattle.gw_run.specs.Passes.{receipts, added_by, counted_by}
+use Rattle.gw_run.specs.Passes.{receipts}
+use Rattle.gw_run.specs.own.Steps.{added_by, counted_by}
 
 -- ---- notes
 

@@ -23,8 +23,8 @@ use Rattle.gw_gate.proofs.Releasing.{either_none}
 use Rattle.gw_gate.proofs.Standing.{due_below, due_rises}
 use Rattle.gw_run.specs.Gathers.{is_nothing_after, is_nothing_by, kept_of}
 use Rattle.gw_run.specs.own.Joins.{of_receiver}
-use Rattle.gw_run.specs.Owing.{OwedSeen, Owes, Ordered, TurnsFor, TurnsOn, after_entry, due_to, has_nothing, is_last, is_last_by, kept_at, may_turn, turns_for, with_due, with_given, with_kept}
-use Rattle.gw_run.specs.Turns.{TurnsTo}
+use Rattle.gw_run.specs.Owing.{OwedSeen, Owes, Ordered, TurnsFor, after_entry, due_to, has_nothing, is_last, is_last_by, kept_at, may_turn, turns_for, with_due, with_given, with_kept}
+use Rattle.gw_run.specs.Turns.{TurnsOn, TurnsTo}
 use Rattle.gw_run.proofs.Turning.{passes_all, turns_stay}
 
 -- ---- one more number

@@ -71,11 +71,7 @@ abbrev pub turns_for : Option ℕ → ℕ → Bool
 turns_for None r = false
 turns_for (Some to) r = to == r
 
--- at this number a test holds, or doesn't, and this is noted
-abbrev pub TurnsOn : ℕ → Bool → List ℕ → List ℕ → Type 0
-TurnsOn at holds old new = (test : ℕ → Bool) (m : ℕ) → at ≡ m + 1 → test at ≡ holds → TurnsTo test m old → TurnsTo test at new
-
--- the same for a receiver; where the test can't have turned, it stays as it was
+-- at this number a test holds, or doesn't, and this is noted where the receiver's test may have turned; where it can't have turned, it stays as it was
 abbrev pub TurnsFor : Option ℕ → ℕ → ℕ → Bool → List ℕ → List ℕ → Type 0
 TurnsFor turned at r holds old new = (test : ℕ → Bool) (m : ℕ) → at ≡ m + 1 → test at ≡ holds → (turns_for turned r ≡ false → test at ≡ test m) → TurnsTo test m old → TurnsTo test at new
 

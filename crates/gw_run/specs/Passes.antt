@@ -1,14 +1,11 @@
 -- What the passes of a locked gate hold, and what is counted under its lock.
-use Rattle.std.specs.Prelude.{◌≡◌, ℕ, ◌+◌, ◌<◌, List, filter_map, length, sum_by, Option, Result, Ok, Err}
-use Rattle.std.specs.Option.{option_map, option_to_list}
+use Rattle.std.specs.Prelude.{◌≡◌, ℕ, ◌+◌, ◌<◌, List, filter_map, length, sum_by}
+use Rattle.gw_gate.specs.Headline.{IsTranslated}
 use Rattle.gw_gate.specs.Journal.{Journal}
-use Rattle.gw_gate.specs.Replies.{EventSeen}
-use Rattle.gw_gate.specs.declared.event.Event.{Event}
-use Rattle.gw_gate.specs.declared.event.Reply.{Reply}
-use Rattle.gw_crew.specs.declared.note.Note.{Note}
+use Rattle.gw_gate.specs.Lawful.{IsLawful}
+use Rattle.gw_gate.specs.Meaning.{Makes}
+use Rattle.gw_gate.specs.Replies.{EventSeen, ReplySeen, reply}
 use Rattle.gw_crew.specs.Notes.{NoteSeen, ReceiptSeen, receipt_of}
-use Rattle.gw_crew.specs.Seen.{note_seen}
-use Rattle.gw_crew.specs.Solos.{StepsOnce}
 
 -- the receipts among notes, in order
 abbrev pub receipts : List NoteSeen → List ReceiptSeen
@@ -53,16 +50,8 @@ AreCounted counted passes = counted.since + receipt_count passes ≡ length coun
 
 -- ---- a step under the lock
 
--- how many entries a step added, by its note
-abbrev pub added_by : Option NoteSeen → ℕ
-added_by note = length (receipts (option_to_list note))
-
-abbrev pub counted_by : Result (Reply × Option Note) Event → ℕ
-counted_by (Ok answer) = added_by (option_map note_seen answer.1)
-counted_by (Err back) = 0
-
--- the gate made one step, whatever its journal was
-pub record StepsSomewhere (event : EventSeen) (result : Result (Reply × Option Note) Event) : Type 0 where
-  pub before : Journal
-  pub after : Journal
-  pub step : StepsOnce before event result after
+-- the reply is the one that a lawful journal gives to the event
+pub record IsReplyTo (event : EventSeen) (given : ReplySeen) : Type 0 where
+  pub journal : Journal
+  pub lawful : IsLawful (IsTranslated Makes) journal
+  pub reply_is : given ≡ reply journal event

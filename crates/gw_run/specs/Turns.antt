@@ -1,5 +1,6 @@
 -- Numbers at which something turns.
-use Rattle.std.specs.Prelude.{◌≡◌, ℕ, ◌%◌, ◌<◌, ◌≤◌, ◌==◌, nat_le, Bool, false, List, length, get_or, Option, None, Some}
+use Rattle.std.specs.Prelude.{◌≡◌, ℕ, ◌+◌, ◌-◌, ◌%◌, ◌<◌, ◌≤◌, ◌==◌, nat_le, if◌then◌else◌, Bool, false, List, length, get_or, Option, None, Some}
+use Rattle.std.specs.List.{list_any, range_with_len}
 use Rattle.std.specs.List.Sorted.{IsStrictlyIncreasing}
 
 -- just so many of the rising numbers are at most k
@@ -26,6 +27,10 @@ abbrev pub is_within : ℕ → Option ℕ → Bool
 is_within high None = false
 is_within high (Some k) = nat_le k high
 
+-- this is the first number, from low on, at which a test holds
+abbrev pub IsFirstFrom : ℕ → (ℕ → Bool) → Option ℕ → Type 0
+IsFirstFrom low test first = (high : ℕ) → list_any test (range_with_len low (high + 1 - low)) ≡ is_within high first
+
 -- ---- so far
 
 -- rising numbers up to m
@@ -42,3 +47,11 @@ pub record TurnsTo (test : ℕ → Bool) (m : ℕ) (ats : List ℕ) : Type 0 whe
 pub record CountsTo (f : ℕ → ℕ) (m : ℕ) (ats : List ℕ) : Type 0 where
   pub rise : RiseTo m ats
   pub tells : (k i : ℕ) → k ≤ m → Passes ats k i → f k ≡ i
+
+-- at this number a test holds, or doesn't, and this is noted
+abbrev pub TurnsOn : ℕ → Bool → List ℕ → List ℕ → Type 0
+TurnsOn at holds old new = (test : ℕ → Bool) (m : ℕ) → at ≡ m + 1 → test at ≡ holds → TurnsTo test m old → TurnsTo test at new
+
+-- at this number one more is counted, or none, and this is noted
+abbrev pub CountsOn : ℕ → Bool → List ℕ → List ℕ → Type 0
+CountsOn at more old new = (f : ℕ → ℕ) (m : ℕ) → at ≡ m + 1 → f at ≡ f m + (if more then 1 else 0) → CountsTo f m old → CountsTo f at new

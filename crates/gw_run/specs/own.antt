@@ -2,3 +2,4 @@
 pub mod Joins
 pub mod Tellings
 pub mod Queues
+pub mod Steps

@@ -1,13 +1,12 @@
 //! A gate that several threads step, one event at a time.
 ghost use Rattle.std.specs.Prelude.{◌≡◌, ◌<◌, ◌+◌, length, IsTrue};
 ghost use Rattle.std.specs.Option.{option_map};
-ghost use Rattle.gw_gate.specs.Values.{event_seen};
 ghost use Rattle.gw_crew.specs.Seen.{note_seen};
-ghost use Rattle.gw_crew.specs.Solos.{StepsOnce};
-ghost use Rattle.gw_run.specs.Passes.{StepsSomewhere, added_by, counted_by};
+ghost use Rattle.gw_run.specs.own.Steps.{added_by};
 
 use crate::counted::Counted;
 use crate::pass::Pass;
+use crate::routes::receiver_count;
 use gw_crew::{Note, Phase, step};
 use gw_gate::{Event, Gate, Reply};
 use std::alloc::Global;
@@ -42,21 +41,35 @@ fn entries_in(note: &Option<Note>) -> u64
     }
 }
 
+// How many pairs an event issues, where it issues any.
+fn pairs_of(event: &Event) -> usize {
+    match event {
+        Event::Arrive(conforming) => receiver_count(conforming),
+        _ => 1,
+    }
+}
+
 impl<L: Ledger> Locked<L> {
     ghost use Rattle.std.specs.Prelude.{◌≡◌, ◌<◌, ◌+◌, length};
+    ghost use Rattle.gw_gate.specs.Headline.{IsTranslated};
+    ghost use Rattle.gw_gate.specs.Lawful.{IsLawful};
+    ghost use Rattle.gw_gate.specs.Meaning.{Makes};
     ghost use Rattle.gw_gate.specs.Values.{event_seen};
     ghost use Rattle.gw_crew.specs.Solos.{StepsOnce};
-    ghost use Rattle.gw_run.specs.Passes.{counted_by};
+    ghost use Rattle.gw_run.specs.own.Steps.{counted_by};
 
     // One step of the gate, with its note. An entry is counted in the book and in the share.
     #[tactic(auto, using(crate::proofs::Counting::step_grows))]
     fn step(&mut self, event: Event, share: &mut Share<L>) -> Result<(Reply, Option<Note>), Event>
         requires { 0 < share.old.parts }
         ensures step { StepsOnce self.old.gate (event_seen event) result self.new.gate }
+        ensures lawful { IsLawful (IsTranslated Makes) self.old.gate }
         ensures parts { share.new.parts ≡ share.old.parts }
         ensures amount { share.new.amount ≡ share.old.amount + counted_by result }
     {
         let Locked { gate, book, .. } = self;
+        // (for the clause that its journal is lawful)
+        gate.journal();
         let (reply, note) = step(gate, event)?;
         book.add(share, entries_in(&note));
         Ok((reply, note))
@@ -66,7 +79,7 @@ impl<L: Ledger> Locked<L> {
 impl<L: Ledger> LockedGate<L> {
     ghost use Rattle.std.specs.Prelude.{◌≡◌, ◌<◌, ◌+◌, []};
     ghost use Rattle.gw_gate.specs.Values.{event_seen};
-    ghost use Rattle.gw_run.specs.Passes.{StepsSomewhere, counted_by};
+    ghost use Rattle.gw_run.specs.own.Steps.{StepsSomewhere, counted_by};
 
     /// The gate behind a lock, with a ledger's book of the entries that are added from here on. It takes no memory.
     pub fn new(gate: Gate, book: Book<L>) -> Self
@@ -129,20 +142,32 @@ impl<L: Ledger> LockedGate<L> {
         ensures parts { share.new.parts ≡ share.old.parts }
         ensures amount { share.new.amount ≡ share.old.amount + counted_by result.0 }
     {
+        let pairs = pairs_of(&event);
         let mut locked = self.inner.lock(rt);
         let answer = locked.step(event, share);
         let entries = locked.gate.journal().len();
         drop(locked);
-        self.tell(&answer);
+        self.tell(&answer, pairs);
         (answer, entries)
     }
 
-    // Tells those who wait that there is a pair to be taken, or a result to be released.
-    fn tell(&self, answer: &Result<(Reply, Option<Note>), Event>) {
+    // Tells one who waits for each pair to be taken, and all who wait for results that there is one.
+    fn tell(&self, answer: &Result<(Reply, Option<Note>), Event>, pairs: usize) {
         match answer {
-            Ok((Reply::Accepted { .. } | Reply::Issued, _)) => self.issued.notify_all(),
+            Ok((Reply::Accepted { .. } | Reply::Issued, _)) => self.tell_workers(pairs),
             Ok((Reply::Kept, _)) => self.kept.notify_all(),
             _ => (),
+        }
+    }
+
+    // Tells those who wait for a pair that a pass ends, which may have been told of one that it didn't take.
+    pub(crate) fn left(&self) {
+        self.issued.notify_all();
+    }
+
+    fn tell_workers(&self, pairs: usize) {
+        for _pair in 0..pairs {
+            self.issued.notify_one();
         }
     }
 

@@ -12,7 +12,7 @@ use gw_crew::Note;
 
 // One receipt more has this number.
 fn mark_at(marks: &mut Vec<u8>, since: usize, at: usize)
-    ensures marks { (all : List ReceiptSeen) (e : EntrySeen) → Marks since all marks.old.items → Marks since (all ++ record { at = at; entry = e } ∷ []) marks.new.items }
+    ensures marks { (e : EntrySeen) → MarksMore since (record { at = at; entry = e } ∷ []) marks.old.items marks.new.items }
     ensures len { length marks.new.items ≡ length marks.old.items }
 {
     if at < since {

@@ -4,9 +4,9 @@ ghost use Rattle.std.specs.List.Sorted.{IsStrictlyIncreasing};
 ghost use Rattle.gw_gate.specs.Seen.{conforming_seen, translated_seen};
 ghost use Rattle.gw_gate.specs.Values.{entry_seen, entries_seen};
 ghost use Rattle.gw_run.specs.Gathers.{is_nothing_after};
-ghost use Rattle.gw_run.specs.own.Joins.{of_receiver};
-ghost use Rattle.gw_run.specs.Owing.{ChangedAt, Ordered, TurnsFor, TurnsOn, after_entry, due_to, has_nothing, is_last, may_turn, owed_at, with_due, with_given, with_kept};
-ghost use Rattle.gw_run.specs.Turns.{TurnsTo};
+ghost use Rattle.gw_run.specs.own.Joins.{AllTurn, of_receiver};
+ghost use Rattle.gw_run.specs.Owing.{ChangedAt, Ordered, after_entry, due_to, has_nothing, is_last, may_turn, owed_at, with_due, with_given, with_kept};
+ghost use Rattle.gw_run.specs.Turns.{TurnsOn, TurnsTo};
 
 use crate::routes::{receiver_at, receiver_count};
 use crate::turns::turn_to;
@@ -228,7 +228,7 @@ fn turn_by(
     entry: &Entry,
     at: usize,
 ) -> Result<(), AllocError>
-    ensures { OnOk result ((r : ℕ) → TurnsFor (may_turn (entry_seen entry.now)) at r (has_nothing (owed_at owed.now r)) (of_receiver nothing.old.items r) (of_receiver nothing.new.items r)) }
+    ensures { OnOk result (AllTurn (entry_seen entry.now) at owed.now nothing.old.items nothing.new.items) }
 {
     match may_turn(entry) {
         Some(receiver) => turn_at(nothing, alloc, receiver, at, has_nothing_at(owed, receiver)),

@@ -94,21 +94,28 @@ impl<'a, L: Ledger, R: Wait> Pass<'a, L, R> {
     pub fn end(self) -> Receipts<L>
         ensures { result ≡ self.entry }
     {
-        let Pass { share, notes, .. } = self;
+        let Pass {
+            gate,
+            share,
+            notes,
+            ..
+        } = self;
+        gate.left();
         Receipts { share, notes }
     }
 }
 
 impl<'a, L: Ledger, R: Wait> Door for Pass<'a, L, R> {
-    ghost use Rattle.std.specs.Prelude.{◌≡◌};
-    ghost use Rattle.gw_gate.specs.Values.{event_seen, answer_seen};
+    ghost use Rattle.std.specs.Prelude.{◌≡◌, IfOk};
+    ghost use Rattle.gw_gate.specs.Values.{event_seen, reply_seen, answer_seen};
     ghost use Rattle.gw_crew.specs.Notes.{Calls};
-    ghost use Rattle.gw_run.specs.Passes.{IsCounted};
+    ghost use Rattle.gw_run.specs.Passes.{IsCounted, IsReplyTo};
 
     ghost noted = { λ p. p.notes };
 
-    /// One step of the gate under the lock. An entry is noted with its receipt, and counted by the share.
+    /// One step of the gate under the lock: the reply is the one of its journal as it was then. An entry is noted with its receipt, and counted by the share.
     fn call(&mut self, event: Event) -> Result<Reply, Event>
+        ensures reply { IfOk result (λ reply. IsReplyTo (event_seen event) (reply_seen reply)) }
         ensures calls { Calls self.old.notes (event_seen event) (answer_seen result) self.new.notes }
         ensures counted { IsCounted self.new }
         ensures parts { self.new.parts ≡ self.old.parts }

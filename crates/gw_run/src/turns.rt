@@ -1,8 +1,7 @@
 //! Rising numbers at which something turns, and the first number from some on at which it holds.
-ghost use Rattle.std.specs.Prelude.{◌≡◌, ◌+◌, ◌-◌, ℕ, Bool, OnOk, if◌then◌else◌, slice_get};
-ghost use Rattle.std.specs.List.{list_any, range_with_len};
+ghost use Rattle.std.specs.Prelude.{◌≡◌, ℕ, Bool, OnOk, slice_get};
 ghost use Rattle.std.specs.List.Sorted.{IsStrictlyIncreasing};
-ghost use Rattle.gw_run.specs.Turns.{CountsTo, HoldsFrom, Passes, TurnsAt, TurnsTo, is_within};
+ghost use Rattle.gw_run.specs.Turns.{CountsOn, HoldsFrom, IsFirstFrom, Passes, TurnsAt, TurnsOn};
 
 use std::alloc::AllocError;
 
@@ -28,7 +27,7 @@ fn number_at(ats: &[usize], place: usize) -> Option<usize>
 
 // The first number, from low on, at which a test holds that turns at these.
 pub(crate) fn first_even(ats: &[usize], low: usize) -> Option<usize>
-    ensures { (test : ℕ → Bool) (high : ℕ) → TurnsAt test ats.now → list_any test (range_with_len low (high + 1 - low)) ≡ is_within high result }
+    ensures { (test : ℕ → Bool) → TurnsAt test ats.now → IsFirstFrom low test result }
 {
     let count = passed(ats, low);
     if count % 2 == 0 {
@@ -39,7 +38,7 @@ pub(crate) fn first_even(ats: &[usize], low: usize) -> Option<usize>
 
 // The first number, from low on, at which a test holds that does so from the v-th of these to the next.
 pub(crate) fn first_with(ats: &[usize], low: usize, v: u64) -> Option<usize>
-    ensures { (test : ℕ → Bool) (high : ℕ) → HoldsFrom test v ats.now → list_any test (range_with_len low (high + 1 - low)) ≡ is_within high result }
+    ensures { (test : ℕ → Bool) → HoldsFrom test v ats.now → IsFirstFrom low test result }
 {
     let count = passed(ats, low) as u64;
     if v < count {
@@ -53,7 +52,7 @@ pub(crate) fn first_with(ats: &[usize], low: usize, v: u64) -> Option<usize>
 
 // At this number a test that turns at these holds, or doesn't.
 pub(crate) fn turn_to(ats: &mut Vec<usize>, at: usize, holds: bool) -> Result<(), AllocError>
-    ensures { OnOk result ((test : ℕ → Bool) (m : ℕ) → at ≡ m + 1 → test at ≡ holds → TurnsTo test m ats.old.items → TurnsTo test at ats.new.items) }
+    ensures { OnOk result (TurnsOn at holds ats.old.items ats.new.items) }
 {
     let even = ats.len() % 2 == 0;
     if holds == even {
@@ -65,7 +64,7 @@ pub(crate) fn turn_to(ats: &mut Vec<usize>, at: usize, holds: bool) -> Result<()
 
 // At this number one more is counted, or none.
 pub(crate) fn count_to(ats: &mut Vec<usize>, at: usize, more: bool) -> Result<(), AllocError>
-    ensures { OnOk result ((f : ℕ → ℕ) (m : ℕ) → at ≡ m + 1 → f at ≡ f m + (if more then 1 else 0) → CountsTo f m ats.old.items → CountsTo f at ats.new.items) }
+    ensures { OnOk result (CountsOn at more ats.old.items ats.new.items) }
 {
     if more {
         ats.push(at)?;

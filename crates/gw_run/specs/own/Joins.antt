@@ -8,11 +8,12 @@ use Rattle.std.specs.declared.vec.Vec.{Vec}
 use Rattle.gw_plan.specs.declared.plan.Plan.{Plan}
 use Rattle.gw_gate.specs.Parts.{PlanSeen}
 use Rattle.gw_gate.specs.Seen.{plan_seen}
-use Rattle.gw_gate.specs.Journal.{Journal, current, end}
+use Rattle.gw_gate.specs.Journal.{EntrySeen, Journal, current, end}
 use Rattle.gw_gate.specs.Replies.{Takes, Releases, reply_to}
 use Rattle.gw_crew.specs.Notes.{NoteSeen, Added, ReceiptSeen}
-use Rattle.gw_run.specs.Settled.{agrees, fits_between, having, is_idle, is_nothing, next_at, until}
-use Rattle.gw_run.specs.Turns.{Passes, TurnsAt, is_within}
+use Rattle.gw_run.specs.Owing.{OwedSeen, TurnsFor, has_nothing, may_turn, owed_at}
+use Rattle.gw_run.specs.Settled.{agrees, fits, having, is_idle, is_nothing, next_at, until}
+use Rattle.gw_run.specs.Turns.{IsFirstFrom, Passes, TurnsAt}
 
 -- ---- receipts
 
@@ -28,7 +29,7 @@ MarksMore since more old new = (all : List ReceiptSeen) → Marks since all old 
 
 -- this is the first number of entries, from low on, at which the note fits the journal
 abbrev pub IsFirst : Journal → ℕ → NoteSeen → Option ℕ → Type 0
-IsFirst j low note first = (high : ℕ) → fits_between j low high note ≡ is_within high first
+IsFirst j low note first = IsFirstFrom low (λ k. fits (until j k) note) first
 
 -- whether a note is a receipt
 abbrev pub is_receipt : NoteSeen → Bool
@@ -69,6 +70,10 @@ or_none (Some ats) = ats.items
 
 abbrev pub of_receiver : List (Vec ℕ Global) → ℕ → List ℕ
 of_receiver all r = or_none (slice_get all r)
+
+-- after this entry, which makes so many, it is noted for each receiver whether there is nothing to be given out any more, or something
+abbrev pub AllTurn : EntrySeen → ℕ → List OwedSeen → List (Vec ℕ Global) → List (Vec ℕ Global) → Type 0
+AllTurn e at owed old new = (r : ℕ) → TurnsFor (may_turn e) at r (has_nothing (owed_at owed r)) (of_receiver old r) (of_receiver new r)
 
 abbrev pub plans_at : List (Arc Plan Global) → List PlanSeen
 plans_at all = map (λ p. plan_seen (arc_value p)) all

@@ -3,7 +3,7 @@ use Rattle.gw_run.proofs.Marking.{mark_more, read_as}
 use Rattle.gw_run.proofs.marks.mark_at.Goals as goal
 
 pub returns-then-index-lt2-clause-marks : goal.returns-then-index-lt2-clause-marks
-returns-then-index-lt2-clause-marks c all e was =
+returns-then-index-lt2-clause-marks c e all was =
     let marks = c.args.marks.now.items in
     let place = c.args.at - c.args.since in
     let ok = c.args.marks.now.ok in

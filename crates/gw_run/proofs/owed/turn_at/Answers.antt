@@ -1,7 +1,7 @@
 use Rattle.std.proofs.Common.{◌≡◌, ◌∙◌, ap, sym, subst, ℕ, Bool, List, slice_set}
 use Rattle.std.proofs.lemmas.Result.{on_ok_weaker}
 use Rattle.gw_run.specs.own.Joins.{of_receiver}
-use Rattle.gw_run.specs.Owing.{TurnsOn}
+use Rattle.gw_run.specs.Turns.{TurnsOn}
 use Rattle.gw_run.proofs.Dues.{set_here, set_elsewhere, read_here}
 use Rattle.gw_run.proofs.owed.turn_at.Goals as goal
 

@@ -1,7 +1,8 @@
 use Rattle.std.proofs.Common.{◌∙◌, sym, subst}
 use Rattle.gw_gate.specs.Values.{entry_seen}
 use Rattle.gw_run.specs.own.Joins.{of_receiver}
-use Rattle.gw_run.specs.Owing.{TurnsOn, has_nothing, may_turn, owed_at}
+use Rattle.gw_run.specs.Owing.{has_nothing, may_turn, owed_at}
+use Rattle.gw_run.specs.Turns.{TurnsOn}
 use Rattle.gw_run.proofs.Dues.{on_ok_both, turns_one}
 use Rattle.gw_run.proofs.owed.turn_by.Goals as goal
 

@@ -4,10 +4,10 @@ use Rattle.gw_run.specs.Turns.{is_within}
 use Rattle.gw_run.proofs.turns.first_with.Goals as goal
 
 pub returns-then-v-count : goal.returns-then-v-count
-returns-then-v-count c test high holds = with_past test c.args.ats.now c.args.low high c.passed-count.result c.args.v holds (c.passed-count.ensures holds.rising) c.if-v-count.true
+returns-then-v-count c test holds high = with_past test c.args.ats.now c.args.low high c.passed-count.result c.args.v holds (c.passed-count.ensures holds.rising) c.if-v-count.true
 
 pub returns-then-v-count-2 : goal.returns-then-v-count-2
-returns-then-v-count-2 c test high holds = with_here test c.args.ats.now c.args.low high c.passed-count.result c.args.v holds (c.passed-count.ensures holds.rising) c.if-v-count-2.true
+returns-then-v-count-2 c test holds high = with_here test c.args.ats.now c.args.low high c.passed-count.result c.args.v holds (c.passed-count.ensures holds.rising) c.if-v-count-2.true
 
 pub returns : goal.returns
-returns c test high holds = with_later test c.args.ats.now c.args.low high c.passed-count.result c.args.v holds (c.passed-count.ensures holds.rising) (let a = c.if-v-count.false in let b = c.if-v-count-2.false in omega (arith, a, b)) ∙ ap (is_within high) (sym c.number_at.ensures)
+returns c test holds high = with_later test c.args.ats.now c.args.low high c.passed-count.result c.args.v holds (c.passed-count.ensures holds.rising) (let a = c.if-v-count.false in let b = c.if-v-count-2.false in omega (arith, a, b)) ∙ ap (is_within high) (sym c.number_at.ensures)

@@ -1,8 +1,14 @@
 use Rattle.std.proofs.Common.{rules, ap}
 use Rattle.gw_run.specs.Passes.{PassSeen}
-use Rattle.gw_run.proofs.Calling.{quiet_call, told_call}
+use Rattle.gw_run.proofs.Calling.{quiet_call, replies, told_call}
 use Rattle.gw_run.proofs.Counting.{counts_on}
 use Rattle.gw_run.proofs.pass.PassDoor.call.Goals as goal
+
+pub returns-in-None-clause-reply : goal.returns-in-None-clause-reply
+returns-in-None-clause-reply g c = replies _ _ _ _ c.step-answer.ensures.step c.in-Ok.is
+
+pub returns-in-Some-clause-reply : goal.returns-in-Some-clause-reply
+returns-in-Some-clause-reply g c = replies _ _ _ _ c.step-answer.ensures.step c.in-Ok.is
 
 pub returns-in-None-clause-calls : goal.returns-in-None-clause-calls
 returns-in-None-clause-calls g c =

@@ -3,4 +3,4 @@ use Rattle.gw_run.specs.Settled.{is_idle, until}
 use Rattle.gw_run.proofs.past.Past.first_idle.Goals as goal
 
 pub returns : goal.returns
-returns c j tells high = c.first_even.ensures (λ k. is_idle (reply_to (until j k) Takes)) high (rw c.deref.ensures.value tells.idle)
+returns c j tells high = c.first_even.ensures (λ k. is_idle (reply_to (until j k) Takes)) (rw c.deref.ensures.value tells.idle) high

@@ -28,4 +28,4 @@ returns c j tells high =
     let q = plan_seen (arc_value c.in-Some.there.now) in
     let there : Some q ≡ slice_get (plans_at c.args.self.now.plans.items) c.args.version = c.in-Some.ensures ∙ ap (λ l. slice_get (plans_at l) c.args.version) c.deref.ensures.value in
     let same : test q ≡ true = ap (λ x. test (plan_seen x)) (sym c.deref-2.ensures) ∙ ap not (sym c.is_under.ensures ∙ c.if-is_under.false) in
-    c.first_with.ensures (suits j c.args.version test) high (rw c.deref-3.ensures.value (suits_from j _ _ tells.plans c.args.version test q there same))
+    c.first_with.ensures (suits j c.args.version test) (rw c.deref-3.ensures.value (suits_from j _ _ tells.plans c.args.version test q there same)) high
