@@ -1,11 +1,11 @@
 -- What an acknowledgment says (HL7 v2.5.1 chapter 2, 2.15.8 "MSA").
-use Rattle.std.specs.Prelude.{◌≡◌, ℕ, Bool, true, false, if◌then◌else◌, List, [], ◌∷◌, codes, bytes_eq, Result, Ok, Err, Option, None, Some}
+use Rattle.std.specs.Prelude.{◌≡◌, ◌⊎◌, ℕ, Bool, true, false, if◌then◌else◌, List, [], ◌∷◌, codes, bytes_eq, Result, Ok, Err, Option, None, Some}
 use Rattle.gw_er7.specs.Message.{SegmentValue, IsMessage, text_of}
 use Rattle.gw_er7.specs.Reading.{Reads}
 use Rattle.gw_ack.specs.declared.receipt.Ack.{Ack}
 use Rattle.gw_ack.specs.declared.receipt.Ack.TheVariants.{AA, AE, AR}
 use Rattle.gw_ack.specs.declared.receipt.AckFault.{AckFault}
-use Rattle.gw_ack.specs.declared.receipt.AckFault.TheVariants.{NotAnAck, OtherMessage}
+use Rattle.gw_ack.specs.declared.receipt.AckFault.TheVariants.{Memory, NotAnAck, OtherMessage}
 
 -- the first segment of this name
 abbrev pub first_named : List ℕ → List SegmentValue → Option SegmentValue
@@ -36,3 +36,7 @@ pub record Acknowledges (content control : List ℕ) (ack : Ack) : Type 0 where
   pub lawful : IsMessage message
   pub reads : Reads content message
   pub says : acknowledgment message control ≡ Ok ack
+
+-- what was read is this, or memory was refused
+abbrev pub IsRead : Result Ack AckFault → Result Ack AckFault → Type 0
+IsRead result said = (result ≡ Err Memory) ⊎ (result ≡ said)

@@ -66,9 +66,13 @@ err location code = table (
 abbrev pub segment : List ℕ → List Entry → SegmentValue
 segment name rows = record { name = name; at = texts.from_entries rows }
 
+-- the message that says no more than this acknowledgment code
+abbrev pub acknowledged : List ℕ → HeaderValue → List ℕ → ℕ → List SegmentValue
+acknowledged ack h stamp arrival = segment (codes "MSH") (msh h stamp arrival) ∷ segment (codes "MSA") (msa ack h.control) ∷ []
+
 -- AA: accepted
 abbrev pub accepted : HeaderValue → List ℕ → ℕ → List SegmentValue
-accepted h stamp arrival = segment (codes "MSH") (msh h stamp arrival) ∷ segment (codes "MSA") (msa (codes "AA") h.control) ∷ []
+accepted h stamp arrival = acknowledged (codes "AA") h stamp arrival
 
 -- the message that reports a condition, under this acknowledgment code
 abbrev pub reported : List ℕ → HeaderValue → List ℕ → ℕ → List (List ℕ) → ℕ → List SegmentValue

@@ -8,7 +8,7 @@ ghost use Rattle.gw_er7.specs.Text.{IsCanonical};
 ghost use Rattle.gw_er7.specs.Written.{written};
 ghost use Rattle.gw_ack.specs.declared.receipt.Ack.TheVariants as ack;
 ghost use Rattle.gw_ack.specs.Acknowledged.{Acknowledges};
-ghost use Rattle.gw_ack.specs.Answers.{segment, msh, msa, err, accepted, reported, refused, rejected};
+ghost use Rattle.gw_ack.specs.Answers.{acknowledged, segment, msh, msa, err, accepted, reported, refused, rejected};
 ghost use Rattle.gw_ack.specs.Conditions.{IsRejection};
 ghost use Rattle.gw_ack.specs.Seen.{contents, rows};
 
@@ -77,7 +77,7 @@ fn begun(
     code: &[u8],
 ) -> Result<Builder, AllocError>
     requires { IsCanonical code.now }
-    ensures { IfOk result (λ builder. builder ≡ segment (codes "MSH") (msh header.now stamp.now arrival) ∷ segment (codes "MSA") (msa code.now header.now.control) ∷ []) }
+    ensures { IfOk result (λ builder. builder ≡ acknowledged code.now header.now stamp.now arrival) }
 {
     let number = format!(in alloc; "G{arrival}")?;
     let digits = stamp.digits();

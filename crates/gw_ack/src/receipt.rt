@@ -5,7 +5,7 @@ ghost use Rattle.gw_er7.specs.Faults.{Faulty};
 ghost use Rattle.gw_er7.specs.Message.{SegmentValue, IsMessage, text_of};
 ghost use Rattle.gw_er7.specs.Reading.{Reads};
 ghost use Rattle.gw_ack.specs.declared.receipt.Ack.{Ack};
-ghost use Rattle.gw_ack.specs.Acknowledged.{Acknowledges, acknowledgment, code_in, in_msa};
+ghost use Rattle.gw_ack.specs.Acknowledged.{Acknowledges, IsRead, acknowledgment, code_in, in_msa};
 
 use gw_er7::{Message, Place, ReadFault, Segment, read, reads_once};
 use std::alloc::Global;
@@ -98,8 +98,8 @@ fn acknowledgment(message: &Message, control: &[u8]) -> Result<Ack, AckFault>
 
 /// Reads a content as the acknowledgment of the message of this control id (its MSH-10, first subcomponent). It looks at the first MSA alone.
 pub fn read_ack(alloc: Global, content: &[u8], control: &[u8]) -> Result<Ack, AckFault>
-    ensures read { (message : List SegmentValue) → IsMessage message → Reads content.now message → (result ≡ Err AckFault.Memory) ⊎ (result ≡ acknowledgment message control.now) }
-    ensures acknowledged { (ack : Ack) → Acknowledges content.now control.now ack → (result ≡ Err AckFault.Memory) ⊎ (result ≡ Ok ack) }
+    ensures read { (message : List SegmentValue) → IsMessage message → Reads content.now message → IsRead result (acknowledgment message control.now) }
+    ensures acknowledged { (ack : Ack) → Acknowledges content.now control.now ack → IsRead result (Ok ack) }
     ensures unreadable { (fault : ReadFault) → Faulty content.now fault → result ≡ Err AckFault.Unreadable }
 {
     // (a law: a content reads as one message, or has one fault)

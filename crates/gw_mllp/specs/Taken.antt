@@ -87,3 +87,7 @@ pub record Adds (waiting : List (List ℕ)) (tail : Tail) (run : List ℕ) (wait
   pub made : List (List ℕ)
   pub waits : waiting' ≡ waiting ++ made
   pub goes : Goes [] tail run made tail'
+
+-- the same of blocks and a tail as they lie in memory
+abbrev pub TakesOn : {Z : Type 0} → List (Vec ℕ Z) → Tail → List ℕ → List (Vec ℕ Z) → rust.Tail → Type 0
+TakesOn waiting tail run waiting' tail' = Adds (contents waiting) tail run (contents waiting') (tail_view tail')

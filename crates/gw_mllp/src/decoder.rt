@@ -1,7 +1,7 @@
 //! The decoder: a stream in pieces, and its blocks.
 ghost use Rattle.std.specs.Prelude.{◌≡◌, ◌+◌, ◌≤◌, ◌++◌, length, IfOk, IfErr, OnErr};
 ghost use Rattle.gw_mllp.specs.Stream.{Between, Within};
-ghost use Rattle.gw_mllp.specs.Taken.{EndsAt, Adds, contents, tail_view};
+ghost use Rattle.gw_mllp.specs.Taken.{EndsAt, TakesOn};
 
 use crate::blocks::{end_content, take_blocks};
 use crate::fault::FrameFault;
@@ -45,7 +45,7 @@ fn add_blocks(
     waiting: &mut VecDeque<Vec<u8>>,
     piece: &[u8],
 ) -> Result<Tail, FrameFault>
-    ensures ok { IfOk result (λ tail. Adds (contents waiting.old.items) Between piece.now (contents waiting.new.items) (tail_view tail)) }
+    ensures ok { IfOk result (λ tail. TakesOn waiting.old.items Between piece.now waiting.new.items tail) }
     ensures err { OnErr result (waiting.new.items ≡ waiting.old.items) }
     ensures memory { IfErr result (λ e. e ≡ FrameFault.Memory) }
 {
@@ -65,7 +65,7 @@ fn end_block(
 ) -> Result<Tail, FrameFault>
     requires run { EndsAt content.old.items run.now }
     requires short { length content.old.items + length run.now ≤ 1048578 }
-    ensures ok { IfOk result (λ tail. Adds (contents waiting.old.items) (Within content.old.items) (run.now ++ after.now) (contents waiting.new.items) (tail_view tail)) }
+    ensures ok { IfOk result (λ tail. TakesOn waiting.old.items (Within content.old.items) (run.now ++ after.now) waiting.new.items tail) }
     ensures waiting { OnErr result (waiting.new.items ≡ waiting.old.items) }
     ensures content { OnErr result (content.new.items ≡ content.old.items) }
     ensures memory { IfErr result (λ e. e ≡ FrameFault.Memory) }
@@ -81,7 +81,7 @@ fn end_block(
 
 impl Decoder {
     ghost use Rattle.std.specs.Prelude.{◌≡◌, ◌≢◌, ◌↔◌, ◌++◌, ◌∷◌, [], List, ℕ, IfOk, IfErr, IfNone, IfSome, IsErrOf, IsOk, OnOk, OnErr};
-    ghost use Rattle.gw_mllp.specs.Stream.{Held, Stands, Between, Within, Overlong};
+    ghost use Rattle.gw_mllp.specs.Stream.{Held, Stands, Between, Within, Overlong, IsFed, HasGiven};
     ghost use Rattle.gw_mllp.specs.Taken.{Adds};
 
     /// A decoder of an empty stream. It takes no memory.
@@ -99,7 +99,7 @@ impl Decoder {
     /// Takes the next piece of the stream. On `Memory` nothing has changed, and the piece may be fed again.
     pub fn feed(&mut self, piece: &[u8]) -> Result<(), FrameFault>
         // However the stream was cut, the decoder then stands at the stream with this piece at its end.
-        ensures fed { result ≢ Err FrameFault.Memory → (stream : List ℕ) (given : List (List ℕ)) → Stands stream given self.old → Stands (stream ++ piece.now) given self.new }
+        ensures fed { result ≢ Err FrameFault.Memory → IsFed piece.now self.old self.new }
         ensures ok { OnOk result (self.new.tail ≢ Overlong) }
         ensures too_long { IsErrOf result FrameFault.TooLong → self.new.tail ≡ Overlong }
         ensures for_ever { self.old.tail ≡ Overlong → IsErrOf result FrameFault.TooLong }
@@ -167,7 +167,7 @@ impl Decoder {
 
     /// Gives the next block that has ended. It takes no memory.
     pub fn next_block(&mut self) -> Option<Vec<u8>>
-        ensures given { IfSome result (λ block. (stream : List ℕ) (given : List (List ℕ)) → Stands stream given self.old → Stands stream (given ++ block.items ∷ []) self.new) }
+        ensures given { IfSome result (λ block. HasGiven block.items self.old self.new) }
         ensures some { IfSome result (λ block. self.old ≡ record self.new { waiting = block.items ∷ self.new.waiting }) }
         ensures none { IfNone result ((self.old.waiting ≡ []) × (self.new ≡ self.old)) }
     {

@@ -1,11 +1,12 @@
 //! Elements of a profile, and what stands at the places of a map.
-ghost use Rattle.std.specs.Prelude.{◌≡◌, ◌∷◌, Option, Some, IfOk, option_map};
+ghost use Rattle.std.specs.Prelude.{◌≡◌, ◌∷◌, Some, IfOk, option_map};
 ghost use Rattle.gw_profile.specs.Labels.{inner, nodes_in};
 ghost use Rattle.gw_profile.specs.Seen.{forest, node_forest};
 ghost use Rattle.gw_profile.specs.Shapes.{nothing};
 ghost use Rattle.gw_resolve.specs.Places as spec;
 ghost use Rattle.gw_resolve.specs.Seen.{element as seen, scope as walked, place as seen_place, interval, saturated};
-ghost use Rattle.gw_resolve.specs.Founds.{count_of, saturated_found, found_value, times_element};
+ghost use Rattle.gw_resolve.specs.Founds.{count_of, saturated_found, found_value};
+ghost use Rattle.gw_resolve.specs.own.Looking.{IsTimes};
 
 use crate::interval::{Interval, once};
 use crate::resolved::Place;
@@ -99,7 +100,7 @@ fn count_of(element: Element<'_, '_>) -> Interval
 
 // So many times as the element comes.
 fn times<'a, 'p>(element: Element<'a, 'p>, below: Option<Found<'a, 'p>>) -> Option<Found<'a, 'p>>
-    ensures { (f : Option spec.Found) → found_value below.entry ≡ saturated_found f → found_value result ≡ saturated_found (times_element (seen element.entry) f) }
+    ensures { IsTimes (seen element.entry) below.entry result }
 {
     match below {
         None => None,

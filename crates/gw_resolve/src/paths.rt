@@ -3,7 +3,7 @@ ghost use Rattle.std.specs.Prelude.{◌≡◌, ℕ, ◌++◌, IfOk, option_map, 
 ghost use Rattle.std.specs.Global.{Vec};
 ghost use Rattle.gw_maplang.specs.Seen.{items_all};
 ghost use Rattle.gw_resolve.specs.Naming as spec;
-ghost use Rattle.gw_resolve.specs.own.Looking.{inwards, further, begun, onwards};
+ghost use Rattle.gw_resolve.specs.own.Looking.{inwards, further, begun, onwards, AreStepsBehind};
 ghost use Rattle.gw_profile.specs.Labels.{nodes_in, labelled as spec_labelled};
 ghost use Rattle.gw_resolve.specs.Seen.{element as seen, scope as walked, place as seen_place};
 
@@ -101,7 +101,7 @@ fn follow<'a, 'p>(
     path: &[Vec<u8>],
     steps: Vec<usize>,
 ) -> Result<Option<Vec<usize>>, AllocError>
-    ensures { IfOk result (λ found. option_map (λ (v : Vec ℕ). v.items) found ≡ option_map (λ more. steps.items ++ more) (spec.steps_of (nodes_in level.entry) (items_all path.now))) }
+    ensures { IfOk result (AreStepsBehind steps.items (nodes_in level.entry) (items_all path.now)) }
 {
     let mut level = level;
     let mut steps = steps;

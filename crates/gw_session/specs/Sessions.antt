@@ -14,7 +14,7 @@ use Rattle.gw_plan.specs.Whole.{spelled}
 use Rattle.gw_gate.specs.Parts.{PlanSeen, ConformingSeen, is_under}
 use Rattle.gw_gate.specs.Journal.{WasAccepted, WasRefused}
 use Rattle.gw_gate.specs.Seen.{message_seen}
-use Rattle.gw_mllp.specs.Stream.{Has, Tail}
+use Rattle.gw_mllp.specs.Stream.{Has, Tail, Within, Overlong}
 use Rattle.gw_stream.specs.declared.counts.Counts.{Counts}
 use Rattle.gw_stream.specs.Answers.{Reply, accept, refuse, reject, Answer, code_of, said_by}
 use Rattle.gw_stream.specs.Counted.{nothing, with_answers}
@@ -137,6 +137,14 @@ pub record SessionAll (Gives : List ℕ → Type 0) (stream : Option (List ℕ))
   pub bytes : Appends before after (blocks_of (map answer_of blocks))
   pub notes : new ≡ old ++ flat_map notes_of blocks
   pub counted : counts ≡ with_answers (map answer_of blocks) nothing
+
+-- the same of a stream that ends within a block
+abbrev pub SessionTruncated : (List ℕ → Type 0) → Option (List ℕ) → Option (List ℕ) → Option (List ℕ) → List NoteSeen → List NoteSeen → Type 0
+SessionTruncated Gives stream before after old new = (t : List ℕ) × (counts : Counts) × SessionAll Gives stream (Within t) before after old new counts
+
+-- the same of a stream with a block that is too long: of the blocks before it
+abbrev pub SessionTooLong : (List ℕ → Type 0) → Option (List ℕ) → Option (List ℕ) → Option (List ℕ) → List NoteSeen → List NoteSeen → Type 0
+SessionTooLong Gives stream before after old new = (counts : Counts) × SessionAll Gives stream Overlong before after old new counts
 
 -- The first blocks of the stream were dealt with, and the next one perhaps begun: known bytes grew by a beginning of their answers, and the notes by theirs.
 pub record SessionPart (Gives : List ℕ → Type 0) (stream before after : Option (List ℕ)) (old new : List NoteSeen) : Type 0 where

@@ -6,8 +6,8 @@ ghost use Rattle.gw_er7.specs.Reading.{Reads};
 ghost use Rattle.gw_er7.specs.Written.{written};
 ghost use Rattle.gw_mllp.specs.Stream.{HasNoEnd};
 ghost use Rattle.gw_stream.specs.Answers.{said_by};
-ghost use Rattle.gw_session.specs.Sessions.{Begun, IsDealt, Says};
-ghost use Rattle.gw_session.specs.own.Steps.{MayBeSaid, answered, dealt, reply_of};
+ghost use Rattle.gw_session.specs.Sessions.{Begun, Says};
+ghost use Rattle.gw_session.specs.own.Steps.{Deals, MayBeSaid, answered, reply_of};
 
 use crate::arrival::arrive_in_time;
 use crate::doors::refuse;
@@ -70,7 +70,7 @@ fn deal_message<D: Door, C: Clock>(
     message: Message,
 ) -> Result<Answer, AllocError>
     ensures dealt { (content : List ℕ) → Reads content message
-        → IfOk result (λ answer. Adds (λ notes. IsDealt (C.gives clock.old) (dealt content (answered answer) notes)) (D.noted door.old) (D.noted door.new)) }
+        → IfOk result (λ answer. Deals (C.gives clock.old) content answer (D.noted door.old) (D.noted door.new)) }
     ensures begun { (content : List ℕ) → Reads content message → OnErr result (Adds (Begun (content ∷ [])) (D.noted door.old) (D.noted door.new)) }
     ensures lawful { IfOk result (λ answer. HasNoEnd answer.content.items) }
     ensures clock { (stamp : List ℕ) → C.gives clock.new stamp ↔ C.gives clock.old stamp }
@@ -89,7 +89,7 @@ fn deal_unreadable<D: Door, C: Clock>(
     clock: &mut C,
 ) -> Result<Answer, AllocError>
     ensures dealt { (content : List ℕ) (fault : ReadFault) → Faulty content fault
-        → IfOk result (λ answer. Adds (λ notes. IsDealt (C.gives clock.old) (dealt content (answered answer) notes)) (D.noted door.old) (D.noted door.new)) }
+        → IfOk result (λ answer. Deals (C.gives clock.old) content answer (D.noted door.old) (D.noted door.new)) }
     ensures begun { (content : List ℕ) (fault : ReadFault) → Faulty content fault
         → OnErr result (Adds (Begun (content ∷ [])) (D.noted door.old) (D.noted door.new)) }
     ensures lawful { IfOk result (λ answer. HasNoEnd answer.content.items) }
@@ -106,8 +106,7 @@ pub(crate) fn deal<D: Door, C: Clock>(
     clock: &mut C,
     content: &[u8],
 ) -> Result<Answer, AllocError>
-    ensures dealt { IfOk result (λ answer. Adds (λ notes. IsDealt (C.gives clock.old) (dealt content.now (answered answer) notes))
-        (D.noted door.old) (D.noted door.new)) }
+    ensures dealt { IfOk result (λ answer. Deals (C.gives clock.old) content.now answer (D.noted door.old) (D.noted door.new)) }
     ensures begun { OnErr result (Adds (Begun (content.now ∷ [])) (D.noted door.old) (D.noted door.new)) }
     ensures lawful { IfOk result (λ answer. HasNoEnd answer.content.items) }
     ensures clock { (stamp : List ℕ) → C.gives clock.new stamp ↔ C.gives clock.old stamp }

@@ -1,13 +1,12 @@
 //! A session: the blocks of a stream, one by one.
-ghost use Rattle.std.specs.Prelude.{◌≡◌, ◌↔◌, ◌⊎◌, ◌<◌, ◌≤◌, ◌^◌, length, ℕ, List, OnOk, OnErr, IfOk, IfErr, IfSome, IsTrue, IsErrOf, false};
+ghost use Rattle.std.specs.Prelude.{◌≡◌, ◌↔◌, ◌⊎◌, ◌<◌, ◌≤◌, ◌^◌, length, OnOk, OnErr, IfOk, IfErr, IfSome, IsTrue, IsErrOf, false};
 ghost use Rattle.std.specs.Io.KnownBytes.{Appends};
-ghost use Rattle.gw_mllp.specs.Stream.{Between, HasNoEnd, Overlong, Within, block};
-ghost use Rattle.gw_stream.specs.declared.counts.Counts.{Counts};
+ghost use Rattle.gw_mllp.specs.Stream.{Between, HasNoEnd, block};
 ghost use Rattle.gw_stream.specs.Counted.{IsTotal, with_answer};
 ghost use Rattle.gw_stream.specs.Faults.{OfStream};
 ghost use Rattle.gw_stream.specs.Reading.{ReadTimes};
 ghost use Rattle.gw_stream.specs.Sent.{SendsPart};
-ghost use Rattle.gw_session.specs.Sessions.{SessionAll, SessionPart};
+ghost use Rattle.gw_session.specs.Sessions.{SessionAll, SessionPart, SessionTooLong, SessionTruncated};
 
 use crate::answer::{Answer, deal};
 use gw_crew::{Clock, Door};
@@ -62,10 +61,10 @@ pub fn session<D: Door, C: Clock, R: Source, W: Sink>(
     requires writes { W.has_failed writer.old ≡ false }
     ensures all { IfOk result (λ counts. SessionAll (C.gives clock.old) (R.remaining reader.old) Between
         (W.contents writer.old) (W.contents writer.new) (D.noted door.old) (D.noted door.new) counts) }
-    ensures truncated { IsErrOf result (RunFault.Frame 3) → (t : List ℕ) × (counts : Counts) × SessionAll (C.gives clock.old) (R.remaining reader.old) (Within t)
-        (W.contents writer.old) (W.contents writer.new) (D.noted door.old) (D.noted door.new) counts }
-    ensures too_long { IsErrOf result (RunFault.Frame 2) → (counts : Counts) × SessionAll (C.gives clock.old) (R.remaining reader.old) Overlong
-        (W.contents writer.old) (W.contents writer.new) (D.noted door.old) (D.noted door.new) counts }
+    ensures truncated { IsErrOf result (RunFault.Frame 3) → SessionTruncated (C.gives clock.old) (R.remaining reader.old)
+        (W.contents writer.old) (W.contents writer.new) (D.noted door.old) (D.noted door.new) }
+    ensures too_long { IsErrOf result (RunFault.Frame 2) → SessionTooLong (C.gives clock.old) (R.remaining reader.old)
+        (W.contents writer.old) (W.contents writer.new) (D.noted door.old) (D.noted door.new) }
     ensures part { OnErr result (SessionPart (C.gives clock.old) (R.remaining reader.old)
         (W.contents writer.old) (W.contents writer.new) (D.noted door.old) (D.noted door.new)) }
     ensures read { IsErrOf result RunFault.Read ↔ IsTrue (R.has_failed reader.new) }

@@ -1,5 +1,8 @@
 -- What is answered to a content (HL7 v2.5.1 chapter 2, 2.9.2: original acknowledgment mode).
 use Rattle.std.specs.Prelude.{◌≡◌, ℕ, List}
+use Rattle.std.specs.Arc.{arc_value}
+use Rattle.std.specs.declared.alloc.Global.{Global}
+use Rattle.std.specs.declared.sync.Arc.{Arc}
 use Rattle.gw_ack.specs.declared.receipt.Ack.{Ack}
 use Rattle.gw_ack.specs.declared.receipt.Ack.TheVariants.{AA, AE, AR}
 use Rattle.gw_ack.specs.Answers.{accepted, refused, rejected}
@@ -9,6 +12,8 @@ use Rattle.gw_er7.specs.Faults.{Faulty}
 use Rattle.gw_er7.specs.Message.{SegmentValue, IsMessage}
 use Rattle.gw_er7.specs.Reading.{Reads}
 use Rattle.gw_er7.specs.Written.{written}
+use Rattle.gw_profile.specs.declared.profile.Profile.{Profile}
+use Rattle.gw_profile.specs.Seen.{profile_value}
 use Rattle.gw_profile.specs.Shapes.{ProfileValue}
 use Rattle.gw_validate.specs.declared.breach.Breach.{Breach}
 use Rattle.gw_validate.specs.Broken.{IsLeast}
@@ -37,6 +42,10 @@ abbrev pub Validated : ProfileValue → List SegmentValue → Reply → Type 0
 Validated p m accept = Conforms p m
 Validated p m (refuse breach) = IsLeast p m breach
 Validated p m (reject code) = ⊥
+
+-- the same by a profile as a caller holds it
+abbrev pub ValidatedBy : Arc Profile Global → List SegmentValue → Reply → Type 0
+ValidatedBy profile = Validated (profile_value (arc_value profile))
 
 -- What is said to a content, and to whom, by what is said to messages: one that can't be read is rejected as an internal error, as from a message with no fields.
 pub data Replies (Judged : List SegmentValue → Reply → Type 0) (content : List ℕ) : HeaderValue → Reply → Type 0 where

@@ -1,14 +1,13 @@
 //! The answer to a content.
 ghost use Rattle.std.specs.Prelude.{◌≡◌, ℕ, List, IfOk};
-ghost use Rattle.std.specs.Arc.{arc_value};
 ghost use Rattle.gw_er7.specs.Message.{IsMessage};
 ghost use Rattle.gw_er7.specs.Reading.{Reads};
 ghost use Rattle.gw_er7.specs.Written.{written};
 ghost use Rattle.gw_ack.specs.Answers.{rejected};
 ghost use Rattle.gw_ack.specs.Headers.{blank};
 ghost use Rattle.gw_mllp.specs.Stream.{HasNoEnd};
-ghost use Rattle.gw_profile.specs.Seen.{profile_value};
-ghost use Rattle.gw_stream.specs.Answers.{Validated, IsAnswer};
+ghost use Rattle.gw_stream.specs.Answers.{ValidatedBy, IsAnswer};
+ghost use Rattle.gw_stream.specs.own.Bundled.{answered};
 
 use gw_ack::{Ack, Header, Stamp, accept_ack, error_ack, reject_ack};
 use gw_er7::{Message, ReadFault, read};
@@ -28,7 +27,7 @@ fn answer_message(
     number: u64,
     message: Message,
 ) -> Result<(Ack, Vec<u8>), AllocError>
-    ensures answer { (content : List ℕ) → Reads content message → IfOk result (λ a. IsAnswer (Validated (profile_value (arc_value profile.now))) stamp number content (record { code = a.0; content = a.1.items })) }
+    ensures answer { (content : List ℕ) → Reads content message → IfOk result (λ a. IsAnswer (ValidatedBy profile.now) stamp number content (answered a)) }
     ensures content { IfOk result (λ a. HasNoEnd a.1.items) }
 {
     prove!(message.segment_count() > 0);
@@ -69,7 +68,7 @@ pub(crate) fn answer(
     number: u64,
     content: &[u8],
 ) -> Result<(Ack, Vec<u8>), AllocError>
-    ensures answer { IfOk result (λ a. IsAnswer (Validated (profile_value (arc_value profile.now))) stamp number content.now (record { code = a.0; content = a.1.items })) }
+    ensures answer { IfOk result (λ a. IsAnswer (ValidatedBy profile.now) stamp number content.now (answered a)) }
     ensures content { IfOk result (λ a. HasNoEnd a.1.items) }
 {
     match read(alloc, content) {

@@ -1,12 +1,10 @@
 //! A stream, answered or served block by block.
 ghost use Rattle.std.specs.Prelude.{◌≡◌, ◌≢◌, ◌↔◌, ◌⊎◌, ◌+◌, ◌<◌, ◌≤◌, ◌^◌, ◌∷◌, ◌++◌, [], length, ℕ, List, OnOk, OnErr, IfOk, IfErr, IfSome, IsTrue, IsErrOf, false, true, Ok, Err};
-ghost use Rattle.std.specs.Arc.{arc_value};
 ghost use Rattle.std.specs.List.{All, list_any};
 ghost use Rattle.gw_mllp.specs.Stream.{Between, Within, Overlong};
 ghost use Rattle.gw_plan.specs.Held.{plan_value};
-ghost use Rattle.gw_profile.specs.Seen.{profile_value};
 ghost use Rattle.gw_stream.specs.declared.counts.Counts.{Counts};
-ghost use Rattle.gw_stream.specs.Answers.{Validated};
+ghost use Rattle.gw_stream.specs.Answers.{ValidatedBy};
 ghost use Rattle.gw_stream.specs.own.Bundled.{AreWithin, posts};
 ghost use Rattle.gw_stream.specs.Counted.{IsTotal, with_one};
 ghost use Rattle.gw_stream.specs.Faults.{OfStream};
@@ -42,8 +40,8 @@ fn answer_content<W: Sink>(
     requires works { W.has_failed writer.old ≡ false }
     requires total { IsTotal counts.old }
     requires room { counts.old.answered < 2 ^ 60 }
-    ensures ok { OnOk result (Answers (Validated (profile_value (arc_value profile.now))) stamp (content.now ∷ []) (W.contents writer.old) (W.contents writer.new) counts.old counts.new) }
-    ensures part { OnErr result (Breaks (Validated (profile_value (arc_value profile.now))) stamp (content.now ∷ []) (W.contents writer.old) (W.contents writer.new) counts.old) }
+    ensures ok { OnOk result (Answers (ValidatedBy profile.now) stamp (content.now ∷ []) (W.contents writer.old) (W.contents writer.new) counts.old counts.new) }
+    ensures part { OnErr result (Breaks (ValidatedBy profile.now) stamp (content.now ∷ []) (W.contents writer.old) (W.contents writer.new) counts.old) }
     ensures write { IsTrue (W.has_failed writer.new) ↔ IsErrOf result RunFault.Write }
     ensures kinds { IfErr result (λ e. (e ≡ RunFault.Memory) ⊎ (e ≡ RunFault.Write)) }
 {
@@ -71,13 +69,13 @@ pub fn answer_stream<R: Source, W: Sink>(
     requires reads { R.has_failed reader.old ≡ false }
     requires writes { W.has_failed writer.old ≡ false }
     ensures all { IfOk result (λ counts. IfSome (R.remaining reader.old) (λ stream.
-        AnswersAll (Validated (profile_value (arc_value profile))) stamp stream Between (W.contents writer.old) (W.contents writer.new) counts)) }
+        AnswersAll (ValidatedBy profile) stamp stream Between (W.contents writer.old) (W.contents writer.new) counts)) }
     ensures truncated { IsErrOf result (RunFault.Frame 3) → IfSome (R.remaining reader.old) (λ stream. (t : List ℕ) × (counts : Counts) ×
-        AnswersAll (Validated (profile_value (arc_value profile))) stamp stream (Within t) (W.contents writer.old) (W.contents writer.new) counts) }
+        AnswersAll (ValidatedBy profile) stamp stream (Within t) (W.contents writer.old) (W.contents writer.new) counts) }
     ensures too_long { IsErrOf result (RunFault.Frame 2) → IfSome (R.remaining reader.old) (λ stream. (counts : Counts) ×
-        AnswersAll (Validated (profile_value (arc_value profile))) stamp stream Overlong (W.contents writer.old) (W.contents writer.new) counts) }
+        AnswersAll (ValidatedBy profile) stamp stream Overlong (W.contents writer.old) (W.contents writer.new) counts) }
     ensures part { OnErr result (IfSome (R.remaining reader.old) (λ stream.
-        AnswersPart (Validated (profile_value (arc_value profile))) stamp stream (W.contents writer.old) (W.contents writer.new))) }
+        AnswersPart (ValidatedBy profile) stamp stream (W.contents writer.old) (W.contents writer.new))) }
     ensures read { IsErrOf result RunFault.Read ↔ IsTrue (R.has_failed reader.new) }
     ensures write { IsErrOf result RunFault.Write ↔ IsTrue (W.has_failed writer.new) }
     ensures turns { IsErrOf result RunFault.Turns → IfSome (R.remaining reader.old) (λ stream. 1000000 ≤ length stream) }

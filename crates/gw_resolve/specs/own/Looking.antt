@@ -1,9 +1,13 @@
 -- Parts of the looking up of labels.
-use Rattle.std.specs.Prelude.{ℕ, ◌+◌, Bool, false, if◌then◌else◌, List, [], ◌∷◌, ◌++◌, Option, Some, None, option_map}
+use Rattle.std.specs.Prelude.{◌≡◌, ℕ, ◌+◌, Bool, false, if◌then◌else◌, List, [], ◌∷◌, ◌++◌, Option, Some, None, option_map}
+use Rattle.std.specs.Global.{Vec}
 use Rattle.gw_profile.specs.Line.{allows}
+use Rattle.gw_profile.specs.Shapes.{Forest}
 use Rattle.gw_maplang.specs.Shapes.{Path, Items}
-use Rattle.gw_resolve.specs.Places.{Element, a_segment, a_group, the_whole, nodes_of, Place, found, element_of, within}
+use Rattle.gw_resolve.specs.Founds.{found_value, saturated_found, times_element}
+use Rattle.gw_resolve.specs.Places.{Element, a_segment, a_group, the_whole, nodes_of, Place, Found, found, element_of, within}
 use denote.Ref.{Bor}
+use Rattle.gw_resolve.specs.declared.element.Found.{Found as TheFound}
 use Rattle.gw_resolve.specs.declared.resolved.Place as places
 use Rattle.gw_resolve.specs.Seen.{place}
 use Rattle.gw_profile.specs.Labels.{labelled}
@@ -42,3 +46,11 @@ each_within scope line path items = or_later (walk_failures scope line path) (pa
 -- no step is left out
 abbrev pub all_steps : List ℕ → List ℕ
 all_steps steps = steps
+
+-- What is counted is what was counted below, so many times as the element comes.
+abbrev pub IsTimes : Element → Option TheFound → Option TheFound → Type 0
+IsTimes e below result = (f : Option Found) → found_value below ≡ saturated_found f → found_value result ≡ saturated_found (times_element e f)
+
+-- These are the steps to which the labels lead from the nodes, behind those.
+abbrev pub AreStepsBehind : List ℕ → Forest → Path → Option (Vec ℕ) → Type 0
+AreStepsBehind before nodes path steps = option_map (λ (v : Vec ℕ). v.items) steps ≡ option_map (λ more. before ++ more) (steps_of nodes path)

@@ -16,6 +16,7 @@ use Rattle.gw_stream.specs.Answers.{Reply, accept, refuse, reject}
 use Rattle.gw_stream.specs.Counted.{nothing, with_answers}
 use Rattle.gw_stream.specs.Streams.{blocks_of}
 use Rattle.gw_stream.specs.Walked.{Place, Walks}
+use Rattle.gw_crew.specs.own.Turns.{Adds}
 use Rattle.gw_crew.specs.Notes.{NoteSeen, Looked, WasStale, WasFull, Added}
 use Rattle.gw_session.specs.declared.turn.Why.{Why}
 use Rattle.gw_session.specs.declared.turn.Why.TheVariants as why
@@ -168,6 +169,10 @@ CutsShort m notes = (k : ℕ) (tried : List NoteSeen) → k ≤ 3 → Tries m k 
 
 abbrev pub dealt : List ℕ → answers.Answer → List NoteSeen → Dealt
 dealt content answer notes = record { content = content; notes = notes; answer = answer }
+
+-- the notes of a door grew by those of a content that was dealt with by this answer
+abbrev pub Deals : (List ℕ → Type 0) → List ℕ → answer.Answer → List NoteSeen → List NoteSeen → Type 0
+Deals Gives content a old new = Adds (λ notes. IsDealt Gives (dealt content (answered a) notes)) old new
 
 -- all blocks that were given so far were dealt with
 pub record DealtSoFar (Gives : List ℕ → Type 0) (left : Option (List ℕ)) (reads : ℕ) (here : Place) (before after : Option (List ℕ))

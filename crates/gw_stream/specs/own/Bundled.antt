@@ -1,16 +1,23 @@
 -- What is made of a content before anything is written, and how a run under a plan comes on.
 use Rattle.std.specs.Prelude.{◌≡◌, ℕ, ◌<◌, List, [], ◌∷◌, ◌++◌, length, map, Ok, Option}
 use Rattle.std.specs.List.{AllByRecursion, AllZip}
+use Rattle.std.specs.declared.alloc.Global.{Global}
+use Rattle.std.specs.declared.vec.Vec.{Vec}
+use Rattle.gw_ack.specs.declared.receipt.Ack.{Ack}
 use Rattle.gw_er7.specs.Message.{SegmentValue}
 use Rattle.gw_plan.specs.Routing.{routed}
 use Rattle.gw_plan.specs.Shapes.{PlanValue, RouteValue}
 use Rattle.gw_stream.specs.declared.bundle.Bundle.{Bundle}
 use Rattle.gw_stream.specs.declared.parcel.Parcel.{Parcel}
 use Rattle.gw_stream.specs.declared.counts.Counts.{Counts}
+use Rattle.gw_stream.specs.Answers.{Answer}
 use Rattle.gw_stream.specs.Counted.{nothing}
 use Rattle.gw_stream.specs.Posts.{Known, Post, Sends, receiver, sender}
 use Rattle.gw_stream.specs.Served.{AreServings, Delivery, IsDelivery, IsServing, Serving, all_posts, delivered, posts_of, receivers_of, with_servings}
 use Rattle.gw_stream.specs.Walked.{Place, Walks}
+
+abbrev pub answered : Ack × Vec ℕ Global → Answer
+answered a = record { code = a.0; content = a.1.items }
 
 abbrev pub post : Parcel → Post
 post parcel = record { whom = receiver parcel.receiver; bytes = parcel.block.items }
