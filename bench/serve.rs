@@ -1,15 +1,17 @@
 //! `serve PROGRAM EXAMPLES TRAFFIC FOLDER ROUNDS`: serves the plan of a hospital on loopback, to clients that send admissions or reports and with receivers
 //! that acknowledge at once, and runs the same plan over the same streams; and prints what both took. Clients await the answers that `run` gave.
+//! A relay is measured beside it, which does the network's part alone (relay.rs): this program itself, by other words.
 //!
 //! Speeds are by the clock, since a service has many threads; each figure is the least that so many rounds took.
 mod loopback;
+mod relay;
 mod taken;
 
 use loopback::{code, next_block, play, receive, Message, Outcome, Stream};
 use std::fs::{self, File};
 use std::io::{BufRead, BufReader, Read};
 use std::net::{TcpListener, TcpStream};
-use std::path::PathBuf;
+use std::path::{Path, PathBuf};
 use std::process::{Child, Command, ExitCode, Stdio};
 use std::sync::mpsc::channel;
 use std::time::{Duration, Instant};
@@ -31,9 +33,11 @@ const WINDOW: usize = 64;
 /// So many messages are sent at half load.
 const PACED: usize = 5_000;
 
-/// The program, its files, and how often it is measured.
+/// The program with its first words, its files, and how often it is measured.
+#[derive(Clone)]
 struct Bench {
     program: PathBuf,
+    words: Vec<String>,
     plan: PathBuf,
     traffic: PathBuf,
     folder: PathBuf,
@@ -82,6 +86,7 @@ impl Bench {
         let file = self.folder.join("plan");
         fs::write(&file, plan)?;
         let mut command = Command::new(&self.program);
+        command.args(&self.words);
         command.arg("serve").arg(file).arg("127.0.0.1:0");
         command.args(crew.map(|it| it.to_string()));
         command.stdin(Stdio::piped()).stdout(Stdio::piped());
@@ -193,6 +198,18 @@ impl Bench {
         Ok(())
     }
 
+    /// The same by a relay.
+    fn relay(&self, stream: &Stream) -> Outcome<Bench> {
+        let path = |path: PathBuf| path.to_str().map(String::from).ok_or("a path of bytes");
+        let mut words = vec![String::from("relay"), path(self.traffic.join(stream.name))?];
+        words.push(path(self.folder.clone())?);
+        Ok(Bench {
+            program: env::current_exe()?,
+            words,
+            ..self.clone()
+        })
+    }
+
     fn print_full(&self, stream: Stream, base: Taken) -> Outcome<()> {
         let speed = stream.messages.len() as f64 / base.clock;
         let full = stream.filled();
@@ -230,6 +247,12 @@ impl Bench {
             for crew in CREWS {
                 self.print_row(crew, &stream, base)?;
             }
+            let (relay, mut stream) = (self.relay(&stream)?, stream);
+            stream.name = "the same by a relay";
+            for sessions in [1, 8] {
+                relay.print_row([sessions, 0], &stream, base)?;
+            }
+            stream.name = name;
             last = Some((stream, base));
         }
         println!();
@@ -237,24 +260,40 @@ impl Bench {
     }
 }
 
-fn main() -> ExitCode {
-    let words: Vec<String> = env::args().collect();
-    let [_, program, examples, traffic, folder, rounds] = words.as_slice() else {
-        eprintln!("serve PROGRAM EXAMPLES TRAFFIC FOLDER ROUNDS");
-        return ExitCode::from(2);
-    };
-    let bench = Bench {
-        program: program.into(),
-        plan: PathBuf::from(examples).join("hospital.plan"),
-        traffic: traffic.into(),
-        folder: folder.into(),
-        rounds: rounds.parse().unwrap_or(3),
-    };
-    match bench.print() {
+fn ended(done: Outcome<()>) -> ExitCode {
+    match done {
         Ok(()) => ExitCode::SUCCESS,
         Err(error) => {
             eprintln!("{error}");
             ExitCode::FAILURE
         }
     }
+}
+
+fn main() -> ExitCode {
+    let words: Vec<String> = env::args().collect();
+    if let [_, _relay, stream, folder, _serve, plan, _address, sessions, _workers] =
+        words.as_slice()
+    {
+        let [stream, folder, plan] = [stream, folder, plan].map(Path::new);
+        return ended(relay::relay(
+            stream,
+            folder,
+            plan,
+            sessions.parse().unwrap_or(1),
+        ));
+    }
+    let [_, program, examples, traffic, folder, rounds] = words.as_slice() else {
+        eprintln!("serve PROGRAM EXAMPLES TRAFFIC FOLDER ROUNDS");
+        return ExitCode::from(2);
+    };
+    let bench = Bench {
+        program: program.into(),
+        words: Vec::new(),
+        plan: PathBuf::from(examples).join("hospital.plan"),
+        traffic: traffic.into(),
+        folder: folder.into(),
+        rounds: rounds.parse().unwrap_or(3),
+    };
+    ended(bench.print())
 }
