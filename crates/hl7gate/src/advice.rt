@@ -61,7 +61,7 @@ pub(crate) fn advice(rule: u8) -> &'static str {
             "target labels stand at this level of the target profile and in its order, and those in a `flat` are one: move or rename the item"
         }
         4 => {
-            "no more than the target takes: take `first` or an item less, or let the target profile take more"
+            "no more than the target takes: of a field take `first`, of a segment or group walk what comes less often or leave an item out, or let the target profile take more"
         }
         5 => {
             "what the target requires is always there: read what the source requires, or let the source profile require it or the target profile ask for less"
@@ -69,7 +69,9 @@ pub(crate) fn advice(rule: u8) -> &'static str {
         6 => {
             "each value stands in the target's table: translate by a `lookup`, or list the source's values in its profile"
         }
-        7 => { "no value is longer than the target takes: give the source a length in its profile" }
+        7 => {
+            "no value is longer than the target takes: give the source a length in its profile that the target takes, or let the target profile take more"
+        }
         8 => {
             "what the target asks for is said: add an item or a rule for it, or make it O in the target profile"
         }
@@ -82,6 +84,15 @@ pub(crate) fn advice(rule: u8) -> &'static str {
             "a constant stands in the target's table and is no longer than the target takes: write another"
         }
         _ => "",
+    }
+}
+
+/// What a rule demands, without what to do.
+fn demand(rule: u8) -> &'static [u8] {
+    let said = advice(rule).as_bytes();
+    match said.iter().position(|byte| *byte == b':') {
+        None => said,
+        Some(end) => &said[..end],
     }
 }
 
@@ -262,7 +273,7 @@ impl Refusal<'_> {
         Ok(others)
     }
 
-    /// Tells a rule that fails as well, at the line that stands first in the text: of a label the line itself.
+    /// Tells a rule that fails as well, at the line that stands first in the text: of a label the line itself, and what the rule demands.
     fn tell_other<E: Write>(
         &self,
         alloc: Global,
@@ -276,6 +287,8 @@ impl Refusal<'_> {
         let _ = write!(errors, "{path}:{line}: K{rule}: ");
         if rule <= LAST_OF_LABELS {
             let _ = errors.write_all(first_line(text));
+            let _ = errors.write_all(b": ");
+            let _ = errors.write_all(demand(rule));
         } else {
             self.tell_subject(alloc, errors, found, failure)?;
         }
