@@ -7,10 +7,15 @@ table SEX F M O U A N
 table CLASS E I O P
 table RELATION SPO CHD PAR GRD
 segment MSH R 1..1
+  field 7 R 1..1 len 26
   field 9 R 1..1
     comp 1 R len 3
     comp 2 R len 3 table EVENTS
   field 10 R 1..1 len 20
+  field 11 R 1..1
+    comp 1 R len 1
+  field 12 R 1..1
+    comp 1 R len 5
 segment EVN R 1..1
   field 2 R 1..1 len 26
 segment PID R 1..1

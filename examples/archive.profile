@@ -3,10 +3,13 @@ profile ARCHIVE
 table SEXES female male other
 table STATES preliminary final corrected cancelled
 segment MSH R 1..1
+  field 7 R 1..1 len 26
   field 9 R 1..1
     comp 1 R len 3
     comp 2 R len 3
   field 10 R 1..1 len 20
+  field 11 R 1..1
+    comp 1 R len 1
   field 12 R 1..1 len 5
 group REPORT R 1..*
   segment PID R 1..1

@@ -7,10 +7,15 @@ table CLASS E I O P
 table STATUS P F C X
 table FLAGS L H LL HH N A
 segment MSH R 1..1
+  field 7 R 1..1 len 26
   field 9 R 1..1
     comp 1 R len 3
     comp 2 R len 3
   field 10 R 1..1 len 20
+  field 11 R 1..1
+    comp 1 R len 1
+  field 12 R 1..1
+    comp 1 R len 5
 group PATIENT_RESULT R 1..*
   group PATIENT R 1..1
     segment PID R 1..1

@@ -3,10 +3,15 @@ profile WARD_RESULTS
 table FLAGS L H LL HH N A
 table STATUS P F C X
 segment MSH R 1..1
+  field 7 R 1..1 len 26
   field 9 R 1..1
     comp 1 R len 3
     comp 2 R len 3
   field 10 R 1..1 len 20
+  field 11 R 1..1
+    comp 1 R len 1
+  field 12 R 1..1
+    comp 1 R len 5
 group PATIENT R 1..*
   segment PID R 1..1
     # All identifiers: the ward looks for its own.
