@@ -117,7 +117,7 @@ fn report(
     Ok(content)
 }
 
-/// The content of the answer AA to a message that is accepted.
+/// The content of the answer AA to a message that is accepted. The one error is want of memory.
 pub fn accept_ack(
     alloc: Global,
     header: &Header,
@@ -135,7 +135,7 @@ pub fn accept_ack(
     Ok(content)
 }
 
-/// The content of the answer AE to a message that breaks its profile: ERR-2 names the place of the breach.
+/// The content of the answer AE to a message that breaks its profile: ERR-2 names the place of the breach. The one error is want of memory.
 pub fn error_ack(
     alloc: Global,
     header: &Header,
@@ -159,7 +159,7 @@ pub fn error_ack(
     Ok(content)
 }
 
-/// The content of the answer AR, under one of the codes 200 (message type), 201 (event), 202 (processing id), 203 (version) and 207 (the content can't be read).
+/// The content of the answer AR, under one of the codes 200 (message type), 201 (event), 202 (processing id), 203 (version) and 207 (the content can't be read). The one error is want of memory.
 pub fn reject_ack(
     alloc: Global,
     header: &Header,

@@ -118,7 +118,7 @@ impl Header {
     ghost use Rattle.gw_ack.specs.Headers.{IsHeaderValue, header_of, blank};
     ghost use Rattle.gw_ack.specs.Seen.{rows};
 
-    /// The header of a message.
+    /// The header of a message. The one error is want of memory.
     pub fn of(alloc: Global, message: &Message) -> Result<Header, AllocError>
         ensures { IfOk result (λ header. header ≡ header_of message.now) }
     {
@@ -182,7 +182,8 @@ impl Header {
 
     /// Adds the receiver of the message as the sender of the answer.
     pub(crate) fn add_receiver<'a>(&'a self, table: &mut Vec<Row<'a>>) -> Result<(), AllocError>
-        ensures { OnOk result (rows table.new.items ≡ (rows table.old.items ++ copied 3 self.now.receiving_application) ++ copied 4 self.now.receiving_facility) }
+        ensures { OnOk result (rows table.new.items
+            ≡ (rows table.old.items ++ copied 3 self.now.receiving_application) ++ copied 4 self.now.receiving_facility) }
     {
         add_copy(table, 3, &self.receiving_application)?;
         add_copy(table, 4, &self.receiving_facility)

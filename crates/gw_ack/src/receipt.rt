@@ -96,7 +96,7 @@ fn acknowledgment(message: &Message, control: &[u8]) -> Result<Ack, AckFault>
     Err(AckFault::NotAnAck)
 }
 
-/// Reads a content as the acknowledgment of the message of this control id (its MSH-10, first subcomponent). It looks at the first MSA alone.
+/// Reads a content as the acknowledgment of the message of this control id (its MSH-10, first subcomponent). It looks at the first MSA alone: `NotAnAck` where there is none or its code is none of these, `OtherMessage` where it answers another message; `Unreadable` where the content is no message.
 pub fn read_ack(alloc: Global, content: &[u8], control: &[u8]) -> Result<Ack, AckFault>
     ensures read { (message : List SegmentValue) → IsMessage message → Reads content.now message → IsRead result (acknowledgment message control.now) }
     ensures acknowledged { (ack : Ack) → Acknowledges content.now control.now ack → IsRead result (Ok ack) }

@@ -180,7 +180,7 @@ fn least_of(refusal: Refusal) -> CheckFault
     }
 }
 
-/// The map with its profiles, where no rule fails: each message that conforms to the source has a translation that conforms to the target.
+/// The map with its profiles, where no rule fails; else the map back, with the least rule that fails at its least line, or want of memory. What a yes means is a law of `gw_interp`: each message that conforms to the source has one translation, and that conforms to the target.
 pub fn check(
     alloc: Global,
     source: Arc<Profile>,

@@ -27,7 +27,7 @@ pub trait Door {
     fn call(&mut self, event: Event) -> Result<Reply, Event>
         ensures { Calls (noted self.old) (event_seen event) (answer_seen result) (noted self.new) };
 
-    /// Waits for an entry since the last call. False says that the phase was reached without one.
+    /// Waits for an entry since the last call. False is to say that the phase was reached without one; no clause rests on it.
     fn wait(&mut self, phase: Phase) -> bool
         ensures { noted self.new ≡ noted self.old };
 

@@ -79,7 +79,7 @@ impl Builder {
         }
     }
 
-    /// Begins a segment, MSH first and only first.
+    /// Begins a segment, MSH first and only first. On want of memory nothing has changed.
     pub fn begin(&mut self, name: [u8; 3]) -> Result<(), AllocError>
         requires { IsBegun (self.old ++ record { name = name; at = texts.empty } ∷ []) }
         ensures ok { OnOk result (self.new ≡ self.old ++ record { name = name; at = texts.empty } ∷ []) }
@@ -92,7 +92,7 @@ impl Builder {
         Ok(())
     }
 
-    /// Puts a text at a place of the last segment, where none is. Places may come in any order.
+    /// Puts a text at a place of the last segment, where none is. Places may come in any order. On want of memory nothing has changed.
     pub fn put(&mut self, place: Place, text: &[u8]) -> Result<(), AllocError>
         requires { MayPut (numbers place) text.now self.old }
         ensures ok { OnOk result (self.new ≡ with_last (λ s. record s { at = texts.insert s.at (numbers place) text.now }) self.old) }
@@ -101,7 +101,7 @@ impl Builder {
         put_into(&mut self.draft, place, text)
     }
 
-    /// The message of the segments. It takes no memory.
+    /// The message of the segments, of which there has to be one. It takes no memory.
     pub fn finish(self) -> Message
         requires { 0 < length self }
         ensures { result ≡ self }

@@ -147,7 +147,7 @@ pub(crate) fn push_canonical(
     Ok(())
 }
 
-/// The canonical text of a raw value under the sender's delimiters.
+/// The canonical text of a raw value under the sender's delimiters (chapter 2, 2.7). The one error is want of memory.
 pub fn canonical(alloc: Global, delimiters: Delimiters, raw: &[u8]) -> Result<Vec<u8>, AllocError>
     ensures { IfOk result (λ text. text.items ≡ canon delimiters raw.now) }
 {

@@ -62,7 +62,7 @@ impl Message {
         self.segments.as_slice()
     }
 
-    /// An equal message.
+    /// An equal message. The one error is want of memory.
     pub fn copy(&self, alloc: Global) -> Result<Message, AllocError>
         ensures { IfOk result (λ message. message ≡ self.now) }
     {

@@ -15,6 +15,7 @@ pub trait Part {
 
     ghost same: { Self → Self → Type 0 };
 
+    /// Whether this is the same as the other.
     fn is(&self, other: &Self) -> bool
         ensures { IsTrue result ↔ same self.now other.now };
 }

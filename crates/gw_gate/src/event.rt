@@ -84,31 +84,38 @@ pub enum Reply {
 /// What a gate enters in its journal.
 #[derive(Drop)]
 pub enum Entry {
+    /// A message was accepted under this number, from 0; its arrival is numbered from 1.
     Accepted {
         n: u64,
         arrival: u64,
         conforming: Arc<Conforming>,
     },
+    /// The arrival of this number was refused under this code (HL7 table 0357).
     Refused {
         arrival: u64,
         code: u16,
     },
+    /// The plan is in force from here on, as this version.
     Swapped {
         version: u64,
         plan: Arc<Plan>,
     },
+    /// The pair was taken.
     Job {
         n: u64,
         receiver: usize,
     },
+    /// What was made for a pair of this message is kept.
     Kept {
         n: u64,
         translated: Arc<Translated>,
     },
+    /// The pair was issued again.
     Issued {
         n: u64,
         receiver: usize,
     },
+    /// The translation was given out for the receiver.
     Out {
         n: u64,
         receiver: usize,

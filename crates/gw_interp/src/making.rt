@@ -84,7 +84,8 @@ fn make_rep<'a>(
 ) -> Result<(), AllocError>
     requires of { AreOf (message_of scope.now) scope.now }
     requires fill { MayFillRep (in_repetition scope.now from) field from.rep (at_leaves rows.now.tables leaves.now) builder.old }
-    ensures { OnOk result (IsRepFilled (in_repetition scope.now from.entry) field from.entry.rep (at_leaves rows.now.tables leaves.now) builder.old builder.new) }
+    ensures { OnOk result (IsRepFilled (in_repetition scope.now from.entry) field from.entry.rep
+        (at_leaves rows.now.tables leaves.now) builder.old builder.new) }
 {
     let rep = from.rep;
     let reading = Reading {

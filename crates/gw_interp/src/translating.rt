@@ -40,7 +40,7 @@ fn rows_of(map: &CheckedMap) -> &Map
     rows
 }
 
-/// The one message that the map makes of the tree's message. It conforms to the map's target.
+/// The one message that the map makes of the message of a tree by the map's source. It conforms to the map's target.
 ///
 /// It takes time by the occurrences that the map's items walk, by the rules that are made for each of them and by the texts that these read and put, times the logarithm of the values in a segment; how large the numbers of places are doesn't count. Where an item within another walks occurrences that don't stand within those of the other, each is walked once for each of the others: their numbers multiply, and the result may be larger than the message and the map together. The one error is want of memory.
 pub fn translate(alloc: Global, map: &CheckedMap, tree: &Tree) -> Result<Message, AllocError>

@@ -38,6 +38,7 @@ pub struct FlatItem {
     pub items: Vec<Item>,
 }
 
+/// An item of a map: a segment made from one that is walked or always, or what is made for each occurrence, in a group of the target or without one.
 #[derive(Drop)]
 #[cycle(item)]
 pub enum Item {

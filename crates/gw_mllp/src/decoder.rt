@@ -96,7 +96,7 @@ impl Decoder {
         }
     }
 
-    /// Takes the next piece of the stream. On `Memory` nothing has changed, and the piece may be fed again.
+    /// Takes the next piece of the stream. On `Memory` nothing has changed, and the piece may be fed again. After `TooLong` each call answers so; the blocks that had ended before are still given.
     pub fn feed(&mut self, piece: &[u8]) -> Result<(), FrameFault>
         // However the stream was cut, the decoder then stands at the stream with this piece at its end.
         ensures fed { result ≢ Err FrameFault.Memory → IsFed piece.now self.old self.new }
@@ -174,7 +174,7 @@ impl Decoder {
         self.waiting.pop_front()
     }
 
-    /// Whether the stream may end here. It takes no memory.
+    /// Whether the stream may end here: `Truncated` within a block, `TooLong` behind one that was too long. It takes no memory.
     pub fn at_end(&self) -> Result<(), FrameFault>
         ensures ok { IsOk result ↔ (self.now.tail ≡ Between) }
         ensures truncated { IsErrOf result FrameFault.Truncated ↔ ((t : List ℕ) × (self.now.tail ≡ Within t)) }

@@ -39,7 +39,7 @@ pub fn spelled_has_no_quote()
     ensures { (text : List ℕ) (p : ProfileValue) → spelled text ≡ Ok p → HasNoQuote p }
 {}
 
-/// A profile written out spells that profile.
+/// A well-formed profile whose tables hold no quotation mark, written out, spells that profile, unless the text is too large.
 pub fn written_is_spelled()
     ensures { (p : ProfileValue) → WellFormed p → HasNoQuote p → is_too_large most_bytes most_lines (written p) ≡ false → spelled (written p) ≡ Ok p }
 {}

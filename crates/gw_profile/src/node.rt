@@ -22,6 +22,7 @@ pub struct GroupNode {
     pub nodes: Vec<Node>,
 }
 
+/// A segment or a group of a profile.
 #[derive(Drop)]
 #[cycle(node)]
 pub enum Node {

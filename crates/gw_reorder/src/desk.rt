@@ -90,7 +90,7 @@ impl<T: Drop> Desk<T> {
         self.due.len() < self.due.capacity() && self.waiting.len() < self.waiting.capacity()
     }
 
-    /// The number is due from now on.
+    /// The number is due from now on. It is above all that are due, and there is room for it. It takes no memory.
     pub fn due(&mut self, n: u64)
         requires room { 0 < self.old.room }
         requires above { All (λ m. m < n) self.old.due }

@@ -15,6 +15,7 @@ pub struct Interval {
     pub greatest: Option<u64>,
 }
 
+/// Not at all. It takes no memory.
 pub fn never() -> Interval
     ensures { interval result ≡ spec.never }
 {
@@ -24,6 +25,7 @@ pub fn never() -> Interval
     }
 }
 
+/// Just once. It takes no memory.
 pub fn once() -> Interval
     ensures { interval result ≡ spec.once }
 {
@@ -33,6 +35,7 @@ pub fn once() -> Interval
     }
 }
 
+/// However often, or not at all. It takes no memory.
 pub fn any_number() -> Interval
     ensures { interval result ≡ spec.any_number }
 {

@@ -84,6 +84,7 @@ pub struct FlatItem {
     pub items: Vec<Item>,
 }
 
+/// An item of a map without labels.
 #[derive(Drop)]
 #[cycle(item)]
 pub enum Item {

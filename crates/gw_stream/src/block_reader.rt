@@ -94,7 +94,7 @@ impl BlockReader {
         Ok(true)
     }
 
-    /// The next block of the stream, or that it has no more.
+    /// The next block of the stream, or that it has no more. The faults are those of a stream's run but `Write`: `Memory`, `Read`, `Frame(2)`, `Frame(3)` and `Turns`.
     pub fn next<R: Source>(&mut self, reader: &mut R) -> Result<Option<Vec<u8>>, RunFault>
         requires works { R.has_failed reader.old ≡ false }
         ensures goes { IfOk result (λ r. IfSome r (λ content.

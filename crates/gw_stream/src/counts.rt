@@ -30,7 +30,7 @@ impl Counts {
         }
     }
 
-    /// Counts an answer of this code.
+    /// Counts an answer of this code, where there are fewer than 2^60 and the codes add up to them. It takes no memory.
     pub fn add(&mut self, code: Ack)
         requires total { IsTotal self.old }
         requires room { self.old.answered < 2 ^ 60 }

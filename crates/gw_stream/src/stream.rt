@@ -40,8 +40,10 @@ fn answer_content<W: Sink>(
     requires works { W.has_failed writer.old ≡ false }
     requires total { IsTotal counts.old }
     requires room { counts.old.answered < 2 ^ 60 }
-    ensures ok { OnOk result (Answers (ValidatedBy profile.now) stamp (content.now ∷ []) (W.contents writer.old) (W.contents writer.new) counts.old counts.new) }
-    ensures part { OnErr result (Breaks (ValidatedBy profile.now) stamp (content.now ∷ []) (W.contents writer.old) (W.contents writer.new) counts.old) }
+    ensures ok { OnOk result (Answers (ValidatedBy profile.now) stamp (content.now ∷ [])
+        (W.contents writer.old) (W.contents writer.new) counts.old counts.new) }
+    ensures part { OnErr result (Breaks (ValidatedBy profile.now) stamp (content.now ∷ [])
+        (W.contents writer.old) (W.contents writer.new) counts.old) }
     ensures write { IsTrue (W.has_failed writer.new) ↔ IsErrOf result RunFault.Write }
     ensures kinds { IfErr result (λ e. (e ≡ RunFault.Memory) ⊎ (e ≡ RunFault.Write)) }
 {

@@ -122,7 +122,7 @@ fn judge(alloc: Global, profile: &Profile, message: &Message) -> Result<Judged, 
     }
 }
 
-/// What a message is by a profile: it conforms, with its one tree, or it breaks, with its first breach. Err is want of memory.
+/// What a message is by a profile: it conforms, with its one tree, or it breaks, with its first breach and the message back. Err is want of memory, and gives the message back.
 pub fn validate(alloc: Global, profile: Arc<Profile>, message: Message) -> Result<Verdict, Message>
     ensures exact { IfOk result (λ verdict. IsTrue (is_fit verdict) ↔ Conforms (profile_value (arc_value profile)) message) }
     ensures tree { IfOk result (λ verdict. IfFits verdict (HasTree (profile_value (arc_value profile)) message)) }
