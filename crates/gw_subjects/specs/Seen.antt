@@ -1,5 +1,5 @@
 -- What the program holds of the lines of a map, without where it lies in memory.
-use Rattle.std.specs.Prelude.{◌≡◌, ◌++◌, ℕ, List, map, Option, option_map, unwrap_or, Result, IfOk}
+use Rattle.std.specs.Prelude.{◌≡◌, ◌++◌, ℕ, List, map, Option, option_map, unwrap_or, Result, IfOk, OnOk}
 use denote.Ref.{Bor}
 use Rattle.gw_maplang.specs.Shapes.{TableValue, Rows, table_of}
 use Rattle.gw_resolve.specs.Naming.{no_rows}
@@ -49,6 +49,10 @@ segment_item tables s = record { line = s.line; child = s.child; place = option_
 -- these were found as well
 abbrev pub Adds : List TableValue → List declared.Site → List declared.Site → List Site → Type 0
 Adds tables old new more = all_sites tables new ≡ all_sites tables old ++ more
+
+-- the same of a call that went through, whatever the map's tables are
+abbrev pub AddsAll : {X E : Type 0} → Result X E → List declared.Site → List declared.Site → (List TableValue → List Site) → Type 0
+AddsAll result old new more = (tables : List TableValue) → OnOk result (Adds tables old new (more tables))
 
 -- the target node of the first item, whatever the map's tables are
 abbrev pub FirstChild : List Item → Option ℕ → Type 0

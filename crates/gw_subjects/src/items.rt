@@ -1,5 +1,5 @@
 //! What the items of a map make.
-ghost use Rattle.std.specs.Prelude.{◌≡◌, ◌++◌, ◌∷◌, [], ℕ, List, Some, IfOk, OnOk, option_to_list};
+ghost use Rattle.std.specs.Prelude.{◌≡◌, ◌++◌, ◌∷◌, [], ℕ, List, Some, IfOk, option_to_list};
 ghost use Rattle.gw_maplang.specs.Seen.{map_value};
 ghost use Rattle.gw_maplang.specs.Shapes.{TableValue};
 ghost use Rattle.gw_profile.specs.Seen.{profile_value};
@@ -7,7 +7,7 @@ ghost use Rattle.gw_subjects.specs.Positions.{positions};
 ghost use Rattle.gw_resolve.specs.Resolved.{no_items, first_child as spec_first_child};
 ghost use Rattle.gw_resolve.specs.Outcome.{Resolves};
 ghost use Rattle.gw_resolve.specs.Seen.{place as seen_place, with_item, all_items};
-ghost use Rattle.gw_subjects.specs.Seen.{Adds, ChildOf, FirstChild, all_sites, some_site, segment_item as seen_segment};
+ghost use Rattle.gw_subjects.specs.Seen.{AddsAll, ChildOf, FirstChild, all_sites, some_site, segment_item as seen_segment};
 ghost use Rattle.gw_subjects.specs.Sites as spec;
 
 use crate::reading::{inner, node_origin};
@@ -73,8 +73,8 @@ fn add_node(
     at: &[usize],
     place: &Place,
 ) -> Result<(), AllocError>
-    ensures { (tables : List TableValue) → OnOk result (Adds tables sites.old.items sites.new.items
-        (spec.node_sites line at.now (spec.node_origin (positions scope.now) (seen_place place.now)))) }
+    ensures { AddsAll result sites.old.items sites.new.items
+        (λ tables. spec.node_sites line at.now (spec.node_origin (positions scope.now) (seen_place place.now))) }
 {
     let origin = node_origin(alloc, scope, place)?;
     add_whole(alloc, sites, line, Target { at, field: 0 }, origin)
@@ -88,8 +88,7 @@ fn add_segment(
     at: &[usize],
     segment: &SegmentItem,
 ) -> Result<(), AllocError>
-    ensures { (tables : List TableValue) → OnOk result (Adds tables sites.old.items sites.new.items
-        (spec.segment_sites (positions scope.now) at.now (seen_segment tables segment.now))) }
+    ensures { AddsAll result sites.old.items sites.new.items (λ tables. spec.segment_sites (positions scope.now) at.now (seen_segment tables segment.now)) }
 {
     match &segment.place {
         None => {
@@ -113,8 +112,8 @@ fn add_item(
     above: &[usize],
     item: &Item,
 ) -> Result<(), AllocError>
-    ensures { (tables : List TableValue) → OnOk result (Adds tables sites.old.items sites.new.items
-        (spec.items_sites (positions scope.now) above.now (with_item tables item.now no_items))) }
+    ensures { AddsAll result sites.old.items sites.new.items
+        (λ tables. spec.items_sites (positions scope.now) above.now (with_item tables item.now no_items)) }
 {
     match item {
         Item::Segment(segment) => {
@@ -145,8 +144,7 @@ fn add_items(
     above: &[usize],
     items: &[Item],
 ) -> Result<(), AllocError>
-    ensures { (tables : List TableValue) → OnOk result (Adds tables sites.old.items sites.new.items
-        (spec.items_sites (positions scope.now) above.now (all_items tables items.now))) }
+    ensures { AddsAll result sites.old.items sites.new.items (λ tables. spec.items_sites (positions scope.now) above.now (all_items tables items.now)) }
 {
     for item in items {
         add_item(alloc, sites, scope, above, item)?;

@@ -1,9 +1,8 @@
 //! What the rules of a target segment make.
-ghost use Rattle.std.specs.Prelude.{◌≡◌, ◌∷◌, [], List, map, flat_map, OnOk};
-ghost use Rattle.gw_maplang.specs.Shapes.{TableValue};
+ghost use Rattle.std.specs.Prelude.{◌∷◌, [], map, flat_map};
 ghost use Rattle.gw_subjects.specs.Positions.{positions};
 ghost use Rattle.gw_resolve.specs.Seen.{at_leaf, reference, rule as seen_rule};
-ghost use Rattle.gw_subjects.specs.Seen.{Adds, origin as seen_origin, some_reference};
+ghost use Rattle.gw_subjects.specs.Seen.{AddsAll, origin as seen_origin, some_reference};
 ghost use Rattle.gw_subjects.specs.Sites as spec;
 
 use crate::reading::{field_origin, leaf_origin, repeated_origin};
@@ -29,8 +28,8 @@ pub(crate) fn add_site(
     part: LeafPlace,
     origin: Origin,
 ) -> Result<(), AllocError>
-    ensures { (tables : List TableValue) → OnOk result (Adds tables sites.old.items sites.new.items
-        (spec.site_of line target.entry.at.now target.entry.field part.comp part.sub (seen_origin tables origin) ∷ [])) }
+    ensures { AddsAll result sites.old.items sites.new.items
+        (λ tables. spec.site_of line target.entry.at.now target.entry.field part.comp part.sub (seen_origin tables origin) ∷ []) }
 {
     let at = Vec::from_slice(alloc, target.at)?;
     let target = Spot {
@@ -56,8 +55,8 @@ pub(crate) fn add_whole(
     target: Target<'_>,
     origin: Origin,
 ) -> Result<(), AllocError>
-    ensures { (tables : List TableValue) → OnOk result (Adds tables sites.old.items sites.new.items
-        (spec.site_of line target.entry.at.now target.entry.field 0 0 (seen_origin tables origin) ∷ [])) }
+    ensures { AddsAll result sites.old.items sites.new.items
+        (λ tables. spec.site_of line target.entry.at.now target.entry.field 0 0 (seen_origin tables origin) ∷ []) }
 {
     let whole = LeafPlace { comp: 0, sub: 0 };
     add_site(alloc, sites, line, target, whole, origin)
@@ -71,8 +70,8 @@ fn add_leaf(
     target: Target<'_>,
     leaf: &At,
 ) -> Result<(), AllocError>
-    ensures { (tables : List TableValue) → OnOk result (Adds tables sites.old.items sites.new.items
-        (spec.leaf_sites (positions scope.now) (some_reference walked.entry) target.entry.at.now target.entry.field (at_leaf tables leaf.now))) }
+    ensures { AddsAll result sites.old.items sites.new.items
+        (λ tables. spec.leaf_sites (positions scope.now) (some_reference walked.entry) target.entry.at.now target.entry.field (at_leaf tables leaf.now)) }
 {
     let origin = leaf_origin(alloc, scope, walked, &leaf.leaf)?;
     add_site(alloc, sites, leaf.line, target, leaf.place, origin)
@@ -86,8 +85,8 @@ fn add_leaves(
     target: Target<'_>,
     leaves: &[At],
 ) -> Result<(), AllocError>
-    ensures { (tables : List TableValue) → OnOk result (Adds tables sites.old.items sites.new.items
-        (flat_map (spec.leaf_sites (positions scope.now) (some_reference walked.entry) target.entry.at.now target.entry.field) (map (at_leaf tables) leaves.now))) }
+    ensures { AddsAll result sites.old.items sites.new.items
+        (λ tables. flat_map (spec.leaf_sites (positions scope.now) (some_reference walked.entry) target.entry.at.now target.entry.field) (map (at_leaf tables) leaves.now)) }
 {
     for leaf in leaves {
         add_leaf(alloc, sites, scope, walked, target, leaf)?;
@@ -104,8 +103,8 @@ fn add_field(
     target: Target<'_>,
     from: &Reference,
 ) -> Result<(), AllocError>
-    ensures { (tables : List TableValue) → OnOk result (Adds tables sites.old.items sites.new.items
-        (spec.field_sites (positions scope.now) target.entry.at.now line target.entry.field (reference from.now))) }
+    ensures { AddsAll result sites.old.items sites.new.items
+        (λ tables. spec.field_sites (positions scope.now) target.entry.at.now line target.entry.field (reference from.now)) }
 {
     let origin = field_origin(alloc, scope, from)?;
     add_whole(alloc, sites, line, target, origin)
@@ -120,8 +119,8 @@ fn add_repeated(
     target: Target<'_>,
     from: &Reference,
 ) -> Result<(), AllocError>
-    ensures { (tables : List TableValue) → OnOk result (Adds tables sites.old.items sites.new.items
-        (spec.site_of line target.entry.at.now target.entry.field 0 0 (spec.repeated (spec.read_at (positions scope.now) (reference from.now) 0 0)) ∷ [])) }
+    ensures { AddsAll result sites.old.items sites.new.items
+        (λ tables. spec.site_of line target.entry.at.now target.entry.field 0 0 (spec.repeated (spec.read_at (positions scope.now) (reference from.now) 0 0)) ∷ []) }
 {
     let origin = repeated_origin(alloc, scope, from)?;
     add_whole(alloc, sites, line, target, origin)
@@ -134,8 +133,7 @@ fn add_rule(
     at: &[usize],
     rule: &Rule,
 ) -> Result<(), AllocError>
-    ensures { (tables : List TableValue) → OnOk result (Adds tables sites.old.items sites.new.items
-        (spec.rule_sites (positions scope.now) at.now (seen_rule tables rule.now))) }
+    ensures { AddsAll result sites.old.items sites.new.items (λ tables. spec.rule_sites (positions scope.now) at.now (seen_rule tables rule.now)) }
 {
     let line = rule.line;
     let field = Target {
@@ -165,8 +163,7 @@ pub(crate) fn add_rules(
     at: &[usize],
     rules: &[Rule],
 ) -> Result<(), AllocError>
-    ensures { (tables : List TableValue) → OnOk result (Adds tables sites.old.items sites.new.items
-        (spec.rules_sites (positions scope.now) at.now (map (seen_rule tables) rules.now))) }
+    ensures { AddsAll result sites.old.items sites.new.items (λ tables. spec.rules_sites (positions scope.now) at.now (map (seen_rule tables) rules.now)) }
 {
     for rule in rules {
         add_rule(alloc, sites, scope, at, rule)?;
