@@ -45,7 +45,7 @@ fn send<W: Sink>(
 /// Answers each block of a stream, as the gate behind the door settles it. At the end of the stream it gives its counts.
 ///
 /// For each block it reads the content, looks up the plan in force, and has the message arrive under it. Where the plan was swapped in between,
-/// it looks and has it arrive again, three times at most, and then refuses it (207). What is refused is noted under the code of its answer's ERR-3.
+/// it looks and has it arrive again, four times in all, and then refuses it (207). What is refused is noted under the code of its answer's ERR-3.
 /// A content that can't be read is refused at once (207). The answer has the number of the arrival. Where the journal is full, it is AR (207) under number 0.
 ///
 /// The faults are `Memory`, `Read`, `Write`, `Frame(2)` at a block that is too long, `Frame(3)` at the end of the stream within a block,
