@@ -16,7 +16,9 @@ use Rattle.gw_gate.proofs.Accounts.{acceptance_is, under}
 use Rattle.gw_gate.proofs.Journals.{last_stands, plan_stays}
 use Rattle.gw_gate.proofs.Numbering.{n_of, lawful_numbers}
 use Rattle.gw_run.specs.Gathers.{is_idle_after, is_idle_by, is_nothing_after, is_nothing_by, kept_of, numbers_issued, swaps_in}
-use Rattle.gw_run.specs.own.Joins.{IdleAt, NothingAt, PlansAt}
+use Rattle.gw_run.specs.declared.past.Past.{Past}
+use Rattle.gw_run.specs.own.Joins.{IdleAt, NothingAt, PlansAt, of_receiver, plans_at}
+use Rattle.gw_run.specs.own.Tellings.{Tells}
 use Rattle.gw_run.specs.Settled.{is_idle, is_nothing, until}
 use Rattle.gw_run.specs.Turns.{CountsTo, TurnsTo}
 use Rattle.gw_run.proofs.Dues.{counted_until}
@@ -139,3 +141,16 @@ module _ (p : PlanSeen) (h : List EntrySeen) (r : ℕ) where
   tells_nothing ats turns =
       let done = turns_done (is_nothing_after h r) (length h) ats (λ k le. ap (λ l. is_nothing_by (slice_get (kept_of l r) (length (released l r)))) (same_past h k (length h) le (omega arith))) turns in
       record { rising = done.rising; tells = λ k i there. nothing_at k ∙ done.tells k i there }
+
+-- ---- all of it
+
+pub tells_all : (p : PlanSeen) (h : List EntrySeen) → IsLawful (IsTranslated Makes) (journal_of p h) → (n : ℕ) → n ≡ length h → (past : Past) → past.entries ≡ n
+    → CountsTo (swaps_in h) n past.swaps.items → plans_at past.plans.items ≡ map plan (plans (journal_of p h)) → TurnsTo (is_idle_after h) n past.idle.items
+    → ((r : ℕ) → TurnsTo (is_nothing_after h r) n (of_receiver past.nothing.items r)) → Tells (journal_of p h) past
+tells_all p h lawful n long past entries swaps are idle nothing = record {
+  start = refl;
+  entries = entries ∙ long;
+  plans = tells_plans p h lawful past.swaps.items (plans_at past.plans.items) (subst (λ n. CountsTo (swaps_in h) n past.swaps.items) long swaps) are;
+  idle = tells_idle p h lawful past.idle.items (subst (λ n. TurnsTo (is_idle_after h) n past.idle.items) long idle);
+  nothing = λ r. tells_nothing p h r (of_receiver past.nothing.items r) (subst (λ n. TurnsTo (is_nothing_after h r) n (of_receiver past.nothing.items r)) long (nothing r));
+}

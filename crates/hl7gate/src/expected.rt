@@ -49,17 +49,67 @@ fn pattern(keyword: &[u8]) -> &'static [u8] {
     }
 }
 
-/// What was expected at a line of a plan's own; behind the last line what is missing.
+/// The form of text to which a line of a plan belongs.
+#[derive(Clone, Copy)]
+enum Form {
+    Plan,
+    Profile,
+    Map,
+}
+
+/// The form that begins at a line of a plan's own.
+fn begun(line: &[u8]) -> Form {
+    let Some(kind) = line.strip_prefix(b"begin".as_slice()) else {
+        return Form::Plan;
+    };
+    match keyword_of(kind) {
+        b"profile" => Form::Profile,
+        b"map" => Form::Map,
+        _ => Form::Plan,
+    }
+}
+
+/// The form to which the line of this number belongs.
+fn form_at(text: &[u8], line: u32) -> Form {
+    let mut form = Form::Plan;
+    let mut rest = text;
+    for _above in 1..line {
+        let said = line_at(rest, 1);
+        form = match form {
+            Form::Plan => begun(said),
+            _ if said == b"stop".as_slice() => Form::Plan,
+            inner => inner,
+        };
+        rest = behind(rest, 1);
+    }
+    form
+}
+
+/// What was expected at this line of a plan, or of a profile or map within it.
+fn expected_at<'a>(
+    alloc: Global,
+    text: &'a [u8],
+    line: u32,
+    found: &'a [u8],
+) -> Result<Expected<'a>, AllocError> {
+    match form_at(text, line) {
+        Form::Plan => Ok(Expected {
+            pattern: pattern(keyword_of(found)),
+            found,
+        }),
+        Form::Profile => gw_profile::expected(alloc, text, line),
+        Form::Map => gw_maplang::expected(alloc, text, line),
+    }
+}
+
+/// What was expected at a line of a plan; behind the last line what is missing.
 fn of_plan(alloc: Global, text: &[u8], line: u32) -> Result<String, AllocError> {
     let expected = match gw_lines::line_at(alloc, text, line)? {
         None => Expected {
             pattern: b"plan NAME, or the stop of a profile or map",
             found: b"",
         },
-        Some(found) => Expected {
-            pattern: pattern(keyword_of(found)),
-            found,
-        },
+        Some(found) => expected_at(alloc, text, line, found)?,
     };
     format!(in alloc; "{expected}")
 }

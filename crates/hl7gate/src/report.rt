@@ -9,7 +9,7 @@ use gw_stream::{Counts, RunFault};
 use std::io;
 use std::io::Write;
 
-/// Done, and each answer was AA.
+/// Done; of `validate`, with AA for each message.
 pub(crate) const DONE: u8 = 0;
 
 /// A text was refused, or an answer wasn't AA.

@@ -66,12 +66,13 @@ fn tell_unswapped<R: Eprint + AllocGlobal>(rt: &R, path: &str, why: &Unswapped<'
     }
 }
 
-/// Swaps in the plan of each file whose path is a line of these, in order, up to their end.
+/// Swaps in the plan of each file whose path is a line of these, in order, up to their end. Where they can't be read on it is told.
 pub(crate) fn swap_all<L: Ledger, R: Wait + Files + Print + Eprint + AllocGlobal, I: Read + Drop>(
     service: &Service<'_, L, R>,
     paths: I,
 ) {
     if let Err(fault) = swap_lines(service, paths) {
+        let _ = eprintln!(service.rt(); "swaps ended: fault {}: {fault}", fault.number());
         service.fail(fault);
     }
 }
