@@ -198,8 +198,9 @@ impl Bench {
         Ok(())
     }
 
-    /// The same by a relay.
+    /// The same by a relay, which sends what the last run left: so the stream is run once more.
     fn relay(&self, stream: &Stream) -> Outcome<Bench> {
+        self.run(stream.name)?;
         let path = |path: PathBuf| path.to_str().map(String::from).ok_or("a path of bytes");
         let mut words = vec![String::from("relay"), path(self.traffic.join(stream.name))?];
         words.push(path(self.folder.clone())?);
