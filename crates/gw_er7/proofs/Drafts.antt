@@ -18,17 +18,12 @@ use Rattle.std.specs.FinMap.{is_sorted, find, same_map, get-from_sorted, get-fro
 use Rattle.std.specs.FinMap.Entries.{below_all}
 use Rattle.gw_er7.specs.Message.{numbers, SegmentValue}
 use Rattle.gw_er7.specs.Entries.{Entry}
-use Rattle.gw_er7.specs.declared.leaves.Leaf.{Leaf}
-use Rattle.gw_er7.specs.View.{Held, held, held_at, entry_of, entries_of, stored, drafted, AreApart, AreSorted}
+use Rattle.gw_er7.specs.View.{Held, entry_of, entries_of, stored, drafted, AreApart, AreSorted}
 use Rattle.gw_er7.proofs.Sorted.{order, both}
 use Rattle.gw_er7.proofs.Keys.{tie}
-use Rattle.gw_er7.proofs.Slices.{length-held}
 
 abbrev key : Held → List ℕ
 key l = numbers l.place
-
-abbrev leaf_key : Leaf → List ℕ
-leaf_key l = numbers l.place
 
 -- from the clause of the sort
 pub sorted_by : {X F : Type 0} (key_of : X → List ℕ) {g : Mut F (Bor X × (Bor X × Unit {0})) Ordering} {f : F} (xs : List X)
@@ -37,15 +32,6 @@ pub sorted_by : {X F : Type 0} (key_of : X → List ℕ) {g : Mut F (Bor X × (B
 sorted_by key_of {g = g} {f = f} xs up h =
     up (λ x y. is_lt (order (key_of x) (key_of y))) (ranks_by nat_list_cmp_total key_of)
     (always_returns_same g (λ a r. is_lt r ≡ is_lt (order (key_of a.0.now) (key_of a.1.0.now))) f (λ a r f' k. (ap is_lt (h a r f' k).0, (h a r f' k).1)))
-
--- the texts of leaves in order are in order
-pub sorted_held : (bytes : List ℕ) (xs : List Leaf) → IsSortedBy (λ a b. is_lt (order (leaf_key a) (leaf_key b))) xs → AreSorted (held bytes xs)
-sorted_held bytes xs sorted k d low high =
-    let e : Leaf = record { place = d.place; from = 0; len = 0 } in
-    let within : k + 1 < length xs = omega (arith, high, length-held bytes xs) in
-    let here = get_or-map (held_at bytes) xs k e d (omega arith) in
-    let next = get_or-map (held_at bytes) xs (k + 1) e d within in
-    ap (λ (h : Held). is_lt (order (key (get_or (held bytes xs) (k + 1) d)) (key h))) here ∙ ap (λ (h : Held). is_lt (order (key h) (leaf_key (get_or xs k e)))) next ∙ sorted k e (omega arith) within
 
 -- ---- texts that are sorted and apart rise
 

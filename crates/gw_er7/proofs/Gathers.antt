@@ -1,13 +1,51 @@
 -- Lines that are taken in, one by one, and what is gathered from them.
-use Rattle.std.proofs.Common.{◌≡◌, ℕ, zero, suc, ◌+◌, ◌<◌, ◌≤◌, true, false, List, [], ◌∷◌, ◌++◌, length, None, Some, refl, sym, ap, ◌∙◌, append_assoc, arith}
-use Rattle.std.specs.Prelude.{if◌then◌else◌}
+use Rattle.std.proofs.Common.{◌≡◌, ℕ, zero, suc, ◌+◌, ◌<◌, ◌≤◌, true, false, List, [], ◌∷◌, ◌++◌, length, take, drop, get_or, None, Some, Result, Ok, Err, refl, sym, ap, subst, ◌∙◌, append_assoc, arith}
+use Rattle.std.specs.Prelude.{T, OnOk, if◌then◌else◌}
+use Rattle.std.specs.Ordering.{nat_cmp}
+use Rattle.std.specs.Cmp.Lexicographic.{slice_cmp}
+use Rattle.std.specs.FinMap as texts
+use Rattle.std.specs.FinMap.{is_sorted}
 use Rattle.std.proofs.lemmas.List.{append-nil}
 use Rattle.gw_er7.specs.declared.delimiters.Delimiters.{Delimiters}
 use Rattle.gw_er7.specs.Content.{Line, Begins, lines_from, first_bad, is_segment_line}
 use Rattle.gw_er7.specs.Names.{is_named}
-use Rattle.gw_er7.specs.Message.{SegmentValue}
-use Rattle.gw_er7.specs.own.Gathered.{segment_of, others_of}
+use Rattle.gw_er7.specs.declared.fields.Taken.{Taken}
+use Rattle.gw_er7.specs.declared.start.Start.{Start}
+use Rattle.gw_er7.specs.Message.{SegmentValue, IsMessage}
+use Rattle.gw_er7.specs.Entries.{Entry, fields}
+use Rattle.gw_er7.specs.View.{Held, lying, AreInside, AreLying, IsLying}
+use Rattle.gw_er7.specs.own.Separators.{held_in, taken_by, Keeps}
+use Rattle.gw_er7.specs.own.Gathered.{segment_of, others_of, IsTaken, Takes}
+use Rattle.gw_er7.proofs.Lying.{taken_in, behind_entries}
+use Rattle.gw_er7.proofs.Slices.{length-held}
+use Rattle.gw_er7.proofs.Sorted.{sorted-fields}
 use Rattle.gw_er7.proofs.Messages.{both-first, name_long}
+
+-- ---- one segment is taken in
+
+pub three : (line : List ℕ) → 3 ≤ length line → get_or line 0 0 ∷ get_or line 1 0 ∷ get_or line 2 0 ∷ [] ≡ take 3 line
+three [] le = absurd (omega arith)
+three (a ∷ []) le = absurd (omega arith)
+three (a ∷ b ∷ []) le = absurd (omega arith)
+three (a ∷ b ∷ c ∷ line) le = refl
+
+pub takes_in : {A E : Type 0} (r : Result A E) (starts after : List Start) (n : Start) (old new : Taken) (d : Delimiters) (first skip : ℕ) (line bytes : List ℕ) → IsTaken starts old → after ≡ starts ++ n ∷ [] → n.first ≡ length old.leaves → n.name ≡ take 3 line → bytes ≡ drop skip line
+    → OnOk r (AreInside new.bytes.items new.leaves) → OnOk r (Keeps old new) → OnOk r (taken_by new ≡ taken_by old ++ fields d first bytes) → OnOk r (Takes starts old after new (segment_of d first skip line ∷ []))
+takes_in (Err x) starts after n old new d first skip line bytes is grown from name e inside kept read = tt
+takes_in (Ok x) starts after n old new d first skip line bytes is grown from name e inside kept read =
+    let here = behind_entries (held_in old) (held_in new) (fields d first bytes) read in
+    let sorted = subst (λ (es : List Entry). T (is_sorted (slice_cmp nat_cmp) es)) (sym here) (sorted-fields d first bytes) in
+    let in_it = taken_in starts n (held_in old) (held_in new) (from ∙ sym (length-held old.bytes.items old.leaves)) kept is.each sorted in
+    let entries = here ∙ ap (fields d first) e in
+    record {
+      taken = record { inside = inside; each = subst (λ (ss : List Start). AreLying ss (held_in new)) (sym grown) in_it.each };
+      segments = ap (λ (ss : List Start). lying ss (held_in new)) grown ∙ in_it.same ∙ ap (λ (s : SegmentValue). lying starts (held_in old) ++ s ∷ []) (λ i. record { name = name i; at = texts.from_sorted (entries i) });
+    }
+
+-- what was taken in is a message
+pub closed : (starts : List Start) (taken : Taken) (texts : List Held) (ss : List SegmentValue) → IsTaken starts taken → lying starts (held_in taken) ≡ ss → texts ≡ held_in taken → IsMessage ss → IsLying starts texts
+closed starts taken texts ss is same e message =
+    subst (λ (hs : List Held). IsLying starts hs) (sym e) (record { each = is.each; message = subst (λ (vs : List SegmentValue). IsMessage vs) (sym same) message })
 
 -- ---- where lines are none but segments'
 
@@ -27,13 +65,12 @@ good_rest field at bytes l behind begins good = (good_first field l (lines_from 
 
 -- ---- the segments so far, and those of the lines that are left
 
-pub one_more : (d : Delimiters) (had more whole : List SegmentValue) (s : SegmentValue) (l : Line) (now rest : List Line) → now ≡ l ∷ rest → s ≡ segment_of d 1 4 l.bytes → more ≡ had ++ s ∷ []
+pub one_more : (d : Delimiters) (had more whole : List SegmentValue) (l : Line) (now rest : List Line) → now ≡ l ∷ rest → more ≡ had ++ segment_of d 1 4 l.bytes ∷ []
     → had ++ others_of d now ≡ whole → more ++ others_of d rest ≡ whole
-one_more d had more whole s l now rest begins is grown so_far =
+one_more d had more whole l now rest begins grown so_far =
     ap (λ ss. ss ++ others_of d rest) grown
-    ∙ (append_assoc had (s ∷ []) (others_of d rest)
-    ∙ (ap (λ s. had ++ s ∷ others_of d rest) is
-    ∙ (ap (λ ls. had ++ others_of d ls) (sym begins) ∙ so_far)))
+    ∙ (append_assoc had (segment_of d 1 4 l.bytes ∷ []) (others_of d rest)
+    ∙ (ap (λ ls. had ++ others_of d ls) (sym begins) ∙ so_far))
 
 pub none_left : (d : Delimiters) (had whole : List SegmentValue) (now : List Line) → now ≡ [] → had ++ others_of d now ≡ whole → had ≡ whole
 none_left d had whole now none so_far = sym (append-nil had) ∙ (ap (λ ls. had ++ others_of d ls) (sym none) ∙ so_far)

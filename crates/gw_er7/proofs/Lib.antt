@@ -27,6 +27,7 @@ pub mod Lasts
 pub mod Canonicals
 pub mod Under
 pub mod Lent
+pub mod Lying
 pub mod Uniques
 pub mod Solids
 pub mod Spelled

@@ -1,10 +1,11 @@
 -- Texts that lie in one buffer.
-use Rattle.std.proofs.Common.{◌≡◌, ℕ, ◌+◌, ◌≤◌, List, [], ◌∷◌, ◌++◌, length, take, drop, refl, ap, ◌∙◌, arith}
-use Rattle.std.proofs.lemmas.List.{map-append, take-append-le, drop-append-le, length-drop, take_all}
+use Rattle.std.proofs.Common.{◌≡◌, ℕ, ◌+◌, ◌-◌, ◌<◌, ◌≤◌, List, [], ◌∷◌, ◌++◌, length, take, drop, get_or, refl, sym, ap, subst, ◌∙◌, arith}
+use Rattle.std.proofs.lemmas.List.{map-append, take-append-le, drop-append-le, length-drop, take_all, get_or-map}
 use Rattle.std.proofs.Math.Seq.{drop-append_seam}
 use Rattle.std.proofs.lemmas.List.Elements.{All-tail}
 use Rattle.gw_er7.specs.declared.leaves.Leaf.{Leaf}
-use Rattle.gw_er7.specs.View.{Held, IsInside, AreInside, held_at, held}
+use Rattle.gw_er7.specs.View.{Held, IsInside, AreInside, AreWithin, between, held_at, held}
+use Rattle.gw_er7.proofs.Lying.{length-between, get_or-between}
 
 -- what is appended to a buffer changes no slice that was in bounds
 pub slice_kept : (k n : ℕ) (bytes more : List ℕ) → k + n ≤ length bytes → take n (drop k (bytes ++ more)) ≡ take n (drop k bytes)
@@ -33,3 +34,21 @@ held_put bytes more new ls ms l h b e from len =
 pub length-held : (bytes : List ℕ) (ls : List Leaf) → length (held bytes ls) ≡ length ls
 length-held bytes [] = refl
 length-held bytes (l ∷ ls) = omega (arith, length-held bytes ls)
+
+-- ---- some of the texts
+
+module _ (bytes : List ℕ) (from to : ℕ) (ls : List Leaf) (i : ℕ) (l : Leaf) (now : List Held) (are : AreWithin bytes from to ls) (view : between from to (held bytes ls) ≡ now) (lt : i < length now) (here : get_or ls (from + i) l ≡ l) where
+  before : from + i < to
+  before = omega (arith, lt, ap length view, length-between from to (held bytes ls) (omega (arith, are.bound, length-held bytes ls)), are.rising)
+
+  pub inside_at : l.from + l.len ≤ length bytes
+  inside_at = (let inside = are.inside (from + i) l (omega (arith, before, are.bound)) in subst (λ (m : Leaf). m.from + m.len ≤ length bytes) here inside)
+
+  pub value_at : (other : Held) → get_or now i other ≡ record { place = l.place; text = take (l.from + l.len - l.from) (drop l.from bytes) }
+  value_at other =
+      let long : l.len ≡ l.from + l.len - l.from = omega arith in
+      ap (λ (hs : List Held). get_or hs i other) (sym view) ∙ get_or-between from to (held bytes ls) i other before
+      ∙ get_or-map (held_at bytes) ls (from + i) l other (omega (arith, before, are.bound)) ∙ ap (held_at bytes) here ∙ ap (λ (n : ℕ). text_of n) long
+    where
+      text_of : ℕ → Held
+      text_of n = record { place = l.place; text = take n (drop l.from bytes) }

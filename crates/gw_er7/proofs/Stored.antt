@@ -1,7 +1,8 @@
 -- Segments as they are stored, and how they are written.
-use Rattle.std.proofs.Common.{◌≡◌, ℕ, zero, suc, ◌<◌, ◌≤◌, List, [], ◌∷◌, ◌++◌, length, get_or, drop, sym, ap, subst, ◌∙◌, append-nil, arith}
-use Rattle.std.specs.Prelude.{T}
-use Rattle.std.proofs.lemmas.List.{drop_all}
+use Rattle.std.proofs.Common.{◌≡◌, ℕ, zero, suc, ◌+◌, ◌<◌, ◌≤◌, List, [], ◌∷◌, ◌++◌, length, get_or, drop, Some, sym, ap, subst, ◌∙◌, append-nil, append_assoc, arith}
+use Rattle.std.specs.Prelude.{T, slice_get}
+use Rattle.std.proofs.lemmas.List.{drop_all, drop_more}
+use Rattle.std.proofs.lemmas.Option.{get_or_from_slice_get}
 use Rattle.std.specs.List.{AllByRecursion}
 use Rattle.std.specs.Ordering.{nat_cmp}
 use Rattle.std.specs.Cmp.Lexicographic.{slice_cmp}
@@ -55,3 +56,8 @@ segment_at (suc i) (s ∷ ss) d lt h = others_at i ss d (omega arith) h.1
 
 pub written_end : (ss : List SegmentValue) (i : ℕ) (out target : List ℕ) → length ss ≤ i → out ++ written (drop i ss) ≡ target → out ≡ target
 written_end ss i out target le h = sym (append-nil out) ∙ ap (λ (x : List SegmentValue). out ++ written x) (sym (drop_all i ss le)) ∙ h
+
+pub written_more : (ss : List SegmentValue) (i : ℕ) (s : SegmentValue) (out more target : List ℕ) → i < length ss → slice_get ss i ≡ Some s → more ≡ out ++ (line_text s ++ 13 ∷ []) → out ++ written (drop i ss) ≡ target → more ++ written (drop (i + 1) ss) ≡ target
+written_more ss i s out more target lt here e h =
+    let next : drop i ss ≡ s ∷ drop (i + 1) ss = drop_more ss i s lt ∙ ap (λ (v : SegmentValue). v ∷ drop (i + 1) ss) (get_or_from_slice_get ss i s s here) in
+    ap (λ (x : List ℕ). x ++ written (drop (i + 1) ss)) e ∙ append_assoc out (line_text s ++ 13 ∷ []) (written (drop (i + 1) ss)) ∙ ap (λ (vs : List SegmentValue). out ++ written vs) (sym next) ∙ h

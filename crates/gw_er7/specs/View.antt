@@ -1,7 +1,7 @@
 -- Segments as they lie in memory, and what they stand for. The code's own words.
 use Rattle.std.specs.Prelude.{◌≡◌, ◌⊎◌, ◌+◌, ◌<◌, ◌≤◌, ℕ, Bool, false, T, List, [], ◌∷◌, ◌++◌, length, map, take, drop, unwrap_or, Option, None, Some, refl}
 use Rattle.std.specs.List.{All, AllByRecursion, IsDistinct}
-use Rattle.std.specs.List.Sorted.{IsSortedBy}
+use Rattle.std.specs.List.Sorted.{IsPermutation, IsSortedBy}
 use Rattle.std.specs.Option.{option_to_list}
 use Rattle.std.specs.Ordering.{nat_cmp, is_lt, is_le, is_gt, eq_by_cmp, ordering_then}
 use Rattle.std.specs.declared.cmp.Ordering.{Ordering}
@@ -13,8 +13,10 @@ use Rattle.std.specs.Coded.{Coded, code_by, coded×, coded_ℕ, coded_list}
 use Rattle.gw_er7.specs.declared.place.Place.{Place}
 use Rattle.gw_er7.specs.declared.leaves.Leaf.{Leaf}
 use Rattle.gw_er7.specs.declared.leaves.NarrowLeaf.{NarrowLeaf}
+use Rattle.gw_er7.specs.declared.leaves.MediumLeaf.{MediumLeaf}
 use Rattle.gw_er7.specs.declared.leaves.SmallLeaf.{SmallLeaf}
-use Rattle.gw_er7.specs.Message.{numbers, Texts, SegmentValue, IsEntry, IsSegment}
+use Rattle.gw_er7.specs.declared.start.Start.{Start}
+use Rattle.gw_er7.specs.Message.{numbers, Texts, SegmentValue, IsEntry, IsSegment, IsMessage}
 use Rattle.gw_er7.specs.Building.{IsBegun}
 use Rattle.gw_er7.specs.Entries.{Entry}
 
@@ -35,21 +37,23 @@ leaf_code =
     code_by (ℕ × (ℕ × (ℕ × (ℕ × (ℕ × ℕ))))) (coded× coded_ℕ (coded× coded_ℕ (coded× coded_ℕ (coded× coded_ℕ (coded× coded_ℕ coded_ℕ)))))
     (λ l. (l.place.field, (l.place.rep, (l.place.comp, (l.place.sub, (l.from, l.len)))))) (λ p. record { place = record { field = p.0; rep = p.1.0; comp = p.1.1.0; sub = p.1.1.1.0 }; from = p.1.1.1.1.0; len = p.1.1.1.1.1 }) (λ _. refl)
 
--- a leaf of 24 bytes says the same as one of 48
+-- a leaf of 24 bytes says the same as one of 48, and so do those of 12 and of 8
 abbrev pub said_narrow : NarrowLeaf → Leaf
 said_narrow l = record { place = record { field = l.field; rep = l.rep; comp = l.comp; sub = l.sub }; from = l.from; len = l.len }
 
--- and so does one of 12
+abbrev pub said_medium : MediumLeaf → Leaf
+said_medium l = record { place = record { field = l.field; rep = l.rep; comp = l.comp; sub = l.sub }; from = l.from; len = l.len }
+
 abbrev pub said_small : SmallLeaf → Leaf
 said_small l = record { place = record { field = l.field; rep = l.rep; comp = l.comp; sub = l.sub }; from = l.from; len = l.len }
 
--- no number of the leaf is larger than this one
-abbrev pub IsUpTo : ℕ → Leaf → Type 0
-IsUpTo largest l = (l.place.field ≤ largest) × (l.place.rep ≤ largest) × (l.place.comp ≤ largest) × (l.place.sub ≤ largest) × (l.from ≤ largest) × (l.len ≤ largest)
+-- no number of the leaf's place is larger than the first of these, and no other than the second
+abbrev pub IsUpTo : ℕ → ℕ → Leaf → Type 0
+IsUpTo at most l = (l.place.field ≤ at) × (l.place.rep ≤ at) × (l.place.comp ≤ at) × (l.place.sub ≤ at) × (l.from ≤ most) × (l.len ≤ most)
 
 -- leaves of one width, and others
-abbrev pub lying : {N : Type 0} → (N → Leaf) → List N → List Leaf → List Leaf
-lying said narrow others = map said narrow ++ others
+abbrev pub all_said : {N : Type 0} → (N → Leaf) → List N → List Leaf → List Leaf
+all_said said narrow others = map said narrow ++ others
 
 -- all are of this width, or none
 abbrev pub AreAlike : {N : Type 0} → List N → List Leaf → Type 0
@@ -125,11 +129,56 @@ AreApart values = IsDistinct (eq_by_cmp (slice_cmp nat_cmp)) (map (λ h. numbers
 abbrev pub AreSorted : List Held → Type 0
 AreSorted values = IsSortedBy (λ a b. is_lt (slice_cmp nat_cmp (numbers a.place) (numbers b.place))) values
 
--- the segments before a draft leave room for it; there is none where there is no draft
-abbrev pub HasRoom : Option SegmentValue → List SegmentValue → ℕ → ℕ → Type 0
-HasRoom None segments len capacity = segments ≡ []
-HasRoom (Some draft) segments len capacity = len < capacity
+-- ---- segments whose values lie one behind the other
 
-pub record IsBuilding (segments : List SegmentValue) (len capacity : ℕ) (draft : Option SegmentValue) : Type 0 where
-  pub begun : IsBegun (segments ++ option_to_list draft)
-  pub room : HasRoom draft segments len capacity
+-- those from one number up to another
+abbrev pub between : {A : Type 0} → ℕ → ℕ → List A → List A
+between from to xs = drop from (take to xs)
+
+-- where the values of a segment end: where those of the next one begin, or all end
+abbrev pub end_before : {A : Type 0} → List Start → List A → ℕ
+end_before [] xs = length xs
+end_before (s ∷ ss) xs = s.first
+
+abbrev pub lying : List Start → List Held → List SegmentValue
+lying [] values = []
+lying (s ∷ ss) values = stored s.name (between s.first (end_before ss values) values) ∷ lying ss values
+
+-- the values of each are in order
+abbrev pub AreLying : List Start → List Held → Type 0
+AreLying [] values = Unit {0}
+AreLying (s ∷ ss) values =
+    (s.first ≤ end_before ss values) × (end_before ss values ≤ length values) × T (is_sorted (slice_cmp nat_cmp) (entries_of (between s.first (end_before ss values) values))) × AreLying ss values
+
+-- the same, but the last segment is still being made: its values may be in any order
+abbrev pub building : List Start → List Held → List SegmentValue
+building [] values = []
+building (s ∷ []) values = drafted s.name (drop s.first values) ∷ []
+building (s ∷ t ∷ ss) values = stored s.name (between s.first t.first values) ∷ building (t ∷ ss) values
+
+abbrev pub AreBuilding : List Start → List Held → Type 0
+AreBuilding [] values = Unit {0}
+AreBuilding (s ∷ []) values = (s.first ≤ length values) × AreApart (drop s.first values)
+AreBuilding (s ∷ t ∷ ss) values =
+    (s.first ≤ t.first) × (t.first ≤ length values) × T (is_sorted (slice_cmp nat_cmp) (entries_of (between s.first t.first values))) × AreBuilding (t ∷ ss) values
+
+-- a message, and one whose last segment is still being made
+pub record IsLying (starts : List Start) (values : List Held) : Type 0 where
+  pub each : AreLying starts values
+  pub message : IsMessage (lying starts values)
+
+pub record IsBuilding (starts : List Start) (values : List Held) : Type 0 where
+  pub each : AreBuilding starts values
+  pub begun : IsBegun (building starts values)
+
+-- some of the leaves, whose texts lie within the bytes
+pub record AreWithin (bytes : List ℕ) (from to : ℕ) (leaves : List Leaf) : Type 0 where
+  pub rising : from ≤ to
+  pub bound : to ≤ length leaves
+  pub inside : AreInside bytes leaves
+
+-- those from this number on were put in the order of their places
+pub record AreSortedFrom {A : Type 0} (place : A → Place) (first : ℕ) (old new : List A) : Type 0 where
+  pub kept : take first new ≡ take first old
+  pub moved : IsPermutation (drop first old) (drop first new)
+  pub sorted : IsSortedBy (λ a b. is_lt (slice_cmp nat_cmp (numbers (place a)) (numbers (place b)))) (drop first new)

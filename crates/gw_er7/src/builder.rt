@@ -1,65 +1,45 @@
 //! Messages in the making.
-ghost use Rattle.std.specs.Prelude.{◌≡◌, ◌+◌, ◌<◌, ◌≤◌, ◌++◌, vec_len, vec_capacity, IfSome, OnOk, OnErr, None};
-ghost use Rattle.std.specs.Option.{option_to_list, option_map};
-ghost use Rattle.std.specs.FinMap as texts;
-ghost use Rattle.gw_er7.specs.Message.{SegmentValue, numbers};
+ghost use Rattle.std.specs.Prelude.{◌≡◌};
+ghost use Rattle.gw_er7.specs.View.{lying, building, AreLying, AreBuilding};
 
-use crate::draft::Draft;
 use crate::message::Message;
 use crate::place::Place;
-use crate::segment::StoredSegment;
+use crate::start::Start;
+use crate::texts::Texts;
 use std::alloc::{AllocError, Global};
 use std::marker::Model;
 
-/// Puts a draft, where there is one, behind the segments, which have room for it.
-fn close_into(segments: &mut Vec<StoredSegment>, draft: Option<Draft>)
-    requires { vec_len segments.old < vec_capacity segments.old }
-    ensures items { segments.new.items ≡ segments.old.items ++ option_to_list draft }
-    ensures len { vec_len segments.new ≤ vec_len segments.old + 1 }
-    ensures capacity { vec_capacity segments.old ≤ vec_capacity segments.new }
+/// Puts the texts of the last segment, where there is one, in order. It takes no memory.
+fn close(starts: &[Start], texts: &mut Texts)
+    requires { AreBuilding starts.now texts.old }
+    ensures each { AreLying starts.now texts.new }
+    ensures same { lying starts.now texts.new ≡ building starts.now texts.old }
 {
-    match draft {
-        Some(draft) => {
-            let _ = segments.push(draft.close());
-        }
-        None => {}
-    }
-}
-
-/// Puts a text at a place of the draft, where there is one.
-fn put_into(draft: &mut Option<Draft>, place: Place, text: &[u8]) -> Result<(), AllocError>
-    requires { IfSome draft.old (λ d. texts.get d.at (numbers place) ≡ None) }
-    ensures ok { OnOk result (draft.new ≡ option_map (λ (s : SegmentValue). record s { at = texts.insert s.at (numbers place) text.now }) draft.old) }
-    ensures err { OnErr result (draft.new ≡ draft.old) }
-{
-    match draft {
-        Some(draft) => draft.put(place, text),
-        None => Ok(()),
+    if let [.., last] = starts {
+        texts.sort_from(last.first);
     }
 }
 
 /// Makes a message, segment by segment and text by text.
 #[derive(Drop)]
 pub struct Builder {
-    alloc: Global,
-    segments: Vec<StoredSegment>,
-    draft: Option<Draft>,
+    starts: Vec<Start>,
+    texts: Texts,
 }
 
 impl Model for Builder {
-    ghost use Rattle.std.specs.Prelude.{List, ◌++◌, vec_len, vec_capacity};
+    ghost use Rattle.std.specs.Prelude.{List};
     ghost use Rattle.std.specs.Coded.{coded_list};
-    ghost use Rattle.std.specs.Option.{option_to_list};
     ghost use Rattle.gw_er7.specs.Message.{SegmentValue, segment_code};
-    ghost use Rattle.gw_er7.specs.View.{IsBuilding};
+    ghost use Rattle.gw_er7.specs.View.{building, IsBuilding};
 
     ghost Value = { List SegmentValue };
 
     ghost coded = { coded_list segment_code };
 
-    ghost view = { λ b. b.segments.items ++ option_to_list b.draft };
+    ghost view = { λ b. building b.starts.items b.texts };
 
-    ghost invariant = { λ b. IsBuilding b.segments.items (vec_len b.segments) (vec_capacity b.segments) b.draft };
+    ghost invariant = { λ b. IsBuilding b.starts.items b.texts };
 }
 
 impl Builder {
@@ -73,9 +53,8 @@ impl Builder {
         ensures { result ≡ [] }
     {
         Builder {
-            alloc,
-            segments: Vec::new(alloc),
-            draft: None,
+            starts: Vec::new(alloc),
+            texts: Texts::new(alloc),
         }
     }
 
@@ -85,10 +64,10 @@ impl Builder {
         ensures ok { OnOk result (self.new ≡ self.old ++ record { name = name; at = texts.empty } ∷ []) }
         ensures err { OnErr result (self.new ≡ self.old) }
     {
-        self.segments.reserve(2)?;
-        let draft = self.draft.take();
-        close_into(&mut self.segments, draft);
-        self.draft = Some(Draft::new(self.alloc, name));
+        self.starts.reserve(1)?;
+        close(&self.starts, &mut self.texts);
+        let first = self.texts.len();
+        let _ = self.starts.push(Start { name, first });
         Ok(())
     }
 
@@ -98,7 +77,7 @@ impl Builder {
         ensures ok { OnOk result (self.new ≡ with_last (λ s. record s { at = texts.insert s.at (numbers place) text.now }) self.old) }
         ensures err { OnErr result (self.new ≡ self.old) }
     {
-        put_into(&mut self.draft, place, text)
+        self.texts.put(place, text)
     }
 
     /// The message of the segments, of which there has to be one. It takes no memory.
@@ -106,14 +85,9 @@ impl Builder {
         requires { 0 < length self }
         ensures { result ≡ self }
     {
-        let Builder {
-            alloc: _,
-            segments,
-            draft,
-        } = self;
-        let mut segments = segments;
-        close_into(&mut segments, draft);
-        segments.shrink_to_fit();
-        Message::of(segments)
+        let Builder { starts, texts } = self;
+        let mut texts = texts;
+        close(&starts, &mut texts);
+        Message::of(starts, texts)
     }
 }

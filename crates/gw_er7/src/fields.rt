@@ -2,14 +2,14 @@
 ghost use Rattle.std.specs.Prelude.{◌≡◌, ◌+◌, ◌<◌, ◌≤◌, ◌^◌, ◌++◌, ◌-◌, true, position, OnOk, IfOk};
 ghost use Rattle.gw_er7.specs.Message.{numbers};
 ghost use Rattle.gw_er7.specs.Entries.{fields};
-ghost use Rattle.gw_er7.specs.own.Separators.{separators, is_separator, next_numbers, value_at, taken, IsCut};
-ghost use Rattle.gw_er7.specs.View.{entries_of, AreInside};
+ghost use Rattle.gw_er7.specs.own.Separators.{separators, is_separator, next_numbers, value_at, held_in, taken_by, Keeps, IsCut};
+ghost use Rattle.gw_er7.specs.View.{AreInside};
 
 use crate::delimiters::Delimiters;
 use crate::escapes::push_canonical;
-use crate::leaves::{Leaf, SegmentLeaves, Store};
+use crate::leaves::{Leaf, MessageLeaves, Store};
 use crate::place::Place;
-use crate::texts::SegmentTexts;
+use crate::texts::Texts;
 use std::alloc::{AllocError, Global};
 
 fn is_separator(delimiters: Delimiters, byte: u8) -> bool
@@ -80,59 +80,72 @@ fn next_place(delimiters: Delimiters, place: Place, separator: u8) -> Place
     }
 }
 
-/// The texts of the segment that is being read, before they are copied into memory that fits them.
-/// It serves one segment after the other, so it grows only while segments get longer.
+/// The texts of the message that is being read: leaves, and the one buffer in which their texts lie.
 #[derive(Drop)]
-pub(crate) struct Scratch {
-    leaves: SegmentLeaves,
-    bytes: Vec<u8>,
+pub(crate) struct Taken {
+    pub(crate) leaves: MessageLeaves,
+    pub(crate) bytes: Vec<u8>,
 }
 
-impl Scratch {
-    /// With room for so many bytes of texts.
-    pub(crate) fn with_room(alloc: Global, room: usize) -> Result<Scratch, AllocError> {
+impl Taken {
+    ghost use Rattle.std.specs.Prelude.{[]};
+
+    /// No text, with room for so many bytes of texts.
+    pub(crate) fn with_room(alloc: Global, room: usize) -> Result<Taken, AllocError>
+        ensures inside { IfOk result (λ t. AreInside t.bytes.items t.leaves) }
+        ensures none { IfOk result (λ t. held_in t ≡ []) }
+    {
         let bytes = Vec::with_capacity(alloc, room)?;
-        Ok(Scratch {
-            leaves: SegmentLeaves::new(alloc),
+        Ok(Taken {
+            leaves: MessageLeaves::new(alloc),
             bytes,
         })
+    }
+
+    /// The texts.
+    pub(crate) fn close(self) -> Texts
+        requires { AreInside self.bytes.items self.leaves }
+        ensures { result ≡ held_in self }
+    {
+        Texts::of(self.leaves, self.bytes)
     }
 }
 
 /// Takes in the raw value at a place.
 fn push_value(
-    scratch: &mut Scratch,
+    taken: &mut Taken,
     delimiters: Delimiters,
     place: Place,
     raw: &[u8],
 ) -> Result<(), AllocError>
-    requires { AreInside scratch.old.bytes.items scratch.old.leaves }
-    ensures inside { OnOk result (AreInside scratch.new.bytes.items scratch.new.leaves) }
-    ensures entries { OnOk result (taken scratch.new ≡ taken scratch.old ++ value_at delimiters (numbers place) raw.now) }
+    requires { AreInside taken.old.bytes.items taken.old.leaves }
+    ensures inside { OnOk result (AreInside taken.new.bytes.items taken.new.leaves) }
+    ensures kept { OnOk result (Keeps taken.old taken.new) }
+    ensures entries { OnOk result (taken_by taken.new ≡ taken_by taken.old ++ value_at delimiters (numbers place) raw.now) }
 {
     if raw.is_empty() {
         return Ok(());
     }
-    let from = scratch.bytes.len();
-    push_canonical(&mut scratch.bytes, delimiters, raw)?;
-    let len = scratch.bytes.len() - from;
-    scratch.leaves.push(Leaf { place, from, len })?;
+    let from = taken.bytes.len();
+    push_canonical(&mut taken.bytes, delimiters, raw)?;
+    let len = taken.bytes.len() - from;
+    taken.leaves.push(Leaf { place, from, len })?;
     Ok(())
 }
 
-/// Takes in the fields of a segment, the first of which has this number, in the place of what was there.
-fn take_fields(
-    scratch: &mut Scratch,
+/// Takes in the fields of a segment, the first of which has this number.
+pub(crate) fn take_fields(
+    taken: &mut Taken,
     delimiters: Delimiters,
     first: usize,
     bytes: &[u8],
 ) -> Result<(), AllocError>
-    requires { first ≤ 3 }
-    ensures inside { OnOk result (AreInside scratch.new.bytes.items scratch.new.leaves) }
-    ensures entries { OnOk result (taken scratch.new ≡ fields delimiters first bytes.now) }
+    requires first { first ≤ 3 }
+    requires inside { AreInside taken.old.bytes.items taken.old.leaves }
+    ensures inside { OnOk result (AreInside taken.new.bytes.items taken.new.leaves) }
+    ensures kept { OnOk result (Keeps taken.old taken.new) }
+    ensures entries { OnOk result (taken_by taken.new ≡ taken_by taken.old ++ fields delimiters first bytes.now) }
 {
-    scratch.leaves.clear();
-    scratch.bytes.clear();
     let mut place = Place {
         field: first,
         rep: 1,
@@ -142,26 +155,11 @@ fn take_fields(
     let mut rest = bytes;
     loop {
         let (raw, behind) = cut_value(delimiters, rest);
-        push_value(scratch, delimiters, place, raw)?;
+        push_value(taken, delimiters, place, raw)?;
         let Some((separator, later)) = behind else {
             return Ok(());
         };
         place = next_place(delimiters, place, separator);
         rest = later;
     }
-}
-
-/// Reads the fields of a segment, the first of which has this number.
-pub(crate) fn read_fields(
-    alloc: Global,
-    scratch: &mut Scratch,
-    delimiters: Delimiters,
-    first: usize,
-    bytes: &[u8],
-) -> Result<SegmentTexts, AllocError>
-    requires { first ≤ 3 }
-    ensures { IfOk result (λ texts. entries_of texts ≡ fields delimiters first bytes.now) }
-{
-    take_fields(scratch, delimiters, first, bytes)?;
-    SegmentTexts::fitted(alloc, &scratch.leaves, &scratch.bytes)
 }

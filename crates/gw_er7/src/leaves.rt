@@ -1,11 +1,11 @@
-//! Where the texts of a segment lie among its bytes: in 12 bytes for each text where all numbers fit 16 bits, in 24 where they fit 32, else in 48.
-ghost use Rattle.std.specs.Prelude.{◌≡◌, ◌↔◌, ◌++◌, map, IsTrue, OnOk};
+//! Where the texts of a message lie among its bytes: in 8 bytes for each text where the numbers of places fit 8 bits and the others 16, in 12 where they fit 8 and 32, in 24 where all fit 32, else in 48.
+ghost use Rattle.std.specs.Prelude.{◌≡◌, ◌↔◌, ◌++◌, ◌≤◌, length, map, IsTrue, OnOk};
 ghost use Rattle.std.specs.List.{AllZip};
 ghost use Rattle.std.specs.List.Sorted.{IsPermutation, IsSortedBy};
 ghost use Rattle.std.specs.Ordering.{nat_cmp, is_lt};
 ghost use Rattle.std.specs.Cmp.Lexicographic.{slice_cmp};
 ghost use Rattle.gw_er7.specs.Message.{numbers};
-ghost use Rattle.gw_er7.specs.View.{IsUpTo};
+ghost use Rattle.gw_er7.specs.View.{IsUpTo, AreSortedFrom};
 
 use crate::place::Place;
 use crate::search::compare_places;
@@ -34,16 +34,27 @@ pub(crate) struct NarrowLeaf {
 
 /// The same in 12 bytes.
 #[derive(Clone, Copy)]
+pub(crate) struct MediumLeaf {
+    field: u8,
+    rep: u8,
+    comp: u8,
+    sub: u8,
+    from: u32,
+    len: u32,
+}
+
+/// The same in 8 bytes.
+#[derive(Clone, Copy)]
 pub(crate) struct SmallLeaf {
-    field: u16,
-    rep: u16,
-    comp: u16,
-    sub: u16,
+    field: u8,
+    rep: u8,
+    comp: u8,
+    sub: u8,
     from: u16,
     len: u16,
 }
 
-/// A width of leaves: `said` is what one says, as a leaf of 48 bytes, and `largest` the largest number that fits.
+/// A width of leaves: `said` is what one says, as a leaf of 48 bytes; the largest number of a place that fits is `farthest`, and of the others `largest`.
 pub(crate) trait Width: Copy {
     ghost use Rattle.std.specs.Prelude.{◌≡◌, ◌↔◌, ℕ, IsTrue, IsSome, IfSome};
     ghost use Rattle.gw_er7.specs.declared.leaves.Leaf.{Leaf};
@@ -51,12 +62,14 @@ pub(crate) trait Width: Copy {
 
     ghost said: { Self → Leaf };
 
+    ghost farthest: { ℕ };
+
     ghost largest: { ℕ };
 
     /// The leaf in this width, where its numbers fit.
     fn narrowed(leaf: Leaf) -> Option<Self>
         ensures same { IfSome result (λ narrow. said narrow ≡ leaf) }
-        ensures fits { IsSome result ↔ IsUpTo largest leaf };
+        ensures fits { IsSome result ↔ IsUpTo farthest largest leaf };
 
     fn widened(self) -> Leaf
         ensures { result ≡ said self };
@@ -65,14 +78,14 @@ pub(crate) trait Width: Copy {
         ensures { IsTrue result ↔ (self ≡ other) };
 }
 
-/// Whether no number of the leaf is larger than this one.
-fn is_up_to(largest: usize, leaf: Leaf) -> bool
-    ensures { IsTrue result ↔ IsUpTo largest leaf }
+/// Whether no number of the leaf's place is larger than the first of these, and no other than the second.
+fn is_up_to(farthest: usize, largest: usize, leaf: Leaf) -> bool
+    ensures { IsTrue result ↔ IsUpTo farthest largest leaf }
 {
-    leaf.place.field <= largest
-        && leaf.place.rep <= largest
-        && leaf.place.comp <= largest
-        && leaf.place.sub <= largest
+    leaf.place.field <= farthest
+        && leaf.place.rep <= farthest
+        && leaf.place.comp <= farthest
+        && leaf.place.sub <= farthest
         && leaf.from <= largest
         && leaf.len <= largest
 }
@@ -83,10 +96,12 @@ impl Width for NarrowLeaf {
 
     ghost said = { said_narrow };
 
+    ghost farthest = { 2 ^ 32 - 1 };
+
     ghost largest = { 2 ^ 32 - 1 };
 
     fn narrowed(leaf: Leaf) -> Option<NarrowLeaf> {
-        if !is_up_to(u32::MAX as usize, leaf) {
+        if !is_up_to(u32::MAX as usize, u32::MAX as usize, leaf) {
             return None;
         }
         Some(NarrowLeaf {
@@ -122,23 +137,72 @@ impl Width for NarrowLeaf {
     }
 }
 
+impl Width for MediumLeaf {
+    ghost use Rattle.std.specs.Prelude.{◌-◌, ◌^◌};
+    ghost use Rattle.gw_er7.specs.View.{said_medium};
+
+    ghost said = { said_medium };
+
+    ghost farthest = { 2 ^ 8 - 1 };
+
+    ghost largest = { 2 ^ 32 - 1 };
+
+    fn narrowed(leaf: Leaf) -> Option<MediumLeaf> {
+        if !is_up_to(u8::MAX as usize, u32::MAX as usize, leaf) {
+            return None;
+        }
+        Some(MediumLeaf {
+            field: leaf.place.field as u8,
+            rep: leaf.place.rep as u8,
+            comp: leaf.place.comp as u8,
+            sub: leaf.place.sub as u8,
+            from: leaf.from as u32,
+            len: leaf.len as u32,
+        })
+    }
+
+    fn widened(self) -> Leaf {
+        Leaf {
+            place: Place {
+                field: self.field as usize,
+                rep: self.rep as usize,
+                comp: self.comp as usize,
+                sub: self.sub as usize,
+            },
+            from: self.from as usize,
+            len: self.len as usize,
+        }
+    }
+
+    fn is(self, other: MediumLeaf) -> bool {
+        self.field == other.field
+            && self.rep == other.rep
+            && self.comp == other.comp
+            && self.sub == other.sub
+            && self.from == other.from
+            && self.len == other.len
+    }
+}
+
 impl Width for SmallLeaf {
     ghost use Rattle.std.specs.Prelude.{◌-◌, ◌^◌};
     ghost use Rattle.gw_er7.specs.View.{said_small};
 
     ghost said = { said_small };
 
+    ghost farthest = { 2 ^ 8 - 1 };
+
     ghost largest = { 2 ^ 16 - 1 };
 
     fn narrowed(leaf: Leaf) -> Option<SmallLeaf> {
-        if !is_up_to(u16::MAX as usize, leaf) {
+        if !is_up_to(u8::MAX as usize, u16::MAX as usize, leaf) {
             return None;
         }
         Some(SmallLeaf {
-            field: leaf.place.field as u16,
-            rep: leaf.place.rep as u16,
-            comp: leaf.place.comp as u16,
-            sub: leaf.place.sub as u16,
+            field: leaf.place.field as u8,
+            rep: leaf.place.rep as u8,
+            comp: leaf.place.comp as u8,
+            sub: leaf.place.sub as u8,
             from: leaf.from as u16,
             len: leaf.len as u16,
         })
@@ -173,6 +237,8 @@ impl Width for Leaf {
 
     ghost said = { λ leaf. leaf };
 
+    ghost farthest = { 2 ^ 64 - 1 };
+
     ghost largest = { 2 ^ 64 - 1 };
 
     fn narrowed(leaf: Leaf) -> Option<Leaf> {
@@ -202,9 +268,9 @@ fn same_leaves<N: Width>(leaves: &[N], others: &[N]) -> bool
     true
 }
 
-fn sort_leaves<N: Width>(leaves: &mut Vec<N>)
-    ensures permutation { IsPermutation leaves.old.items leaves.new.items }
-    ensures sorted { IsSortedBy (λ a b. is_lt (slice_cmp nat_cmp (numbers (N.said a).place) (numbers (N.said b).place))) leaves.new.items }
+fn sort_leaves<N: Width>(leaves: &mut [N])
+    ensures permutation { IsPermutation leaves.old leaves.new }
+    ensures sorted { IsSortedBy (λ a b. is_lt (slice_cmp nat_cmp (numbers (N.said a).place) (numbers (N.said b).place))) leaves.new }
 {
     leaves.sort_unstable_by(
         |a: &N, b: &N| -> Ordering
@@ -213,14 +279,19 @@ fn sort_leaves<N: Width>(leaves: &mut Vec<N>)
     );
 }
 
+fn sort_leaves_from<N: Width>(leaves: &mut Vec<N>, first: usize)
+    requires { first ≤ length leaves.old.items }
+    ensures { AreSortedFrom (λ l. (N.said l).place) first leaves.old.items leaves.new.items }
+{
+    let (_, tail) = leaves.split_at_mut(first);
+    sort_leaves(tail);
+}
+
 /// Leaves one behind the other, in whatever width: `leaves` is what they say.
 pub(crate) trait Store: Drop {
-    ghost use Rattle.std.specs.Prelude.{◌≡◌, ◌<◌, ◌++◌, ◌∷◌, [], List, length, slice_index_or, IsTrue, OnOk, OnErr, IfOk};
-    ghost use Rattle.std.specs.List.Sorted.{IsPermutation, IsSortedBy};
-    ghost use Rattle.std.specs.Ordering.{nat_cmp, is_lt};
-    ghost use Rattle.std.specs.Cmp.Lexicographic.{slice_cmp};
+    ghost use Rattle.std.specs.Prelude.{◌≡◌, ◌<◌, ◌≤◌, ◌++◌, ◌∷◌, [], List, length, slice_index_or, IsTrue, OnOk, OnErr, IfOk};
     ghost use Rattle.gw_er7.specs.declared.leaves.Leaf.{Leaf};
-    ghost use Rattle.gw_er7.specs.Message.{numbers};
+    ghost use Rattle.gw_er7.specs.View.{AreSortedFrom};
 
     ghost leaves: { Self → List Leaf };
 
@@ -237,10 +308,10 @@ pub(crate) trait Store: Drop {
     fn clear(&mut self)
         ensures { leaves self.new ≡ [] };
 
-    /// Puts the leaves in the order of their places. It takes no memory.
-    fn sort(&mut self)
-        ensures permutation { IsPermutation (leaves self.old) (leaves self.new) }
-        ensures sorted { IsSortedBy (λ a b. is_lt (slice_cmp nat_cmp (numbers a.place) (numbers b.place))) (leaves self.new) };
+    /// Puts the leaves from this number on in the order of their places. It takes no memory.
+    fn sort_from(&mut self, first: usize)
+        requires { first ≤ length (leaves self.old) }
+        ensures { AreSortedFrom (λ l. l.place) first (leaves self.old) (leaves self.new) };
 
     /// Gives back the memory that the leaves don't take.
     fn fit(&mut self)
@@ -280,8 +351,8 @@ impl Store for Vec<Leaf> {
         self.clear();
     }
 
-    fn sort(&mut self) {
-        sort_leaves(self);
+    fn sort_from(&mut self, first: usize) {
+        sort_leaves_from(self, first);
     }
 
     fn fit(&mut self) {
@@ -327,13 +398,13 @@ impl<N: Width, L: Store> Model for Leaves<N, L> {
     ghost use Rattle.std.specs.Prelude.{List};
     ghost use Rattle.std.specs.Coded.{coded_list};
     ghost use Rattle.gw_er7.specs.declared.leaves.Leaf.{Leaf};
-    ghost use Rattle.gw_er7.specs.View.{leaf_code, lying, AreAlike};
+    ghost use Rattle.gw_er7.specs.View.{leaf_code, all_said, AreAlike};
 
     ghost Value = { List Leaf };
 
     ghost coded = { coded_list leaf_code };
 
-    ghost view = { λ l. lying N.said l.narrow.items (L.leaves l.others) };
+    ghost view = { λ l. all_said N.said l.narrow.items (L.leaves l.others) };
 
     ghost invariant = { λ l. AreAlike l.narrow.items (L.leaves l.others) };
 }
@@ -385,9 +456,12 @@ impl<N: Width, L: Store> Store for Leaves<N, L> {
         self.others.clear();
     }
 
-    fn sort(&mut self) {
-        sort_leaves(&mut self.narrow);
-        self.others.sort();
+    fn sort_from(&mut self, first: usize) {
+        if self.narrow.is_empty() {
+            self.others.sort_from(first);
+        } else {
+            sort_leaves_from(&mut self.narrow, first);
+        }
     }
 
     fn fit(&mut self) {
@@ -424,5 +498,8 @@ impl<N: Width, L: Store> Store for Leaves<N, L> {
     }
 }
 
-/// The leaves of a segment: all in 12 bytes, in 24, or in 48.
-pub(crate) type SegmentLeaves = Leaves<SmallLeaf, Leaves<NarrowLeaf, Vec<Leaf>>>;
+/// The leaves of a message: all in 8 bytes, in 12, in 24, or in 48.
+pub(crate) type MessageLeaves = Leaves<
+    SmallLeaf,
+    Leaves<MediumLeaf, Leaves<NarrowLeaf, Vec<Leaf>>>,
+>;

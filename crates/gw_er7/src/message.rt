@@ -1,49 +1,58 @@
 //! Messages: segments, the first named MSH.
-ghost use Rattle.std.specs.Prelude.{◌≡◌};
 
-use crate::place::Place;
-use crate::same::are_same;
-use crate::segment::StoredSegment;
+use crate::same::are_same_segments;
+use crate::start::{Start, are_same_starts, end_of};
+use crate::texts::Texts;
 use crate::view::Segment;
 use std::alloc::{AllocError, Global};
 use std::marker::Model;
 
 /// At least one segment, the first named MSH and no other; each holds canonical texts that aren't empty, at places of four positive numbers.
 pub struct Message {
-    segments: Vec<StoredSegment>,
+    starts: Vec<Start>,
+    texts: Texts,
 }
 
 // (by hand: so no crate above proves again how what lies in it is let go)
 impl Drop for Message {
     fn drop(self) {
-        let Message { segments: _ } = self;
+        let Message {
+            starts: _,
+            texts: _,
+        } = self;
     }
 }
 
 impl Model for Message {
     ghost use Rattle.std.specs.Prelude.{List};
     ghost use Rattle.std.specs.Coded.{coded_list};
-    ghost use Rattle.gw_er7.specs.Message.{SegmentValue, segment_code, IsMessage};
+    ghost use Rattle.gw_er7.specs.Message.{SegmentValue, segment_code};
+    ghost use Rattle.gw_er7.specs.View.{lying, IsLying};
 
     ghost Value = { List SegmentValue };
 
     ghost coded = { coded_list segment_code };
 
-    ghost view = { λ m. m.segments.items };
+    ghost view = { λ m. lying m.starts.items m.texts };
 
-    ghost invariant = { λ m. IsMessage m.segments.items };
+    ghost invariant = { λ m. IsLying m.starts.items m.texts };
 }
 
 impl Message {
     ghost use Rattle.std.specs.Prelude.{◌≡◌, ◌↔◌, ◌<◌, IsTrue, Some, IfOk, slice_get, length};
     ghost use Rattle.gw_er7.specs.Message.{IsMessage};
+    ghost use Rattle.gw_er7.specs.View.{lying, IsLying};
 
-    /// The message of these segments.
-    pub(crate) fn of(segments: Vec<StoredSegment>) -> Message
-        requires { IsMessage segments.items }
-        ensures { result ≡ segments.items }
+    /// The message of the segments that begin so among these texts, in memory that fits it.
+    pub(crate) fn of(starts: Vec<Start>, texts: Texts) -> Message
+        requires { IsLying starts.items texts }
+        ensures { result ≡ lying starts.items texts }
     {
-        Message { segments }
+        let mut starts = starts;
+        let mut texts = texts;
+        starts.shrink_to_fit();
+        texts.fit();
+        Message { starts, texts }
     }
 
     /// How many segments the message has. It takes no memory.
@@ -51,34 +60,33 @@ impl Message {
         ensures count { result ≡ length self.now }
         ensures message { IsMessage self.now }
     {
-        self.segments.len()
-    }
-
-    /// The segments, in order.
-    pub(crate) fn segments(&self) -> &[StoredSegment]
-        ensures segments { result.now ≡ self.now }
-        ensures message { IsMessage self.now }
-    {
-        self.segments.as_slice()
+        self.starts.len()
     }
 
     /// An equal message. The one error is want of memory.
     pub fn copy(&self, alloc: Global) -> Result<Message, AllocError>
         ensures { IfOk result (λ message. message ≡ self.now) }
     {
-        let mut segments = Vec::new(alloc);
-        for segment in self.segments() {
-            let copy = segment.copy(alloc)?;
-            segments.push(copy)?;
-        }
-        Ok(Message::of(segments))
+        let starts = Vec::from_slice(alloc, &self.starts)?;
+        let texts = self.texts.copy(alloc)?;
+        Ok(Message { starts, texts })
+    }
+
+    /// Whether the messages are known to be equal, since their texts lie alike: none of them is looked at by itself. It takes no memory.
+    fn lies_alike(&self, other: &Message) -> bool
+        ensures { IsTrue result → self.now ≡ other.now }
+    {
+        are_same_starts(&self.starts, &other.starts) && self.texts.lie_alike(&other.texts)
     }
 
     /// Whether the messages are equal: the same segments in the same order, each with the same texts at the same places. It takes no memory.
     pub fn same(&self, other: &Message) -> bool
         ensures { IsTrue result ↔ (self.now ≡ other.now) }
     {
-        are_same(&self.segments, &other.segments)
+        if self.lies_alike(other) {
+            return true;
+        }
+        are_same_segments(self, other)
     }
 
     /// The segment of this number, from 0. It takes no memory.
@@ -86,6 +94,8 @@ impl Message {
         requires { i < length self.now }
         ensures { slice_get self.now i ≡ Some result }
     {
-        self.segments[i].lend()
+        let Start { name, first } = self.starts[i];
+        let end = end_of(&self.starts, &self.texts, i);
+        Segment::of(name, self.texts.lend(first, end))
     }
 }

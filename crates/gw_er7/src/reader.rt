@@ -1,17 +1,20 @@
 //! How a content is read as a message (HL7 v2.5.1 chapter 2, sections 2.5.4 "Message delimiters" and 2.6 "Message construction rules").
-ghost use Rattle.std.specs.Prelude.{◌≡◌, ◌+◌, ◌-◌, ◌<◌, ◌≤◌, ◌++◌, ◌^◌, drop, length, IfOk, OnOk, ◌⊎◌, IfErr, None, Err};
+ghost use Rattle.std.specs.Prelude.{◌≡◌, ◌+◌, ◌-◌, ◌<◌, ◌≤◌, ◌∷◌, [], ◌^◌, drop, length, IfOk, OnOk, ◌⊎◌, IfErr, None, Err};
 ghost use Rattle.gw_er7.specs.declared.fault.ReadFault.{ReadFault};
 ghost use Rattle.gw_er7.specs.Content.{lines_from, first_bad};
 ghost use Rattle.gw_er7.specs.Faults.{Faulty};
 ghost use Rattle.gw_er7.specs.Reading.{Reads};
-ghost use Rattle.gw_er7.specs.own.Gathered.{segment_of, others_of, segments_of};
+ghost use Rattle.gw_er7.specs.View.{lying};
+ghost use Rattle.gw_er7.specs.own.Separators.{held_in};
+ghost use Rattle.gw_er7.specs.own.Gathered.{segment_of, others_of, segments_of, IsTaken, Takes};
 
 use crate::delimiters::Delimiters;
 use crate::fault::ReadFault;
-use crate::fields::{Scratch, read_fields};
+use crate::fields::{Taken, take_fields};
+use crate::leaves::Store;
 use crate::lines::{NextLine, check, next_line};
 use crate::message::Message;
-use crate::segment::StoredSegment;
+use crate::start::Start;
 use std::alloc::{AllocError, Global};
 
 /// The bytes behind the first ones, none where there are too few.
@@ -24,75 +27,73 @@ fn behind(bytes: &[u8], count: usize) -> &[u8]
     &bytes[count..]
 }
 
-/// The segment of a line, whose fields stand behind these many bytes.
-fn read_segment(
-    alloc: Global,
-    scratch: &mut Scratch,
+/// Takes in the segment of a line, whose fields stand behind these many bytes.
+fn take_segment(
+    starts: &mut Vec<Start>,
+    taken: &mut Taken,
     delimiters: Delimiters,
     first: usize,
     skip: usize,
     line: &[u8],
-) -> Result<StoredSegment, AllocError>
+) -> Result<(), AllocError>
     requires first { first ≤ 3 }
     requires named { 3 ≤ length line.now }
-    ensures { IfOk result (λ s. s ≡ segment_of delimiters first skip line.now) }
+    requires taken { IsTaken starts.old.items taken.old }
+    ensures { OnOk result (Takes starts.old.items taken.old starts.new.items taken.new (segment_of delimiters first skip line.now ∷ [])) }
 {
     let name = [line[0], line[1], line[2]];
-    let texts = read_fields(alloc, scratch, delimiters, first, behind(line, skip))?;
-    Ok(StoredSegment::of(name, texts))
+    let start = Start {
+        name,
+        first: taken.leaves.len(),
+    };
+    starts.push(start)?;
+    take_fields(taken, delimiters, first, behind(line, skip))
 }
 
 /// Takes in the segments of the lines from a place on.
-fn read_others(
-    alloc: Global,
-    scratch: &mut Scratch,
+fn take_others(
+    starts: &mut Vec<Start>,
+    taken: &mut Taken,
     delimiters: Delimiters,
     at: usize,
     bytes: &[u8],
-    segments: &mut Vec<StoredSegment>,
 ) -> Result<(), AllocError>
     requires good { first_bad delimiters.field (lines_from at bytes.now) ≡ None }
     requires room { at < 2 ^ 64 - 1 }
     requires later { 0 < length bytes.now → at + length bytes.now < 2 ^ 64 - 1 }
-    ensures { OnOk result (segments.new.items ≡ segments.old.items ++ others_of delimiters (lines_from at bytes.now)) }
+    requires taken { IsTaken starts.old.items taken.old }
+    ensures { OnOk result (Takes starts.old.items taken.old starts.new.items taken.new (others_of delimiters (lines_from at bytes.now))) }
 {
     let mut here = at;
     let mut rest = bytes;
     while let Some(line) = next_line(here, rest) {
-        let segment = read_segment(alloc, scratch, delimiters, 1, 4, line.bytes)?;
-        segments.push(segment)?;
+        take_segment(starts, taken, delimiters, 1, 4, line.bytes)?;
         here = line.at + line.bytes.len() + 1;
         rest = line.behind;
     }
     Ok(())
 }
 
-/// The segments of a content, line by line.
-fn read_segments(
+/// The starts and the texts of the segments of a content, line by line.
+fn take_segments(
     alloc: Global,
     delimiters: Delimiters,
     header: NextLine<'_>,
-) -> Result<Vec<StoredSegment>, AllocError>
+    room: usize,
+) -> Result<(Vec<Start>, Taken), AllocError>
     requires named { 3 ≤ length header.bytes.now }
     requires good { first_bad delimiters.field (lines_from (header.at + length header.bytes.now + 1) header.behind.now) ≡ None }
     requires room { header.at + length header.bytes.now + 1 < 2 ^ 64 - 1 }
     requires later { 0 < length header.behind.now → header.at + length header.bytes.now + 1 + length header.behind.now < 2 ^ 64 - 1 }
-    ensures { IfOk result (λ ss. ss.items ≡ segments_of delimiters header.entry) }
+    ensures taken { IfOk result (λ r. IsTaken r.0.items r.1) }
+    ensures segments { IfOk result (λ r. lying r.0.items (held_in r.1) ≡ segments_of delimiters header.entry) }
 {
-    let mut scratch = Scratch::with_room(alloc, header.bytes.len())?;
-    let mut segments = Vec::new(alloc);
-    let first = read_segment(alloc, &mut scratch, delimiters, 3, 9, header.bytes)?;
-    segments.push(first)?;
+    let mut taken = Taken::with_room(alloc, room)?;
+    let mut starts = Vec::new(alloc);
+    take_segment(&mut starts, &mut taken, delimiters, 3, 9, header.bytes)?;
     let at = header.at + header.bytes.len() + 1;
-    read_others(
-        alloc,
-        &mut scratch,
-        delimiters,
-        at,
-        header.behind,
-        &mut segments,
-    )?;
-    Ok(segments)
+    take_others(&mut starts, &mut taken, delimiters, at, header.behind)?;
+    Ok((starts, taken))
 }
 
 /// The message of a content, whatever its delimiters and line ends. Each fault but `Memory` is found before anything is made, so a faulty content is never answered with `Memory`.
@@ -102,6 +103,6 @@ pub fn read(alloc: Global, content: &[u8]) -> Result<Message, ReadFault>
     ensures err { IfErr result (λ fault. (fault ≡ ReadFault.Memory) ⊎ Faulty content.now fault) }
 {
     let checked = check(content)?;
-    let segments = read_segments(alloc, checked.delimiters, checked.header)?;
-    Ok(Message::of(segments))
+    let (starts, taken) = take_segments(alloc, checked.delimiters, checked.header, content.len())?;
+    Ok(Message::of(starts, taken.close()))
 }

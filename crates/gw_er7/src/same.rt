@@ -4,9 +4,8 @@ ghost use Rattle.std.specs.List.{AllZip};
 ghost use Rattle.gw_er7.specs.Message.{numbers};
 ghost use Rattle.gw_er7.specs.View.{entry_of};
 
+use crate::message::Message;
 use crate::place::Place;
-use crate::segment::StoredSegment;
-use crate::texts::SegmentTexts;
 use crate::values::Values;
 
 /// A part that can be compared: `same` says what it is to be the same.
@@ -59,7 +58,7 @@ impl Part for Vec<u8> {
 }
 
 /// Whether these are the same texts at the same places.
-fn same_values(values: &Values<'_>, others: &Values<'_>) -> bool
+pub(crate) fn same_values(values: &Values<'_>, others: &Values<'_>) -> bool
     ensures { IsTrue result ↔ AllZip (λ a b. entry_of a ≡ entry_of b) values.now others.now }
 {
     if values.len() != others.len() {
@@ -78,25 +77,17 @@ fn same_values(values: &Values<'_>, others: &Values<'_>) -> bool
     true
 }
 
-/// The same of a segment's texts. Where they lie alike, as in one message that two share, none is looked at by itself.
-fn same_texts(texts: &SegmentTexts, others: &SegmentTexts) -> bool
-    ensures { IsTrue result ↔ AllZip (λ a b. entry_of a ≡ entry_of b) texts.now others.now }
+/// Whether the messages have the same segments in the same order, each with the same texts at the same places. It takes no memory.
+pub(crate) fn are_same_segments(message: &Message, other: &Message) -> bool
+    ensures { IsTrue result ↔ (message.now ≡ other.now) }
 {
-    if texts.lie_alike(others) {
-        return true;
+    if message.segment_count() != other.segment_count() {
+        return false;
     }
-    same_values(&texts.lend(), &others.lend())
-}
-
-impl Part for StoredSegment {
-    ghost use Rattle.std.specs.Prelude.{◌≡◌};
-
-    ghost same = { λ one other. one ≡ other };
-
-    fn is(&self, other: &StoredSegment) -> bool {
-        if !same_bytes(&self.name, &other.name) {
+    for i in 0..message.segment_count() {
+        if !message.segment(i).is(&other.segment(i)) {
             return false;
         }
-        same_texts(&self.texts, &other.texts)
     }
+    true
 }

@@ -1,6 +1,6 @@
-//! The texts of a segment: all in one buffer, so that none takes memory of its own.
+//! The texts of a message: all in one buffer, so that none takes memory of its own.
 
-use crate::leaves::{Leaf, SegmentLeaves, Store};
+use crate::leaves::{Leaf, MessageLeaves, Store};
 use crate::place::Place;
 use crate::same::same_bytes;
 use crate::values::Values;
@@ -9,12 +9,12 @@ use std::marker::Model;
 
 /// Texts at places, in the order in which they were put: leaves, and the one buffer in which their texts lie.
 #[derive(Drop)]
-pub(crate) struct SegmentTexts {
-    leaves: SegmentLeaves,
+pub(crate) struct Texts {
+    leaves: MessageLeaves,
     bytes: Vec<u8>,
 }
 
-impl Model for SegmentTexts {
+impl Model for Texts {
     ghost use Rattle.std.specs.Prelude.{List};
     ghost use Rattle.std.specs.Coded.{coded_list};
     ghost use Rattle.gw_er7.specs.View.{Held, held_code, held, AreInside};
@@ -28,40 +28,35 @@ impl Model for SegmentTexts {
     ghost invariant = { λ t. AreInside t.bytes.items t.leaves };
 }
 
-impl SegmentTexts {
-    ghost use Rattle.std.specs.Prelude.{◌≡◌, ◌++◌, ◌∷◌, [], length, IsTrue, OnOk, OnErr, IfOk};
-    ghost use Rattle.std.specs.List.Sorted.{IsPermutation};
-    ghost use Rattle.gw_er7.specs.View.{held, AreInside, AreSorted};
+impl Texts {
+    ghost use Rattle.std.specs.Prelude.{◌≡◌, ◌≤◌, ◌++◌, ◌∷◌, [], length, IsTrue, OnOk, OnErr, IfOk};
+    ghost use Rattle.gw_er7.specs.View.{held, between, AreInside, AreSortedFrom};
 
     /// No text. It takes no memory.
-    pub(crate) fn new(alloc: Global) -> SegmentTexts
+    pub(crate) fn new(alloc: Global) -> Texts
         ensures { result ≡ [] }
     {
-        SegmentTexts {
-            leaves: SegmentLeaves::new(alloc),
+        Texts {
+            leaves: MessageLeaves::new(alloc),
             bytes: Vec::new(alloc),
         }
     }
 
-    /// The texts that these leaves say of these bytes, in memory that fits them.
-    pub(crate) fn fitted(
-        alloc: Global,
-        leaves: &SegmentLeaves,
-        bytes: &[u8],
-    ) -> Result<SegmentTexts, AllocError>
-        requires { AreInside bytes.now leaves.now }
-        ensures { IfOk result (λ texts. texts ≡ held bytes.now leaves.now) }
+    /// The texts that these leaves say of these bytes.
+    pub(crate) fn of(leaves: MessageLeaves, bytes: Vec<u8>) -> Texts
+        requires { AreInside bytes.items leaves }
+        ensures { result ≡ held bytes.items leaves }
     {
-        let leaves = leaves.copy(alloc)?;
-        let bytes = Vec::from_slice(alloc, bytes)?;
-        Ok(SegmentTexts { leaves, bytes })
+        Texts { leaves, bytes }
     }
 
     /// The same texts once more, in memory that fits them.
-    pub(crate) fn copy(&self, alloc: Global) -> Result<SegmentTexts, AllocError>
+    pub(crate) fn copy(&self, alloc: Global) -> Result<Texts, AllocError>
         ensures { IfOk result (λ texts. texts ≡ self.now) }
     {
-        SegmentTexts::fitted(alloc, &self.leaves, &self.bytes)
+        let leaves = self.leaves.copy(alloc)?;
+        let bytes = Vec::from_slice(alloc, &self.bytes)?;
+        Ok(Texts { leaves, bytes })
     }
 
     /// Puts a text at a place, behind the others.
@@ -85,12 +80,12 @@ impl SegmentTexts {
         }
     }
 
-    /// Puts the texts in the order of their places. It takes no memory.
-    pub(crate) fn sort(&mut self)
-        ensures permutation { IsPermutation self.old self.new }
-        ensures sorted { AreSorted self.new }
+    /// Puts the texts from this number on in the order of their places. It takes no memory.
+    pub(crate) fn sort_from(&mut self, first: usize)
+        requires { first ≤ length self.old }
+        ensures { AreSortedFrom (λ h. h.place) first self.old self.new }
     {
-        self.leaves.sort();
+        self.leaves.sort_from(first);
     }
 
     /// Gives back the memory that the texts don't take.
@@ -102,7 +97,7 @@ impl SegmentTexts {
     }
 
     /// Whether these are known to be the same texts, since they lie alike in equal bytes: none of them is looked at by itself. It takes no memory.
-    pub(crate) fn lie_alike(&self, other: &SegmentTexts) -> bool
+    pub(crate) fn lie_alike(&self, other: &Texts) -> bool
         ensures { IsTrue result → self.now ≡ other.now }
     {
         same_bytes(&self.bytes, &other.bytes) && self.leaves.are_alike(&other.leaves)
@@ -114,10 +109,12 @@ impl SegmentTexts {
         self.leaves.len()
     }
 
-    /// The texts, lent.
-    pub(crate) fn lend(&self) -> Values<'_>
-        ensures { result ≡ self.now }
+    /// The texts from one number up to another, lent.
+    pub(crate) fn lend(&self, from: usize, to: usize) -> Values<'_>
+        requires rising { from ≤ to }
+        requires bound { to ≤ length self.now }
+        ensures { result ≡ between from to self.now }
     {
-        Values::of(&self.leaves, &self.bytes)
+        Values::of(&self.leaves, &self.bytes, from, to)
     }
 }

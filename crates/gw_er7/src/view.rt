@@ -1,9 +1,12 @@
 //! Segments as they are lent.
 
 use crate::counts::{field_range, last_under, rep_range};
+use crate::layout::write_line;
 use crate::place::Place;
+use crate::same::{same_bytes, same_values};
 use crate::search::{count_below_near, text_in, text_near};
 use crate::values::Values;
+use std::alloc::AllocError;
 use std::marker::Model;
 
 /// A segment, lent by its message: its name, and texts at places.
@@ -34,11 +37,12 @@ pub struct Value<'a> {
 }
 
 impl<'a> Segment<'a> {
-    ghost use Rattle.std.specs.Prelude.{◌≡◌, ◌+◌, ◌<◌, [], ◌∷◌, Some, length, slice_get};
+    ghost use Rattle.std.specs.Prelude.{◌≡◌, ◌↔◌, ◌+◌, ◌-◌, ◌*◌, ◌^◌, ◌<◌, [], ◌∷◌, ◌++◌, Some, length, min, slice_get, IsTrue, OnOk};
     ghost use Rattle.std.specs.FinMap as texts;
     ghost use Rattle.gw_er7.specs.Message.{numbers, text_at, IsSegment};
     ghost use Rattle.gw_er7.specs.Presence.{SubAt, CompAt, RepAt, FieldAt, IsLast, IsStart};
     ghost use Rattle.gw_er7.specs.View.{stored, IsLent};
+    ghost use Rattle.gw_er7.specs.Written.{line_text};
 
     pub(crate) fn of(name: [u8; 3], values: Values<'a>) -> Segment<'a>
         requires { IsLent name values }
@@ -55,6 +59,30 @@ impl<'a> Segment<'a> {
             name: self.name,
             values: self.values.again(),
         }
+    }
+
+    /// Whether the segments are equal: one name, and the same texts at the same places.
+    pub(crate) fn is(&self, other: &Segment<'_>) -> bool
+        ensures { IsTrue result ↔ (self.now ≡ other.now) }
+    {
+        if !same_bytes(&self.name, &other.name) {
+            return false;
+        }
+        same_values(&self.values, &other.values)
+    }
+
+    /// Room for the segment's line: eight bytes for each text with its separators, which is about what texts take, and four for the name and the end.
+    pub(crate) fn room(&self) -> usize
+        ensures { result ≡ min (length (texts.entries self.now.at) * 8 + 4) (2 ^ 64 - 1) }
+    {
+        self.values.len().saturating_mul(8).saturating_add(4)
+    }
+
+    /// Writes the segment's line, and its end.
+    pub(crate) fn write(&self, out: &mut Vec<u8>) -> Result<(), AllocError>
+        ensures { OnOk result (out.new.items ≡ out.old.items ++ (line_text self.now ++ 13 ∷ [])) }
+    {
+        write_line(out, self.name, &self.values)
     }
 
     /// The name. It takes no memory.

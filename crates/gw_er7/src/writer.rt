@@ -6,16 +6,15 @@ ghost use Rattle.gw_er7.specs.Reading.{Reads};
 ghost use Rattle.gw_er7.specs.Written.{written};
 
 use crate::message::Message;
-use crate::segment::StoredSegment;
 use std::alloc::{AllocError, Global};
 
 /// Room for the lines of the segments, or about that, which is taken at once.
-fn room_for(segments: &[StoredSegment]) -> usize
-    ensures { result ≡ min (sum_by (λ s. length (texts.entries s.at) * 8 + 4) segments.now) (2 ^ 64 - 1) }
+fn room_for(message: &Message) -> usize
+    ensures { result ≡ min (sum_by (λ s. length (texts.entries s.at) * 8 + 4) message.now) (2 ^ 64 - 1) }
 {
     let mut room: usize = 0;
-    for segment in segments {
-        room = room.saturating_add(segment.room());
+    for i in 0..message.segment_count() {
+        room = room.saturating_add(message.segment(i).room());
     }
     room
 }
@@ -25,9 +24,9 @@ pub fn write(alloc: Global, message: &Message) -> Result<Vec<u8>, AllocError>
     ensures value { IfOk result (λ content. content.items ≡ written message.now) }
     ensures again { IfOk result (λ content. length message.now ≤ 10000 → Reads content.items message.now) }
 {
-    let mut content = Vec::with_capacity(alloc, room_for(message.segments()))?;
-    for segment in message.segments() {
-        segment.write(&mut content)?;
+    let mut content = Vec::with_capacity(alloc, room_for(message))?;
+    for i in 0..message.segment_count() {
+        message.segment(i).write(&mut content)?;
     }
     Ok(content)
 }

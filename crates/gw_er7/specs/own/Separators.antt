@@ -1,12 +1,12 @@
 -- The values between the separators of a segment's fields, one after the other. The reader's own words.
-use Rattle.std.specs.Prelude.{◌≡◌, ℕ, ◌+◌, ◌==◌, ◌||◌, Bool, false, true, if◌then◌else◌, List, [], ◌∷◌, ◌++◌, map, Option, MatchOption}
+use Rattle.std.specs.Prelude.{◌≡◌, ℕ, ◌+◌, ◌==◌, ◌||◌, Bool, false, true, if◌then◌else◌, List, [], ◌∷◌, ◌++◌, length, map, take, Option, MatchOption}
 use Rattle.std.specs.List.{All}
 use denote.Ref.{Bor}
 use Rattle.gw_er7.specs.declared.delimiters.Delimiters.{Delimiters}
 use Rattle.gw_er7.specs.Text.{canon}
 use Rattle.gw_er7.specs.Entries.{Entry}
-use Rattle.gw_er7.specs.View.{entries_of, held}
-use Rattle.gw_er7.specs.declared.fields.Scratch.{Scratch}
+use Rattle.gw_er7.specs.View.{Held, entries_of, held}
+use Rattle.gw_er7.specs.declared.fields.Taken.{Taken}
 
 -- those that cut fields, repetitions, components and subcomponents
 abbrev pub separators : Delimiters → List ℕ
@@ -27,9 +27,16 @@ abbrev pub value_at : Delimiters → List ℕ → List ℕ → List Entry
 value_at d ns [] = []
 value_at d ns (b ∷ bs) = (ns, canon d (b ∷ bs)) ∷ []
 
--- what was read of a segment so far
-abbrev pub taken : Scratch → List Entry
-taken s = entries_of (held s.bytes.items s.leaves)
+-- what was read so far
+abbrev pub held_in : Taken → List Held
+held_in t = held t.bytes.items t.leaves
+
+abbrev pub taken_by : Taken → List Entry
+taken_by t = entries_of (held_in t)
+
+-- what was read before stands first
+abbrev pub Keeps : Taken → Taken → Type 0
+Keeps old new = take (length (held_in old)) (held_in new) ≡ held_in old
 
 -- no separator stands in it
 abbrev pub IsClear : List ℕ → List ℕ → Type 0

@@ -1,17 +1,30 @@
-use Rattle.std.proofs.Common.{ap, sym, ◌∙◌, ◌++◌, ◌∷◌, ◌-◌, ◌<◌, [], List, length, arith, rules}
+use Rattle.std.proofs.Common.{ap, sym, ◌∙◌, ◌++◌, ◌∷◌, ◌-◌, ◌<◌, ◌≡◌, [], List, length, arith, rules}
 use Rattle.std.proofs.lemmas.List.{map-append, length-append}
+use Rattle.std.proofs.Math.Seq.{take-append_seam}
 use Rattle.gw_er7.specs.declared.leaves.Leaf.{Leaf}
 use Rattle.gw_er7.specs.Message.{numbers}
 use Rattle.gw_er7.specs.Entries.{Entry}
 use Rattle.gw_er7.specs.Text.{canon}
-use Rattle.gw_er7.specs.View.{held, entry_of, entries_of}
+use Rattle.gw_er7.specs.View.{Held, held, entry_of, entries_of}
+use Rattle.gw_er7.specs.own.Separators.{held_in}
 use Rattle.gw_er7.proofs.Separated.{some_value}
 use Rattle.gw_er7.proofs.Slices.{held_put}
 use Rattle.gw_er7.proofs.fields.push_value.Goals as goal
 
+pub returns-clause-kept : goal.returns-clause-kept
+returns-clause-kept c =
+    let old = c.args.taken.now in
+    let new = c.push_canonical.new.text.items in
+    let d = c.args.delimiters in
+    let raw = c.args.raw.now in
+    let l : Leaf = record { place = c.args.place; from = c.len-from.result; len = c.len.result - c.len-from.result } in
+    let taken = c.in_ok-push_canonical.ensures in
+    let put = held_put old.bytes.items (canon d raw) new old.leaves c.push.new.self l c.requires taken c.in_ok-push.ensures.ok (omega (arith, c.len-from.ensures)) (omega (arith, c.len-from.ensures, c.len.ensures, ap length taken, length-append old.bytes.items (canon d raw))) in
+    rw put (take-append_seam (held_in old) (record { place = c.args.place; text = canon d raw } ∷ []))
+
 pub returns-clause-entries : goal.returns-clause-entries
 returns-clause-entries c =
-    let old = c.args.scratch.now in
+    let old = c.args.taken.now in
     let new = c.push_canonical.new.text.items in
     let d = c.args.delimiters in
     let raw = c.args.raw.now in

@@ -1,15 +1,16 @@
 use Rattle.std.proofs.Common.{◌≡◌, ◌++◌, ◌+◌, ◌≤◌, length}
 use Rattle.gw_er7.specs.Message.{numbers}
 use Rattle.gw_er7.specs.Entries.{fields}
-use Rattle.gw_er7.specs.own.Separators.{separators}
-use Rattle.gw_er7.specs.View.{entries_of, held, AreInside}
+use Rattle.gw_er7.specs.own.Separators.{separators, taken_by, Keeps}
+use Rattle.gw_er7.specs.View.{AreInside}
 use Rattle.gw_er7.proofs.Separated.{rest}
 use Rattle.gw_er7.proofs.fields.take_fields.Given as goal
 
 abbrev pub invariant-loop-separator : goal.invariant-loop-separator
 invariant-loop-separator l = record {
-  inside : AreInside l.scratch.bytes.items l.scratch.leaves;
-  read : entries_of (held l.scratch.bytes.items l.scratch.leaves) ++ rest l.delimiters (separators l.delimiters) (numbers l.place) l.rest ≡ fields l.delimiters l.fn.first l.fn.bytes;
+  inside : AreInside l.taken.bytes.items l.taken.leaves;
+  kept : Keeps l.fn.taken l.taken;
+  read : taken_by l.taken ++ rest l.delimiters (separators l.delimiters) (numbers l.place) l.rest ≡ taken_by l.fn.taken ++ fields l.delimiters l.fn.first l.fn.bytes;
   field : l.place.field + length l.rest ≤ length l.fn.bytes + 3;
   rep : l.place.rep + length l.rest ≤ length l.fn.bytes + 3;
   comp : l.place.comp + length l.rest ≤ length l.fn.bytes + 3;

@@ -1,17 +1,20 @@
-use Rattle.std.proofs.Common.{subst, sym, List, ℕ}
-use Rattle.gw_er7.specs.Message.{SegmentValue, IsSegment, IsMessage}
+use Rattle.std.proofs.Common.{◌≡◌, ◌<◌, ◌++◌, ◌∷◌, ◌+◌, [], List, ℕ, length, drop, subst, sym, ap, ◌∙◌, append_assoc, arith}
+use Rattle.std.proofs.lemmas.List.{drop_more}
+use Rattle.std.proofs.lemmas.Option.{get_or_from_slice_get}
+use Rattle.gw_er7.specs.Message.{SegmentValue}
 use Rattle.gw_er7.specs.Reading.{Reads}
-use Rattle.gw_er7.specs.Written.{written}
-use Rattle.gw_er7.proofs.Stored.{segment_at, written_end}
+use Rattle.gw_er7.specs.Written.{line_text, written}
+use Rattle.gw_er7.proofs.Stored.{written_end, written_more}
 use Rattle.gw_er7.proofs.Again.{reads_again}
 use Rattle.gw_er7.proofs.writer.write.Goals as goal
 
-pub write-requires : goal.write-requires
-write-requires c =
-    let all = subst (λ (ss : List SegmentValue). IsMessage ss) (sym c.segments-segment-items.ensures.segments) c.segments-segment-items.ensures.message in
-    subst (λ (s : SegmentValue). IsSegment s) (sym c.segment-item.is) (segment_at c.loop-segment.segment-index c.segments-segment-items.result.now c.segment-item.result c.loop-segment-test.true all)
+pub loop-i-preserved : goal.loop-i-preserved
+loop-i-preserved c =
+    let lt : c.loop-i.i < length c.args.message.now = omega (arith, c.loop-i-test.true, c.segment_count-i-end.ensures.count) in
+    written_more c.args.message.now c.loop-i.i c.segment.result c.loop-i.content.items c.write.new.out.items (written c.args.message.now) lt c.segment.ensures c.in_ok-write.ensures c.loop-i.invariant
 
 pub returns-clause-again : goal.returns-clause-again
 returns-clause-again c = λ few.
-    let whole = written_end c.segments-segment-items.result.now c.loop-segment.segment-index c.loop-segment.content.items (written c.args.message.now) c.loop-segment-test.false c.loop-segment.invariant in
-    subst (λ (content : List ℕ). Reads content c.args.message.now) (sym whole) (reads_again c.args.message.now c.segments-segment-items.ensures.message few)
+    let message = c.args.message.now in
+    let whole = written_end message c.loop-i.i c.loop-i.content.items (written message) (omega (arith, c.loop-i-test.false, c.segment_count-i-end.ensures.count)) c.loop-i.invariant in
+    subst (λ (content : List ℕ). Reads content message) (sym whole) (reads_again message c.segment_count-i-end.ensures.message few)

@@ -1,0 +1,24 @@
+use Rattle.std.proofs.Common.{◌≡◌, ◌+◌, ◌-◌, ◌<◌, ◌≤◌, ℕ, List, length, take, drop, sym, ap, subst, ◌∙◌, arith, rules}
+use Rattle.std.proofs.lemmas.List.{get_or-map}
+use Rattle.gw_er7.specs.declared.leaves.Leaf.{Leaf}
+use Rattle.gw_er7.specs.View.{Held, held, held_at, IsInside}
+use Rattle.gw_er7.proofs.Lying.{length-between, get_or-between}
+use Rattle.gw_er7.proofs.Slices.{length-held, value_at, inside_at}
+use Rattle.gw_er7.proofs.values.Values.at.Goals as goal
+
+pub overflow_add-result : goal.overflow_add-result
+overflow_add-result c =
+    let v = c.self.inside in
+    let inside = inside_at v.bytes.now v.from v.to v.leaves.now c.args.i c.at-leaf.result c.args.self.now c.self.invariant c.self.view_is c.requires (c.at-leaf.ensures c.at-leaf.result) in
+    search rules
+
+pub slice_bounds-result-end : goal.slice_bounds-result-end
+slice_bounds-result-end c =
+    let v = c.self.inside in
+    let inside = inside_at v.bytes.now v.from v.to v.leaves.now c.args.i c.at-leaf.result c.args.self.now c.self.invariant c.self.view_is c.requires (c.at-leaf.ensures c.at-leaf.result) in
+    search rules
+
+pub returns : goal.returns
+returns c = λ other.
+    let v = c.self.inside in
+    value_at v.bytes.now v.from v.to v.leaves.now c.args.i c.at-leaf.result c.args.self.now c.self.invariant c.self.view_is c.requires (c.at-leaf.ensures c.at-leaf.result) other
