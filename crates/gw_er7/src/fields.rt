@@ -90,16 +90,14 @@ pub(crate) struct Taken {
 impl Taken {
     ghost use Rattle.std.specs.Prelude.{[]};
 
-    /// No text, with room for so many bytes of texts.
-    pub(crate) fn with_room(alloc: Global, room: usize) -> Result<Taken, AllocError>
+    /// No text, with room for the texts of a content of so many bytes, as most are: a place for every eight of them.
+    pub(crate) fn with_room(alloc: Global, len: usize) -> Result<Taken, AllocError>
         ensures inside { IfOk result (λ t. AreInside t.bytes.items t.leaves) }
         ensures none { IfOk result (λ t. held_in t ≡ []) }
     {
-        let bytes = Vec::with_capacity(alloc, room)?;
-        Ok(Taken {
-            leaves: MessageLeaves::new(alloc),
-            bytes,
-        })
+        let leaves = MessageLeaves::with_room(alloc, len / 8)?;
+        let bytes = Vec::with_capacity(alloc, len)?;
+        Ok(Taken { leaves, bytes })
     }
 
     /// The texts.

@@ -299,14 +299,14 @@ pub(crate) trait Store: Drop {
     fn new(alloc: Global) -> Self
         ensures { leaves result ≡ [] };
 
+    /// No leaf, with room for so many in the narrowest width.
+    fn with_room(alloc: Global, room: usize) -> Result<Self, AllocError>
+        ensures { IfOk result (λ made. leaves made ≡ []) };
+
     /// Puts a leaf behind the others.
     fn push(&mut self, leaf: Leaf) -> Result<(), AllocError>
         ensures ok { OnOk result (leaves self.new ≡ leaves self.old ++ leaf ∷ []) }
         ensures err { OnErr result (leaves self.new ≡ leaves self.old) };
-
-    /// Takes all leaves away, and keeps their memory for others.
-    fn clear(&mut self)
-        ensures { leaves self.new ≡ [] };
 
     /// Puts the leaves from this number on in the order of their places. It takes no memory.
     fn sort_from(&mut self, first: usize)
@@ -342,13 +342,13 @@ impl Store for Vec<Leaf> {
         Vec::new(alloc)
     }
 
+    fn with_room(alloc: Global, room: usize) -> Result<Vec<Leaf>, AllocError> {
+        Ok(Vec::with_capacity(alloc, room)?)
+    }
+
     fn push(&mut self, leaf: Leaf) -> Result<(), AllocError> {
         self.push(leaf)?;
         Ok(())
-    }
-
-    fn clear(&mut self) {
-        self.clear();
     }
 
     fn sort_from(&mut self, first: usize) {
@@ -440,6 +440,15 @@ impl<N: Width, L: Store> Store for Leaves<N, L> {
         }
     }
 
+    fn with_room(alloc: Global, room: usize) -> Result<Leaves<N, L>, AllocError> {
+        let narrow = Vec::with_capacity(alloc, room)?;
+        Ok(Leaves {
+            alloc,
+            narrow,
+            others: L::new(alloc),
+        })
+    }
+
     fn push(&mut self, leaf: Leaf) -> Result<(), AllocError> {
         if self.others.len() > 0 {
             return self.others.push(leaf);
@@ -449,11 +458,6 @@ impl<N: Width, L: Store> Store for Leaves<N, L> {
         };
         self.narrow.push(narrow)?;
         Ok(())
-    }
-
-    fn clear(&mut self) {
-        self.narrow.clear();
-        self.others.clear();
     }
 
     fn sort_from(&mut self, first: usize) {

@@ -74,12 +74,12 @@ fn take_others(
     Ok(())
 }
 
-/// The starts and the texts of the segments of a content, line by line.
+/// The starts and the texts of the segments of a content of so many bytes, line by line, each taken in where it is read: what most messages need is asked for at once.
 fn take_segments(
     alloc: Global,
     delimiters: Delimiters,
     header: NextLine<'_>,
-    room: usize,
+    len: usize,
 ) -> Result<(Vec<Start>, Taken), AllocError>
     requires named { 3 ≤ length header.bytes.now }
     requires good { first_bad delimiters.field (lines_from (header.at + length header.bytes.now + 1) header.behind.now) ≡ None }
@@ -88,8 +88,8 @@ fn take_segments(
     ensures taken { IfOk result (λ r. IsTaken r.0.items r.1) }
     ensures segments { IfOk result (λ r. lying r.0.items (held_in r.1) ≡ segments_of delimiters header.entry) }
 {
-    let mut taken = Taken::with_room(alloc, room)?;
-    let mut starts = Vec::new(alloc);
+    let mut taken = Taken::with_room(alloc, len)?;
+    let mut starts = Vec::with_capacity(alloc, len / 64)?;
     take_segment(&mut starts, &mut taken, delimiters, 3, 9, header.bytes)?;
     let at = header.at + header.bytes.len() + 1;
     take_others(&mut starts, &mut taken, delimiters, at, header.behind)?;

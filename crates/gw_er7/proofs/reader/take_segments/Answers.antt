@@ -15,6 +15,6 @@ returns-clause-segments c =
     let d = c.args.delimiters in
     let header = c.args.header in
     let others = others_of d (lines_from (header.at + length header.bytes.now + 1) header.behind.now) in
-    let none : c.new-starts.result.items ≡ [] = search rules in
+    let none : c.in_ok-starts.starts.items ≡ [] = search rules in
     c.in_ok-take_others.ensures.segments
     ∙ ap (λ (ss : List SegmentValue). ss ++ others) (c.in_ok-take_segment.ensures.segments ∙ ap (λ (starts : List Start). lying starts (held_in c.in_ok-taken.taken) ++ segment_of d 3 9 header.bytes.now ∷ []) none)
