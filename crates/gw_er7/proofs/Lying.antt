@@ -1,8 +1,8 @@
 -- Segments whose texts lie one behind the other.
-use Rattle.std.proofs.Common.{◌≡◌, ℕ, zero, suc, ◌+◌, ◌-◌, ◌<◌, ◌≤◌, min, List, [], ◌∷◌, ◌++◌, length, map, take, drop, get_or, Bool, false, Result, Ok, Err, Some, refl, sym, ap, subst, ◌∙◌, arith}
+use Rattle.std.proofs.Common.{◌≡◌, ℕ, zero, suc, ◌+◌, ◌-◌, ◌<◌, ◌≤◌, List, [], ◌∷◌, ◌++◌, length, map, take, drop, get_or, false, Result, Ok, Err, Some, refl, sym, ap, subst, ◌∙◌, arith}
 use Rattle.std.specs.Prelude.{T, slice_get, if◌then◌else◌, OnOk, OnErr}
 use Rattle.std.specs.Result.{is_ok, IsOk}
-use Rattle.std.proofs.lemmas.List.{take_all, drop_all, length-take, length-drop, length-append, drop-append-le, take-append-le, take-append-drop, take-map, drop-map, get_or-drop, get_or-take, drop_more}
+use Rattle.std.proofs.lemmas.List.{drop_all, length-take, length-drop, length-append, drop-append-le, take-append-le, take-append-drop, take-map, drop-map, get_or-drop, get_or-take, drop_more}
 use Rattle.std.proofs.lemmas.Option.{get_or_from_slice_get}
 use Rattle.std.proofs.Math.Seq.{take-length, drop-append_seam}
 use Rattle.std.specs.List.Sorted.{IsPermutation, IsSortedBy}
@@ -16,7 +16,8 @@ use Rattle.gw_er7.specs.declared.start.Start.{Start}
 use Rattle.gw_er7.specs.Message.{SegmentValue, numbers, IsSegment, IsMessage}
 use Rattle.gw_er7.specs.Building.{IsBegun, MayPut, with_last}
 use Rattle.gw_er7.specs.Entries.{Entry}
-use Rattle.gw_er7.specs.View.{Held, entry_of, entries_of, stored, drafted, between, end_before, lying, AreLying, building, AreBuilding, IsBuilding, IsLent, AreSortedFrom}
+use Rattle.gw_er7.specs.View.{Held, entry_of, entries_of, stored, drafted, between, end_before, lying, AreLying, building, AreBuilding, IsBuilding, IsLent}
+use Rattle.gw_er7.specs.own.Leaves.{AreSortedFrom}
 use Rattle.gw_er7.proofs.Sorted.{order}
 use Rattle.gw_er7.proofs.Drafts.{closed_sorted, closed_is, apart_put, draft_put, none_apart}
 use Rattle.gw_er7.proofs.Lasts.{begun_put}

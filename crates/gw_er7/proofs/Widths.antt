@@ -1,12 +1,9 @@
 -- Leaves of two widths, which say the same.
-use Rattle.std.proofs.Common.{◌≡◌, ℕ, ◌+◌, ◌<◌, Bool, false, List, [], ◌∷◌, ◌++◌, length, map, get_or, refl, sym, ap, subst, ◌∙◌, append-nil, arith, inl, inr}
-use Rattle.std.proofs.lemmas.List.{get_or-map}
-use Rattle.std.proofs.lemmas.List.Sorted.{IsPermutation-map, IsPermutation-append, length_permutation}
-use Rattle.std.specs.List.Sorted.{IsPermutation, IsSortedBy}
+use Rattle.std.proofs.Common.{◌≡◌, ℕ, ◌<◌, Bool, List, [], ◌∷◌, ◌++◌, length, map, refl, sym, ap, subst, ◌∙◌, append-nil, arith, inl, inr}
 use Rattle.std.specs.Ordering.{is_lt}
 use Rattle.gw_er7.specs.declared.leaves.Leaf.{Leaf}
 use Rattle.gw_er7.specs.Message.{numbers}
-use Rattle.gw_er7.specs.View.{all_said, AreAlike, AreSortedFrom}
+use Rattle.gw_er7.specs.own.Leaves.{all_said, AreAlike, AreSortedFrom}
 use Rattle.gw_er7.proofs.Lying.{sorted_from_map}
 use Rattle.gw_er7.proofs.Sorted.{order}
 

@@ -1,8 +1,7 @@
 -- Segments as they lie in memory, and what they stand for. The code's own words.
-use Rattle.std.specs.Prelude.{◌≡◌, ◌⊎◌, ◌+◌, ◌<◌, ◌≤◌, ℕ, Bool, false, T, List, [], ◌∷◌, ◌++◌, length, map, take, drop, unwrap_or, Option, None, Some, refl}
+use Rattle.std.specs.Prelude.{◌≡◌, ◌+◌, ◌<◌, ◌≤◌, ℕ, Bool, false, T, List, [], ◌∷◌, ◌++◌, length, map, take, drop, unwrap_or, Option, None, Some, refl}
 use Rattle.std.specs.List.{All, AllByRecursion, IsDistinct}
-use Rattle.std.specs.List.Sorted.{IsPermutation, IsSortedBy}
-use Rattle.std.specs.Option.{option_to_list}
+use Rattle.std.specs.List.Sorted.{IsSortedBy}
 use Rattle.std.specs.Ordering.{nat_cmp, is_lt, is_le, is_gt, eq_by_cmp, ordering_then}
 use Rattle.std.specs.declared.cmp.Ordering.{Ordering}
 use Rattle.std.specs.declared.cmp.Ordering.TheVariants.{Less, Equal}
@@ -12,9 +11,6 @@ use Rattle.std.specs.FinMap.{is_sorted}
 use Rattle.std.specs.Coded.{Coded, code_by, coded×, coded_ℕ, coded_list}
 use Rattle.gw_er7.specs.declared.place.Place.{Place}
 use Rattle.gw_er7.specs.declared.leaves.Leaf.{Leaf}
-use Rattle.gw_er7.specs.declared.leaves.NarrowLeaf.{NarrowLeaf}
-use Rattle.gw_er7.specs.declared.leaves.MediumLeaf.{MediumLeaf}
-use Rattle.gw_er7.specs.declared.leaves.SmallLeaf.{SmallLeaf}
 use Rattle.gw_er7.specs.declared.start.Start.{Start}
 use Rattle.gw_er7.specs.Message.{numbers, Texts, SegmentValue, IsEntry, IsSegment, IsMessage}
 use Rattle.gw_er7.specs.Building.{IsBegun}
@@ -30,34 +26,6 @@ abbrev pub held_code : Coded Held
 held_code =
     code_by (ℕ × (ℕ × (ℕ × (ℕ × List ℕ)))) (coded× coded_ℕ (coded× coded_ℕ (coded× coded_ℕ (coded× coded_ℕ (coded_list coded_ℕ)))))
     (λ h. (h.place.field, (h.place.rep, (h.place.comp, (h.place.sub, h.text))))) (λ p. record { place = record { field = p.0; rep = p.1.0; comp = p.1.1.0; sub = p.1.1.1.0 }; text = p.1.1.1.1 }) (λ _. refl)
-
--- a leaf is stored as its numbers
-abbrev pub leaf_code : Coded Leaf
-leaf_code =
-    code_by (ℕ × (ℕ × (ℕ × (ℕ × (ℕ × ℕ))))) (coded× coded_ℕ (coded× coded_ℕ (coded× coded_ℕ (coded× coded_ℕ (coded× coded_ℕ coded_ℕ)))))
-    (λ l. (l.place.field, (l.place.rep, (l.place.comp, (l.place.sub, (l.from, l.len)))))) (λ p. record { place = record { field = p.0; rep = p.1.0; comp = p.1.1.0; sub = p.1.1.1.0 }; from = p.1.1.1.1.0; len = p.1.1.1.1.1 }) (λ _. refl)
-
--- a leaf of 24 bytes says the same as one of 48, and so do those of 12 and of 8
-abbrev pub said_narrow : NarrowLeaf → Leaf
-said_narrow l = record { place = record { field = l.field; rep = l.rep; comp = l.comp; sub = l.sub }; from = l.from; len = l.len }
-
-abbrev pub said_medium : MediumLeaf → Leaf
-said_medium l = record { place = record { field = l.field; rep = l.rep; comp = l.comp; sub = l.sub }; from = l.from; len = l.len }
-
-abbrev pub said_small : SmallLeaf → Leaf
-said_small l = record { place = record { field = l.field; rep = l.rep; comp = l.comp; sub = l.sub }; from = l.from; len = l.len }
-
--- no number of the leaf's place is larger than the first of these, and no other than the second
-abbrev pub IsUpTo : ℕ → ℕ → Leaf → Type 0
-IsUpTo at most l = (l.place.field ≤ at) × (l.place.rep ≤ at) × (l.place.comp ≤ at) × (l.place.sub ≤ at) × (l.from ≤ most) × (l.len ≤ most)
-
--- leaves of one width, and others
-abbrev pub all_said : {N : Type 0} → (N → Leaf) → List N → List Leaf → List Leaf
-all_said said narrow others = map said narrow ++ others
-
--- all are of this width, or none
-abbrev pub AreAlike : {N : Type 0} → List N → List Leaf → Type 0
-AreAlike narrow others = (narrow ≡ []) ⊎ (others ≡ [])
 
 -- the text of a leaf lies within the bytes
 abbrev pub IsInside : List ℕ → Leaf → Type 0
@@ -176,9 +144,3 @@ pub record AreWithin (bytes : List ℕ) (from to : ℕ) (leaves : List Leaf) : T
   pub rising : from ≤ to
   pub bound : to ≤ length leaves
   pub inside : AreInside bytes leaves
-
--- those from this number on were put in the order of their places
-pub record AreSortedFrom {A : Type 0} (place : A → Place) (first : ℕ) (old new : List A) : Type 0 where
-  pub kept : take first new ≡ take first old
-  pub moved : IsPermutation (drop first old) (drop first new)
-  pub sorted : IsSortedBy (λ a b. is_lt (slice_cmp nat_cmp (numbers (place a)) (numbers (place b)))) (drop first new)

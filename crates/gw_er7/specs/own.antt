@@ -4,3 +4,4 @@ pub mod Gathered
 pub mod Ordered
 pub mod Layers
 pub mod Canonical
+pub mod Leaves

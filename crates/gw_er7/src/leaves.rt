@@ -5,7 +5,7 @@ ghost use Rattle.std.specs.List.Sorted.{IsPermutation, IsSortedBy};
 ghost use Rattle.std.specs.Ordering.{nat_cmp, is_lt};
 ghost use Rattle.std.specs.Cmp.Lexicographic.{slice_cmp};
 ghost use Rattle.gw_er7.specs.Message.{numbers};
-ghost use Rattle.gw_er7.specs.View.{IsUpTo, AreSortedFrom};
+ghost use Rattle.gw_er7.specs.own.Leaves.{IsUpTo, AreSortedFrom};
 
 use crate::place::Place;
 use crate::search::compare_places;
@@ -58,7 +58,7 @@ pub(crate) struct SmallLeaf {
 pub(crate) trait Width: Copy {
     ghost use Rattle.std.specs.Prelude.{◌≡◌, ◌↔◌, ℕ, IsTrue, IsSome, IfSome};
     ghost use Rattle.gw_er7.specs.declared.leaves.Leaf.{Leaf};
-    ghost use Rattle.gw_er7.specs.View.{IsUpTo};
+    ghost use Rattle.gw_er7.specs.own.Leaves.{IsUpTo};
 
     ghost said: { Self → Leaf };
 
@@ -92,7 +92,7 @@ fn is_up_to(farthest: usize, largest: usize, leaf: Leaf) -> bool
 
 impl Width for NarrowLeaf {
     ghost use Rattle.std.specs.Prelude.{◌-◌, ◌^◌};
-    ghost use Rattle.gw_er7.specs.View.{said_narrow};
+    ghost use Rattle.gw_er7.specs.own.Leaves.{said_narrow};
 
     ghost said = { said_narrow };
 
@@ -139,7 +139,7 @@ impl Width for NarrowLeaf {
 
 impl Width for MediumLeaf {
     ghost use Rattle.std.specs.Prelude.{◌-◌, ◌^◌};
-    ghost use Rattle.gw_er7.specs.View.{said_medium};
+    ghost use Rattle.gw_er7.specs.own.Leaves.{said_medium};
 
     ghost said = { said_medium };
 
@@ -186,7 +186,7 @@ impl Width for MediumLeaf {
 
 impl Width for SmallLeaf {
     ghost use Rattle.std.specs.Prelude.{◌-◌, ◌^◌};
-    ghost use Rattle.gw_er7.specs.View.{said_small};
+    ghost use Rattle.gw_er7.specs.own.Leaves.{said_small};
 
     ghost said = { said_small };
 
@@ -291,7 +291,7 @@ fn sort_leaves_from<N: Width>(leaves: &mut Vec<N>, first: usize)
 pub(crate) trait Store: Drop {
     ghost use Rattle.std.specs.Prelude.{◌≡◌, ◌<◌, ◌≤◌, ◌++◌, ◌∷◌, [], List, length, slice_index_or, IsTrue, OnOk, OnErr, IfOk};
     ghost use Rattle.gw_er7.specs.declared.leaves.Leaf.{Leaf};
-    ghost use Rattle.gw_er7.specs.View.{AreSortedFrom};
+    ghost use Rattle.gw_er7.specs.own.Leaves.{AreSortedFrom};
 
     ghost leaves: { Self → List Leaf };
 
@@ -398,7 +398,7 @@ impl<N: Width, L: Store> Model for Leaves<N, L> {
     ghost use Rattle.std.specs.Prelude.{List};
     ghost use Rattle.std.specs.Coded.{coded_list};
     ghost use Rattle.gw_er7.specs.declared.leaves.Leaf.{Leaf};
-    ghost use Rattle.gw_er7.specs.View.{leaf_code, all_said, AreAlike};
+    ghost use Rattle.gw_er7.specs.own.Leaves.{leaf_code, all_said, AreAlike};
 
     ghost Value = { List Leaf };
 

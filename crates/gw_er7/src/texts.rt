@@ -30,7 +30,8 @@ impl Model for Texts {
 
 impl Texts {
     ghost use Rattle.std.specs.Prelude.{◌≡◌, ◌≤◌, ◌++◌, ◌∷◌, [], length, IsTrue, OnOk, OnErr, IfOk};
-    ghost use Rattle.gw_er7.specs.View.{held, between, AreInside, AreSortedFrom};
+    ghost use Rattle.gw_er7.specs.View.{held, between, AreInside};
+    ghost use Rattle.gw_er7.specs.own.Leaves.{AreSortedFrom};
 
     /// No text. It takes no memory.
     pub(crate) fn new(alloc: Global) -> Texts

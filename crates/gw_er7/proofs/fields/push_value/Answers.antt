@@ -1,11 +1,11 @@
-use Rattle.std.proofs.Common.{ap, sym, ◌∙◌, ◌++◌, ◌∷◌, ◌-◌, ◌<◌, ◌≡◌, [], List, length, arith, rules}
+use Rattle.std.proofs.Common.{ap, sym, ◌∙◌, ◌++◌, ◌∷◌, ◌-◌, ◌<◌, [], List, length, arith, rules}
 use Rattle.std.proofs.lemmas.List.{map-append, length-append}
 use Rattle.std.proofs.Math.Seq.{take-append_seam}
 use Rattle.gw_er7.specs.declared.leaves.Leaf.{Leaf}
 use Rattle.gw_er7.specs.Message.{numbers}
 use Rattle.gw_er7.specs.Entries.{Entry}
 use Rattle.gw_er7.specs.Text.{canon}
-use Rattle.gw_er7.specs.View.{Held, held, entry_of, entries_of}
+use Rattle.gw_er7.specs.View.{held, entry_of, entries_of}
 use Rattle.gw_er7.specs.own.Separators.{held_in}
 use Rattle.gw_er7.proofs.Separated.{some_value}
 use Rattle.gw_er7.proofs.Slices.{held_put}

@@ -1,4 +1,4 @@
-use Rattle.std.proofs.Common.{◌≡◌, ◌++◌, ◌+◌, List, length, take, drop, arith, ap, sym, subst, append_assoc, ◌∙◌}
+use Rattle.std.proofs.Common.{◌++◌, List, length, take, drop, arith, ap, sym, subst, ◌∙◌}
 use Rattle.std.proofs.lemmas.List.{length-append}
 use Rattle.std.proofs.lemmas.List.Sorted.{length_permutation}
 use Rattle.std.specs.List.Sorted.{IsPermutation}

@@ -1,9 +1,6 @@
-use Rattle.std.proofs.Common.{◌≡◌, ◌<◌, List, length, ap, arith}
-use Rattle.std.proofs.lemmas.List.{drop_all}
+use Rattle.std.proofs.Common.{◌<◌, length, ap, arith}
 use Rattle.std.proofs.lemmas.List.Sums.{sum_by-drop_more}
 use Rattle.std.proofs.lemmas.Option.{get_or_from_slice_get}
-use Rattle.std.specs.List.{sum_by}
-use Rattle.gw_er7.specs.Message.{SegmentValue}
 use Rattle.gw_er7.proofs.Rooms.{line_room}
 use Rattle.gw_er7.proofs.writer.room_for.Goals as goal
 

@@ -1,9 +1,6 @@
-use Rattle.std.proofs.Common.{◌≡◌, ◌<◌, ◌++◌, ◌∷◌, ◌+◌, [], List, ℕ, length, drop, subst, sym, ap, ◌∙◌, append_assoc, arith}
-use Rattle.std.proofs.lemmas.List.{drop_more}
-use Rattle.std.proofs.lemmas.Option.{get_or_from_slice_get}
-use Rattle.gw_er7.specs.Message.{SegmentValue}
+use Rattle.std.proofs.Common.{◌<◌, List, ℕ, length, subst, sym, arith}
 use Rattle.gw_er7.specs.Reading.{Reads}
-use Rattle.gw_er7.specs.Written.{line_text, written}
+use Rattle.gw_er7.specs.Written.{written}
 use Rattle.gw_er7.proofs.Stored.{written_end, written_more}
 use Rattle.gw_er7.proofs.Again.{reads_again}
 use Rattle.gw_er7.proofs.writer.write.Goals as goal

@@ -1,6 +1,7 @@
 use Rattle.std.proofs.Common.{List, subst}
 use Rattle.std.proofs.lemmas.List.Sorted.{All-permutation}
-use Rattle.gw_er7.specs.View.{Held, IsInside, held_at, held, AreSortedFrom}
+use Rattle.gw_er7.specs.View.{Held, IsInside, held_at, held}
+use Rattle.gw_er7.specs.own.Leaves.{AreSortedFrom}
 use Rattle.gw_er7.proofs.Lying.{all_moved, sorted_from_map}
 use Rattle.gw_er7.proofs.texts.Texts.sort_from.Goals as goal
 

@@ -1,9 +1,5 @@
-use Rattle.std.proofs.Common.{◌≡◌, ◌+◌, ◌-◌, ◌<◌, ◌≤◌, ℕ, List, length, take, drop, sym, ap, subst, ◌∙◌, arith, rules}
-use Rattle.std.proofs.lemmas.List.{get_or-map}
-use Rattle.gw_er7.specs.declared.leaves.Leaf.{Leaf}
-use Rattle.gw_er7.specs.View.{Held, held, held_at, IsInside}
-use Rattle.gw_er7.proofs.Lying.{length-between, get_or-between}
-use Rattle.gw_er7.proofs.Slices.{length-held, value_at, inside_at}
+use Rattle.std.proofs.Common.{rules}
+use Rattle.gw_er7.proofs.Slices.{value_at, inside_at}
 use Rattle.gw_er7.proofs.values.Values.at.Goals as goal
 
 pub overflow_add-result : goal.overflow_add-result
