@@ -14,10 +14,19 @@ use std::marker::Model;
 use std::sync::Arc;
 
 /// The profiles and maps that stand above in a plan, in their order. Each map begins at a profile that stands above.
-#[derive(Drop)]
 pub struct Above {
     profiles: IndexMap<Vec<u8>, Arc<Profile>>,
     maps: IndexMap<Vec<u8>, Arc<CheckedMap>>,
+}
+
+// (by hand: so what holds one is let go by a call)
+impl Drop for Above {
+    fn drop(self) {
+        let Above {
+            profiles: _,
+            maps: _,
+        } = self;
+    }
 }
 
 impl Model for Above {

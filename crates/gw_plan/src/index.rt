@@ -7,11 +7,21 @@ use indexmap::IndexSet;
 use std::alloc::{AllocError, Global};
 
 /// The codes and events of routes, and for each route the numbers of its own.
-#[derive(Drop)]
 pub struct Index {
     codes: IndexSet<Vec<u8>>,
     events: IndexSet<Vec<u8>>,
     pairs: IndexSet<(usize, usize)>,
+}
+
+// (by hand: so what holds one is let go by a call)
+impl Drop for Index {
+    fn drop(self) {
+        let Index {
+            codes: _,
+            events: _,
+            pairs: _,
+        } = self;
+    }
 }
 
 impl Index {

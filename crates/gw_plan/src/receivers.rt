@@ -9,9 +9,15 @@ use std::alloc::{AllocError, Global};
 use std::marker::Model;
 
 /// Receivers in the order of their lines, each name once. A receiver is looked up by the hash of its name.
-#[derive(Drop)]
 pub struct Receivers {
     addresses: IndexMap<Vec<u8>, Vec<u8>>,
+}
+
+// (by hand: so what holds one is let go by a call)
+impl Drop for Receivers {
+    fn drop(self) {
+        let Receivers { addresses: _ } = self;
+    }
 }
 
 impl Model for Receivers {
@@ -56,8 +62,9 @@ impl Receivers {
     pub fn into_all(self, alloc: Global) -> Result<Vec<Receiver>, AllocError>
         ensures { IfOk result (λ all. map receiver_value all.items ≡ self) }
     {
+        let Receivers { addresses } = self;
         let mut all = Vec::new(alloc);
-        for (name, address) in self.addresses {
+        for (name, address) in addresses {
             all.push(Receiver { name, address })?;
         }
         Ok(all)

@@ -16,12 +16,23 @@ use std::sync::Arc;
 
 /// The messages of a code and an event, the empty text where a message says none:
 /// the profile by which they are judged, and the receivers that they go to, each with the map that makes what it is sent.
-#[derive(Drop)]
 pub struct Route {
     code: Vec<u8>,
     event: Vec<u8>,
     profile: Arc<Profile>,
     legs: IndexMap<usize, Arc<CheckedMap>>,
+}
+
+// (by hand: so what holds one is let go by a call)
+impl Drop for Route {
+    fn drop(self) {
+        let Route {
+            code: _,
+            event: _,
+            profile: _,
+            legs: _,
+        } = self;
+    }
 }
 
 impl Model for Route {
