@@ -1,11 +1,13 @@
 -- The routes of a plan so far, with their keys.
-use Rattle.std.proofs.Common.{◌≡◌, ℕ, List, [], ◌∷◌, ◌++◌, map, Option, None, refl, ap, ◌∙◌, subst}
+use Rattle.std.proofs.Common.{◌≡◌, ℕ, List, [], ◌∷◌, ◌++◌, map, Option, None, Some, Result, OnOk, refl, sym, ap, ◌∙◌, subst}
 use Rattle.std.specs.Prelude.{bytes_eq, ◌&&◌, ◌||◌}
 use Rattle.std.specs.List.{list_any}
-use Rattle.std.specs.Option.{option_to_list}
+use Rattle.std.specs.Option.{option_map, option_to_list}
 use Rattle.std.proofs.lemmas.List.{append-nil, map-append}
 use Rattle.gw_plan.specs.declared.index.Index.{Index}
-use Rattle.gw_plan.specs.Held.{RouteHeld, route_value}
+use Rattle.gw_check.specs.Kept.{CheckedValue}
+use Rattle.gw_check.proofs.Collecting.{on_ok}
+use Rattle.gw_plan.specs.Held.{RouteHeld, route_value, longer}
 use Rattle.gw_plan.specs.Draft.{is_for}
 use Rattle.gw_plan.specs.Index.{Indexes, is_key, with_key}
 use Rattle.gw_plan.specs.Kept.{key_of}
@@ -22,3 +24,16 @@ indexed_closed index closed current none x = subst (λ rs. Indexes index (map ke
 -- one route more has one key more
 pub keys_more : (routes : List RouteHeld) (r : RouteHeld) → map key_of (routes ++ r ∷ []) ≡ with_key r.code r.event (map key_of routes)
 keys_more routes r = map-append key_of routes (r ∷ [])
+
+-- ---- a leg more of the current route
+
+module _ {A E : Type 0} (number : ℕ) (by : CheckedValue) (current : Option RouteHeld) (route new : RouteHeld) (result : Result A E) (is : current ≡ Some route) where
+  pub one_longer : OnOk result (new ≡ longer number by route) → OnOk result (Some new ≡ option_map (longer number by) current)
+  one_longer e = on_ok result _ _ (λ same. ap Some same ∙ sym (ap (option_map (longer number by)) is)) e
+
+  pub still_listed : (index : Index) (closed : List RouteHeld) → Indexes index (map key_of (closed ++ option_to_list current)) → OnOk result (new ≡ longer number by route)
+      → OnOk result (Indexes index (map key_of (closed ++ new ∷ [])))
+  still_listed index closed listed e =
+      let before = subst (λ o. Indexes index (map key_of (closed ++ option_to_list o))) is listed in
+      let keys : map key_of (closed ++ route ∷ []) ≡ map key_of (closed ++ longer number by route ∷ []) = keys_more closed route ∙ sym (keys_more closed (longer number by route)) in
+      on_ok result _ _ (λ same. subst (λ (r : RouteHeld). Indexes index (map key_of (closed ++ r ∷ []))) (sym same) (subst (Indexes index) keys before)) e
