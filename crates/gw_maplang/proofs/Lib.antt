@@ -7,3 +7,4 @@ pub mod Kept
 pub mod Lists
 pub mod Formed
 pub mod Same
+pub mod Keywords

@@ -5,6 +5,50 @@ ghost use Rattle.gw_maplang.specs.Patterns as spec;
 use gw_lines::{Expected, keyword_of, line_at};
 use std::alloc::{AllocError, Global};
 
+// The pattern of the lines of items with this keyword, or all keywords where it is none.
+fn item_pattern(keyword: &[u8]) -> &'static [u8]
+    ensures { result.now ≡ spec.item_pattern keyword.now }
+{
+    if keyword == b"segment".as_slice() {
+        return b"segment LABEL from PATH, or segment LABEL always";
+    }
+    if keyword == b"group".as_slice() {
+        return b"group LABEL each PATH";
+    }
+    if keyword == b"flat".as_slice() {
+        return b"flat each PATH";
+    }
+    if keyword == b"end".as_slice() {
+        return b"end, of a group, or of a flat with an item";
+    }
+    if keyword == b"drop".as_slice() {
+        return b"drop PATH[-F], outside groups and flats";
+    }
+    b"map, table, row, else, segment, copy, first, repeat, build, at, group, flat, end or drop"
+}
+
+// The pattern of the lines of rules and items with this keyword, or all keywords where it is none.
+fn rule_pattern(keyword: &[u8]) -> &'static [u8]
+    ensures { result.now ≡ spec.rule_pattern keyword.now }
+{
+    if keyword == b"copy".as_slice() {
+        return b"copy N from PATH-F, below a segment";
+    }
+    if keyword == b"first".as_slice() {
+        return b"first N from PATH-F, below a segment";
+    }
+    if keyword == b"repeat".as_slice() {
+        return b"repeat N from PATH-F, below a segment";
+    }
+    if keyword == b"build".as_slice() {
+        return b"build N [LEAF], below a segment";
+    }
+    if keyword == b"at".as_slice() {
+        return b"at C[.S] LEAF, below repeat or build";
+    }
+    item_pattern(keyword)
+}
+
 // The pattern of the lines with this keyword, or all keywords where it is none.
 fn pattern(keyword: &[u8]) -> &'static [u8]
     ensures { result.now ≡ spec.pattern keyword.now }
@@ -21,37 +65,7 @@ fn pattern(keyword: &[u8]) -> &'static [u8]
     if keyword == b"else".as_slice() {
         return b"else VALUE, below a table";
     }
-    if keyword == b"segment".as_slice() {
-        return b"segment LABEL from PATH, or segment LABEL always";
-    }
-    if keyword == b"copy".as_slice() {
-        return b"copy N from PATH-F, below a segment";
-    }
-    if keyword == b"first".as_slice() {
-        return b"first N from PATH-F, below a segment";
-    }
-    if keyword == b"repeat".as_slice() {
-        return b"repeat N from PATH-F, below a segment";
-    }
-    if keyword == b"build".as_slice() {
-        return b"build N [LEAF], below a segment";
-    }
-    if keyword == b"at".as_slice() {
-        return b"at C[.S] LEAF, below repeat or build";
-    }
-    if keyword == b"group".as_slice() {
-        return b"group LABEL each PATH";
-    }
-    if keyword == b"flat".as_slice() {
-        return b"flat each PATH";
-    }
-    if keyword == b"end".as_slice() {
-        return b"end, of a group, or of a flat with an item";
-    }
-    if keyword == b"drop".as_slice() {
-        return b"drop PATH[-F], outside groups and flats";
-    }
-    b"map, table, row, else, segment, copy, first, repeat, build, at, group, flat, end or drop"
+    rule_pattern(keyword)
 }
 
 /// What was expected at the line of this number, from 1, of a text that is no map: the pattern of its keyword, or the keywords that there are; behind the last line what is missing. The one error is want of memory.
