@@ -11,7 +11,7 @@ ghost use Rattle.gw_maplang.specs.Shapes.{row_of};
 ghost use Rattle.gw_maplang.specs.Line as form;
 ghost use Rattle.gw_lines.specs.Grammar.{Taken};
 ghost use Rattle.gw_maplang.specs.Seen.{line, above, rule, leaf, leaf_value, table, open_segment, open_rule, map_value, IsNewField, IsNewPlace, IsNewTable};
-ghost use Rattle.gw_maplang.specs.Whole.{whole, is_unclosed};
+ghost use Rattle.gw_maplang.specs.Whole.{whole, is_unclosed, map_of};
 
 use crate::context::{
     NOTHING_STANDS, OpenRule, OpenSegment, Standing, has_other, has_row, knows, rule_below,
@@ -387,6 +387,20 @@ impl<'a> Reader<'a> {
             rule,
         })
     }
+
+    // The map that these lines spell, where no part is open.
+    fn into_map(self) -> Result<Map, AllocError>
+        requires { is_unclosed self ≡ false }
+        ensures { IfOk result (λ m. map_value m ≡ map_of self.entry) }
+    {
+        let Reader {
+            alloc,
+            lines,
+            tables,
+            ..
+        } = self;
+        map_of(alloc, lines, tables)
+    }
 }
 
 // Takes a line in: what it puts into the tables, what it opens, and the line.
@@ -406,11 +420,29 @@ fn take_in<'a>(
     ensures segment { OnOk result (open_segment segment.new ≡ spec.segment_below (line whole.entry) (open_segment segment.old)) }
     ensures rule { OnOk result (open_rule rule.new ≡ spec.rule_below (line whole.entry) (open_rule rule.old)) }
 {
-    tables_below(alloc, tables, &whole)?;
-    segment_below(alloc, segment, &whole)?;
-    rule_below(alloc, rule, &whole)?;
+    open_below(alloc, tables, segment, rule, &whole)?;
     lines.push(whole)?;
     Ok(())
+}
+
+// What a line puts into the tables, and what it opens.
+fn open_below(
+    alloc: Global,
+    tables: &mut IndexMap<Vec<u8>, Table>,
+    segment: &mut Option<OpenSegment>,
+    rule: &mut Option<OpenRule>,
+    whole: &Line,
+) -> Result<(), AllocError>
+    requires table { IsNewTable (map table tables.old.entries) (line whole.now) }
+    requires field { IsNewField (open_segment segment.old) (line whole.now) }
+    requires place { IsNewPlace (open_rule rule.old) (line whole.now) }
+    ensures tables { OnOk result (map table tables.new.entries ≡ spec.tables_below (line whole.now) (map table tables.old.entries)) }
+    ensures segment { OnOk result (open_segment segment.new ≡ spec.segment_below (line whole.now) (open_segment segment.old)) }
+    ensures rule { OnOk result (open_rule rule.new ≡ spec.rule_below (line whole.now) (open_rule rule.old)) }
+{
+    tables_below(alloc, tables, whole)?;
+    segment_below(alloc, segment, whole)?;
+    rule_below(alloc, rule, whole)
 }
 
 impl<'a> Form<'a> for Reader<'a> {
@@ -439,13 +471,7 @@ impl<'a> Form<'a> for Reader<'a> {
         if self.is_unclosed() {
             return Err(MapFault::Syntax(at));
         }
-        let Reader {
-            alloc,
-            lines,
-            tables,
-            ..
-        } = self;
-        let made = map_of(alloc, lines, tables)?;
+        let made = self.into_map()?;
         Ok(made)
     }
 }
