@@ -18,14 +18,14 @@ use Rattle.gw_profile.proofs.Facts.{tells}
 use Rattle.gw_validate.specs.Breaches.{is_required, is_forbidden}
 use Rattle.gw_check.specs.declared.shape.Presence.{Presence}
 use Rattle.gw_check.specs.declared.shape.Presence.TheVariants.{Never}
-use Rattle.gw_resolve.specs.Failures.{Failure}
+use Rattle.gw_resolve.specs.Failures.{Mark, Failure}
 use Rattle.gw_resolve.specs.Intervals.{never, once, of_card, is_never, is_within}
 use Rattle.gw_resolve.specs.Places.{Element, a_segment}
 use Rattle.gw_resolve.specs.Resolved.{Rule, rule_of}
 use Rattle.gw_resolve.specs.Naming.{itself}
 use Rattle.gw_check.specs.Leaves.{Sources, listed, field_of, comp_of, sub_of, by_usage, comp_presence, sub_usage, sub_presence, is_always, is_absent, is_short, sub_values, may_be_unlisted, may_exceed, may_be_long}
 use Rattle.gw_check.specs.Counts.{rule_count, reference_count}
-use Rattle.gw_check.specs.Fields.{is_expected, table_values, value_failures, copied_sub, copied_comp, copied_field, content_failures, count_failures, field_failures, rule_lookups, segment_failures}
+use Rattle.gw_check.specs.Fields.{field_mark, comp_in, sub_in, is_expected, table_values, value_failures, copied_sub, copied_comp, copied_field, content_failures, count_failures, field_failures, rule_lookups, segment_failures}
 use Rattle.gw_check.specs.Levels.{sources}
 use Rattle.gw_check.proofs.IdentityItems.{same_rule, same_rules}
 use Rattle.gw_check.proofs.IdentityNamed.{no_more, holds}
@@ -171,20 +171,20 @@ module _ (profile : ProfileValue) where
   is_never_there O = refl
   is_never_there X = refl
 
-  values_hold : (line : ℕ) (presence : Presence) (s : SubValue) → value_failures profile line (record { presence = presence; values = sub_values profile (Some s) }) s ≡ []
-  values_hold line presence s =
-      no_more _ _ (holds 6 line _ (not_and (not (is_absent presence)) _ (always_listed s.number s.usage s.len s.table)))
-      (holds 7 line _ (not_and (not (is_absent presence)) _ (always_short s.number s.usage s.len s.table)))
+  values_hold : (mark : Mark) (presence : Presence) (s : SubValue) → value_failures profile mark (record { presence = presence; values = sub_values profile (Some s) }) s ≡ []
+  values_hold mark presence s =
+      no_more _ _ (holds 6 _ _ (not_and (not (is_absent presence)) _ (always_listed s.number s.usage s.len s.table)))
+      (holds 7 _ _ (not_and (not (is_absent presence)) _ (always_short s.number s.usage s.len s.table)))
 
   -- below a component that may be there a subcomponent is there as its usage says
-  sub_holds : (line : ℕ) (c : CompValue) (s : SubValue) → is_absent (comp_presence (Some c)) ≡ false → sub_of (Some c) s.number ≡ Some s → copied_sub profile profile line (Some c) s ≡ []
-  sub_holds line c s there found =
+  sub_holds : (mark : Mark) (c : CompValue) (s : SubValue) → is_absent (comp_presence (Some c)) ≡ false → sub_of (Some c) s.number ≡ Some s → copied_sub profile profile mark (Some c) s ≡ []
+  sub_holds mark c s there found =
       let presence : sub_presence (Some c) (sub_of (Some c) s.number) ≡ by_usage (Some s.usage) = ap₂ (λ b o. if b then Never else sub_usage o) there found in
       no_more _ _
-      (no_more _ _ (holds 5 line _ (ap (λ p. is_required s.usage && not (is_always p)) presence ∙ is_there s.usage))
-      (holds 11 line _ (ap (λ p. is_forbidden s.usage && not (is_absent p)) presence ∙ is_never_there s.usage)))
-      (ap (λ o. value_failures profile line (record { presence = sub_presence (Some c) (sub_of (Some c) s.number); values = sub_values profile o }) s) found
-      ∙ values_hold line (sub_presence (Some c) (sub_of (Some c) s.number)) s)
+      (no_more _ _ (holds 5 _ _ (ap (λ p. is_required s.usage && not (is_always p)) presence ∙ is_there s.usage))
+      (holds 11 _ _ (ap (λ p. is_forbidden s.usage && not (is_absent p)) presence ∙ is_never_there s.usage)))
+      (ap (λ o. value_failures profile (sub_in mark s.number) (record { presence = sub_presence (Some c) (sub_of (Some c) s.number); values = sub_values profile o }) s) found
+      ∙ values_hold (sub_in mark s.number) (sub_presence (Some c) (sub_of (Some c) s.number)) s)
 
   x_is_absent : (u : Usage) → is_absent (by_usage (Some u)) ≡ true → u ≡ X
   x_is_absent R e = absurd (cc)
@@ -192,27 +192,27 @@ module _ (profile : ProfileValue) where
   x_is_absent O e = absurd (cc)
   x_is_absent X e = refl
 
-  subs_hold : (names : List (List ℕ)) (line : ℕ) (c : CompValue) → LawfulComp names c → flat_map (copied_sub profile profile line (Some c)) c.subs ≡ []
-  subs_hold names line c l = elim (tells (is_absent (comp_presence (Some c)))) [
-    | inl h ↦ ap (flat_map (copied_sub profile profile line (Some c))) (l.bare (x_is_absent c.usage h))
-    | inr h ↦ none_of_each (copied_sub profile profile line (Some c)) c.subs (each h c.subs (each_found (λ (s : SubValue). s.number) 1 99 c.subs l.rising))
+  subs_hold : (names : List (List ℕ)) (mark : Mark) (c : CompValue) → LawfulComp names c → flat_map (copied_sub profile profile mark (Some c)) c.subs ≡ []
+  subs_hold names mark c l = elim (tells (is_absent (comp_presence (Some c)))) [
+    | inl h ↦ ap (flat_map (copied_sub profile profile mark (Some c))) (l.bare (x_is_absent c.usage h))
+    | inr h ↦ none_of_each (copied_sub profile profile mark (Some c)) c.subs (each h c.subs (each_found (λ (s : SubValue). s.number) 1 99 c.subs l.rising))
   ]
     where
-      each : is_absent (comp_presence (Some c)) ≡ false → (subs : List SubValue) → AllByRecursion (λ s. sub_of (Some c) s.number ≡ Some s) subs → AllByRecursion (λ s. copied_sub profile profile line (Some c) s ≡ []) subs
+      each : is_absent (comp_presence (Some c)) ≡ false → (subs : List SubValue) → AllByRecursion (λ s. sub_of (Some c) s.number ≡ Some s) subs → AllByRecursion (λ s. copied_sub profile profile mark (Some c) s ≡ []) subs
       each there [] h = tt
-      each there (s ∷ subs) h = (sub_holds line c s there h.0, each there subs h.1)
+      each there (s ∷ subs) h = (sub_holds mark c s there h.0, each there subs h.1)
 
-  comp_holds : (names : List (List ℕ)) (line : ℕ) (f : FieldValue) (c : CompValue) → LawfulComp names c → comp_of (Some f) c.number ≡ Some c → copied_comp profile profile line (Some f) c ≡ []
-  comp_holds names line f c l found =
+  comp_holds : (names : List (List ℕ)) (mark : Mark) (f : FieldValue) (c : CompValue) → LawfulComp names c → comp_of (Some f) c.number ≡ Some c → copied_comp profile profile mark (Some f) c ≡ []
+  comp_holds names mark f c l found =
       no_more _ _
-      (no_more _ _ (holds 5 line _ (ap (λ o. is_required c.usage && not (is_always (comp_presence o))) found ∙ is_there c.usage))
-      (holds 11 line _ (ap (λ o. is_forbidden c.usage && not (is_absent (comp_presence o))) found ∙ is_never_there c.usage)))
-      (ap (λ o. flat_map (copied_sub profile profile line o) c.subs) found ∙ subs_hold names line c l)
+      (no_more _ _ (holds 5 _ _ (ap (λ o. is_required c.usage && not (is_always (comp_presence o))) found ∙ is_there c.usage))
+      (holds 11 _ _ (ap (λ o. is_forbidden c.usage && not (is_absent (comp_presence o))) found ∙ is_never_there c.usage)))
+      (ap (λ o. flat_map (copied_sub profile profile (comp_in mark c.number) o) c.subs) found ∙ subs_hold names (comp_in mark c.number) c l)
 
-  comps_hold : (names : List (List ℕ)) (line : ℕ) (f : FieldValue) → LawfulField names f → flat_map (copied_comp profile profile line (Some f)) f.comps ≡ []
-  comps_hold names line f l =
-      none_of_each (copied_comp profile profile line (Some f)) f.comps
-      (each_of_both (LawfulComp names) (λ c. comp_of (Some f) c.number ≡ Some c) (λ c. copied_comp profile profile line (Some f) c ≡ []) (λ c lawful found. comp_holds names line f c lawful found) f.comps l.each (each_found (λ (c : CompValue). c.number) 1 99 f.comps l.rising))
+  comps_hold : (names : List (List ℕ)) (mark : Mark) (f : FieldValue) → LawfulField names f → flat_map (copied_comp profile profile mark (Some f)) f.comps ≡ []
+  comps_hold names mark f l =
+      none_of_each (copied_comp profile profile mark (Some f)) f.comps
+      (each_of_both (LawfulComp names) (λ c. comp_of (Some f) c.number ≡ Some c) (λ c. copied_comp profile profile mark (Some f) c ≡ []) (λ c lawful found. comp_holds names mark f c lawful found) f.comps l.each (each_found (λ (c : CompValue). c.number) 1 99 f.comps l.rising))
 
 -- ---- a field
 
@@ -225,19 +225,19 @@ counts_hold : (holder : ℕ) (f : FieldValue) (r : Rule) → line.is_forbidden (
 counts_hold holder f r other =
     let allowed : is_forbidden f.usage ≡ false = sym (forbidden_is f.usage) ∙ other in
     no_more _ _ (no_more _ _ (no_more _ _
-    (holds 4 r.line _ (not_and (not (is_forbidden f.usage)) _ (ap not (within_itself f.card.max))))
-    (holds 5 r.line _ (le-ltb f.card.min f.card.min (omega arith))))
-    (holds 8 holder _ (not_and _ false refl)))
-    (holds 11 r.line _ (ap (λ b. b && not (is_never f.card.max)) allowed))
+    (holds 4 _ _ (not_and (not (is_forbidden f.usage)) _ (ap not (within_itself f.card.max))))
+    (holds 5 _ _ (le-ltb f.card.min f.card.min (omega arith))))
+    (holds 8 _ _ (not_and _ false refl)))
+    (holds 11 _ _ (ap (λ b. b && not (is_never f.card.max)) allowed))
 
 -- X, without a rule
 none_expected : (holder : ℕ) (f : FieldValue) → f.usage ≡ X → f.card.min ≡ 0 → count_failures holder never f None ≡ []
 none_expected holder f is low =
     no_more _ _ (no_more _ _ (no_more _ _
-    (holds 4 holder _ (ap (λ u. not (is_forbidden u) && not (is_within (Some 0) f.card.max)) is))
-    (holds 5 holder _ (ap (nat_lt 0) low)))
-    (holds 8 holder _ (ap (λ u. is_expected u && true) is)))
-    (holds 11 holder _ (not_and (is_forbidden f.usage) false refl))
+    (holds 4 _ _ (ap (λ u. not (is_forbidden u) && not (is_within (Some 0) f.card.max)) is))
+    (holds 5 _ _ (ap (nat_lt 0) low)))
+    (holds 8 _ _ (ap (λ u. is_expected u && true) is)))
+    (holds 11 _ _ (not_and (is_forbidden f.usage) false refl))
 
 pub x_is : (u : Usage) → line.is_forbidden (Some u) ≡ true → u ≡ X
 x_is R e = absurd (cc)
@@ -254,13 +254,13 @@ module _ (profile : ProfileValue) (names : List (List ℕ)) (s : SegmentValue) (
   abbrev failures_of : FieldValue → Option Rule → List Failure
   failures_of f o = count_failures 0 (rule_count walked o) f o ++ content_failures walked profile f o
 
-  copy_holds : (f : FieldValue) → LawfulField names f → field_of s.fields f.number ≡ Some f → copied_field walked profile 0 (record { place = itself; field = f.number }) f ≡ []
-  copy_holds f l found = ap (λ o. flat_map (copied_comp profile profile 0 o) f.comps) found ∙ comps_hold profile names 0 f l
+  copy_holds : (f : FieldValue) → LawfulField names f → field_of s.fields f.number ≡ Some f → copied_field walked profile (field_mark f.number 0) (record { place = itself; field = f.number }) f ≡ []
+  copy_holds f l found = ap (λ o. flat_map (copied_comp profile profile (field_mark f.number 0) o) f.comps) found ∙ comps_hold profile names (field_mark f.number 0) f l
 
   contents_hold : (f : FieldValue) → LawfulField names f → field_of s.fields f.number ≡ Some f → content_failures walked profile f (Some (same_rule f.number)) ≡ []
   contents_hold f l found = by (is_never (rule_count walked (Some (same_rule f.number))).greatest)
     where
-      by : (b : Bool) → (if b then [] else copied_field walked profile 0 (record { place = itself; field = f.number }) f) ≡ []
+      by : (b : Bool) → (if b then [] else copied_field walked profile (field_mark f.number 0) (record { place = itself; field = f.number }) f) ≡ []
       by true = refl
       by false = copy_holds f l found
 

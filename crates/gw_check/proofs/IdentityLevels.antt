@@ -12,14 +12,14 @@ use Rattle.gw_profile.specs.WellFormed.{Agrees, LawfulSegment, LawfulGroup, Each
 use Rattle.gw_profile.specs.WellFormed as formed
 use Rattle.gw_profile.proofs.Facts.{tells}
 use Rattle.gw_validate.specs.Breaches.{is_forbidden}
-use Rattle.gw_resolve.specs.Failures.{Failure}
+use Rattle.gw_resolve.specs.Failures.{Mark, Failure}
 use Rattle.gw_resolve.specs.Intervals.{Interval, never, once, of_card, add, multiply, sum, product, is_never, is_within}
 use Rattle.gw_resolve.specs.Places.{Element, a_segment, a_group, nodes_of, child, fields_of, count_of, count_at, within_if}
 use Rattle.gw_resolve.specs.Resolved.{SegmentItem, GroupItem, Items, no_items, segment_item, group_item}
 use Rattle.gw_check.specs.Counts.{items_count}
 use Rattle.gw_check.specs.Fields.{is_expected, segment_failures}
 use Rattle.gw_resolve.specs.Founds as founds
-use Rattle.gw_check.specs.Levels.{its, beyond, has_no_item, node_failures, level_failures, items_failures, sources}
+use Rattle.gw_check.specs.Levels.{its, beyond, node_mark, has_no_item, node_failures, level_failures, items_failures, sources}
 use Rattle.gw_check.proofs.IdentityItems.{at_node, same_rules, same}
 use Rattle.gw_check.proofs.IdentityNamed.{no_more, holds, Standing, Stands, from_the_first, behind_segment, behind_group, segment_stands, group_stands, nodes_there, found_there, within_there}
 use Rattle.gw_check.proofs.IdentityFields.{forbidden_is, not_and, within_itself, x_is, segment_holds}
@@ -60,8 +60,8 @@ none_yet j k (group g nodes rest) less =
 -- ---- a node
 
 -- with an item that gives it as often as it may come
-given_holds : (holder : ℕ) (u : Usage) (card : Card) (count : Interval) (items : Items) → line.is_forbidden (Some u) ≡ false → count ≡ of_card card → has_no_item items ≡ false → node_failures holder u card count items ≡ []
-given_holds holder u card count items allowed is some =
+given_holds : (mark : Mark) (u : Usage) (card : Card) (count : Interval) (items : Items) → line.is_forbidden (Some u) ≡ false → count ≡ of_card card → has_no_item items ≡ false → node_failures mark u card count items ≡ []
+given_holds mark u card count items allowed is some =
     no_more _ _ (no_more _ _ (no_more _ _
     (holds 4 _ _ (not_and (not (is_forbidden u)) _ (ap (λ (c : Interval). not (is_within c.greatest card.max)) is ∙ ap not (within_itself card.max))))
     (holds 5 _ _ (ap (λ (c : Interval). nat_lt c.least card.min) is ∙ le-ltb card.min card.min (omega arith))))
@@ -69,8 +69,8 @@ given_holds holder u card count items allowed is some =
     (holds 11 _ _ (ap (λ b. b && not (is_never count.greatest)) (sym (forbidden_is u) ∙ allowed)))
 
 -- X, without one
-absent_holds : (holder : ℕ) (u : Usage) (card : Card) → u ≡ X → card.min ≡ 0 → node_failures holder u card never no_items ≡ []
-absent_holds holder u card is low =
+absent_holds : (mark : Mark) (u : Usage) (card : Card) → u ≡ X → card.min ≡ 0 → node_failures mark u card never no_items ≡ []
+absent_holds mark u card is low =
     no_more _ _ (no_more _ _ (no_more _ _
     (holds 4 _ _ (ap (λ v. not (is_forbidden v) && not (is_within (Some 0) card.max)) is))
     (holds 5 _ _ (ap (nat_lt 0) low)))
@@ -110,16 +110,16 @@ levels_hold names e scope holder j (segment s rest) h d l g =
     count = ap (λ c. sum c never) (count_there e scope j s.label (a_segment s) (segment_stands (nodes_of e) j s rest h)) ∙ as_card s.card
 
     node : Items → List Failure
-    node items = node_failures holder s.usage s.card (items_count (e ∷ scope) items) items
+    node items = node_failures (node_mark holder j items) s.usage s.card (items_count (e ∷ scope) items) items
 
     by : (b : Bool) → line.is_forbidden (Some s.usage) ≡ b → level_failures (e ∷ scope) holder (suc j) rest later ≡ [] → level_failures (e ∷ scope) holder j (segment s rest) (if b then later else segment_item item later) ≡ []
     by true is behind =
         let x = x_is s.usage is in
-        no_more _ _ (ap node none.0 ∙ absent_holds holder s.usage s.card x (subst (λ u. Agrees u s.card) x l.0.agrees).0) (ap (level_failures (e ∷ scope) holder (suc j) rest) none.1 ∙ behind)
+        no_more _ _ (ap node none.0 ∙ absent_holds (node_mark holder j no_items) s.usage s.card x (subst (λ u. Agrees u s.card) x l.0.agrees).0) (ap (level_failures (e ∷ scope) holder (suc j) rest) none.1 ∙ behind)
     by false is behind =
-        no_more _ _ (ap node mine ∙ given_holds holder s.usage s.card _ (segment_item item no_items) is count refl) (ap (level_failures (e ∷ scope) holder (suc j) rest) others ∙ behind)
+        no_more _ _ (ap node mine ∙ given_holds (node_mark holder j (segment_item item no_items)) s.usage s.card _ (segment_item item no_items) is count refl) (ap (level_failures (e ∷ scope) holder (suc j) rest) others ∙ behind)
 levels_hold names e scope holder j (group x nodes rest) h d l g =
-    no_more _ _ (ap node mine ∙ given_holds holder x.usage x.card _ (group_item item (same 0 nodes) no_items) (group_allowed x nodes g.0) count refl)
+    no_more _ _ (ap node mine ∙ given_holds (node_mark holder j (group_item item (same 0 nodes) no_items)) x.usage x.card _ (group_item item (same 0 nodes) no_items) (group_allowed x nodes g.0) count refl)
     (ap (level_failures (e ∷ scope) holder (suc j) rest) others ∙ levels_hold names e scope holder (suc j) rest (behind_group (nodes_of e) j x nodes rest h d) d.1 l.1 g.2)
   where
     item : GroupItem
@@ -141,7 +141,7 @@ levels_hold names e scope holder j (group x nodes rest) h d l g =
     count = ap (λ c. sum c never) (count_there e scope j x.label (a_group x nodes) (group_stands (nodes_of e) j x nodes rest h)) ∙ as_card x.card
 
     node : Items → List Failure
-    node items = node_failures holder x.usage x.card (items_count (e ∷ scope) items) items
+    node items = node_failures (node_mark holder j items) x.usage x.card (items_count (e ∷ scope) items) items
 
 -- ---- what the items give
 

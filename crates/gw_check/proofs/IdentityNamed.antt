@@ -11,7 +11,7 @@ use Rattle.gw_profile.specs.WellFormed as formed
 use Rattle.gw_maplang.specs.Shapes as raw
 use Rattle.gw_maplang.specs.Shapes.{TableValue}
 use Rattle.gw_maplang.specs.Identity.{field_rules, copy_rule, same_items}
-use Rattle.gw_resolve.specs.Failures.{Failure, fails, or_later}
+use Rattle.gw_resolve.specs.Failures.{Mark, at_line, Failure, fails, or_later}
 use Rattle.gw_resolve.specs.Places.{Element, a_segment, a_group, Found, nodes_of, child, nodes_of_child, found, element_of, within}
 use Rattle.gw_resolve.specs.Intervals.{once, product}
 use Rattle.gw_resolve.specs.Order.{is_segment, is_group}
@@ -30,9 +30,9 @@ no_more a b e f = ap₂ (λ s t. s ++ t) e f
 no_later : (a b : List Failure) → a ≡ [] → b ≡ [] → or_later a b ≡ []
 no_later a b e f = ap₂ or_later e f
 
-pub holds : (rule line : ℕ) (broken : Bool) → broken ≡ false → fails rule line broken ≡ []
-holds rule line true e = absurd (cc)
-holds rule line false e = refl
+pub holds : (rule : ℕ) (mark : Mark) (broken : Bool) → broken ≡ false → fails rule mark broken ≡ []
+holds rule mark true e = absurd (cc)
+holds rule mark false e = refl
 
 -- ---- labels of one level
 
@@ -138,13 +138,13 @@ module _ (e : Element) (scope : List Element) (j : ℕ) (label : List ℕ) (x : 
   walked_there = ap (within (e ∷ scope)) place_is ∙ within_there
 
   walk_holds : walk_failures (e ∷ scope) 0 (label ∷ []) ≡ []
-  walk_holds = ap (λ p. fails 1 0 (not (has_place p)) ++ fails 2 0 (not (is_single_place (e ∷ scope) but_last p))) place_there
+  walk_holds = ap (λ p. fails 1 (at_line 0) (not (has_place p)) ++ fails 2 (at_line 0) (not (is_single_place (e ∷ scope) but_last p))) place_there
 
   segments_hold : is_segment (Some x) ≡ true → segments_failures (e ∷ scope) 0 (label ∷ []) ≡ []
   segments_hold kind =
-      ap (λ p. fails 1 0 (not (ends_at_segment (e ∷ scope) p)) ++ fails 2 0 (not (is_single_place (e ∷ scope) but_last p))) place_there
-      ∙ ap (λ f. fails 1 0 (not (is_segment (option_map (λ (g : Found). g.element) f))) ++ []) found_there
-      ∙ ap (λ b. fails 1 0 (not b) ++ []) kind
+      ap (λ p. fails 1 (at_line 0) (not (ends_at_segment (e ∷ scope) p)) ++ fails 2 (at_line 0) (not (is_single_place (e ∷ scope) but_last p))) place_there
+      ∙ ap (λ f. fails 1 (at_line 0) (not (is_segment (option_map (λ (g : Found). g.element) f))) ++ []) found_there
+      ∙ ap (λ b. fails 1 (at_line 0) (not b) ++ []) kind
 
 -- ---- the fields of a segment that is walked
 
@@ -153,7 +153,7 @@ module _ (s : SegmentValue) (scope : List Element) where
   own_place = rw (same_text s.label) refl
 
   rule_holds : (number : ℕ) → rule_failures (a_segment s ∷ scope) (copy_rule s.label number) ≡ []
-  rule_holds number = ap (λ p. fails 1 0 (not (ends_at_segment (a_segment s ∷ scope) p)) ++ fails 2 0 (not (is_single_place (a_segment s ∷ scope) (λ steps. steps) p))) own_place
+  rule_holds number = ap (λ p. fails 1 (at_line 0) (not (ends_at_segment (a_segment s ∷ scope) p)) ++ fails 2 (at_line 0) (not (is_single_place (a_segment s ∷ scope) (λ steps. steps) p))) own_place
 
   rules_hold : (fields : List FieldValue) → flat_map (rule_failures (a_segment s ∷ scope)) (field_rules s.label fields) ≡ []
   rules_hold [] = refl
@@ -206,8 +206,8 @@ paths_hold e scope j (group x nodes rest) h d g =
 -- behind an item of node k
 label_holds : (whole : Forest) (is_kind : Option Element → Bool) (k j : ℕ) (label : List ℕ) (x : Element) → Stands whole j label x → is_kind (Some x) ≡ true → k ≤ j → label_failures whole is_kind k 0 label ≡ []
 label_holds whole is_kind k j label x h kind order =
-    no_more _ _ (holds 3 0 _ (ap (λ o. not (is_kind (option_and_then (child whole) o))) h.label_is ∙ ap (λ o. not (is_kind o)) h.child_is ∙ ap not kind))
-    (holds 3 0 _ (ap (λ n. nat_lt n k) (number_there whole j k label x h) ∙ le-ltb j k order))
+    no_more _ _ (holds 3 (at_line 0) _ (ap (λ o. not (is_kind (option_and_then (child whole) o))) h.label_is ∙ ap (λ o. not (is_kind o)) h.child_is ∙ ap not kind))
+    (holds 3 (at_line 0) _ (ap (λ n. nat_lt n k) (number_there whole j k label x h) ∙ le-ltb j k order))
 
 pub targets_hold : (whole : Forest) (k j : ℕ) (nodes : Forest) → k ≤ j → Standing whole j nodes → Distinct (formed.labels nodes) → EachGroup LawfulGroup nodes → target_failures whole k (same_items nodes) ≡ []
 targets_hold whole k j nothing order h d g = refl

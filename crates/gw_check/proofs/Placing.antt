@@ -10,7 +10,7 @@ use Rattle.gw_profile.specs.Shapes.{Forest}
 use Rattle.gw_maplang.specs.Shapes as raw
 use Rattle.gw_maplang.specs.Shapes.{TableValue}
 use Rattle.gw_maplang.specs.Lawful as theirs
-use Rattle.gw_resolve.specs.Failures.{Failure, fails, or_later}
+use Rattle.gw_resolve.specs.Failures.{Mark, at_line, Failure, fails, or_later}
 use Rattle.gw_resolve.specs.Places.{Element, child, nodes_of_child, within}
 use Rattle.gw_resolve.specs.Resolved.{Items, first_child}
 use Rattle.gw_resolve.specs.Order.{is_segment, is_group, all_for, are_placed, follows, number_or}
@@ -27,9 +27,9 @@ pub nil_both : (a b : List Failure) → a ++ b ≡ [] → (a ≡ []) × (b ≡ [
 nil_both [] b e = (refl, e)
 nil_both (f ∷ a) b e = absurd (cc)
 
-pub not_broken : (rule line : ℕ) (broken : Bool) → fails rule line broken ≡ [] → broken ≡ false
-not_broken rule line true e = absurd (cc)
-not_broken rule line false e = refl
+pub not_broken : (rule : ℕ) (mark : Mark) (broken : Bool) → fails rule mark broken ≡ [] → broken ≡ false
+not_broken rule mark true e = absurd (cc)
+not_broken rule mark false e = refl
 
 three : (a b c : Bool) → a ≡ true → b ≡ true → c ≡ true → a && b && c ≡ true
 three true true true e f g = refl
@@ -62,8 +62,8 @@ named_by nodes is_kind j label (Some k) none at kind order = record {
 
 pub named : (nodes : Forest) (is_kind : Option Element → Bool) (j line : ℕ) (label : List ℕ) → is_kind None ≡ false → label_failures nodes is_kind j line label ≡ [] → Named nodes is_kind j label
 named nodes is_kind j line label none e =
-    let p = nil_both (fails 3 line (not (is_kind (option_and_then (child nodes) (labelled nodes label))))) (fails 3 line (nat_lt (node_or j nodes label) j)) e in
-    named_by nodes is_kind j label (labelled nodes label) none refl (not_false _ (not_broken 3 line _ p.0)) (not_broken 3 line _ p.1)
+    let p = nil_both (fails 3 (at_line line) (not (is_kind (option_and_then (child nodes) (labelled nodes label))))) (fails 3 (at_line line) (nat_lt (node_or j nodes label) j)) e in
+    named_by nodes is_kind j label (labelled nodes label) none refl (not_false _ (not_broken 3 (at_line line) _ p.0)) (not_broken 3 (at_line line) _ p.1)
 
 -- its number, whatever stands in for none
 pub number_is : (nodes : Forest) (label : List ℕ) (k j : ℕ) → labelled nodes label ≡ Some k → node_or j nodes label ≡ k
@@ -115,13 +115,13 @@ pub record FlatParts (nodes : Forest) (j : ℕ) (items rest : raw.Items) : Type 
 
 pub flat_parts : (nodes : Forest) (j : ℕ) (f : raw.FlatItem) (items rest : raw.Items) → target_failures nodes j (raw.flat f items rest) ≡ [] → FlatParts nodes j items rest
 flat_parts nodes j f items rest e =
-    let a = fails 3 f.line (not (are_one (labels items))) in
-    let b = fails 3 f.line (nat_lt (node_or j nodes (first_or (labels items))) j) in
+    let a = fails 3 (at_line f.line) (not (are_one (labels items))) in
+    let b = fails 3 (at_line f.line) (nat_lt (node_or j nodes (first_or (labels items))) j) in
     let c = target_failures nodes 0 items in
     let p = nil_both (or_later (a ++ b) c) (target_failures nodes (node_or j nodes (first_or (labels items))) rest) e in
     let q = later_nil (a ++ b) c p.0 in
     let r = nil_both a b q.0 in
-    record { one = not_false _ (not_broken 3 f.line _ r.0); order = not_broken 3 f.line _ r.1; inner = q.1; others = p.1 }
+    record { one = not_false _ (not_broken 3 (at_line f.line) _ r.0); order = not_broken 3 (at_line f.line) _ r.1; inner = q.1; others = p.1 }
 
 not_less : (j m k : ℕ) → nat_lt m j ≡ false → m ≡ k → j ≤ k
 not_less j m k e is = elim (leb_tells (suc m) j) [ inl h ↦ absurd (cc) | inr h ↦ omega (arith, h.1, is) ]

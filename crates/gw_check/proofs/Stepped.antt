@@ -12,8 +12,8 @@ use Rattle.gw_resolve.specs.declared.failure.Failure as declared
 use Rattle.gw_resolve.specs.Places.{Element}
 use Rattle.gw_resolve.specs.Resolved.{Items}
 use Rattle.gw_check.specs.Counts.{items_count}
-use Rattle.gw_check.specs.Levels.{its, beyond, node_failures, level_failures}
-use Rattle.gw_resolve.specs.Failures.{Failure}
+use Rattle.gw_check.specs.Levels.{its, beyond, node_mark, node_failures, level_failures}
+use Rattle.gw_resolve.specs.Failures.{Mark, Failure}
 use Rattle.gw_check.specs.own.ItemByItem.{Leads}
 use Rattle.gw_resolve.specs.Seen.{failures, all_items}
 use Rattle.gw_check.specs.Found.{NotesNode, usage_of}
@@ -24,7 +24,7 @@ drop_drop zero b l = let same : 0 + b ≡ b = omega arith in ap (λ n. drop n l)
 drop_drop (suc a) b [] = drop_all b [] (omega arith) ∙ sym (drop_all (suc a + b) [] (omega arith))
 drop_drop (suc a) b (x ∷ l) = let same : suc (a + b) ≡ suc a + b = omega arith in drop_drop a b l ∙ ap (λ n. drop n (x ∷ l)) same
 
-one_node : (scope : List Element) (holder j : ℕ) (n : Node) (rest : Forest) (is : Items) → level_failures scope holder j (node_forest n rest) is ≡ node_failures holder (usage_of n) (card_of n) (items_count scope (its j is)) (its j is) ++ level_failures scope holder (suc j) rest (beyond j is)
+one_node : (scope : List Element) (holder j : ℕ) (n : Node) (rest : Forest) (is : Items) → level_failures scope holder j (node_forest n rest) is ≡ node_failures (node_mark holder j (its j is)) (usage_of n) (card_of n) (items_count scope (its j is)) (its j is) ++ level_failures scope holder (suc j) rest (beyond j is)
 one_node scope holder j (Seg s) rest is = refl
 one_node scope holder j (Group' label usage card shape inner) rest is = refl
 
@@ -39,17 +39,19 @@ module _ (scope : List Element) (holder : ℕ) (nodes : List Node) (items : List
   pub level_begun : LevelSoFar scope holder nodes items first 0 0 first
   level_begun = record { within = omega arith; found_so_far = λ tables. refl }
 
-  pub level_more : (j done count : ℕ) (n : Node) (old new : Vec declared.Failure) → j < length nodes → n ≡ get_or nodes j n → Leads j (drop done items) count → ((tables : List TableValue) → NotesNode tables scope holder n (take count (drop done items)) old new) → LevelSoFar scope holder nodes items first j done (failures old.items) → LevelSoFar scope holder nodes items first (j + 1) (done + count) (failures new.items)
-  level_more j done count n old new low at leads notes h =
+  pub level_more : (j done count : ℕ) (m : Mark) (n : Node) (old new : Vec declared.Failure) → j < length nodes → n ≡ get_or nodes j n → Leads j (drop done items) count → ((tables : List TableValue) → m ≡ node_mark holder j (all_items tables (take count (drop done items)))) → ((tables : List TableValue) → NotesNode tables scope m n (take count (drop done items)) old new) → LevelSoFar scope holder nodes items first j done (failures old.items) → LevelSoFar scope holder nodes items first (j + 1) (done + count) (failures new.items)
+  level_more j done count m n old new low at leads marked notes h =
       record {
         within = omega (arith, h.within, leads.within, length-drop done items);
         found_so_far = λ tables.
             let is = all_items tables (drop done items) in
             let rest = level_failures scope holder (suc j) (forest (drop (j + 1) nodes)) (beyond j is) in
             h.found_so_far tables
-            ∙ added_one (failures old.items) (failures new.items) (node_failures holder (usage_of n) (card_of n) (items_count scope (its j is)) (its j is)) rest (level_failures scope holder j (forest (drop j nodes)) is)
+            ∙ added_one (failures old.items) (failures new.items) (node_failures (node_mark holder j (its j is)) (usage_of n) (card_of n) (items_count scope (its j is)) (its j is)) rest (level_failures scope holder j (forest (drop j nodes)) is)
             (ap (λ f. level_failures scope holder j f is) step ∙ one_node scope holder j n (forest (drop (j + 1) nodes)) is)
-            (notes tables ∙ ap (λ (i : Items). failures old.items ++ node_failures holder (usage_of n) (card_of n) (items_count scope i) i) (leads.these tables))
+            (notes tables
+            ∙ ap (λ k. failures old.items ++ node_failures k (usage_of n) (card_of n) (items_count scope (all_items tables (take count (drop done items)))) (all_items tables (take count (drop done items)))) (marked tables)
+            ∙ ap (λ (i : Items). failures old.items ++ node_failures (node_mark holder j i) (usage_of n) (card_of n) (items_count scope i) i) (leads.these tables))
             ∙ ap (λ i. failures new.items ++ level_failures scope holder (suc j) (forest (drop (j + 1) nodes)) i) (sym (leads.others tables) ∙ ap (all_items tables) behind)
             ∙ ap (λ k. failures new.items ++ level_failures scope holder k (forest (drop (j + 1) nodes)) (all_items tables (drop (done + count) items))) next;
       }

@@ -1,5 +1,5 @@
 -- What `check` answers.
-use Rattle.std.specs.Prelude.{◌≡◌, List, [], map, Some}
+use Rattle.std.specs.Prelude.{◌≡◌, List, [], map, Some, option_map}
 use Rattle.gw_profile.specs.Shapes.{ProfileValue}
 use Rattle.gw_profile.specs.WellFormed.{WellFormed}
 use Rattle.gw_maplang.specs.Shapes.{MapValue}
@@ -13,7 +13,7 @@ use Rattle.gw_resolve.specs.declared.resolved.Item.{Item}
 use Rattle.gw_resolve.specs.declared.resolved.LeftOut.{LeftOut}
 use Rattle.gw_resolve.specs.Resolved.{Resolved}
 use Rattle.gw_resolve.specs.Naming.{resolved}
-use Rattle.gw_check.specs.Checked.{all_failures, least}
+use Rattle.gw_check.specs.Checked.{all_failures, least, broken}
 use Rattle.gw_resolve.specs.Seen.{failure, failures, all_items, left_out}
 
 -- a map without labels, as the program holds it
@@ -54,4 +54,5 @@ IsTold from to m given (refusals.TheVariants.Rules first found back) = IsBroken 
 -- the least failing rule at its least line, or want of memory; the map is handed back
 abbrev pub IsRefusal : ProfileValue → ProfileValue → MapValue → Contents → faults.CheckFault → Type 0
 IsRefusal from to m given (faults.TheVariants.Memory back) = back ≡ given
-IsRefusal from to m given (faults.TheVariants.Rule rule line back) = (Some (record { rule = rule; line = line }) ≡ least (all_failures from to m)) × (back ≡ given)
+IsRefusal from to m given (faults.TheVariants.Rule rule line back) =
+    (Some (record { rule = rule; line = line }) ≡ option_map broken (least (all_failures from to m))) × (back ≡ given)

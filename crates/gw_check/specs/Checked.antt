@@ -1,5 +1,5 @@
 -- What the checker answers.
-use Rattle.std.specs.Prelude.{Bool, ◌==◌, ◌&&◌, ◌||◌, nat_lt, if◌then◌else◌, List, [], ◌∷◌, Option, Some, None}
+use Rattle.std.specs.Prelude.{ℕ, Bool, ◌==◌, ◌&&◌, ◌||◌, nat_lt, if◌then◌else◌, List, [], ◌∷◌, Option, Some, None}
 use Rattle.gw_profile.specs.Shapes.{ProfileValue}
 use Rattle.gw_maplang.specs.Shapes.{MapValue}
 use Rattle.gw_resolve.specs.Failures.{Failure, or_later}
@@ -12,7 +12,7 @@ all_failures source target map = or_later (naming_failures source target map) (f
 
 -- by rule, then by line
 abbrev pub is_before : Failure → Failure → Bool
-is_before a b = nat_lt a.rule b.rule || (a.rule == b.rule && nat_lt a.line b.line)
+is_before a b = nat_lt a.rule b.rule || (a.rule == b.rule && nat_lt a.mark.line b.mark.line)
 
 abbrev pub lesser : Failure → Option Failure → Failure
 lesser a None = a
@@ -22,3 +22,11 @@ lesser a (Some b) = if is_before b a then b else a
 abbrev pub least : List Failure → Option Failure
 least [] = None
 least (f ∷ fs) = Some (lesser f (least fs))
+
+-- the rule, and the line at which it fails
+pub record Broken : Type 0 where
+  pub rule : ℕ
+  pub line : ℕ
+
+abbrev pub broken : Failure → Broken
+broken f = record { rule = f.rule; line = f.mark.line }

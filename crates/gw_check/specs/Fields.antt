@@ -13,7 +13,23 @@ use Rattle.gw_maplang.specs.Shapes.{Rows}
 use Rattle.gw_resolve.specs.Resolved.{Reference, Source, Leaf, const, copied, looked_up, At, Making, copy, first, repeat, build, Rule, rule_of}
 use Rattle.gw_check.specs.Leaves.{Sources, Shape, at_field, comp_of, sub_of, comp_presence, sub_presence, sub_values, source_shape, leaf_shape, is_always, is_absent, has_no_row, may_be_unlisted, may_be_long}
 use Rattle.gw_check.specs.Counts.{walking, rule_count}
-use Rattle.gw_resolve.specs.Failures.{Failure, fails}
+use Rattle.gw_resolve.specs.Failures.{Mark, Failure, at_line, fails}
+use Rattle.gw_resolve.specs.Seen.{saturated}
+
+-- ---- what fails of a segment
+
+abbrev pub field_mark : ℕ → ℕ → Mark
+field_mark number line = record (at_line line) { field = number }
+
+abbrev pub comp_in : Mark → ℕ → Mark
+comp_in mark number = record mark { comp = number }
+
+abbrev pub sub_in : Mark → ℕ → Mark
+sub_in mark number = record mark { sub = number }
+
+-- where a leaf stands in its field
+abbrev pub leaf_mark : ℕ → At → Mark
+leaf_mark field a = sub_in (comp_in (field_mark field a.line) a.comp) a.sub
 
 -- ---- a subcomponent
 
@@ -22,10 +38,10 @@ abbrev pub table_values : List TableValue → SubValue → Option (List (List �
 table_values tables s = option_and_then (λ name. table_of name tables) s.table
 
 -- what can stand there has another value than its table's, or is too long
-abbrev pub value_failures : ProfileValue → ℕ → Shape → SubValue → List Failure
-value_failures to line shape s =
-    fails 6 line (not (is_absent shape.presence) && may_be_unlisted shape.values (table_values to.tables s))
-    ++ fails 7 line (not (is_absent shape.presence) && may_be_long (len_count to) shape.values s.len)
+abbrev pub value_failures : ProfileValue → Mark → Shape → SubValue → List Failure
+value_failures to mark shape s =
+    fails 6 mark (not (is_absent shape.presence) && may_be_unlisted shape.values (table_values to.tables s))
+    ++ fails 7 mark (not (is_absent shape.presence) && may_be_long (len_count to) shape.values s.len)
 
 -- ---- how often something comes
 
@@ -35,31 +51,34 @@ is_expected RE = true
 is_expected O = false
 is_expected X = false
 
--- what comes so often is told at the line of what gives it, and what is missing at the line of its holder
-abbrev pub often_failures : ℕ → ℕ → Interval → Usage → Card → Bool → List Failure
-often_failures holder line count usage card is_missing =
-    fails 4 line (not (is_forbidden usage) && not (is_within count.greatest card.max))
-    ++ fails 5 line (nat_lt count.least card.min)
-    ++ fails 8 holder (is_expected usage && is_missing)
-    ++ fails 11 line (is_forbidden usage && not (is_never count.greatest))
+-- what comes so often, as the program counts it
+abbrev pub counted : Interval → Mark → Mark
+counted count mark = record mark { count = Some (saturated count) }
+
+abbrev pub often_failures : Mark → Interval → Usage → Card → Bool → List Failure
+often_failures mark count usage card is_missing =
+    fails 4 (counted count mark) (not (is_forbidden usage) && not (is_within count.greatest card.max))
+    ++ fails 5 (counted count mark) (nat_lt count.least card.min)
+    ++ fails 8 (counted count mark) (is_expected usage && is_missing)
+    ++ fails 11 (counted count mark) (is_forbidden usage && not (is_never count.greatest))
 
 -- ---- copied fields
 
 -- a component or subcomponent stands for that of the same number
-abbrev pub copied_sub : ProfileValue → ProfileValue → ℕ → Option CompValue → SubValue → List Failure
-copied_sub source to line c s =
-    fails 5 line (is_required s.usage && not (is_always (sub_presence c (sub_of c s.number))))
-    ++ fails 11 line (is_forbidden s.usage && not (is_absent (sub_presence c (sub_of c s.number))))
-    ++ value_failures to line (record { presence = sub_presence c (sub_of c s.number); values = sub_values source (sub_of c s.number) }) s
+abbrev pub copied_sub : ProfileValue → ProfileValue → Mark → Option CompValue → SubValue → List Failure
+copied_sub source to mark c s =
+    fails 5 (sub_in mark s.number) (is_required s.usage && not (is_always (sub_presence c (sub_of c s.number))))
+    ++ fails 11 (sub_in mark s.number) (is_forbidden s.usage && not (is_absent (sub_presence c (sub_of c s.number))))
+    ++ value_failures to (sub_in mark s.number) (record { presence = sub_presence c (sub_of c s.number); values = sub_values source (sub_of c s.number) }) s
 
-abbrev pub copied_comp : ProfileValue → ProfileValue → ℕ → Option FieldValue → CompValue → List Failure
-copied_comp source to line f c =
-    fails 5 line (is_required c.usage && not (is_always (comp_presence (comp_of f c.number))))
-    ++ fails 11 line (is_forbidden c.usage && not (is_absent (comp_presence (comp_of f c.number))))
-    ++ flat_map (copied_sub source to line (comp_of f c.number)) c.subs
+abbrev pub copied_comp : ProfileValue → ProfileValue → Mark → Option FieldValue → CompValue → List Failure
+copied_comp source to mark f c =
+    fails 5 (comp_in mark c.number) (is_required c.usage && not (is_always (comp_presence (comp_of f c.number))))
+    ++ fails 11 (comp_in mark c.number) (is_forbidden c.usage && not (is_absent (comp_presence (comp_of f c.number))))
+    ++ flat_map (copied_sub source to (comp_in mark c.number) (comp_of f c.number)) c.subs
 
-abbrev pub copied_field : Sources → ProfileValue → ℕ → Reference → FieldValue → List Failure
-copied_field s to line from target = flat_map (copied_comp s.profile to line (at_field s from)) target.comps
+abbrev pub copied_field : Sources → ProfileValue → Mark → Reference → FieldValue → List Failure
+copied_field s to mark from target = flat_map (copied_comp s.profile to mark (at_field s from)) target.comps
 
 -- ---- fields made of leaves
 
@@ -75,12 +94,13 @@ is_sub_sure s leaves comp sub =
     list_any (λ a. a.comp == comp && a.sub == sub && is_always (leaf_shape s a.leaf).presence) leaves
     || list_all (λ a. not (a.comp == comp) || a.sub == sub || is_absent (leaf_shape s a.leaf).presence) leaves
 
-abbrev pub made_sub : Sources → ℕ → List At → ℕ → SubValue → List Failure
-made_sub s line leaves comp sub = fails 5 line (is_required sub.usage && not (is_sub_sure s leaves comp sub.number))
+abbrev pub made_sub : Sources → Mark → List At → ℕ → SubValue → List Failure
+made_sub s mark leaves comp sub = fails 5 (sub_in mark sub.number) (is_required sub.usage && not (is_sub_sure s leaves comp sub.number))
 
-abbrev pub made_comp : Sources → ℕ → List At → CompValue → List Failure
-made_comp s line leaves c =
-    fails 5 line (is_required c.usage && not (is_comp_sure s leaves c.number)) ++ flat_map (made_sub s line leaves c.number) c.subs
+abbrev pub made_comp : Sources → Mark → List At → CompValue → List Failure
+made_comp s mark leaves c =
+    fails 5 (comp_in mark c.number) (is_required c.usage && not (is_comp_sure s leaves c.number))
+    ++ flat_map (made_sub s (comp_in mark c.number) leaves c.number) c.subs
 
 abbrev pub is_forbidden_comp : Option CompValue → Bool
 is_forbidden_comp None = false
@@ -91,39 +111,39 @@ is_forbidden_sub None = false
 is_forbidden_sub (Some s) = is_forbidden s.usage
 
 -- a constant has another value than the table's, or is too long; "" is exempt
-abbrev pub leaf_failures : Sources → ProfileValue → ℕ → Leaf → SubValue → List Failure
-leaf_failures s to line (const text) sub =
-    fails 12 line (not (is_null text) && (may_be_unlisted (leaf_shape s (const text)).values (table_values to.tables sub) || may_be_long (len_count to) (leaf_shape s (const text)).values sub.len))
-leaf_failures s to line (copied source) sub = value_failures to line (leaf_shape s (copied source)) sub
-leaf_failures s to line (looked_up table source) sub = value_failures to line (leaf_shape s (looked_up table source)) sub
+abbrev pub leaf_failures : Sources → ProfileValue → Mark → Leaf → SubValue → List Failure
+leaf_failures s to mark (const text) sub =
+    fails 12 mark (not (is_null text) && (may_be_unlisted (leaf_shape s (const text)).values (table_values to.tables sub) || may_be_long (len_count to) (leaf_shape s (const text)).values sub.len))
+leaf_failures s to mark (copied source) sub = value_failures to mark (leaf_shape s (copied source)) sub
+leaf_failures s to mark (looked_up table source) sub = value_failures to mark (leaf_shape s (looked_up table source)) sub
 
 -- a leaf at a place that the target lists
-abbrev pub placed : Sources → ProfileValue → ℕ → Leaf → Option SubValue → List Failure
-placed s to line leaf None = []
-placed s to line leaf (Some sub) = leaf_failures s to line leaf sub
+abbrev pub placed : Sources → ProfileValue → Mark → Leaf → Option SubValue → List Failure
+placed s to mark leaf None = []
+placed s to mark leaf (Some sub) = leaf_failures s to mark leaf sub
 
 abbrev pub made_leaf : Sources → ProfileValue → FieldValue → At → List Failure
 made_leaf s to target a =
-    fails 11 a.line ((is_forbidden_comp (comp_of (Some target) a.comp) || is_forbidden_sub (sub_of (comp_of (Some target) a.comp) a.sub)) && not (is_absent (leaf_shape s a.leaf).presence))
-    ++ placed s to a.line a.leaf (sub_of (comp_of (Some target) a.comp) a.sub)
+    fails 11 (leaf_mark target.number a) ((is_forbidden_comp (comp_of (Some target) a.comp) || is_forbidden_sub (sub_of (comp_of (Some target) a.comp) a.sub)) && not (is_absent (leaf_shape s a.leaf).presence))
+    ++ placed s to (leaf_mark target.number a) a.leaf (sub_of (comp_of (Some target) a.comp) a.sub)
 
-abbrev pub made_field : Sources → ProfileValue → ℕ → List At → FieldValue → List Failure
-made_field s to line leaves target =
-    flat_map (made_comp s line leaves) target.comps ++ flat_map (made_leaf s to target) leaves
+abbrev pub made_field : Sources → ProfileValue → Mark → List At → FieldValue → List Failure
+made_field s to mark leaves target =
+    flat_map (made_comp s mark leaves) target.comps ++ flat_map (made_leaf s to target) leaves
 
 -- ---- a field
 
 -- what its rule gives, where it gives something
-abbrev pub making_failures : Sources → ProfileValue → ℕ → Making → FieldValue → List Failure
-making_failures s to line (copy from) target = copied_field s to line from target
-making_failures s to line (first from) target = copied_field s to line from target
-making_failures s to line (repeat from leaves) target = made_field (walking s from) to line leaves target
-making_failures s to line (build leaves) target = made_field s to line leaves target
+abbrev pub making_failures : Sources → ProfileValue → Mark → Making → FieldValue → List Failure
+making_failures s to mark (copy from) target = copied_field s to mark from target
+making_failures s to mark (first from) target = copied_field s to mark from target
+making_failures s to mark (repeat from leaves) target = made_field (walking s from) to mark leaves target
+making_failures s to mark (build leaves) target = made_field s to mark leaves target
 
 abbrev pub content_failures : Sources → ProfileValue → FieldValue → Option Rule → List Failure
 content_failures s to target None = []
 content_failures s to target (Some r) =
-    if is_never (rule_count s (Some r)).greatest then [] else making_failures s to r.line r.making target
+    if is_never (rule_count s (Some r)).greatest then [] else making_failures s to (field_mark target.number r.line) r.making target
 
 -- the line of the rule, or of the segment that should hold one
 abbrev pub line_of_rule : ℕ → Option Rule → ℕ
@@ -136,7 +156,7 @@ has_no_rule (Some r) = false
 
 abbrev pub count_failures : ℕ → Interval → FieldValue → Option Rule → List Failure
 count_failures holder count target rule =
-    often_failures holder (line_of_rule holder rule) count target.usage target.card (has_no_rule rule)
+    often_failures (field_mark target.number (line_of_rule holder rule)) count target.usage target.card (has_no_rule rule)
 
 -- of a target field, in a segment that an item at this line gives by these rules
 abbrev pub field_failures : Sources → ProfileValue → ℕ → List Rule → FieldValue → List Failure
@@ -147,11 +167,11 @@ field_failures s to holder rules target =
 -- ---- lookups
 
 -- without a value for texts that have no row, each text of the source needs one
-abbrev pub lookup_failures : Sources → At → List Failure
-lookup_failures s a = go a.leaf
+abbrev pub lookup_failures : Sources → ℕ → At → List Failure
+lookup_failures s field a = go a.leaf
   where
     unrowed : Rows → Source → Option (List ℕ) → List Failure
-    unrowed table source None = fails 10 a.line (has_no_row table (source_shape s source).values)
+    unrowed table source None = fails 10 (leaf_mark field a) (has_no_row table (source_shape s source).values)
     unrowed table source (Some text) = []
 
     go : Leaf → List Failure
@@ -165,8 +185,8 @@ rule_lookups s r = go r.making
     go : Making → List Failure
     go (copy from) = []
     go (first from) = []
-    go (repeat from leaves) = flat_map (lookup_failures (walking s from)) leaves
-    go (build leaves) = flat_map (lookup_failures s) leaves
+    go (repeat from leaves) = flat_map (lookup_failures (walking s from) r.field) leaves
+    go (build leaves) = flat_map (lookup_failures s r.field) leaves
 
 -- ---- a segment
 

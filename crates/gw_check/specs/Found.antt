@@ -8,6 +8,7 @@ use Rattle.std.specs.Global.{Vec}
 use Rattle.gw_maplang.specs.Shapes.{TableValue}
 use Rattle.gw_resolve.specs.declared.resolved.Item.{Item}
 use Rattle.gw_resolve.specs.declared.failure.Failure as declared
+use Rattle.gw_resolve.specs.Failures.{Mark}
 use Rattle.gw_resolve.specs.Places.{Element, child, fields_of, within_if}
 use Rattle.gw_check.specs.Fields.{segment_failures}
 use Rattle.gw_resolve.specs.declared.resolved.SegmentItem.{SegmentItem}
@@ -24,9 +25,9 @@ usage_of (Seg s) = s.usage
 usage_of (Group' label usage card shape nodes) = usage
 
 -- with the failures of one node; the map has these tables
-abbrev pub NotesNode : List TableValue → List Element → ℕ → Node → List Item → Vec declared.Failure → Vec declared.Failure → Type 0
-NotesNode tables scope holder node is old new =
-    Notes old new (node_failures holder (usage_of node) (card_of node) (items_count scope (all_items tables is)) (all_items tables is))
+abbrev pub NotesNode : List TableValue → List Element → Mark → Node → List Item → Vec declared.Failure → Vec declared.Failure → Type 0
+NotesNode tables scope mark node is old new =
+    Notes old new (node_failures mark (usage_of node) (card_of node) (items_count scope (all_items tables is)) (all_items tables is))
 
 -- with those of the nodes from number j on
 abbrev pub NotesLevel : List TableValue → List Element → ℕ → ℕ → Forest → List Item → Vec declared.Failure → Vec declared.Failure → Type 0

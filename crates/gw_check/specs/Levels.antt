@@ -8,7 +8,7 @@ use Rattle.gw_resolve.specs.Places.{Element, child, nodes_of_child, fields_of, w
 use Rattle.gw_resolve.specs.Resolved.{Items, no_items, segment_item, group_item, flat_item, first_child}
 use Rattle.gw_check.specs.Leaves.{Sources}
 use Rattle.gw_check.specs.Counts.{items_count}
-use Rattle.gw_resolve.specs.Failures.{Failure}
+use Rattle.gw_resolve.specs.Failures.{Mark, Failure, at_line}
 use Rattle.gw_check.specs.Fields.{often_failures, segment_failures}
 
 -- ---- the items of one node; items stand in the order of the nodes
@@ -31,12 +31,12 @@ beyond j (segment_item s rest) = if s.child == j then beyond j rest else segment
 beyond j (group_item g items rest) = if g.child == j then beyond j rest else group_item g items rest
 beyond j (flat_item f items rest) = if is_of j (first_child items) then beyond j rest else flat_item f items rest
 
--- the line of the first item, or of the group or map that should hold one
-abbrev pub first_line : ℕ → Items → ℕ
-first_line holder no_items = holder
-first_line holder (segment_item s rest) = s.line
-first_line holder (group_item g items rest) = g.line
-first_line holder (flat_item f items rest) = f.line
+-- what the first item gives, or node j within the group or map at this line, which should hold one
+abbrev pub node_mark : ℕ → ℕ → Items → Mark
+node_mark holder j no_items = record (at_line holder) { child = Some j }
+node_mark holder j (segment_item s rest) = at_line s.line
+node_mark holder j (group_item g items rest) = at_line g.line
+node_mark holder j (flat_item f items rest) = at_line f.line
 
 abbrev pub has_no_item : Items → Bool
 has_no_item no_items = true
@@ -46,17 +46,17 @@ has_no_item (flat_item f items rest) = false
 
 -- ---- a node
 
-abbrev pub node_failures : ℕ → Usage → Card → Interval → Items → List Failure
-node_failures holder usage card count items = often_failures holder (first_line holder items) count usage card (has_no_item items)
+abbrev pub node_failures : Mark → Usage → Card → Interval → Items → List Failure
+node_failures mark usage card count items = often_failures mark count usage card (has_no_item items)
 
 -- the nodes from number j on, at a level whose items stand in the group, or the map, at this line
 abbrev pub level_failures : List Element → ℕ → ℕ → Forest → Items → List Failure
 level_failures scope holder j nothing items = []
 level_failures scope holder j (segment s rest) items =
-    node_failures holder s.usage s.card (items_count scope (its j items)) (its j items)
+    node_failures (node_mark holder j (its j items)) s.usage s.card (items_count scope (its j items)) (its j items)
     ++ level_failures scope holder (suc j) rest (beyond j items)
 level_failures scope holder j (group g nodes rest) items =
-    node_failures holder g.usage g.card (items_count scope (its j items)) (its j items)
+    node_failures (node_mark holder j (its j items)) g.usage g.card (items_count scope (its j items)) (its j items)
     ++ level_failures scope holder (suc j) rest (beyond j items)
 
 -- ---- within the items

@@ -8,7 +8,8 @@ use Rattle.gw_profile.specs.Value.{leaf_comp}
 use Rattle.gw_maplang.specs.declared.rule.LeafPlace.{LeafPlace}
 use Rattle.gw_maplang.specs.Shapes as raw
 use Rattle.gw_maplang.specs.Shapes.{MapValue, Row}
-use Rattle.gw_resolve.specs.Failures.{Failure}
+use Rattle.gw_resolve.specs.Failures.{Mark, Failure, at_line}
+use Rattle.gw_check.specs.Fields.{counted}
 
 abbrev card : ℕ → ℕ → Card
 card min max = record { min = min; max = Some max }
@@ -169,5 +170,13 @@ m3 =
       drops = [];
     }
 
-abbrev pub failure : ℕ → ℕ → Option Failure
-failure rule line = Some (record { rule = rule; line = line })
+abbrev pub failure : ℕ → Mark → Option Failure
+failure rule mark = Some (record { rule = rule; mark = mark })
+
+-- what comes so often
+abbrev pub often : ℕ → Option ℕ → Mark → Mark
+often least greatest = counted (record { least = least; greatest = greatest })
+
+-- the leaf of the sex
+abbrev pub sex_at : ℕ → Mark
+sex_at line = record (at_line line) { field = 8; comp = 1; sub = 1 }

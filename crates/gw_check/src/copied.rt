@@ -11,27 +11,31 @@ use crate::sources::Sources;
 use crate::texts::Texts;
 use crate::values::{check_forbidden, check_required, check_values};
 use gw_profile::{CompShape, FieldShape, Profile, SubShape};
-use gw_resolve::{Failure, Reference};
+use gw_resolve::{Failure, Mark, Reference};
 use std::alloc::AllocError;
 
 fn check_sub(
     found: &mut Vec<Failure>,
     source: &Profile,
     target: &Profile,
-    line: u32,
+    mark: Mark,
     from: Option<&CompShape>,
     sub: &SubShape,
 ) -> Result<(), AllocError>
-    ensures { OnOk result (Notes found.old found.new (seen.copied_sub source.now target.now line from.entry (sub_value sub.now))) }
+    ensures { OnOk result (Notes found.old found.new (seen.copied_sub source.now target.now mark from.entry (sub_value sub.now))) }
 {
     let same = sub_of(from, sub.number);
     let presence = sub_presence(from, same);
-    check_required(found, line, sub.usage, presence)?;
-    check_forbidden(found, line, sub.usage, presence)?;
+    let mark = Mark {
+        sub: sub.number,
+        ..mark
+    };
+    check_required(found, mark, sub.usage, presence)?;
+    check_forbidden(found, mark, sub.usage, presence)?;
     check_values(
         found,
         target,
-        line,
+        mark,
         presence,
         Texts::Of(sub_texts(source, same)),
         sub,
@@ -42,14 +46,14 @@ fn check_subs(
     found: &mut Vec<Failure>,
     source: &Profile,
     target: &Profile,
-    line: u32,
+    mark: Mark,
     from: Option<&CompShape>,
     subs: &[SubShape],
 ) -> Result<(), AllocError>
-    ensures { OnOk result (Notes found.old found.new (flat_map (seen.copied_sub source.now target.now line from.entry) (map sub_value subs.now))) }
+    ensures { OnOk result (Notes found.old found.new (flat_map (seen.copied_sub source.now target.now mark from.entry) (map sub_value subs.now))) }
 {
     for sub in subs {
-        check_sub(found, source, target, line, from, sub)?;
+        check_sub(found, source, target, mark, from, sub)?;
     }
     Ok(())
 }
@@ -58,31 +62,35 @@ fn check_comp(
     found: &mut Vec<Failure>,
     source: &Profile,
     target: &Profile,
-    line: u32,
+    mark: Mark,
     from: Option<&FieldShape>,
     comp: &CompShape,
 ) -> Result<(), AllocError>
-    ensures { OnOk result (Notes found.old found.new (seen.copied_comp source.now target.now line from.entry (comp_value comp.now))) }
+    ensures { OnOk result (Notes found.old found.new (seen.copied_comp source.now target.now mark from.entry (comp_value comp.now))) }
 {
     let same = comp_of(from, comp.number);
     let presence = comp_presence(same);
-    check_required(found, line, comp.usage, presence)?;
-    check_forbidden(found, line, comp.usage, presence)?;
-    check_subs(found, source, target, line, same, &comp.subs)
+    let mark = Mark {
+        comp: comp.number,
+        ..mark
+    };
+    check_required(found, mark, comp.usage, presence)?;
+    check_forbidden(found, mark, comp.usage, presence)?;
+    check_subs(found, source, target, mark, same, &comp.subs)
 }
 
 fn check_comps(
     found: &mut Vec<Failure>,
     source: &Profile,
     target: &Profile,
-    line: u32,
+    mark: Mark,
     from: Option<&FieldShape>,
     comps: &[CompShape],
 ) -> Result<(), AllocError>
-    ensures { OnOk result (Notes found.old found.new (flat_map (seen.copied_comp source.now target.now line from.entry) (map comp_value comps.now))) }
+    ensures { OnOk result (Notes found.old found.new (flat_map (seen.copied_comp source.now target.now mark from.entry) (map comp_value comps.now))) }
 {
     for comp in comps {
-        check_comp(found, source, target, line, from, comp)?;
+        check_comp(found, source, target, mark, from, comp)?;
     }
     Ok(())
 }
@@ -92,17 +100,17 @@ pub(crate) fn check_copied(
     found: &mut Vec<Failure>,
     sources: Sources<'_, '_, '_, '_, '_>,
     target: &Profile,
-    line: u32,
+    mark: Mark,
     from: &Reference,
     field: &FieldShape,
 ) -> Result<(), AllocError>
-    ensures { OnOk result (Notes found.old found.new (seen.copied_field sources.entry target.now line from.now field.now)) }
+    ensures { OnOk result (Notes found.old found.new (seen.copied_field sources.entry target.now mark from.now field.now)) }
 {
     check_comps(
         found,
         sources.profile,
         target,
-        line,
+        mark,
         at_field(sources, from),
         &field.comps,
     )

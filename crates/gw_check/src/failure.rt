@@ -8,7 +8,7 @@ use gw_resolve::Failure;
 fn is_before(a: Failure, b: Failure) -> bool
     ensures { result ≡ is_before (failure a) (failure b) }
 {
-    a.rule < b.rule || (a.rule == b.rule && a.line < b.line)
+    a.rule < b.rule || (a.rule == b.rule && a.mark.line < b.mark.line)
 }
 
 // The lesser of the two.

@@ -4,6 +4,7 @@ ghost use Rattle.gw_profile.specs.Seen.{field as field_value};
 ghost use Rattle.gw_maplang.specs.Shapes.{TableValue};
 ghost use Rattle.gw_check.specs.Fields as spec;
 ghost use Rattle.gw_resolve.specs.Noted.{Notes};
+ghost use Rattle.gw_resolve.specs.Seen.{mark as seen_mark};
 ghost use Rattle.gw_check.specs.own.Uses.{some_rule};
 ghost use Rattle.gw_check.specs.own.Seen as seen;
 
@@ -12,10 +13,11 @@ use crate::count::{rule_count, walking};
 use crate::known::rule_of;
 use crate::lookup::check_rules;
 use crate::made::check_made;
+use crate::mark::field_mark;
 use crate::often::{Asked, check_often};
 use crate::sources::Sources;
 use gw_profile::{FieldShape, Profile};
-use gw_resolve::{Failure, Interval, Making, Rule};
+use gw_resolve::{Failure, Interval, Making, Mark, Rule};
 use std::alloc::AllocError;
 
 // ---- what the field has in it
@@ -24,24 +26,24 @@ fn check_making(
     found: &mut Vec<Failure>,
     sources: Sources<'_, '_, '_, '_, '_>,
     target: &Profile,
-    line: u32,
+    mark: Mark,
     making: &Making,
     field: &FieldShape,
 ) -> Result<(), AllocError>
-    ensures { OnOk result (Notes found.old found.new (seen.making_failures sources.entry target.now line making.now field.now)) }
+    ensures { OnOk result (Notes found.old found.new (seen.making_failures sources.entry target.now mark making.now field.now)) }
 {
     match making {
-        Making::Copy(from) => check_copied(found, sources, target, line, from, field),
-        Making::First(from) => check_copied(found, sources, target, line, from, field),
+        Making::Copy(from) => check_copied(found, sources, target, mark, from, field),
+        Making::First(from) => check_copied(found, sources, target, mark, from, field),
         Making::Repeat(from, leaves) => check_made(
             found,
             walking(sources, from),
             target,
-            line,
+            mark,
             leaves,
             field,
         ),
-        Making::Build(leaves) => check_made(found, sources, target, line, leaves, field),
+        Making::Build(leaves) => check_made(found, sources, target, mark, leaves, field),
     }
 }
 
@@ -63,7 +65,8 @@ fn check_content(
     if count.is_never() {
         return Ok(());
     }
-    check_making(found, sources, target, rule.line, &rule.making, field)
+    let mark = field_mark(field.number, rule.line);
+    check_making(found, sources, target, mark, &rule.making, field)
 }
 
 // ---- a field
@@ -89,15 +92,14 @@ pub(crate) fn is_missing(rule: Option<&Rule>) -> bool
 
 // What the field asks of how often its rule gives it.
 fn asked(holder: u32, rule: Option<&Rule>, field: &FieldShape) -> Asked
-    ensures holder { result.holder ≡ holder }
-    ensures line { (tables : List TableValue) → result.line ≡ spec.line_of_rule holder (some_rule tables rule.entry) }
+    ensures mark { (tables : List TableValue) →
+        seen_mark result.mark ≡ spec.field_mark (field_value field.now).number (spec.line_of_rule holder (some_rule tables rule.entry)) }
     ensures usage { result.usage ≡ (field_value field.now).usage }
     ensures card { result.card ≡ (field_value field.now).card }
     ensures is_missing { (tables : List TableValue) → result.is_missing ≡ spec.has_no_rule (some_rule tables rule.entry) }
 {
     Asked {
-        holder,
-        line: line_of(holder, rule),
+        mark: field_mark(field.number, line_of(holder, rule)),
         usage: field.usage,
         card: field.card,
         is_missing: is_missing(rule),

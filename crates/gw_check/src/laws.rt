@@ -13,19 +13,21 @@ ghost use Rattle.gw_resolve.specs.Resolved.{Reference, of_field};
 ghost use Rattle.gw_check.specs.Leaves.{Sources, Values, IsOf, Shape, listed, at_field, comp_of, sub_of, source_shape, may_be_unlisted, may_be_long, is_included};
 ghost use Rattle.gw_resolve.specs.Seen.{saturated};
 ghost use Rattle.gw_check.specs.Checked.{all_failures, least};
-ghost use Rattle.gw_check.specs.Worked.{p1, p2, p3, t1, m1, m4, kin, contacts, both_kinds, oru, any_orders, two_orders, m3, failure};
+ghost use Rattle.gw_check.specs.Worked.{p1, p2, p3, t1, m1, m4, kin, contacts, both_kinds, oru, any_orders, two_orders, m3, failure, often, sex_at};
+ghost use Rattle.gw_check.specs.Fields.{field_mark};
+ghost use Rattle.gw_resolve.specs.Failures.{at_line};
 
 /// What the rules say of worked maps.
 pub fn worked_maps()
-    ensures may_be_absent { least (all_failures p1 t1 m1) ≡ failure 5 9 }
+    ensures may_be_absent { least (all_failures p1 t1 m1) ≡ failure 5 (often 0 (Some 1) (field_mark 8 9)) }
     ensures is_there { least (all_failures p2 t1 m1) ≡ None }
-    ensures without_a_row { least (all_failures p2 t1 m4) ≡ failure 10 7 }
-    ensures of_any_value { least (all_failures p3 t1 m4) ≡ failure 10 7 }
+    ensures without_a_row { least (all_failures p2 t1 m4) ≡ failure 10 (sex_at 7) }
+    ensures of_any_value { least (all_failures p3 t1 m4) ≡ failure 10 (sex_at 7) }
     ensures of_any_value_or_else { least (all_failures p3 t1 m1) ≡ None }
-    ensures too_many { least (all_failures kin (contacts 3) both_kinds) ≡ failure 4 3 }
+    ensures too_many { least (all_failures kin (contacts 3) both_kinds) ≡ failure 4 (often 0 (Some 4) (at_line 3)) }
     ensures enough_room { least (all_failures kin (contacts 4) both_kinds) ≡ None }
     ensures flattened { least (all_failures oru any_orders m3) ≡ None }
-    ensures flattened_too_many { least (all_failures oru two_orders m3) ≡ failure 4 3 }
+    ensures flattened_too_many { least (all_failures oru two_orders m3) ≡ failure 4 (often 1 None (at_line 3)) }
 {}
 
 /// The map that makes of each message of a profile the message itself, as far as the profile lists it, is allowed from the profile to itself.

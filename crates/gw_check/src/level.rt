@@ -2,16 +2,17 @@
 ghost use Rattle.std.specs.Prelude.{◌≡◌, ℕ, List, OnOk, option_map};
 ghost use Rattle.gw_profile.specs.Seen.{forest};
 ghost use Rattle.gw_check.specs.Levels as spec;
+ghost use Rattle.gw_resolve.specs.Failures.{at_line};
 ghost use Rattle.gw_resolve.specs.Resolved as resolved;
 ghost use Rattle.gw_resolve.specs.Places as places;
-ghost use Rattle.gw_resolve.specs.Seen.{interval, saturated, scope as walked, place as seen_place, with_item, all_items};
+ghost use Rattle.gw_resolve.specs.Seen.{interval, saturated, mark as seen_mark, scope as walked, place as seen_place, with_item, all_items};
 ghost use Rattle.gw_check.specs.Found.{NotesNode, NotesLevel, usage_of};
 ghost use Rattle.gw_maplang.specs.Shapes.{TableValue};
 
 use crate::items::{items_count, leading};
 use crate::often::{Asked, check_often};
 use gw_profile::{Node, Usage};
-use gw_resolve::{Element, Failure, Interval, Item, Place, find, never, once};
+use gw_resolve::{Element, Failure, Interval, Item, Mark, Place, at_line, find, never, once};
 use std::alloc::{AllocError, Global};
 
 /// How often a place is there.
@@ -36,7 +37,7 @@ pub(crate) fn count_if(scope: &[Element<'_, '_>], place: &Option<Place>) -> Inte
 
 // The line of an item.
 fn line_of(item: &Item) -> u32
-    ensures { (tables : List TableValue) (rest : resolved.Items) (holder : ℕ) → result ≡ spec.first_line holder (with_item tables item.now rest) }
+    ensures { (tables : List TableValue) (rest : resolved.Items) (holder j : ℕ) → at_line result ≡ spec.node_mark holder j (with_item tables item.now rest) }
 {
     match item {
         Item::Segment(segment) => segment.line,
@@ -45,14 +46,28 @@ fn line_of(item: &Item) -> u32
     }
 }
 
-// The line of the first item, or of what should hold one.
-fn first_line(holder: u32, items: &[Item]) -> u32
-    ensures { (tables : List TableValue) → result ≡ spec.first_line holder (all_items tables items.now) }
+// A node within what should hold it.
+fn missing_node(holder: u32, number: usize) -> Mark
+    ensures { seen_mark result ≡ spec.node_mark holder number resolved.no_items }
+{
+    Mark {
+        line: holder,
+        child: Some(number),
+        field: 0,
+        comp: 0,
+        sub: 0,
+        count: None,
+    }
+}
+
+// What the first item gives, or the node of this number within what should hold one.
+fn node_mark(holder: u32, number: usize, items: &[Item]) -> Mark
+    ensures { (tables : List TableValue) → seen_mark result ≡ spec.node_mark holder number (all_items tables items.now) }
 {
     let [item, ..] = items else {
-        return holder;
+        return missing_node(holder, number);
     };
-    line_of(item)
+    at_line(line_of(item))
 }
 
 pub(crate) fn has_no_item(items: &[Item]) -> bool
@@ -75,15 +90,14 @@ fn check_node(
     alloc: Global,
     found: &mut Vec<Failure>,
     scope: &[Element<'_, '_>],
-    holder: u32,
+    mark: Mark,
     node: &Node,
     items: &[Item],
 ) -> Result<(), AllocError>
-    ensures { (tables : List TableValue) → OnOk result (NotesNode tables (walked scope.now) holder node.now items.now found.old found.new) }
+    ensures { (tables : List TableValue) → OnOk result (NotesNode tables (walked scope.now) (seen_mark mark) node.now items.now found.old found.new) }
 {
     let asked = Asked {
-        holder,
-        line: first_line(holder, items),
+        mark,
         usage: usage_of(node),
         card: node.card(),
         is_missing: has_no_item(items),
@@ -106,7 +120,8 @@ pub(crate) fn check_level(
     for (j, node) in nodes.iter().enumerate() {
         let rest = &items[done..];
         let count = leading(rest, j);
-        check_node(alloc, found, scope, holder, node, &rest[..count])?;
+        let mark = node_mark(holder, j, &rest[..count]);
+        check_node(alloc, found, scope, mark, node, &rest[..count])?;
         done += count;
     }
     Ok(())

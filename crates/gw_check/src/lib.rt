@@ -17,6 +17,7 @@ mod leaf;
 mod level;
 mod lookup;
 mod made;
+mod mark;
 mod often;
 mod overlooked;
 mod presence;

@@ -8,6 +8,7 @@ ghost use Rattle.gw_check.specs.own.Seen as seen;
 
 use crate::count::walking;
 use crate::leaf::source_texts;
+use crate::mark::leaf_mark;
 use crate::sources::Sources;
 use crate::texts::{has_no_row, other};
 use gw_maplang::Table as Rows;
@@ -18,18 +19,19 @@ use std::alloc::AllocError;
 fn check_rows(
     found: &mut Vec<Failure>,
     sources: Sources<'_, '_, '_, '_, '_>,
+    field: u32,
     at: &At,
     table: Option<&Rows>,
     source: &Source,
 ) -> Result<(), AllocError>
-    ensures { OnOk result (Notes found.old found.new (seen.rows_failures sources.entry at.now table.entry source.now)) }
+    ensures { OnOk result (Notes found.old found.new (seen.rows_failures sources.entry field at.now table.entry source.now)) }
 {
     match other(table) {
         Some(_) => Ok(()),
         None => note(
             found,
             10,
-            at.line,
+            leaf_mark(field, at),
             has_no_row(table, source_texts(sources, source)),
         ),
     }
@@ -38,15 +40,16 @@ fn check_rows(
 fn check_lookup(
     found: &mut Vec<Failure>,
     sources: Sources<'_, '_, '_, '_, '_>,
+    field: u32,
     at: &At,
 ) -> Result<(), AllocError>
-    ensures { OnOk result (Notes found.old found.new (spec.lookup_failures (sources_value sources.entry) (at_leaf (map_tables sources.entry) at.now))) }
+    ensures { OnOk result (Notes found.old found.new (spec.lookup_failures (sources_value sources.entry) field (at_leaf (map_tables sources.entry) at.now))) }
 {
     match &at.leaf {
         Leaf::Const(_) => Ok(()),
         Leaf::Copied(_) => Ok(()),
         Leaf::LookedUp(name, source) => {
-            check_rows(found, sources, at, sources.map.table(name), source)
+            check_rows(found, sources, field, at, sources.map.table(name), source)
         }
     }
 }
@@ -54,12 +57,14 @@ fn check_lookup(
 fn check_lookups(
     found: &mut Vec<Failure>,
     sources: Sources<'_, '_, '_, '_, '_>,
+    field: u32,
     leaves: &[At],
 ) -> Result<(), AllocError>
-    ensures { OnOk result (Notes found.old found.new (flat_map (spec.lookup_failures (sources_value sources.entry)) (leaves_value sources.entry leaves.now))) }
+    ensures { OnOk result
+        (Notes found.old found.new (flat_map (spec.lookup_failures (sources_value sources.entry) field) (leaves_value sources.entry leaves.now))) }
 {
     for at in leaves {
-        check_lookup(found, sources, at)?;
+        check_lookup(found, sources, field, at)?;
     }
     Ok(())
 }
@@ -74,8 +79,13 @@ fn check_rule(
     match &rule.making {
         Making::Copy(_) => Ok(()),
         Making::First(_) => Ok(()),
-        Making::Repeat(from, leaves) => check_lookups(found, walking(sources, from), leaves),
-        Making::Build(leaves) => check_lookups(found, sources, leaves),
+        Making::Repeat(from, leaves) => check_lookups(
+            found,
+            walking(sources, from),
+            rule.field,
+            leaves,
+        ),
+        Making::Build(leaves) => check_lookups(found, sources, rule.field, leaves),
     }
 }
 

@@ -8,12 +8,13 @@ ghost use Rattle.gw_check.specs.own.Lacking.{there_of, there_value, has_comp, ha
 ghost use Rattle.gw_check.specs.Leaves as leaves_spec;
 ghost use Rattle.gw_resolve.specs.Noted.{Notes};
 ghost use Rattle.gw_check.specs.own.Uses.{sources_value, map_tables, leaves_value, some_comp, some_sub};
-ghost use Rattle.gw_resolve.specs.Seen.{at_leaf};
+ghost use Rattle.gw_resolve.specs.Seen.{at_leaf, mark as seen_mark};
 ghost use Rattle.gw_check.specs.own.Seen as seen;
 ghost use Rattle.gw_check.specs.Texts.{texts_value};
 
 use crate::known::{comp_of, sub_of};
 use crate::leaf::{leaf_texts, table_of};
+use crate::mark::leaf_mark;
 use crate::presence::{is_absent, is_always, leaf_presence};
 use crate::shape::Presence;
 use crate::sources::Sources;
@@ -21,7 +22,7 @@ use crate::texts::{Texts, may_be_long, may_be_unlisted};
 use crate::values::{check_values, is_forbidden, is_required};
 use gw_maplang::LeafPlace;
 use gw_profile::{CompShape, FieldShape, Profile, SubShape};
-use gw_resolve::{At, Failure, Leaf, note};
+use gw_resolve::{At, Failure, Leaf, Mark, note};
 use std::alloc::AllocError;
 
 /// The place of a leaf, and whether a text stands there.
@@ -111,30 +112,34 @@ fn is_sub_sure(leaves: &[There], comp: u32, sub: u32) -> bool
 
 fn check_sub(
     found: &mut Vec<Failure>,
-    line: u32,
+    mark: Mark,
     leaves: &[There],
     comp: u32,
     sub: &SubShape,
 ) -> Result<(), AllocError>
-    ensures { OnOk result (Notes found.old found.new (sub_lacks line (map there_value leaves.now) comp (sub_value sub.now))) }
+    ensures { OnOk result (Notes found.old found.new (sub_lacks (seen_mark mark) (map there_value leaves.now) comp (sub_value sub.now))) }
 {
     if !is_required(sub.usage) {
         return Ok(());
     }
-    note(found, 5, line, !is_sub_sure(leaves, comp, sub.number))
+    let mark = Mark {
+        sub: sub.number,
+        ..mark
+    };
+    note(found, 5, mark, !is_sub_sure(leaves, comp, sub.number))
 }
 
 fn check_subs(
     found: &mut Vec<Failure>,
-    line: u32,
+    mark: Mark,
     leaves: &[There],
     comp: u32,
     subs: &[SubShape],
 ) -> Result<(), AllocError>
-    ensures { OnOk result (Notes found.old found.new (flat_map (sub_lacks line (map there_value leaves.now) comp) (map sub_value subs.now))) }
+    ensures { OnOk result (Notes found.old found.new (flat_map (sub_lacks (seen_mark mark) (map there_value leaves.now) comp) (map sub_value subs.now))) }
 {
     for sub in subs {
-        check_sub(found, line, leaves, comp, sub)?;
+        check_sub(found, mark, leaves, comp, sub)?;
     }
     Ok(())
 }
@@ -142,40 +147,44 @@ fn check_subs(
 // The component itself.
 fn check_comp_there(
     found: &mut Vec<Failure>,
-    line: u32,
+    mark: Mark,
     leaves: &[There],
     comp: &CompShape,
 ) -> Result<(), AllocError>
-    ensures { OnOk result (Notes found.old found.new (comp_lacks line (map there_value leaves.now) (comp_value comp.now))) }
+    ensures { OnOk result (Notes found.old found.new (comp_lacks (seen_mark mark) (map there_value leaves.now) (comp_value comp.now))) }
 {
     if !is_required(comp.usage) {
         return Ok(());
     }
-    note(found, 5, line, !is_comp_sure(leaves, comp.number))
+    note(found, 5, mark, !is_comp_sure(leaves, comp.number))
 }
 
 fn check_comp(
     found: &mut Vec<Failure>,
-    line: u32,
+    mark: Mark,
     leaves: &[There],
     comp: &CompShape,
 ) -> Result<(), AllocError>
-    ensures { OnOk result (Notes found.old found.new (all_lacks line (map there_value leaves.now) (comp_value comp.now))) }
+    ensures { OnOk result (Notes found.old found.new (all_lacks (seen_mark mark) (map there_value leaves.now) (comp_value comp.now))) }
 {
-    check_comp_there(found, line, leaves, comp)?;
-    check_subs(found, line, leaves, comp.number, &comp.subs)
+    let mark = Mark {
+        comp: comp.number,
+        ..mark
+    };
+    check_comp_there(found, mark, leaves, comp)?;
+    check_subs(found, mark, leaves, comp.number, &comp.subs)
 }
 
 fn check_comps(
     found: &mut Vec<Failure>,
-    line: u32,
+    mark: Mark,
     leaves: &[There],
     comps: &[CompShape],
 ) -> Result<(), AllocError>
-    ensures { OnOk result (Notes found.old found.new (flat_map (all_lacks line (map there_value leaves.now)) (map comp_value comps.now))) }
+    ensures { OnOk result (Notes found.old found.new (flat_map (all_lacks (seen_mark mark) (map there_value leaves.now)) (map comp_value comps.now))) }
 {
     for comp in comps {
-        check_comp(found, line, leaves, comp)?;
+        check_comp(found, mark, leaves, comp)?;
     }
     Ok(())
 }
@@ -184,14 +193,14 @@ fn check_comps(
 fn check_lacking(
     found: &mut Vec<Failure>,
     sources: Sources<'_, '_, '_, '_, '_>,
-    line: u32,
+    mark: Mark,
     leaves: &[At],
     comps: &[CompShape],
 ) -> Result<(), AllocError>
-    ensures { OnOk result (Notes found.old found.new (flat_map (seen.made_comp sources.entry line leaves.now) (map comp_value comps.now))) }
+    ensures { OnOk result (Notes found.old found.new (flat_map (seen.made_comp sources.entry mark leaves.now) (map comp_value comps.now))) }
 {
     let there = all_there(sources, leaves)?;
-    check_comps(found, line, &there, comps)
+    check_comps(found, mark, &there, comps)
 }
 
 // ---- what the leaves give
@@ -212,32 +221,32 @@ fn breaks(target: &Profile, texts: Texts<'_>, sub: &SubShape) -> bool
 fn check_const(
     found: &mut Vec<Failure>,
     target: &Profile,
-    line: u32,
+    mark: Mark,
     text: &[u8],
     sub: &SubShape,
 ) -> Result<(), AllocError>
-    ensures { OnOk result (Notes found.old found.new (seen.const_failures target.now line text.now sub.now)) }
+    ensures { OnOk result (Notes found.old found.new (seen.const_failures target.now mark text.now sub.now)) }
 {
     if is_null(text) {
         return Ok(());
     }
-    note(found, 12, line, breaks(target, Texts::One(text), sub))
+    note(found, 12, mark, breaks(target, Texts::One(text), sub))
 }
 
 fn check_source(
     found: &mut Vec<Failure>,
     sources: Sources<'_, '_, '_, '_, '_>,
     target: &Profile,
-    line: u32,
+    mark: Mark,
     leaf: &Leaf,
     sub: &SubShape,
 ) -> Result<(), AllocError>
-    ensures { OnOk result (Notes found.old found.new (seen.source_failures sources.entry target.now line leaf.now sub.now)) }
+    ensures { OnOk result (Notes found.old found.new (seen.source_failures sources.entry target.now mark leaf.now sub.now)) }
 {
     check_values(
         found,
         target,
-        line,
+        mark,
         leaf_presence(sources, leaf),
         leaf_texts(sources, leaf),
         sub,
@@ -248,16 +257,16 @@ fn check_leaf(
     found: &mut Vec<Failure>,
     sources: Sources<'_, '_, '_, '_, '_>,
     target: &Profile,
-    line: u32,
+    mark: Mark,
     leaf: &Leaf,
     sub: &SubShape,
 ) -> Result<(), AllocError>
-    ensures { OnOk result (Notes found.old found.new (seen.leaf_failures sources.entry target.now line leaf.now sub.now)) }
+    ensures { OnOk result (Notes found.old found.new (seen.leaf_failures sources.entry target.now mark leaf.now sub.now)) }
 {
     match leaf {
-        Leaf::Const(text) => check_const(found, target, line, text, sub),
-        Leaf::Copied(_) => check_source(found, sources, target, line, leaf, sub),
-        Leaf::LookedUp(_, _) => check_source(found, sources, target, line, leaf, sub),
+        Leaf::Const(text) => check_const(found, target, mark, text, sub),
+        Leaf::Copied(_) => check_source(found, sources, target, mark, leaf, sub),
+        Leaf::LookedUp(_, _) => check_source(found, sources, target, mark, leaf, sub),
     }
 }
 
@@ -266,14 +275,15 @@ fn check_placed(
     found: &mut Vec<Failure>,
     sources: Sources<'_, '_, '_, '_, '_>,
     target: &Profile,
-    at: &At,
+    mark: Mark,
+    leaf: &Leaf,
     sub: Option<&SubShape>,
 ) -> Result<(), AllocError>
-    ensures { OnOk result (Notes found.old found.new (seen.placed sources.entry target.now at.now sub.entry)) }
+    ensures { OnOk result (Notes found.old found.new (seen.placed sources.entry target.now mark leaf.now sub.entry)) }
 {
     match sub {
         None => Ok(()),
-        Some(sub) => check_leaf(found, sources, target, at.line, &at.leaf, sub),
+        Some(sub) => check_leaf(found, sources, target, mark, leaf, sub),
     }
 }
 
@@ -303,16 +313,16 @@ fn is_barred(comp: Option<&CompShape>, sub: Option<&SubShape>) -> bool
 
 fn check_barred(
     found: &mut Vec<Failure>,
-    line: u32,
+    mark: Mark,
     barred: bool,
     presence: Presence,
 ) -> Result<(), AllocError>
-    ensures { OnOk result (Notes found.old found.new (fails 11 line (barred && not (leaves_spec.is_absent presence)))) }
+    ensures { OnOk result (Notes found.old found.new (fails 11 (seen_mark mark) (barred && not (leaves_spec.is_absent presence)))) }
 {
     if !barred {
         return Ok(());
     }
-    note(found, 11, line, !is_absent(presence))
+    note(found, 11, mark, !is_absent(presence))
 }
 
 fn check_at(
@@ -327,8 +337,9 @@ fn check_at(
     let comp = comp_of(Some(field), at.place.comp);
     let sub = sub_of(comp, at.place.sub);
     let presence = leaf_presence(sources, &at.leaf);
-    check_barred(found, at.line, is_barred(comp, sub), presence)?;
-    check_placed(found, sources, target, at, sub)
+    let mark = leaf_mark(field.number, at);
+    check_barred(found, mark, is_barred(comp, sub), presence)?;
+    check_placed(found, sources, target, mark, &at.leaf, sub)
 }
 
 fn check_leaves(
@@ -351,12 +362,12 @@ pub(crate) fn check_made(
     found: &mut Vec<Failure>,
     sources: Sources<'_, '_, '_, '_, '_>,
     target: &Profile,
-    line: u32,
+    mark: Mark,
     leaves: &[At],
     field: &FieldShape,
 ) -> Result<(), AllocError>
-    ensures { OnOk result (Notes found.old found.new (seen.made_field sources.entry target.now line leaves.now field.now)) }
+    ensures { OnOk result (Notes found.old found.new (seen.made_field sources.entry target.now mark leaves.now field.now)) }
 {
-    check_lacking(found, sources, line, leaves, &field.comps)?;
+    check_lacking(found, sources, mark, leaves, &field.comps)?;
     check_leaves(found, sources, target, field, leaves)
 }

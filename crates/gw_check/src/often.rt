@@ -5,20 +5,18 @@ ghost use Rattle.gw_check.specs.Fields.{is_expected};
 ghost use Rattle.gw_check.specs.own.Seen as seen;
 ghost use Rattle.gw_resolve.specs.Intervals as intervals;
 ghost use Rattle.gw_resolve.specs.Noted.{Notes};
-ghost use Rattle.gw_resolve.specs.Seen.{interval, saturated};
+ghost use Rattle.gw_resolve.specs.Seen.{interval, mark as seen_mark, saturated};
 
 use crate::values::is_forbidden;
 use gw_profile::{Card, Usage};
-use gw_resolve::{Failure, Interval, note};
+use gw_resolve::{Failure, Interval, Mark, note};
 use std::alloc::AllocError;
 
 /// What a target asks of how often something comes, and where that is told.
 #[derive(Clone, Copy)]
 pub(crate) struct Asked {
-    /// The line of what should hold it, where it is missing.
-    pub(crate) holder: u32,
-    /// The line of what gives it.
-    pub(crate) line: u32,
+    /// What gives it, or what should hold it where it is missing.
+    pub(crate) mark: Mark,
     pub(crate) usage: Usage,
     pub(crate) card: Card,
     /// Nothing gives it.
@@ -48,19 +46,19 @@ fn is_unwanted(asked: Asked, count: Interval) -> bool
     is_forbidden(asked.usage) && !count.is_never()
 }
 
-fn check_capped(found: &mut Vec<Failure>, asked: Asked, count: Interval) -> Result<(), AllocError>
-    ensures { OnOk result (Notes found.old found.new (seen.often_failures asked (interval count))) }
+fn check_capped(
+    found: &mut Vec<Failure>,
+    mark: Mark,
+    asked: Asked,
+    count: Interval,
+) -> Result<(), AllocError>
+    ensures { OnOk result (Notes found.old found.new (seen.capped_failures (seen_mark mark) asked (interval count))) }
 {
     let lacking = is_expected(asked.usage) && asked.is_missing;
-    note(found, 4, asked.line, is_too_often(asked, count))?;
-    note(
-        found,
-        5,
-        asked.line,
-        count.least < u64::from(asked.card.min),
-    )?;
-    note(found, 8, asked.holder, lacking)?;
-    note(found, 11, asked.line, is_unwanted(asked, count))
+    note(found, 4, mark, is_too_often(asked, count))?;
+    note(found, 5, mark, count.least < u64::from(asked.card.min))?;
+    note(found, 8, mark, lacking)?;
+    note(found, 11, mark, is_unwanted(asked, count))
 }
 
 /// The failures of what comes so often. A count that ends at the cap is as good as the whole one.
@@ -71,5 +69,9 @@ pub(crate) fn check_often(
 ) -> Result<(), AllocError>
     ensures { (full : intervals.Interval) → interval count ≡ saturated full → OnOk result (Notes found.old found.new (seen.often_failures asked full)) }
 {
-    check_capped(found, asked, count)
+    let mark = Mark {
+        count: Some(count),
+        ..asked.mark
+    };
+    check_capped(found, mark, asked, count)
 }

@@ -20,7 +20,7 @@ use crate::level::check_level;
 use crate::reads::passes_over;
 use gw_maplang::Map;
 use gw_profile::{Level, Profile};
-use gw_resolve::{Element, Failure, Item, LeftOut, Resolving, note};
+use gw_resolve::{Element, Failure, Item, LeftOut, Resolving, at_line, note};
 use std::alloc::{AllocError, Global};
 use std::sync::Arc;
 
@@ -84,7 +84,7 @@ fn add_failures(
     check_level(alloc, found, &scope, sides.map.line(), nodes, items)?;
     check_items(alloc, found, sides, &scope, nodes, items)?;
     let passed = passes_over(alloc, whole, items, drops)?;
-    note(found, 9, sides.map.line(), passed)
+    note(found, 9, at_line(sides.map.line()), passed)
 }
 
 // What the rules say of a map; 4 to 12 are looked at only where 1 to 3 hold.
@@ -174,7 +174,7 @@ fn least_of(refusal: Refusal) -> CheckFault
         Refusal::Memory(map) => CheckFault::Memory(map),
         Refusal::Rules { least, map, .. } => CheckFault::Rule {
             rule: least.rule,
-            line: least.line,
+            line: least.mark.line,
             map,
         },
     }

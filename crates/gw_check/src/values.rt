@@ -4,6 +4,7 @@ ghost use Rattle.gw_validate.specs.Breaches.{is_required, is_forbidden};
 ghost use Rattle.gw_resolve.specs.Failures.{fails};
 ghost use Rattle.gw_check.specs.Leaves as leaves_spec;
 ghost use Rattle.gw_resolve.specs.Noted.{Notes};
+ghost use Rattle.gw_resolve.specs.Seen.{mark as seen_mark};
 ghost use Rattle.gw_check.specs.own.Seen as seen;
 
 use crate::leaf::table_of;
@@ -11,7 +12,7 @@ use crate::presence::{is_absent, is_always};
 use crate::shape::Presence;
 use crate::texts::{Texts, may_be_long, may_be_unlisted};
 use gw_profile::{Profile, SubShape, Usage};
-use gw_resolve::{Failure, note};
+use gw_resolve::{Failure, Mark, note};
 use std::alloc::AllocError;
 
 pub(crate) fn is_required(usage: Usage) -> bool
@@ -35,42 +36,42 @@ pub(crate) fn is_forbidden(usage: Usage) -> bool
 /// Something required isn't always there.
 pub(crate) fn check_required(
     found: &mut Vec<Failure>,
-    line: u32,
+    mark: Mark,
     usage: Usage,
     presence: Presence,
 ) -> Result<(), AllocError>
-    ensures { OnOk result (Notes found.old found.new (fails 5 line (is_required usage && not (leaves_spec.is_always presence)))) }
+    ensures { OnOk result (Notes found.old found.new (fails 5 (seen_mark mark) (is_required usage && not (leaves_spec.is_always presence)))) }
 {
     if !is_required(usage) {
         return Ok(());
     }
-    note(found, 5, line, !is_always(presence))
+    note(found, 5, mark, !is_always(presence))
 }
 
 /// Something forbidden may be there.
 pub(crate) fn check_forbidden(
     found: &mut Vec<Failure>,
-    line: u32,
+    mark: Mark,
     usage: Usage,
     presence: Presence,
 ) -> Result<(), AllocError>
-    ensures { OnOk result (Notes found.old found.new (fails 11 line (is_forbidden usage && not (leaves_spec.is_absent presence)))) }
+    ensures { OnOk result (Notes found.old found.new (fails 11 (seen_mark mark) (is_forbidden usage && not (leaves_spec.is_absent presence)))) }
 {
     if !is_forbidden(usage) {
         return Ok(());
     }
-    note(found, 11, line, !is_absent(presence))
+    note(found, 11, mark, !is_absent(presence))
 }
 
 fn check_table(
     found: &mut Vec<Failure>,
     target: &Profile,
-    line: u32,
+    mark: Mark,
     presence: Presence,
     texts: Texts<'_>,
     sub: &SubShape,
 ) -> Result<(), AllocError>
-    ensures { OnOk result (Notes found.old found.new (seen.table_failures target.now line presence texts.entry sub.now)) }
+    ensures { OnOk result (Notes found.old found.new (seen.table_failures target.now mark presence texts.entry sub.now)) }
 {
     if is_absent(presence) {
         return Ok(());
@@ -78,37 +79,37 @@ fn check_table(
     note(
         found,
         6,
-        line,
+        mark,
         may_be_unlisted(texts, table_of(target, sub)),
     )
 }
 
 fn check_length(
     found: &mut Vec<Failure>,
-    line: u32,
+    mark: Mark,
     presence: Presence,
     texts: Texts<'_>,
     sub: &SubShape,
 ) -> Result<(), AllocError>
-    ensures { OnOk result (Notes found.old found.new (seen.length_failures line presence texts.entry sub.now)) }
+    ensures { OnOk result (Notes found.old found.new (seen.length_failures mark presence texts.entry sub.now)) }
 {
     if is_absent(presence) {
         return Ok(());
     }
-    note(found, 7, line, may_be_long(texts, sub.len))
+    note(found, 7, mark, may_be_long(texts, sub.len))
 }
 
 /// What can stand there has another value than its table's, or is too long.
 pub(crate) fn check_values(
     found: &mut Vec<Failure>,
     target: &Profile,
-    line: u32,
+    mark: Mark,
     presence: Presence,
     texts: Texts<'_>,
     sub: &SubShape,
 ) -> Result<(), AllocError>
-    ensures { OnOk result (Notes found.old found.new (seen.value_failures target.now line presence texts.entry sub.now)) }
+    ensures { OnOk result (Notes found.old found.new (seen.value_failures target.now mark presence texts.entry sub.now)) }
 {
-    check_table(found, target, line, presence, texts, sub)?;
-    check_length(found, line, presence, texts, sub)
+    check_table(found, target, mark, presence, texts, sub)?;
+    check_length(found, mark, presence, texts, sub)
 }

@@ -14,12 +14,12 @@ use Rattle.std.proofs.lemmas.Slice.Eq.{bytes_eq-Decides}
 use Rattle.gw_validate.specs.Breaches.{is_forbidden, InAny, CompBreach, one_too_many, in_comp, in_rep, FieldBreach, too_few, field_forbidden, in_reps, Meets}
 use Rattle.gw_resolve.specs.Intervals.{Interval, once, is_never, is_within}
 use Rattle.gw_resolve.specs.Places.{known}
-use Rattle.gw_resolve.specs.Failures.{fails}
+use Rattle.gw_resolve.specs.Failures.{Mark, fails}
 use Rattle.gw_resolve.specs.Resolved.{Making, copy, first, repeat, build, Rule, rule_of}
 use Rattle.gw_check.specs.Leaves.{Sources, at_field}
 use Rattle.gw_check.specs.Counts as counts
 use Rattle.gw_check.specs.Counts.{making_count, rule_count}
-use Rattle.gw_check.specs.Fields.{is_expected, has_no_rule, line_of_rule, making_failures, content_failures, count_failures, field_failures, rule_lookups, segment_failures}
+use Rattle.gw_check.specs.Fields.{field_mark, counted, is_expected, has_no_rule, line_of_rule, making_failures, content_failures, count_failures, field_failures, rule_lookups, segment_failures}
 use Rattle.gw_resolve.specs.Lawful.{LawfulMaking, LawfulRule, LawfulRules}
 use Rattle.gw_interp.specs.Occurrences.{texts_at}
 use Rattle.gw_interp.specs.Meaning.{Walked, walking, MakingMeans, RuleMeans, IsImage}
@@ -74,29 +74,29 @@ module _ (names : List (List ℕ)) (s : Sources) (w : Walked) (has : HasTables n
 
   -- ---- what it holds
 
-  module _ (target_names : List (List ℕ)) (to : ProfileValue) (target : FieldValue) (lawful_field : LawfulField target_names target) (line : ℕ) (r : ℕ) (at : RepAt m number r) where
-    making_kept : (making : Making) → LawfulMaking making → ((r c k : ℕ) → MakingMeans w making r c k (text_of m number r c k)) → making_failures s to line making target ≡ [] → (spot : List ℕ) → InAny (λ c. c.number) (CompBreach to m number r) target.comps spot → ⊥
+  module _ (target_names : List (List ℕ)) (to : ProfileValue) (target : FieldValue) (lawful_field : LawfulField target_names target) (mark : Mark) (r : ℕ) (at : RepAt m number r) where
+    making_kept : (making : Making) → LawfulMaking making → ((r c k : ℕ) → MakingMeans w making r c k (text_of m number r c k)) → making_failures s to mark making target ≡ [] → (spot : List ℕ) → InAny (λ c. c.number) (CompBreach to m number r) target.comps spot → ⊥
     making_kept (copy from) lawful means none =
         let source = texts_at w.message w.scope from.place in
         let is_copy = copied_whole m number source from.field means r at in
-        comps_kept names s.profile to has m number source from.field (at_field s from) (known_held names s.profile has (known s.scope from.place) source (is.places from.place) from.field is_copy.rep is_copy.there) r is_copy line target.comps none
+        comps_kept names s.profile to has m number source from.field (at_field s from) (known_held names s.profile has (known s.scope from.place) source (is.places from.place) from.field is_copy.rep is_copy.there) r is_copy mark target.comps none
     making_kept (first from) lawful means none =
         let source = texts_at w.message w.scope from.place in
         let is_copy = copied_first m number source from.field means r at in
-        comps_kept names s.profile to has m number source from.field (at_field s from) (known_held names s.profile has (known s.scope from.place) source (is.places from.place) from.field is_copy.rep is_copy.there) r is_copy line target.comps none
+        comps_kept names s.profile to has m number source from.field (at_field s from) (known_held names s.profile has (known s.scope from.place) source (is.places from.place) from.field is_copy.rep is_copy.there) r is_copy mark target.comps none
     making_kept (repeat from leaves) lawful means none =
-        comps_made names (counts.walking s from) has (RepAt (texts_at w.message w.scope from.place) from.field) (walking w from) (walked_on names s w has is from) true leaves lawful m number means target_names to line target lawful_field none r at
+        comps_made names (counts.walking s from) has (RepAt (texts_at w.message w.scope from.place) from.field) (walking w from) (walked_on names s w has is from) true leaves lawful m number means target_names to mark target lawful_field none r at
     making_kept (build leaves) lawful means none =
-        comps_made names s has (λ r. r ≡ 1) (λ r. w) (λ r e. is) false leaves lawful m number means target_names to line target lawful_field none r at
+        comps_made names s has (λ r. r ≡ 1) (λ r. w) (λ r e. is) false leaves lawful m number means target_names to mark target lawful_field none r at
 
   -- where nothing may come nothing is demanded, and nothing comes
   rule_kept : (target_names : List (List ℕ)) (to : ProfileValue) (target : FieldValue) → LawfulField target_names target → (o : Option Rule) → IfSome o (λ r. LawfulMaking r.making) → ((r c k : ℕ) → RuleMeans w o r c k (text_of m number r c k)) → content_failures s to target o ≡ [] → (r : ℕ) → RepAt m number r → (spot : List ℕ) → InAny (λ c. c.number) (CompBreach to m number r) target.comps spot → ⊥
   rule_kept target_names to target lawful_field None lawful means none r at spot b = text_there _ at.1.1 (means r at.0 at.1.0)
   rule_kept target_names to target lawful_field (Some rule) lawful means none r at spot b = by (is_never (making_count s rule.making).greatest) refl none
     where
-      by : (n : Bool) → is_never (making_count s rule.making).greatest ≡ n → (if n then [] else making_failures s to rule.line rule.making target) ≡ [] → ⊥
+      by : (n : Bool) → is_never (making_count s rule.making).greatest ≡ n → (if n then [] else making_failures s to (field_mark target.number rule.line) rule.making target) ≡ [] → ⊥
       by true e f = counted_never (RepAt m number) (making_count s rule.making) (making_counted rule.making lawful means) (never_is (making_count s rule.making) e) r at
-      by false e f = making_kept target_names to target lawful_field rule.line r at rule.making lawful means f spot b
+      by false e f = making_kept target_names to target lawful_field (field_mark target.number rule.line) r at rule.making lawful means f spot b
 
 -- ---- a field
 
@@ -109,21 +109,24 @@ within_most (Some top) most e = (top, refl, le_is top most e)
 
 module _ (to : ProfileValue) (m : Texts) (holder : ℕ) (i : Interval) (o : Option Rule) (target : FieldValue) (is : IsCounted (RepAt m target.number) i) (none : count_failures holder i target o ≡ []) (kept : (r : ℕ) → RepAt m target.number r → (spot : List ℕ) → InAny (λ c. c.number) (CompBreach to m target.number r) target.comps spot → ⊥) where
   field_unbroken : (spot : List ℕ) → FieldBreach to m target spot → ⊥
-  field_unbroken spot b = by (four_empty _ _ (fails 8 holder (is_expected target.usage && has_no_rule o)) (fails 11 (line_of_rule holder o) (is_forbidden target.usage && not (is_never i.greatest))) none) spot b
+  field_unbroken spot b = by (four_empty _ _ (fails 8 (counted i (field_mark target.number (line_of_rule holder o))) (is_expected target.usage && has_no_rule o)) (fails 11 (counted i (field_mark target.number (line_of_rule holder o))) (is_forbidden target.usage && not (is_never i.greatest))) none) spot b
     where
+      mark : Mark
+      mark = counted i (field_mark target.number (line_of_rule holder o))
+
       asked : (b c : Bool) → b ≡ false → not b && not c ≡ false → c ≡ true
       asked true c e f = absurd (cc)
       asked false true e f = refl
       asked false false e f = absurd (cc)
 
-      by : (fails 4 (line_of_rule holder o) (not (is_forbidden target.usage) && not (is_within i.greatest target.card.max)) ≡ []) × (fails 5 (line_of_rule holder o) (nat_lt i.least target.card.min) ≡ []) × (fails 8 holder (is_expected target.usage && has_no_rule o) ≡ []) × (fails 11 (line_of_rule holder o) (is_forbidden target.usage && not (is_never i.greatest)) ≡ []) → (spot : List ℕ) → FieldBreach to m target spot → ⊥
+      by : (fails 4 mark (not (is_forbidden target.usage) && not (is_within i.greatest target.card.max)) ≡ []) × (fails 5 mark (nat_lt i.least target.card.min) ≡ []) × (fails 8 mark (is_expected target.usage && has_no_rule o) ≡ []) × (fails 11 mark (is_forbidden target.usage && not (is_never i.greatest)) ≡ []) → (spot : List ℕ) → FieldBreach to m target spot → ⊥
       by parts spot (too_few {last = last} {count = count} u l c lt) =
-          let le = not_below i.least target.card.min (none_fails 5 (line_of_rule holder o) _ parts.1) in
+          let le = not_below i.least target.card.min (none_fails 5 mark _ parts.1) in
           is.enough last count l c (omega (arith, le, lt))
       by parts spot (field_forbidden u at) =
-          counted_never (RepAt m target.number) i is (never_is i (demanded (is_forbidden target.usage) _ (none_fails 11 (line_of_rule holder o) _ parts.3) u)) at.0 at.1
+          counted_never (RepAt m target.number) i is (never_is i (demanded (is_forbidden target.usage) _ (none_fails 11 mark _ parts.3) u)) at.0 at.1
       by parts spot (in_reps (in_rep {r = r} at (one_too_many {most = most} u e c))) =
-          let within : is_within i.greatest (Some most) ≡ true = sym (ap (is_within i.greatest) e) ∙ asked (is_forbidden target.usage) (is_within i.greatest target.card.max) u (none_fails 4 (line_of_rule holder o) _ parts.0) in
+          let within : is_within i.greatest (Some most) ≡ true = sym (ap (is_within i.greatest) e) ∙ asked (is_forbidden target.usage) (is_within i.greatest target.card.max) u (none_fails 4 mark _ parts.0) in
           let top = within_most i.greatest most within in
           is.limited top.0 r most top.1 at c top.2
       by parts spot (in_reps (in_rep {r = r} at (in_comp {spot = p} b))) = kept r at p b

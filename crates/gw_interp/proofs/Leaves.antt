@@ -201,14 +201,14 @@ look_found table v (b ∷ bytes) rowed is = by (is_null (b ∷ bytes)) refl
     by false f = let found = found_by table v (b ∷ bytes) rowed (is (λ e. cc) f) in (found.0, ap (λ n. if n then Some (b ∷ bytes) else given table (b ∷ bytes)) f ∙ found.1)
 
 module _ (names : List (List ℕ)) (s : Sources) (w : Walked) (has : HasTables names s.profile.tables) (is : IsWalked names s w) where
-  pub no_fault : (a : At) → lookup_failures s a ≡ [] → IsFault w a.leaf → ⊥
-  no_fault a none = by a.leaf none
+  pub no_fault : (field : ℕ) (a : At) → lookup_failures s field a ≡ [] → IsFault w a.leaf → ⊥
+  no_fault field a none = by a.leaf none
     where
-      rowed : (table : Rows) (source : Source) (o : Option (List ℕ)) → lookup_failures s (record a { leaf = looked_up (record { rows = table.rows; other = o }) source }) ≡ [] → o ≡ None → has_no_row table (source_shape s source).values ≡ false
-      rowed table source None none e = none_fails 10 a.line (has_no_row table (source_shape s source).values) none
+      rowed : (table : Rows) (source : Source) (o : Option (List ℕ)) → lookup_failures s field (record a { leaf = looked_up (record { rows = table.rows; other = o }) source }) ≡ [] → o ≡ None → has_no_row table (source_shape s source).values ≡ false
+      rowed table source None none e = none_fails 10 _ (has_no_row table (source_shape s source).values) none
       rowed table source (Some value) none e = absurd (cc)
 
-      by : (leaf : Leaf) → lookup_failures s (record a { leaf = leaf }) ≡ [] → IsFault w leaf → ⊥
+      by : (leaf : Leaf) → lookup_failures s field (record a { leaf = leaf }) ≡ [] → IsFault w leaf → ⊥
       by (const value) none fault = absurd fault
       by (copied source) none fault = absurd fault
       by (looked_up table source) none fault =
@@ -225,8 +225,8 @@ module _ (names : List (List ℕ)) (s : Sources) (w : Walked) (has : HasTables n
       by (copy from) none = tt
       by (first from) none = tt
       by (repeat from leaves) none = λ rep at.
-          all_as (λ (a : At). lookup_failures (counts.walking s from) a ≡ []) (λ (a : At). IsFault (walking w from rep) a.leaf → ⊥)
-          (λ a e. no_fault names (counts.walking s from) (walking w from rep) has (walked_on names s w has is from rep at) a e) leaves (each_empty (lookup_failures (counts.walking s from)) leaves none)
+          all_as (λ (a : At). lookup_failures (counts.walking s from) r.field a ≡ []) (λ (a : At). IsFault (walking w from rep) a.leaf → ⊥)
+          (λ a e. no_fault names (counts.walking s from) (walking w from rep) has (walked_on names s w has is from rep at) r.field a e) leaves (each_empty (lookup_failures (counts.walking s from) r.field) leaves none)
       by (build leaves) none =
-          all_as (λ (a : At). lookup_failures s a ≡ []) (λ (a : At). IsFault w a.leaf → ⊥)
-          (λ a e. no_fault names s w has is a e) leaves (each_empty (lookup_failures s) leaves none)
+          all_as (λ (a : At). lookup_failures s r.field a ≡ []) (λ (a : At). IsFault w a.leaf → ⊥)
+          (λ a e. no_fault names s w has is r.field a e) leaves (each_empty (lookup_failures s r.field) leaves none)

@@ -13,7 +13,7 @@ use Rattle.gw_resolve.specs.Intervals.{never, product}
 use Rattle.gw_resolve.specs.Places.{Element, a_segment, a_group, the_whole, Place, Found, times, child_found, found_below, found_in, found, child, nodes_of, nodes_of_child, fields_of, name_of, count_of, count_at, count_if, element_of, within, within_if}
 use Rattle.gw_resolve.specs.Resolved.{Rule, Items, no_items, segment_item, group_item, flat_item}
 use Rattle.gw_check.specs.Counts.{items_count}
-use Rattle.gw_resolve.specs.Failures.{fails}
+use Rattle.gw_resolve.specs.Failures.{Mark, fails}
 use Rattle.gw_check.specs.Fields.{segment_failures}
 use Rattle.gw_check.specs.Levels.{sources, level_failures, items_failures}
 use Rattle.gw_resolve.specs.Order.{is_segment, is_group, all_for, are_placed}
@@ -28,9 +28,9 @@ use Rattle.gw_interp.proofs.Splits.{both_true, three_true, four_true, nil_left, 
 
 -- ---- failures that there are none of
 
-pub none_broken : (rule line : ℕ) (b : Bool) → fails rule line b ≡ [] → b ≡ false
-none_broken rule line true e = absurd (cc)
-none_broken rule line false e = refl
+pub none_broken : (rule : ℕ) (mark : Mark) (b : Bool) → fails rule mark b ≡ [] → b ≡ false
+none_broken rule mark true e = absurd (cc)
+none_broken rule mark false e = refl
 
 -- ---- target nodes that keep what profiles keep
 

@@ -5,7 +5,7 @@ use Rattle.std.specs.List.{AllByRecursion, list_any, list_all}
 use Rattle.gw_profile.specs.WellFormed.{Rising}
 use Rattle.gw_profile.proofs.Facts.{both}
 use Rattle.gw_maplang.specs.Among.{Among, Distinct}
-use Rattle.gw_resolve.specs.Failures.{fails}
+use Rattle.gw_resolve.specs.Failures.{Mark, fails}
 
 -- ---- each element
 
@@ -76,9 +76,9 @@ rising_distinct low high (n ∷ ns) r = ((λ a. let le = above (suc n) high n ns
 
 -- ---- failures
 
-pub none_fails : (rule line : ℕ) (broken : Bool) → fails rule line broken ≡ [] → broken ≡ false
-none_fails rule line true e = absurd (cc)
-none_fails rule line false e = refl
+pub none_fails : (rule : ℕ) (mark : Mark) (broken : Bool) → fails rule mark broken ≡ [] → broken ≡ false
+none_fails rule mark true e = absurd (cc)
+none_fails rule mark false e = refl
 
 pub both_empty : {A : Type 0} (xs ys : List A) → xs ++ ys ≡ [] → (xs ≡ []) × (ys ≡ [])
 both_empty [] ys e = (refl, e)

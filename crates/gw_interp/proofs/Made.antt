@@ -17,8 +17,8 @@ use Rattle.gw_resolve.specs.Intervals.{Interval, never}
 use Rattle.gw_resolve.specs.Resolved.{Leaf, const, copied, looked_up, At, leaf_at}
 use Rattle.gw_check.specs.Leaves.{Sources, comp_of, sub_of, leaf_shape, is_always, is_absent, may_be_unlisted, may_be_long}
 use Rattle.gw_check.specs.Counts.{some_always, all_absent, leaves_count}
-use Rattle.gw_resolve.specs.Failures.{fails}
-use Rattle.gw_check.specs.Fields.{table_values, is_comp_sure, is_sub_sure, made_sub, made_comp, is_forbidden_comp, is_forbidden_sub, leaf_failures, placed, made_leaf, made_field}
+use Rattle.gw_resolve.specs.Failures.{Mark, fails}
+use Rattle.gw_check.specs.Fields.{comp_in, sub_in, leaf_mark, table_values, is_comp_sure, is_sub_sure, made_sub, made_comp, is_forbidden_comp, is_forbidden_sub, leaf_failures, placed, made_leaf, made_field}
 use Rattle.gw_resolve.specs.Lawful.{LawfulAt, LawfulLeaves, place}
 use Rattle.gw_interp.specs.Meaning.{Walked, LeafMeans, AtMeans, Where}
 use Rattle.gw_interp.proofs.Walks.{IsWalked}
@@ -61,10 +61,10 @@ pub sub_is : (leaves : List At) (c k : ℕ) (a : At) → leaf_at leaves c k ≡ 
 sub_is leaves c k a e = (Decides-eqb a.sub k).0 (facts.both (a.comp == c) (a.sub == k) (found_test (λ (b : At). b.comp == c && b.sub == k) leaves a e)).1
 
 -- a leaf that fits its subcomponent
-leaf_fit : (s : Sources) (profile : ProfileValue) (line : ℕ) (leaf : Leaf) (sub : SubValue) (text : List ℕ) → leaf_failures s profile line leaf sub ≡ [] → IsShaped (leaf_shape s leaf) text → (text ≡ [] → ⊥) → is_null text ≡ false → IsFit profile sub text
-leaf_fit s profile line (copied source) sub text none shaped some other = fit_values profile line (leaf_shape s (copied source)) sub text none shaped some other
-leaf_fit s profile line (looked_up table source) sub text none shaped some other = fit_values profile line (leaf_shape s (looked_up table source)) sub text none shaped some other
-leaf_fit s profile line (const value) sub text none shaped some other = by (shaped.values some other)
+leaf_fit : (s : Sources) (profile : ProfileValue) (mark : Mark) (leaf : Leaf) (sub : SubValue) (text : List ℕ) → leaf_failures s profile mark leaf sub ≡ [] → IsShaped (leaf_shape s leaf) text → (text ≡ [] → ⊥) → is_null text ≡ false → IsFit profile sub text
+leaf_fit s profile mark (copied source) sub text none shaped some other = fit_values profile mark (leaf_shape s (copied source)) sub text none shaped some other
+leaf_fit s profile mark (looked_up table source) sub text none shaped some other = fit_values profile mark (leaf_shape s (looked_up table source)) sub text none shaped some other
+leaf_fit s profile mark (const value) sub text none shaped some other = by (shaped.values some other)
   where
     allowed : (b : Bool) → is_null value ≡ false → not (is_null value) && b ≡ false → b ≡ false
     allowed b e f = subst (λ n. not n && b ≡ false) e f
@@ -73,7 +73,7 @@ leaf_fit s profile line (const value) sub text none shaped some other = by (shap
     by (inr h) = absurd h
     by (inl same) =
         let values = (leaf_shape s (const value)).values in
-        let p = neither (may_be_unlisted values (table_values profile.tables sub)) (may_be_long (len_count profile) values sub.len) (allowed _ (sym (ap is_null same) ∙ other) (none_fails 12 line _ none)) in
+        let p = neither (may_be_unlisted values (table_values profile.tables sub)) (may_be_long (len_count profile) values sub.len) (allowed _ (sym (ap is_null same) ∙ other) (none_fails 12 _ _ none)) in
         fit_of profile values sub text p.0 p.1 (shaped.values some other)
 
 module _ (names : List (List ℕ)) (s : Sources) (has : HasTables names s.profile.tables) (Here : ℕ → Type 0) (W : ℕ → Walked) (walked : (r : ℕ) → Here r → IsWalked names s (W r)) (repeated : Bool) (leaves : List At) (lawful : LawfulLeaves repeated leaves) (m : Texts) (number : ℕ) (means : (r c k : ℕ) → Where (Here r) (AtMeans (W r) (leaf_at leaves c k)) (text_of m number r c k)) where
@@ -132,9 +132,9 @@ module _ (names : List (List ℕ)) (s : Sources) (has : HasTables names s.profil
 
   -- ---- what it holds
 
-  module _ (profile : ProfileValue) (line : ℕ) (target : FieldValue) (unfailed : AllByRecursion (λ (a : At). made_leaf s profile target a ≡ []) leaves) (r : ℕ) where
-    parts_of : (c k : ℕ) (at : IsMade s Here leaves m number r c k) → (fails 11 at.at.line ((is_forbidden_comp (comp_of (Some target) at.at.comp) || is_forbidden_sub (sub_of (comp_of (Some target) at.at.comp) at.at.sub)) && not (is_absent (leaf_shape s at.at.leaf).presence)) ≡ []) × (placed s profile at.at.line at.at.leaf (sub_of (comp_of (Some target) at.at.comp) at.at.sub) ≡ [])
-    parts_of c k at = both_empty _ (placed s profile at.at.line at.at.leaf (sub_of (comp_of (Some target) at.at.comp) at.at.sub)) (found_all (λ (b : At). b.comp == c && b.sub == k) (λ (a : At). made_leaf s profile target a ≡ []) leaves at.at at.found unfailed)
+  module _ (profile : ProfileValue) (mark : Mark) (target : FieldValue) (unfailed : AllByRecursion (λ (a : At). made_leaf s profile target a ≡ []) leaves) (r : ℕ) where
+    parts_of : (c k : ℕ) (at : IsMade s Here leaves m number r c k) → (fails 11 (leaf_mark target.number at.at) ((is_forbidden_comp (comp_of (Some target) at.at.comp) || is_forbidden_sub (sub_of (comp_of (Some target) at.at.comp) at.at.sub)) && not (is_absent (leaf_shape s at.at.leaf).presence)) ≡ []) × (placed s profile (leaf_mark target.number at.at) at.at.leaf (sub_of (comp_of (Some target) at.at.comp) at.at.sub) ≡ [])
+    parts_of c k at = both_empty _ (placed s profile (leaf_mark target.number at.at) at.at.leaf (sub_of (comp_of (Some target) at.at.comp) at.at.sub)) (found_all (λ (b : At). b.comp == c && b.sub == k) (λ (a : At). made_leaf s profile target a ≡ []) leaves at.at at.found unfailed)
 
     -- where the component or subcomponent of a leaf is forbidden, the leaf is never there
     kept_out : (c k : ℕ) → 0 < length (text_of m number r c k) → is_forbidden_comp (comp_of (Some target) c) || is_forbidden_sub (sub_of (comp_of (Some target) c) k) ≡ true → ⊥
@@ -143,13 +143,13 @@ module _ (names : List (List ℕ)) (s : Sources) (has : HasTables names s.profil
         let comp = comp_is leaves c k at.at at.found in
         let sub = sub_is leaves c k at.at at.found in
         let asked : is_forbidden_comp (comp_of (Some target) at.at.comp) || is_forbidden_sub (sub_of (comp_of (Some target) at.at.comp) at.at.sub) ≡ true = ap (λ n. is_forbidden_comp (comp_of (Some target) n) || is_forbidden_sub (sub_of (comp_of (Some target) n) at.at.sub)) comp ∙ ap (λ n. is_forbidden_comp (comp_of (Some target) c) || is_forbidden_sub (sub_of (comp_of (Some target) c) n)) sub ∙ e in
-        gone_text r c k at.at at.shaped lt (demanded _ (is_absent (leaf_shape s at.at.leaf).presence) (none_fails 11 at.at.line _ (parts_of c k at).0) asked)
+        gone_text r c k at.at at.shaped lt (demanded _ (is_absent (leaf_shape s at.at.leaf).presence) (none_fails 11 (leaf_mark target.number at.at) _ (parts_of c k at).0) asked)
 
     fit_leaf : (c k : ℕ) (sub : SubValue) → sub_of (comp_of (Some target) c) k ≡ Some sub → (text_of m number r c k ≡ [] → ⊥) → is_null (text_of m number r c k) ≡ false → IsFit profile sub (text_of m number r c k)
     fit_leaf c k sub e some other =
         let at = made r c k (some_text _ some) in
         let here : sub_of (comp_of (Some target) at.at.comp) at.at.sub ≡ Some sub = ap (λ n. sub_of (comp_of (Some target) n) at.at.sub) (comp_is leaves c k at.at at.found) ∙ ap (sub_of (comp_of (Some target) c)) (sub_is leaves c k at.at at.found) ∙ e in
-        leaf_fit s profile at.at.line at.at.leaf sub (text_of m number r c k) (subst (λ o. placed s profile at.at.line at.at.leaf o ≡ []) here (parts_of c k at).1) at.shaped some other
+        leaf_fit s profile (leaf_mark target.number at.at) at.at.leaf sub (text_of m number r c k) (subst (λ o. placed s profile (leaf_mark target.number at.at) at.at.leaf o ≡ []) here (parts_of c k at).1) at.shaped some other
 
     -- a required component is there
     comp_sure : (c : ℕ) → RepAt m number r → is_comp_sure s leaves c ≡ true → CompAt m number r c
@@ -206,31 +206,31 @@ module _ (names : List (List ℕ)) (s : Sources) (has : HasTables names s.profil
             (either (not (is_made.at.comp == c) || is_made.at.sub == k) _
             (found_all (λ (b : At). b.comp == c && b.sub == there.0) (λ (a : At). not (a.comp == c) || a.sub == k || is_absent (leaf_shape s a.leaf).presence ≡ true) leaves is_made.at is_made.found (all_pass (λ (a : At). not (a.comp == c) || a.sub == k || is_absent (leaf_shape s a.leaf).presence) leaves all)))
 
-    sub_made : (c : CompValue) → comp_of (Some target) c.number ≡ Some c → CompAt m number r c.number → (sub : SubValue) → made_sub s line leaves c.number sub ≡ [] → sub_of (Some c) sub.number ≡ Some sub → (spot : List ℕ) → SubBreach profile sub (text_of m number r c.number sub.number) spot → ⊥
+    sub_made : (c : CompValue) → comp_of (Some target) c.number ≡ Some c → CompAt m number r c.number → (sub : SubValue) → made_sub s (comp_in mark c.number) leaves c.number sub ≡ [] → sub_of (Some c) sub.number ≡ Some sub → (spot : List ℕ) → SubBreach profile sub (text_of m number r c.number sub.number) spot → ⊥
     sub_made c ec there sub none es =
         let found : sub_of (comp_of (Some target) c.number) sub.number ≡ Some sub = ap (λ o. sub_of o sub.number) ec ∙ es in
         sub_unbroken profile sub (text_of m number r c.number sub.number)
-        (λ u. text_there _ (sub_sure c.number sub.number there (demanded (is_required sub.usage) _ (none_fails 5 line _ none) u)))
+        (λ u. text_there _ (sub_sure c.number sub.number there (demanded (is_required sub.usage) _ (none_fails 5 _ _ none) u)))
         (λ u. no_text _ (λ lt. kept_out c.number sub.number lt (facts.or_right (is_forbidden_comp (comp_of (Some target) c.number)) _ (ap is_forbidden_sub found ∙ u))))
         (fit_leaf c.number sub.number sub found)
 
-    comp_made : (target_names : List (List ℕ)) (c : CompValue) → RepAt m number r → LawfulComp target_names c → made_comp s line leaves c ≡ [] → comp_of (Some target) c.number ≡ Some c → (spot : List ℕ) → CompBreach profile m number r c spot → ⊥
-    comp_made target_names c rep lawful none ec = by (both_empty _ (flat_map (made_sub s line leaves c.number) c.subs) none)
+    comp_made : (target_names : List (List ℕ)) (c : CompValue) → RepAt m number r → LawfulComp target_names c → made_comp s mark leaves c ≡ [] → comp_of (Some target) c.number ≡ Some c → (spot : List ℕ) → CompBreach profile m number r c spot → ⊥
+    comp_made target_names c rep lawful none ec = by (both_empty _ (flat_map (made_sub s (comp_in mark c.number) leaves c.number) c.subs) none)
       where
-        by : (fails 5 line (is_required c.usage && not (is_comp_sure s leaves c.number)) ≡ []) × (flat_map (made_sub s line leaves c.number) c.subs ≡ []) → (spot : List ℕ) → CompBreach profile m number r c spot → ⊥
-        by parts spot (comp_absent u gone) = gone (comp_sure c.number rep (demanded (is_required c.usage) _ (none_fails 5 line _ parts.0) u))
+        by : (fails 5 (comp_in mark c.number) (is_required c.usage && not (is_comp_sure s leaves c.number)) ≡ []) × (flat_map (made_sub s (comp_in mark c.number) leaves c.number) c.subs ≡ []) → (spot : List ℕ) → CompBreach profile m number r c spot → ⊥
+        by parts spot (comp_absent u gone) = gone (comp_sure c.number rep (demanded (is_required c.usage) _ (none_fails 5 _ _ parts.0) u))
         by parts spot (comp_forbidden u at) = kept_out c.number at.0 at.1 (facts.or_left (is_forbidden_comp (comp_of (Some target) c.number)) _ (ap is_forbidden_comp ec ∙ u))
         by parts spot (in_sub at b) =
             none_broken (λ (t : SubValue). t.number) (λ (t : SubValue). SubBreach profile t (text_of m number r c.number t.number)) c.subs
-            (all_with (λ (t : SubValue). made_sub s line leaves c.number t ≡ []) (λ (t : SubValue). sub_of (Some c) t.number ≡ Some t) (λ (t : SubValue). (spot : List ℕ) → SubBreach profile t (text_of m number r c.number t.number) spot → ⊥)
-            (λ t e f. sub_made c ec at t e f) c.subs (each_empty (made_sub s line leaves c.number) c.subs parts.1) (found_by_number (λ (t : SubValue). t.number) 1 99 c.subs lawful.rising)) spot b
+            (all_with (λ (t : SubValue). made_sub s (comp_in mark c.number) leaves c.number t ≡ []) (λ (t : SubValue). sub_of (Some c) t.number ≡ Some t) (λ (t : SubValue). (spot : List ℕ) → SubBreach profile t (text_of m number r c.number t.number) spot → ⊥)
+            (λ t e f. sub_made c ec at t e f) c.subs (each_empty (made_sub s (comp_in mark c.number) leaves c.number) c.subs parts.1) (found_by_number (λ (t : SubValue). t.number) 1 99 c.subs lawful.rising)) spot b
 
   -- a repetition that is made breaks no component
-  pub comps_made : (target_names : List (List ℕ)) (profile : ProfileValue) (line : ℕ) (target : FieldValue) → LawfulField target_names target → made_field s profile line leaves target ≡ [] → (r : ℕ) → RepAt m number r → (spot : List ℕ) → InAny (λ c. c.number) (CompBreach profile m number r) target.comps spot → ⊥
-  comps_made target_names profile line target lawful none r rep =
-      let parts = both_empty (flat_map (made_comp s line leaves) target.comps) (flat_map (made_leaf s profile target) leaves) none in
+  pub comps_made : (target_names : List (List ℕ)) (profile : ProfileValue) (mark : Mark) (target : FieldValue) → LawfulField target_names target → made_field s profile mark leaves target ≡ [] → (r : ℕ) → RepAt m number r → (spot : List ℕ) → InAny (λ c. c.number) (CompBreach profile m number r) target.comps spot → ⊥
+  comps_made target_names profile mark target lawful none r rep =
+      let parts = both_empty (flat_map (made_comp s mark leaves) target.comps) (flat_map (made_leaf s profile target) leaves) none in
       let unfailed = each_empty (made_leaf s profile target) leaves parts.1 in
       none_broken (λ (c : CompValue). c.number) (CompBreach profile m number r) target.comps
-      (all_with (λ (c : CompValue). made_comp s line leaves c ≡ []) (λ (c : CompValue). LawfulComp target_names c × (comp_of (Some target) c.number ≡ Some c)) (λ (c : CompValue). (spot : List ℕ) → CompBreach profile m number r c spot → ⊥)
-      (λ c e f. comp_made profile line target unfailed r target_names c rep f.0 e f.1) target.comps (each_empty (made_comp s line leaves) target.comps parts.0)
+      (all_with (λ (c : CompValue). made_comp s mark leaves c ≡ []) (λ (c : CompValue). LawfulComp target_names c × (comp_of (Some target) c.number ≡ Some c)) (λ (c : CompValue). (spot : List ℕ) → CompBreach profile m number r c spot → ⊥)
+      (λ c e f. comp_made profile mark target unfailed r target_names c rep f.0 e f.1) target.comps (each_empty (made_comp s mark leaves) target.comps parts.0)
       (all_with (LawfulComp target_names) (λ (c : CompValue). comp_of (Some target) c.number ≡ Some c) (λ (c : CompValue). LawfulComp target_names c × (comp_of (Some target) c.number ≡ Some c)) (λ c a b. (a, b)) target.comps lawful.each (found_by_number (λ (c : CompValue). c.number) 1 99 target.comps lawful.rising)))

@@ -13,7 +13,7 @@ use Rattle.gw_profile.proofs.Facts.{not_of}
 use Rattle.gw_validate.specs.Breaches.{is_required, is_forbidden, is_long, lacks, is_unlisted, is_null}
 use Rattle.gw_check.specs.declared.shape.Presence.{Presence}
 use Rattle.gw_check.specs.declared.shape.Presence.TheVariants.{Always, Maybe, Never}
-use Rattle.gw_resolve.specs.Failures.{fails}
+use Rattle.gw_resolve.specs.Failures.{Mark, fails}
 use Rattle.gw_check.specs.Leaves as leaves
 use Rattle.gw_check.specs.Leaves.{Values, IsOf, Shape, is_always, is_absent, by_usage, may_be_unlisted, may_be_long}
 use Rattle.gw_check.specs.Fields.{table_values, value_failures}
@@ -96,10 +96,10 @@ fit_of profile v s text u l is =
     record { short = not_long (len_count profile) v s.len text l is; in_its_table = unlisted_is profile.tables s text ∙ in_table v (table_values profile.tables s) text u is }
 
 -- what may be there is kept to its table and length
-pub fit_values : (profile : ProfileValue) (line : ℕ) (shape : Shape) (s : SubValue) (text : List ℕ) → value_failures profile line shape s ≡ [] → IsShaped shape text → (text ≡ [] → ⊥) → is_null text ≡ false → IsFit profile s text
-fit_values profile line shape s text none is some other =
-    let parts = both_empty (fails 6 line (not (is_absent shape.presence) && may_be_unlisted shape.values (table_values profile.tables s))) (fails 7 line (not (is_absent shape.presence) && may_be_long (len_count profile) shape.values s.len)) none in
-    fit_of profile shape.values s text (allowed _ (none_fails 6 line _ parts.0)) (allowed _ (none_fails 7 line _ parts.1)) (is.values some other)
+pub fit_values : (profile : ProfileValue) (mark : Mark) (shape : Shape) (s : SubValue) (text : List ℕ) → value_failures profile mark shape s ≡ [] → IsShaped shape text → (text ≡ [] → ⊥) → is_null text ≡ false → IsFit profile s text
+fit_values profile mark shape s text none is some other =
+    let parts = both_empty (fails 6 mark (not (is_absent shape.presence) && may_be_unlisted shape.values (table_values profile.tables s))) (fails 7 mark (not (is_absent shape.presence) && may_be_long (len_count profile) shape.values s.len)) none in
+    fit_of profile shape.values s text (allowed _ (none_fails 6 mark _ parts.0)) (allowed _ (none_fails 7 mark _ parts.1)) (is.values some other)
   where
     by : (a b : Bool) → is_absent shape.presence ≡ a → not a && b ≡ false → b ≡ false
     by true b f g = absurd (some (is.absent f))

@@ -16,9 +16,9 @@ use Rattle.gw_resolve.specs.Intervals.{Interval, is_never, is_within}
 use Rattle.gw_resolve.specs.Places.{Element, a_segment, a_group, child, nodes_of_child}
 use Rattle.gw_resolve.specs.Resolved.{Rule, Items, no_items, segment_item, group_item, flat_item, first_child}
 use Rattle.gw_check.specs.Counts.{items_count}
-use Rattle.gw_resolve.specs.Failures.{fails}
-use Rattle.gw_check.specs.Fields.{is_expected}
-use Rattle.gw_check.specs.Levels.{its, beyond, first_line, has_no_item, node_failures, level_failures, items_failures}
+use Rattle.gw_resolve.specs.Failures.{Mark, fails}
+use Rattle.gw_check.specs.Fields.{counted, is_expected}
+use Rattle.gw_check.specs.Levels.{its, beyond, node_mark, has_no_item, node_failures, level_failures, items_failures}
 use Rattle.gw_resolve.specs.Order.{is_segment, is_group, follows, number_or, all_for, are_placed}
 use Rattle.gw_resolve.specs.Lawful.{LawfulItems}
 use Rattle.gw_interp.specs.Occurrences.{Occurrence}
@@ -62,15 +62,15 @@ record Counts (usage : Usage) (card : Card) (count : Interval) : Type 0 where
   not_fewer : nat_lt count.least card.min ≡ false
   not_forbidden : (is_forbidden usage && not (is_never count.greatest)) ≡ false
 
-counts_hold : (holder : ℕ) (usage : Usage) (card : Card) (count : Interval) (items : Items) → node_failures holder usage card count items ≡ [] → Counts usage card count
-counts_hold holder usage card count items none =
-    let line : ℕ = first_line holder items in
+counts_hold : (mark : Mark) (usage : Usage) (card : Card) (count : Interval) (items : Items) → node_failures mark usage card count items ≡ [] → Counts usage card count
+counts_hold mark usage card count items none =
+    let at : Mark = counted count mark in
     let most : Bool = not (is_forbidden usage) && not (is_within count.greatest card.max) in
     let fewer : Bool = nat_lt count.least card.min in
     let missing : Bool = is_expected usage && has_no_item items in
     let forbidden : Bool = is_forbidden usage && not (is_never count.greatest) in
-    let each = four_empty (fails 4 line most) (fails 5 line fewer) (fails 8 holder missing) (fails 11 line forbidden) none in
-    record { not_more = none_broken 4 line most each.0; not_fewer = none_broken 5 line fewer each.1; not_forbidden = none_broken 11 line forbidden each.3 }
+    let each = four_empty (fails 4 at most) (fails 5 at fewer) (fails 8 at missing) (fails 11 at forbidden) none in
+    record { not_more = none_broken 4 at most each.0; not_fewer = none_broken 5 at fewer each.1; not_forbidden = none_broken 11 at forbidden each.3 }
 
 module _ (P : List SegmentValue → Type 0) (card : Card) (count : Interval) (list : List SegmentValue) where
   most_given : (usage : Usage) → Agrees usage card → Counts usage card count → (g : Given P count list) → AtMost card.max g.count
@@ -80,9 +80,9 @@ module _ (P : List SegmentValue → Type 0) (card : Card) (count : Interval) (li
   most_given X a c g = subst (λ b. AtMost b g.count) (sym a.1) (never_means count.greatest g.count (not_not _ c.not_forbidden) g.few)
 
   -- as many as the cardinality allows
-  times_given : (holder : ℕ) (items : Items) (usage : Usage) → Agrees usage card → node_failures holder usage card count items ≡ [] → Given P count list → Times card.min card.max P list
-  times_given holder items usage a none g =
-      let c = counts_hold holder usage card count items none in
+  times_given : (mark : Mark) (items : Items) (usage : Usage) → Agrees usage card → node_failures mark usage card count items ≡ [] → Given P count list → Times card.min card.max P list
+  times_given mark items usage a none g =
+      let c = counts_hold mark usage card count items none in
       let low : card.min ≤ count.least = not_below count.least card.min c.not_fewer in
       (g.count, omega (arith, low, g.enough), most_given usage a c g, g.parts)
 
@@ -145,7 +145,7 @@ module _ (from to : ProfileValue) (from_names names : List (List ℕ)) (m : List
         front = cut.front;
         back = cut.back;
         joined = cut.joined;
-        here = times_given _ s.card (items_count es (its j items)) cut.front holder (its j items) s.usage lf.segments.0.agrees (nil_left _ _ lev) (subst (λ c. Given (Part from to from_names names m Image meets c) (items_count es (its j items)) cut.front) here given);
+        here = times_given _ s.card (items_count es (its j items)) cut.front (node_mark holder j (its j items)) (its j items) s.usage lf.segments.0.agrees (nil_left _ _ lev) (subst (λ c. Given (Part from to from_names names m Image meets c) (items_count es (its j items)) cut.front) here given);
         there = level_from rest (suc j) (beyond j items) groups.1 es os holder nodes cut.back h l (record { segments = lf.segments.1; groups = lf.groups }) (λ i. next nodes j i (rest_is (suc i))) laws.1 (placed_beyond nodes j items p) (nil_right _ _ lev) fails.1 cut.there;
       }
   level_from (group x below rest) j items inner es os holder nodes list h l lf rest_is li p lev f g =
@@ -160,7 +160,7 @@ module _ (from to : ProfileValue) (from_names names : List (List ℕ)) (m : List
         front = cut.front;
         back = cut.back;
         joined = cut.joined;
-        here = times_given _ x.card (items_count es (its j items)) cut.front holder (its j items) x.usage lf.groups.0.agrees (nil_left _ _ lev) (subst (λ c. Given (Part from to from_names names m Image meets c) (items_count es (its j items)) cut.front) here given);
+        here = times_given _ x.card (items_count es (its j items)) cut.front (node_mark holder j (its j items)) (its j items) x.usage lf.groups.0.agrees (nil_left _ _ lev) (subst (λ c. Given (Part from to from_names names m Image meets c) (items_count es (its j items)) cut.front) here given);
         there = level_from rest (suc j) (beyond j items) groups.1 es os holder nodes cut.back h l (record { segments = lf.segments.1; groups = lf.groups.2 }) (λ i. next nodes j i (rest_is (suc i))) laws.1 (placed_beyond nodes j items p) (nil_right _ _ lev) fails.1 cut.there;
       }
 

@@ -12,8 +12,8 @@ use Rattle.gw_maplang.specs.Shapes.{MapValue}
 use Rattle.gw_maplang.specs.Whole as map_texts
 use Rattle.gw_maplang.specs.Numbers as map_numbers
 use Rattle.gw_maplang.specs.declared.fault.MapFault as map_faults
-use Rattle.gw_resolve.specs.Failures.{Failure}
-use Rattle.gw_check.specs.Checked.{all_failures, least}
+use Rattle.gw_check.specs.Checked.{all_failures, least, Broken}
+use Rattle.gw_check.specs.Checked as checked
 use Rattle.gw_plan.specs.declared.fault.PlanFault.{PlanFault}
 use Rattle.gw_plan.specs.declared.fault.PlanFault.TheVariants.{Syntax, Profile, Map, Check, Duplicate, UnknownName}
 use Rattle.gw_plan.specs.declared.form.Kind.{Kind}
@@ -178,13 +178,13 @@ between profiles m = do
   Some (record { source = source; target = target; map = m })
 
 -- the least rule that fails, at its least line
-abbrev pub check_fault : Inner → Option Failure → Option PlanFault
-check_fault p failure = option_map (λ f. Check (p.at + f.line) f.rule) failure
+abbrev pub check_fault : Inner → Option Broken → Option PlanFault
+check_fault p least = option_map (λ b. Check (p.at + b.line) b.rule) least
 
 -- a map with its profiles, where they stand above; the faults beside it are those of its lines and of its head
 abbrev pub map_checked : Option PlanFault → Inner → MapValue → Option MapBetween → Result MapBetween PlanFault
 map_checked beside p m None = Err (earlier beside (UnknownName (p.at + m.line)))
-map_checked beside p m (Some b) = unless (earliest beside (check_fault p (least (all_failures b.source b.target m)))) b
+map_checked beside p m (Some b) = unless (earliest beside (check_fault p (option_map checked.broken (least (all_failures b.source b.target m))))) b
 
 abbrev pub checked_between : List ProfileValue → Option PlanFault → Inner → MapValue → Result MapBetween PlanFault
 checked_between profiles beside p m = map_checked beside p m (between profiles m)

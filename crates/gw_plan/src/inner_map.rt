@@ -6,11 +6,10 @@ ghost use Rattle.gw_lines.specs.Reading.{Gives};
 ghost use Rattle.gw_maplang.specs.Seen.{map_value};
 ghost use Rattle.gw_maplang.specs.Whole as maps;
 ghost use Rattle.gw_maplang.specs.declared.fault.MapFault.TheVariants as map_faults;
-ghost use Rattle.gw_resolve.specs.Seen.{failure};
 ghost use Rattle.gw_plan.specs.declared.fault.PlanFault.TheVariants as fault;
 ghost use Rattle.gw_plan.specs.Above.{profiles_of, maps_of, named_profile, IsNewMap};
 ghost use Rattle.gw_plan.specs.Inner as spec;
-ghost use Rattle.gw_plan.specs.own.Made.{inner, map_head, shared_map, lent_profile, with_found, IsNumbered, IsLasting, Spells, Checks, IsTaken};
+ghost use Rattle.gw_plan.specs.own.Made.{broken_rule, inner, map_head, shared_map, lent_profile, with_found, IsNumbered, IsLasting, Spells, Checks, IsTaken};
 
 use crate::above::Above;
 use crate::fault::PlanFault;
@@ -20,9 +19,15 @@ use crate::order::{earlier, earliest};
 use gw_check::{CheckFault, CheckedMap, check};
 use gw_maplang::{Map, MapFault, parse};
 use gw_profile::Profile;
-use gw_resolve::Failure;
 use std::alloc::{AllocError, Global};
 use std::sync::Arc;
+
+/// The least rule that fails, and its least line.
+#[derive(Clone, Copy, Drop)]
+struct Broken {
+    rule: u8,
+    line: u32,
+}
 
 // The line of a fault in its text, 0 where it has none.
 fn line_of(fault: MapFault) -> u64
@@ -52,9 +57,9 @@ fn wrapped(part: &Inner<'_, '_>, fault: MapFault) -> PlanFault
 }
 
 // The fault of a map that breaks a rule.
-fn rule_fault(part: &Inner<'_, '_>, broken: Failure) -> PlanFault
+fn rule_fault(part: &Inner<'_, '_>, broken: Broken) -> PlanFault
     requires { IsNumbered (inner part.now) }
-    ensures { Some result ≡ spec.check_fault (inner part.now) (Some (failure broken)) }
+    ensures { Some result ≡ spec.check_fault (inner part.now) (Some (broken_rule broken)) }
 {
     PlanFault::Check {
         line: part.at + u64::from(broken.line),
@@ -140,7 +145,7 @@ fn checked(
     source: &Arc<Profile>,
     target: &Arc<Profile>,
     map: Map,
-) -> Result<Result<CheckedMap, Failure>, AllocError>
+) -> Result<Result<CheckedMap, Broken>, AllocError>
     ensures { IfOk result (Checks (arc_value source.now) (arc_value target.now) map) }
 {
     let source = Arc::try_clone(source)?;
@@ -148,7 +153,7 @@ fn checked(
     match check(alloc, source, target, map) {
         Ok(checked) => Ok(Ok(checked)),
         Err(CheckFault::Memory(_)) => Err(AllocError),
-        Err(CheckFault::Rule { rule, line, .. }) => Ok(Err(Failure { rule, line })),
+        Err(CheckFault::Rule { rule, line, .. }) => Ok(Err(Broken { rule, line })),
     }
 }
 
@@ -170,7 +175,7 @@ fn with_sides(
         return Err(earlier(beside, PlanFault::UnknownName(line)));
     };
     match checked(alloc, source, target, map)? {
-        Err(failure) => Err(earlier(beside, rule_fault(part, failure))),
+        Err(broken) => Err(earlier(beside, rule_fault(part, broken))),
         Ok(checked) => match beside {
             Some(fault) => Err(fault),
             None => Ok(Arc::new(alloc, checked)?),

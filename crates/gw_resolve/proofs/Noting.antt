@@ -16,7 +16,7 @@ use Rattle.gw_maplang.proofs.Rows.{group_items, flat_items}
 use Rattle.gw_maplang.specs.Shapes.{Items, nothing}
 use Rattle.gw_maplang.specs.Seen.{path, items_all, with_item, row_items, all_items, rule}
 use Rattle.gw_resolve.specs.Places.{Element, within}
-use Rattle.gw_resolve.specs.Failures.{Failure, fails, or_later}
+use Rattle.gw_resolve.specs.Failures.{Failure, at_line, fails, or_later}
 use Rattle.gw_resolve.specs.own.Looking.{each_within}
 use Rattle.gw_resolve.specs.Naming.{but_last, place_of, place_or, walk_failures, ends_at_segment, is_single_place, walked_if, source_failures, rule_failures, path_failures}
 
@@ -118,7 +118,7 @@ named_all found p0 paths more t0 targets p d t a b e f g h =
 -- ---- the failures of one item
 
 abbrev led : ℕ → Bool → Bool → List Failure
-led line leads once = fails 1 line (not leads) ++ fails 2 line (not once)
+led line leads once = fails 1 (at_line line) (not leads) ++ fails 2 (at_line line) (not once)
 
 -- of a segment for each that is walked
 pub from_paths : (scope inner : List Element) (s : FromItem) (leads once : Bool) (p : List (Vec ℕ)) (rules : List Rule) → p ≡ s.path.items → rules ≡ s.rules.items

@@ -10,7 +10,7 @@ use Rattle.gw_maplang.specs.declared.item.Item.{Item, SegFrom, SegAlways, EachAs
 use Rattle.gw_maplang.specs.Shapes.{Items, nothing}
 use Rattle.gw_maplang.specs.Seen.{with_item, row_items, all_items}
 use Rattle.gw_maplang.proofs.Rows.{group_items, flat_items}
-use Rattle.gw_resolve.specs.Failures.{Failure, fails, or_later}
+use Rattle.gw_resolve.specs.Failures.{Failure, at_line, fails, or_later}
 use Rattle.gw_resolve.specs.Order.{is_segment, is_group}
 use Rattle.gw_resolve.specs.Places.{child, nodes_of_child}
 use Rattle.gw_profile.specs.Labels.{labelled}
@@ -46,8 +46,8 @@ targets_done nodes j xs i new whole le so_far =
 
 -- where the label is that of no node, what is within is hidden
 within_either : (nodes : Forest) (j line : ℕ) (n : Option ℕ) (items : Items)
-    → or_later (fails 3 line (not (is_group (option_and_then (child nodes) n))) ++ fails 3 line (nat_lt (unwrap_or n j) j)) (target_failures (nodes_of_child nodes (unwrap_or n 0)) 0 items)
-    ≡ or_later (fails 3 line (not (is_group (option_and_then (child nodes) n))) ++ fails 3 line (nat_lt (unwrap_or n j) j)) (target_failures (nodes_of_child nodes (unwrap_or n j)) 0 items)
+    → or_later (fails 3 (at_line line) (not (is_group (option_and_then (child nodes) n))) ++ fails 3 (at_line line) (nat_lt (unwrap_or n j) j)) (target_failures (nodes_of_child nodes (unwrap_or n 0)) 0 items)
+    ≡ or_later (fails 3 (at_line line) (not (is_group (option_and_then (child nodes) n))) ++ fails 3 (at_line line) (nat_lt (unwrap_or n j) j)) (target_failures (nodes_of_child nodes (unwrap_or n j)) 0 items)
 within_either nodes j line None items = refl
 within_either nodes j line (Some k) items = refl
 

@@ -9,7 +9,7 @@ use Rattle.gw_maplang.specs.Shapes.{MapValue, TableValue, Rows, table_of}
 use Rattle.gw_resolve.specs.Places.{Element, a_segment, a_group, the_whole, nodes_of, child, nodes_of_child, Place, found, element_of, within}
 use Rattle.gw_resolve.specs.Resolved.{Reference, Source, of_field, of_current, Leaf, const, copied, looked_up, At, Making, copy, first, repeat, build, Rule, Items, no_items, segment_item, group_item, flat_item, Drop, Resolved}
 use Rattle.gw_resolve.specs.Order.{is_segment, is_group}
-use Rattle.gw_resolve.specs.Failures.{Failure, fails, or_later}
+use Rattle.gw_resolve.specs.Failures.{Failure, at_line, fails, or_later}
 
 -- ---- labels
 
@@ -87,17 +87,17 @@ is_single_place scope part (Some place) = are_single (start_of scope place) (par
 -- of a path to what is walked, whose last step may come often
 abbrev pub walk_failures : List Element → ℕ → raw.Path → List Failure
 walk_failures scope line path =
-    fails 1 line (not (has_place (place_of scope path))) ++ fails 2 line (not (is_single_place scope but_last (place_of scope path)))
+    fails 1 (at_line line) (not (has_place (place_of scope path))) ++ fails 2 (at_line line) (not (is_single_place scope but_last (place_of scope path)))
 
 -- of a path to the segments that are walked
 abbrev pub segments_failures : List Element → ℕ → raw.Path → List Failure
 segments_failures scope line path =
-    fails 1 line (not (ends_at_segment scope (place_of scope path))) ++ fails 2 line (not (is_single_place scope but_last (place_of scope path)))
+    fails 1 (at_line line) (not (ends_at_segment scope (place_of scope path))) ++ fails 2 (at_line line) (not (is_single_place scope but_last (place_of scope path)))
 
 -- of a path to the one segment that is read
 abbrev pub read_failures : List Element → ℕ → raw.FieldPath → List Failure
 read_failures scope line from =
-    fails 1 line (not (ends_at_segment scope (place_of scope from.path))) ++ fails 2 line (not (is_single_place scope (λ steps. steps) (place_of scope from.path)))
+    fails 1 (at_line line) (not (ends_at_segment scope (place_of scope from.path))) ++ fails 2 (at_line line) (not (is_single_place scope (λ steps. steps) (place_of scope from.path)))
 
 abbrev pub ref_failures : List Element → ℕ → raw.Ref → List Failure
 ref_failures scope line (raw.Field from place) = read_failures scope line from
@@ -141,7 +141,7 @@ path_failures scope (raw.flat f items rest) =
 
 -- a drop leads to something, and to a segment where it names a field
 abbrev pub drop_failures : Element → raw.DropValue → List Failure
-drop_failures message d = fails 1 d.line (not (leads d.field (place_of (message ∷ []) d.path)))
+drop_failures message d = fails 1 (at_line d.line) (not (leads d.field (place_of (message ∷ []) d.path)))
   where
     leads : Option ℕ → Option Place → Bool
     leads None place = has_place place
@@ -171,11 +171,11 @@ first_or (label ∷ more) = label
 -- it is no segment, or no group, of these nodes, or comes behind one of a later node than its own
 abbrev pub label_failures : Forest → (Option Element → Bool) → ℕ → ℕ → List ℕ → List Failure
 label_failures nodes is_kind j line label =
-    fails 3 line (not (is_kind (option_and_then (child nodes) (labelled nodes label)))) ++ fails 3 line (nat_lt (node_or j nodes label) j)
+    fails 3 (at_line line) (not (is_kind (option_and_then (child nodes) (labelled nodes label)))) ++ fails 3 (at_line line) (nat_lt (node_or j nodes label) j)
 
 -- the items of a flat have different labels, or come behind one of a later node
 abbrev pub flat_failures : Forest → ℕ → ℕ → List (List ℕ) → List Failure
-flat_failures nodes j line labels = fails 3 line (not (are_one labels)) ++ fails 3 line (nat_lt (node_or j nodes (first_or labels)) j)
+flat_failures nodes j line labels = fails 3 (at_line line) (not (are_one labels)) ++ fails 3 (at_line line) (nat_lt (node_or j nodes (first_or labels)) j)
 
 -- items behind one of node j; one that fails hides what is within it
 abbrev pub target_failures : Forest → ℕ → raw.Items → List Failure

@@ -3,9 +3,10 @@ use Rattle.std.specs.Prelude.{ℕ, min, List, [], ◌∷◌, map, reverse, optio
 use Rattle.gw_profile.specs.Labels.{nodes_in}
 use Rattle.gw_profile.specs.Seen.{segment_value}
 use Rattle.gw_resolve.specs.declared.failure.Failure as failures_of
+use Rattle.gw_resolve.specs.declared.failure.Mark as marks
 use Rattle.gw_resolve.specs.declared.interval.Interval as intervals
 use Rattle.gw_resolve.specs.declared.element.Element as elements
-use Rattle.gw_resolve.specs.Failures.{Failure}
+use Rattle.gw_resolve.specs.Failures.{Mark, Failure}
 use Rattle.gw_resolve.specs.Intervals.{Interval}
 use Rattle.gw_resolve.specs.declared.resolved.Place as places
 use Rattle.gw_resolve.specs.declared.resolved.Reference as references
@@ -21,12 +22,6 @@ use Rattle.gw_resolve.specs.Naming.{no_rows}
 use Rattle.gw_resolve.specs.Places.{Element, a_segment, a_group, the_whole, Place}
 use Rattle.gw_resolve.specs.Resolved.{Reference, Source, of_field, of_current, Leaf, const, copied, looked_up, At, Making, copy, first, repeat, build, Rule, Items, no_items, segment_item, group_item, flat_item, Drop}
 
-abbrev pub failure : failures_of.Failure → Failure
-failure f = record { rule = f.rule; line = f.line }
-
-abbrev pub failures : List failures_of.Failure → List Failure
-failures = map failure
-
 -- ---- counts
 
 abbrev pub interval : intervals.Interval → Interval
@@ -39,6 +34,17 @@ cap = 4294967296
 -- numbers from the cap on are one
 abbrev pub saturated : Interval → Interval
 saturated i = record { least = min i.least cap; greatest = option_map (λ n. min n cap) i.greatest }
+
+-- ---- failures
+
+abbrev pub mark : marks.Mark → Mark
+mark m = record { line = m.line; child = m.child; field = m.field; comp = m.comp; sub = m.sub; count = option_map interval m.count }
+
+abbrev pub failure : failures_of.Failure → Failure
+failure f = record { rule = f.rule; mark = mark f.mark }
+
+abbrev pub failures : List failures_of.Failure → List Failure
+failures = map failure
 
 -- ---- elements
 

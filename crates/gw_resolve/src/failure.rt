@@ -1,24 +1,56 @@
 //! Failures of rules.
 ghost use Rattle.std.specs.Prelude.{◌≡◌, OnOk};
-ghost use Rattle.gw_resolve.specs.Failures.{fails};
+ghost use Rattle.gw_resolve.specs.Failures.{at_line, fails};
 ghost use Rattle.gw_resolve.specs.Noted.{Notes};
+ghost use Rattle.gw_resolve.specs.Seen.{mark as seen_mark};
 
+use crate::interval::Interval;
 use std::alloc::AllocError;
 
-/// The number of a rule, and the line at which the map breaks it.
+/// The line at which a map breaks a rule, and the part of the target that fails.
+#[derive(Clone, Copy, Drop)]
+pub struct Mark {
+    pub line: u32,
+    /// Of a node within what the line makes that nothing gives its number, from 0.
+    pub child: Option<usize>,
+    /// The number of a field of the segment, 0 where no part of the segment is meant.
+    pub field: u32,
+    /// The number of a component, 0 where the field is meant.
+    pub comp: u32,
+    /// The number of a subcomponent, 0 where the component is meant.
+    pub sub: u32,
+    /// How often it comes, where the rule fails by that; counts end at the cap.
+    pub count: Option<Interval>,
+}
+
+/// The number of a rule, and what breaks it.
 #[derive(Clone, Copy, Drop)]
 pub struct Failure {
     pub rule: u8,
-    pub line: u32,
+    pub mark: Mark,
 }
 
-/// Takes note of the rule's failure at the line, where it is broken. The one error is want of memory.
-pub fn note(found: &mut Vec<Failure>, rule: u8, line: u32, broken: bool) -> Result<(), AllocError>
-    ensures { OnOk result (Notes found.old found.new (fails rule line broken)) }
+/// All that a line makes. It takes no memory.
+pub fn at_line(line: u32) -> Mark
+    ensures { seen_mark result ≡ at_line line }
+{
+    Mark {
+        line,
+        child: None,
+        field: 0,
+        comp: 0,
+        sub: 0,
+        count: None,
+    }
+}
+
+/// Takes note of the rule's failure at the mark, where it is broken. The one error is want of memory.
+pub fn note(found: &mut Vec<Failure>, rule: u8, mark: Mark, broken: bool) -> Result<(), AllocError>
+    ensures { OnOk result (Notes found.old found.new (fails rule (seen_mark mark) broken)) }
 {
     if !broken {
         return Ok(());
     }
-    found.push(Failure { rule, line })?;
+    found.push(Failure { rule, mark })?;
     Ok(())
 }

@@ -3,7 +3,7 @@ ghost use Rattle.std.specs.Prelude.{◌≡◌, ◌++◌, not, IfOk, OnOk, Some};
 ghost use Rattle.gw_maplang.specs.Seen.{items_all};
 ghost use Rattle.gw_profile.specs.Labels.{nodes_in};
 ghost use Rattle.gw_profile.specs.Line.{allows};
-ghost use Rattle.gw_resolve.specs.Failures.{fails};
+ghost use Rattle.gw_resolve.specs.Failures.{at_line, fails};
 ghost use Rattle.gw_resolve.specs.own.Looking.{comes_often, place_there, all_steps};
 ghost use Rattle.gw_resolve.specs.Naming as spec;
 ghost use Rattle.gw_resolve.specs.Noted.{Notes};
@@ -12,7 +12,7 @@ ghost use Rattle.gw_resolve.specs.Places as places;
 ghost use Rattle.gw_resolve.specs.Seen.{element as seen, scope as walked, place as seen_place};
 
 use crate::element::{Element, child, element_at, nodes_of, nodes_of_child};
-use crate::failure::{Failure, note};
+use crate::failure::{Failure, at_line, note};
 use crate::paths::{or_itself, place_of};
 use crate::resolved::Place;
 use gw_profile::{Card, Level};
@@ -188,8 +188,8 @@ pub(crate) fn read_led(
 
 /// Takes note of a path that leads nowhere, or by steps that come often.
 pub(crate) fn note_led(found: &mut Vec<Failure>, line: u32, led: &Led) -> Result<(), AllocError>
-    ensures { OnOk result (Notes found.old found.new (fails 1 line (not led.now.leads) ++ fails 2 line (not led.now.once))) }
+    ensures { OnOk result (Notes found.old found.new (fails 1 (at_line line) (not led.now.leads) ++ fails 2 (at_line line) (not led.now.once))) }
 {
-    note(found, 1, line, !led.leads)?;
-    note(found, 2, line, !led.once)
+    note(found, 1, at_line(line), !led.leads)?;
+    note(found, 2, at_line(line), !led.once)
 }

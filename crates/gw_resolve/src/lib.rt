@@ -15,7 +15,7 @@ mod rules;
 mod targets;
 
 pub use element::{Element, Found, find, within};
-pub use failure::{Failure, note};
+pub use failure::{Failure, Mark, at_line, note};
 pub use interval::{CAP, Interval, any_number, never, once};
 pub use named::{Named, Resolving, resolve};
 pub use nodes::nodes_within;

@@ -10,7 +10,7 @@ ghost use Rattle.gw_resolve.specs.Outcome.{ResolvesBy};
 ghost use Rattle.gw_resolve.specs.Seen.{element as seen, scope as walked, failures, left_out};
 
 use crate::element::Element;
-use crate::failure::{Failure, note};
+use crate::failure::{Failure, at_line, note};
 use crate::items::resolve_items;
 use crate::led::ends_at_segment;
 use crate::lost::Lost;
@@ -57,7 +57,7 @@ fn left_out(
     let scope = [message];
     let place = place_of(alloc, &scope, &dropped.path)?;
     let there = leads(&scope, dropped.field, place.as_ref());
-    note(found, 1, dropped.line, !there)?;
+    note(found, 1, at_line(dropped.line), !there)?;
     let place = or_itself(alloc, place);
     Ok(LeftOut {
         steps: place.steps,

@@ -4,7 +4,7 @@ ghost use Rattle.std.specs.List.{list_all};
 ghost use Rattle.gw_maplang.specs.Seen.{now, with_item, all_items};
 ghost use Rattle.gw_maplang.specs.Shapes.{nothing};
 ghost use Rattle.gw_profile.specs.Labels.{nodes_in};
-ghost use Rattle.gw_resolve.specs.Failures.{fails};
+ghost use Rattle.gw_resolve.specs.Failures.{at_line, fails};
 ghost use Rattle.gw_resolve.specs.Naming as spec;
 ghost use Rattle.gw_resolve.specs.Noted.{Notes};
 ghost use Rattle.gw_resolve.specs.Order.{is_segment, is_group};
@@ -12,7 +12,7 @@ ghost use Rattle.gw_resolve.specs.Places as places;
 ghost use Rattle.gw_resolve.specs.Seen.{element as seen};
 
 use crate::element::{Element, child};
-use crate::failure::{Failure, note};
+use crate::failure::{Failure, at_line, note};
 use crate::paths::{labelled, same};
 use gw_maplang::Item;
 use gw_profile::Level;
@@ -149,10 +149,10 @@ fn note_target(
     j: usize,
     node: usize,
 ) -> Result<(), AllocError>
-    ensures { OnOk result (Notes found.old found.new (fails 3 line (not fits) ++ fails 3 line (nat_lt node j))) }
+    ensures { OnOk result (Notes found.old found.new (fails 3 (at_line line) (not fits) ++ fails 3 (at_line line) (nat_lt node j))) }
 {
-    note(found, 3, line, !fits)?;
-    note(found, 3, line, node < j)
+    note(found, 3, at_line(line), !fits)?;
+    note(found, 3, at_line(line), node < j)
 }
 
 /// The target node of a segment that comes behind one of node j.

@@ -34,7 +34,7 @@ fn found(alloc: Global, source: &str, target: &str, map: &str) -> Result<Vec<(u8
     };
     let mut found = Vec::new(alloc);
     for failure in &failures(alloc, &source, &target, &map)? {
-        found.push((failure.rule, failure.line))?;
+        found.push((failure.rule, failure.mark.line))?;
     }
     Ok(found)
 }

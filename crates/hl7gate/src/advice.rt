@@ -1,11 +1,10 @@
 //! What a person needs of a map that a rule refuses: the file and its line, what the rule demands, and what to do.
-use crate::elements::{Named, field_of, node_at, tell_name, usage_of};
+use crate::elements::{Named, tell_name};
 use crate::maps::Sides;
 use crate::subjects::Told;
 use gw_check::{FieldAt, Gap, gaps, unread};
 use gw_maplang::Map;
-use gw_profile::{Profile, Usage};
-use gw_resolve::Failure;
+use gw_resolve::{Failure, Mark, at_line};
 use gw_subjects::{Site, site_at, sites};
 use std::alloc::{AllocError, Global};
 use std::collections::BTreeSet;
@@ -46,6 +45,11 @@ pub(crate) struct Refusal<'a> {
     pub(crate) sides: &'a Sides,
     pub(crate) written: &'a Written<'a>,
     pub(crate) refused: &'a Refused,
+}
+
+/// Whether this rule fails at this line.
+fn is_at(failure: Failure, rule: u8, line: u32) -> bool {
+    failure.rule == rule && failure.mark.line == line
 }
 
 /// What a rule demands, and what to do.
@@ -144,19 +148,25 @@ fn missing(gap: &Gap) -> Named<'_> {
     }
 }
 
-/// Whether the target would have this where it can be had: then rule 8 fails of it, and else rule 5.
-fn is_expected(target: &Profile, gap: &Gap) -> bool {
-    let usage = match gap.field {
-        None => match node_at(target.nodes(), &gap.at) {
-            None => Usage::O,
-            Some(node) => usage_of(node),
-        },
-        Some(number) => match field_of(target, &gap.at, number) {
-            None => Usage::O,
-            Some(field) => field.usage,
-        },
-    };
-    usage == Usage::RE
+/// Whether a mark says this: a node of this number within what the line makes, or a field of that, which nothing gives.
+fn is_marked(gap: &Gap, mark: Mark) -> bool {
+    if gap.line != mark.line {
+        return false;
+    }
+    match gap.field {
+        None => mark.child.is_some() && mark.child == gap.at.last().copied(),
+        Some(field) => mark.child.is_none() && mark.field == field,
+    }
+}
+
+/// What nothing gives of which a mark speaks.
+fn gap_at(gaps: &[Gap], mark: Mark) -> Option<&Gap> {
+    for gap in gaps {
+        if is_marked(gap, mark) {
+            return Some(gap);
+        }
+    }
+    None
 }
 
 impl Refusal<'_> {
@@ -174,19 +184,6 @@ impl Refusal<'_> {
         })
     }
 
-    /// Whether this is what a failure speaks of.
-    fn is_missing(&self, gap: &Gap, failure: Failure) -> bool {
-        if gap.line != failure.line {
-            return false;
-        }
-        let rule = if is_expected(&self.sides.target, gap) {
-            8
-        } else {
-            5
-        };
-        failure.rule == rule
-    }
-
     /// Tells the fields that are passed over.
     fn tell_unread<E: Write>(&self, errors: &mut E, unread: &[FieldAt]) {
         for (i, field) in unread.iter().enumerate() {
@@ -198,11 +195,16 @@ impl Refusal<'_> {
         let _ = errors.write_all(b": neither read nor dropped");
     }
 
-    /// Tells what nothing gives of which a failure speaks. False where there is nothing.
+    /// Tells what nothing gives of which a failure speaks, with all of which the rule fails in the same way at the line. False where something gives it.
     fn tell_missing<E: Write>(&self, errors: &mut E, gaps: &[Gap], failure: Failure) -> bool {
+        if gap_at(gaps, failure.mark).is_none() {
+            return false;
+        }
         let mut any = false;
-        for gap in gaps {
-            if self.is_missing(gap, failure) {
+        for other in &self.refused.failures {
+            if is_at(*other, failure.rule, failure.mark.line)
+                && let Some(gap) = gap_at(gaps, other.mark)
+            {
                 if any {
                     let _ = errors.write_all(b", ");
                 }
@@ -210,10 +212,8 @@ impl Refusal<'_> {
                 tell_name(errors, &self.sides.target, missing(gap));
             }
         }
-        if any {
-            let _ = errors.write_all(b": no item and no rule gives it");
-        }
-        any
+        let _ = errors.write_all(b": no item and no rule gives it");
+        true
     }
 
     /// Tells what the line of a failure makes, and of what.
@@ -224,7 +224,7 @@ impl Refusal<'_> {
         sites: &[Site],
         failure: Failure,
     ) -> Result<(), AllocError> {
-        let Some(site) = site_at(sites, failure.line) else {
+        let Some(site) = site_at(sites, failure.mark.line) else {
             return Ok(());
         };
         let told = Told {
@@ -232,7 +232,7 @@ impl Refusal<'_> {
             map: &self.refused.map,
             site,
         };
-        told.tell(alloc, errors, failure.rule)
+        told.tell(alloc, errors, failure)
     }
 
     /// Tells what a failure speaks of.
@@ -257,6 +257,19 @@ impl Refusal<'_> {
         Ok(())
     }
 
+    /// The first failure of a rule at a line.
+    fn first_at(&self, rule: u8, line: u32) -> Failure {
+        for failure in &self.refused.failures {
+            if is_at(*failure, rule, line) {
+                return *failure;
+            }
+        }
+        Failure {
+            rule,
+            mark: at_line(line),
+        }
+    }
+
     /// The rules that fail as well, by their lines, each once at one line.
     fn others(&self, alloc: Global) -> Result<BTreeSet<(u32, u8)>, AllocError> {
         let mut others = BTreeSet::new(alloc);
@@ -266,8 +279,8 @@ impl Refusal<'_> {
             ..
         } = self.refused;
         for failure in failures {
-            if failure.rule != least.rule || failure.line != least.line {
-                others.insert((failure.line, failure.rule))?;
+            if !is_at(*failure, least.rule, least.mark.line) {
+                others.insert((failure.mark.line, failure.rule))?;
             }
         }
         Ok(others)
@@ -283,7 +296,8 @@ impl Refusal<'_> {
         text: &[u8],
     ) -> Result<(), AllocError> {
         let path = self.written.path;
-        let Failure { rule, line } = failure;
+        let rule = failure.rule;
+        let line = failure.mark.line;
         let _ = write!(errors, "{path}:{line}: K{rule}: ");
         if rule <= LAST_OF_LABELS {
             let _ = errors.write_all(first_line(text));
@@ -314,10 +328,7 @@ impl Refusal<'_> {
         for (line, rule) in &others {
             text = behind(text, line.saturating_sub(at));
             at = *line;
-            let failure = Failure {
-                rule: *rule,
-                line: *line,
-            };
+            let failure = self.first_at(*rule, *line);
             self.tell_other(alloc, errors, found, failure, text)?;
         }
         Ok(())
@@ -331,7 +342,8 @@ impl Refusal<'_> {
         found: &Found,
     ) -> Result<(), AllocError> {
         let Written { path, text } = self.written;
-        let Failure { rule, line } = self.refused.least;
+        let rule = self.refused.least.rule;
+        let line = self.refused.least.mark.line;
         let _ = write!(errors, "{path}:{line}: ");
         let _ = errors.write_all(line_at(text, line));
         let _ = errors.write_all(b"\n");

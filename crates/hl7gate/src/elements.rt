@@ -1,5 +1,6 @@
 //! Elements of a profile in the field's words: their names, how often they come, and what stands in them.
-use gw_profile::{Card, FieldShape, Node, Profile, Usage};
+use gw_profile::{Card, Node, Profile, Usage};
+use gw_resolve::Interval;
 use gw_subjects::{Spot, comp_at, field_at, sub_at};
 use std::io::Write;
 
@@ -22,7 +23,7 @@ pub(crate) fn element_of(spot: &Spot) -> Named<'_> {
     }
 }
 
-pub(crate) fn usage_of(node: &Node) -> Usage {
+fn usage_of(node: &Node) -> Usage {
     match node {
         Node::Seg(segment) => segment.usage,
         Node::Group(group) => group.usage,
@@ -100,6 +101,15 @@ fn tell_usage<E: Write>(errors: &mut E, usage: Usage, card: Option<Card>) {
     };
 }
 
+/// Tells how often something comes.
+pub(crate) fn tell_interval<E: Write>(errors: &mut E, count: Interval) {
+    let least = count.least;
+    let _ = match count.greatest {
+        None => write!(errors, "{least}..*"),
+        Some(most) => write!(errors, "{least}..{most}"),
+    };
+}
+
 /// Tells the name of a profile.
 pub(crate) fn tell_profile<E: Write>(errors: &mut E, profile: &Profile) {
     let _ = errors.write_all(b" in ");
@@ -139,23 +149,6 @@ pub(crate) fn node_at<'a>(nodes: &'a [Node], at: &[usize]) -> Option<&'a Node> {
         found = Some(node);
     }
     found
-}
-
-/// The field of this number in the segment to which the numbers lead.
-pub(crate) fn field_of<'a>(
-    profile: &'a Profile,
-    at: &[usize],
-    number: u32,
-) -> Option<&'a FieldShape> {
-    let Node::Seg(segment) = node_at(profile.nodes(), at)? else {
-        return None;
-    };
-    for field in &segment.fields {
-        if field.number == number {
-            return Some(field);
-        }
-    }
-    None
 }
 
 /// Tells how the node to which the numbers lead may come.

@@ -133,7 +133,8 @@ fn write_refusal<'a, O: Write, E: Write>(
     errors: &mut E,
 ) -> Result<(), Ended<'a>> {
     let found = refusal.found(alloc)?;
-    let Failure { rule, line } = refusal.refused.least;
+    let Failure { rule, mark } = refusal.refused.least;
+    let line = mark.line;
     let said = format!(in alloc; "refused K{rule} line {line}\n")?;
     write_all(output, said.as_bytes())?;
     refusal.tell(alloc, errors, &found)?;
@@ -238,7 +239,8 @@ fn tell_refusal<'a, E: Write>(
     errors: &mut E,
 ) -> Result<(), Ended<'a>> {
     let found = refusal.found(alloc)?;
-    let Failure { rule, line } = refusal.refused.least;
+    let Failure { rule, mark } = refusal.refused.least;
+    let line = mark.line;
     let _ = writeln!(errors, "refused K{rule} line {line}");
     refusal.tell(alloc, errors, &found)?;
     Ok(())

@@ -1,11 +1,13 @@
-//! What a failure of a map speaks of, in the field's words: the element of the target and that of the source, and what stands in their way.
+//! What a failure of a map speaks of, in the field's words: the part of the target that fails, what the source has for it, and what stands in their way.
 use crate::elements::{
-    element_of, node_at, tell_comp, tell_field, tell_name, tell_node, tell_profile, tell_sub,
+    element_of, node_at, tell_comp, tell_field, tell_interval, tell_name, tell_node, tell_profile,
+    tell_sub,
 };
 use crate::maps::Sides;
 use gw_maplang::Map;
-use gw_profile::{Card, Profile, SubShape, Usage};
-use gw_subjects::{Origin, Site, Spot, comp_at, field_at, sub_at, unlisted, unrowed};
+use gw_profile::{Profile, SubShape, Usage};
+use gw_resolve::{Failure, Mark};
+use gw_subjects::{Origin, Site, Spot, comp_at, sub_at, unlisted, unrowed};
 use std::alloc::{AllocError, Global};
 use std::io::Write;
 
@@ -17,6 +19,13 @@ pub(crate) struct Told<'a> {
     pub(crate) site: &'a Site,
 }
 
+/// The part of the target that fails, and what the source has for it, where the line reads anything.
+#[derive(Drop)]
+struct Parts {
+    target: Spot,
+    source: Option<Spot>,
+}
+
 /// What a line reads, where it reads anything.
 fn read_of(site: &Site) -> Option<&Spot> {
     match &site.origin {
@@ -26,42 +35,76 @@ fn read_of(site: &Site) -> Option<&Spot> {
     }
 }
 
-/// The field that a line copies, and the field of the source that it copies.
-fn copied(site: &Site) -> Option<(&Spot, &Spot)> {
+/// Whether a line copies a field: then each of its parts is that of the same numbers.
+fn is_copy(site: &Site) -> bool {
     match &site.origin {
-        Origin::Read(from) if site.target.field > 0 && site.target.comp == 0 => {
-            Some((&site.target, from))
-        }
-        _ => None,
+        Origin::Read(_) => site.target.field > 0 && site.target.comp == 0,
+        _ => false,
     }
+}
+
+/// A component and subcomponent of a field.
+fn part_of(
+    alloc: Global,
+    spot: &Spot,
+    field: u32,
+    comp: u32,
+    sub: u32,
+) -> Result<Spot, AllocError> {
+    let at = Vec::from_slice(alloc, &spot.at)?;
+    Ok(Spot {
+        at,
+        walked: spot.walked,
+        field,
+        comp,
+        sub,
+    })
+}
+
+/// What the source has for a part of what a line makes.
+fn source_of(alloc: Global, site: &Site, mark: Mark) -> Result<Option<Spot>, AllocError> {
+    let Some(from) = read_of(site) else {
+        return Ok(None);
+    };
+    let (comp, sub) = if is_copy(site) {
+        (mark.comp, mark.sub)
+    } else {
+        (from.comp, from.sub)
+    };
+    Ok(Some(part_of(alloc, from, from.field, comp, sub)?))
+}
+
+/// The part of what a line makes that a failure speaks of.
+fn parts_at(alloc: Global, site: &Site, mark: Mark) -> Result<Parts, AllocError> {
+    let target = part_of(alloc, &site.target, mark.field, mark.comp, mark.sub)?;
+    let source = source_of(alloc, site, mark)?;
+    Ok(Parts { target, source })
 }
 
 // ---- how often
 
 /// Whether a component is listed as always there.
-fn is_sure(profile: &Profile, spot: &Spot) -> bool {
+fn is_sure_comp(profile: &Profile, spot: &Spot) -> bool {
     match comp_at(profile, spot) {
         None => false,
         Some(comp) => comp.usage == Usage::R,
     }
 }
 
-/// Whether a node on the way to what is read is why the rule fails: by rule 4 it may come often, by rule 5 not at all.
-fn stands_out(rule: u8, card: Card) -> bool {
-    match rule {
-        4 => card.max != Some(1),
-        5 => card.min == 0,
-        _ => false,
+fn is_forbidden_comp(profile: &Profile, spot: &Spot) -> bool {
+    match comp_at(profile, spot) {
+        None => false,
+        Some(comp) => comp.usage == Usage::X,
     }
 }
 
-/// The first such node, among those that no item around the line walks.
-fn node_on_the_way<'a>(profile: &Profile, rule: u8, spot: &'a Spot) -> Option<&'a [usize]> {
+/// The first node on the way to what is read that may be absent, among those that no item around the line walks.
+fn absent_on_the_way<'a>(profile: &Profile, spot: &'a Spot) -> Option<&'a [usize]> {
     for (i, _number) in spot.at.iter().enumerate() {
         let at = &spot.at[..=i];
         if i >= spot.walked
             && let Some(node) = node_at(profile.nodes(), at)
-            && stands_out(rule, node.card())
+            && node.card().min == 0
         {
             return Some(at);
         }
@@ -69,45 +112,63 @@ fn node_on_the_way<'a>(profile: &Profile, rule: u8, spot: &'a Spot) -> Option<&'
     None
 }
 
-/// Tells how often an element of the source comes: by a node on the way, or by its component, where that is why the rule fails.
-fn tell_given<E: Write>(errors: &mut E, profile: &Profile, rule: u8, spot: &Spot) {
-    if let Some(at) = node_on_the_way(profile, rule, spot) {
-        tell_node(errors, profile, at);
-    } else if spot.field == 0 {
-        tell_node(errors, profile, &spot.at);
-    } else if spot.comp == 0 || is_sure(profile, spot) {
-        tell_field(errors, profile, spot);
-    } else {
-        tell_comp(errors, profile, spot);
-    }
-}
-
-/// Whether the target forbids a component of a field that it doesn't forbid.
-fn is_forbidden_within(profile: &Profile, spot: &Spot) -> bool {
-    match (field_at(profile, spot), comp_at(profile, spot)) {
-        (Some(field), Some(comp)) => field.usage != Usage::X && comp.usage == Usage::X,
-        _ => false,
-    }
-}
-
-/// Tells how often the target asks for an element.
-fn tell_asked<E: Write>(errors: &mut E, profile: &Profile, spot: &Spot) {
+/// Tells an element of a profile by its own numbers.
+fn tell_part<E: Write>(errors: &mut E, profile: &Profile, spot: &Spot) {
     if spot.field == 0 {
         tell_node(errors, profile, &spot.at);
-    } else if is_forbidden_within(profile, spot) {
+    } else if spot.comp == 0 {
+        tell_field(errors, profile, spot);
+    } else if spot.sub == 0 || is_forbidden_comp(profile, spot) {
         tell_comp(errors, profile, spot);
     } else {
+        tell_sub(errors, profile, spot);
+    }
+}
+
+/// Tells whether what is read is there: by its field, or by its component where that may be absent.
+fn tell_read<E: Write>(errors: &mut E, profile: &Profile, spot: &Spot) {
+    if spot.field > 0 && spot.comp > 0 && !is_sure_comp(profile, spot) {
+        tell_comp(errors, profile, spot);
+    } else if spot.field > 0 {
         tell_field(errors, profile, spot);
+    } else {
+        tell_node(errors, profile, &spot.at);
+    }
+}
+
+/// Tells why what is read may be absent: by a node on the way to it, where one may be, or by itself.
+fn tell_absent<E: Write>(errors: &mut E, profile: &Profile, spot: &Spot) {
+    match absent_on_the_way(profile, spot) {
+        Some(at) => tell_node(errors, profile, at),
+        None => tell_read(errors, profile, spot),
     }
 }
 
 impl Told<'_> {
-    /// Tells how often the target asks for what the line makes, and how often the source gives it.
-    fn tell_often<E: Write>(&self, errors: &mut E, rule: u8) {
-        tell_asked(errors, &self.sides.target, &self.site.target);
-        if let Some(from) = read_of(self.site) {
-            let _ = errors.write_all(b", and ");
-            tell_given(errors, &self.sides.source, rule, from);
+    /// Tells what the source has for a part of the target of which rule 5 or 11 fails.
+    fn tell_source<E: Write>(&self, errors: &mut E, rule: u8, mark: Mark, from: &Spot) {
+        let source = &self.sides.source;
+        let _ = errors.write_all(b", and ");
+        if is_copy(self.site) && mark.comp > 0 {
+            tell_part(errors, source, from);
+        } else if rule == 5 {
+            tell_absent(errors, source, from);
+        } else {
+            tell_read(errors, source, from);
+        }
+    }
+
+    /// Tells how often the target asks for a part of what the line makes, and what gives it.
+    fn tell_often<E: Write>(&self, errors: &mut E, failure: Failure, parts: &Parts) {
+        let Failure { rule, mark } = failure;
+        tell_part(errors, &self.sides.target, &parts.target);
+        if let (4, Some(count)) = (rule, mark.count) {
+            let _ = errors.write_all(b", and the map gives it ");
+            tell_interval(errors, count);
+        } else if rule == 5 && mark.comp > 0 && !is_copy(self.site) {
+            let _ = errors.write_all(b", and no leaf is always there for it");
+        } else if let Some(from) = &parts.source {
+            self.tell_source(errors, rule, mark, from);
         }
     }
 }
@@ -181,174 +242,7 @@ fn first_strange<'a>(sides: &'a Sides, from: &SubShape, to: &SubShape) -> Option
     unlisted(&sides.source, from, table)
 }
 
-// ---- an element of the source for one of the target
-
-/// A subcomponent of the target, and that of the source that is read for it.
-#[derive(Drop)]
-struct Pair {
-    target: Spot,
-    source: Spot,
-}
-
-/// A component and subcomponent of a field.
-fn part_of(alloc: Global, field: &Spot, comp: u32, sub: u32) -> Result<Spot, AllocError> {
-    let at = Vec::from_slice(alloc, &field.at)?;
-    Ok(Spot {
-        at,
-        walked: field.walked,
-        field: field.field,
-        comp,
-        sub,
-    })
-}
-
-/// Whether a text may be longer than the target takes.
-fn is_long(sides: &Sides, from: Option<&SubShape>, to: &SubShape) -> bool {
-    let Some(most) = to.len else {
-        return false;
-    };
-    let Some(from) = from else {
-        return true;
-    };
-    if from.table.is_some() {
-        return first_long(&sides.source, from, most).is_some();
-    }
-    match from.len {
-        None => true,
-        Some(len) => len > most,
-    }
-}
-
-/// Whether a text may be missing from the target's table.
-fn is_strange(sides: &Sides, from: Option<&SubShape>, to: &SubShape) -> bool {
-    if to.table.is_none() {
-        return false;
-    }
-    match from {
-        None => true,
-        Some(from) => from.table.is_none() || first_strange(sides, from, to).is_some(),
-    }
-}
-
-/// Whether a usage of the target isn't met: by rule 5 what is required, by rule 11 what is forbidden.
-fn is_unmet(rule: u8, from: Option<Usage>, to: Option<Usage>) -> bool {
-    let asked = if rule == 5 { Usage::R } else { Usage::X };
-    to == Some(asked) && from != Some(asked)
-}
-
-fn comp_usage(profile: &Profile, spot: &Spot) -> Option<Usage> {
-    let comp = comp_at(profile, spot)?;
-    Some(comp.usage)
-}
-
-/// Of a subcomponent, forbidden where its component is.
-fn sub_usage(profile: &Profile, spot: &Spot) -> Option<Usage> {
-    if comp_usage(profile, spot) == Some(Usage::X) {
-        return Some(Usage::X);
-    }
-    let sub = sub_at(profile, spot)?;
-    Some(sub.usage)
-}
-
-/// Whether rule 5 or 11 fails of the components of a pair.
-fn comps_fail(sides: &Sides, rule: u8, pair: &Pair) -> bool {
-    is_unmet(
-        rule,
-        comp_usage(&sides.source, &pair.source),
-        comp_usage(&sides.target, &pair.target),
-    )
-}
-
-/// Whether rule 5 or 11 fails of the subcomponents of a pair.
-fn subs_fail(sides: &Sides, rule: u8, pair: &Pair) -> bool {
-    let Some(to) = sub_at(&sides.target, &pair.target) else {
-        return false;
-    };
-    is_unmet(rule, sub_usage(&sides.source, &pair.source), Some(to.usage))
-}
-
-/// Whether a rule on texts, or on what stands within a field, fails of a pair.
-fn fails(sides: &Sides, rule: u8, pair: &Pair) -> bool {
-    if rule == 5 || rule == 11 {
-        return comps_fail(sides, rule, pair) || subs_fail(sides, rule, pair);
-    }
-    if sub_usage(&sides.source, &pair.source) == Some(Usage::X) {
-        return false;
-    }
-    let from = sub_at(&sides.source, &pair.source);
-    match sub_at(&sides.target, &pair.target) {
-        None => false,
-        Some(to) if rule == 6 => is_strange(sides, from, to),
-        Some(to) => is_long(sides, from, to),
-    }
-}
-
-/// A part of the target's field with that of the source's field of the same numbers, where the rule fails of it.
-fn failing_part(
-    alloc: Global,
-    sides: &Sides,
-    rule: u8,
-    fields: (&Spot, &Spot),
-    part: (u32, u32),
-) -> Result<Option<Pair>, AllocError> {
-    let (target, source) = fields;
-    let (comp, sub) = part;
-    let pair = Pair {
-        target: part_of(alloc, target, comp, sub)?,
-        source: part_of(alloc, source, comp, sub)?,
-    };
-    if fails(sides, rule, &pair) {
-        return Ok(Some(pair));
-    }
-    Ok(None)
-}
-
-/// The first part of a copied field of which the rule fails. A component that is forbidden lists no subcomponents.
-fn first_pair(
-    alloc: Global,
-    sides: &Sides,
-    rule: u8,
-    target: &Spot,
-    source: &Spot,
-) -> Result<Option<Pair>, AllocError> {
-    let Some(field) = field_at(&sides.target, target) else {
-        return Ok(None);
-    };
-    let fields = (target, source);
-    for comp in &field.comps {
-        if let Some(pair) = failing_part(alloc, sides, rule, fields, (comp.number, 1))? {
-            return Ok(Some(pair));
-        }
-        for sub in &comp.subs {
-            let part = (comp.number, sub.number);
-            if let Some(pair) = failing_part(alloc, sides, rule, fields, part)? {
-                return Ok(Some(pair));
-            }
-        }
-    }
-    Ok(None)
-}
-
-/// What a line makes of which the rule fails, and what it reads for it.
-fn pair_of(
-    alloc: Global,
-    sides: &Sides,
-    rule: u8,
-    site: &Site,
-) -> Result<Option<Pair>, AllocError> {
-    let Some(from) = read_of(site) else {
-        return Ok(None);
-    };
-    if let Some((target, from)) = copied(site) {
-        return first_pair(alloc, sides, rule, target, from);
-    }
-    let target = &site.target;
-    let pair = Pair {
-        target: part_of(alloc, target, target.comp, target.sub)?,
-        source: part_of(alloc, from, from.comp, from.sub)?,
-    };
-    Ok(Some(pair))
-}
+// ---- what stands in the way
 
 /// Tells a text that stands in the way.
 fn tell_text<E: Write>(errors: &mut E, text: &[u8], said: &str) {
@@ -369,16 +263,16 @@ impl Told<'_> {
     }
 
     /// Tells the table of the target and that of the source, and a text that only the source's has.
-    fn tell_strange<E: Write>(&self, errors: &mut E, pair: &Pair) {
+    fn tell_strange<E: Write>(&self, errors: &mut E, to: &Spot, from: &Spot) {
         let Sides { source, target } = self.sides;
-        tell_table(errors, target, &pair.target);
+        tell_table(errors, target, to);
         let _ = errors.write_all(b", and ");
-        tell_table(errors, source, &pair.source);
+        tell_table(errors, source, from);
         if self.tell_lookup(errors) {
             return;
         }
-        let to = sub_at(target, &pair.target);
-        let from = sub_at(source, &pair.source);
+        let to = sub_at(target, to);
+        let from = sub_at(source, from);
         if let (Some(to), Some(from)) = (to, from)
             && let Some(text) = first_strange(self.sides, from, to)
         {
@@ -387,16 +281,16 @@ impl Told<'_> {
     }
 
     /// Tells the length that the target takes, and that of the source.
-    fn tell_long<E: Write>(&self, errors: &mut E, pair: &Pair) {
+    fn tell_long<E: Write>(&self, errors: &mut E, to: &Spot, from: &Spot) {
         let Sides { source, target } = self.sides;
-        tell_length(errors, target, &pair.target);
+        tell_length(errors, target, to);
         let _ = errors.write_all(b", and ");
-        tell_length(errors, source, &pair.source);
+        tell_length(errors, source, from);
         if self.tell_lookup(errors) {
             return;
         }
-        let most = len_of(sub_at(target, &pair.target));
-        let from = sub_at(source, &pair.source);
+        let most = len_of(sub_at(target, to));
+        let from = sub_at(source, from);
         if let (Some(most), Some(from)) = (most, from)
             && let Some(text) = first_long(source, from, most)
         {
@@ -423,94 +317,49 @@ impl Told<'_> {
     }
 
     /// Tells a constant, and what the target takes.
-    fn tell_constant<E: Write>(&self, errors: &mut E) {
+    fn tell_constant<E: Write>(&self, errors: &mut E, to: &Spot) {
         let Origin::Text(text) = &self.site.origin else {
             return;
         };
         let target = &self.sides.target;
-        let len = len_of(sub_at(target, &self.site.target));
+        let len = len_of(sub_at(target, to));
         let count = text.len();
         match len {
             Some(most) if count as u64 > u64::from(most) => {
-                tell_length(errors, target, &self.site.target);
+                tell_length(errors, target, to);
                 let _ = write!(errors, ", and this has {count}");
             }
-            _ => tell_table(errors, target, &self.site.target),
+            _ => tell_table(errors, target, to),
         }
     }
 }
 
 impl Told<'_> {
-    /// Tells what the target asks for in a part of a copied field, and what the source has there.
-    fn tell_part<E: Write>(&self, errors: &mut E, rule: u8, pair: &Pair) {
-        let Sides { source, target } = self.sides;
-        if comps_fail(self.sides, rule, pair) {
-            tell_comp(errors, target, &pair.target);
-            let _ = errors.write_all(b", and ");
-            tell_comp(errors, source, &pair.source);
-        } else {
-            tell_sub(errors, target, &pair.target);
-            let _ = errors.write_all(b", and ");
-            tell_sub(errors, source, &pair.source);
-        }
-    }
-
-    /// Tells the first part of a copied field of which a rule on what stands within it fails. False where the field is none, or has all of it.
-    fn tell_within<E: Write>(
-        &self,
-        alloc: Global,
-        errors: &mut E,
-        rule: u8,
-    ) -> Result<bool, AllocError> {
-        if rule != 5 && rule != 11 {
-            return Ok(false);
-        }
-        let Some((to, from)) = copied(self.site) else {
-            return Ok(false);
-        };
-        match &first_pair(alloc, self.sides, rule, to, from)? {
-            None => Ok(false),
-            Some(pair) => {
-                self.tell_part(errors, rule, pair);
-                Ok(true)
-            }
-        }
-    }
-
     /// Tells the elements of which rule 6 or 7 fails.
-    fn tell_texts<E: Write>(
-        &self,
-        alloc: Global,
-        errors: &mut E,
-        rule: u8,
-    ) -> Result<(), AllocError> {
-        let Some(pair) = pair_of(alloc, self.sides, rule, self.site)? else {
-            return Ok(());
+    fn tell_texts<E: Write>(&self, errors: &mut E, rule: u8, parts: &Parts) {
+        let Some(from) = &parts.source else {
+            return;
         };
         if rule == 6 {
-            self.tell_strange(errors, &pair);
+            self.tell_strange(errors, &parts.target, from);
         } else {
-            self.tell_long(errors, &pair);
+            self.tell_long(errors, &parts.target, from);
         }
-        Ok(())
     }
 
-    /// Tells what the failure of a rule at the line speaks of.
+    /// Tells what a failure at the line speaks of.
     pub(crate) fn tell<E: Write>(
         &self,
         alloc: Global,
         errors: &mut E,
-        rule: u8,
+        failure: Failure,
     ) -> Result<(), AllocError> {
-        match rule {
-            6 | 7 => self.tell_texts(alloc, errors, rule)?,
+        let parts = parts_at(alloc, self.site, failure.mark)?;
+        match failure.rule {
+            6 | 7 => self.tell_texts(errors, failure.rule, &parts),
             10 => self.tell_unrowed(errors),
-            12 => self.tell_constant(errors),
-            _ => {
-                if !self.tell_within(alloc, errors, rule)? {
-                    self.tell_often(errors, rule);
-                }
-            }
+            12 => self.tell_constant(errors, &parts.target),
+            _ => self.tell_often(errors, failure, &parts),
         }
         Ok(())
     }

@@ -5,7 +5,8 @@ use Rattle.gw_profile.specs.Shapes.{SubValue, CompValue}
 use Rattle.gw_validate.specs.Breaches.{is_required}
 use Rattle.gw_check.specs.declared.made.There as declared
 use Rattle.gw_check.specs.declared.shape.Presence.{Presence}
-use Rattle.gw_resolve.specs.Failures.{Failure, fails}
+use Rattle.gw_resolve.specs.Failures.{Mark, Failure, fails}
+use Rattle.gw_check.specs.Fields.{comp_in, sub_in}
 use Rattle.gw_check.specs.Leaves.{Sources, leaf_shape, is_always, is_absent}
 use Rattle.gw_resolve.specs.Resolved.{At}
 
@@ -37,11 +38,11 @@ has_sub leaves comp sub = list_any (λ t. t.comp == comp && t.sub == sub && is_a
 abbrev pub has_only_sub : List There → ℕ → ℕ → Bool
 has_only_sub leaves comp sub = list_all (λ t. not (t.comp == comp) || t.sub == sub || is_absent t.presence) leaves
 
-abbrev pub sub_lacks : ℕ → List There → ℕ → SubValue → List Failure
-sub_lacks line leaves comp s = fails 5 line (is_required s.usage && not (has_sub leaves comp s.number || has_only_sub leaves comp s.number))
+abbrev pub sub_lacks : Mark → List There → ℕ → SubValue → List Failure
+sub_lacks mark leaves comp s = fails 5 (sub_in mark s.number) (is_required s.usage && not (has_sub leaves comp s.number || has_only_sub leaves comp s.number))
 
-abbrev pub comp_lacks : ℕ → List There → CompValue → List Failure
-comp_lacks line leaves c = fails 5 line (is_required c.usage && not (has_comp leaves c.number || has_only_comp leaves c.number))
+abbrev pub comp_lacks : Mark → List There → CompValue → List Failure
+comp_lacks mark leaves c = fails 5 mark (is_required c.usage && not (has_comp leaves c.number || has_only_comp leaves c.number))
 
-abbrev pub all_lacks : ℕ → List There → CompValue → List Failure
-all_lacks line leaves c = comp_lacks line leaves c ++ flat_map (sub_lacks line leaves c.number) c.subs
+abbrev pub all_lacks : Mark → List There → CompValue → List Failure
+all_lacks mark leaves c = comp_lacks (comp_in mark c.number) leaves c ++ flat_map (sub_lacks (comp_in mark c.number) leaves c.number) c.subs

@@ -1,5 +1,5 @@
 -- The failures and the reads of the definitions, of parts as the program holds them.
-use Rattle.std.specs.Prelude.{◌≡◌, Bool, ℕ, ◌&&◌, ◌||◌, not, List, [], ◌∷◌, ◌++◌, map, flat_map, Option, option_map}
+use Rattle.std.specs.Prelude.{◌≡◌, Bool, ℕ, ◌&&◌, ◌||◌, not, nat_lt, List, [], ◌∷◌, ◌++◌, map, flat_map, Option, option_map}
 use Rattle.std.specs.Global.{Vec}
 use denote.Ref.{Bor}
 use Rattle.gw_profile.specs.declared.shape.SubShape.{SubShape}
@@ -11,7 +11,7 @@ use Rattle.gw_profile.specs.Seen as profiles
 use Rattle.gw_profile.specs.Seen.{sub as sub_value, field as field_value, profile_value}
 use Rattle.gw_maplang.specs.Seen.{map_value}
 use Rattle.gw_maplang.specs.Shapes.{TableValue, Rows}
-use Rattle.gw_validate.specs.Breaches.{is_null}
+use Rattle.gw_validate.specs.Breaches.{is_forbidden, is_null}
 use Rattle.gw_resolve.specs.declared.interval.Interval as intervals
 use Rattle.gw_resolve.specs.declared.resolved.Reference.{Reference}
 use Rattle.gw_resolve.specs.declared.resolved.Source.{Source}
@@ -23,10 +23,12 @@ use Rattle.gw_resolve.specs.declared.resolved.SegmentItem.{SegmentItem}
 use Rattle.gw_resolve.specs.declared.resolved.Item.{Item}
 use Rattle.gw_resolve.specs.declared.resolved.LeftOut.{LeftOut}
 use Rattle.gw_resolve.specs.Failures.{Failure, fails}
-use Rattle.gw_resolve.specs.Intervals.{Interval}
+use Rattle.gw_resolve.specs.Failures.{Mark as Told}
+use Rattle.gw_resolve.specs.declared.failure.Mark.{Mark}
+use Rattle.gw_resolve.specs.Intervals.{Interval, is_never, is_within}
 use Rattle.gw_resolve.specs.Resolved as resolved
 use Rattle.gw_resolve.specs.Resolved.{no_items}
-use Rattle.gw_resolve.specs.Seen.{interval, saturated, place, reference, source, leaf, at_leaf, making, rule, with_item, all_items, left_out}
+use Rattle.gw_resolve.specs.Seen.{interval, saturated, mark, place, reference, source, leaf, at_leaf, making, rule, with_item, all_items, left_out}
 use Rattle.gw_check.specs.declared.inside.Sides.{Sides}
 use Rattle.gw_check.specs.declared.often.Asked.{Asked}
 use Rattle.gw_check.specs.declared.shape.Presence.{Presence}
@@ -47,17 +49,17 @@ use Rattle.gw_check.specs.Unread as unread
 -- ---- a subcomponent
 
 -- what can stand there has another value than the table's
-abbrev pub table_failures : profiles.Contents → ℕ → Presence → Texts → SubShape → List Failure
-table_failures to line presence texts sub = fails 6 line (not (is_absent presence) && may_be_unlisted (texts_value texts) (spec.table_values to.tables (sub_value sub)))
+abbrev pub table_failures : profiles.Contents → Mark → Presence → Texts → SubShape → List Failure
+table_failures to at presence texts sub = fails 6 (mark at) (not (is_absent presence) && may_be_unlisted (texts_value texts) (spec.table_values to.tables (sub_value sub)))
 
 -- it is too long
-abbrev pub length_failures : ℕ → Presence → Texts → SubShape → List Failure
-length_failures line presence texts sub = fails 7 line (not (is_absent presence) && may_be_long octets (texts_value texts) sub.len)
+abbrev pub length_failures : Mark → Presence → Texts → SubShape → List Failure
+length_failures at presence texts sub = fails 7 (mark at) (not (is_absent presence) && may_be_long octets (texts_value texts) sub.len)
 
 -- one of the two
-abbrev pub value_failures : profiles.Contents → ℕ → Presence → Texts → SubShape → List Failure
-value_failures to line presence texts sub =
-    spec.value_failures (profile_value to) line (record { presence = presence; values = texts_value texts }) (sub_value sub)
+abbrev pub value_failures : profiles.Contents → Mark → Presence → Texts → SubShape → List Failure
+value_failures to at presence texts sub =
+    spec.value_failures (profile_value to) (mark at) (record { presence = presence; values = texts_value texts }) (sub_value sub)
 
 -- a value may be missing from the table, or be too long
 abbrev pub may_break : profiles.Contents → Values → SubShape → Bool
@@ -67,51 +69,59 @@ may_break to values sub = may_be_unlisted values (spec.table_values to.tables (s
 
 -- of what is asked, where it comes so often
 abbrev pub often_failures : Asked → Interval → List Failure
-often_failures asked count = spec.often_failures asked.holder asked.line count asked.usage asked.card asked.is_missing
+often_failures asked count = spec.often_failures (mark asked.mark) count asked.usage asked.card asked.is_missing
+
+-- the same at a mark, by this count
+abbrev pub capped_failures : Told → Asked → Interval → List Failure
+capped_failures at asked count =
+    fails 4 at (not (is_forbidden asked.usage) && not (is_within count.greatest asked.card.max))
+    ++ fails 5 at (nat_lt count.least asked.card.min)
+    ++ fails 8 at (spec.is_expected asked.usage && asked.is_missing)
+    ++ fails 11 at (is_forbidden asked.usage && not (is_never count.greatest))
 
 -- ---- copied fields
 
 -- of a target subcomponent that is copied from this component
-abbrev pub copied_sub : profiles.Contents → profiles.Contents → ℕ → Option (Bor CompShape) → SubValue → List Failure
-copied_sub from to line c = spec.copied_sub (profile_value from) (profile_value to) line (some_comp c)
+abbrev pub copied_sub : profiles.Contents → profiles.Contents → Mark → Option (Bor CompShape) → SubValue → List Failure
+copied_sub from to at c = spec.copied_sub (profile_value from) (profile_value to) (mark at) (some_comp c)
 
 -- of a target component that is copied from this field
-abbrev pub copied_comp : profiles.Contents → profiles.Contents → ℕ → Option (Bor FieldShape) → CompValue → List Failure
-copied_comp from to line f = spec.copied_comp (profile_value from) (profile_value to) line (some_field f)
+abbrev pub copied_comp : profiles.Contents → profiles.Contents → Mark → Option (Bor FieldShape) → CompValue → List Failure
+copied_comp from to at f = spec.copied_comp (profile_value from) (profile_value to) (mark at) (some_field f)
 
 -- of a target field that is copied from this one
-abbrev pub copied_field : Sources → profiles.Contents → ℕ → Reference → FieldShape → List Failure
-copied_field s to line from target = spec.copied_field (sources_value s) (profile_value to) line (reference from) (field_value target)
+abbrev pub copied_field : Sources → profiles.Contents → Mark → Reference → FieldShape → List Failure
+copied_field s to at from target = spec.copied_field (sources_value s) (profile_value to) (mark at) (reference from) (field_value target)
 
 -- ---- fields made of leaves
 
 -- of a target component where these leaves are given
-abbrev pub made_comp : Sources → ℕ → List At → CompValue → List Failure
-made_comp s line leaves = spec.made_comp (sources_value s) line (leaves_value s leaves)
+abbrev pub made_comp : Sources → Mark → List At → CompValue → List Failure
+made_comp s at leaves = spec.made_comp (sources_value s) (mark at) (leaves_value s leaves)
 
 -- of a constant; "" is exempt
-abbrev pub const_failures : profiles.Contents → ℕ → List ℕ → SubShape → List Failure
-const_failures to line text sub = fails 12 line (not (is_null text) && may_break to (listed (text ∷ [])) sub)
+abbrev pub const_failures : profiles.Contents → Mark → List ℕ → SubShape → List Failure
+const_failures to at text sub = fails 12 (mark at) (not (is_null text) && may_break to (listed (text ∷ [])) sub)
 
 -- of what a leaf reads
-abbrev pub source_failures : Sources → profiles.Contents → ℕ → Leaf → SubShape → List Failure
-source_failures s to line l sub = spec.value_failures (profile_value to) line (leaf_shape (sources_value s) (leaf (map_tables s) l)) (sub_value sub)
+abbrev pub source_failures : Sources → profiles.Contents → Mark → Leaf → SubShape → List Failure
+source_failures s to at l sub = spec.value_failures (profile_value to) (mark at) (leaf_shape (sources_value s) (leaf (map_tables s) l)) (sub_value sub)
 
 -- of a leaf, also of a constant
-abbrev pub leaf_failures : Sources → profiles.Contents → ℕ → Leaf → SubShape → List Failure
-leaf_failures s to line l sub = spec.leaf_failures (sources_value s) (profile_value to) line (leaf (map_tables s) l) (sub_value sub)
+abbrev pub leaf_failures : Sources → profiles.Contents → Mark → Leaf → SubShape → List Failure
+leaf_failures s to at l sub = spec.leaf_failures (sources_value s) (profile_value to) (mark at) (leaf (map_tables s) l) (sub_value sub)
 
 -- of a leaf at a place that the target may list
-abbrev pub placed : Sources → profiles.Contents → At → Option (Bor SubShape) → List Failure
-placed s to a sub = spec.placed (sources_value s) (profile_value to) a.line (leaf (map_tables s) a.leaf) (some_sub sub)
+abbrev pub placed : Sources → profiles.Contents → Mark → Leaf → Option (Bor SubShape) → List Failure
+placed s to at l sub = spec.placed (sources_value s) (profile_value to) (mark at) (leaf (map_tables s) l) (some_sub sub)
 
 -- of a leaf at its place in this target field
 abbrev pub made_leaf : Sources → profiles.Contents → FieldShape → resolved.At → List Failure
 made_leaf s to target = spec.made_leaf (sources_value s) (profile_value to) (field_value target)
 
 -- of a target field
-abbrev pub made_field : Sources → profiles.Contents → ℕ → List At → FieldShape → List Failure
-made_field s to line leaves target = spec.made_field (sources_value s) (profile_value to) line (leaves_value s leaves) (field_value target)
+abbrev pub made_field : Sources → profiles.Contents → Mark → List At → FieldShape → List Failure
+made_field s to at leaves target = spec.made_field (sources_value s) (profile_value to) (mark at) (leaves_value s leaves) (field_value target)
 
 -- ---- a field
 
@@ -124,8 +134,8 @@ abbrev pub CountsRule : Sources → Option (Bor Rule) → intervals.Interval →
 CountsRule s r c = interval c ≡ saturated (rule_count s r)
 
 -- of what a rule makes
-abbrev pub making_failures : Sources → profiles.Contents → ℕ → Making → FieldShape → List Failure
-making_failures s to line m target = spec.making_failures (sources_value s) (profile_value to) line (making (map_tables s) m) (field_value target)
+abbrev pub making_failures : Sources → profiles.Contents → Mark → Making → FieldShape → List Failure
+making_failures s to at m target = spec.making_failures (sources_value s) (profile_value to) (mark at) (making (map_tables s) m) (field_value target)
 
 -- of what its rule gives, where it gives something
 abbrev pub content_failures : Sources → profiles.Contents → FieldShape → Option (Bor Rule) → List Failure
@@ -145,9 +155,9 @@ abbrev pub segment_failures : Sources → profiles.Contents → ℕ → List Rul
 segment_failures s to holder rules = spec.segment_failures (sources_value s) (profile_value to) holder (rules_value s rules)
 
 -- of a leaf that is looked up in these rows
-abbrev pub rows_failures : Sources → At → Option (Bor Rows) → Source → List Failure
-rows_failures s a rows from =
-    spec.lookup_failures (sources_value s) (record { line = a.line; comp = a.place.comp; sub = a.place.sub; leaf = resolved.looked_up (rows_value rows) (source from) })
+abbrev pub rows_failures : Sources → ℕ → At → Option (Bor Rows) → Source → List Failure
+rows_failures s field a rows from =
+    spec.lookup_failures (sources_value s) field (record { line = a.line; comp = a.place.comp; sub = a.place.sub; leaf = resolved.looked_up (rows_value rows) (source from) })
 
 -- ---- a map
 

@@ -1,6 +1,7 @@
 -- Inner texts and what is made of them, as the program holds them.
 use Rattle.std.specs.Prelude.{◌≡◌, ◌+◌, ◌<◌, ◌^◌, List, [], map, length, Some, Result, Ok, Err}
 use Rattle.std.specs.Arc.{arc_value}
+use Rattle.std.specs.Option.{option_map}
 use Rattle.std.specs.declared.alloc.Global.{Global}
 use Rattle.std.specs.declared.sync.Arc.{Arc}
 use denote.Ref.{Bor}
@@ -10,10 +11,9 @@ use Rattle.gw_profile.specs.Shapes.{ProfileValue}
 use Rattle.gw_maplang.specs.Seen as maps
 use Rattle.gw_maplang.specs.Seen.{map_value}
 use Rattle.gw_maplang.specs.Shapes.{MapValue}
-use Rattle.gw_resolve.specs.declared.failure.Failure as failures
+use Rattle.gw_plan.specs.declared.inner_map.Broken as declared_broken
 use Rattle.gw_check.specs.Kept.{CheckedValue}
-use Rattle.gw_check.specs.Checked.{all_failures, least}
-use Rattle.gw_resolve.specs.Seen.{failure}
+use Rattle.gw_check.specs.Checked.{all_failures, least, Broken, broken}
 use Rattle.gw_plan.specs.declared.inner.Inner as declared
 use Rattle.gw_plan.specs.declared.heads.MapHead as heads
 use Rattle.gw_plan.specs.Shapes.{MapBetween}
@@ -61,10 +61,13 @@ pub record IsCheckedSo (source target : profiles.Contents) (m : maps.Contents) (
   pub map_is : c.map ≡ m
   pub none_fails : all_failures (profile_value source) (profile_value target) (map_value m) ≡ []
 
--- the map, checked, or the least failure
-abbrev pub Checks : profiles.Contents → profiles.Contents → maps.Contents → Result CheckedValue failures.Failure → Type 0
+abbrev pub broken_rule : declared_broken.Broken → Broken
+broken_rule b = record { rule = b.rule; line = b.line }
+
+-- the map, checked, or the rule of the least failure, with its line
+abbrev pub Checks : profiles.Contents → profiles.Contents → maps.Contents → Result CheckedValue declared_broken.Broken → Type 0
 Checks source target m (Ok c) = IsCheckedSo source target m c
-Checks source target m (Err f) = least (all_failures (profile_value source) (profile_value target) (map_value m)) ≡ Some (failure f)
+Checks source target m (Err b) = option_map broken (least (all_failures (profile_value source) (profile_value target) (map_value m))) ≡ Some (broken_rule b)
 
 -- a map of a plan is this one, and begins at a profile that stands above
 pub record IsTaken (profiles : List ProfileValue) (m : maps.Contents) (c : CheckedValue) : Type 0 where

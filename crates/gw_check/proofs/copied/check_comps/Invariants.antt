@@ -3,10 +3,10 @@ use Rattle.std.specs.Prelude.{flat_map}
 use Rattle.gw_profile.specs.Seen.{comp, profile_value}
 use Rattle.gw_check.specs.Fields.{copied_comp}
 use Rattle.gw_check.specs.own.Uses.{some_field}
-use Rattle.gw_resolve.specs.Seen.{failures}
+use Rattle.gw_resolve.specs.Seen.{failures, mark}
 use Rattle.gw_check.proofs.copied.check_comps.Given as goal
 
 abbrev pub invariant-loop-comp : goal.invariant-loop-comp
 invariant-loop-comp l =
-    failures l.initial.found.items ++ (flat_map (copied_comp (profile_value l.source) (profile_value l.target) l.line (some_field l.from)) (map comp l.comps))
-    ≡ failures l.found.items ++ (flat_map (copied_comp (profile_value l.source) (profile_value l.target) l.line (some_field l.from)) (map comp (drop l.comp-index l.comps)))
+    failures l.initial.found.items ++ (flat_map (copied_comp (profile_value l.source) (profile_value l.target) (mark l.mark) (some_field l.from)) (map comp l.comps))
+    ≡ failures l.found.items ++ (flat_map (copied_comp (profile_value l.source) (profile_value l.target) (mark l.mark) (some_field l.from)) (map comp (drop l.comp-index l.comps)))

@@ -3,10 +3,10 @@ use Rattle.std.specs.Prelude.{flat_map}
 use Rattle.gw_profile.specs.Seen.{sub, profile_value}
 use Rattle.gw_check.specs.Fields.{copied_sub}
 use Rattle.gw_check.specs.own.Uses.{some_comp}
-use Rattle.gw_resolve.specs.Seen.{failures}
+use Rattle.gw_resolve.specs.Seen.{failures, mark}
 use Rattle.gw_check.proofs.copied.check_subs.Given as goal
 
 abbrev pub invariant-loop-sub : goal.invariant-loop-sub
 invariant-loop-sub l =
-    failures l.initial.found.items ++ (flat_map (copied_sub (profile_value l.source) (profile_value l.target) l.line (some_comp l.from)) (map sub l.subs))
-    ≡ failures l.found.items ++ (flat_map (copied_sub (profile_value l.source) (profile_value l.target) l.line (some_comp l.from)) (map sub (drop l.sub-index l.subs)))
+    failures l.initial.found.items ++ (flat_map (copied_sub (profile_value l.source) (profile_value l.target) (mark l.mark) (some_comp l.from)) (map sub l.subs))
+    ≡ failures l.found.items ++ (flat_map (copied_sub (profile_value l.source) (profile_value l.target) (mark l.mark) (some_comp l.from)) (map sub (drop l.sub-index l.subs)))

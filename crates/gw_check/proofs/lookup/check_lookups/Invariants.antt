@@ -7,5 +7,5 @@ use Rattle.gw_check.proofs.lookup.check_lookups.Given as goal
 
 abbrev pub invariant-loop-at : goal.invariant-loop-at
 invariant-loop-at l =
-    failures l.initial.found.items ++ (flat_map (lookup_failures (sources_value l.sources)) (map (at_leaf (map_tables l.sources)) l.leaves))
-    ≡ failures l.found.items ++ (flat_map (lookup_failures (sources_value l.sources)) (map (at_leaf (map_tables l.sources)) (drop l.at-index l.leaves)))
+    failures l.initial.found.items ++ (flat_map (lookup_failures (sources_value l.sources) l.field) (map (at_leaf (map_tables l.sources)) l.leaves))
+    ≡ failures l.found.items ++ (flat_map (lookup_failures (sources_value l.sources) l.field) (map (at_leaf (map_tables l.sources)) (drop l.at-index l.leaves)))

@@ -2,10 +2,10 @@ use Rattle.std.proofs.Common.{◌≡◌, ◌++◌, drop, map}
 use Rattle.std.specs.Prelude.{flat_map}
 use Rattle.gw_profile.specs.Seen.{sub}
 use Rattle.gw_check.specs.own.Lacking.{there_value, sub_lacks}
-use Rattle.gw_resolve.specs.Seen.{failures}
+use Rattle.gw_resolve.specs.Seen.{failures, mark}
 use Rattle.gw_check.proofs.made.check_subs.Given as goal
 
 abbrev pub invariant-loop-sub : goal.invariant-loop-sub
 invariant-loop-sub l =
-    failures l.initial.found.items ++ flat_map (sub_lacks l.line (map there_value l.leaves) l.comp) (map sub l.subs)
-    ≡ failures l.found.items ++ flat_map (sub_lacks l.line (map there_value l.leaves) l.comp) (map sub (drop l.sub-index l.subs))
+    failures l.initial.found.items ++ flat_map (sub_lacks (mark l.mark) (map there_value l.leaves) l.comp) (map sub l.subs)
+    ≡ failures l.found.items ++ flat_map (sub_lacks (mark l.mark) (map there_value l.leaves) l.comp) (map sub (drop l.sub-index l.subs))

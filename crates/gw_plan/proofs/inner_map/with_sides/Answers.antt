@@ -9,4 +9,4 @@ pub returns-in_ok-new-in-None-clause-taken : goal.returns-in_ok-new-in-None-clau
 returns-in_ok-new-in-None-clause-taken c =
     taken_so (profiles_of c.args.above.now) (arc_value c.in-Some.source.now) (arc_value c.in-Some.target.now) c.args.map c.in-Ok.checked
     (arc_value c.in_ok-new-in-None.field-0) c.in_ok-new-in-None.ensures.ok
-    (subst (λ r. Checks (arc_value c.in-Some.source.now) (arc_value c.in-Some.target.now) c.args.map r) c.in-Ok.is c.in_ok-failure.ensures) c.in-Some.ensures.source
+    (subst (λ r. Checks (arc_value c.in-Some.source.now) (arc_value c.in-Some.target.now) c.args.map r) c.in-Ok.is c.in_ok-broken.ensures) c.in-Some.ensures.source

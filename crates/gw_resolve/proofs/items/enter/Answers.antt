@@ -1,5 +1,5 @@
 use Rattle.std.proofs.Common.{ap, ◌∙◌, ◌++◌, not}
-use Rattle.gw_resolve.specs.Failures.{fails}
+use Rattle.gw_resolve.specs.Failures.{at_line, fails}
 use Rattle.gw_resolve.specs.Places.{within}
 use Rattle.gw_resolve.specs.Seen.{scope as walked, failures}
 use Rattle.gw_resolve.proofs.items.enter.Goals as goal
@@ -10,4 +10,4 @@ returns-clause-inner c = c.in_ok-inner.ensures ∙ ap (within (walked c.args.sco
 pub returns-clause-failures : goal.returns-clause-failures
 returns-clause-failures c =
     c.in_ok-note_led.ensures
-    ∙ (λ i. failures c.args.found.now.items ++ (fails 1 c.args.line (not (c.in_ok-led.ensures.leads i)) ++ fails 2 c.args.line (not (c.in_ok-led.ensures.once i))))
+    ∙ (λ i. failures c.args.found.now.items ++ (fails 1 (at_line c.args.line) (not (c.in_ok-led.ensures.leads i)) ++ fails 2 (at_line c.args.line) (not (c.in_ok-led.ensures.once i))))

@@ -1,6 +1,6 @@
 use Rattle.std.proofs.Common.{ap, ◌∙◌, ◌++◌, map, flat_map, not, refl}
 use Rattle.gw_maplang.specs.Seen as raw
-use Rattle.gw_resolve.specs.Failures.{fails}
+use Rattle.gw_resolve.specs.Failures.{at_line, fails}
 use Rattle.gw_resolve.specs.Naming as spec
 use Rattle.gw_resolve.specs.Places.{within}
 use Rattle.gw_resolve.specs.Seen.{scope as walked, failure, failures}
@@ -19,7 +19,7 @@ returns-clause-rules c = λ tables.
 pub returns-clause-failures : goal.returns-clause-failures
 returns-clause-failures c =
     let first = failures c.args.paths.now.items in
-    let own = fails 1 c.args.made.now.line (not c.in_ok-led.led.leads) ++ fails 2 c.args.made.now.line (not c.in_ok-led.led.once) in
+    let own = fails 1 (at_line c.args.made.now.line) (not c.in_ok-led.led.leads) ++ fails 2 (at_line c.args.made.now.line) (not c.in_ok-led.led.once) in
     let later = flat_map (spec.rule_failures (walked c.deref-2.result.now)) (map raw.rule c.deref-3.result.now) in
     c.hide.ensures first own later
     (as_many failure c.args.paths.now.items first _ (c.len-before.ensures ∙ c.args.paths.now.ok.0) refl)
