@@ -15,7 +15,7 @@ use std::vec::IntoIter;
 use thiserror::Error;
 
 /// Why events aren't replayed. The numbers are 1 and 2, in this order.
-#[derive(Clone, Copy, PartialEq, Eq, Debug, Error)]
+#[derive(Clone, Copy, Debug, Error)]
 pub enum ReplayFault {
     #[error("out of memory")]
     Memory,
