@@ -4,10 +4,10 @@ use crate::maps::Sides;
 use crate::subjects::Told;
 use gw_check::{FieldAt, Gap, gaps, unread};
 use gw_maplang::Map;
-use gw_resolve::{Failure, Mark, at_line};
+use gw_resolve::{Failure, Mark};
 use gw_subjects::{Site, site_at, sites};
 use std::alloc::{AllocError, Global};
-use std::collections::BTreeSet;
+use std::collections::BTreeMap;
 use std::io::Write;
 
 /// The rules up to this one are on labels: of them the line itself says what they speak of.
@@ -28,15 +28,27 @@ pub(crate) struct Refused {
     pub(crate) map: Map,
 }
 
+/// A line, the number of a node within what it makes, from 1, or 0 for none, and the number of a field, or 0.
+type Place = (u32, usize, u32);
+
+/// What the target asks for and the map says nothing of.
+#[derive(Drop)]
+struct Gaps {
+    all: Vec<Gap>,
+    /// Their numbers in the list, by what stands for them.
+    by_place: BTreeMap<Place, usize>,
+}
+
 /// What the failures of a map speak of.
 #[derive(Drop)]
 pub(crate) struct Found {
     /// The fields that the map passes over.
     unread: Vec<FieldAt>,
-    /// What the target asks for and the map says nothing of.
-    gaps: Vec<Gap>,
+    gaps: Gaps,
     /// What each line makes, and of what.
     sites: Vec<Site>,
+    /// The failures of each rule at each line, in the order of the definition.
+    alike: BTreeMap<(u32, u8), Vec<Failure>>,
 }
 
 /// A map that a rule refuses, with its text and its profiles.
@@ -45,11 +57,6 @@ pub(crate) struct Refusal<'a> {
     pub(crate) sides: &'a Sides,
     pub(crate) written: &'a Written<'a>,
     pub(crate) refused: &'a Refused,
-}
-
-/// Whether this rule fails at this line.
-fn is_at(failure: Failure, rule: u8, line: u32) -> bool {
-    failure.rule == rule && failure.mark.line == line
 }
 
 /// What a rule demands, and what to do.
@@ -148,25 +155,57 @@ fn missing(gap: &Gap) -> Named<'_> {
     }
 }
 
-/// Whether a mark says this: a node of this number within what the line makes, or a field of that, which nothing gives.
-fn is_marked(gap: &Gap, mark: Mark) -> bool {
-    if gap.line != mark.line {
-        return false;
-    }
-    match gap.field {
-        None => mark.child.is_some() && mark.child == gap.at.last().copied(),
-        Some(field) => mark.child.is_none() && mark.field == field,
+/// What stands for a gap: the node that nothing gives, or the field.
+fn place_of(gap: &Gap) -> Place {
+    match (gap.field, gap.at.last()) {
+        (None, Some(node)) => (gap.line, node.saturating_add(1), 0),
+        (None, None) => (gap.line, 0, 0),
+        (Some(field), _) => (gap.line, 0, field),
     }
 }
 
-/// What nothing gives of which a mark speaks.
-fn gap_at(gaps: &[Gap], mark: Mark) -> Option<&Gap> {
-    for gap in gaps {
-        if is_marked(gap, mark) {
-            return Some(gap);
+/// What stands for the part of the target that fails.
+fn marked(mark: Mark) -> Place {
+    match mark.child {
+        Some(node) => (mark.line, node.saturating_add(1), 0),
+        None => (mark.line, 0, mark.field),
+    }
+}
+
+/// The failures of each rule at each line, in the order of the definition.
+fn alike(
+    alloc: Global,
+    failures: &[Failure],
+) -> Result<BTreeMap<(u32, u8), Vec<Failure>>, AllocError> {
+    let mut alike: BTreeMap<(u32, u8), Vec<Failure>> = BTreeMap::new(alloc);
+    for failure in failures {
+        let key = (failure.mark.line, failure.rule);
+        match alike.get_mut(&key) {
+            Some(others) => others.push(*failure)?,
+            None => {
+                let mut first = Vec::new(alloc);
+                first.push(*failure)?;
+                alike.insert(key, first)?;
+            }
         }
     }
-    None
+    Ok(alike)
+}
+
+impl Gaps {
+    fn of(alloc: Global, all: Vec<Gap>) -> Result<Gaps, AllocError> {
+        let mut by_place = BTreeMap::new(alloc);
+        for (i, gap) in all.iter().enumerate() {
+            by_place.insert(place_of(gap), i)?;
+        }
+        Ok(Gaps { all, by_place })
+    }
+
+    /// What nothing gives of which a mark speaks.
+    fn at(&self, mark: Mark) -> Option<&Gap> {
+        let number = self.by_place.get(&marked(mark))?;
+        self.all.get(*number)
+    }
 }
 
 impl Refusal<'_> {
@@ -175,12 +214,14 @@ impl Refusal<'_> {
         let Sides { source, target } = self.sides;
         let map = &self.refused.map;
         let unread = unread(alloc, source, target, map)?;
-        let gaps = gaps(alloc, source, target, map)?;
+        let gaps = Gaps::of(alloc, gaps(alloc, source, target, map)?)?;
         let sites = sites(alloc, source, target, map)?;
+        let alike = alike(alloc, &self.refused.failures)?;
         Ok(Found {
             unread,
             gaps,
             sites,
+            alike,
         })
     }
 
@@ -196,15 +237,17 @@ impl Refusal<'_> {
     }
 
     /// Tells what nothing gives of which a failure speaks, with all of which the rule fails in the same way at the line. False where something gives it.
-    fn tell_missing<E: Write>(&self, errors: &mut E, gaps: &[Gap], failure: Failure) -> bool {
-        if gap_at(gaps, failure.mark).is_none() {
+    fn tell_missing<E: Write>(&self, errors: &mut E, found: &Found, failure: Failure) -> bool {
+        let Found { gaps, alike, .. } = found;
+        if gaps.at(failure.mark).is_none() {
             return false;
         }
+        let Some(others) = alike.get(&(failure.mark.line, failure.rule)) else {
+            return false;
+        };
         let mut any = false;
-        for other in &self.refused.failures {
-            if is_at(*other, failure.rule, failure.mark.line)
-                && let Some(gap) = gap_at(gaps, other.mark)
-            {
+        for other in others {
+            if let Some(gap) = gaps.at(other.mark) {
                 if any {
                     let _ = errors.write_all(b", ");
                 }
@@ -248,42 +291,13 @@ impl Refusal<'_> {
                 self.tell_unread(errors, &found.unread);
                 true
             }
-            5 | 8 => self.tell_missing(errors, &found.gaps, failure),
+            5 | 8 => self.tell_missing(errors, found, failure),
             _ => false,
         };
         if !is_told {
             self.tell_made(alloc, errors, &found.sites, failure)?;
         }
         Ok(())
-    }
-
-    /// The first failure of a rule at a line.
-    fn first_at(&self, rule: u8, line: u32) -> Failure {
-        for failure in &self.refused.failures {
-            if is_at(*failure, rule, line) {
-                return *failure;
-            }
-        }
-        Failure {
-            rule,
-            mark: at_line(line),
-        }
-    }
-
-    /// The rules that fail as well, by their lines, each once at one line.
-    fn others(&self, alloc: Global) -> Result<BTreeSet<(u32, u8)>, AllocError> {
-        let mut others = BTreeSet::new(alloc);
-        let Refused {
-            least,
-            failures,
-            ..
-        } = self.refused;
-        for failure in failures {
-            if !is_at(*failure, least.rule, least.mark.line) {
-                others.insert((failure.mark.line, failure.rule))?;
-            }
-        }
-        Ok(others)
     }
 
     /// Tells a rule that fails as well, at the line that stands first in the text: of a label the line itself, and what the rule demands.
@@ -317,19 +331,22 @@ impl Refusal<'_> {
         errors: &mut E,
         found: &Found,
     ) -> Result<(), AllocError> {
-        let others = self.others(alloc)?;
-        if others.is_empty() {
+        let least = self.refused.least;
+        let more = found.alike.len().saturating_sub(1);
+        if more == 0 {
             return Ok(());
         }
-        let more = others.len();
         let _ = writeln!(errors, "and {more} more:");
         let mut text = self.written.text.as_slice();
         let mut at = 1;
-        for (line, rule) in &others {
+        for ((line, rule), failures) in &found.alike {
             text = behind(text, line.saturating_sub(at));
             at = *line;
-            let failure = self.first_at(*rule, *line);
-            self.tell_other(alloc, errors, found, failure, text)?;
+            if let Some(failure) = failures.first()
+                && (*line, *rule) != (least.mark.line, least.rule)
+            {
+                self.tell_other(alloc, errors, found, *failure, text)?;
+            }
         }
         Ok(())
     }
