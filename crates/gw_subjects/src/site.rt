@@ -27,9 +27,19 @@ pub enum Origin {
 }
 
 /// The element of the target that a line makes, and of what.
-#[derive(Drop)]
 pub struct Site {
     pub line: u32,
     pub target: Spot,
     pub origin: Origin,
+}
+
+// (by hand: so no crate above proves again how what lies in it is let go)
+impl Drop for Site {
+    fn drop(self) {
+        let Site {
+            line: _,
+            target: _,
+            origin: _,
+        } = self;
+    }
 }
