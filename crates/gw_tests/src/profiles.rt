@@ -25,12 +25,11 @@ const TEXTS: [(&[u8], bool); 4] = [
 #[test]
 fn values(rt: HostRuntime) -> Result<(), Fail> {
     let profile = parse(rt.alloc(), TEXTS[0].0)?;
-    assert_eq!(rt; profile.name(), b"A".as_slice());
-    assert_eq!(rt; (profile.nodes().len(), profile.tables().len()), (1, 1));
+    assert!(rt; profile.name() == b"A".as_slice());
+    assert!(rt; profile.nodes().len() == 1 && profile.tables().len() == 1);
     assert!(rt; profile.knows(*b"MSH") && !profile.knows(*b"PID"));
     let table = profile.table(b"T").ok_or("T")?;
-    assert!(rt; table.contains(b"a") && !table.contains(b"b"));
-    assert_eq!(rt; table.values().len(), 1);
+    assert!(rt; table.contains(b"a") && !table.contains(b"b") && table.values().len() == 1);
     Ok(())
 }
 

@@ -10,62 +10,72 @@ pub(crate) fn process_words<R: Env + AllocGlobal>(rt: &R) -> io::Result<Vec<Stri
     Ok(words)
 }
 
-/// `[--stamp DIGITS]`.
-fn stamp<'a>(alloc: Global) -> Arg<'a> {
-    Arg::new(alloc, "stamp")
-        .long("stamp")
-        .value_name("DIGITS")
-        .help("The time stamp of the answers, YYYYMMDDHHMMSS [default: now, in UTC]")
-        .action(ArgAction::Set)
+/// A command: its name, what it does, the words that it needs, each with its help, and whether it takes a time stamp.
+#[derive(Clone, Copy)]
+struct Form {
+    name: &'static str,
+    about: &'static str,
+    words: &'static [(&'static str, &'static str)],
+    is_stamped: bool,
 }
 
-/// `validate PROFILE [--stamp DIGITS]`.
-fn validate<'a>(alloc: Global) -> Result<Command<'a>, AllocError> {
-    let profile = file(alloc, "PROFILE", "The file of the message profile");
-    Command::new(alloc, "validate")
-        .about("Answers each message of a stream on standard input (MLLP) by a profile")
-        .arg(profile)?
-        .arg(stamp(alloc))
-}
+/// What `check` and `translate` need.
+const ON_MAP: &[(&str, &str)] = &[
+    ("SOURCE", "The file of the sender's message profile"),
+    ("TARGET", "The file of the receiver's message profile"),
+    ("MAP", "The file of the map"),
+];
 
-/// `run PLAN FOLDER [--stamp DIGITS]`.
-fn run<'a>(alloc: Global) -> Result<Command<'a>, AllocError> {
-    Command::new(alloc, "run")
-        .about(
-            "Answers each message of a stream on standard input (MLLP) by a plan, and writes what each receiver is sent to FOLDER/NAME.mllp",
-        )
-        .arg(file(alloc, "PLAN", "The file of the plan"))?
-        .arg(file(
-            alloc,
-            "FOLDER",
-            "The folder in which a file is made anew for each receiver",
-        ))?
-        .arg(stamp(alloc))
-}
-
-/// `serve PLAN ADDRESS SESSIONS WORKERS`.
-fn serve<'a>(alloc: Global) -> Result<Command<'a>, AllocError> {
-    Command::new(alloc, "serve")
-        .about(
-            "Answers the messages of so many connections (MLLP) by a plan, and sends each receiver of the plan what it is due; each line on standard input is the file of a plan that takes its place",
-        )
-        .arg(file(alloc, "PLAN", "The file of the plan"))?
-        .arg(file(
-            alloc,
-            "ADDRESS",
-            "The address to listen on, HOST:PORT; port 0 is any that is free",
-        ))?
-        .arg(file(
-            alloc,
-            "SESSIONS",
-            "How many connections are taken in all, from 1 to 1000",
-        ))?
-        .arg(file(
-            alloc,
-            "WORKERS",
-            "How many threads translate, from 1 to 1000",
-        ))
-}
+/// All commands, in the order in which the help lists them.
+const FORMS: [Form; 5] = [
+    Form {
+        name: "validate",
+        about: "Answers each message of a stream on standard input (MLLP) by a profile",
+        words: &[("PROFILE", "The file of the message profile")],
+        is_stamped: true,
+    },
+    Form {
+        name: "check",
+        about: "Tells whether the rules allow a map: whether each message that conforms to SOURCE has a translation that conforms to TARGET",
+        words: ON_MAP,
+        is_stamped: false,
+    },
+    Form {
+        name: "translate",
+        about: "Translates the message on standard input, which has no frame, by a map that the rules allow",
+        words: ON_MAP,
+        is_stamped: false,
+    },
+    Form {
+        name: "run",
+        about: "Answers each message of a stream on standard input (MLLP) by a plan, and writes what each receiver is sent to FOLDER/NAME.mllp",
+        words: &[
+            ("PLAN", "The file of the plan"),
+            (
+                "FOLDER",
+                "The folder in which a file is made anew for each receiver",
+            ),
+        ],
+        is_stamped: true,
+    },
+    Form {
+        name: "serve",
+        about: "Answers the messages of so many connections (MLLP) by a plan, and sends each receiver of the plan what it is due; each line on standard input is the file of a plan that takes its place",
+        words: &[
+            ("PLAN", "The file of the plan"),
+            (
+                "ADDRESS",
+                "The address to listen on, HOST:PORT; port 0 is any that is free",
+            ),
+            (
+                "SESSIONS",
+                "How many connections are taken in all, from 1 to 1000",
+            ),
+            ("WORKERS", "How many threads translate, from 1 to 1000"),
+        ],
+        is_stamped: false,
+    },
+];
 
 /// Whether the words ask for the network service.
 pub(crate) fn is_serve(words: &[String]) -> bool {
@@ -76,24 +86,33 @@ pub(crate) fn is_serve(words: &[String]) -> bool {
 }
 
 /// A word that a command needs.
-fn file<'a>(alloc: Global, name: &'a str, help: &'a str) -> Arg<'a> {
+fn needed<'a>(alloc: Global, name: &'a str, help: &'a str) -> Arg<'a> {
     Arg::new(alloc, name)
         .help(help)
         .required(true)
         .action(ArgAction::Set)
 }
 
-/// `check SOURCE TARGET MAP` or `translate SOURCE TARGET MAP`.
-fn on_map<'a>(alloc: Global, name: &'a str, about: &'a str) -> Result<Command<'a>, AllocError> {
-    Command::new(alloc, name)
-        .about(about)
-        .arg(file(alloc, "SOURCE", "The file of the sender's message profile"))?
-        .arg(file(
-            alloc,
-            "TARGET",
-            "The file of the receiver's message profile",
-        ))?
-        .arg(file(alloc, "MAP", "The file of the map"))
+/// `[--stamp DIGITS]`.
+fn stamp<'a>(alloc: Global) -> Arg<'a> {
+    Arg::new(alloc, "stamp")
+        .long("stamp")
+        .value_name("DIGITS")
+        .help("The time stamp of the answers, YYYYMMDDHHMMSS [default: now, in UTC]")
+        .action(ArgAction::Set)
+}
+
+/// The command of a form.
+fn command<'a>(alloc: Global, form: &Form) -> Result<Command<'a>, AllocError> {
+    let mut command = Command::new(alloc, form.name).about(form.about);
+    for (name, help) in form.words {
+        command = command.arg(needed(alloc, name, help))?;
+    }
+    if form.is_stamped {
+        command.arg(stamp(alloc))
+    } else {
+        Ok(command)
+    }
 }
 
 /// The program without its commands.
@@ -109,29 +128,13 @@ fn program<'a>(alloc: Global) -> Result<Command<'a>, AllocError> {
     Ok(program)
 }
 
-/// The program with one command more.
-fn with<'a>(
-    program: Result<Command<'a>, AllocError>,
-    command: Result<Command<'a>, AllocError>,
-) -> Result<Command<'a>, AllocError> {
-    program?.subcommand(command?)
-}
-
-/// All commands.
+/// The program with all its commands.
 fn grammar<'a>(alloc: Global) -> Result<Command<'a>, AllocError> {
-    let check = on_map(
-        alloc,
-        "check",
-        "Tells whether the rules allow a map: whether each message that conforms to SOURCE has a translation that conforms to TARGET",
-    );
-    let translate = on_map(
-        alloc,
-        "translate",
-        "Translates the message on standard input, which has no frame, by a map that the rules allow",
-    );
-    let program = with(program(alloc), validate(alloc));
-    let program = with(with(program, check), translate);
-    with(with(program, run(alloc)), serve(alloc))
+    let mut program = program(alloc)?;
+    for form in &FORMS {
+        program = program.subcommand(command(alloc, form)?)?;
+    }
+    Ok(program)
 }
 
 /// The command that the words ask for.

@@ -5,8 +5,8 @@ use crate::ended::Ended;
 use crate::expected;
 use crate::files::read_text;
 use crate::progress::{Counted, Watched};
+use crate::stamps::stamp_of;
 use clap::ArgMatches;
-use gw_ack::Stamp;
 use gw_plan::{Plan, PlanFault, Receiver};
 use gw_stream::{Counts, Reads, RunFault, Sink, Writes, serve_once};
 use std::alloc::{AllocError, Global};
@@ -121,11 +121,13 @@ fn ended_by<'a, S: Sink>(
 pub(crate) fn run<'a, R: Files + Clock + AllocGlobal, I: Read, O: Write, E: Write + IsTerminal>(
     rt: &R,
     words: &ArgMatches<'a>,
-    stamp: Stamp,
     input: &mut I,
     output: &mut O,
     errors: &mut E,
 ) -> Result<Counts, Ended<'a>> {
+    let Some(stamp) = stamp_of(rt, words.get_str("stamp")) else {
+        return Err(Ended::Stamp);
+    };
     let plan = read_plan(rt, words)?;
     let paths = paths_of(rt.alloc(), words.get_str("FOLDER").unwrap_or(""), &plan)?;
     let mut files = make_files(rt, &paths)?;

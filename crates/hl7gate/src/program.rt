@@ -2,8 +2,8 @@
 use crate::arguments::parse;
 use crate::ended::Ended;
 use crate::maps::{check, read_profile, translate};
-use crate::plans;
-use crate::report::{DONE, USAGE, status_if, status_of, tell, tell_if_none, tell_words};
+use crate::plans::run;
+use crate::report::{DONE, USAGE, status_if, tell, tell_if_none, tell_words};
 use crate::stamps::stamp_of;
 use clap::ArgMatches;
 use gw_stream::{Counts, Reads, Writes, answer_stream};
@@ -28,20 +28,6 @@ fn validate<'a, R: Files + Clock + AllocGlobal, I: Read, O: Write>(
     Ok(counts)
 }
 
-/// Answers each message of a stream by a plan, and writes what its receivers are sent to their files.
-fn run<'a, R: Files + Clock + AllocGlobal, I: Read, O: Write, E: Write + IsTerminal>(
-    rt: &R,
-    words: &ArgMatches<'a>,
-    input: &mut I,
-    output: &mut O,
-    errors: &mut E,
-) -> Result<Counts, Ended<'a>> {
-    match stamp_of(rt, words.get_str("stamp")) {
-        None => Err(Ended::Stamp),
-        Some(stamp) => plans::run(rt, words, stamp, input, output, errors),
-    }
-}
-
 /// Does the command of these words, and answers the status.
 fn done<'a, R: Files + Clock + AllocGlobal, I: Read, O: Write, E: Write + IsTerminal>(
     rt: &R,
@@ -54,7 +40,7 @@ fn done<'a, R: Files + Clock + AllocGlobal, I: Read, O: Write, E: Write + IsTerm
         Some(("validate", words)) => {
             let counts = validate(rt, words, input, output)?;
             tell_if_none(errors, counts);
-            Ok(status_of(counts))
+            Ok(status_if(counts.aa == counts.answered))
         }
         Some(("run", words)) => {
             let counts = run(rt, words, input, output, errors)?;

@@ -66,16 +66,7 @@ pub(crate) fn tell_report<O: Write, E: Write>(
     }
 }
 
-/// The status of a stream that was answered to its end.
-pub(crate) fn status_of(counts: Counts) -> u8 {
-    if counts.aa == counts.answered {
-        DONE
-    } else {
-        REFUSED
-    }
-}
-
-/// The status of a map that was checked.
+/// The status of a map that was checked, and of a stream that was answered to its end.
 pub(crate) fn status_if(accepted: bool) -> u8 {
     if accepted { DONE } else { REFUSED }
 }
@@ -92,8 +83,10 @@ pub(crate) fn tell_fault<E: Write>(errors: &mut E, fault: RunFault) -> u8 {
 
 /// Writes all the bytes, and what the writer holds back.
 pub(crate) fn write_all<O: Write>(output: &mut O, bytes: &[u8]) -> Result<(), RunFault> {
-    let written = output.write_all(bytes).and_then(|_| output.flush());
-    written.map_err(|_| RunFault::Write)
+    if output.write_all(bytes).is_err() || output.flush().is_err() {
+        return Err(RunFault::Write);
+    }
+    Ok(())
 }
 
 // What is said, where something is.

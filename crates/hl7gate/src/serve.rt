@@ -28,9 +28,9 @@ use std::time::Clock;
 /// The number that a word gives: from 1 to 1,000, in decimal digits.
 fn count<'a>(words: &ArgMatches<'a>, name: &'static str) -> Result<u64, Ended<'a>> {
     let word = words.get_str(name).unwrap_or("");
-    let digits = word.as_bytes().iter().all(|digit| digit.is_ascii_digit());
+    // (a number that is parsed may have a sign)
     match word.parse::<u64>() {
-        Ok(number) if digits && 1 <= number && number <= 1000 => Ok(number),
+        Ok(number) if !word.starts_with('+') && 1 <= number && number <= 1000 => Ok(number),
         _ => Err(Ended::Count { name }),
     }
 }

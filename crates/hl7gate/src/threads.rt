@@ -121,18 +121,15 @@ impl<'a, L: Ledger, R: Wait + AllocGlobal> Service<'a, L, R> {
 
     /// Does what so many workers left: each job that one of them had is issued again, once.
     pub(crate) fn finish(&self, workers: u64) {
-        if let Err(fault) = self.do_rest(workers) {
-            self.fail(fault);
-        }
-    }
-
-    fn do_rest(&self, workers: u64) -> Result<(), RunFault> {
         let Some(mut pass) = self.pass() else {
-            return Err(RunFault::Memory);
+            self.fail(RunFault::Memory);
+            return;
         };
         let done = self.do_left(&mut pass, workers);
         self.hand_in(pass);
-        done
+        if let Err(fault) = done {
+            self.fail(fault);
+        }
     }
 
     fn do_left(&self, pass: &mut Pass<'_, L, R>, workers: u64) -> Result<(), RunFault> {
