@@ -206,6 +206,16 @@ impl Gaps {
         let number = self.by_place.get(&marked(mark))?;
         self.all.get(*number)
     }
+
+    /// The first failure that isn't of what nothing gives.
+    fn first_given(&self, failures: &[Failure]) -> Option<Failure> {
+        for failure in failures {
+            if self.at(failure.mark).is_none() {
+                return Some(*failure);
+            }
+        }
+        None
+    }
 }
 
 impl Refusal<'_> {
@@ -236,18 +246,11 @@ impl Refusal<'_> {
         let _ = errors.write_all(b": neither read nor dropped");
     }
 
-    /// Tells what nothing gives of which a failure speaks, with all of which the rule fails in the same way at the line. False where something gives it.
-    fn tell_missing<E: Write>(&self, errors: &mut E, found: &Found, failure: Failure) -> bool {
-        let Found { gaps, alike, .. } = found;
-        if gaps.at(failure.mark).is_none() {
-            return false;
-        }
-        let Some(others) = alike.get(&(failure.mark.line, failure.rule)) else {
-            return false;
-        };
+    /// Tells what nothing gives, of the failures of a rule at a line. False where something gives it all.
+    fn tell_missing<E: Write>(&self, errors: &mut E, gaps: &Gaps, failures: &[Failure]) -> bool {
         let mut any = false;
-        for other in others {
-            if let Some(gap) = gaps.at(other.mark) {
+        for failure in failures {
+            if let Some(gap) = gaps.at(failure.mark) {
                 if any {
                     let _ = errors.write_all(b", ");
                 }
@@ -255,8 +258,10 @@ impl Refusal<'_> {
                 tell_name(errors, &self.sides.target, missing(gap));
             }
         }
-        let _ = errors.write_all(b": no item and no rule gives it");
-        true
+        if any {
+            let _ = errors.write_all(b": no item and no rule gives it");
+        }
+        any
     }
 
     /// Tells what the line of a failure makes, and of what.
@@ -278,26 +283,26 @@ impl Refusal<'_> {
         told.tell(alloc, errors, failure)
     }
 
-    /// Tells what a failure speaks of.
+    /// Tells what the failures of a rule at a line speak of: all that nothing gives, and the first part that something gives.
     fn tell_subject<E: Write>(
         &self,
         alloc: Global,
         errors: &mut E,
         found: &Found,
-        failure: Failure,
+        failures: &[Failure],
     ) -> Result<(), AllocError> {
-        let is_told = match failure.rule {
-            9 => {
-                self.tell_unread(errors, &found.unread);
-                true
-            }
-            5 | 8 => self.tell_missing(errors, found, failure),
-            _ => false,
+        let is_told = self.tell_missing(errors, &found.gaps, failures);
+        let Some(given) = found.gaps.first_given(failures) else {
+            return Ok(());
         };
-        if !is_told {
-            self.tell_made(alloc, errors, &found.sites, failure)?;
+        if is_told {
+            let _ = errors.write_all(b"; ");
         }
-        Ok(())
+        if given.rule == 9 {
+            self.tell_unread(errors, &found.unread);
+            return Ok(());
+        }
+        self.tell_made(alloc, errors, &found.sites, given)
     }
 
     /// Tells a rule that fails as well, at the line that stands first in the text: of a label the line itself, and what the rule demands.
@@ -306,19 +311,22 @@ impl Refusal<'_> {
         alloc: Global,
         errors: &mut E,
         found: &Found,
-        failure: Failure,
+        failures: &[Failure],
         text: &[u8],
     ) -> Result<(), AllocError> {
+        let Some(first) = failures.first() else {
+            return Ok(());
+        };
         let path = self.written.path;
-        let rule = failure.rule;
-        let line = failure.mark.line;
+        let rule = first.rule;
+        let line = first.mark.line;
         let _ = write!(errors, "{path}:{line}: K{rule}: ");
         if rule <= LAST_OF_LABELS {
             let _ = errors.write_all(first_line(text));
             let _ = errors.write_all(b": ");
             let _ = errors.write_all(demand(rule));
         } else {
-            self.tell_subject(alloc, errors, found, failure)?;
+            self.tell_subject(alloc, errors, found, failures)?;
         }
         let _ = errors.write_all(b"\n");
         Ok(())
@@ -342,10 +350,8 @@ impl Refusal<'_> {
         for ((line, rule), failures) in &found.alike {
             text = behind(text, line.saturating_sub(at));
             at = *line;
-            if let Some(failure) = failures.first()
-                && (*line, *rule) != (least.mark.line, least.rule)
-            {
-                self.tell_other(alloc, errors, found, *failure, text)?;
+            if (*line, *rule) != (least.mark.line, least.rule) {
+                self.tell_other(alloc, errors, found, failures, text)?;
             }
         }
         Ok(())
@@ -364,8 +370,10 @@ impl Refusal<'_> {
         let _ = write!(errors, "{path}:{line}: ");
         let _ = errors.write_all(line_at(text, line));
         let _ = errors.write_all(b"\n");
-        if rule > LAST_OF_LABELS {
-            self.tell_subject(alloc, errors, found, self.refused.least)?;
+        if rule > LAST_OF_LABELS
+            && let Some(failures) = found.alike.get(&(line, rule))
+        {
+            self.tell_subject(alloc, errors, found, failures)?;
             let _ = errors.write_all(b"\n");
         }
         let _ = writeln!(errors, "{}", advice(rule));
