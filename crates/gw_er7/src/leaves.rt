@@ -1,4 +1,6 @@
-//! Where the texts of a message lie among its bytes: in 8 bytes for each text where the numbers of places fit 8 bits and the others 16, in 12 where they fit 8 and 32, in 24 where all fit 32, else in 48.
+//! Where the texts of a message lie among its bytes.
+//!
+//! A text takes 8 bytes where the numbers of places fit 8 bits and the others 16, 12 where they fit 8 and 32, 24 where all fit 32, else 48.
 ghost use Rattle.std.specs.Prelude.{◌≡◌, ◌↔◌, ◌++◌, ◌≤◌, length, map, IsTrue, OnOk};
 ghost use Rattle.std.specs.List.{AllZip};
 ghost use Rattle.std.specs.List.Sorted.{IsPermutation, IsSortedBy};

@@ -26,6 +26,10 @@ const ON_MAP: &[(&str, &str)] = &[
     ("MAP", "The file of the map"),
 ];
 
+/// What `serve` does.
+const ON_SERVE: &str =
+    "Answers the messages of so many connections (MLLP) by a plan, and sends each receiver of the plan what it is due; each line on standard input is the file of a plan that takes its place";
+
 /// All commands, in the order in which the help lists them.
 const FORMS: [Form; 5] = [
     Form {
@@ -60,7 +64,7 @@ const FORMS: [Form; 5] = [
     },
     Form {
         name: "serve",
-        about: "Answers the messages of so many connections (MLLP) by a plan, and sends each receiver of the plan what it is due; each line on standard input is the file of a plan that takes its place",
+        about: ON_SERVE,
         words: &[
             ("PLAN", "The file of the plan"),
             (
