@@ -223,8 +223,8 @@ fn all(examples: &Path) -> io::Result<Vec<(&'static str, Case)>> {
         ("leaves_300", leaves(300, 0, false)),
         ("leaves_9702", leaves(9_702, 0, false)),
         ("leaves_500_of_500_values", leaves(500, 500, false)),
-        ("leaves_100_of_100000_values", leaves(100, VALUES, false)),
-        ("leaves_100_of_turned_values", leaves(100, VALUES, true)),
+        ("leaves_9000_of_100000_values", leaves(9_000, VALUES, false)),
+        ("leaves_9000_of_turned_values", leaves(9_000, VALUES, true)),
         (
             "patients_with_one_order",
             flattened(format!("{HEADER}{one_order}")),

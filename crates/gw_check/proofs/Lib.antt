@@ -13,6 +13,7 @@ pub mod Placing
 pub mod Keeping
 pub mod Judging
 pub mod Lists
+pub mod Paired
 pub mod Tested
 pub mod Capped
 pub mod IdentityItems

@@ -4,25 +4,24 @@ ghost use Rattle.gw_profile.specs.Seen.{sub as sub_value, comp as comp_value};
 ghost use Rattle.gw_resolve.specs.Noted.{Notes};
 ghost use Rattle.gw_check.specs.own.Seen as seen;
 
+use crate::given::Given;
 use crate::known::{at_field, comp_of, sub_of};
-use crate::leaf::sub_texts;
 use crate::presence::{comp_presence, sub_presence};
+use crate::sides::Sides;
 use crate::sources::Sources;
-use crate::texts::Texts;
 use crate::values::{check_forbidden, check_required, check_values};
-use gw_profile::{CompShape, FieldShape, Profile, SubShape};
+use gw_profile::{CompShape, FieldShape, SubShape};
 use gw_resolve::{Failure, Mark, Reference};
 use std::alloc::AllocError;
 
 fn check_sub(
     found: &mut Vec<Failure>,
-    source: &Profile,
-    target: &Profile,
+    sides: &Sides<'_>,
     mark: Mark,
     from: Option<&CompShape>,
     sub: &SubShape,
 ) -> Result<(), AllocError>
-    ensures { OnOk result (Notes found.old found.new (seen.copied_sub source.now target.now mark from.entry (sub_value sub.now))) }
+    ensures { OnOk result (Notes found.old found.new (seen.copied_sub sides.now mark from.entry (sub_value sub.now))) }
 {
     let same = sub_of(from, sub.number);
     let presence = sub_presence(from, same);
@@ -34,39 +33,40 @@ fn check_sub(
     check_forbidden(found, mark, sub.usage, presence)?;
     check_values(
         found,
-        target,
+        sides,
         mark,
         presence,
-        Texts::Of(sub_texts(source, same)),
+        Given {
+            rows: None,
+            sub: same,
+        },
         sub,
     )
 }
 
 fn check_subs(
     found: &mut Vec<Failure>,
-    source: &Profile,
-    target: &Profile,
+    sides: &Sides<'_>,
     mark: Mark,
     from: Option<&CompShape>,
     subs: &[SubShape],
 ) -> Result<(), AllocError>
-    ensures { OnOk result (Notes found.old found.new (flat_map (seen.copied_sub source.now target.now mark from.entry) (map sub_value subs.now))) }
+    ensures { OnOk result (Notes found.old found.new (flat_map (seen.copied_sub sides.now mark from.entry) (map sub_value subs.now))) }
 {
     for sub in subs {
-        check_sub(found, source, target, mark, from, sub)?;
+        check_sub(found, sides, mark, from, sub)?;
     }
     Ok(())
 }
 
 fn check_comp(
     found: &mut Vec<Failure>,
-    source: &Profile,
-    target: &Profile,
+    sides: &Sides<'_>,
     mark: Mark,
     from: Option<&FieldShape>,
     comp: &CompShape,
 ) -> Result<(), AllocError>
-    ensures { OnOk result (Notes found.old found.new (seen.copied_comp source.now target.now mark from.entry (comp_value comp.now))) }
+    ensures { OnOk result (Notes found.old found.new (seen.copied_comp sides.now mark from.entry (comp_value comp.now))) }
 {
     let same = comp_of(from, comp.number);
     let presence = comp_presence(same);
@@ -76,21 +76,20 @@ fn check_comp(
     };
     check_required(found, mark, comp.usage, presence)?;
     check_forbidden(found, mark, comp.usage, presence)?;
-    check_subs(found, source, target, mark, same, &comp.subs)
+    check_subs(found, sides, mark, same, &comp.subs)
 }
 
 fn check_comps(
     found: &mut Vec<Failure>,
-    source: &Profile,
-    target: &Profile,
+    sides: &Sides<'_>,
     mark: Mark,
     from: Option<&FieldShape>,
     comps: &[CompShape],
 ) -> Result<(), AllocError>
-    ensures { OnOk result (Notes found.old found.new (flat_map (seen.copied_comp source.now target.now mark from.entry) (map comp_value comps.now))) }
+    ensures { OnOk result (Notes found.old found.new (flat_map (seen.copied_comp sides.now mark from.entry) (map comp_value comps.now))) }
 {
     for comp in comps {
-        check_comp(found, source, target, mark, from, comp)?;
+        check_comp(found, sides, mark, from, comp)?;
     }
     Ok(())
 }
@@ -99,17 +98,15 @@ fn check_comps(
 pub(crate) fn check_copied(
     found: &mut Vec<Failure>,
     sources: Sources<'_, '_, '_, '_, '_>,
-    target: &Profile,
     mark: Mark,
     from: &Reference,
     field: &FieldShape,
 ) -> Result<(), AllocError>
-    ensures { OnOk result (Notes found.old found.new (seen.copied_field sources.entry target.now mark from.now field.now)) }
+    ensures { OnOk result (Notes found.old found.new (seen.copied_field sources.entry mark from.now field.now)) }
 {
     check_comps(
         found,
-        sources.profile,
-        target,
+        sources.sides,
         mark,
         at_field(sources, from),
         &field.comps,

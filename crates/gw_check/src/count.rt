@@ -2,7 +2,7 @@
 ghost use Rattle.std.specs.Prelude.{◌≡◌};
 ghost use Rattle.gw_check.specs.Counts as spec;
 ghost use Rattle.gw_check.specs.own.Seen as seen;
-ghost use Rattle.gw_check.specs.own.Uses.{sources_value, map_tables, leaves_value, some_field, known_value};
+ghost use Rattle.gw_check.specs.own.Uses.{sources_value, target_value, map_tables, leaves_value, some_field, known_value};
 ghost use Rattle.gw_resolve.specs.Seen.{interval, saturated, reference, making as seen_making};
 
 use crate::known::{Known, at_field, field_of, segment_at};
@@ -46,7 +46,8 @@ pub(crate) fn walking<'p, 'm, 's, 'e, 'l>(
     sources: Sources<'p, 'm, 's, 'e, 'l>,
     from: &Reference,
 ) -> Sources<'p, 'm, 's, 'e, 'l>
-    ensures same { map_tables result ≡ map_tables sources.entry }
+    ensures tables { map_tables result ≡ map_tables sources.entry }
+    ensures target { target_value result ≡ target_value sources.entry }
     ensures walking { sources_value result ≡ spec.walking (sources_value sources.entry) (reference from.now) }
 {
     Sources {

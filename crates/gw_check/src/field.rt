@@ -16,7 +16,7 @@ use crate::made::check_made;
 use crate::mark::field_mark;
 use crate::often::{Asked, check_often};
 use crate::sources::Sources;
-use gw_profile::{FieldShape, Profile};
+use gw_profile::FieldShape;
 use gw_resolve::{Failure, Interval, Making, Mark, Rule};
 use std::alloc::AllocError;
 
@@ -25,25 +25,23 @@ use std::alloc::AllocError;
 fn check_making(
     found: &mut Vec<Failure>,
     sources: Sources<'_, '_, '_, '_, '_>,
-    target: &Profile,
     mark: Mark,
     making: &Making,
     field: &FieldShape,
 ) -> Result<(), AllocError>
-    ensures { OnOk result (Notes found.old found.new (seen.making_failures sources.entry target.now mark making.now field.now)) }
+    ensures { OnOk result (Notes found.old found.new (seen.making_failures sources.entry mark making.now field.now)) }
 {
     match making {
-        Making::Copy(from) => check_copied(found, sources, target, mark, from, field),
-        Making::First(from) => check_copied(found, sources, target, mark, from, field),
+        Making::Copy(from) => check_copied(found, sources, mark, from, field),
+        Making::First(from) => check_copied(found, sources, mark, from, field),
         Making::Repeat(from, leaves) => check_made(
             found,
             walking(sources, from),
-            target,
             mark,
             leaves,
             field,
         ),
-        Making::Build(leaves) => check_made(found, sources, target, mark, leaves, field),
+        Making::Build(leaves) => check_made(found, sources, mark, leaves, field),
     }
 }
 
@@ -51,13 +49,12 @@ fn check_making(
 fn check_content(
     found: &mut Vec<Failure>,
     sources: Sources<'_, '_, '_, '_, '_>,
-    target: &Profile,
     field: &FieldShape,
     rule: Option<&Rule>,
     count: Interval,
 ) -> Result<(), AllocError>
     ensures { seen.CountsRule sources.entry rule.entry count →
-        OnOk result (Notes found.old found.new (seen.content_failures sources.entry target.now field.now rule.entry)) }
+        OnOk result (Notes found.old found.new (seen.content_failures sources.entry field.now rule.entry)) }
 {
     let Some(rule) = rule else {
         return Ok(());
@@ -66,7 +63,7 @@ fn check_content(
         return Ok(());
     }
     let mark = field_mark(field.number, rule.line);
-    check_making(found, sources, target, mark, &rule.making, field)
+    check_making(found, sources, mark, &rule.making, field)
 }
 
 // ---- a field
@@ -110,50 +107,40 @@ fn asked(holder: u32, rule: Option<&Rule>, field: &FieldShape) -> Asked
 fn check_by(
     found: &mut Vec<Failure>,
     sources: Sources<'_, '_, '_, '_, '_>,
-    target: &Profile,
     holder: u32,
     rule: Option<&Rule>,
     field: &FieldShape,
 ) -> Result<(), AllocError>
-    ensures { OnOk result (Notes found.old found.new (seen.failures_by sources.entry target.now holder field.now rule.entry)) }
+    ensures { OnOk result (Notes found.old found.new (seen.failures_by sources.entry holder field.now rule.entry)) }
 {
     let count = rule_count(sources, rule);
     check_often(found, asked(holder, rule, field), count)?;
-    check_content(found, sources, target, field, rule, count)
+    check_content(found, sources, field, rule, count)
 }
 
 fn check_field(
     found: &mut Vec<Failure>,
     sources: Sources<'_, '_, '_, '_, '_>,
-    target: &Profile,
     holder: u32,
     rules: &[Rule],
     field: &FieldShape,
 ) -> Result<(), AllocError>
-    ensures { OnOk result (Notes found.old found.new (seen.field_failures sources.entry target.now holder rules.now (field_value field.now))) }
+    ensures { OnOk result (Notes found.old found.new (seen.field_failures sources.entry holder rules.now (field_value field.now))) }
 {
-    check_by(
-        found,
-        sources,
-        target,
-        holder,
-        rule_of(rules, field.number),
-        field,
-    )
+    check_by(found, sources, holder, rule_of(rules, field.number), field)
 }
 
 fn check_fields(
     found: &mut Vec<Failure>,
     sources: Sources<'_, '_, '_, '_, '_>,
-    target: &Profile,
     holder: u32,
     rules: &[Rule],
     fields: &[FieldShape],
 ) -> Result<(), AllocError>
-    ensures { OnOk result (Notes found.old found.new (flat_map (seen.field_failures sources.entry target.now holder rules.now) (map field_value fields.now))) }
+    ensures { OnOk result (Notes found.old found.new (flat_map (seen.field_failures sources.entry holder rules.now) (map field_value fields.now))) }
 {
     for field in fields {
-        check_field(found, sources, target, holder, rules, field)?;
+        check_field(found, sources, holder, rules, field)?;
     }
     Ok(())
 }
@@ -162,13 +149,12 @@ fn check_fields(
 pub(crate) fn check_segment(
     found: &mut Vec<Failure>,
     sources: Sources<'_, '_, '_, '_, '_>,
-    target: &Profile,
     holder: u32,
     rules: &[Rule],
     fields: &[FieldShape],
 ) -> Result<(), AllocError>
-    ensures { OnOk result (Notes found.old found.new (seen.segment_failures sources.entry target.now holder rules.now (map field_value fields.now))) }
+    ensures { OnOk result (Notes found.old found.new (seen.segment_failures sources.entry holder rules.now (map field_value fields.now))) }
 {
-    check_fields(found, sources, target, holder, rules, fields)?;
+    check_fields(found, sources, holder, rules, fields)?;
     check_rules(found, sources, rules)
 }

@@ -8,19 +8,11 @@ ghost use Rattle.gw_resolve.specs.Seen.{scope as walked, place as seen_place};
 
 use crate::field::check_segment;
 use crate::level::check_level;
+use crate::sides::Sides;
 use crate::sources::Sources;
-use gw_maplang::Map;
-use gw_profile::{FieldShape, Node, Profile};
+use gw_profile::{FieldShape, Node};
 use gw_resolve::{Element, Failure, Item, Place, SegmentItem, nodes_within, within};
 use std::alloc::{AllocError, Global};
-
-/// A map with its profiles, while it is checked.
-#[derive(Clone, Copy)]
-pub(crate) struct Sides<'s, 't, 'm> {
-    pub(crate) source: &'s Profile,
-    pub(crate) target: &'t Profile,
-    pub(crate) map: &'m Map,
-}
 
 fn fields_of(node: &Node) -> &[FieldShape]
     ensures { map field result.now ≡ places.fields_of (places.child (node_forest node.now nothing) 0) }
@@ -41,8 +33,8 @@ pub(crate) fn fields_at(nodes: &[Node], number: usize) -> &[FieldShape]
     }
 }
 
-// The scope of what is walked at a place; where none is said nothing more is walked.
-fn within_if<'a, 'l>(
+/// The scope of what is walked at a place; where none is said nothing more is walked.
+pub(crate) fn within_if<'a, 'l>(
     alloc: Global,
     scope: &[Element<'a, 'l>],
     place: &Option<Place>,
@@ -59,25 +51,23 @@ fn within_if<'a, 'l>(
 fn check_given(
     alloc: Global,
     found: &mut Vec<Failure>,
-    sides: Sides<'_, '_, '_>,
+    sides: &Sides<'_>,
     scope: &[Element<'_, '_>],
     nodes: &[Node],
     segment: &SegmentItem,
 ) -> Result<(), AllocError>
-    ensures { OnOk result (NotesSegment sides.entry (walked scope.now) (forest nodes.now) segment.now found.old found.new) }
+    ensures { OnOk result (NotesSegment sides.now (walked scope.now) (forest nodes.now) segment.now found.old found.new) }
 {
     let inner = within_if(alloc, scope, &segment.place)?;
     let sources = Sources {
         alloc,
-        profile: sides.source,
-        map: sides.map,
+        sides,
         scope: &inner,
         current: None,
     };
     check_segment(
         found,
         sources,
-        sides.target,
         segment.line,
         &segment.rules,
         fields_at(nodes, segment.child),
@@ -89,12 +79,12 @@ fn check_given(
 fn check_item(
     alloc: Global,
     found: &mut Vec<Failure>,
-    sides: Sides<'_, '_, '_>,
+    sides: &Sides<'_>,
     scope: &[Element<'_, '_>],
     nodes: &[Node],
     item: &Item,
 ) -> Result<(), AllocError>
-    ensures { OnOk result (NotesItem sides.entry (walked scope.now) (forest nodes.now) item.now found.old found.new) }
+    ensures { OnOk result (NotesItem sides.now (walked scope.now) (forest nodes.now) item.now found.old found.new) }
 {
     match item {
         Item::Segment(segment) => check_given(alloc, found, sides, scope, nodes, segment),
@@ -116,12 +106,12 @@ fn check_item(
 pub(crate) fn check_items(
     alloc: Global,
     found: &mut Vec<Failure>,
-    sides: Sides<'_, '_, '_>,
+    sides: &Sides<'_>,
     scope: &[Element<'_, '_>],
     nodes: &[Node],
     items: &[Item],
 ) -> Result<(), AllocError>
-    ensures { OnOk result (NotesItems sides.entry (walked scope.now) (forest nodes.now) items.now found.old found.new) }
+    ensures { OnOk result (NotesItems sides.now (walked scope.now) (forest nodes.now) items.now found.old found.new) }
 {
     for item in items {
         check_item(alloc, found, sides, scope, nodes, item)?;

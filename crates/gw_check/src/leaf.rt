@@ -1,35 +1,27 @@
-//! Which texts leaves give, and what a target subcomponent asks of them.
-ghost use Rattle.std.specs.Prelude.{◌≡◌, [], Some, unwrap_or, option_copied};
+//! Which texts can be read, and what a target subcomponent asks of them.
+ghost use Rattle.std.specs.Prelude.{◌≡◌, [], unwrap_or, option_and_then, option_copied};
 ghost use Rattle.gw_profile.specs.Seen.{sub as sub_value, profile_value};
-ghost use Rattle.gw_profile.specs.Value.{table_of};
+ghost use Rattle.gw_profile.specs.Value.{table_of as table_in};
+ghost use Rattle.gw_maplang.specs.Seen.{now};
 ghost use Rattle.gw_profile.specs.Lengths.{octets};
-ghost use Rattle.gw_check.specs.Fields.{table_values};
 ghost use Rattle.gw_check.specs.Leaves as spec;
-ghost use Rattle.gw_check.specs.own.Uses.{sources_value, map_tables, some_sub};
-ghost use Rattle.gw_resolve.specs.Seen.{source as seen_source, leaf as seen_leaf};
-ghost use Rattle.gw_check.specs.Texts.{read_value, texts_value, items_all, values_value, shape_value, some_items, meets};
+ghost use Rattle.gw_check.specs.own.Against as against;
+ghost use Rattle.gw_check.specs.own.Uses.{sources_value, some_sub};
+ghost use Rattle.gw_resolve.specs.Seen.{source as seen_source};
+ghost use Rattle.gw_check.specs.Texts.{read_value, texts_value, rows_value, items_all, values_value, shape_value, some_items, meets};
 
 use crate::known::{at_field, comp_of, sub_of};
 use crate::presence::{is_absent, is_always};
 use crate::shape::{Presence, Shape, Values};
 use crate::sources::Sources;
 use crate::texts::{Read, Texts, may_be_long, may_be_outside};
+use gw_maplang::{Map, Table as Rows};
 use gw_profile::{Profile, SubShape, Table, Usage};
-use gw_resolve::{Leaf, Source};
-
-/// The table that a subcomponent names.
-pub(crate) fn table_of<'a>(profile: &'a Profile, sub: &SubShape) -> Option<&'a Table>
-    ensures { option_copied result ≡ table_values profile.now.tables (sub_value sub.now) }
-{
-    match &sub.table {
-        None => None,
-        Some(name) => profile.table(name),
-    }
-}
+use gw_resolve::Source;
 
 // The values of the table of this name.
 fn values_of<'a>(profile: &'a Profile, name: &[u8]) -> &'a [Vec<u8>]
-    ensures { items_all result.now ≡ unwrap_or (table_of name.now profile.now.tables) [] }
+    ensures { items_all result.now ≡ unwrap_or (table_in name.now profile.now.tables) [] }
 {
     match profile.table(name) {
         None => &[],
@@ -37,51 +29,56 @@ fn values_of<'a>(profile: &'a Profile, name: &[u8]) -> &'a [Vec<u8>]
     }
 }
 
-/// The texts of a source subcomponent.
-pub(crate) fn sub_texts<'a>(profile: &'a Profile, sub: Option<&SubShape>) -> Read<'a>
-    ensures { read_value result ≡ spec.sub_values (profile_value profile.now) (some_sub sub.entry) }
+/// The values of the table of this name, or any texts, of at most so many octets.
+pub(crate) fn read_of<'a>(profile: &'a Profile, table: Option<&[u8]>, len: Option<u32>) -> Read<'a>
+    ensures { read_value result ≡ against.table_texts (profile_value profile.now) (now table.entry) len }
 {
-    match sub {
-        None => Read::Any(None),
-        Some(sub) => listed_texts(profile, sub),
+    match table {
+        None => Read::Any(len),
+        Some(name) => Read::Listed(len, values_of(profile, name)),
     }
 }
 
-fn listed_texts<'a>(profile: &'a Profile, sub: &SubShape) -> Read<'a>
-    ensures { read_value result ≡ spec.sub_values (profile_value profile.now) (Some (sub_value sub.now)) }
+/// The table of this name.
+pub(crate) fn table_named<'a>(profile: &'a Profile, name: Option<&[u8]>) -> Option<&'a Table>
+    ensures { option_copied result ≡ option_and_then (λ n. table_in n profile.now.tables) (now name.entry) }
 {
-    match &sub.table {
-        None => Read::Any(sub.len),
-        Some(name) => Read::Listed(sub.len, values_of(profile, name)),
+    match name {
+        None => None,
+        Some(name) => profile.table(name),
     }
 }
 
-/// The texts of a source.
-pub(crate) fn source_texts<'p>(sources: Sources<'p, '_, '_, '_, '_>, source: &Source) -> Read<'p>
-    ensures { read_value result ≡ (spec.source_shape (sources_value sources.entry) (seen_source source.now)).values }
+/// The rows of the table of this name.
+pub(crate) fn rows_named<'a>(map: &'a Map, name: Option<&[u8]>) -> Option<&'a Rows>
+    ensures { rows_value result ≡ against.rows_if map.now.tables (now name.entry) }
+{
+    match name {
+        None => None,
+        Some(name) => map.table(name),
+    }
+}
+
+/// What is read, as it is or as the table of this name gives it.
+pub(crate) fn texts_of<'a>(map: &'a Map, name: Option<&[u8]>, read: Read<'a>) -> Texts<'a>
+    ensures { texts_value result ≡ against.rowed map.now.tables (now name.entry) (read_value read.entry) }
+{
+    match name {
+        None => Texts::Of(read),
+        Some(name) => Texts::LookedUp(map.table(name), read),
+    }
+}
+
+/// The subcomponent that a source reads.
+pub(crate) fn source_sub<'e>(
+    sources: Sources<'_, '_, '_, 'e, '_>,
+    source: &Source,
+) -> Option<&'e SubShape>
+    ensures { (spec.source_shape (sources_value sources.entry) (seen_source source.now)).values ≡ spec.sub_values (sources_value sources.entry).profile (some_sub result) }
 {
     match source {
-        Source::OfField(from, at) => sub_texts(
-            sources.profile,
-            sub_of(comp_of(at_field(sources, from), at.comp), at.sub),
-        ),
-        Source::OfCurrent(at) => sub_texts(
-            sources.profile,
-            sub_of(comp_of(sources.current, at.comp), at.sub),
-        ),
-    }
-}
-
-/// The texts of a leaf.
-pub(crate) fn leaf_texts<'a>(sources: Sources<'a, 'a, '_, '_, '_>, leaf: &'a Leaf) -> Texts<'a>
-    ensures { texts_value result ≡ (spec.leaf_shape (sources_value sources.entry) (seen_leaf (map_tables sources.entry) leaf.now)).values }
-{
-    match leaf {
-        Leaf::Const(text) => Texts::One(text),
-        Leaf::Copied(source) => Texts::Of(source_texts(sources, source)),
-        Leaf::LookedUp(name, source) => {
-            Texts::LookedUp(sources.map.table(name), source_texts(sources, source))
-        }
+        Source::OfField(from, at) => sub_of(comp_of(at_field(sources, from), at.comp), at.sub),
+        Source::OfCurrent(at) => sub_of(comp_of(sources.current, at.comp), at.sub),
     }
 }
 

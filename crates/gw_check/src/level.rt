@@ -46,26 +46,15 @@ fn line_of(item: &Item) -> u32
     }
 }
 
-// A node within what should hold it.
-fn missing_node(holder: u32, number: usize) -> Mark
-    ensures { seen_mark result ≡ spec.node_mark holder number resolved.no_items }
-{
-    Mark {
-        line: holder,
-        child: Some(number),
-        field: 0,
-        comp: 0,
-        sub: 0,
-        count: None,
-    }
-}
-
 // What the first item gives, or the node of this number within what should hold one.
 fn node_mark(holder: u32, number: usize, items: &[Item]) -> Mark
     ensures { (tables : List TableValue) → seen_mark result ≡ spec.node_mark holder number (all_items tables items.now) }
 {
     let [item, ..] = items else {
-        return missing_node(holder, number);
+        return Mark {
+            child: Some(number),
+            ..at_line(holder)
+        };
     };
     at_line(line_of(item))
 }

@@ -4,38 +4,15 @@ ghost use Rattle.gw_check.specs.Fields as spec;
 ghost use Rattle.gw_resolve.specs.Noted.{Notes};
 ghost use Rattle.gw_check.specs.own.Uses.{sources_value, map_tables, leaves_value, rules_value};
 ghost use Rattle.gw_resolve.specs.Seen.{at_leaf, rule as seen_rule};
-ghost use Rattle.gw_check.specs.own.Seen as seen;
 
 use crate::count::walking;
-use crate::leaf::source_texts;
+use crate::given::is_unrowed;
+use crate::leaf::source_sub;
 use crate::mark::leaf_mark;
 use crate::sources::Sources;
-use crate::texts::{has_no_row, other};
-use gw_maplang::Table as Rows;
-use gw_resolve::{At, Failure, Leaf, Making, Rule, Source, note};
+use crate::texts::other;
+use gw_resolve::{At, Failure, Leaf, Making, Rule, note};
 use std::alloc::AllocError;
-
-// A leaf that is looked up in this table.
-fn check_rows(
-    found: &mut Vec<Failure>,
-    sources: Sources<'_, '_, '_, '_, '_>,
-    field: u32,
-    at: &At,
-    table: Option<&Rows>,
-    source: &Source,
-) -> Result<(), AllocError>
-    ensures { OnOk result (Notes found.old found.new (seen.rows_failures sources.entry field at.now table.entry source.now)) }
-{
-    match other(table) {
-        Some(_) => Ok(()),
-        None => note(
-            found,
-            10,
-            leaf_mark(field, at),
-            has_no_row(table, source_texts(sources, source)),
-        ),
-    }
-}
 
 fn check_lookup(
     found: &mut Vec<Failure>,
@@ -45,13 +22,19 @@ fn check_lookup(
 ) -> Result<(), AllocError>
     ensures { OnOk result (Notes found.old found.new (spec.lookup_failures (sources_value sources.entry) field (at_leaf (map_tables sources.entry) at.now))) }
 {
-    match &at.leaf {
-        Leaf::Const(_) => Ok(()),
-        Leaf::Copied(_) => Ok(()),
-        Leaf::LookedUp(name, source) => {
-            check_rows(found, sources, field, at, sources.map.table(name), source)
-        }
+    let Leaf::LookedUp(name, source) = &at.leaf else {
+        return Ok(());
+    };
+    let sides = sources.sides;
+    if other(sides.map().table(name)).is_some() {
+        return Ok(());
     }
+    note(
+        found,
+        10,
+        leaf_mark(field, at),
+        is_unrowed(sides, name, source_sub(sources, source)),
+    )
 }
 
 fn check_lookups(

@@ -32,20 +32,6 @@ pub(crate) fn is_expected(usage: Usage) -> bool
     }
 }
 
-// More often than it may.
-fn is_too_often(asked: Asked, count: Interval) -> bool
-    ensures { result ≡ (not (is_forbidden asked.usage) && not (intervals.is_within (interval count).greatest asked.card.max)) }
-{
-    !is_forbidden(asked.usage) && !count.is_within(asked.card.max)
-}
-
-// Forbidden, and it comes.
-fn is_unwanted(asked: Asked, count: Interval) -> bool
-    ensures { result ≡ (is_forbidden asked.usage && not (intervals.is_never (interval count).greatest)) }
-{
-    is_forbidden(asked.usage) && !count.is_never()
-}
-
 fn check_capped(
     found: &mut Vec<Failure>,
     mark: Mark,
@@ -54,11 +40,14 @@ fn check_capped(
 ) -> Result<(), AllocError>
     ensures { OnOk result (Notes found.old found.new (seen.capped_failures (seen_mark mark) asked (interval count))) }
 {
-    let lacking = is_expected(asked.usage) && asked.is_missing;
-    note(found, 4, mark, is_too_often(asked, count))?;
+    let is_barred = is_forbidden(asked.usage);
+    let is_lacking = is_expected(asked.usage) && asked.is_missing;
+    let is_too_often = !is_barred && !count.is_within(asked.card.max);
+    let is_unwanted = is_barred && !count.is_never();
+    note(found, 4, mark, is_too_often)?;
     note(found, 5, mark, count.least < u64::from(asked.card.min))?;
-    note(found, 8, mark, lacking)?;
-    note(found, 11, mark, is_unwanted(asked, count))
+    note(found, 8, mark, is_lacking)?;
+    note(found, 11, mark, is_unwanted)
 }
 
 /// The failures of what comes so often. A count that ends at the cap is as good as the whole one.

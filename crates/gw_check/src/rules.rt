@@ -11,16 +11,20 @@ ghost use Rattle.gw_check.specs.Checked.{all_failures};
 ghost use Rattle.gw_resolve.specs.Noted.{Notes};
 ghost use Rattle.gw_resolve.specs.Seen.{failures as seen_failures};
 ghost use Rattle.gw_check.specs.own.Seen as seen;
+ghost use Rattle.gw_check.specs.own.Sides as spec;
 
 use crate::checked::CheckedMap;
 use crate::failure::least;
-use crate::inside::{Sides, check_items};
+use crate::inside::check_items;
 use crate::labels::look_up;
 use crate::level::check_level;
+use crate::meeting::add_items;
 use crate::reads::passes_over;
+use crate::sides::Sides;
 use gw_maplang::Map;
 use gw_profile::{Level, Profile};
-use gw_resolve::{Element, Failure, Item, LeftOut, Resolving, at_line, note};
+use gw_resolve::{Element, Failure, Item, LeftOut, Named, Resolving, at_line, note};
+use indexmap::IndexSet;
 use std::alloc::{AllocError, Global};
 use std::sync::Arc;
 
@@ -68,23 +72,56 @@ enum Judged {
 fn add_failures(
     alloc: Global,
     found: &mut Vec<Failure>,
-    sides: Sides<'_, '_, '_>,
+    sides: &Sides<'_>,
     level: &Level<'_>,
     items: &[Item],
     drops: &[LeftOut],
 ) -> Result<(), AllocError>
-    requires { level.now ≡ sides.source.now.nodes }
-    ensures source { WellFormed (profile_value sides.entry.source.now) }
-    ensures target { WellFormed (profile_value sides.entry.target.now) }
-    ensures found { OnOk result (Notes found.old found.new (seen.failures sides.entry items.now drops.now)) }
+    requires { level.now ≡ sides.now.source.nodes }
+    ensures source { WellFormed (profile_value sides.now.source) }
+    ensures target { WellFormed (profile_value sides.now.target) }
+    ensures found { OnOk result (Notes found.old found.new (seen.failures sides.now items.now drops.now)) }
 {
-    let whole = sides.source.nodes();
-    let nodes = sides.target.nodes();
+    let line = sides.map().line();
+    let whole = sides.source().nodes();
+    let nodes = sides.target().nodes();
     let scope = [Element::Whole(Some(level))];
-    check_level(alloc, found, &scope, sides.map.line(), nodes, items)?;
+    check_level(alloc, found, &scope, line, nodes, items)?;
     check_items(alloc, found, sides, &scope, nodes, items)?;
     let passed = passes_over(alloc, whole, items, drops)?;
-    note(found, 9, at_line(sides.map.line()), passed)
+    note(found, 9, at_line(line), passed)
+}
+
+// The failures of the rules 4 to 12 of a map without labels.
+fn failures_of<'a>(
+    alloc: Global,
+    source: &'a Profile,
+    target: &'a Profile,
+    map: &'a Map,
+    level: &'a Level<'_>,
+    named: &'a Named,
+) -> Result<Vec<Failure>, AllocError>
+    requires { level.now ≡ source.now.nodes }
+    ensures source { IfOk result (λ found. WellFormed (profile_value source.now)) }
+    ensures target { IfOk result (λ found. WellFormed (profile_value target.now)) }
+    ensures found { IfOk result (λ found.
+        seen_failures found.items ≡ seen.failures (spec.sides_of source.now target.now map.now) named.now.items.items named.now.drops.items) }
+{
+    let sides = Sides::new(alloc, source, target, map);
+    let mut pairs = IndexSet::new(alloc);
+    let scope = [Element::Whole(Some(level))];
+    add_items(
+        alloc,
+        &mut pairs,
+        &sides,
+        &scope,
+        target.nodes(),
+        &named.items,
+    )?;
+    let sides = sides.knowing(alloc, pairs)?;
+    let mut found = Vec::new(alloc);
+    add_failures(alloc, &mut found, &sides, level, &named.items, &named.drops)?;
+    Ok(found)
 }
 
 // What the rules say of a map; 4 to 12 are looked at only where 1 to 3 hold.
@@ -104,19 +141,10 @@ fn look(
             found,
             items: Vec::new(alloc),
         }),
-        Resolving::Resolved(named) => {
-            let mut found = Vec::new(alloc);
-            let sides = Sides {
-                source,
-                target,
-                map,
-            };
-            add_failures(alloc, &mut found, sides, &from, &named.items, &named.drops)?;
-            Ok(Examined {
-                found,
-                items: named.items,
-            })
-        }
+        Resolving::Resolved(named) => Ok(Examined {
+            found: failures_of(alloc, source, target, map, &from, &named)?,
+            items: named.items,
+        }),
     }
 }
 

@@ -192,18 +192,12 @@ pub(crate) fn other<'a>(table: Option<&'a Rows>) -> Option<&'a [u8]>
     }
 }
 
-fn other_fails(test: Test<'_>, table: Option<&Rows>) -> bool
-    ensures { result ≡ fails_some (test_value test.entry) (rows_value table.entry).other }
-{
-    fails_some(test, other(table))
-}
-
 // Whether something that the rows give for a source fails the test.
 fn looked_up_fails(test: Test<'_>, table: Option<&Rows>, read: Read<'_>) -> bool
     ensures { result ≡ list_any (test_value test.entry) (spec.given_values (rows_value table.entry) (read_value read.entry)) }
 {
     match read {
-        Read::Any(_) => second_fails(test, table) || other_fails(test, table),
+        Read::Any(_) => second_fails(test, table) || fails_some(test, other(table)),
         Read::Listed(len, all) => some_given_fails(test, table, len, all),
     }
 }
@@ -279,16 +273,7 @@ fn has_row(table: Option<&Rows>, text: &[u8]) -> bool
 {
     match table {
         None => false,
-        Some(table) => is_there(table.second(text)),
-    }
-}
-
-fn is_there(text: Option<&[u8]>) -> bool
-    ensures { result ≡ is_there (now text.entry) }
-{
-    match text {
-        None => false,
-        Some(_) => true,
+        Some(table) => table.second(text).is_some(),
     }
 }
 

@@ -7,11 +7,11 @@ ghost use Rattle.gw_resolve.specs.Noted.{Notes};
 ghost use Rattle.gw_resolve.specs.Seen.{mark as seen_mark};
 ghost use Rattle.gw_check.specs.own.Seen as seen;
 
-use crate::leaf::table_of;
+use crate::given::{Given, against};
 use crate::presence::{is_absent, is_always};
 use crate::shape::Presence;
-use crate::texts::{Texts, may_be_long, may_be_unlisted};
-use gw_profile::{Profile, SubShape, Usage};
+use crate::sides::Sides;
+use gw_profile::{SubShape, Usage};
 use gw_resolve::{Failure, Mark, note};
 use std::alloc::AllocError;
 
@@ -63,53 +63,21 @@ pub(crate) fn check_forbidden(
     note(found, 11, mark, !is_absent(presence))
 }
 
-fn check_table(
-    found: &mut Vec<Failure>,
-    target: &Profile,
-    mark: Mark,
-    presence: Presence,
-    texts: Texts<'_>,
-    sub: &SubShape,
-) -> Result<(), AllocError>
-    ensures { OnOk result (Notes found.old found.new (seen.table_failures target.now mark presence texts.entry sub.now)) }
-{
-    if is_absent(presence) {
-        return Ok(());
-    }
-    note(
-        found,
-        6,
-        mark,
-        may_be_unlisted(texts, table_of(target, sub)),
-    )
-}
-
-fn check_length(
-    found: &mut Vec<Failure>,
-    mark: Mark,
-    presence: Presence,
-    texts: Texts<'_>,
-    sub: &SubShape,
-) -> Result<(), AllocError>
-    ensures { OnOk result (Notes found.old found.new (seen.length_failures mark presence texts.entry sub.now)) }
-{
-    if is_absent(presence) {
-        return Ok(());
-    }
-    note(found, 7, mark, may_be_long(texts, sub.len))
-}
-
 /// What can stand there has another value than its table's, or is too long.
 pub(crate) fn check_values(
     found: &mut Vec<Failure>,
-    target: &Profile,
+    sides: &Sides<'_>,
     mark: Mark,
     presence: Presence,
-    texts: Texts<'_>,
+    given: Given<'_>,
     sub: &SubShape,
 ) -> Result<(), AllocError>
-    ensures { OnOk result (Notes found.old found.new (seen.value_failures target.now mark presence texts.entry sub.now)) }
+    ensures { OnOk result (Notes found.old found.new (seen.value_failures sides.now mark presence given.entry sub.now)) }
 {
-    check_table(found, target, mark, presence, texts, sub)?;
-    check_length(found, mark, presence, texts, sub)
+    if is_absent(presence) {
+        return Ok(());
+    }
+    let stands = against(sides, given, sub);
+    note(found, 6, mark, stands.unlisted)?;
+    note(found, 7, mark, stands.long)
 }

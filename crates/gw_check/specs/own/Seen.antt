@@ -9,8 +9,8 @@ use Rattle.gw_profile.specs.Shapes.{SubValue, CompValue, FieldValue, Forest}
 use Rattle.gw_profile.specs.Lengths.{octets}
 use Rattle.gw_profile.specs.Seen as profiles
 use Rattle.gw_profile.specs.Seen.{sub as sub_value, field as field_value, profile_value}
-use Rattle.gw_maplang.specs.Seen.{map_value}
-use Rattle.gw_maplang.specs.Shapes.{TableValue, Rows}
+use Rattle.gw_maplang.specs.Seen.{map_value, now}
+use Rattle.gw_maplang.specs.Shapes.{TableValue}
 use Rattle.gw_validate.specs.Breaches.{is_forbidden, is_null}
 use Rattle.gw_resolve.specs.declared.interval.Interval as intervals
 use Rattle.gw_resolve.specs.declared.resolved.Reference.{Reference}
@@ -29,37 +29,29 @@ use Rattle.gw_resolve.specs.Intervals.{Interval, is_never, is_within}
 use Rattle.gw_resolve.specs.Resolved as resolved
 use Rattle.gw_resolve.specs.Resolved.{no_items}
 use Rattle.gw_resolve.specs.Seen.{interval, saturated, mark, place, reference, source, leaf, at_leaf, making, rule, with_item, all_items, left_out}
-use Rattle.gw_check.specs.declared.inside.Sides.{Sides}
+use Rattle.gw_check.specs.declared.given.Given.{Given}
 use Rattle.gw_check.specs.declared.often.Asked.{Asked}
 use Rattle.gw_check.specs.declared.shape.Presence.{Presence}
 use Rattle.gw_check.specs.declared.sources.Sources.{Sources}
-use Rattle.gw_check.specs.declared.texts.Texts.{Texts}
 use Rattle.gw_check.specs.Answers.{unlabelled}
 use Rattle.gw_check.specs.Collected.{positions}
 use Rattle.gw_check.specs.Counts as counts
 use Rattle.gw_check.specs.Fields as spec
-use Rattle.gw_check.specs.Leaves.{Values, listed, is_absent, leaf_shape, may_be_unlisted, may_be_long}
-use Rattle.gw_check.specs.own.Uses.{sources_value, map_tables, some_comp, some_field, some_rule, some_sub, leaves_value, rules_value}
+use Rattle.gw_check.specs.Leaves.{Values, listed, source_shape, may_be_unlisted, may_be_long}
+use Rattle.gw_check.specs.own.Against.{rowed}
+use Rattle.gw_check.specs.own.Sides.{SidesValue}
+use Rattle.gw_check.specs.own.Uses.{sources_value, target_value, given_texts, map_tables, some_comp, some_field, some_rule, leaves_value, rules_value}
 use Rattle.gw_check.specs.Reads as reads
 use Rattle.gw_check.specs.Reads.{SourceField}
-use Rattle.gw_check.specs.Texts.{texts_value, rows_value}
 use Rattle.gw_check.specs.Typed as typed
 use Rattle.gw_check.specs.Unread as unread
 
 -- ---- a subcomponent
 
--- what can stand there has another value than the table's
-abbrev pub table_failures : profiles.Contents → Mark → Presence → Texts → SubShape → List Failure
-table_failures to at presence texts sub = fails 6 (mark at) (not (is_absent presence) && may_be_unlisted (texts_value texts) (spec.table_values to.tables (sub_value sub)))
-
--- it is too long
-abbrev pub length_failures : Mark → Presence → Texts → SubShape → List Failure
-length_failures at presence texts sub = fails 7 (mark at) (not (is_absent presence) && may_be_long octets (texts_value texts) sub.len)
-
--- one of the two
-abbrev pub value_failures : profiles.Contents → Mark → Presence → Texts → SubShape → List Failure
-value_failures to at presence texts sub =
-    spec.value_failures (profile_value to) (mark at) (record { presence = presence; values = texts_value texts }) (sub_value sub)
+-- what can stand there has another value than the table's, or is too long
+abbrev pub value_failures : SidesValue → Mark → Presence → Given → SubShape → List Failure
+value_failures sides at presence given sub =
+    spec.value_failures (profile_value sides.target) (mark at) (record { presence = presence; values = given_texts sides given }) (sub_value sub)
 
 -- a value may be missing from the table, or be too long
 abbrev pub may_break : profiles.Contents → Values → SubShape → Bool
@@ -82,16 +74,16 @@ capped_failures at asked count =
 -- ---- copied fields
 
 -- of a target subcomponent that is copied from this component
-abbrev pub copied_sub : profiles.Contents → profiles.Contents → Mark → Option (Bor CompShape) → SubValue → List Failure
-copied_sub from to at c = spec.copied_sub (profile_value from) (profile_value to) (mark at) (some_comp c)
+abbrev pub copied_sub : SidesValue → Mark → Option (Bor CompShape) → SubValue → List Failure
+copied_sub sides at c = spec.copied_sub (profile_value sides.source) (profile_value sides.target) (mark at) (some_comp c)
 
 -- of a target component that is copied from this field
-abbrev pub copied_comp : profiles.Contents → profiles.Contents → Mark → Option (Bor FieldShape) → CompValue → List Failure
-copied_comp from to at f = spec.copied_comp (profile_value from) (profile_value to) (mark at) (some_field f)
+abbrev pub copied_comp : SidesValue → Mark → Option (Bor FieldShape) → CompValue → List Failure
+copied_comp sides at f = spec.copied_comp (profile_value sides.source) (profile_value sides.target) (mark at) (some_field f)
 
 -- of a target field that is copied from this one
-abbrev pub copied_field : Sources → profiles.Contents → Mark → Reference → FieldShape → List Failure
-copied_field s to at from target = spec.copied_field (sources_value s) (profile_value to) (mark at) (reference from) (field_value target)
+abbrev pub copied_field : Sources → Mark → Reference → FieldShape → List Failure
+copied_field s at from target = spec.copied_field (sources_value s) (target_value s) (mark at) (reference from) (field_value target)
 
 -- ---- fields made of leaves
 
@@ -103,25 +95,24 @@ made_comp s at leaves = spec.made_comp (sources_value s) (mark at) (leaves_value
 abbrev pub const_failures : profiles.Contents → Mark → List ℕ → SubShape → List Failure
 const_failures to at text sub = fails 12 (mark at) (not (is_null text) && may_break to (listed (text ∷ [])) sub)
 
--- of what a leaf reads
-abbrev pub source_failures : Sources → profiles.Contents → Mark → Leaf → SubShape → List Failure
-source_failures s to at l sub = spec.value_failures (profile_value to) (mark at) (leaf_shape (sources_value s) (leaf (map_tables s) l)) (sub_value sub)
+-- of what a source gives, as it is or looked up in the table of this name
+abbrev pub source_failures : Sources → Mark → Option (Bor (List ℕ)) → Source → SubShape → List Failure
+source_failures s at rows from sub =
+    spec.value_failures (target_value s) (mark at)
+    (record { presence = (source_shape (sources_value s) (source from)).presence; values = rowed (map_tables s) (now rows) (source_shape (sources_value s) (source from)).values })
+    (sub_value sub)
 
 -- of a leaf, also of a constant
-abbrev pub leaf_failures : Sources → profiles.Contents → Mark → Leaf → SubShape → List Failure
-leaf_failures s to at l sub = spec.leaf_failures (sources_value s) (profile_value to) (mark at) (leaf (map_tables s) l) (sub_value sub)
-
--- of a leaf at a place that the target may list
-abbrev pub placed : Sources → profiles.Contents → Mark → Leaf → Option (Bor SubShape) → List Failure
-placed s to at l sub = spec.placed (sources_value s) (profile_value to) (mark at) (leaf (map_tables s) l) (some_sub sub)
+abbrev pub leaf_failures : Sources → Mark → Leaf → SubShape → List Failure
+leaf_failures s at l sub = spec.leaf_failures (sources_value s) (target_value s) (mark at) (leaf (map_tables s) l) (sub_value sub)
 
 -- of a leaf at its place in this target field
-abbrev pub made_leaf : Sources → profiles.Contents → FieldShape → resolved.At → List Failure
-made_leaf s to target = spec.made_leaf (sources_value s) (profile_value to) (field_value target)
+abbrev pub made_leaf : Sources → FieldShape → resolved.At → List Failure
+made_leaf s target = spec.made_leaf (sources_value s) (target_value s) (field_value target)
 
 -- of a target field
-abbrev pub made_field : Sources → profiles.Contents → Mark → List At → FieldShape → List Failure
-made_field s to at leaves target = spec.made_field (sources_value s) (profile_value to) (mark at) (leaves_value s leaves) (field_value target)
+abbrev pub made_field : Sources → Mark → List At → FieldShape → List Failure
+made_field s at leaves target = spec.made_field (sources_value s) (target_value s) (mark at) (leaves_value s leaves) (field_value target)
 
 -- ---- a field
 
@@ -134,36 +125,31 @@ abbrev pub CountsRule : Sources → Option (Bor Rule) → intervals.Interval →
 CountsRule s r c = interval c ≡ saturated (rule_count s r)
 
 -- of what a rule makes
-abbrev pub making_failures : Sources → profiles.Contents → Mark → Making → FieldShape → List Failure
-making_failures s to at m target = spec.making_failures (sources_value s) (profile_value to) (mark at) (making (map_tables s) m) (field_value target)
+abbrev pub making_failures : Sources → Mark → Making → FieldShape → List Failure
+making_failures s at m target = spec.making_failures (sources_value s) (target_value s) (mark at) (making (map_tables s) m) (field_value target)
 
 -- of what its rule gives, where it gives something
-abbrev pub content_failures : Sources → profiles.Contents → FieldShape → Option (Bor Rule) → List Failure
-content_failures s to target r = spec.content_failures (sources_value s) (profile_value to) (field_value target) (some_rule (map_tables s) r)
+abbrev pub content_failures : Sources → FieldShape → Option (Bor Rule) → List Failure
+content_failures s target r = spec.content_failures (sources_value s) (target_value s) (field_value target) (some_rule (map_tables s) r)
 
 -- of a field with its rule, in a segment that an item at this line gives
-abbrev pub failures_by : Sources → profiles.Contents → ℕ → FieldShape → Option (Bor Rule) → List Failure
-failures_by s to holder target r =
-    spec.count_failures holder (rule_count s r) (field_value target) (some_rule (map_tables s) r) ++ content_failures s to target r
+abbrev pub failures_by : Sources → ℕ → FieldShape → Option (Bor Rule) → List Failure
+failures_by s holder target r =
+    spec.count_failures holder (rule_count s r) (field_value target) (some_rule (map_tables s) r) ++ content_failures s target r
 
 -- of a field in a segment that an item at this line gives by these rules
-abbrev pub field_failures : Sources → profiles.Contents → ℕ → List Rule → FieldValue → List Failure
-field_failures s to holder rules = spec.field_failures (sources_value s) (profile_value to) holder (rules_value s rules)
+abbrev pub field_failures : Sources → ℕ → List Rule → FieldValue → List Failure
+field_failures s holder rules = spec.field_failures (sources_value s) (target_value s) holder (rules_value s rules)
 
 -- of all fields of the segment
-abbrev pub segment_failures : Sources → profiles.Contents → ℕ → List Rule → List FieldValue → List Failure
-segment_failures s to holder rules = spec.segment_failures (sources_value s) (profile_value to) holder (rules_value s rules)
-
--- of a leaf that is looked up in these rows
-abbrev pub rows_failures : Sources → ℕ → At → Option (Bor Rows) → Source → List Failure
-rows_failures s field a rows from =
-    spec.lookup_failures (sources_value s) field (record { line = a.line; comp = a.place.comp; sub = a.place.sub; leaf = resolved.looked_up (rows_value rows) (source from) })
+abbrev pub segment_failures : Sources → ℕ → List Rule → List FieldValue → List Failure
+segment_failures s holder rules = spec.segment_failures (sources_value s) (target_value s) holder (rules_value s rules)
 
 -- ---- a map
 
 -- of the rules 4 to 12
-abbrev pub failures : Sides → List Item → List LeftOut → List Failure
-failures s items drops = typed.failures (profile_value s.source.now) (profile_value s.target.now) (unlabelled (map_value s.map.now) items drops)
+abbrev pub failures : SidesValue → List Item → List LeftOut → List Failure
+failures s items drops = typed.failures (profile_value s.source) (profile_value s.target) (unlabelled (map_value s.map) items drops)
 
 -- ---- what is read
 

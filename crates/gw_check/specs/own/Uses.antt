@@ -4,8 +4,9 @@ use denote.Ref.{Bor}
 use Rattle.gw_profile.specs.declared.shape.SubShape.{SubShape}
 use Rattle.gw_profile.specs.declared.shape.CompShape.{CompShape}
 use Rattle.gw_profile.specs.declared.shape.FieldShape.{FieldShape}
-use Rattle.gw_profile.specs.Shapes.{SubValue, CompValue, FieldValue}
+use Rattle.gw_profile.specs.Shapes.{SubValue, CompValue, FieldValue, ProfileValue}
 use Rattle.gw_profile.specs.Seen.{field, comp, sub, profile_value}
+use Rattle.gw_maplang.specs.Seen.{now}
 use Rattle.gw_maplang.specs.Shapes.{TableValue}
 use Rattle.gw_resolve.specs.declared.resolved.At as ats
 use Rattle.gw_resolve.specs.declared.resolved.Rule as rules_of
@@ -13,15 +14,21 @@ use Rattle.gw_check.specs.declared.sources.Sources as declared
 use Rattle.gw_check.specs.declared.known.Known as the_known
 use Rattle.gw_resolve.specs.Places.{Known}
 use Rattle.gw_resolve.specs.Resolved.{At, Rule}
-use Rattle.gw_check.specs.Leaves.{Sources}
+use Rattle.gw_check.specs.declared.given.Given.{Given}
+use Rattle.gw_check.specs.Leaves.{Sources, Values, sub_values}
+use Rattle.gw_check.specs.own.Against.{rowed}
+use Rattle.gw_check.specs.own.Sides.{SidesValue}
 use Rattle.gw_resolve.specs.Seen.{scope, interval, saturated, at_leaf, rule}
 
 abbrev pub sources_value : declared.Sources → Sources
-sources_value s = record { profile = profile_value s.profile.now; scope = scope s.scope.now; current = option_map (λ f. field f.now) s.current }
+sources_value s = record { profile = profile_value s.sides.now.source; scope = scope s.scope.now; current = option_map (λ f. field f.now) s.current }
 
 -- the tables of the map
 abbrev pub map_tables : declared.Sources → List TableValue
-map_tables s = s.map.now.tables
+map_tables s = s.sides.now.map.tables
+
+abbrev pub target_value : declared.Sources → ProfileValue
+target_value s = profile_value s.sides.now.target
 
 abbrev pub leaves_value : declared.Sources → List ats.At → List At
 leaves_value s leaves = map (at_leaf (map_tables s)) leaves
@@ -42,6 +49,10 @@ some_sub s = option_map (λ b. sub b.now) s
 
 abbrev pub some_rule : List TableValue → Option (Bor rules_of.Rule) → Option Rule
 some_rule tables r = option_map (λ b. rule tables b.now) r
+
+-- what is read of a subcomponent, as it is or looked up
+abbrev pub given_texts : SidesValue → Given → Values
+given_texts s g = rowed s.map.tables (now g.rows) (sub_values (profile_value s.source) (some_sub g.sub))
 
 -- ---- the segment at a place
 

@@ -1,16 +1,15 @@
-use Rattle.std.proofs.Common.{map}
 use Rattle.gw_profile.specs.Seen.{sub}
-use Rattle.gw_check.specs.own.Lacking.{there_value, sub_lacks}
+use Rattle.gw_check.specs.own.Lacking.{sub_lacks}
 use Rattle.gw_resolve.specs.Seen.{failures, mark}
 use Rattle.gw_check.proofs.Each.{more_each, done_each}
-use Rattle.gw_check.proofs.made.check_subs.Goals as goal
+use Rattle.gw_check.proofs.lacking.check_subs.Goals as goal
 
 pub loop-sub-preserved : goal.loop-sub-preserved
 loop-sub-preserved c =
-    more_each (sub_lacks (mark c.args.mark) (map there_value c.args.leaves.now) c.args.comp) sub c.args.subs.now c.loop-sub.sub-index _ c.sub-item.result
+    more_each (sub_lacks (mark c.args.mark) c.args.standing.now c.args.comp) sub c.args.subs.now c.loop-sub.sub-index _ c.sub-item.result
     (failures c.loop-sub.found.items) (failures c.check_sub.new.found.items) c.loop-sub-test.true c.sub-item.is c.in_ok-check_sub.ensures c.loop-sub.invariant
 
 pub returns : goal.returns
 returns c =
-    done_each (sub_lacks (mark c.args.mark) (map there_value c.args.leaves.now) c.args.comp) sub c.args.subs.now c.loop-sub.sub-index _
+    done_each (sub_lacks (mark c.args.mark) c.args.standing.now c.args.comp) sub c.args.subs.now c.loop-sub.sub-index _
     (failures c.loop-sub.found.items) c.loop-sub-test.false c.loop-sub.invariant
