@@ -1,8 +1,11 @@
 -- A written content reads as its message.
-use Rattle.std.proofs.Common.{◌≡◌, ◌≢◌, ℕ, ◌+◌, ◌<◌, ◌≤◌, Bool, true, false, not, List, [], ◌∷◌, ◌++◌, length, map, take, drop, None, Some, refl, sym, ap, subst, ◌∙◌, append_assoc, arith}
-use Rattle.std.specs.Prelude.{◌==◌, ◌&&◌, ◌||◌, nat_le, nat_lt, if◌then◌else◌, position}
-use Rattle.std.proofs.lemmas.Bool.{le-ltb}
+use Rattle.std.proofs.Common.{◌≡◌, ◌≢◌, ℕ, ◌+◌, ◌<◌, ◌≤◌, Bool, true, false, not, List, [], ◌∷◌, ◌++◌, length, map, take, drop, None, Some, refl, sym, ap, subst, ◌∙◌, append_assoc, append-nil, arith}
+use Rattle.std.specs.Prelude.{◌==◌, nat_le, nat_lt, if◌then◌else◌, position}
+use Rattle.std.proofs.lemmas.Bool.{le-ltb, and_from, or_right, not_from_false, false_from_ne_true}
 use Rattle.std.proofs.lemmas.Bool.Decides.{nat_tests}
+use Rattle.std.proofs.lemmas.List.{take_all}
+use Rattle.std.proofs.lemmas.List.Elements.{All-from_recursion}
+use Rattle.std.proofs.lemmas.List.Splits.{slice_split_at}
 use Rattle.std.specs.List.{slice_split, prefix_len, AllByRecursion}
 use Rattle.std.specs.FinMap as texts
 use Rattle.gw_er7.specs.declared.delimiters.Delimiters.{Delimiters}
@@ -16,8 +19,9 @@ use Rattle.gw_er7.specs.Entries.{Entry}
 use Rattle.gw_er7.specs.Written.{fields_text, behind_separator, delimiters_text, line_text, written}
 use Rattle.gw_er7.proofs.Lined.{placed_line}
 use Rattle.gw_er7.proofs.Faults.{HasLine, HasNoControl, readable}
-use Rattle.gw_er7.proofs.Messages.{long, header_is}
-use Rattle.gw_er7.proofs.Rounds.{Each-append, fields-each, kept_texts, written_reads}
+use Rattle.gw_er7.proofs.Messages.{by_name, long, header_is, first_other}
+use Rattle.gw_er7.proofs.Each.{Each-append, Each-weaker}
+use Rattle.gw_er7.proofs.Rounds.{fields-each, kept_texts, written_reads}
 
 abbrev Row : List ℕ → Type 0
 Row bs = AllByRecursion IsInRange bs
@@ -30,10 +34,6 @@ allowed b is = let tab = is.1 in grind (arith, nat_tests)
 
 high : (b : ℕ) → 32 ≤ b → b < 256 → IsInRange b
 high b le lt = (lt, λ low. absurd (omega arith))
-
-either : (v : Bool) → (v || true) ≡ true
-either true = refl
-either false = refl
 
 -- ---- the bytes of a line
 
@@ -49,20 +49,19 @@ delimiters-row name =
       | false ↦ tt
     ]
 
+pub name-each : (Q : ℕ → Type 0) → ((b : ℕ) → 48 ≤ b → b ≤ 90 → Q b) → (name : List ℕ) → IsName name → AllByRecursion Q name
+name-each Q each name is =
+    by_name (λ n. is_named n ≡ true → AllByRecursion Q n) (λ a b c named.
+    let la : 48 ≤ a = grind (arith, nat_tests) in
+    let ha : a ≤ 90 = grind (arith, nat_tests) in
+    let lb : 48 ≤ b = grind (arith, nat_tests) in
+    let hb : b ≤ 90 = grind (arith, nat_tests) in
+    let lc : 48 ≤ c = grind (arith, nat_tests) in
+    let hc : c ≤ 90 = grind (arith, nat_tests) in
+    (each a la ha, (each b lb hb, (each c lc hc, tt)))) name is.three is.lawful
+
 name-row : (name : List ℕ) → IsName name → Row name
-name-row [] is = tt
-name-row (a ∷ []) is = absurd (let n = is.three in omega arith)
-name-row (a ∷ b ∷ []) is = absurd (let n = is.three in omega arith)
-name-row (a ∷ b ∷ c ∷ d ∷ name) is = absurd (let n = is.three in omega arith)
-name-row (a ∷ b ∷ c ∷ []) is =
-    let named = is.lawful in
-    let la : 32 ≤ a = grind (arith, nat_tests) in
-    let ha : a < 256 = grind (arith, nat_tests) in
-    let lb : 32 ≤ b = grind (arith, nat_tests) in
-    let hb : b < 256 = grind (arith, nat_tests) in
-    let lc : 32 ≤ c = grind (arith, nat_tests) in
-    let hc : c < 256 = grind (arith, nat_tests) in
-    (high a la ha, (high b lb hb, (high c lc hc, tt)))
+name-row = name-each IsInRange (λ b low most. high b (omega arith) (omega arith))
 
 line-row : (s : SegmentValue) → IsSegment s → Row (line_text s)
 line-row s is = Each-append IsInRange (s.name ++ delimiters_text s.name) _ (Each-append IsInRange s.name _ (name-row s.name is.name) (delimiters-row s.name)) (behind-row (first_field s.name) (texts.entries s.at) is.each)
@@ -82,24 +81,22 @@ other_line a b c (e ∷ es) named headless =
     let x = 124 ∷ fields_text 1 (e ∷ es) in
     let named_too : is_named (a ∷ b ∷ c ∷ x) ≡ true = rw (long a b c x) named in
     let headless_too : is_header (a ∷ b ∷ c ∷ x) ≡ false = rw (long a b c x) headless in
-    record { lawful = lawful (is_named (a ∷ b ∷ c ∷ x)) (is_header (a ∷ b ∷ c ∷ x)) (length (a ∷ b ∷ c ∷ x) == 3) named_too headless_too; begins = refl; behind = refl; some = omega arith }
-  where
-    lawful : (u v w : Bool) → u ≡ true → v ≡ false → (u && (not v && (w || true))) ≡ true
-    lawful true true w e f = absurd (let z : ⊥ = cc in z)
-    lawful true false w e f = either w
-    lawful false v w e f = absurd (let z : ⊥ = cc in z)
+    let end = or_right (length (a ∷ b ∷ c ∷ x) == 3) true refl in
+    record { lawful = and_from (is_named (a ∷ b ∷ c ∷ x)) _ named_too (and_from (not (is_header (a ∷ b ∷ c ∷ x))) _ (not_from_false _ headless_too) end); begins = refl; behind = refl; some = omega arith }
+
+-- no other segment is named MSH
+pub headless : (name : List ℕ) → IsName name → name ≢ header_name → is_header name ≡ false
+headless name is other = false_from_ne_true (is_header name) (λ e. other (sym (take_all 3 name (omega (arith, is.three))) ∙ header_is name e))
+
+pub other-bytes : (name : List ℕ) (es : List Entry) → is_header name ≡ false → name ++ delimiters_text name ++ behind_separator (first_field name) es ≡ name ++ behind_separator 1 es
+other-bytes name es e =
+    ap (λ (v : Bool). name ++ (if v then 124 ∷ 94 ∷ 126 ∷ 92 ∷ 38 ∷ [] else []) ++ behind_separator (if v then 3 else 1) es) e ∙ ap (λ (x : List ℕ). x ++ behind_separator 1 es) (append-nil name)
 
 pub other-text : (name : List ℕ) (es : List Entry) → IsName name → name ≢ header_name → IsOtherLine (name ++ delimiters_text name ++ behind_separator (first_field name) es) name es
-other-text [] es is other = absurd (let n = is.three in omega arith)
-other-text (a ∷ []) es is other = absurd (let n = is.three in omega arith)
-other-text (a ∷ b ∷ []) es is other = absurd (let n = is.three in omega arith)
-other-text (a ∷ b ∷ c ∷ d ∷ name) es is other = absurd (let n = is.three in omega arith)
-other-text (a ∷ b ∷ c ∷ []) es is other =
-    let name = a ∷ b ∷ c ∷ [] in
-    elim (is_header name) as (λ v. is_header name ≡ v → IsOtherLine (name ++ (if v then 124 ∷ 94 ∷ 126 ∷ 92 ∷ 38 ∷ [] else []) ++ behind_separator (if v then 3 else 1) es) name es) [
-      | true ↦ λ e. absurd (other (header_is name e))
-      | false ↦ λ e. other_line a b c es is.lawful e
-    ] refl
+other-text name es is other =
+    let none = headless name is other in
+    subst (λ (line : List ℕ). IsOtherLine line name es) (sym (other-bytes name es none))
+    (by_name (λ n. is_named n ≡ true → is_header n ≡ false → IsOtherLine (n ++ behind_separator 1 es) n es) (λ a b c. other_line a b c es) name is.three is.lawful none)
 
 pub record IsHeaderLine (line : List ℕ) (es : List Entry) : Type 0 where
   pub headed : is_header line ≡ true
@@ -116,17 +113,14 @@ header-text (e ∷ es) =
     let line = 77 ∷ 83 ∷ 72 ∷ 124 ∷ 94 ∷ 126 ∷ 92 ∷ 38 ∷ x in
     let eight : nat_le 8 (length line) ≡ true = grind (arith, nat_tests) in
     let three : nat_le 3 (length line) ≡ true = grind (arith, nat_tests) in
-    record { headed = rw three refl; delimited = delimited (nat_le 8 (length line)) (length line == 8) eight; delimiters = refl; begins = refl; behind = refl; some = omega arith }
-  where
-    delimited : (u w : Bool) → u ≡ true → (u && (true && (w || true))) ≡ true
-    delimited true w e = either w
-    delimited false w e = absurd (let z : ⊥ = cc in z)
+    let end = or_right (length line == 8) true refl in
+    record { headed = rw three refl; delimited = and_from (nat_le 8 (length line)) _ eight end; delimiters = refl; begins = refl; behind = refl; some = omega arith }
 
 -- ---- all lines
 
 split-row : (row rest : List ℕ) → Row row → slice_split is_line_end (row ++ 13 ∷ rest) ≡ row ∷ slice_split is_line_end rest
-split-row [] rest h = refl
-split-row (b ∷ row) rest h = rw (no_end b h.0, split-row row rest h.1) refl
+split-row row rest h =
+    slice_split_at is_line_end row 13 rest (All-from_recursion (λ b. is_line_end b ≡ false) row (Each-weaker IsInRange (λ b. is_line_end b ≡ false) no_end row h)) refl
 
 parts : List SegmentValue → List (List ℕ)
 parts ss = map line_text ss ++ [] ∷ []
@@ -136,6 +130,9 @@ unfolding parts
 split-written [] h = refl
 split-written (s ∷ ss) h =
     ap (slice_split is_line_end) (append_assoc (line_text s) (13 ∷ []) (written ss)) ∙ split-row (line_text s) (written ss) h.0 ∙ ap (λ (ps : List (List ℕ)). line_text s ∷ ps) (split-written ss h.1)
+
+pub other-kept : (s : SegmentValue) → IsOther s → AllByRecursion (IsEntry 1) (texts.entries s.at)
+other-kept s is = subst (λ (n : ℕ). AllByRecursion (IsEntry n) (texts.entries s.at)) (first_other s.name (headless s.name is.segment.name is.name)) is.segment.each
 
 record AreOthers (ls : List Line) (ss : List SegmentValue) : Type 0 where
   reads : ReadsOthers standard ls ss
@@ -150,36 +147,19 @@ others at (s ∷ ss) h =
     let l : Line = record { at = at; bytes = row } in
     let later = others (at + length row + 1) ss h.1 in
     let ls = placed (at + length row + 1) (map line_text ss ++ [] ∷ []) in
-    let kept : AllByRecursion (IsEntry 1) (texts.entries s.at) = subst (λ (n : ℕ). AllByRecursion (IsEntry n) (texts.entries s.at)) (one s.name h.0.segment.name h.0.name) h.0.segment.each in
+    let kept = other-kept s h.0 in
     let fields : ReadsFields standard 1 (drop 4 row) s = subst (λ (bs : List ℕ). ReadsFields standard 1 bs s) (sym is.behind) (written_reads 1 s (omega arith) kept) in
     subst (λ (xs : List Line). AreOthers xs (s ∷ ss)) (sym (placed_line at row (map line_text ss ++ [] ∷ []) is.some)) (record {
       reads = (record { name = sym is.begins; fields = fields }, later.reads);
       good = ap (λ (v : Bool). if v then first_bad 124 ls else Some at) is.lawful ∙ later.good;
       size = omega (arith, later.size);
     })
-  where
-    one : (name : List ℕ) → IsName name → name ≢ header_name → first_field name ≡ 1
-    one [] is other = refl
-    one (a ∷ []) is other = refl
-    one (a ∷ b ∷ []) is other = refl
-    one (a ∷ b ∷ c ∷ d ∷ name) is other = absurd (let n = is.three in omega arith)
-    one (a ∷ b ∷ c ∷ []) is other =
-        let name = a ∷ b ∷ c ∷ [] in
-        elim (is_header name) as (λ v. is_header name ≡ v → ◌≡◌ {A = ℕ} (if v then 3 else 1) 1) [ true ↦ λ e. absurd (other (header_is name e)) | false ↦ λ e. refl ] refl
 
 -- ---- the content
 
-rows : (ss : List SegmentValue) → AllByRecursion IsOther ss → AllByRecursion (λ s. Row (line_text s)) ss
-rows [] h = tt
-rows (s ∷ ss) h = (line-row s h.0.segment, rows ss h.1)
-
-row-allowed : (bs : List ℕ) → Row bs → AllByRecursion (λ b. is_allowed b ≡ true) bs
-row-allowed [] h = tt
-row-allowed (b ∷ bs) h = (allowed b h.0, row-allowed bs h.1)
-
 written-allowed : (ss : List SegmentValue) → AllByRecursion (λ s. Row (line_text s)) ss → AllByRecursion (λ b. is_allowed b ≡ true) (written ss)
 written-allowed [] h = tt
-written-allowed (s ∷ ss) h = Each-append (λ b. is_allowed b ≡ true) (line_text s ++ 13 ∷ []) (written ss) (Each-append (λ b. is_allowed b ≡ true) (line_text s) (13 ∷ []) (row-allowed (line_text s) h.0) (refl, tt)) (written-allowed ss h.1)
+written-allowed (s ∷ ss) h = Each-append (λ b. is_allowed b ≡ true) (line_text s ++ 13 ∷ []) (written ss) (Each-append (λ b. is_allowed b ≡ true) (line_text s) (13 ∷ []) (Each-weaker IsInRange (λ b. is_allowed b ≡ true) allowed (line_text s) h.0) (refl, tt)) (written-allowed ss h.1)
 
 all-pass : (bs : List ℕ) → AllByRecursion (λ b. is_allowed b ≡ true) bs → prefix_len (λ b. not (not (is_allowed b))) bs ≡ length bs
 all-pass [] h = refl
@@ -212,7 +192,7 @@ known s ss is =
     let header : Line = record { at = 0; bytes = row } in
     let ls = placed at (map line_text ss ++ [] ∷ []) in
     let head : IsHeaderLine row es = subst (λ (bs : List ℕ). IsHeaderLine bs es) (sym (header-line s is.0.name)) (header-text es) in
-    let each : AllByRecursion (λ x. Row (line_text x)) (s ∷ ss) = (line-row s is.0.segment, rows ss is.1) in
+    let each : AllByRecursion (λ x. Row (line_text x)) (s ∷ ss) = (line-row s is.0.segment, Each-weaker IsOther (λ x. Row (line_text x)) (λ x other. line-row x other.segment) ss is.1) in
     let all : lines content ≡ header ∷ ls = ap (placed 0) (split-written (s ∷ ss) each) ∙ placed_line 0 row (map line_text ss ++ [] ∷ []) head.some in
     let later = others at ss is.1 in
     let kept : AllByRecursion (IsEntry 3) es = subst (λ (name : List ℕ). AllByRecursion (IsEntry (first_field name)) es) is.0.name is.0.segment.each in

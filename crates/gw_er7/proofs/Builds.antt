@@ -1,7 +1,8 @@
 -- What callers of a builder have to show.
-use Rattle.std.proofs.Common.{◌≡◌, ◌≢◌, ℕ, ◌<◌, ◌≤◌, List, [], ◌∷◌, ◌++◌, length, None, refl, sym, ap, ◌∙◌, arith}
-use Rattle.std.specs.Prelude.{◌==◌, ◌&&◌, Bool, true, false}
-use Rattle.std.proofs.lemmas.Bool.{eqb-true}
+use Rattle.std.proofs.Common.{◌≡◌, ◌≢◌, ℕ, ◌<◌, ◌≤◌, List, [], ◌∷◌, ◌++◌, length, None, refl, sym, ap, subst, ◌∙◌, arith}
+use Rattle.std.specs.Prelude.{◌==◌, true, false}
+use Rattle.std.proofs.lemmas.Bool.{eqb-true, and_parts, true≢false}
+use Rattle.std.proofs.lemmas.List.{nil_from_length}
 use Rattle.std.specs.List.{AllByRecursion}
 use Rattle.std.specs.Ordering.{nat_cmp}
 use Rattle.std.specs.Cmp.Lexicographic.{slice_cmp}
@@ -18,14 +19,10 @@ use Rattle.gw_er7.proofs.Canonicals.{decides}
 abbrev pub begun : List ℕ → SegmentValue
 begun name = record { name = name; at = texts.empty }
 
-no_entries : (es : List Entry) → length es ≡ 0 → (P : Entry → Type 0) → AllByRecursion P es
-no_entries [] e P = tt
-no_entries (x ∷ es) e P = absurd (omega arith)
-
 pub begun_segment : (name : List ℕ) → IsName name → IsSegment (begun name)
 begun_segment name is = record {
   name = is;
-  each = no_entries (texts.entries (begun name).at) (sym (len-entries (begun name).at) ∙ len-empty (slice_cmp nat_cmp) (List ℕ)) (IsEntry (first_field name));
+  each = subst (λ (es : List Entry). AllByRecursion (IsEntry (first_field name)) es) (sym (nil_from_length (texts.entries (begun name).at) (sym (len-entries (begun name).at) ∙ len-empty (slice_cmp nat_cmp) (List ℕ)))) tt;
 }
 
 -- MSH comes first
@@ -42,19 +39,11 @@ begun_other [] name h is other = absurd h
 begun_other (s ∷ ss) name h is other = (h.0, others_begun ss name is other h.1)
 
 name_of : (name : List ℕ) → is_name name ≡ true → IsName name
-name_of name e = record { three = eqb-true (length name) 3 (left (length name == 3) (is_named name) e); lawful = right (length name == 3) (is_named name) e }
-  where
-    left : (u v : Bool) → (u && v) ≡ true → u ≡ true
-    left true v e = refl
-    left false v e = absurd (let z : ⊥ = cc in z)
-
-    right : (u v : Bool) → (u && v) ≡ true → v ≡ true
-    right true v e = e
-    right false v e = absurd (let z : ⊥ = cc in z)
+name_of name e = (let both = and_parts (length name == 3) (is_named name) e in record { three = eqb-true (length name) 3 both.0; lawful = both.1 })
 
 -- the same, by the tests of the name
 pub begun_named : (ss : List SegmentValue) (name : List ℕ) → IsMessage ss → is_name name ≡ true → is_header name ≡ false → IsBegun (ss ++ begun name ∷ [])
-begun_named ss name h is other = begun_other ss name h (name_of name is) (λ e. absurd (let t : false ≡ true = sym other ∙ ap is_header e in let z : ⊥ = cc in z))
+begun_named ss name h is other = begun_other ss name h (name_of name is) (λ e. true≢false (sym (ap is_header e) ∙ other))
 
 -- a canonical text that isn't empty, at four positive numbers
 pub entry_at : (first f r c s : ℕ) (text : List ℕ) → first ≤ f → 0 < f → 0 < r → 0 < c → 0 < s → IsCanonical text → 0 < length text → IsEntry first (f ∷ r ∷ c ∷ s ∷ [], text)

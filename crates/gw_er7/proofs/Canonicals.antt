@@ -1,13 +1,14 @@
 -- Whether a text is canonical: what its first byte says of it.
 use Rattle.std.proofs.Common.{◌≡◌, ◌≢◌, ℕ, zero, suc, ◌+◌, ◌<◌, ◌≤◌, Bool, true, false, List, [], ◌∷◌, ◌++◌, length, get_or, take, drop, refl, sym, ap, subst, ◌∙◌, append_assoc, arith}
-use Rattle.std.specs.Prelude.{◌==◌, ◌&&◌, ◌↔◌}
+use Rattle.std.specs.Prelude.{◌↔◌}
+use Rattle.std.proofs.lemmas.Bool.{and_parts, false_from_ne_true, true≢false}
 use Rattle.std.proofs.lemmas.Bool.Decides.{nat_tests}
-use Rattle.std.proofs.lemmas.List.{take-append-drop, drop_more, drop_at, take_at, length-append, length-take, length-drop}
+use Rattle.std.proofs.lemmas.List.{nil_from_length, take-append-drop, drop_more, drop_at, take_at, length-append, length-take, length-drop}
 use Rattle.std.proofs.lemmas.Slice.Eq.{bytes_eq-Decides}
-use Rattle.std.specs.List.{list_all, flat_map, position_or_len, AllByRecursion}
+use Rattle.std.specs.List.{list_all, flat_map, AllByRecursion}
 use Rattle.gw_er7.specs.Text.{canon, standard, is_special, is_text_byte, is_canonical, body_of, Item, Plain, Escape, spelled, IsItem, IsInRange, IsPlain, IsCanonical}
 use Rattle.gw_er7.specs.own.Canonical.{is_plain, Follows}
-use Rattle.gw_er7.proofs.Fixed.{canonical_stays}
+use Rattle.gw_er7.proofs.Fixed.{body_len, canonical_stays}
 use Rattle.gw_er7.proofs.Ranges.{Lawful, HasLawful, canonical-from}
 use Rattle.gw_er7.proofs.Rounds.{IsTextByte, text_bytes}
 
@@ -27,15 +28,7 @@ plain_is b is =
 
 pub all_of : (bs : List ℕ) → ((k : ℕ) → get_or bs k 0 < 256) → list_all is_plain bs ≡ true → AllByRecursion IsPlain bs
 all_of [] small e = tt
-all_of (b ∷ bs) small e = (plain_of b (small 0) (left (is_plain b) _ e), all_of bs (λ k. small (suc k)) (right (is_plain b) _ e))
-  where
-    left : (u v : Bool) → (u && v) ≡ true → u ≡ true
-    left true v e = refl
-    left false v e = absurd (let z : ⊥ = cc in z)
-
-    right : (u v : Bool) → (u && v) ≡ true → v ≡ true
-    right true v e = e
-    right false v e = absurd (let z : ⊥ = cc in z)
+all_of (b ∷ bs) small e = (let both = and_parts (is_plain b) _ e in (plain_of b (small 0) both.0, all_of bs (λ k. small (suc k)) both.1))
 
 pub all_are : (bs : List ℕ) → AllByRecursion IsPlain bs → list_all is_plain bs ≡ true
 all_are [] h = refl
@@ -70,7 +63,7 @@ opened b bs is = by_items is.items is.whole is.each
         by_escape body (flat_map spelled items) same h.0.0 h.0.1 (rest ∙ append_assoc body (92 ∷ []) (flat_map spelled items)) (record { items = items; whole = refl; each = h.1 })
 
 not_plain_escape : IsPlain 92 → ⊥
-not_plain_escape is = let e : true ≡ false = is.not_special in let z : ⊥ = cc in z
+not_plain_escape is = true≢false is.not_special
 
 pub plain_first : (b : ℕ) (bs : List ℕ) → b < 256 → is_plain b ≡ true → Follows (b ∷ bs) bs
 plain_first b bs small e = record {
@@ -87,21 +80,14 @@ pub other_first : (b : ℕ) (bs : List ℕ) → is_plain b ≡ false → b ≢ 9
 other_first b bs e apart is = from (opened b bs is)
   where
     from : Opened b bs → ⊥
-    from (plainly p rest) = let t : true ≡ false = sym (plain_is b p) ∙ e in let z : ⊥ = cc in z
+    from (plainly p rest) = true≢false (sym (plain_is b p) ∙ e)
     from (by_escape body rest at some all cut k) = apart at
 
 -- ---- an escape
 
 -- the body ends at the first escape character behind it
 body_cut : (body rest : List ℕ) → AllByRecursion IsPlain body → body_of standard (body ++ 92 ∷ rest) ≡ body
-body_cut body rest h = ap (λ (n : ℕ). take n (body ++ 92 ∷ rest)) (len body rest h) ∙ take_at body (92 ∷ rest) (length body) refl
-  where
-    not_escape : (b : ℕ) → is_special b ≡ false → (b == 92) ≡ false
-    not_escape b e = grind (arith, nat_tests)
-
-    len : (body rest : List ℕ) → AllByRecursion IsPlain body → position_or_len (λ b. b == 92) (body ++ 92 ∷ rest) ≡ length body
-    len [] rest h = refl
-    len (b ∷ body) rest h = rw (not_escape b h.0.not_special) (omega (arith, len body rest h.1))
+body_cut body rest h = ap (λ (n : ℕ). take n (body ++ 92 ∷ rest)) (body_len body rest h) ∙ take_at body (92 ∷ rest) (length body) refl
 
 pub no_end : (b : ℕ) (bs : List ℕ) → b ≡ 92 → body_of standard bs ≡ bs → IsCanonical (b ∷ bs) → ⊥
 no_end b bs at none is = from (opened b bs is)
@@ -120,20 +106,15 @@ bad_body b bs k at found e is = from (opened b bs is)
     from (plainly p rest) = not_plain_escape (subst IsPlain at p)
     from (by_escape body rest a full all cut kept) =
         let same : take k bs ≡ body = sym found ∙ ap (body_of standard) cut ∙ body_cut body rest all in
-        let t : true ≡ false = sym (all_are body all) ∙ ap (list_all is_plain) (sym same) ∙ e in
-        let z : ⊥ = cc in z
+        true≢false (sym (all_are body all) ∙ ap (list_all is_plain) (sym same) ∙ e)
 
 pub empty_body : (b : ℕ) (bs : List ℕ) (k : ℕ) → b ≡ 92 → body_of standard bs ≡ take k bs → length (take k bs) ≡ 0 → IsCanonical (b ∷ bs) → ⊥
 empty_body b bs k at found none is = from (opened b bs is)
   where
-    nil : (t : List ℕ) → length t ≡ 0 → t ≡ []
-    nil [] e = refl
-    nil (x ∷ t) e = absurd (omega arith)
-
     from : Opened b bs → ⊥
     from (plainly p rest) = not_plain_escape (subst IsPlain at p)
     from (by_escape body rest a full all cut kept) =
-        full (sym (body_cut body rest all) ∙ ap (body_of standard) (sym cut) ∙ found ∙ nil (take k bs) none)
+        full (sym (body_cut body rest all) ∙ ap (body_of standard) (sym cut) ∙ found ∙ nil_from_length (take k bs) none)
 
 pub good_body : (b : ℕ) (bs : List ℕ) (k : ℕ) (rest : List ℕ) → b ≡ 92 → k < length bs → get_or bs k 0 ≡ 92 → body_of standard bs ≡ take k bs → 0 < length (take k bs) → AllByRecursion IsPlain (take k bs) → rest ≡ drop (k + 1) bs → Follows (b ∷ bs) rest
 good_body b bs k rest at lt there found some all e = record {
@@ -169,21 +150,13 @@ lawful_standard = record { field = high 124 (omega arith) (omega arith); compone
 
 in_range : (bs : List ℕ) → list_all is_text_byte bs ≡ true → Lawful bs
 in_range [] e = tt
-in_range (b ∷ bs) e = (here b (left (is_text_byte b) _ e), in_range bs (right (is_text_byte b) _ e))
+in_range (b ∷ bs) e = (let both = and_parts (is_text_byte b) _ e in (here b both.0, in_range bs both.1))
   where
     here : (b : ℕ) → is_text_byte b ≡ true → IsInRange b
     here b e =
         let small : b < 256 = grind (arith, nat_tests) in
         let low : b < 32 → b ≡ 9 = grind (arith, nat_tests) in
         (small, low)
-
-    left : (u v : Bool) → (u && v) ≡ true → u ≡ true
-    left true v e = refl
-    left false v e = absurd (let z : ⊥ = cc in z)
-
-    right : (u v : Bool) → (u && v) ≡ true → v ≡ true
-    right true v e = e
-    right false v e = absurd (let z : ⊥ = cc in z)
 
 range_of : (bs : List ℕ) → AllByRecursion IsTextByte bs → list_all is_text_byte bs ≡ true
 range_of [] h = refl
@@ -195,18 +168,11 @@ range_of (b ∷ bs) h = rw (here b h.0.range) (range_of bs h.1)
 pub decides : (text : List ℕ) → (is_canonical text ≡ true) ↔ IsCanonical text
 decides text = (from, to)
   where
-    left : (u v : Bool) → (u && v) ≡ true → u ≡ true
-    left true v e = refl
-    left false v e = absurd (let z : ⊥ = cc in z)
-
-    right : (u v : Bool) → (u && v) ≡ true → v ≡ true
-    right true v e = e
-    right false v e = absurd (let z : ⊥ = cc in z)
-
     from : is_canonical text ≡ true → IsCanonical text
     from e =
-        let lawful = in_range text (left (list_all is_text_byte text) _ e) in
-        let same : canon standard text ≡ text = (bytes_eq-Decides (canon standard text) text).0 (right (list_all is_text_byte text) _ e) in
+        let both = and_parts (list_all is_text_byte text) _ e in
+        let lawful = in_range text both.0 in
+        let same : canon standard text ≡ text = (bytes_eq-Decides (canon standard text) text).0 both.1 in
         subst (λ (t : List ℕ). IsCanonical t) same (canonical-from standard 0 text lawful_standard lawful)
 
     to : IsCanonical text → is_canonical text ≡ true
@@ -220,8 +186,4 @@ empty_text (b ∷ bs) h = absurd (omega arith)
 
 pub same_test : (v : Bool) (text : List ℕ) → (v ≡ true) ↔ IsCanonical text → v ≡ is_canonical text
 same_test true text h = sym ((decides text).1 (h.0 refl))
-same_test false text h = sym (not_true (is_canonical text) (λ e. let t : false ≡ true = h.1 ((decides text).0 e) in let z : ⊥ = cc in z))
-  where
-    not_true : (v : Bool) → (v ≡ true → ⊥) → v ≡ false
-    not_true true isn't = absurd (isn't refl)
-    not_true false isn't = refl
+same_test false text h = sym (false_from_ne_true (is_canonical text) (λ e. true≢false (sym (h.1 ((decides text).0 e)))))

@@ -4,14 +4,14 @@ use Rattle.std.specs.Prelude.{T, ◌||◌}
 use Rattle.std.specs.List.{list_any, IsDistinct, All, AllByRecursion}
 use Rattle.std.specs.List.Sorted.{IsPermutation, IsSortedBy, IsStrictlySortedBy}
 use Rattle.std.specs.Ordering.{nat_cmp, is_lt, is_eq, eq_by_cmp, ordering_reverse}
-use Rattle.std.specs.Cmp.{IsStrictWeakOrder, Equal-is}
+use Rattle.std.specs.Cmp.{IsStrictWeakOrder}
 use Rattle.std.proofs.lemmas.List.Sorted.{ranks_by}
 use Rattle.std.specs.Cmp.Lexicographic.{slice_cmp, nat_list_cmp_total}
 use Rattle.std.specs.Fn.{Mut, Called, ComparesAs}
 use Rattle.std.proofs.lemmas.Fn.{always_returns_same}
 use Rattle.std.proofs.lemmas.Cmp.{eq_by_cmp_equiv}
 use Rattle.std.proofs.lemmas.List.Sorted.{IsPermutation-map, IsPermutation-sym, All-permutation}
-use Rattle.std.proofs.lemmas.List.{get_or-map, map-append}
+use Rattle.std.proofs.lemmas.List.{get_or-map, map-append, length-map}
 use Rattle.std.proofs.lemmas.Map.Keys.{IsDistinct-push, IsDistinct-tail, IsDistinct-IsPermutation, sorted_head, sorted_tail, sorted_from_all_adjacent, apart_from_distinct}
 use Rattle.std.specs.FinMap as texts
 use Rattle.std.specs.FinMap.{is_sorted, find, same_map, get-from_sorted, get-from_entries, from_entries_push, slice_cmp-IsAntisymmetric, nat_cmp-IsAntisymmetric}
@@ -20,7 +20,7 @@ use Rattle.gw_er7.specs.Message.{numbers, SegmentValue}
 use Rattle.gw_er7.specs.Entries.{Entry}
 use Rattle.gw_er7.specs.View.{Held, entry_of, entries_of, stored, drafted, AreApart, AreSorted}
 use Rattle.gw_er7.proofs.Sorted.{order, both}
-use Rattle.gw_er7.proofs.Keys.{tie}
+use Rattle.gw_er7.proofs.Keys.{tie, tied}
 
 abbrev key : Held → List ℕ
 key l = numbers l.place
@@ -48,15 +48,11 @@ less_of Greater Less e low apart = absurd (let z : ⊥ = cc in z)
 less_of Greater Equal e low apart = absurd (let z : ⊥ = cc in z)
 less_of Greater Greater e low apart = absurd (let z : ⊥ = cc in z)
 
-length-keys : (xs : List Held) → length (map key xs) ≡ length xs
-length-keys [] = refl
-length-keys (x ∷ xs) = omega (arith, length-keys xs)
-
 rising_keys : (xs : List Held) → AreSorted xs → AreApart xs → IsStrictlySortedBy order (map key xs)
 rising_keys [] sorted apart = sorted_from_all_adjacent nat_list_cmp_total [] [] (λ k lt. absurd (omega arith))
 rising_keys (x ∷ xs) sorted apart =
     sorted_from_all_adjacent nat_list_cmp_total (map key (x ∷ xs)) [] (λ k lt. (
-    let short : k + 1 < length (x ∷ xs) = omega (arith, lt, length-keys (x ∷ xs)) in
+    let short : k + 1 < length (x ∷ xs) = omega (arith, lt, length-map (x ∷ xs) key) in
     let at_k = get_or-map key (x ∷ xs) k x [] (omega (arith, short)) in
     let at_next = get_or-map key (x ∷ xs) (k + 1) x [] short in
     let a = key (get_or (x ∷ xs) k x) in
@@ -84,7 +80,7 @@ self_found (x ∷ xs) apart zero d lt = rw (tie (key x) (key x) refl) refl
 self_found (x ∷ xs) apart (suc k) d lt =
     let short : k < length xs = omega arith in
     let at = get_or-map key xs k d [] short in
-    let other : same (key x) (key (get_or xs k d)) ≡ false = ap (λ (q : List ℕ). same (key x) q) (sym at) ∙ apart_from_distinct same (map key (x ∷ xs)) 0 (suc k) [] apart (omega arith) (omega (arith, length-keys xs)) in
+    let other : same (key x) (key (get_or xs k d)) ≡ false = ap (λ (q : List ℕ). same (key x) q) (sym at) ∙ apart_from_distinct same (map key (x ∷ xs)) 0 (suc k) [] apart (omega arith) (omega (arith, length-map xs key)) in
     let turned : same (key (get_or xs k d)) (key x) ≡ false = flips (key (get_or xs k d)) (key x) ∙ other in
     rw turned (self_found xs (IsDistinct-tail same (key x) (map key xs) apart) k d short)
 
@@ -92,7 +88,7 @@ found_in : (xs : List Held) (es : List Entry) → All (IsFoundIn es) xs → (q t
 found_in [] es all q t e = absurd (let z : ⊥ = cc in z)
 found_in (x ∷ xs) es all q t e =
     elim (same q (key x)) as (λ v. same q (key x) ≡ v → cond v (Some x.text) (find order q (entries_of xs)) ≡ Some t → find order q es ≡ Some t) [
-      | true ↦ λ tied e. (let here : q ≡ key x = slice_cmp-IsAntisymmetric nat_cmp-IsAntisymmetric q (key x) ((Equal-is (slice_cmp nat_cmp q (key x))).0 tied) in
+      | true ↦ λ tie e. (let here : q ≡ key x = tied q (key x) tie in
           ap (λ (k : List ℕ). find order k es) here ∙ all 0 x (omega arith) ∙ e)
       | false ↦ λ _ e. found_in xs es (λ k d lt. all (suc k) d (omega arith)) q t e
     ] refl e

@@ -1,8 +1,7 @@
 -- Which fault a content has.
-use Rattle.std.proofs.Common.{◌≡◌, ℕ, ◌<◌, ◌≤◌, true, false, not, List, [], ◌∷◌, length, drop, None, Some, refl, sym, ap, ◌∙◌, arith}
-use Rattle.std.proofs.Common.{inl, inr}
-use Rattle.std.proofs.lemmas.Bool.{cases_lt}
-use Rattle.std.specs.Prelude.{position}
+use Rattle.std.proofs.Common.{◌≡◌, ℕ, ◌<◌, ◌≤◌, true, false, not, List, [], ◌∷◌, length, drop, Option, None, Some, refl, sym, ap, ◌∙◌, arith, inl, inr}
+use Rattle.std.proofs.lemmas.Bool.{cases_lt, true≢false}
+use Rattle.std.specs.Prelude.{◌==◌, if◌then◌else◌, unwrap_or, position}
 use Rattle.gw_er7.specs.declared.fault.ReadFault.{ReadFault}
 use Rattle.gw_er7.specs.declared.fault.ReadFault.TheVariants.{Memory, Empty, Control, NoHeader, BadDelimiters, BadSegment, TooManySegments}
 use Rattle.gw_er7.specs.Content.{Line, lines, is_allowed, is_delimited, delimiters_of, first_bad, header_line}
@@ -41,10 +40,10 @@ module _ {content : List ℕ} {header : Line} {ls : List Line} (has : HasLine co
   not_control clean at h = let e = sym clean.none ∙ h in absurd (let z : ⊥ = cc in z)
 
   not_headless : is_header header.bytes ≡ true → ¬ (Applies content NoHeader)
-  not_headless is h = let e : true ≡ false = sym is ∙ sym (ap is_header head_is) ∙ h in absurd (let z : ⊥ = cc in z)
+  not_headless is h = true≢false (sym is ∙ sym (ap is_header head_is) ∙ h)
 
   not_bad : is_delimited header.bytes ≡ true → ¬ (Applies content BadDelimiters)
-  not_bad is h = let e : true ≡ false = sym is ∙ sym (ap is_delimited head_is) ∙ h in absurd (let z : ⊥ = cc in z)
+  not_bad is h = true≢false (sym is ∙ sym (ap is_delimited head_is) ∙ h)
 
   bad_is : first_bad (delimiters_of (header_line (lines content))).field (drop 1 (lines content)) ≡ first_bad (delimiters_of header.bytes).field ls
   bad_is = ap (λ (line : List ℕ). first_bad (delimiters_of line).field (drop 1 (lines content))) head_is ∙ ap (first_bad (delimiters_of header.bytes).field) later_is
@@ -107,50 +106,21 @@ no_lines content e = record {
 
 -- ---- a content has one fault
 
-same_fault : (content : List ℕ) (f g : ReadFault) → number f ≡ number g → Applies content f → Applies content g → f ≡ g
-same_fault content Memory g e h k = absurd h
-same_fault content Empty Memory e h k = absurd k
-same_fault content Empty Empty e h k = refl
-same_fault content Empty (Control b) e h k = absurd (omega arith)
-same_fault content Empty NoHeader e h k = absurd (omega arith)
-same_fault content Empty BadDelimiters e h k = absurd (omega arith)
-same_fault content Empty (BadSegment b) e h k = absurd (omega arith)
-same_fault content Empty TooManySegments e h k = absurd (omega arith)
-same_fault content (Control a) Memory e h k = absurd k
-same_fault content (Control a) Empty e h k = absurd (omega arith)
-same_fault content (Control a) (Control b) e h k = let s = sym h ∙ k in let is : a ≡ b = cc in ap (λ (n : ℕ). Control n) is
-same_fault content (Control a) NoHeader e h k = absurd (omega arith)
-same_fault content (Control a) BadDelimiters e h k = absurd (omega arith)
-same_fault content (Control a) (BadSegment b) e h k = absurd (omega arith)
-same_fault content (Control a) TooManySegments e h k = absurd (omega arith)
-same_fault content NoHeader Memory e h k = absurd k
-same_fault content NoHeader Empty e h k = absurd (omega arith)
-same_fault content NoHeader (Control b) e h k = absurd (omega arith)
-same_fault content NoHeader NoHeader e h k = refl
-same_fault content NoHeader BadDelimiters e h k = absurd (omega arith)
-same_fault content NoHeader (BadSegment b) e h k = absurd (omega arith)
-same_fault content NoHeader TooManySegments e h k = absurd (omega arith)
-same_fault content BadDelimiters Memory e h k = absurd k
-same_fault content BadDelimiters Empty e h k = absurd (omega arith)
-same_fault content BadDelimiters (Control b) e h k = absurd (omega arith)
-same_fault content BadDelimiters NoHeader e h k = absurd (omega arith)
-same_fault content BadDelimiters BadDelimiters e h k = refl
-same_fault content BadDelimiters (BadSegment b) e h k = absurd (omega arith)
-same_fault content BadDelimiters TooManySegments e h k = absurd (omega arith)
-same_fault content (BadSegment a) Memory e h k = absurd k
-same_fault content (BadSegment a) Empty e h k = absurd (omega arith)
-same_fault content (BadSegment a) (Control b) e h k = absurd (omega arith)
-same_fault content (BadSegment a) NoHeader e h k = absurd (omega arith)
-same_fault content (BadSegment a) BadDelimiters e h k = absurd (omega arith)
-same_fault content (BadSegment a) (BadSegment b) e h k = let s = sym h ∙ k in let is : a ≡ b = cc in ap (λ (n : ℕ). BadSegment n) is
-same_fault content (BadSegment a) TooManySegments e h k = absurd (omega arith)
-same_fault content TooManySegments Memory e h k = absurd k
-same_fault content TooManySegments Empty e h k = absurd (omega arith)
-same_fault content TooManySegments (Control b) e h k = absurd (omega arith)
-same_fault content TooManySegments NoHeader e h k = absurd (omega arith)
-same_fault content TooManySegments BadDelimiters e h k = absurd (omega arith)
-same_fault content TooManySegments (BadSegment b) e h k = absurd (omega arith)
-same_fault content TooManySegments TooManySegments e h k = refl
+-- the fault with a number, at the place that the content gives it
+abbrev told : List ℕ → ℕ → ReadFault
+told content n =
+    if n == 2 then Empty else if n == 3 then Control (unwrap_or (position (λ b. not (is_allowed b)) content) 0) else if n == 4 then NoHeader
+    else if n == 5 then BadDelimiters else if n == 6 then BadSegment (unwrap_or (first_bad (delimiters_of (header_line (lines content))).field (drop 1 (lines content))) 0)
+    else TooManySegments
+
+is_told : (content : List ℕ) (f : ReadFault) → Applies content f → told content (number f) ≡ f
+is_told content Memory h = absurd h
+is_told content Empty h = refl
+is_told content (Control at) h = ap (λ (o : Option ℕ). Control (unwrap_or o 0)) h
+is_told content NoHeader h = refl
+is_told content BadDelimiters h = refl
+is_told content (BadSegment at) h = ap (λ (o : Option ℕ). BadSegment (unwrap_or o 0)) h
+is_told content TooManySegments h = refl
 
 pub one_fault : (content : List ℕ) (f g : ReadFault) → Faulty content f → Faulty content g → f ≡ g
 one_fault content f g a b =
@@ -158,6 +128,6 @@ one_fault content f g a b =
       | inl lt ↦ absurd (b.first f lt a.applies)
       | inr le ↦ elim (cases_lt (number g) (number f)) as (λ _. f ≡ g) [
         | inl lt ↦ absurd (a.first g lt b.applies)
-        | inr ge ↦ same_fault content f g (omega arith) a.applies b.applies
+        | inr ge ↦ (let same : number f ≡ number g = omega arith in sym (is_told content f a.applies) ∙ ap (told content) same ∙ is_told content g b.applies)
       ]
     ]

@@ -1,7 +1,7 @@
 -- Look-ups among texts in order.
 use Rattle.std.proofs.Common.{◌≡◌, ◌≢◌, ℕ, zero, suc, ◌+◌, ◌<◌, ◌≤◌, Bool, true, false, cond, not, List, [], ◌∷◌, length, get_or, drop, Option, None, Some, Ordering, Less, Equal, Greater, refl, sym, ap, subst, ◌∙◌, arith, inl, inr}
 use Rattle.std.specs.Prelude.{◌==◌, ◌&&◌, T, unwrap_or}
-use Rattle.std.proofs.lemmas.Bool.{cases_lt, eq-eqb}
+use Rattle.std.proofs.lemmas.Bool.{cases_lt, eq-eqb, true≢false}
 use Rattle.std.proofs.lemmas.Bool.Decides.{nat_tests}
 use Rattle.std.proofs.lemmas.List.{drop_more, drop_all}
 use Rattle.std.proofs.lemmas.List.Sums.{position_or_len_is}
@@ -39,7 +39,7 @@ rising_at (x ∷ xs) i zero d h lt short = absurd (omega arith)
 rising_at (x ∷ xs) zero (suc j) d h lt short = below_at (key x) xs j d (first _ _ h) (omega arith)
 rising_at (x ∷ xs) (suc i) (suc j) d h lt short = rising_at xs i j d (second _ _ h) (omega arith) (omega arith)
 
-lt_true : (r : Ordering) → is_lt r ≡ true → r ≡ Less
+pub lt_true : (r : Ordering) → is_lt r ≡ true → r ≡ Less
 lt_true Less h = refl
 lt_true Equal h = absurd (let z : ⊥ = cc in z)
 lt_true Greater h = absurd (let z : ⊥ = cc in z)
@@ -66,7 +66,7 @@ none_from test xs n l h lt is fails = λ k d low high. by k d low high (test (ge
     by : (k : ℕ) (d : Held) → n ≤ k → k < length xs → (b : Bool) → test (get_or xs k d) ≡ b → test (get_or xs k d) ≡ false
     by k d low high false e = e
     by k d low high true e =
-        absurd (let z : true ≡ false = sym (h n k d low high e) ∙ ap test (here xs n l d lt is) ∙ fails in let no_more : ⊥ = cc in no_more)
+        absurd (true≢false (sym (h n k d low high e) ∙ ap test (here xs n l d lt is) ∙ fails))
 
 -- how far a search among these texts has come
 pub record IsBetween (test : Held → Bool) (xs : List Held) (low high : ℕ) : Type 0 where
@@ -102,7 +102,8 @@ count_is q (x ∷ xs) n le h = sym (position_or_len_is (λ l. not (is_below q l)
 
 apart_less : (a b : List ℕ) → order a b ≡ Less → b ≢ a
 apart_less a b e same =
-    absurd (let t : eq_by_cmp (slice_cmp nat_cmp) a b ≡ true = tie a b (sym same) in let f : eq_by_cmp (slice_cmp nat_cmp) a b ≡ false = ap is_eq e in let z : true ≡ false = sym t ∙ f in let no_more : ⊥ = cc in no_more)
+    let apart : eq_by_cmp (slice_cmp nat_cmp) a b ≡ false = ap is_eq e in
+    true≢false (sym (tie a b (sym same)) ∙ apart)
 
 pub look_less : (q : List ℕ) (x : Held) (xs : List Held) → order (key x) q ≡ Less → find order q (entries_of (x ∷ xs)) ≡ find order q (entries_of xs)
 look_less q x xs e = rw (no_tie q (key x) (apart_less (key x) q e)) refl
@@ -158,7 +159,7 @@ pub text_none : (p : Place) (xs : List Held) (n : ℕ) (l : Held) → Sorted xs 
 text_none p xs n l h e lt is at =
     let start : find order (numbers p) (entries_of xs) ≡ hit (numbers p) (l ∷ drop (n + 1) xs) =
     skipped (numbers p) xs h ∙ ap (λ (j : ℕ). hit (numbers p) (drop j xs)) (sym e) ∙ ap (hit (numbers p)) (drop_more xs n l lt ∙ ap (λ (x : Held). x ∷ drop (n + 1) xs) (sym is)) in
-    let apart : eq_by_cmp (slice_cmp nat_cmp) (numbers p) (key l) ≡ false = no_tie (numbers p) (key l) (λ s. absurd (let t : same l.place p ≡ true = same-numbers l.place p (sym s) in let z : true ≡ false = sym t ∙ at in let no_more : ⊥ = cc in no_more)) in
+    let apart : eq_by_cmp (slice_cmp nat_cmp) (numbers p) (key l) ≡ false = no_tie (numbers p) (key l) (λ s. true≢false (sym (same-numbers l.place p (sym s)) ∙ at)) in
     ap (λ (o : Option (List ℕ)). unwrap_or o []) (start ∙ ap (λ (b : Bool). cond b (Some l.text) None) apart)
 
 pub text_past : (p : Place) (xs : List Held) (n : ℕ) → Sorted xs → n ≡ position_or_len (λ l. not (is_below (numbers p) l)) xs → length xs ≤ n → unwrap_or (find order (numbers p) (entries_of xs)) [] ≡ []

@@ -1,13 +1,14 @@
 -- Lines that are taken in, one by one, and what is gathered from them.
-use Rattle.std.proofs.Common.{◌≡◌, ℕ, zero, suc, ◌+◌, ◌<◌, ◌≤◌, true, false, List, [], ◌∷◌, ◌++◌, length, take, drop, get_or, None, Some, Result, Ok, Err, refl, sym, ap, subst, ◌∙◌, append_assoc, arith}
-use Rattle.std.specs.Prelude.{T, OnOk, if◌then◌else◌}
+use Rattle.std.proofs.Common.{◌≡◌, ℕ, zero, suc, ◌+◌, ◌<◌, ◌≤◌, List, [], ◌∷◌, ◌++◌, length, take, drop, None, Result, Ok, Err, sym, ap, subst, ◌∙◌, append_assoc, arith}
+use Rattle.std.specs.Prelude.{T, OnOk}
+use Rattle.std.proofs.lemmas.Bool.{and_parts}
 use Rattle.std.specs.Ordering.{nat_cmp}
 use Rattle.std.specs.Cmp.Lexicographic.{slice_cmp}
 use Rattle.std.specs.FinMap as texts
 use Rattle.std.specs.FinMap.{is_sorted}
 use Rattle.std.proofs.lemmas.List.{append-nil}
 use Rattle.gw_er7.specs.declared.delimiters.Delimiters.{Delimiters}
-use Rattle.gw_er7.specs.Content.{Line, Begins, lines_from, first_bad, is_segment_line}
+use Rattle.gw_er7.specs.Content.{Line, Begins, lines_from, first_bad}
 use Rattle.gw_er7.specs.Names.{is_named}
 use Rattle.gw_er7.specs.declared.fields.Taken.{Taken}
 use Rattle.gw_er7.specs.declared.start.Start.{Start}
@@ -19,15 +20,11 @@ use Rattle.gw_er7.specs.own.Gathered.{segment_of, others_of, IsTaken, Takes}
 use Rattle.gw_er7.proofs.Lying.{taken_in, behind_entries}
 use Rattle.gw_er7.proofs.Slices.{length-held}
 use Rattle.gw_er7.proofs.Sorted.{sorted-fields}
-use Rattle.gw_er7.proofs.Messages.{both-first, name_long}
+use Rattle.gw_er7.proofs.Lined.{good_first}
+use Rattle.gw_er7.proofs.Messages.{name_long}
+pub use Rattle.gw_er7.proofs.Messages.{three}
 
 -- ---- one segment is taken in
-
-pub three : (line : List ℕ) → 3 ≤ length line → get_or line 0 0 ∷ get_or line 1 0 ∷ get_or line 2 0 ∷ [] ≡ take 3 line
-three [] le = absurd (omega arith)
-three (a ∷ []) le = absurd (omega arith)
-three (a ∷ b ∷ []) le = absurd (omega arith)
-three (a ∷ b ∷ c ∷ line) le = refl
 
 pub takes_in : {A E : Type 0} (r : Result A E) (starts after : List Start) (n : Start) (old new : Taken) (d : Delimiters) (first skip : ℕ) (line bytes : List ℕ) → IsTaken starts old → after ≡ starts ++ n ∷ [] → n.first ≡ length old.leaves → n.name ≡ take 3 line → bytes ≡ drop skip line
     → OnOk r (AreInside new.bytes.items new.leaves) → OnOk r (Keeps old new) → OnOk r (taken_by new ≡ taken_by old ++ fields d first bytes) → OnOk r (Takes starts old after new (segment_of d first skip line ∷ []))
@@ -49,16 +46,9 @@ closed starts taken texts ss is same e message =
 
 -- ---- where lines are none but segments'
 
-good_first : (field : ℕ) (l : Line) (ls : List Line) → first_bad field (l ∷ ls) ≡ None → (is_segment_line field l.bytes ≡ true) × (first_bad field ls ≡ None)
-good_first field l ls good =
-    elim (is_segment_line field l.bytes) as (λ v. (if v then first_bad field ls else Some l.at) ≡ None → (v ≡ true) × (first_bad field ls ≡ None)) [
-      | true ↦ λ good. (refl, good)
-      | false ↦ λ good. absurd (let z : ⊥ = cc in z)
-    ] good
-
 pub good_named : (field at : ℕ) (bytes : List ℕ) (l : Line) (behind : List ℕ) → Begins at bytes l behind → first_bad field (lines_from at bytes) ≡ None → 3 ≤ length l.bytes
 good_named field at bytes l behind begins good =
-    name_long l.bytes (both-first (is_named l.bytes) _ (good_first field l (lines_from (l.at + length l.bytes + 1) behind) (ap (first_bad field) (sym begins.lines) ∙ good)).0)
+    name_long l.bytes (and_parts (is_named l.bytes) _ (good_first field l (lines_from (l.at + length l.bytes + 1) behind) (ap (first_bad field) (sym begins.lines) ∙ good)).0).0
 
 pub good_rest : (field at : ℕ) (bytes : List ℕ) (l : Line) (behind : List ℕ) → Begins at bytes l behind → first_bad field (lines_from at bytes) ≡ None → first_bad field (lines_from (l.at + length l.bytes + 1) behind) ≡ None
 good_rest field at bytes l behind begins good = (good_first field l (lines_from (l.at + length l.bytes + 1) behind) (ap (first_bad field) (sym begins.lines) ∙ good)).1

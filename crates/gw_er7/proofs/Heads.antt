@@ -1,7 +1,9 @@
 -- The bytes of a raw value that stand for themselves, up to the first that doesn't.
-use Rattle.std.proofs.Common.{◌≡◌, ℕ, suc, ◌+◌, ◌≤◌, Bool, true, false, cond, not, List, [], ◌∷◌, ◌++◌, length, take, drop, None, Some, refl, sym, ap, subst, ◌∙◌, append_assoc, arith, inl, inr}
+use Rattle.std.proofs.Common.{◌≡◌, ℕ, suc, ◌+◌, ◌≤◌, Bool, true, false, cond, not, List, [], ◌∷◌, ◌++◌, length, take, drop, None, Some, refl, sym, ap, subst, ◌∙◌, append_assoc, arith}
 use Rattle.std.specs.Prelude.{◌==◌, ◌||◌, nat_lt, position}
-use Rattle.std.proofs.lemmas.Bool.{cases_lt, lt-ltb}
+use Rattle.std.proofs.lemmas.Bool.{or_parts}
+use Rattle.std.proofs.lemmas.Option.{cond_some}
+use Rattle.std.proofs.lemmas.Grind.{common_steps}
 use Rattle.std.proofs.lemmas.List.Sums.{prefix_len-le-length}
 use Rattle.std.specs.List.{position_or_len, before_first}
 use Rattle.gw_er7.specs.declared.delimiters.Delimiters.{Delimiters}
@@ -13,18 +15,10 @@ use Rattle.gw_er7.proofs.Sequences.{canon-plain}
 abbrev pub stops : Delimiters → ℕ → Bool
 stops d b = is_special b || b == d.escape
 
-first_false : (u v : Bool) → (u || v) ≡ false → u ≡ false
-first_false true v e = e
-first_false false v e = refl
-
-second_false : (u v : Bool) → (u || v) ≡ false → v ≡ false
-second_false true v e = absurd (let z : ⊥ = cc in z)
-second_false false v e = e
-
 canon-kept : (d : Delimiters) (b : ℕ) (bs : List ℕ) → stops d b ≡ false → canon d (b ∷ bs) ≡ b ∷ canon d bs
 canon-kept d b bs e =
-    let escape : (b == d.escape) ≡ false = second_false (is_special b) (b == d.escape) e in
-    canon-plain d b bs (rw escape refl) ∙ ap (λ (x : List ℕ). x ++ canon d bs) (itself b (first_false (is_special b) (b == d.escape) e))
+    let both = or_parts (is_special b) (b == d.escape) e in
+    canon-plain d b bs (rw both.1 refl) ∙ ap (λ (x : List ℕ). x ++ canon d bs) (itself b both.0)
 
 pub canon-head : (d : Delimiters) (bs : List ℕ) → canon d bs ≡ take (position_or_len (stops d) bs) bs ++ canon d (drop (position_or_len (stops d) bs) bs)
 canon-head d [] = refl
@@ -38,21 +32,13 @@ canon-head d (b ∷ bs) =
 
 -- ---- what `position` found
 
-found : (a n k : ℕ) → cond (nat_lt a n) (Some a) None ≡ Some k → k ≡ a
-found a n k h = elim (nat_lt a n) as (λ v. cond v (Some a) None ≡ Some k → k ≡ a) [ true ↦ λ h. cc | false ↦ λ h. absurd (let z : ⊥ = cc in z) ] h
-
-unfound : (a n : ℕ) → cond (nat_lt a n) (Some a) None ≡ None → n ≤ a
-unfound a n h =
-    elim (cases_lt a n) as (λ _. n ≤ a) [
-      | inl lt ↦ (let below : nat_lt a n ≡ true = lt-ltb _ _ lt in let e = rw below at h in absurd (let z : ⊥ = cc in z))
-      | inr le ↦ le
-    ]
-
 pub head_found : (d : Delimiters) (bs : List ℕ) (k : ℕ) → position (stops d) bs ≡ Some k → k ≡ position_or_len (stops d) bs
-head_found d bs k e = found (position_or_len (stops d) bs) (length bs) k e
+head_found d bs k e = sym (cond_some (nat_lt (position_or_len (stops d) bs) (length bs)) (position_or_len (stops d) bs) k e).1
 
 pub head_whole : (d : Delimiters) (bs : List ℕ) → position (stops d) bs ≡ None → length bs ≡ position_or_len (stops d) bs
-head_whole d bs e = omega (arith, unfound (position_or_len (stops d) bs) (length bs) e, prefix_len-le-length (λ b. not (stops d b)) bs)
+head_whole d bs e =
+    let all : length bs ≤ position_or_len (stops d) bs = grind (arith, common_steps) in
+    omega (arith, prefix_len-le-length (λ b. not (stops d b)) bs)
 
 -- the bytes at the head were taken in
 pub head_taken : (d : Delimiters) (text out bs rest : List ℕ) → out ≡ text ++ before_first (stops d) bs → rest ≡ drop (position_or_len (stops d) bs) bs → out ++ canon d rest ≡ text ++ canon d bs

@@ -1,3 +1,4 @@
+pub mod Each
 pub mod Sequences
 pub mod Cuts
 pub mod Separated
@@ -30,7 +31,6 @@ pub mod Lent
 pub mod Lying
 pub mod Uniques
 pub mod Solids
-pub mod Spelled
 pub mod Writings
 pub mod Total
 pub mod Drafts

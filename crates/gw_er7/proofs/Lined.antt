@@ -1,5 +1,5 @@
 -- Lines, cut off one by one.
-use Rattle.std.proofs.Common.{◌≡◌, ℕ, ◌+◌, ◌<◌, true, List, [], ◌∷◌, length, take, drop, None, Some, refl, ap, ◌∙◌, arith}
+use Rattle.std.proofs.Common.{◌≡◌, ℕ, ◌+◌, ◌<◌, true, false, if◌then◌else◌, List, [], ◌∷◌, length, take, drop, None, Some, refl, ap, ◌∙◌, arith}
 use Rattle.std.specs.List.{slice_split}
 use Rattle.memchr.specs.Find.{IsFirstByte, is_byte2}
 use Rattle.gw_er7.specs.Content.{is_line_end, Line, placed, lines_from, first_bad, is_segment_line}
@@ -21,6 +21,13 @@ placed_line at [] ps h = absurd (omega arith)
 placed_line at (b ∷ bs) ps h = refl
 
 -- ---- the first line that is no segment's
+
+pub good_first : (field : ℕ) (l : Line) (ls : List Line) → first_bad field (l ∷ ls) ≡ None → (is_segment_line field l.bytes ≡ true) × (first_bad field ls ≡ None)
+good_first field l ls good =
+    elim (is_segment_line field l.bytes) as (λ v. (if v then first_bad field ls else Some l.at) ≡ None → (v ≡ true) × (first_bad field ls ≡ None)) [
+      | true ↦ λ good. (refl, good)
+      | false ↦ λ good. absurd (let z : ⊥ = cc in z)
+    ] good
 
 pub counted : (field : ℕ) (l : Line) (ls all : List Line) (n : ℕ) → is_segment_line field l.bytes ≡ true
     → (first_bad field all ≡ first_bad field (l ∷ ls)) × (length all ≡ n + length (l ∷ ls))

@@ -1,13 +1,15 @@
 -- What is gathered from the lines of a content without a fault.
-use Rattle.std.proofs.Common.{◌≡◌, ℕ, zero, suc, ◌+◌, ◌<◌, ◌≤◌, Bool, true, false, cond, not, List, [], ◌∷◌, length, take, drop, get_or, Option, None, Some, refl, sym, ap, subst, ◌∙◌, arith}
-use Rattle.std.specs.Prelude.{◌&&◌, ◌||◌, ◌==◌, nat_le, nat_lt, if◌then◌else◌, position}
-use Rattle.std.proofs.lemmas.Bool.{cases_lt, lt-ltb, leb-true, le-leb, eqb-true, false_from_ne_true, true≢false}
-use Rattle.std.proofs.Common.{inl, inr}
+use Rattle.std.proofs.Common.{◌≡◌, ℕ, ◌+◌, ◌<◌, ◌≤◌, Bool, true, false, not, List, [], ◌∷◌, length, take, drop, get_or, Option, None, Some, refl, sym, ap, subst, ◌∙◌, arith}
+use Rattle.std.specs.Prelude.{◌==◌, nat_le, if◌then◌else◌, position}
+use Rattle.std.proofs.lemmas.Bool.{leb-true, le-leb, eqb-true, and_parts, not-true, not-false, true_from_ne_false, true≢false}
+use Rattle.std.proofs.lemmas.Bool.Decides.{nat_tests}
+use Rattle.std.proofs.lemmas.List.{nil_from_length}
+use Rattle.std.proofs.lemmas.List.Elements.{All-from_get_or, recursion_from_All}
 use Rattle.std.specs.Ordering.{nat_cmp}
 use Rattle.std.specs.Cmp.Lexicographic.{slice_cmp}
 use Rattle.std.specs.FinMap as texts
 use Rattle.std.specs.FinMap.{entries-from_sorted}
-use Rattle.std.specs.List.{slice_split, onto_first, prefix_len, AllByRecursion}
+use Rattle.std.specs.List.{slice_split, AllByRecursion}
 use Rattle.gw_er7.specs.declared.delimiters.Delimiters.{Delimiters}
 use Rattle.gw_er7.specs.declared.fault.ReadFault.TheVariants.{Control, NoHeader, BadDelimiters, BadSegment}
 use Rattle.gw_er7.specs.Text.{IsInRange}
@@ -19,80 +21,66 @@ use Rattle.gw_er7.specs.Message.{first_field, IsEntry, IsSegment, IsHeader, IsOt
 use Rattle.gw_er7.specs.Reading.{ReadsOthers, ReadsLines, Reads}
 use Rattle.gw_er7.specs.Entries.{fields}
 use Rattle.gw_er7.specs.own.Gathered.{segment_of, others_of}
+use Rattle.gw_er7.proofs.Each.{Each-drop, Each-split}
+use Rattle.gw_er7.proofs.Lined.{good_first}
 use Rattle.gw_er7.proofs.Ranges.{Lawful, HasLawful, fields_kept}
+use Rattle.gw_er7.proofs.Separated.{found_none}
 use Rattle.gw_er7.proofs.Sorted.{sorted-fields}
 use Rattle.gw_er7.proofs.Levels.{reads_fields}
 
-is_true : (v : Bool) → ¬ (v ≡ false) → v ≡ true
-is_true true h = refl
-is_true false h = absurd (h refl)
-
-is_none : (o : Option ℕ) → ((n : ℕ) → ¬ (o ≡ Some n)) → o ≡ None
+pub is_none : (o : Option ℕ) → ((n : ℕ) → ¬ (o ≡ Some n)) → o ≡ None
 is_none None h = refl
 is_none (Some n) h = absurd (h n refl)
 
 -- ---- bytes of a content
 
--- a byte of a content, and whether it ends a line
-pub record IsByte (b : ℕ) : Type 0 where
+-- a byte of a content
+record IsByte (b : ℕ) : Type 0 where
   small : b < 256
   allowed : is_allowed b ≡ true
 
-abbrev pub Bytes : List ℕ → Type 0
-Bytes bs = AllByRecursion IsByte bs
-
-by_the_left : (u v : Bool) → (u || v) ≡ true → v ≡ false → u ≡ true
-by_the_left true v e out = refl
-by_the_left false v e out = absurd (true≢false (sym e ∙ out))
-
-by_the_right : (u v : Bool) → (u || v) ≡ true → u ≡ false → v ≡ true
-by_the_right true v e out = absurd (true≢false out)
-by_the_right false v e out = e
-
 in_range : (b : ℕ) → IsByte b → is_line_end b ≡ false → IsInRange b
-in_range b is inside = (
-  is.small,
-  λ low.
-      let under : nat_le 32 b ≡ false = false_from_ne_true (nat_le 32 b) (λ e. let over = leb-true 32 b e in omega arith) in
-      eqb-true b 9 (by_the_left (b == 9) (is_line_end b) (by_the_right (nat_le 32 b) _ is.allowed under) inside),
-)
-
-lawful-onto : (b : ℕ) (ps : List (List ℕ)) → IsInRange b → AllByRecursion Lawful ps → AllByRecursion Lawful (onto_first b ps)
-lawful-onto b [] is h = ((is, tt), tt)
-lawful-onto b (p ∷ ps) is h = ((is, h.0), h.1)
-
-pub lawful-parts : (bs : List ℕ) → Bytes bs → AllByRecursion Lawful (slice_split is_line_end bs)
-lawful-parts [] h = (tt, tt)
-lawful-parts (b ∷ bs) h =
-    elim (is_line_end b) as (λ v. is_line_end b ≡ v → AllByRecursion Lawful (cond v ([] ∷ slice_split is_line_end bs) (onto_first b (slice_split is_line_end bs)))) [
-      | true ↦ λ _. (tt, lawful-parts bs h.1)
-      | false ↦ λ inside. lawful-onto b (slice_split is_line_end bs) (in_range b h.0 inside) (lawful-parts bs h.1)
-    ] refl
+in_range b is inside =
+    let allowed = is.allowed in
+    let low : b < 32 → b ≡ 9 = grind (arith, nat_tests) in
+    (is.small, low)
 
 abbrev pub LawfulLines : List Line → Type 0
 LawfulLines ls = AllByRecursion (λ l. Lawful l.bytes) ls
 
-pub lawful-placed : (at : ℕ) (ps : List (List ℕ)) → AllByRecursion Lawful ps → LawfulLines (placed at ps)
+lawful-placed : (at : ℕ) (ps : List (List ℕ)) → AllByRecursion Lawful ps → LawfulLines (placed at ps)
 lawful-placed at [] h = tt
 lawful-placed at ([] ∷ ps) h = lawful-placed (at + 1) ps h.1
 lawful-placed at ((b ∷ bs) ∷ ps) h = (h.0, lawful-placed (at + length (b ∷ bs) + 1) ps h.1)
 
-lawful-drop : (n : ℕ) (bs : List ℕ) → Lawful bs → Lawful (drop n bs)
-lawful-drop zero bs h = h
-lawful-drop (suc n) [] h = tt
-lawful-drop (suc n) (b ∷ bs) h = lawful-drop n bs h.1
+-- where no byte is found that isn't allowed
+pub lawful-lines : (content : List ℕ) → ((k : ℕ) → get_or content k 0 < 256) → position (λ b. not (is_allowed b)) content ≡ None → LawfulLines (lines content)
+lawful-lines content small none =
+    let bytes : AllByRecursion IsByte content = recursion_from_All IsByte content (All-from_get_or IsByte content 0 (λ k lt. (
+    let allowed = not-false (is_allowed (get_or content k 0)) (found_none (λ b. not (is_allowed b)) content none k 0 lt) in record { small = small k; allowed = allowed }))) in
+    lawful-placed 0 (slice_split is_line_end content) (Each-split IsByte IsInRange is_line_end in_range content bytes)
 
-pub both-first : (u v : Bool) → (u && v) ≡ true → u ≡ true
-both-first true v e = refl
-both-first false v e = absurd (let z : ⊥ = cc in z)
+-- ---- three bytes at the head
 
-both-second : (u v : Bool) → (u && v) ≡ true → v ≡ true
-both-second true v e = e
-both-second false v e = absurd (let z : ⊥ = cc in z)
+by_three : (P : List ℕ → Type 0) → ((a b c : ℕ) (bs : List ℕ) → P (a ∷ b ∷ c ∷ bs)) → (line : List ℕ) → 3 ≤ length line → P line
+by_three P each [] le = absurd (omega arith)
+by_three P each (a ∷ []) le = absurd (omega arith)
+by_three P each (a ∷ b ∷ []) le = absurd (omega arith)
+by_three P each (a ∷ b ∷ c ∷ bs) le = each a b c bs
 
-not_is : (v : Bool) → not v ≡ true → v ≡ false
-not_is true e = absurd (let z : ⊥ = cc in z)
-not_is false e = refl
+-- no more than three
+pub by_name : (P : List ℕ → Type 0) → ((a b c : ℕ) → P (a ∷ b ∷ c ∷ [])) → (name : List ℕ) → length name ≡ 3 → P name
+by_name P each name e =
+    by_three (λ l. length l ≡ 3 → P l) (λ a b c bs n. subst (λ (t : List ℕ). P (a ∷ b ∷ c ∷ t)) (sym (nil_from_length bs (omega arith))) (each a b c)) name (omega arith) e
+
+pub three : (line : List ℕ) → 3 ≤ length line → get_or line 0 0 ∷ get_or line 1 0 ∷ get_or line 2 0 ∷ [] ≡ take 3 line
+three line le = by_three (λ l. get_or l 0 0 ∷ get_or l 1 0 ∷ get_or l 2 0 ∷ [] ≡ take 3 l) (λ a b c bs. refl) line le
+
+pub header_long : (line : List ℕ) → is_header line ≡ true → 3 ≤ length line
+header_long line e = leb-true 3 (length line) (and_parts (nat_le 3 (length line)) _ e).0
+
+pub name_long : (line : List ℕ) → is_named line ≡ true → 3 ≤ length line
+name_long line e = leb-true 3 (length line) (and_parts (nat_le 3 (length line)) _ e).0
 
 pub long : (a b c : ℕ) (bs : List ℕ) → nat_le 3 (length (a ∷ b ∷ c ∷ bs)) ≡ true
 long a b c bs = le-leb 3 (length (a ∷ b ∷ c ∷ bs)) (omega arith)
@@ -100,58 +88,56 @@ long a b c bs = le-leb 3 (length (a ∷ b ∷ c ∷ bs)) (omega arith)
 -- ---- names
 
 name_is : (line : List ℕ) → is_named line ≡ true → IsName (take 3 line)
-name_is [] e = absurd (let z : ⊥ = cc in z)
-name_is (a ∷ []) e = absurd (let z : ⊥ = cc in z)
-name_is (a ∷ b ∷ []) e = absurd (let z : ⊥ = cc in z)
-name_is (a ∷ b ∷ c ∷ bs) e = record { three = refl; lawful = both-second (nat_le 3 (length (a ∷ b ∷ c ∷ bs))) _ e }
+name_is line e =
+    by_three (λ l. is_named l ≡ true → IsName (take 3 l)) (λ a b c bs e. record { three = refl; lawful = (and_parts (nat_le 3 (length (a ∷ b ∷ c ∷ bs))) _ e).1 })
+    line (name_long line e) e
 
 -- the three bytes of a name that is MSH
-letters : (a b c : ℕ) (bs : List ℕ) → is_header (a ∷ b ∷ c ∷ bs) ≡ true → (a ≡ 77) × (b ≡ 83) × (c ≡ 72)
-letters a b c bs e =
-    let all = both-second (nat_le 3 (length (a ∷ b ∷ c ∷ bs))) _ e in
-    let two = both-second (a == 77) _ all in
-    (eqb-true a 77 (both-first (a == 77) _ all), eqb-true b 83 (both-first (b == 83) _ two), eqb-true c 72 (both-second (b == 83) _ two))
+letters : (line : List ℕ) → is_header line ≡ true → (get_or line 0 0 ≡ 77) × (get_or line 1 0 ≡ 83) × (get_or line 2 0 ≡ 72)
+letters line e =
+    let all = and_parts (get_or line 0 0 == 77) _ (and_parts (nat_le 3 (length line)) _ e).1 in
+    let two = and_parts (get_or line 1 0 == 83) _ all.1 in
+    (eqb-true (get_or line 0 0) 77 all.0, eqb-true (get_or line 1 0) 83 two.0, eqb-true (get_or line 2 0) 72 two.1)
 
 pub header_is : (line : List ℕ) → is_header line ≡ true → take 3 line ≡ header_name
-header_is [] e = absurd (let z : ⊥ = cc in z)
-header_is (a ∷ []) e = absurd (let z : ⊥ = cc in z)
-header_is (a ∷ b ∷ []) e = absurd (let z : ⊥ = cc in z)
-header_is (a ∷ b ∷ c ∷ bs) e = let is = letters a b c bs e in rw (is.0, is.1, is.2) refl
+header_is line e = (let is = letters line e in sym (three line (header_long line e)) ∙ (λ i. is.0 i ∷ is.1 i ∷ is.2 i ∷ []))
 
 other_is : (line : List ℕ) → is_named line ≡ true → is_header (take 3 line) ≡ is_header line
-other_is [] e = refl
-other_is (a ∷ []) e = refl
-other_is (a ∷ b ∷ []) e = refl
-other_is (a ∷ b ∷ c ∷ bs) e = rw (long a b c bs) refl
+other_is line e = by_three (λ l. is_header (take 3 l) ≡ is_header l) (λ a b c bs. rw (long a b c bs) refl) line (name_long line e)
 
 -- ---- one line
 
-first_other : (name : List ℕ) → is_header name ≡ false → first_field name ≡ 1
+pub first_other : (name : List ℕ) → is_header name ≡ false → first_field name ≡ 1
 first_other name e = ap (λ (v : Bool). if v then 3 else 1) e
 
 lawful-delimiter : (b : ℕ) → is_delimiter b ≡ true → IsInRange b
 lawful-delimiter b e =
-    let low = leb-true 33 b (both-first (nat_le 33 b) _ e) in
-    let high = leb-true b 126 (both-first (nat_le b 126) _ (both-second (nat_le 33 b) _ e)) in
+    let both = and_parts (nat_le 33 b) _ e in
+    let low = leb-true 33 b both.0 in
+    let high = leb-true b 126 (and_parts (nat_le b 126) _ both.1).0 in
     (omega arith, λ under. absurd (omega arith))
 
-pub lawful-delimiters : (d : Delimiters) → are_delimiters d ≡ true → HasLawful d
+lawful-delimiters : (d : Delimiters) → are_delimiters d ≡ true → HasLawful d
 lawful-delimiters d e =
-    let one = both-second (is_delimiter d.field) _ e in
-    let two = both-second (is_delimiter d.component) _ one in
-    let three = both-second (is_delimiter d.repetition) _ two in
-    let four = both-second (is_delimiter d.escape) _ three in
+    let one = and_parts (is_delimiter d.field) _ e in
+    let two = and_parts (is_delimiter d.component) _ one.1 in
+    let three = and_parts (is_delimiter d.repetition) _ two.1 in
+    let four = and_parts (is_delimiter d.escape) _ three.1 in
     record {
-      field = lawful-delimiter d.field (both-first (is_delimiter d.field) _ e);
-      component = lawful-delimiter d.component (both-first (is_delimiter d.component) _ one);
-      repetition = lawful-delimiter d.repetition (both-first (is_delimiter d.repetition) _ two);
-      escape = lawful-delimiter d.escape (both-first (is_delimiter d.escape) _ three);
-      subcomponent = lawful-delimiter d.subcomponent (both-first (is_delimiter d.subcomponent) _ four);
+      field = lawful-delimiter d.field one.0;
+      component = lawful-delimiter d.component two.0;
+      repetition = lawful-delimiter d.repetition three.0;
+      escape = lawful-delimiter d.escape four.0;
+      subcomponent = lawful-delimiter d.subcomponent (and_parts (is_delimiter d.subcomponent) _ four.1).0;
     }
+
+-- where a line passes its tests
+pub delimiters_kept : (line : List ℕ) → is_delimited line ≡ true → HasLawful (delimiters_of line)
+delimiters_kept line e = lawful-delimiters (delimiters_of line) (and_parts (are_delimiters (delimiters_of line)) _ (and_parts (nat_le 8 (length line)) _ e).1).0
 
 segment_kept : (d : Delimiters) (first skip : ℕ) (line : List ℕ) → HasLawful d → Lawful line → 0 < first → is_named line ≡ true → first_field (take 3 line) ≡ first → IsSegment (segment_of d first skip line)
 segment_kept d first skip line delimiters h lt named from =
-    let kept = fields_kept d first (drop skip line) lt delimiters (lawful-drop skip line h) in
+    let kept = fields_kept d first (drop skip line) lt delimiters (Each-drop IsInRange skip line h) in
     record {
       name = name_is line named;
       each = subst (λ (n : ℕ). AllByRecursion (IsEntry n) (texts.entries (segment_of d first skip line).at)) (sym from)
@@ -161,21 +147,21 @@ segment_kept d first skip line delimiters h lt named from =
 pub header_kept : (d : Delimiters) (line : List ℕ) → HasLawful d → Lawful line → is_header line ≡ true → IsHeader (segment_of d 3 9 line)
 header_kept d line delimiters h is =
     let name = header_is line is in
-    record { segment = segment_kept d 3 9 line delimiters h (omega arith) (named line is) (ap first_field name ∙ refl); name = name }
+    record { segment = segment_kept d 3 9 line delimiters h (omega arith) (named is) (ap first_field name); name = name }
   where
-    named : (line : List ℕ) → is_header line ≡ true → is_named line ≡ true
-    named [] e = absurd (let z : ⊥ = cc in z)
-    named (a ∷ []) e = absurd (let z : ⊥ = cc in z)
-    named (a ∷ b ∷ []) e = absurd (let z : ⊥ = cc in z)
-    named (a ∷ b ∷ c ∷ bs) e = let is = letters a b c bs e in rw (long a b c bs, is.0, is.1, is.2) refl
+    named : is_header line ≡ true → is_named line ≡ true
+    named is =
+        let is_it = letters line is in
+        let le : nat_le 3 (length line) ≡ true = le-leb 3 (length line) (header_long line is) in
+        rw (le, is_it.0, is_it.1, is_it.2) refl
 
 other_kept : (d : Delimiters) (field : ℕ) (line : List ℕ) → HasLawful d → Lawful line → is_segment_line field line ≡ true → IsOther (segment_of d 1 4 line)
 other_kept d field line delimiters h is =
-    let named = both-first (is_named line) _ is in
-    let headless : is_header (take 3 line) ≡ false = other_is line named ∙ not_is (is_header line) (both-first (not (is_header line)) _ (both-second (is_named line) _ is)) in
+    let both = and_parts (is_named line) _ is in
+    let headless : is_header (take 3 line) ≡ false = other_is line both.0 ∙ not-true (is_header line) (and_parts (not (is_header line)) _ both.1).0 in
     record {
-      segment = segment_kept d 1 4 line delimiters h (omega arith) named (first_other (take 3 line) headless);
-      name = λ e. absurd (let t : true ≡ false = ap is_header (sym e) ∙ headless in let z : ⊥ = cc in z);
+      segment = segment_kept d 1 4 line delimiters h (omega arith) both.0 (first_other (take 3 line) headless);
+      name = λ e. true≢false (ap is_header (sym e) ∙ headless);
     }
 
 -- ---- all lines
@@ -183,32 +169,14 @@ other_kept d field line delimiters h is =
 pub others_kept : (d : Delimiters) (ls : List Line) → HasLawful d → LawfulLines ls → first_bad d.field ls ≡ None → AllByRecursion IsOther (others_of d ls)
 others_kept d [] delimiters h good = tt
 others_kept d (l ∷ ls) delimiters h good =
-    elim (is_segment_line d.field l.bytes) as (λ v. is_segment_line d.field l.bytes ≡ v → (if v then first_bad d.field ls else Some l.at) ≡ None → AllByRecursion IsOther (others_of d (l ∷ ls))) [
-      | true ↦ λ is good. (other_kept d d.field l.bytes delimiters h.0 is, others_kept d ls delimiters h.1 good)
-      | false ↦ λ is good. absurd (let z : ⊥ = cc in z)
-    ] refl good
+    let first = good_first d.field l ls good in
+    (other_kept d d.field l.bytes delimiters h.0 first.0, others_kept d ls delimiters h.1 first.1)
 
 pub others_read : (d : Delimiters) (ls : List Line) → ReadsOthers d ls (others_of d ls)
 others_read d [] = refl
 others_read d (l ∷ ls) = (record { name = refl; fields = reads_fields d 1 (drop 4 l.bytes) (take 3 l.bytes) }, others_read d ls)
 
 -- ---- a content
-
--- where no byte is found that isn't allowed, each is
-pub unfound : (a n : ℕ) → cond (nat_lt a n) (Some a) None ≡ None → n ≤ a
-unfound a n h =
-    elim (cases_lt a n) as (λ _. n ≤ a) [
-      | inl lt ↦ (let below : nat_lt a n ≡ true = lt-ltb _ _ lt in let e = rw below at h in absurd (let z : ⊥ = cc in z))
-      | inr le ↦ le
-    ]
-
-pub clean : (bs : List ℕ) → ((k : ℕ) → get_or bs k 0 < 256) → length bs ≤ prefix_len (λ b. not (not (is_allowed b))) bs → Bytes bs
-clean [] small h = tt
-clean (b ∷ bs) small h =
-    elim (is_allowed b) as (λ v. is_allowed b ≡ v → length (b ∷ bs) ≤ cond (not (not v)) (1 + prefix_len (λ x. not (not (is_allowed x))) bs) 0 → Bytes (b ∷ bs)) [
-      | true ↦ λ is h. (record { small = small 0; allowed = is }, clean bs (λ k. small (suc k)) (omega arith))
-      | false ↦ λ is h. absurd (omega arith)
-    ] refl h
 
 -- the tests that a content without a fault has passed
 pub record Passed (content : List ℕ) (d : Delimiters) (header : Line) (behind : List ℕ) : Type 0 where
@@ -223,8 +191,8 @@ passed content d header behind is =
     let head : header_line (lines content) ≡ header.bytes = ap header_line all in
     let d_is : (delimiters_of (header_line (lines content))).field ≡ d.field = ap (λ (line : List ℕ). (delimiters_of line).field) head ∙ sym (ap (λ (e : Delimiters). e.field) is.delimiters) in
     record {
-      headed = is_true (is_header header.bytes) (λ e. is.readable NoHeader (ap is_header head ∙ e));
-      delimited = is_true (is_delimited header.bytes) (λ e. is.readable BadDelimiters (ap is_delimited head ∙ e));
+      headed = true_from_ne_false (is_header header.bytes) (λ e. is.readable NoHeader (ap is_header head ∙ e));
+      delimited = true_from_ne_false (is_delimited header.bytes) (λ e. is.readable BadDelimiters (ap is_delimited head ∙ e));
       good = is_none _ (λ n e. is.readable (BadSegment n) (ap (λ (f : ℕ). first_bad f (drop 1 (lines content))) d_is ∙ ap (λ (ls : List Line). first_bad d.field (drop 1 ls)) all ∙ e));
       clean = is_none _ (λ n e. is.readable (Control n) e);
     }
@@ -233,10 +201,8 @@ pub kept : (content : List ℕ) (d : Delimiters) (header : Line) (behind : List 
     → IsMessage (segment_of d 3 9 header.bytes ∷ others_of d (lines_from (header.at + length header.bytes + 1) behind))
 kept content d header behind small is =
     let p = passed content d header behind is in
-    let bytes = clean content small (unfound _ _ p.clean) in
-    let all : LawfulLines (header ∷ lines_from (header.at + length header.bytes + 1) behind) =
-    subst (λ (ls : List Line). LawfulLines ls) is.begins.lines (lawful-placed 0 (slice_split is_line_end content) (lawful-parts content bytes)) in
-    let delimiters : HasLawful d = subst (λ (e : Delimiters). HasLawful e) (sym is.delimiters) (lawful-delimiters (delimiters_of header.bytes) (both-first (are_delimiters (delimiters_of header.bytes)) _ (both-second (nat_le 8 (length header.bytes)) _ p.delimited))) in
+    let all : LawfulLines (header ∷ lines_from (header.at + length header.bytes + 1) behind) = subst LawfulLines is.begins.lines (lawful-lines content small p.clean) in
+    let delimiters : HasLawful d = subst HasLawful (sym is.delimiters) (delimiters_kept header.bytes p.delimited) in
     (header_kept d header.bytes delimiters all.0 p.headed, others_kept d _ delimiters all.1 p.good)
 
 pub read : (content : List ℕ) (d : Delimiters) (header : Line) (behind : List ℕ) → IsChecked content d header behind
@@ -250,12 +216,3 @@ read content d header behind is =
       readable = is.readable;
       segments = subst (λ (xs : List Line). ReadsLines (delimiters_of (header_line xs)) xs ss) (sym all) (subst (λ (e : Delimiters). ReadsLines e (header ∷ ls) ss) is.delimiters here);
     }
-
-pub header_long : (line : List ℕ) → is_header line ≡ true → 3 ≤ length line
-header_long [] e = absurd (let z : ⊥ = cc in z)
-header_long (a ∷ []) e = absurd (let z : ⊥ = cc in z)
-header_long (a ∷ b ∷ []) e = absurd (let z : ⊥ = cc in z)
-header_long (a ∷ b ∷ c ∷ bs) e = omega arith
-
-pub name_long : (line : List ℕ) → is_named line ≡ true → 3 ≤ length line
-name_long line e = leb-true 3 (length line) (both-first (nat_le 3 (length line)) _ e)

@@ -1,9 +1,8 @@
 -- A content reads as one message.
-use Rattle.std.proofs.Common.{◌≡◌, ℕ, true, false, cond, List, [], ◌∷◌, Option, None, Some, refl, sym, ap, subst, ◌∙◌, arith}
+use Rattle.std.proofs.Common.{◌≡◌, ℕ, ◌<◌, true, false, cond, List, [], ◌∷◌, length, Option, None, Some, refl, sym, ap, subst, ◌∙◌, arith}
 use Rattle.std.specs.Prelude.{unwrap_or}
 use Rattle.std.specs.List.{AllByRecursion}
 use Rattle.std.specs.Ordering.{nat_cmp, eq_by_cmp}
-use Rattle.std.specs.Cmp.{Equal-is}
 use Rattle.std.specs.Cmp.Lexicographic.{slice_cmp, nat_list_cmp_total}
 use Rattle.std.specs.FinMap as texts
 use Rattle.std.specs.FinMap.{find, same_map, slice_cmp-IsAntisymmetric, nat_cmp-IsAntisymmetric}
@@ -13,12 +12,10 @@ use Rattle.gw_er7.specs.Content.{Line, lines, delimiters_of, header_line}
 use Rattle.gw_er7.specs.Message.{SegmentValue, text_at, IsKey, IsEntry, IsSegment, IsOther, IsMessage, IsPlace, first_field}
 use Rattle.gw_er7.specs.Reading.{ReadsOthers, ReadsLines, Reads}
 use Rattle.gw_er7.specs.Entries.{Entry}
-
-tied : (xs ys : List ℕ) → eq_by_cmp (slice_cmp nat_cmp) xs ys ≡ true → xs ≡ ys
-tied xs ys t = slice_cmp-IsAntisymmetric nat_cmp-IsAntisymmetric xs ys ((Equal-is (slice_cmp nat_cmp xs ys)).0 t)
+use Rattle.gw_er7.proofs.Keys.{tied}
 
 -- a text that is found may stand at its place
-found_kept : (first : ℕ) (q t : List ℕ) (es : List Entry) → AllByRecursion (IsEntry first) es → find (slice_cmp nat_cmp) q es ≡ Some t → IsEntry first (q, t)
+pub found_kept : (first : ℕ) (q t : List ℕ) (es : List Entry) → AllByRecursion (IsEntry first) es → find (slice_cmp nat_cmp) q es ≡ Some t → IsEntry first (q, t)
 found_kept first q t [] h e = absurd (let z : ⊥ = cc in z)
 found_kept first q t (x ∷ es) h e =
     elim (eq_by_cmp (slice_cmp nat_cmp) q x.0) as (λ v. eq_by_cmp (slice_cmp nat_cmp) q x.0 ≡ v → cond v (Some x.1) (find (slice_cmp nat_cmp) q es) ≡ Some t → IsEntry first (q, t)) [
@@ -30,14 +27,20 @@ found_kept first q t (x ∷ es) h e =
 pub get_kept : (s : SegmentValue) (q t : List ℕ) → IsSegment s → texts.get s.at q ≡ Some t → IsEntry (first_field s.name) (q, t)
 get_kept s q t is e = found_kept (first_field s.name) q t (texts.entries s.at) is.each (sym (texts.get-entries s.at q) ∙ e)
 
+-- a key of four numbers
+pub by_four : (P : List ℕ → Type 0) → ((f r c s : ℕ) → P (f ∷ r ∷ c ∷ s ∷ [])) → (key : List ℕ) → length key ≡ 4 → P key
+by_four P each [] e = absurd (omega arith)
+by_four P each (f ∷ []) e = absurd (omega arith)
+by_four P each (f ∷ r ∷ []) e = absurd (omega arith)
+by_four P each (f ∷ r ∷ c ∷ []) e = absurd (omega arith)
+by_four P each (f ∷ r ∷ c ∷ s ∷ []) e = each f r c s
+by_four P each (f ∷ r ∷ c ∷ s ∷ t ∷ key) e = absurd (omega arith)
+
 -- the texts at each place are those at each key
 at_key : (a b : SegmentValue) (first : ℕ) (q : List ℕ) → IsKey first q → ((p : Place) → IsPlace p → text_at a p ≡ text_at b p) → unwrap_or (texts.get a.at q) [] ≡ unwrap_or (texts.get b.at q) []
-at_key a b first [] is same = absurd (let n = is.four in omega arith)
-at_key a b first (f ∷ []) is same = absurd (let n = is.four in omega arith)
-at_key a b first (f ∷ r ∷ []) is same = absurd (let n = is.four in omega arith)
-at_key a b first (f ∷ r ∷ c ∷ []) is same = absurd (let n = is.four in omega arith)
-at_key a b first (f ∷ r ∷ c ∷ s ∷ []) is same = same (record { field = f; rep = r; comp = c; sub = s }) (is.positive.0, is.positive.1.0, is.positive.1.1.0, is.positive.1.1.1.0)
-at_key a b first (f ∷ r ∷ c ∷ s ∷ t ∷ q) is same = absurd (let n = is.four in omega arith)
+at_key a b first q is same =
+    by_four (λ q. AllByRecursion (λ n. 0 < n) q → unwrap_or (texts.get a.at q) [] ≡ unwrap_or (texts.get b.at q) []) (λ f r c s positive.
+    same (record { field = f; rep = r; comp = c; sub = s }) (positive.0, positive.1.0, positive.1.1.0, positive.1.1.1.0)) q is.four is.positive
 
 same_get : (first : ℕ) (q : List ℕ) (x y : Option (List ℕ)) → ((t : List ℕ) → x ≡ Some t → IsEntry first (q, t)) → ((t : List ℕ) → y ≡ Some t → IsEntry first (q, t)) → (IsKey first q → unwrap_or x [] ≡ unwrap_or y []) → x ≡ y
 same_get first q None None kx ky same = refl

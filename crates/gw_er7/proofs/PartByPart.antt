@@ -1,19 +1,12 @@
 -- A level that is written part by part.
-use Rattle.std.proofs.Common.{◌≡◌, ◌≢◌, ℕ, zero, suc, ◌+◌, ◌-◌, ◌<◌, ◌≤◌, max, Bool, true, false, List, [], ◌∷◌, ◌++◌, length, map, refl, sym, ap, ◌∙◌, append-nil, arith}
-use Rattle.std.specs.Prelude.{◌==◌}
-use Rattle.std.proofs.lemmas.Bool.{eq-eqb, eqb-true}
+use Rattle.std.proofs.Common.{◌≡◌, ℕ, zero, suc, ◌+◌, ◌-◌, ◌<◌, ◌≤◌, max, List, [], ◌∷◌, ◌++◌, length, map, refl, sym, ap, ◌∙◌, append-nil, arith}
+use Rattle.std.proofs.lemmas.Bool.{eq-eqb, ne_eqb}
+use Rattle.std.proofs.lemmas.List.{length-map}
 use Rattle.std.specs.List.{join_with_byte}
 use Rattle.gw_er7.specs.Message.{first_number}
 use Rattle.gw_er7.specs.Entries.{Entry, under}
 use Rattle.gw_er7.specs.Written.{strip, those, last_number, parts_from, layer}
 use Rattle.gw_er7.specs.own.Ordered.{IsAbove, Above, IsCut}
-
-not_eq : (a b : ℕ) → a ≢ b → (a == b) ≡ false
-not_eq a b apart = not_true (a == b) (λ e. apart (eqb-true a b e))
-  where
-    not_true : (v : Bool) → (v ≡ true → ⊥) → v ≡ false
-    not_true true isn't = absurd (isn't refl)
-    not_true false isn't = refl
 
 those-above : (n : ℕ) (es : List Entry) → Above n es → those n es ≡ []
 those-above n [] h = refl
@@ -21,7 +14,7 @@ those-above n (e ∷ es) h = strip-above n e.0 e.1 (those n es) h.0 ∙ those-ab
   where
     strip-above : (n : ℕ) (key text : List ℕ) (es : List Entry) → IsAbove n key → strip n key text ++ es ≡ es
     strip-above n [] text es h = absurd h
-    strip-above n (m ∷ key) text es h = rw (not_eq m n (λ e. absurd (omega arith))) refl
+    strip-above n (m ∷ key) text es h = rw (ne_eqb m n (λ e. absurd (omega arith))) refl
 
 those-first : (n : ℕ) (es rest : List Entry) → Above n rest → those n (map (under n) es ++ rest) ≡ es
 those-first n [] rest h = those-above n rest h
@@ -29,7 +22,7 @@ those-first n (e ∷ es) rest h = rw (eq-eqb n n refl) (ap (λ (x : List Entry).
 
 those-later : (n m : ℕ) (es rest : List Entry) → n < m → those m (map (under n) es ++ rest) ≡ those m rest
 those-later n m [] rest lt = refl
-those-later n m (e ∷ es) rest lt = rw (not_eq n m (λ z. absurd (omega arith))) (those-later n m es rest lt)
+those-later n m (e ∷ es) rest lt = rw (ne_eqb n m (λ z. absurd (omega arith))) (those-later n m es rest lt)
 
 parts-later : (inner : List Entry → List ℕ) (n m count : ℕ) (es rest : List Entry) → n < m → parts_from inner (map (under n) es ++ rest) m count ≡ parts_from inner rest m count
 parts-later inner n m zero es rest lt = refl
@@ -82,10 +75,6 @@ layer-more inner s n es rest above some =
 
 -- ---- parts one after the other
 
-pub length-view : {A : Type 0} (f : A → Entry) (xs : List A) → length (map f xs) ≡ length xs
-length-view f [] = refl
-length-view f (x ∷ xs) = omega (arith, length-view f xs)
-
 -- what stands behind a part reaches no further than all
 pub record IsFurther (n : ℕ) (es later : List Entry) : Type 0 where
   pub above : n < last_number later
@@ -93,6 +82,6 @@ pub record IsFurther (n : ℕ) (es later : List Entry) : Type 0 where
 
 pub further : {A : Type 0} (view : A → Entry) (n : ℕ) (es these : List Entry) (later : List A) → IsCut n es these (map view later) → 0 < length later → IsFurther n es (map view later)
 further view n es these later cut some =
-    let far = above-last n (map view later) cut.above (omega (arith, length-view view later)) in
+    let far = above-last n (map view later) cut.above (omega (arith, length-map later view)) in
     let all : last_number es ≡ last_number (map view later) = ap last_number cut.whole ∙ last-later n these (map view later) (omega (arith, far)) in
     record { above = far; last = omega (arith, all) }

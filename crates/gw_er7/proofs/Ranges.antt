@@ -1,12 +1,15 @@
 -- What is read of lawful bytes is canonical.
-use Rattle.std.proofs.Common.{◌≡◌, ℕ, zero, suc, ◌+◌, ◌<◌, ◌≤◌, Bool, true, false, not, List, [], ◌∷◌, ◌++◌, map, take, length, Option, None, Some, refl, sym, ap, ◌∙◌, append_assoc, append-nil, arith}
+use Rattle.std.proofs.Common.{◌≡◌, ℕ, zero, suc, ◌+◌, ◌<◌, ◌≤◌, Bool, true, false, not, List, [], ◌∷◌, ◌++◌, map, length, Option, None, Some, refl, sym, ap, ◌∙◌, append-nil, arith}
 use Rattle.std.specs.Prelude.{◌==◌, ◌≢◌, if◌then◌else◌, ◌&&◌}
+use Rattle.std.proofs.lemmas.Bool.{and_parts}
 use Rattle.std.proofs.lemmas.Bool.Decides.{nat_tests}
-use Rattle.std.specs.List.{slice_split, list_all, flat_map, onto_first, position_or_len, AllByRecursion}
+use Rattle.std.proofs.lemmas.List.Concat.{flat_map-append}
+use Rattle.std.specs.List.{slice_split, list_all, flat_map, position_or_len, AllByRecursion}
 use Rattle.gw_er7.specs.declared.delimiters.Delimiters.{Delimiters}
-use Rattle.gw_er7.specs.Text.{canon, canon_from, opens, meaning, meaning_by, delimiter_of, plainly, body_of, is_body, is_special, escaped, Item, Plain, Escape, spelled, IsItem, IsPlain, IsInRange, IsCanonical}
+use Rattle.gw_er7.specs.Text.{canon, canon_from, opens, meaning, meaning_by, delimiter_of, plainly, body_of, is_body, is_special, escaped, Plain, Escape, spelled, IsItem, IsPlain, IsInRange, IsCanonical}
 use Rattle.gw_er7.specs.Message.{first_number, IsEntry}
 use Rattle.gw_er7.specs.Entries.{Entry, under, numbered, value, subcomponents, components, repetitions, fields}
+use Rattle.gw_er7.proofs.Each.{Each-append, Each-take, Each-split}
 
 abbrev pub Lawful : List ℕ → Type 0
 Lawful bytes = AllByRecursion IsInRange bytes
@@ -23,38 +26,16 @@ pub record HasLawful (d : Delimiters) : Type 0 where
 abbrev AllLawful : List (List ℕ) → Type 0
 AllLawful ps = AllByRecursion Lawful ps
 
-lawful-onto : (b : ℕ) (ps : List (List ℕ)) → IsInRange b → AllLawful ps → AllLawful (onto_first b ps)
-lawful-onto b [] is h = ((is, tt), tt)
-lawful-onto b (p ∷ ps) is h = ((is, h.0), h.1)
-
-pub lawful-split : (p : ℕ → Bool) (bytes : List ℕ) → Lawful bytes → AllLawful (slice_split p bytes)
-lawful-split p [] h = (tt, tt)
-lawful-split p (b ∷ bs) h =
-    elim (p b) as (λ v. AllLawful (if v then [] ∷ slice_split p bs else onto_first b (slice_split p bs))) [
-      | true ↦ (tt, lawful-split p bs h.1)
-      | false ↦ lawful-onto b (slice_split p bs) h.0 (lawful-split p bs h.1)
-    ]
-
-lawful-take : (n : ℕ) (bytes : List ℕ) → Lawful bytes → Lawful (take n bytes)
-lawful-take zero bytes h = tt
-lawful-take (suc n) [] h = tt
-lawful-take (suc n) (b ∷ bs) h = (h.0, lawful-take n bs h.1)
+lawful-split : (p : ℕ → Bool) (bytes : List ℕ) → Lawful bytes → AllLawful (slice_split p bytes)
+lawful-split p bytes h = Each-split IsInRange IsInRange p (λ b is _. is) bytes h
 
 -- ---- canonical texts, joined
-
-append-flat : (xs ys : List Item) → flat_map spelled (xs ++ ys) ≡ flat_map spelled xs ++ flat_map spelled ys
-append-flat [] ys = refl
-append-flat (x ∷ xs) ys = ap (λ (t : List ℕ). spelled x ++ t) (append-flat xs ys) ∙ sym (append_assoc (spelled x) (flat_map spelled xs) (flat_map spelled ys))
-
-all-append : (xs ys : List Item) → AllByRecursion IsItem xs → AllByRecursion IsItem ys → AllByRecursion IsItem (xs ++ ys)
-all-append [] ys h k = k
-all-append (x ∷ xs) ys h k = (h.0, all-append xs ys h.1 k)
 
 joined : (a b : List ℕ) → IsCanonical a → IsCanonical b → IsCanonical (a ++ b)
 joined a b h k = record {
   items = h.items ++ k.items;
-  whole = (ap (λ (x : List ℕ). x ++ b) h.whole ∙ ap (λ (x : List ℕ). flat_map spelled h.items ++ x) k.whole) ∙ sym (append-flat h.items k.items);
-  each = all-append h.items k.items h.each k.each;
+  whole = (ap (λ (x : List ℕ). x ++ b) h.whole ∙ ap (λ (x : List ℕ). flat_map spelled h.items ++ x) k.whole) ∙ sym (flat_map-append spelled h.items k.items);
+  each = Each-append IsItem h.items k.items h.each k.each;
 }
 
 empty : IsCanonical []
@@ -81,24 +62,19 @@ letter b low high other = record { range = (omega arith, λ lt. absurd (omega ar
 an_escape : (b : ℕ) → 32 ≤ b → b < 92 → b ≢ 38 → IsGood (escaped (b ∷ []))
 an_escape b low high other = good_escape (b ∷ []) ((λ e. absurd (let z : ⊥ = cc in z)), (letter b low high other, tt))
 
+-- what holds of both sides of a test holds of what it chooses
+choose : {A : Type 0} (P : A → Type 0) (v : Bool) {x y : A} → (v ≡ true → P x) → (v ≡ false → P y) → P (if v then x else y)
+choose P true one other = one refl
+choose P false one other = other refl
+
 good-plainly : (b : ℕ) → IsInRange b → IsGood (plainly b)
 good-plainly b is =
-    elim (b == 124) as (λ v. (b == 124) ≡ v → IsGood (if v then escaped (70 ∷ []) else if b == 94 then escaped (83 ∷ []) else if b == 38 then escaped (84 ∷ []) else if b == 126 then escaped (82 ∷ []) else if b == 92 then escaped (69 ∷ []) else b ∷ [])) [
-      | true ↦ λ _. an_escape 70 (omega arith) (omega arith) (λ e. absurd (omega arith))
-      | false ↦ λ a. elim (b == 94) as (λ v. (b == 94) ≡ v → IsGood (if v then escaped (83 ∷ []) else if b == 38 then escaped (84 ∷ []) else if b == 126 then escaped (82 ∷ []) else if b == 92 then escaped (69 ∷ []) else b ∷ [])) [
-        | true ↦ λ _. an_escape 83 (omega arith) (omega arith) (λ e. absurd (omega arith))
-        | false ↦ λ c. elim (b == 38) as (λ v. (b == 38) ≡ v → IsGood (if v then escaped (84 ∷ []) else if b == 126 then escaped (82 ∷ []) else if b == 92 then escaped (69 ∷ []) else b ∷ [])) [
-          | true ↦ λ _. an_escape 84 (omega arith) (omega arith) (λ e. absurd (omega arith))
-          | false ↦ λ d. elim (b == 126) as (λ v. (b == 126) ≡ v → IsGood (if v then escaped (82 ∷ []) else if b == 92 then escaped (69 ∷ []) else b ∷ [])) [
-            | true ↦ λ _. an_escape 82 (omega arith) (omega arith) (λ e. absurd (omega arith))
-            | false ↦ λ e. elim (b == 92) as (λ v. (b == 92) ≡ v → IsGood (if v then escaped (69 ∷ []) else b ∷ [])) [
-              | true ↦ λ _. an_escape 69 (omega arith) (omega arith) (λ e. absurd (omega arith))
-              | false ↦ λ f. a_plain b (record { range = is; not_special = rw (a, c, e, f, d) refl })
-            ] refl
-          ] refl
-        ] refl
-      ] refl
-    ] refl
+    choose IsGood (b == 124) (λ _. an_escape 70 (omega arith) (omega arith) (λ e. absurd (omega arith))) (λ a.
+    choose IsGood (b == 94) (λ _. an_escape 83 (omega arith) (omega arith) (λ e. absurd (omega arith))) (λ c.
+    choose IsGood (b == 38) (λ _. an_escape 84 (omega arith) (omega arith) (λ e. absurd (omega arith))) (λ d.
+    choose IsGood (b == 126) (λ _. an_escape 82 (omega arith) (omega arith) (λ e. absurd (omega arith))) (λ e.
+    choose IsGood (b == 92) (λ _. an_escape 69 (omega arith) (omega arith) (λ e. absurd (omega arith))) (λ f.
+    a_plain b (record { range = is; not_special = rw (a, c, e, f, d) refl }))))))
 
 -- ---- a body
 
@@ -114,44 +90,26 @@ good-escaped : (body : List ℕ) → Lawful body → is_body body ≡ true → I
 good-escaped [] h e = absurd (let z : ⊥ = cc in z)
 good-escaped (b ∷ bs) h e = good_escape (b ∷ bs) ((λ z. absurd (let no : ⊥ = cc in no)), plain_body (b ∷ bs) h e)
 
-IsLawfulOption : Option ℕ → Type 0
+abbrev IsLawfulOption : Option ℕ → Type 0
 IsLawfulOption None = Unit {0}
 IsLawfulOption (Some b) = IsInRange b
 
 lawful-delimiter : (d : Delimiters) (body : List ℕ) → HasLawful d → IsLawfulOption (delimiter_of d body)
-unfolding IsLawfulOption
 lawful-delimiter d [] h = tt
 lawful-delimiter d (x ∷ y ∷ bs) h = tt
 lawful-delimiter d (x ∷ []) h =
-    elim (x == 70) as (λ v. IsLawfulOption (if v then Some d.field else if x == 83 then Some d.component else if x == 84 then Some d.subcomponent else if x == 82 then Some d.repetition else if x == 69 then Some d.escape else None)) [
-      | true ↦ h.field
-      | false ↦ elim (x == 83) as (λ v. IsLawfulOption (if v then Some d.component else if x == 84 then Some d.subcomponent else if x == 82 then Some d.repetition else if x == 69 then Some d.escape else None)) [
-        | true ↦ h.component
-        | false ↦ elim (x == 84) as (λ v. IsLawfulOption (if v then Some d.subcomponent else if x == 82 then Some d.repetition else if x == 69 then Some d.escape else None)) [
-          | true ↦ h.subcomponent
-          | false ↦ elim (x == 82) as (λ v. IsLawfulOption (if v then Some d.repetition else if x == 69 then Some d.escape else None)) [
-            | true ↦ h.repetition
-            | false ↦ elim (x == 69) as (λ v. IsLawfulOption (if v then Some d.escape else None)) [ true ↦ h.escape | false ↦ tt ]
-          ]
-        ]
-      ]
-    ]
+    choose IsLawfulOption (x == 70) (λ _. h.field) (λ _. choose IsLawfulOption (x == 83) (λ _. h.component) (λ _. choose IsLawfulOption (x == 84) (λ _. h.subcomponent) (λ _.
+    choose IsLawfulOption (x == 82) (λ _. h.repetition) (λ _. choose IsLawfulOption (x == 69) (λ _. h.escape) (λ _. tt)))))
 
 good-by : (o : Option ℕ) (body : List ℕ) → IsLawfulOption o → Lawful body → is_body body ≡ true → IsGood (meaning_by o body)
-unfolding IsLawfulOption
 good-by None body o h is = good-escaped body h is
 good-by (Some b) body o h is = good-plainly b o
-
-third : (u v w : Bool) → (u && (v && w)) ≡ true → w ≡ true
-third true true w e = e
-third true false w e = absurd (let z : ⊥ = cc in z)
-third false v w e = absurd (let z : ⊥ = cc in z)
 
 good-canon : (d : Delimiters) (b : ℕ) (bs : List ℕ) → HasLawful d → IsInRange b → Lawful bs → ((skip : ℕ) → IsCanonical (canon_from d skip bs)) → IsGood (canon_from d zero (b ∷ bs))
 good-canon d b bs delimiters h hs later =
     elim (opens d b bs) as (λ v. opens d b bs ≡ v → IsGood (if v then meaning d (body_of d bs) ++ canon_from d (length (body_of d bs) + 1) bs else plainly b ++ canon_from d 0 bs)) [
       | true ↦ λ e. joined_good (meaning d (body_of d bs)) _ (good-by (delimiter_of d (body_of d bs)) (body_of d bs) (lawful-delimiter d (body_of d bs) delimiters)
-          (lawful-take (position_or_len (λ x. x == d.escape) bs) bs hs) (third _ _ (is_body (body_of d bs)) e)) (later (length (body_of d bs) + 1))
+          (Each-take IsInRange (position_or_len (λ x. x == d.escape) bs) bs hs) (and_parts _ (is_body (body_of d bs)) (and_parts (b == d.escape) _ e).1).1) (later (length (body_of d bs) + 1))
       | false ↦ λ e. joined_good (plainly b) _ (good-plainly b h) (later 0)
     ] refl
 

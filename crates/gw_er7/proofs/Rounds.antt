@@ -1,19 +1,25 @@
 -- What was written is read again.
-use Rattle.std.proofs.Common.{◌≡◌, ◌≢◌, ℕ, zero, suc, ◌+◌, ◌-◌, ◌<◌, ◌≤◌, Bool, true, false, cond, List, [], ◌∷◌, ◌++◌, length, map, Option, None, Some, refl, sym, ap, subst, ◌∙◌, arith, inl, inr}
+use Rattle.std.proofs.Common.{◌≡◌, ◌≢◌, ℕ, zero, suc, ◌+◌, ◌-◌, ◌<◌, ◌≤◌, true, false, cond, List, [], ◌∷◌, ◌++◌, length, Option, None, Some, refl, sym, ap, subst, ◌∙◌, arith, inl, inr}
 use Rattle.std.specs.Prelude.{◌==◌, unwrap_or, slice_index_or, nat_lt, if◌then◌else◌}
-use Rattle.std.proofs.lemmas.Bool.{cases_eq, cases_lt, eq-eqb, eqb-true, lt-ltb}
-use Rattle.std.specs.List.{slice_split, join_with_byte, flat_map, AllByRecursion}
+use Rattle.std.proofs.lemmas.Bool.{cases_eq, cases_lt, eq-eqb, ne_eqb, lt-ltb, le-ltb}
+use Rattle.std.proofs.lemmas.List.Elements.{All-from_recursion}
+use Rattle.std.proofs.lemmas.List.Splits.{slice_split_none, slice_split_at}
+use Rattle.std.specs.List.{slice_split, join_with_byte, flat_map, All, AllByRecursion}
 use Rattle.std.specs.Ordering.{nat_cmp, eq_by_cmp}
 use Rattle.std.specs.Cmp.Lexicographic.{slice_cmp}
 use Rattle.std.specs.FinMap as texts
 use Rattle.gw_er7.specs.Text.{canon, standard, is_special, Item, Plain, Escape, spelled, IsItem, IsPlain, IsInRange, IsCanonical, escaped}
 use Rattle.gw_er7.specs.Message.{numbers, SegmentValue, first_number, IsEntry}
 use Rattle.gw_er7.specs.Reading.{raw_at, ReadsFields}
-use Rattle.gw_er7.specs.Entries.{Entry, numbered, level, value, subcomponents, components, repetitions}
+use Rattle.gw_er7.specs.Encoding.{Spells}
+use Rattle.gw_er7.specs.Entries.{Entry, numbered, level}
 use Rattle.gw_er7.specs.Written.{strip, those, last_number, parts_from, layer, leaf_text, component_text, repetition_text, field_text, fields_text}
 use Rattle.gw_er7.proofs.Keys.{no_tie}
 use Rattle.gw_er7.proofs.Fixed.{canonical_stays}
-use Rattle.gw_er7.proofs.Levels.{look, look-numbered, look-fields, tie-cons}
+use Rattle.gw_er7.proofs.Levels.{look, look-numbered, look-place, level-empty, tie-cons}
+use Rattle.gw_er7.proofs.Once.{found_kept}
+use Rattle.gw_er7.proofs.Each.{Each-weaker}
+pub use Rattle.gw_er7.proofs.Each.{Each-append}
 
 -- this byte stands nowhere in the bytes
 abbrev pub Lacks : ℕ → List ℕ → Type 0
@@ -27,9 +33,8 @@ pub record IsTextByte (b : ℕ) : Type 0 where
   pub component : b ≢ 94
   pub subcomponent : b ≢ 38
 
--- a text that is read as itself, is not empty, and holds none of | ~ ^ &
+-- a text that is not empty, and holds none of | ~ ^ &
 pub record IsText (t : List ℕ) : Type 0 where
-  pub again : canon standard t ≡ t
   pub some : t ≡ [] → ⊥
   pub bytes : AllByRecursion IsTextByte t
 
@@ -37,39 +42,19 @@ pub record IsText (t : List ℕ) : Type 0 where
 abbrev pub Texts : (List ℕ → Type 0) → List Entry → Type 0
 Texts P es = AllByRecursion (λ e. P e.1) es
 
-not_eq : (a b : ℕ) → a ≢ b → (a == b) ≡ false
-not_eq a b apart = not_true (a == b) (λ e. apart (eqb-true a b e))
-  where
-    not_true : (v : Bool) → (v ≡ true → ⊥) → v ≡ false
-    not_true true isn't = absurd (isn't refl)
-    not_true false isn't = refl
-
 -- ---- parts joined, and cut again
 
-split-lacks : (s : ℕ) (p : List ℕ) → Lacks s p → slice_split (λ b. b == s) p ≡ p ∷ []
-split-lacks s [] h = refl
-split-lacks s (x ∷ p) h = rw (not_eq x s h.0, split-lacks s p h.1) refl
-
-split-first : (s : ℕ) (p rest : List ℕ) → Lacks s p → slice_split (λ b. b == s) (p ++ s ∷ rest) ≡ p ∷ slice_split (λ b. b == s) rest
-split-first s [] rest h = rw (eq-eqb s s refl) refl
-split-first s (x ∷ p) rest h = rw (not_eq x s h.0, split-first s p rest h.1) refl
+unmatched : (s : ℕ) (p : List ℕ) → Lacks s p → All (λ b. (b == s) ≡ false) p
+unmatched s p h = All-from_recursion (λ b. (b == s) ≡ false) p (Each-weaker (λ b. b ≢ s) (λ b. (b == s) ≡ false) (λ b apart. ne_eqb b s apart) p h)
 
 split-join : (s : ℕ) (p : List ℕ) (ps : List (List ℕ)) → AllByRecursion (Lacks s) (p ∷ ps) → slice_split (λ b. b == s) (join_with_byte s (p ∷ ps)) ≡ p ∷ ps
-split-join s p [] h = split-lacks s p h.0
-split-join s p (q ∷ ps) h = split-first s p (join_with_byte s (q ∷ ps)) h.0 ∙ ap (λ (xs : List (List ℕ)). p ∷ xs) (split-join s q ps h.1)
-
-abbrev nil : List ℕ
-nil = []
-
-abbrev nothing : List (List ℕ)
-nothing = []
+split-join s p [] h = slice_split_none (λ b. b == s) p (unmatched s p h.0)
+split-join s p (q ∷ ps) h =
+    slice_split_at (λ b. b == s) p s (join_with_byte s (q ∷ ps)) (unmatched s p h.0) (eq-eqb s s refl) ∙ ap (λ (xs : List (List ℕ)). p ∷ xs) (split-join s q ps h.1)
 
 index-join : (s i : ℕ) (ps : List (List ℕ)) → AllByRecursion (Lacks s) ps → slice_index_or (slice_split (λ b. b == s) (join_with_byte s ps)) i [] ≡ slice_index_or ps i []
-index-join s i [] h = nil_index i
-  where
-    nil_index : (k : ℕ) → slice_index_or (nil ∷ []) k nil ≡ slice_index_or nothing k nil
-    nil_index zero = refl
-    nil_index (suc k) = refl
+index-join s zero [] h = refl
+index-join s (suc i) [] h = refl
 index-join s i (p ∷ ps) h = ap (λ (xs : List (List ℕ)). slice_index_or xs i []) (split-join s p ps h)
 
 -- ---- entries under a number
@@ -83,7 +68,7 @@ look-those n key (e ∷ es) = look-strip n key e.0 e.1 es (look-those n key es)
     look-strip n key (m ∷ other) text es h =
         elim (cases_eq m n) as (λ _. look (n ∷ key) ((m ∷ other, text) ∷ es) ≡ look key (strip n (m ∷ other) text ++ those n es)) [
           | inl e ↦ rw (eq-eqb m n e, tie-cons n m key other (sym e)) (ap (λ (o : Option (List ℕ)). cond (eq_by_cmp (slice_cmp nat_cmp) key other) (Some text) o) h)
-          | inr apart ↦ rw (not_eq m n apart, no_tie (n ∷ key) (m ∷ other) (λ is. apart (let same : n ∷ key ≡ m ∷ other = is in cc))) h
+          | inr apart ↦ rw (ne_eqb m n apart, no_tie (n ∷ key) (m ∷ other) (λ is. apart (let same : n ∷ key ≡ m ∷ other = is in cc))) h
         ]
 
 those-past : (n : ℕ) (es : List Entry) → last_number es < n → those n es ≡ []
@@ -92,7 +77,7 @@ those-past n (e ∷ es) lt = rw (strip-past n e.0 e.1 (omega arith)) (those-past
   where
     strip-past : (n : ℕ) (key text : List ℕ) → first_number key < n → strip n key text ≡ []
     strip-past n [] text lt = refl
-    strip-past n (m ∷ key) text lt = rw (not_eq m n (λ e. absurd (omega arith))) refl
+    strip-past n (m ∷ key) text lt = rw (ne_eqb m n (λ e. absurd (omega arith))) refl
 
 part-at : (inner : List Entry → List ℕ) (es : List Entry) (m count i : ℕ) → i < count → slice_index_or (parts_from inner es m count) i [] ≡ inner (those (m + i) es)
 part-at inner es m zero i lt = absurd (omega arith)
@@ -116,9 +101,8 @@ Texts-those P n (e ∷ es) h = Texts-strip P n e.0 e.1 (those n es) h.0 (Texts-t
 -- ---- one level
 
 -- what a level writes lacks the separators of the levels above, and is read again
-pub record IsAgain (P : List ℕ → Type 0) (read : List ℕ → List Entry) (write : List Entry → List ℕ) (n : ℕ) : Type 0 where
+record IsAgain (P : List ℕ → Type 0) (read : List ℕ → List Entry) (write : List Entry → List ℕ) (n : ℕ) : Type 0 where
   pub empty : read [] ≡ []
-  pub none : write [] ≡ []
   pub again : (es : List Entry) (key : List ℕ) → Texts P es → AllByRecursion (λ k. 0 < k) key → length key ≡ n → look key (read (write es)) ≡ look key es
 
 parts-lack : (P : List ℕ → Type 0) (write : List Entry → List ℕ) (s : ℕ) → ((es : List Entry) → Texts P es → Lacks s (write es)) → (es : List Entry) (m count : ℕ) → Texts P es → AllByRecursion (Lacks s) (parts_from write es m count)
@@ -126,7 +110,7 @@ parts-lack P write s lacks es m zero texts = tt
 parts-lack P write s lacks es m (suc count) texts = (lacks (those m es) (Texts-those P m es texts), parts-lack P write s lacks es (m + 1) count texts)
 
 -- from the first number on
-pub again-at : (P : List ℕ → Type 0) (read : List ℕ → List Entry) (write : List Entry → List ℕ) (n s first k : ℕ) (key : List ℕ) (es : List Entry) → IsAgain P read write n → ((es : List Entry) → Texts P es → Lacks s (write es)) → Texts P es
+again-at : (P : List ℕ → Type 0) (read : List ℕ → List Entry) (write : List Entry → List ℕ) (n s first k : ℕ) (key : List ℕ) (es : List Entry) → IsAgain P read write n → ((es : List Entry) → Texts P es → Lacks s (write es)) → Texts P es
     → 0 < first → first ≤ k → AllByRecursion (λ j. 0 < j) key → length key ≡ n → look (k ∷ key) (numbered read first (slice_split (λ b. b == s) (layer write s first es))) ≡ look (k ∷ key) es
 again-at P read write n s first k key es is lacks texts lt le positive len =
     let count = last_number es + 1 - first in
@@ -141,10 +125,9 @@ again-at P read write n s first k key es is lacks texts lt le positive len =
           ∙ sym (look-those k key es ∙ ap (look key) (those-past k es (omega (arith, big, le))))
     ]
 
-pub again-level : (P : List ℕ → Type 0) (read : List ℕ → List Entry) (write : List Entry → List ℕ) (n s : ℕ) → IsAgain P read write n → ((es : List Entry) → Texts P es → Lacks s (write es)) → IsAgain P (level read s) (layer write s 1) (n + 1)
+again-level : (P : List ℕ → Type 0) (read : List ℕ → List Entry) (write : List Entry → List ℕ) (n s : ℕ) → IsAgain P read write n → ((es : List Entry) → Texts P es → Lacks s (write es)) → IsAgain P (level read s) (layer write s 1) (n + 1)
 again-level P read write n s is lacks = record {
-  empty = ap (λ (es : List Entry). map (λ (e : Entry). (1 ∷ e.0, e.1)) es ++ []) is.empty;
-  none = refl;
+  empty = level-empty read s is.empty;
   again = λ es key texts positive len. here es key texts positive len;
 }
   where
@@ -153,10 +136,6 @@ again-level P read write n s is lacks = record {
     here es (k ∷ key) texts positive len = again-at P read write n s 1 k key es is lacks texts (omega arith) (omega (arith, positive.0)) positive.1 (omega arith)
 
 -- ---- each byte of a level
-
-pub Each-append : (Q : ℕ → Type 0) (a b : List ℕ) → AllByRecursion Q a → AllByRecursion Q b → AllByRecursion Q (a ++ b)
-Each-append Q [] b ha hb = hb
-Each-append Q (x ∷ a) b ha hb = (ha.0, Each-append Q a b ha.1 hb)
 
 pub Each-join : (Q : ℕ → Type 0) (s : ℕ) (ps : List (List ℕ)) → Q s → AllByRecursion (AllByRecursion Q) ps → AllByRecursion Q (join_with_byte s ps)
 Each-join Q s [] is h = tt
@@ -179,12 +158,8 @@ leaf_cases Q P (e ∷ es) texts none some = leaf_strip Q P e.0 e.1 es texts none
     leaf_strip Q P [] text es texts none some rest = some text texts.0
     leaf_strip Q P (m ∷ key) text es texts none some rest = rest
 
-each-byte : (Q : ℕ → Type 0) (t : List ℕ) → ((b : ℕ) → IsTextByte b → Q b) → AllByRecursion IsTextByte t → AllByRecursion Q t
-each-byte Q [] to h = tt
-each-byte Q (b ∷ bs) to h = (to b h.0, each-byte Q bs to h.1)
-
 pub leaf-each : (Q : ℕ → Type 0) → ((b : ℕ) → IsTextByte b → Q b) → (es : List Entry) → Texts IsText es → AllByRecursion Q (leaf_text es)
-leaf-each Q to es texts = leaf_cases (λ o. AllByRecursion Q (unwrap_or o [])) IsText es texts tt (λ t is. each-byte Q t to is.bytes)
+leaf-each Q to es texts = leaf_cases (λ o. AllByRecursion Q (unwrap_or o [])) IsText es texts tt (λ t is. Each-weaker IsTextByte Q to t is.bytes)
 
 pub component-each : (Q : ℕ → Type 0) → Q 38 → ((b : ℕ) → IsTextByte b → Q b) → (es : List Entry) → Texts IsText es → AllByRecursion Q (component_text es)
 component-each Q s to = Each-layer Q 38 1 IsText leaf_text s (leaf-each Q to)
@@ -198,29 +173,35 @@ field-each Q s c r to = Each-layer Q 126 1 IsText repetition_text r (repetition-
 pub fields-each : (Q : ℕ → Type 0) (first : ℕ) → Q 38 → Q 94 → Q 126 → Q 124 → ((b : ℕ) → IsTextByte b → Q b) → (es : List Entry) → Texts IsText es → AllByRecursion Q (fields_text first es)
 fields-each Q first s c r f to = Each-layer Q 124 first IsText field_text f (field-each Q s c r to)
 
-leaf-again : IsAgain IsText (value standard) leaf_text 0
-leaf-again = record {
-  empty = refl;
-  none = refl;
-  again = λ es key texts positive len. leaf es key texts len;
-}
-  where
-    back : (t : List ℕ) → IsText t → look [] (value standard t) ≡ Some t
-    back [] is = absurd (is.some refl)
-    back (b ∷ bs) is = ap (λ (x : List ℕ). Some x) is.again
+-- the entries of bytes whose raw values are kept as they are
+abbrev raw_value : List ℕ → List Entry
+raw_value [] = []
+raw_value (b ∷ bs) = ([], b ∷ bs) ∷ []
 
-    leaf : (es : List Entry) (key : List ℕ) → Texts IsText es → length key ≡ 0 → look key (value standard (leaf_text es)) ≡ look key es
-    leaf es [] texts len = leaf_cases (λ o. look [] (value standard (unwrap_or o [])) ≡ o) IsText es texts refl back
+value-raw : (raw : List ℕ) → unwrap_or (look [] (raw_value raw)) [] ≡ raw
+value-raw [] = refl
+value-raw (b ∷ bs) = refl
+
+leaf-again : IsAgain IsText raw_value leaf_text 0
+leaf-again = record { empty = refl; again = λ es key texts positive len. leaf es key texts len }
+  where
+    back : (t : List ℕ) → IsText t → look [] (raw_value t) ≡ Some t
+    back [] is = absurd (is.some refl)
+    back (b ∷ bs) is = refl
+
+    leaf : (es : List Entry) (key : List ℕ) → Texts IsText es → length key ≡ 0 → look key (raw_value (leaf_text es)) ≡ look key es
+    leaf es [] texts len = leaf_cases (λ o. look [] (raw_value (unwrap_or o [])) ≡ o) IsText es texts refl back
     leaf es (k ∷ key) texts len = absurd (omega arith)
 
-component-again : IsAgain IsText (subcomponents standard) component_text 1
-component-again = again-level IsText (value standard) leaf_text 0 38 leaf-again (leaf-each (λ b. b ≢ 38) (λ b is. is.subcomponent))
+component-again : IsAgain IsText (level raw_value 38) component_text 1
+component-again = again-level IsText raw_value leaf_text 0 38 leaf-again (leaf-each (λ b. b ≢ 38) (λ b is. is.subcomponent))
 
-repetition-again : IsAgain IsText (components standard) repetition_text 2
-repetition-again = again-level IsText (subcomponents standard) component_text 1 94 component-again (component-each (λ b. b ≢ 94) (λ e. absurd (omega arith)) (λ b is. is.component))
+repetition-again : IsAgain IsText (level (level raw_value 38) 94) repetition_text 2
+repetition-again = again-level IsText (level raw_value 38) component_text 1 94 component-again (component-each (λ b. b ≢ 94) (λ e. absurd (omega arith)) (λ b is. is.component))
 
-field-again : IsAgain IsText (repetitions standard) field_text 3
-field-again = again-level IsText (components standard) repetition_text 2 126 repetition-again (repetition-each (λ b. b ≢ 126) (λ e. absurd (omega arith)) (λ e. absurd (omega arith)) (λ b is. is.repetition))
+field-again : IsAgain IsText (level (level (level raw_value 38) 94) 126) field_text 3
+field-again = again-level IsText (level (level raw_value 38) 94) repetition_text 2 126 repetition-again
+    (repetition-each (λ b. b ≢ 126) (λ e. absurd (omega arith)) (λ e. absurd (omega arith)) (λ b is. is.repetition))
 
 -- ---- the entries of a segment
 
@@ -235,37 +216,45 @@ plain_byte b is =
 escape_byte : IsTextByte 92
 escape_byte = record { range = (omega arith, λ lt. absurd (omega arith)); field = λ e. absurd (omega arith); repetition = λ e. absurd (omega arith); component = λ e. absurd (omega arith); subcomponent = λ e. absurd (omega arith) }
 
-plain_bytes : (body : List ℕ) → AllByRecursion IsPlain body → AllByRecursion IsTextByte body
-plain_bytes [] h = tt
-plain_bytes (b ∷ bs) h = (plain_byte b h.0, plain_bytes bs h.1)
-
 pub text_bytes : (items : List Item) → AllByRecursion IsItem items → AllByRecursion IsTextByte (flat_map spelled items)
 text_bytes [] h = tt
 text_bytes (Plain b ∷ items) h = (plain_byte b h.0, text_bytes items h.1)
 text_bytes (Escape body ∷ items) h =
-    Each-append IsTextByte (escaped body) (flat_map spelled items) (escape_byte, Each-append IsTextByte body (92 ∷ []) (plain_bytes body h.0.1) (escape_byte, tt)) (text_bytes items h.1)
+    Each-append IsTextByte (escaped body) (flat_map spelled items) (escape_byte, Each-append IsTextByte body (92 ∷ []) (Each-weaker IsPlain IsTextByte plain_byte body h.0.1) (escape_byte, tt)) (text_bytes items h.1)
 
 pub canonical_text : (t : List ℕ) → IsCanonical t → t ≢ [] → IsText t
-canonical_text t is some = record { again = canonical_stays t is; some = some; bytes = subst (λ (x : List ℕ). AllByRecursion IsTextByte x) (sym is.whole) (text_bytes is.items is.each) }
+canonical_text t is some = record { some = some; bytes = subst (λ (x : List ℕ). AllByRecursion IsTextByte x) (sym is.whole) (text_bytes is.items is.each) }
 
 pub kept_texts : (first : ℕ) (es : List Entry) → AllByRecursion (IsEntry first) es → Texts IsText es
-kept_texts first [] h = tt
-kept_texts first (e ∷ es) h = (canonical_text e.1 h.0.text h.0.some, kept_texts first es h.1)
+kept_texts first es h = Each-weaker (IsEntry first) (λ e. IsText e.1) (λ e is. canonical_text e.1 is.text is.some) es h
 
--- no text stands below the first number
-pub look-early : (first n : ℕ) (key : List ℕ) (es : List Entry) → n < first → AllByRecursion (IsEntry first) es → look (n ∷ key) es ≡ None
-look-early first n key [] lt h = refl
-look-early first n key (e ∷ es) lt h = rw (no_tie (n ∷ key) e.0 (λ is. absurd (let le = h.0.key.field in let same : first_number e.0 ≡ n = sym (ap first_number is) in omega (arith, le, same)))) (look-early first n key es lt h.1)
+-- the raw values of what is written are the texts
+pub written_spells : (first : ℕ) (s : SegmentValue) → 0 < first → AllByRecursion (IsEntry first) (texts.entries s.at) → Spells first (fields_text first (texts.entries s.at)) s
+written_spells first s lt kept p is le =
+    let es = texts.entries s.at in
+    let bytes = fields_text first es in
+    let again = again-at IsText (level (level (level raw_value 38) 94) 126) field_text 3 124 first p.field (p.rep ∷ p.comp ∷ p.sub ∷ []) es field-again
+    (field-each (λ b. b ≢ 124) (λ e. absurd (omega arith)) (λ e. absurd (omega arith)) (λ e. absurd (omega arith)) (λ b is. is.field)) (kept_texts first es kept) lt le (is.1, (is.2, (is.3, tt))) refl in
+    sym (ap (λ (o : Option (List ℕ)). unwrap_or o []) (look-place raw_value 124 126 94 38 first bytes p refl is le) ∙ value-raw (raw_at standard bytes (p.field + 1 - first) p))
+    ∙ ap (λ (o : Option (List ℕ)). unwrap_or o []) (again ∙ sym (texts.get-entries s.at (numbers p)))
 
 -- the fields that are written for a segment read as that segment
 pub written_reads : (first : ℕ) (s : SegmentValue) → 0 < first → AllByRecursion (IsEntry first) (texts.entries s.at) → ReadsFields standard first (fields_text first (texts.entries s.at)) s
 written_reads first s lt kept p is =
-    let es = texts.entries s.at in
-    let seen = look-fields standard first (fields_text first es) p is in
-    elim (cases_lt p.field first) as (λ _. unwrap_or (texts.get s.at (numbers p)) [] ≡ (if nat_lt p.field first then [] else canon standard (raw_at standard (fields_text first es) (p.field + 1 - first) p))) [
-      | inl low ↦ (let below : nat_lt p.field first ≡ true = lt-ltb _ _ low in
-          rw below (ap (λ (o : Option (List ℕ)). unwrap_or o []) (texts.get-entries s.at (numbers p) ∙ look-early first p.field (p.rep ∷ p.comp ∷ p.sub ∷ []) es low kept)))
-      | inr le ↦ ap (λ (o : Option (List ℕ)). unwrap_or o []) (texts.get-entries s.at (numbers p)
-          ∙ sym (again-at IsText (repetitions standard) field_text 3 124 first p.field (p.rep ∷ p.comp ∷ p.sub ∷ []) es field-again (field-each (λ b. b ≢ 124) (λ e. absurd (omega arith)) (λ e. absurd (omega arith)) (λ e. absurd (omega arith)) (λ b is. is.field))
-          (kept_texts first es kept) lt le (is.1, (is.2, (is.3, tt))) refl)) ∙ seen
+    let raw = raw_at standard (fields_text first (texts.entries s.at)) (p.field + 1 - first) p in
+    elim (cases_lt p.field first) as (λ _. unwrap_or (texts.get s.at (numbers p)) [] ≡ (if nat_lt p.field first then [] else canon standard raw)) [
+      | inl low ↦ (let below : nat_lt p.field first ≡ true = lt-ltb _ _ low in rw below (none low (texts.get s.at (numbers p)) refl))
+      | inr le ↦ (let above : nat_lt p.field first ≡ false = le-ltb _ _ le in
+          rw above (sym (ap (canon standard) (written_spells first s lt kept p is le) ∙ stays (texts.get s.at (numbers p)) refl)))
     ]
+  where
+    kept_at : (t : List ℕ) → texts.get s.at (numbers p) ≡ Some t → IsEntry first (numbers p, t)
+    kept_at t e = found_kept first (numbers p) t (texts.entries s.at) kept (sym (texts.get-entries s.at (numbers p)) ∙ e)
+
+    none : p.field < first → (o : Option (List ℕ)) → texts.get s.at (numbers p) ≡ o → unwrap_or o [] ≡ []
+    none low None e = refl
+    none low (Some t) e = absurd (let le = (kept_at t e).key.field in omega (arith, low, le))
+
+    stays : (o : Option (List ℕ)) → texts.get s.at (numbers p) ≡ o → canon standard (unwrap_or o []) ≡ unwrap_or o []
+    stays None e = refl
+    stays (Some t) e = canonical_stays t (kept_at t e).text

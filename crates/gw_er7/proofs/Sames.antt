@@ -1,6 +1,6 @@
 -- Parts that are the same, part by part.
 use Rattle.std.proofs.Common.{◌≡◌, ◌↔◌, ◌∙◌, ◌+◌, ◌<◌, ℕ, Bool, false, true, T, IsTrue, List, [], ◌∷◌, length, get_or, drop, map, refl, sym, ap}
-use Rattle.std.proofs.lemmas.List.{drop_more}
+use Rattle.std.proofs.lemmas.List.{drop_more, map-id}
 use Rattle.std.specs.List.{AllZip}
 use Rattle.std.specs.Ordering.{nat_cmp}
 use Rattle.std.specs.Cmp.Lexicographic.{slice_cmp}
@@ -17,11 +17,9 @@ zip_maps f (x ∷ xs) (y ∷ ys) =
     (λ h. let e = (zip_maps f xs ys).0 h.1 in λ i. h.0 i ∷ e i, λ e. let k : f x ≡ f y = cc in let t : map f xs ≡ map f ys = cc in (k, (zip_maps f xs ys).1 t))
 
 pub zip_same : {A : Type 0} (xs ys : List A) → AllZip (λ x y. x ≡ y) xs ys ↔ (xs ≡ ys)
-zip_same [] [] = (λ h. refl, λ e. tt)
-zip_same [] (y ∷ ys) = (λ h. absurd h, λ e. absurd (cc))
-zip_same (x ∷ xs) [] = (λ h. absurd h, λ e. absurd (cc))
-zip_same (x ∷ xs) (y ∷ ys) =
-    (λ h. let e = (zip_same xs ys).0 h.1 in λ i. h.0 i ∷ e i, λ e. let k : x ≡ y = cc in let t : xs ≡ ys = cc in (k, (zip_same xs ys).1 t))
+zip_same xs ys =
+    let maps = zip_maps (λ x. x) xs ys in
+    (λ h. sym (map-id xs) ∙ maps.0 h ∙ map-id ys, λ e. maps.1 (map-id xs ∙ e ∙ sym (map-id ys)))
 
 -- one text more is compared
 module _ (xs ys : List Held) (i : ℕ) (a b : Held) (la : i < length xs) (lb : i < length ys) (ha : get_or xs i a ≡ a) (hb : get_or ys i b ≡ b) where

@@ -1,36 +1,28 @@
 -- How far a raw value has been read.
-use Rattle.std.proofs.Common.{◌≡◌, ℕ, zero, suc, ◌+◌, ◌-◌, ◌<◌, ◌≤◌, Bool, true, false, not, List, [], ◌∷◌, ◌++◌, length, get_or, take, drop, None, Some, refl, sym, ap, ◌∙◌, append_assoc, arith}
-use Rattle.std.specs.Prelude.{◌==◌, ◌&&◌, nat_lt}
+use Rattle.std.proofs.Common.{◌≡◌, ℕ, zero, suc, ◌+◌, ◌-◌, ◌<◌, ◌≤◌, true, false, not, List, [], ◌∷◌, ◌++◌, length, get_or, take, drop, None, Some, refl, sym, ap, ◌∙◌, append_assoc, arith}
+use Rattle.std.specs.Prelude.{◌==◌, nat_lt}
 use Rattle.std.proofs.lemmas.List.{take_all, length-take}
 use Rattle.std.proofs.lemmas.List.Sums.{position_or_len_is}
-use Rattle.std.proofs.lemmas.Bool.{le-ltb, lt-ltb, eq-eqb}
+use Rattle.std.proofs.lemmas.Bool.{le-ltb, lt-ltb, eq-eqb, and_right, false_from_ne_true}
 use Rattle.std.specs.List.{list_all}
 use Rattle.memchr.specs.Find.{IsFirstByte, is_byte}
 use Rattle.gw_er7.specs.declared.delimiters.Delimiters.{Delimiters}
 use Rattle.gw_er7.specs.Text.{canon, canon_from, opens, meaning, plainly, body_of, is_body, is_special}
 
-not_true : (v : Bool) → (v ≡ true → ⊥) → v ≡ false
-not_true true isn't = absurd (isn't refl)
-not_true false isn't = refl
-
 -- what a search for the escape character finds
 pub body_found : (d : Delimiters) (after : List ℕ) (k : ℕ) → IsFirstByte (is_byte d.escape) after (Some k) → body_of d after ≡ take k after
 body_found d after k h = ap (λ (n : ℕ). take n after)
-    (position_or_len_is (λ b. b == d.escape) after k 0 (omega (arith, h.0.high)) (λ i lt. not_true (get_or after i 0 == d.escape) (h.0.before i (omega arith) lt)) (λ lt. h.1))
+    (position_or_len_is (λ b. b == d.escape) after k 0 (omega (arith, h.0.high)) (λ i lt. false_from_ne_true (get_or after i 0 == d.escape) (h.0.before i (omega arith) lt)) (λ lt. h.1))
 
 pub body_not_found : (d : Delimiters) (after : List ℕ) → IsFirstByte (is_byte d.escape) after None → body_of d after ≡ after
 body_not_found d after h = ap (λ (n : ℕ). take n after)
-    (position_or_len_is (λ b. b == d.escape) after (length after) 0 (omega arith) (λ i lt. not_true (get_or after i 0 == d.escape) (h i (omega arith) lt)) (λ lt. absurd (omega arith)))
+    (position_or_len_is (λ b. b == d.escape) after (length after) 0 (omega arith) (λ i lt. false_from_ne_true (get_or after i 0 == d.escape) (h i (omega arith) lt)) (λ lt. absurd (omega arith)))
     ∙ take_all (length after) after (omega arith)
 
 pub not_opened : (d : Delimiters) (b : ℕ) (after : List ℕ) → body_of d after ≡ after → opens d b after ≡ false
 not_opened d b after e =
     let short : nat_lt (length (body_of d after)) (length after) ≡ false = le-ltb _ _ (omega (arith, ap length e)) in
-    rw short (both_false (b == d.escape))
-  where
-    both_false : (v : Bool) → (v && false) ≡ false
-    both_false true = refl
-    both_false false = refl
+    rw short (and_right (b == d.escape) false refl)
 
 pub is_opened : (d : Delimiters) (b : ℕ) (after : List ℕ) (k : ℕ) → b ≡ d.escape → body_of d after ≡ take k after → k < length after → is_body (take k after) ≡ true → opens d b after ≡ true
 is_opened d b after k first body lt is =
@@ -40,14 +32,7 @@ is_opened d b after k first body lt is =
     rw (is_escape, short) full
 
 pub no_body : (d : Delimiters) (b : ℕ) (after : List ℕ) (k : ℕ) → body_of d after ≡ take k after → is_body (take k after) ≡ false → opens d b after ≡ false
-no_body d b after k body is =
-    let empty : is_body (body_of d after) ≡ false = ap is_body body ∙ is in
-    all_false (b == d.escape) (nat_lt (length (body_of d after)) (length after)) (is_body (body_of d after)) empty
-  where
-    all_false : (u v w : Bool) → w ≡ false → (u && (v && w)) ≡ false
-    all_false true true w e = e
-    all_false true false w e = refl
-    all_false false v w e = refl
+no_body d b after k body is = and_right (b == d.escape) _ (and_right (nat_lt (length (body_of d after)) (length after)) (is_body (body_of d after)) (ap is_body body ∙ is))
 
 -- bytes that are passed over
 pub canon-skip : (d : Delimiters) (k : ℕ) (bs : List ℕ) → canon_from d k bs ≡ canon d (drop k bs)

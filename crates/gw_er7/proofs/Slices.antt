@@ -1,6 +1,6 @@
 -- Texts that lie in one buffer.
 use Rattle.std.proofs.Common.{◌≡◌, ℕ, ◌+◌, ◌-◌, ◌<◌, ◌≤◌, List, [], ◌∷◌, ◌++◌, length, take, drop, get_or, refl, sym, ap, subst, ◌∙◌, arith}
-use Rattle.std.proofs.lemmas.List.{map-append, take-append-le, drop-append-le, length-drop, take_all, get_or-map}
+use Rattle.std.proofs.lemmas.List.{map-append, take-append-le, drop-append-le, length-drop, take_all, get_or-map, length-map}
 use Rattle.std.proofs.Math.Seq.{drop-append_seam}
 use Rattle.std.proofs.lemmas.List.Elements.{All-tail}
 use Rattle.gw_er7.specs.declared.leaves.Leaf.{Leaf}
@@ -32,8 +32,7 @@ held_put bytes more new ls ms l h b e from len =
     at_place t = record { place = l.place; text = t }
 
 pub length-held : (bytes : List ℕ) (ls : List Leaf) → length (held bytes ls) ≡ length ls
-length-held bytes [] = refl
-length-held bytes (l ∷ ls) = omega (arith, length-held bytes ls)
+length-held bytes ls = length-map ls (held_at bytes)
 
 -- ---- some of the texts
 

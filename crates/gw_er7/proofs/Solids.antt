@@ -1,14 +1,15 @@
 -- What is written holds no idle separator, and ends with none.
 use Rattle.std.proofs.Common.{◌≡◌, ◌≢◌, ℕ, zero, suc, ◌+◌, ◌-◌, ◌<◌, ◌≤◌, max, true, false, List, [], ◌∷◌, ◌++◌, length, refl, sym, subst, arith, inl, inr}
 use Rattle.std.specs.Prelude.{◌==◌, unwrap_or, if◌then◌else◌}
-use Rattle.std.proofs.lemmas.Bool.{cases_lt, eq-eqb}
+use Rattle.std.proofs.lemmas.Bool.{cases_lt, eq-eqb, ne_eqb}
 use Rattle.std.proofs.lemmas.List.{length-append}
 use Rattle.std.specs.List.{join_with_byte, AllByRecursion}
 use Rattle.gw_er7.specs.Message.{first_number, IsEntry}
 use Rattle.gw_er7.specs.Entries.{Entry}
 use Rattle.gw_er7.specs.Written.{strip, those, last_number, parts_from, layer, leaf_text, component_text, repetition_text, field_text, fields_text}
 use Rattle.gw_er7.specs.Encoding.{rank, IsIdle, HasNoIdle}
-use Rattle.gw_er7.proofs.Uniques.{LastFull, not_eq}
+use Rattle.gw_er7.proofs.Each.{Each-weaker}
+use Rattle.gw_er7.proofs.Uniques.{LastFull}
 use Rattle.gw_er7.proofs.Rounds.{IsTextByte, IsText, Texts, canonical_text, leaf_cases, Each-join, leaf-each, component-each, repetition-each, field-each}
 
 -- no idle separator, and the last byte is none
@@ -41,7 +42,7 @@ solid_plain (b ∷ []) h = h.0
 solid_plain (a ∷ b ∷ x) h = ((λ idle. absurd (let some = idle.0 in omega (arith, h.0, some))), solid_plain (b ∷ x) h.1)
 
 pub rank_other : (b : ℕ) → b ≢ 38 → b ≢ 94 → b ≢ 126 → b ≢ 124 → b ≢ 13 → rank b ≡ 0
-rank_other b s c r f e = rw (not_eq b 38 s, not_eq b 94 c, not_eq b 126 r, not_eq b 124 f, not_eq b 13 e) refl
+rank_other b s c r f e = rw (ne_eqb b 38 s, ne_eqb b 94 c, ne_eqb b 126 r, ne_eqb b 124 f, ne_eqb b 13 e) refl
 
 rank_text : (b : ℕ) → IsTextByte b → rank b ≡ 0
 rank_text b is = rank_other b is.subcomponent is.component is.repetition is.field (λ e. absurd (let tab = is.range.1 (omega (arith, e)) in omega (arith, e, tab)))
@@ -60,8 +61,7 @@ abbrev pub Shape : ℕ → List Entry → Type 0
 Shape n es = AllByRecursion (IsShaped n) es
 
 shape-texts : (n : ℕ) (es : List Entry) → Shape n es → Texts IsText es
-shape-texts n [] h = tt
-shape-texts n (e ∷ es) h = (h.0.text, shape-texts n es h.1)
+shape-texts n es h = Each-weaker (IsShaped n) (λ e. IsText e.1) (λ e is. is.text) es h
 
 shape-those : (n k : ℕ) (es : List Entry) → Shape (n + 1) es → Shape n (those k es)
 shape-those n k [] h = tt
@@ -79,8 +79,7 @@ abbrev pub From : ℕ → List Entry → Type 0
 From first es = AllByRecursion (λ e. first ≤ first_number e.0) es
 
 from_one : (n : ℕ) (es : List Entry) → Shape (n + 1) es → From 1 es
-from_one n [] h = tt
-from_one n (e ∷ es) h = (one e.0 h.0.size h.0.positive, from_one n es h.1)
+from_one n es h = Each-weaker (IsShaped (n + 1)) (λ e. 1 ≤ first_number e.0) (λ e is. one e.0 is.size is.positive) es h
   where
     one : (key : List ℕ) → length key ≡ n + 1 → AllByRecursion (λ k. 0 < k) key → 1 ≤ first_number key
     one [] len h = absurd (omega arith)
@@ -162,13 +161,9 @@ module _ (n s : ℕ) (write : List Entry → List ℕ) (is : IsTight n write) (l
   pub layer_tight : IsTight (n + 1) (layer write s 1)
   layer_tight = record { solid = λ es h. layer_solid 1 es (omega arith) h (from_one n es h); some = λ es h some. layer_some 1 es h (from_one n es h) some }
 
-each_plain : (t : List ℕ) → AllByRecursion IsTextByte t → Plains t
-each_plain [] h = tt
-each_plain (b ∷ t) h = (rank_text b h.0, each_plain t h.1)
-
 leaf_tight : IsTight 0 leaf_text
 leaf_tight = record {
-  solid = λ es h. leaf_cases (λ o. Solid (unwrap_or o [])) IsText es (shape-texts 0 es h) tt (λ t is. solid_plain t (each_plain t is.bytes));
+  solid = λ es h. leaf_cases (λ o. Solid (unwrap_or o [])) IsText es (shape-texts 0 es h) tt (λ t is. solid_plain t (Each-weaker IsTextByte (λ b. rank b ≡ 0) rank_text t is.bytes));
   some = some;
 }
   where
@@ -206,9 +201,8 @@ pub fields_low : (first : ℕ) (es : List Entry) → Shape 4 es → Low 4 (field
 fields_low first es h = Each-join (λ b. rank b ≤ 4) 124 (parts_from field_text es first (last_number es + 1 - first)) (omega arith) (each_low 3 124 field_text field_tight field_low es first (last_number es + 1 - first) h)
 
 pub shaped : (first : ℕ) (es : List Entry) → AllByRecursion (IsEntry first) es → Shape 4 es
-shaped first [] h = tt
-shaped first (e ∷ es) h = (record { size = h.0.key.four; positive = h.0.key.positive; text = canonical_text e.1 h.0.text h.0.some }, shaped first es h.1)
+shaped first es h =
+    Each-weaker (IsEntry first) (IsShaped 4) (λ e is. record { size = is.key.four; positive = is.key.positive; text = canonical_text e.1 is.text is.some }) es h
 
 pub from_first : (first : ℕ) (es : List Entry) → AllByRecursion (IsEntry first) es → From first es
-from_first first [] h = tt
-from_first first (e ∷ es) h = (h.0.key.field, from_first first es h.1)
+from_first first es h = Each-weaker (IsEntry first) (λ e. first ≤ first_number e.0) (λ e is. is.key.field) es h

@@ -4,10 +4,11 @@ use Rattle.std.specs.Prelude.{◌&&◌, T, ◌==◌}
 use Rattle.std.specs.Ordering.{nat_cmp, is_lt, ordering_then}
 use Rattle.std.specs.Cmp.{nat_cmp_is}
 use Rattle.std.specs.Cmp.Lexicographic.{slice_cmp}
-use Rattle.std.specs.List.{slice_split, AllByRecursion}
+use Rattle.std.specs.List.{slice_split}
 use Rattle.std.specs.FinMap.Entries.{is_sorted, below_all}
 use Rattle.gw_er7.specs.declared.delimiters.Delimiters.{Delimiters}
 use Rattle.gw_er7.specs.Entries.{Entry, under, numbered, value, subcomponents, components, repetitions, fields}
+use Rattle.gw_er7.specs.own.Ordered.{IsAbove, Above}
 
 pub both : (a b : Bool) → T a → T b → T (a && b)
 both true b p q = q
@@ -24,23 +25,12 @@ second false b p = absurd p
 abbrev pub order : List ℕ → List ℕ → Ordering
 order = slice_cmp nat_cmp
 
-cmp-less : (n m : ℕ) (key other : List ℕ) → n < m → order (n ∷ key) (m ∷ other) ≡ Less
-cmp-less n m key other lt = ap (λ (r : Ordering). ordering_then r (order key other)) (sym (nat_cmp_is n m Less lt))
-
 pub cmp-same : (n : ℕ) (key other : List ℕ) → order (n ∷ key) (n ∷ other) ≡ order key other
 cmp-same n key other = ap (λ (r : Ordering). ordering_then r (order key other)) (sym (nat_cmp_is n n Equal refl))
 
--- the key begins with a number above n
-abbrev IsAbove : ℕ → List ℕ → Type 0
-IsAbove n [] = ⊥
-IsAbove n (m ∷ key) = n < m
-
-abbrev Above : ℕ → List Entry → Type 0
-Above n es = AllByRecursion (λ e. IsAbove n e.0) es
-
 less_key : (n : ℕ) (key other : List ℕ) → IsAbove n other → order (n ∷ key) other ≡ Less
 less_key n key [] h = absurd h
-less_key n key (m ∷ other) h = cmp-less n m key other h
+less_key n key (m ∷ other) h = ap (λ (r : Ordering). ordering_then r (order key other)) (sym (nat_cmp_is n m Less h))
 
 below-above : (n : ℕ) (key : List ℕ) (es : List Entry) → Above n es → T (below_all order (n ∷ key) es)
 below-above n key [] h = tt

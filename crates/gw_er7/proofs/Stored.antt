@@ -12,6 +12,7 @@ use Rattle.gw_er7.specs.Message.{SegmentValue, first_number, first_field, IsEntr
 use Rattle.gw_er7.specs.Entries.{Entry}
 use Rattle.gw_er7.specs.own.Ordered.{IsAtLeast, IsOrdered}
 use Rattle.gw_er7.specs.Written.{line_text, delimiters_text, behind_separator, written}
+use Rattle.gw_er7.proofs.Each.{Each-weaker}
 
 abbrev pub stored : List ℕ → List Entry → SegmentValue
 stored name es = record { name = name; at = texts.from_sorted {R = slice_cmp nat_cmp} es }
@@ -20,19 +21,15 @@ least : (n : ℕ) (key : List ℕ) → n ≤ first_number key → IsAtLeast n ke
 least n [] h = tt
 least n (m ∷ key) h = h
 
-all-least : (n : ℕ) (es : List Entry) → AllByRecursion (IsEntry n) es → AllByRecursion (λ e. IsAtLeast n e.0) es
-all-least n [] h = tt
-all-least n (e ∷ es) h = (least n e.0 h.0.key.field, all-least n es h.1)
-
-all-positive : (n : ℕ) (es : List Entry) → AllByRecursion (IsEntry n) es → AllByRecursion (λ e. AllByRecursion (λ k. 0 < k) e.0) es
-all-positive n [] h = tt
-all-positive n (e ∷ es) h = (h.0.key.positive, all-positive n es h.1)
-
 pub ordered : (name : List ℕ) (es : List Entry) (s : SegmentValue) → T (is_sorted (slice_cmp nat_cmp) es) → stored name es ≡ s → IsSegment s → IsOrdered (first_field name) es
 ordered name es s sorted view is =
     let here : IsSegment (stored name es) = subst (λ (v : SegmentValue). IsSegment v) (sym view) is in
     let each : AllByRecursion (IsEntry (first_field name)) es = subst (λ (xs : List Entry). AllByRecursion (IsEntry (first_field name)) xs) (entries-from_sorted (slice_cmp nat_cmp) es sorted) here.each in
-    record { rising = sorted; from = all-least (first_field name) es each; positive = all-positive (first_field name) es each }
+    record {
+      rising = sorted;
+      from = Each-weaker (IsEntry (first_field name)) (λ e. IsAtLeast (first_field name) e.0) (λ e is. least (first_field name) e.0 is.key.field) es each;
+      positive = Each-weaker (IsEntry (first_field name)) (λ e. AllByRecursion (λ k. 0 < k) e.0) (λ e is. is.key.positive) es each;
+    }
 
 pub line : (name : List ℕ) (es : List Entry) (s : SegmentValue) → T (is_sorted (slice_cmp nat_cmp) es) → stored name es ≡ s
     → name ++ delimiters_text name ++ behind_separator (first_field name) es ++ 13 ∷ [] ≡ line_text s ++ 13 ∷ []

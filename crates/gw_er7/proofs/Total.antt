@@ -1,20 +1,18 @@
 -- Each content reads as a message or has a fault.
 use Rattle.std.proofs.Common.{◌≡◌, ℕ, ◌<◌, ◌⊎◌, Bool, true, false, not, List, [], ◌∷◌, length, get_or, take, drop, Option, None, Some, refl, sym, subst, inl, inr}
-use Rattle.std.specs.Prelude.{◌&&◌, nat_le, position}
+use Rattle.std.specs.Prelude.{position}
 use Rattle.std.proofs.lemmas.Bool.{cases_lt}
-use Rattle.std.specs.List.{slice_split}
 use Rattle.gw_er7.specs.declared.fault.ReadFault.{ReadFault}
 use Rattle.gw_er7.specs.declared.fault.ReadFault.TheVariants.{Empty, Control, NoHeader, BadDelimiters, BadSegment, TooManySegments}
 use Rattle.gw_er7.specs.Names.{is_header}
-use Rattle.gw_er7.specs.Content.{Line, lines, header_line, is_line_end, is_allowed, is_delimited, are_delimiters, delimiters_of, first_bad}
+use Rattle.gw_er7.specs.Content.{Line, lines, header_line, is_allowed, is_delimited, delimiters_of, first_bad}
 use Rattle.gw_er7.specs.Faults.{Faulty}
 use Rattle.gw_er7.specs.Message.{SegmentValue, IsMessage}
 use Rattle.gw_er7.specs.Reading.{ReadsLines, Reads}
 use Rattle.gw_er7.specs.own.Gathered.{segment_of, others_of}
 use Rattle.gw_er7.proofs.Levels.{reads_fields}
 use Rattle.gw_er7.proofs.Faults.{HasLine, HasNoControl, no_lines, a_control, no_header, bad_delimiters, bad_segment, too_many, readable}
-use Rattle.gw_er7.proofs.Messages.{LawfulLines, clean, unfound, lawful-delimiters, header_kept, others_kept, others_read, lawful-placed, lawful-parts}
-use Rattle.gw_er7.proofs.Ranges.{HasLawful}
+use Rattle.gw_er7.proofs.Messages.{LawfulLines, lawful-lines, delimiters_kept, header_kept, others_kept, others_read}
 
 abbrev pub IsAnswered : List ℕ → Type 0
 IsAnswered content = ((fault : ReadFault) × Faulty content fault) ⊎ ((message : List SegmentValue) × (IsMessage message × Reads content message))
@@ -22,22 +20,13 @@ IsAnswered content = ((fault : ReadFault) × Faulty content fault) ⊎ ((message
 abbrev Bytes : List ℕ → Type 0
 Bytes content = (k : ℕ) → get_or content k 0 < 256
 
-right : (u v : Bool) → (u && v) ≡ true → v ≡ true
-right true v e = e
-right false v e = absurd (let z : ⊥ = cc in z)
-
-left : (u v : Bool) → (u && v) ≡ true → u ≡ true
-left true v e = refl
-left false v e = absurd (let z : ⊥ = cc in z)
-
 -- a content that passed all tests
 good : (content : List ℕ) (header : Line) (ls : List Line) → Bytes content → HasLine content header ls → HasNoControl content → is_header header.bytes ≡ true → is_delimited header.bytes ≡ true → first_bad (delimiters_of header.bytes).field ls ≡ None → length ls < 10000
     → (message : List SegmentValue) × (IsMessage message × Reads content message)
 good content header ls small has no_control headed delimited none few =
     let d = delimiters_of header.bytes in
-    let bytes = clean content small (unfound _ _ no_control.none) in
-    let all : LawfulLines (header ∷ ls) = subst (λ (xs : List Line). LawfulLines xs) has.all (lawful-placed 0 (slice_split is_line_end content) (lawful-parts content bytes)) in
-    let lawful : HasLawful d = lawful-delimiters d (left (are_delimiters d) _ (right (nat_le 8 (length header.bytes)) _ delimited)) in
+    let all : LawfulLines (header ∷ ls) = subst LawfulLines has.all (lawful-lines content small no_control.none) in
+    let lawful = delimiters_kept header.bytes delimited in
     let ss = segment_of d 3 9 header.bytes ∷ others_of d ls in
     let here : ReadsLines d (header ∷ ls) ss = (record { name = refl; fields = reads_fields d 3 (drop 9 header.bytes) (take 3 header.bytes) }, others_read d ls) in (
       ss,
@@ -53,15 +42,12 @@ good content header ls small has no_control headed delimited none few =
 pub answered : (content : List ℕ) → Bytes content → IsAnswered content
 answered content small = by_lines (lines content) refl
   where
-    by_count : (header : Line) (ls : List Line) → HasLine content header ls → HasNoControl content → is_header header.bytes ≡ true → is_delimited header.bytes ≡ true → first_bad (delimiters_of header.bytes).field ls ≡ None → IsAnswered content
-    by_count header ls has no_control headed delimited none =
+    by_segments : (header : Line) (ls : List Line) → HasLine content header ls → HasNoControl content → is_header header.bytes ≡ true → is_delimited header.bytes ≡ true → (o : Option ℕ) → first_bad (delimiters_of header.bytes).field ls ≡ o → IsAnswered content
+    by_segments header ls has no_control headed delimited None none =
         elim (cases_lt (length ls) 10000) as (λ _. IsAnswered content) [
           | inl few ↦ inr (good content header ls small has no_control headed delimited none few)
           | inr many ↦ inl (TooManySegments, too_many has no_control headed delimited none many)
         ]
-
-    by_segments : (header : Line) (ls : List Line) → HasLine content header ls → HasNoControl content → is_header header.bytes ≡ true → is_delimited header.bytes ≡ true → (o : Option ℕ) → first_bad (delimiters_of header.bytes).field ls ≡ o → IsAnswered content
-    by_segments header ls has no_control headed delimited None e = by_count header ls has no_control headed delimited e
     by_segments header ls has no_control headed delimited (Some at) e = inl (BadSegment at, bad_segment has no_control headed delimited at e)
 
     by_delimiters : (header : Line) (ls : List Line) → HasLine content header ls → HasNoControl content → is_header header.bytes ≡ true → (v : Bool) → is_delimited header.bytes ≡ v → IsAnswered content

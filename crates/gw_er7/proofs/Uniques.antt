@@ -1,5 +1,5 @@
 -- Bytes with the same raw values and no idle separator are equal.
-use Rattle.std.proofs.Common.{◌≡◌, ◌≢◌, ℕ, zero, suc, ◌-◌, ◌<◌, ◌≤◌, Bool, true, false, List, [], ◌∷◌, ◌++◌, length, get_or, refl, sym, ap, subst, ◌∙◌, arith}
+use Rattle.std.proofs.Common.{◌≡◌, ℕ, zero, suc, ◌-◌, ◌<◌, ◌≤◌, Bool, true, false, List, [], ◌∷◌, ◌++◌, length, get_or, refl, sym, ap, subst, ◌∙◌, arith}
 use Rattle.std.specs.Prelude.{◌==◌, if◌then◌else◌}
 use Rattle.std.proofs.lemmas.Bool.{eqb-true}
 use Rattle.std.proofs.lemmas.List.Splits.{join_with_byte-slice_split}
@@ -13,12 +13,12 @@ Good r [] = Unit {0}
 Good r (b ∷ []) = 0 < rank b → r ≤ rank b
 Good r (a ∷ b ∷ bs) = ¬ (IsIdle a b) × Good r (b ∷ bs)
 
+le_of : (m n : ℕ) → (m < n → ⊥) → n ≤ m
+le_of m n no_less = omega (arith, no_less)
+
 pub good_of : (t : ℕ) (x : List ℕ) → HasNoIdle (x ++ t ∷ []) → Good (rank t) x
 good_of t [] h = tt
 good_of t (b ∷ []) h = λ some. le_of (rank b) (rank t) (λ lt. h.0 (some, lt))
-  where
-    le_of : (m n : ℕ) → (m < n → ⊥) → n ≤ m
-    le_of m n no_less = omega (arith, no_less)
 good_of t (a ∷ b ∷ bs) h = (h.0, good_of t (b ∷ bs) h.1)
 
 -- ---- parts
@@ -37,13 +37,6 @@ Fine (p ∷ q ∷ ps) = LastFull (q ∷ ps)
 record AreGood (r : ℕ) (ps : List (List ℕ)) : Type 0 where
   each : AllByRecursion (Good r) ps
   fine : Fine ps
-
-pub not_eq : (a b : ℕ) → a ≢ b → (a == b) ≡ false
-not_eq a b apart = not_true (a == b) (λ e. apart (eqb-true a b e))
-  where
-    not_true : (v : Bool) → (v ≡ true → ⊥) → v ≡ false
-    not_true true isn't = absurd (isn't refl)
-    not_true false isn't = refl
 
 weaker : (r q : ℕ) (x : List ℕ) → q ≤ r → Good r x → Good q x
 weaker r q [] le h = tt
@@ -88,9 +81,6 @@ pushed s r b [] (p ∷ ps) some lt head h each =
     (subst (λ (q : List ℕ). Good (rank s) (b ∷ q)) (sym head) (λ has. (let le : r ≤ rank b = h has in omega arith)), each.1)
 pushed s r b (c ∷ x) ([] ∷ ps) some lt head h each =
     ((λ has. le_of (rank b) (rank s) (λ less. h.0 (has, subst (λ (d : ℕ). rank b < rank d) (sym head) less))), each.1)
-  where
-    le_of : (m n : ℕ) → (m < n → ⊥) → n ≤ m
-    le_of m n no_less = omega (arith, no_less)
 pushed s r b (c ∷ x) ((d ∷ p) ∷ ps) some lt head h each = (((λ idle. h.0 (subst (λ (k : ℕ). IsIdle b k) (sym head) idle)), each.0), each.1)
 
 good_parts : (s r : ℕ) (x : List ℕ) → 0 < rank s → rank s < r → Good r x → AllByRecursion (Good (rank s)) (slice_split (λ c. c == s) x)
@@ -107,15 +97,15 @@ good_parts s r (b ∷ c ∷ x) some lt h =
       | false ↦ pushed s r b (c ∷ x) (slice_split (λ d. d == s) (c ∷ x)) some lt (heads s (c ∷ x)) h later
     ]
 
+loose : (ps : List (List ℕ)) → LastFull ps → Fine ps
+loose [] h = absurd h
+loose (p ∷ []) h = tt
+loose (p ∷ q ∷ ps) h = h
+
 -- bytes that aren't empty have a last part that isn't, and others are one part
 fine_parts : (s r : ℕ) (x : List ℕ) → 0 < rank s → rank s < r → Good r x → Fine (slice_split (λ c. c == s) x)
 fine_parts s r [] some lt h = tt
 fine_parts s r (b ∷ x) some lt h = loose (slice_split (λ c. c == s) (b ∷ x)) (full s r b x some lt h)
-  where
-    loose : (ps : List (List ℕ)) → LastFull ps → Fine ps
-    loose [] h = absurd h
-    loose (p ∷ []) h = tt
-    loose (p ∷ q ∷ ps) h = h
 
 not_all_empty : (ps : List (List ℕ)) → LastFull ps → ((k : ℕ) → get_or ps k [] ≡ []) → ⊥
 not_all_empty [] h none = h
@@ -129,11 +119,7 @@ same_parts (p ∷ []) (q ∷ []) f g same = ap (λ (x : List ℕ). x ∷ []) (sa
 same_parts (p ∷ []) (q ∷ r ∷ qs) f g same = absurd (not_all_empty (r ∷ qs) g (λ k. sym (same (suc k))))
 same_parts (p ∷ r ∷ ps) (q ∷ []) f g same = absurd (not_all_empty (r ∷ ps) f (λ k. same (suc k)))
 same_parts (p ∷ r ∷ ps) (q ∷ t ∷ qs) f g same =
-    ap (λ (x : List ℕ). x ∷ r ∷ ps) (same 0) ∙ ap (λ (xs : List (List ℕ)). q ∷ xs) (same_parts (r ∷ ps) (t ∷ qs) (loose r ps f) (loose t qs g) (λ k. same (suc k)))
-  where
-    loose : (x : List ℕ) (xs : List (List ℕ)) → LastFull (x ∷ xs) → Fine (x ∷ xs)
-    loose x [] h = tt
-    loose x (y ∷ xs) h = h
+    ap (λ (x : List ℕ). x ∷ r ∷ ps) (same 0) ∙ ap (λ (xs : List (List ℕ)). q ∷ xs) (same_parts (r ∷ ps) (t ∷ qs) (loose (r ∷ ps) f) (loose (t ∷ qs) g) (λ k. same (suc k)))
 
 -- ---- levels
 
