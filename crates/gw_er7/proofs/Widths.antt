@@ -1,23 +1,24 @@
 -- Leaves of two widths, which say the same.
-use Rattle.std.proofs.Common.{◌≡◌, ℕ, ◌<◌, Bool, List, [], ◌∷◌, ◌++◌, length, map, refl, sym, ap, subst, ◌∙◌, append-nil, arith, inl, inr}
+use Rattle.std.proofs.Common.{◌≡◌, ℕ, ◌<◌, Bool, List, [], ◌++◌, length, map, sym, ap, subst, ◌∙◌, append-nil, arith, inl, inr}
+use Rattle.std.proofs.lemmas.List.{length-map, nil_from_length}
+use Rattle.std.specs.List.{AllZip}
 use Rattle.std.specs.Ordering.{is_lt}
 use Rattle.gw_er7.specs.declared.leaves.Leaf.{Leaf}
 use Rattle.gw_er7.specs.Message.{numbers}
 use Rattle.gw_er7.specs.own.Leaves.{all_said, AreAlike, AreSortedFrom}
 use Rattle.gw_er7.proofs.Lying.{sorted_from_map}
+use Rattle.gw_er7.proofs.Sames.{zip_maps}
 use Rattle.gw_er7.proofs.Sorted.{order}
 
 pub none : {X : Type 0} (xs : List X) → length xs ≡ 0 → xs ≡ []
-none [] e = refl
-none (x ∷ xs) e = absurd (omega arith)
+none xs e = nil_from_length xs e
 
 abbrev rises : Leaf → Leaf → Bool
 rises a b = is_lt (order (numbers a.place) (numbers b.place))
 
 module _ {N : Type 0} (said : N → Leaf) where
   pub length-said : (ns : List N) → length (map said ns) ≡ length ns
-  length-said [] = refl
-  length-said (n ∷ ns) = omega (arith, length-said ns)
+  length-said ns = length-map ns said
 
   -- none of the other width
   pub all_narrow : (ns : List N) (ws : List Leaf) → ws ≡ [] → all_said said ns ws ≡ map said ns
@@ -26,6 +27,11 @@ module _ {N : Type 0} (said : N → Leaf) where
   -- none of this width
   pub all_wide : (ns : List N) (ws : List Leaf) → ns ≡ [] → all_said said ns ws ≡ ws
   all_wide ns ws e = ap (λ (ms : List N). map said ms ++ ws) e
+
+  -- leaves that say the same, seen through these lists
+  pub alike_same : (ns ms xs ys : List N) (ws vs all others : List Leaf) → xs ≡ ns → ys ≡ ms → AllZip (λ a b. said a ≡ said b) xs ys → ws ≡ vs → all_said said ns ws ≡ all → all_said said ms vs ≡ others → all ≡ others
+  alike_same ns ms xs ys ws vs all others u v zip e a b =
+      sym a ∙ ap (λ (ls : List Leaf). ls ++ ws) (ap (map said) (sym u) ∙ (zip_maps said xs ys).0 zip ∙ ap (map said) v) ∙ ap (λ (ls : List Leaf). map said ms ++ ls) e ∙ b
 
   -- those of the narrow width were put in order
   pub alike_sorted : (k : ℕ) (ns ms : List N) (ws : List Leaf) (all : List Leaf) → AreAlike ns ws → 0 < length ns → all_said said ns ws ≡ all → AreSortedFrom (λ n. (said n).place) k ns ms → AreSortedFrom (λ l. l.place) k all (all_said said ms ws)

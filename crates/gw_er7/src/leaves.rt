@@ -23,42 +23,100 @@ pub(crate) struct Leaf {
     pub(crate) len: usize,
 }
 
-/// The same in 24 bytes.
+/// The same in fewer bytes: the numbers of the place in one width, and the others in another.
 #[derive(Clone, Copy)]
-pub(crate) struct NarrowLeaf {
-    field: u32,
-    rep: u32,
-    comp: u32,
-    sub: u32,
-    from: u32,
-    len: u32,
+pub(crate) struct NarrowLeaf<P, L> {
+    field: P,
+    rep: P,
+    comp: P,
+    sub: P,
+    from: L,
+    len: L,
 }
 
-/// The same in 12 bytes.
-#[derive(Clone, Copy)]
-pub(crate) struct MediumLeaf {
-    field: u8,
-    rep: u8,
-    comp: u8,
-    sub: u8,
-    from: u32,
-    len: u32,
+/// A width of numbers: `said` is the number that one says, and `most` the largest that fits.
+pub(crate) trait Number: Copy {
+    ghost use Rattle.std.specs.Prelude.{◌≡◌, ◌≤◌, ℕ};
+
+    ghost said: { Self → ℕ };
+
+    ghost most: { ℕ };
+
+    fn most() -> usize
+        ensures { result ≡ most };
+
+    /// The number in this width, in which it has to fit.
+    fn narrowed(number: usize) -> Self
+        requires { number ≤ most }
+        ensures { said result ≡ number };
+
+    fn widened(self) -> usize
+        ensures { result ≡ said self };
 }
 
-/// The same in 8 bytes.
-#[derive(Clone, Copy)]
-pub(crate) struct SmallLeaf {
-    field: u8,
-    rep: u8,
-    comp: u8,
-    sub: u8,
-    from: u16,
-    len: u16,
+impl Number for u8 {
+    ghost use Rattle.std.specs.Prelude.{◌-◌, ◌^◌};
+
+    ghost said = { λ number. number };
+
+    ghost most = { 2 ^ 8 - 1 };
+
+    fn most() -> usize {
+        u8::MAX as usize
+    }
+
+    fn narrowed(number: usize) -> u8 {
+        number as u8
+    }
+
+    fn widened(self) -> usize {
+        self as usize
+    }
+}
+
+impl Number for u16 {
+    ghost use Rattle.std.specs.Prelude.{◌-◌, ◌^◌};
+
+    ghost said = { λ number. number };
+
+    ghost most = { 2 ^ 16 - 1 };
+
+    fn most() -> usize {
+        u16::MAX as usize
+    }
+
+    fn narrowed(number: usize) -> u16 {
+        number as u16
+    }
+
+    fn widened(self) -> usize {
+        self as usize
+    }
+}
+
+impl Number for u32 {
+    ghost use Rattle.std.specs.Prelude.{◌-◌, ◌^◌};
+
+    ghost said = { λ number. number };
+
+    ghost most = { 2 ^ 32 - 1 };
+
+    fn most() -> usize {
+        u32::MAX as usize
+    }
+
+    fn narrowed(number: usize) -> u32 {
+        number as u32
+    }
+
+    fn widened(self) -> usize {
+        self as usize
+    }
 }
 
 /// A width of leaves: `said` is what one says, as a leaf of 48 bytes; the largest number of a place that fits is `farthest`, and of the others `largest`.
 pub(crate) trait Width: Copy {
-    ghost use Rattle.std.specs.Prelude.{◌≡◌, ◌↔◌, ℕ, IsTrue, IsSome, IfSome};
+    ghost use Rattle.std.specs.Prelude.{◌≡◌, ◌↔◌, ℕ, IsSome, IfSome};
     ghost use Rattle.gw_er7.specs.declared.leaves.Leaf.{Leaf};
     ghost use Rattle.gw_er7.specs.own.Leaves.{IsUpTo};
 
@@ -75,9 +133,6 @@ pub(crate) trait Width: Copy {
 
     fn widened(self) -> Leaf
         ensures { result ≡ said self };
-
-    fn is(self, other: Self) -> bool
-        ensures { IsTrue result ↔ (self ≡ other) };
 }
 
 /// Whether no number of the leaf's place is larger than the first of these, and no other than the second.
@@ -92,144 +147,42 @@ fn is_up_to(farthest: usize, largest: usize, leaf: Leaf) -> bool
         && leaf.len <= largest
 }
 
-impl Width for NarrowLeaf {
-    ghost use Rattle.std.specs.Prelude.{◌-◌, ◌^◌};
-    ghost use Rattle.gw_er7.specs.own.Leaves.{said_narrow};
+impl<P: Number, L: Number> Width for NarrowLeaf<P, L> {
+    ghost said = { λ l. record {
+      place = record { field = P.said l.field; rep = P.said l.rep; comp = P.said l.comp; sub = P.said l.sub };
+      from = L.said l.from;
+      len = L.said l.len;
+    } };
 
-    ghost said = { said_narrow };
+    ghost farthest = { P.most };
 
-    ghost farthest = { 2 ^ 32 - 1 };
+    ghost largest = { L.most };
 
-    ghost largest = { 2 ^ 32 - 1 };
-
-    fn narrowed(leaf: Leaf) -> Option<NarrowLeaf> {
-        if !is_up_to(u32::MAX as usize, u32::MAX as usize, leaf) {
+    fn narrowed(leaf: Leaf) -> Option<NarrowLeaf<P, L>> {
+        if !is_up_to(P::most(), L::most(), leaf) {
             return None;
         }
         Some(NarrowLeaf {
-            field: leaf.place.field as u32,
-            rep: leaf.place.rep as u32,
-            comp: leaf.place.comp as u32,
-            sub: leaf.place.sub as u32,
-            from: leaf.from as u32,
-            len: leaf.len as u32,
+            field: P::narrowed(leaf.place.field),
+            rep: P::narrowed(leaf.place.rep),
+            comp: P::narrowed(leaf.place.comp),
+            sub: P::narrowed(leaf.place.sub),
+            from: L::narrowed(leaf.from),
+            len: L::narrowed(leaf.len),
         })
     }
 
     fn widened(self) -> Leaf {
         Leaf {
             place: Place {
-                field: self.field as usize,
-                rep: self.rep as usize,
-                comp: self.comp as usize,
-                sub: self.sub as usize,
+                field: self.field.widened(),
+                rep: self.rep.widened(),
+                comp: self.comp.widened(),
+                sub: self.sub.widened(),
             },
-            from: self.from as usize,
-            len: self.len as usize,
+            from: self.from.widened(),
+            len: self.len.widened(),
         }
-    }
-
-    fn is(self, other: NarrowLeaf) -> bool {
-        self.field == other.field
-            && self.rep == other.rep
-            && self.comp == other.comp
-            && self.sub == other.sub
-            && self.from == other.from
-            && self.len == other.len
-    }
-}
-
-impl Width for MediumLeaf {
-    ghost use Rattle.std.specs.Prelude.{◌-◌, ◌^◌};
-    ghost use Rattle.gw_er7.specs.own.Leaves.{said_medium};
-
-    ghost said = { said_medium };
-
-    ghost farthest = { 2 ^ 8 - 1 };
-
-    ghost largest = { 2 ^ 32 - 1 };
-
-    fn narrowed(leaf: Leaf) -> Option<MediumLeaf> {
-        if !is_up_to(u8::MAX as usize, u32::MAX as usize, leaf) {
-            return None;
-        }
-        Some(MediumLeaf {
-            field: leaf.place.field as u8,
-            rep: leaf.place.rep as u8,
-            comp: leaf.place.comp as u8,
-            sub: leaf.place.sub as u8,
-            from: leaf.from as u32,
-            len: leaf.len as u32,
-        })
-    }
-
-    fn widened(self) -> Leaf {
-        Leaf {
-            place: Place {
-                field: self.field as usize,
-                rep: self.rep as usize,
-                comp: self.comp as usize,
-                sub: self.sub as usize,
-            },
-            from: self.from as usize,
-            len: self.len as usize,
-        }
-    }
-
-    fn is(self, other: MediumLeaf) -> bool {
-        self.field == other.field
-            && self.rep == other.rep
-            && self.comp == other.comp
-            && self.sub == other.sub
-            && self.from == other.from
-            && self.len == other.len
-    }
-}
-
-impl Width for SmallLeaf {
-    ghost use Rattle.std.specs.Prelude.{◌-◌, ◌^◌};
-    ghost use Rattle.gw_er7.specs.own.Leaves.{said_small};
-
-    ghost said = { said_small };
-
-    ghost farthest = { 2 ^ 8 - 1 };
-
-    ghost largest = { 2 ^ 16 - 1 };
-
-    fn narrowed(leaf: Leaf) -> Option<SmallLeaf> {
-        if !is_up_to(u8::MAX as usize, u16::MAX as usize, leaf) {
-            return None;
-        }
-        Some(SmallLeaf {
-            field: leaf.place.field as u8,
-            rep: leaf.place.rep as u8,
-            comp: leaf.place.comp as u8,
-            sub: leaf.place.sub as u8,
-            from: leaf.from as u16,
-            len: leaf.len as u16,
-        })
-    }
-
-    fn widened(self) -> Leaf {
-        Leaf {
-            place: Place {
-                field: self.field as usize,
-                rep: self.rep as usize,
-                comp: self.comp as usize,
-                sub: self.sub as usize,
-            },
-            from: self.from as usize,
-            len: self.len as usize,
-        }
-    }
-
-    fn is(self, other: SmallLeaf) -> bool {
-        self.field == other.field
-            && self.rep == other.rep
-            && self.comp == other.comp
-            && self.sub == other.sub
-            && self.from == other.from
-            && self.len == other.len
     }
 }
 
@@ -250,20 +203,22 @@ impl Width for Leaf {
     fn widened(self) -> Leaf {
         self
     }
+}
 
-    fn is(self, other: Leaf) -> bool {
-        self.place == other.place && self.from == other.from && self.len == other.len
-    }
+fn same_leaf(one: Leaf, other: Leaf) -> bool
+    ensures { IsTrue result ↔ (one ≡ other) }
+{
+    one.place == other.place && one.from == other.from && one.len == other.len
 }
 
 fn same_leaves<N: Width>(leaves: &[N], others: &[N]) -> bool
-    ensures { IsTrue result ↔ AllZip (λ a b. a ≡ b) leaves.now others.now }
+    ensures { IsTrue result ↔ AllZip (λ a b. N.said a ≡ N.said b) leaves.now others.now }
 {
     if leaves.len() != others.len() {
         return false;
     }
     for (i, leaf) in leaves.iter().enumerate() {
-        if !leaf.is(others[i]) {
+        if !same_leaf(leaf.widened(), others[i].widened()) {
             return false;
         }
     }
@@ -506,6 +461,6 @@ impl<N: Width, L: Store> Store for Leaves<N, L> {
 
 /// The leaves of a message: all in 8 bytes, in 12, in 24, or in 48.
 pub(crate) type MessageLeaves = Leaves<
-    SmallLeaf,
-    Leaves<MediumLeaf, Leaves<NarrowLeaf, Vec<Leaf>>>,
+    NarrowLeaf<u8, u16>,
+    Leaves<NarrowLeaf<u8, u32>, Leaves<NarrowLeaf<u32, u32>, Vec<Leaf>>>,
 >;

@@ -6,9 +6,6 @@ use Rattle.std.specs.Cmp.Lexicographic.{slice_cmp}
 use Rattle.std.specs.Coded.{Coded, code_by, coded×, coded_ℕ}
 use Rattle.gw_er7.specs.declared.place.Place.{Place}
 use Rattle.gw_er7.specs.declared.leaves.Leaf.{Leaf}
-use Rattle.gw_er7.specs.declared.leaves.NarrowLeaf.{NarrowLeaf}
-use Rattle.gw_er7.specs.declared.leaves.MediumLeaf.{MediumLeaf}
-use Rattle.gw_er7.specs.declared.leaves.SmallLeaf.{SmallLeaf}
 use Rattle.gw_er7.specs.Message.{numbers}
 
 -- a leaf is stored as its numbers
@@ -16,16 +13,6 @@ abbrev pub leaf_code : Coded Leaf
 leaf_code =
     code_by (ℕ × (ℕ × (ℕ × (ℕ × (ℕ × ℕ))))) (coded× coded_ℕ (coded× coded_ℕ (coded× coded_ℕ (coded× coded_ℕ (coded× coded_ℕ coded_ℕ)))))
     (λ l. (l.place.field, (l.place.rep, (l.place.comp, (l.place.sub, (l.from, l.len)))))) (λ p. record { place = record { field = p.0; rep = p.1.0; comp = p.1.1.0; sub = p.1.1.1.0 }; from = p.1.1.1.1.0; len = p.1.1.1.1.1 }) (λ _. refl)
-
--- a leaf of 24 bytes says the same as one of 48, and so do those of 12 and of 8
-abbrev pub said_narrow : NarrowLeaf → Leaf
-said_narrow l = record { place = record { field = l.field; rep = l.rep; comp = l.comp; sub = l.sub }; from = l.from; len = l.len }
-
-abbrev pub said_medium : MediumLeaf → Leaf
-said_medium l = record { place = record { field = l.field; rep = l.rep; comp = l.comp; sub = l.sub }; from = l.from; len = l.len }
-
-abbrev pub said_small : SmallLeaf → Leaf
-said_small l = record { place = record { field = l.field; rep = l.rep; comp = l.comp; sub = l.sub }; from = l.from; len = l.len }
 
 -- no number of the leaf's place is larger than the first of these, and no other than the second
 abbrev pub IsUpTo : ℕ → ℕ → Leaf → Type 0

@@ -5,5 +5,5 @@ use Rattle.gw_er7.proofs.leaves.same_leaves.Given as goal
 abbrev pub invariant-loop-i : goal.invariant-loop-i
 invariant-loop-i g l = record {
   long : length l.leaves ≡ length l.others;
-  rest : AllZip (λ a b. a ≡ b) l.leaves l.others ↔ AllZip (λ a b. a ≡ b) (drop l.i l.leaves) (drop l.i l.others);
+  rest : AllZip (λ a b. g.N.Width.said a ≡ g.N.Width.said b) l.leaves l.others ↔ AllZip (λ a b. g.N.Width.said a ≡ g.N.Width.said b) (drop l.i l.leaves) (drop l.i l.others);
 }
