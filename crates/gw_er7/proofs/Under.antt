@@ -1,21 +1,23 @@
 -- The last place that begins with given numbers.
-use Rattle.std.proofs.Common.{◌≡◌, ◌≢◌, ℕ, zero, suc, ◌+◌, ◌-◌, ◌<◌, ◌≤◌, true, false, cond, List, [], ◌∷◌, ◌++◌, length, get_or, drop, Option, None, Some, Ordering, Less, Equal, Greater, refl, sym, ap, subst, ◌∙◌, arith, inl, inr}
+use Rattle.std.proofs.Common.{◌≡◌, ◌≢◌, ℕ, zero, suc, ◌+◌, ◌-◌, ◌<◌, ◌≤◌, true, false, cond, List, [], ◌∷◌, ◌++◌, length, get_or, drop, Option, None, Some, Ordering, Less, Equal, Greater, refl, sym, ap, subst, ◌∙◌, append-nil, append_assoc, arith, inl, inr}
 use Rattle.std.specs.Prelude.{unwrap_or}
-use Rattle.std.proofs.lemmas.Bool.{cases_lt}
-use Rattle.std.proofs.lemmas.List.{drop_more, drop_all}
+use Rattle.std.proofs.lemmas.Bool.{cases_lt, true≢false}
+use Rattle.std.proofs.lemmas.List.{drop_more, drop_all, length-drop}
 use Rattle.std.specs.List.{AllByRecursion}
 use Rattle.std.specs.List.Sorted.{IsPartitionPoint, IsPartitionedBy}
 use Rattle.std.specs.Ordering.{nat_cmp, is_le, is_gt, is_eq, eq_by_cmp, ordering_then}
 use Rattle.std.specs.Cmp.{nat_cmp_is, ranked, Equal-is}
 use Rattle.std.specs.Cmp.Lexicographic.{slice_cmp}
 use Rattle.std.specs.FinMap as texts
-use Rattle.std.specs.FinMap.{find, get-from_sorted, slice_cmp-IsAntisymmetric, nat_cmp-IsAntisymmetric}
+use Rattle.std.specs.FinMap.{find, get-from_sorted}
 use Rattle.gw_er7.specs.declared.place.Place.{Place}
 use Rattle.gw_er7.specs.Message.{numbers, Texts, IsEntry}
-use Rattle.gw_er7.specs.Presence.{SubAt, CompAt, RepAt, FieldAt, IsLast}
+use Rattle.gw_er7.specs.own.Standing.{StandsUnder}
+use Rattle.gw_er7.specs.Presence.{IsLast}
 use Rattle.gw_er7.specs.View.{Held, entries_of, AreValues, compare_begin, is_within, StandsAt, IsLastUnder}
 use Rattle.gw_er7.proofs.Sorted.{order, cmp-same}
-use Rattle.gw_er7.proofs.Keys.{tie}
+use Rattle.gw_er7.proofs.Keys.{tie, tied}
+use Rattle.gw_er7.proofs.Once.{found_kept}
 use Rattle.gw_er7.proofs.Finds.{Sorted, rising_at}
 
 -- ---- how keys compare with their beginnings
@@ -61,7 +63,7 @@ begins-above (p ∷ ps) (x ∷ a) (y ∷ b) le e h =
     cases_cmp (λ r. ordering_then r (compare_begin a ps) ≡ Equal → compare_begin (y ∷ b) (p ∷ ps) ≡ Equal) x p
     (λ _ e. absurd (let z : ⊥ = cc in z))
     (λ xp e. cases_cmp (λ r. is_gt (ordering_then r (order a b)) ≡ false → compare_begin (y ∷ b) (p ∷ ps) ≡ Equal) x y
-    (λ xy _. absurd (let far : is_le (compare_begin (y ∷ b) (p ∷ ps)) ≡ false = ap (λ (r : Ordering). is_le (ordering_then r (compare_begin b ps))) (greater_is y p (omega arith)) in let z : true ≡ false = sym h ∙ far in let no_more : ⊥ = cc in no_more))
+    (λ xy _. absurd (let far : is_le (compare_begin (y ∷ b) (p ∷ ps)) ≡ false = ap (λ (r : Ordering). is_le (ordering_then r (compare_begin b ps))) (greater_is y p (omega arith)) in true≢false (sym h ∙ far)))
     (λ xy later.
     let yp : nat_cmp y p ≡ Equal = sym (nat_cmp_is y p Equal (sym xy ∙ xp)) in
     let rest : is_le (compare_begin b ps) ≡ true = sym (ap (λ (r : Ordering). is_le (ordering_then r (compare_begin b ps))) yp) ∙ h in
@@ -86,28 +88,24 @@ compared_greater key ps i short within e =
 pub compared_short : (key ps : List ℕ) (i : ℕ) → length key ≤ i → i < length ps → compare_begin (drop i key) (drop i ps) ≡ Less
 compared_short key ps i over within = rw (drop_all i key over, drop_more ps i 0 within) refl
 
-record Begins (k : ℕ) (key : List ℕ) (p : ℕ) (ps : List ℕ) : Type 0 where
-  head : k ≡ p
-  rest : compare_begin key ps ≡ Equal
-
-begin_is : (k : ℕ) (key : List ℕ) (p : ℕ) (ps : List ℕ) → compare_begin (k ∷ key) (p ∷ ps) ≡ Equal → Begins k key p ps
-begin_is k key p ps e =
-    cases_cmp (λ r. ordering_then r (compare_begin key ps) ≡ Equal → Begins k key p ps) k p
-    (λ _ e. absurd (let z : ⊥ = cc in z)) (λ same e. record { head = same; rest = e }) (λ _ e. absurd (let z : ⊥ = cc in z)) e
+begins : (key ps : List ℕ) → compare_begin key ps ≡ Equal → key ≡ ps ++ drop (length ps) key
+begins key [] e = refl
+begins [] (p ∷ ps) e = absurd (let z : ⊥ = cc in z)
+begins (k ∷ key) (p ∷ ps) e =
+    cases_cmp (λ r. ordering_then r (compare_begin key ps) ≡ Equal → k ∷ key ≡ p ∷ (ps ++ drop (length ps) key)) k p
+    (λ _ e. absurd (let z : ⊥ = cc in z)) (λ same e. let rest = begins key ps e in λ i. same i ∷ rest i) (λ _ e. absurd (let z : ⊥ = cc in z)) e
 
 begin_same : (ps rest : List ℕ) → compare_begin (ps ++ rest) ps ≡ Equal
 begin_same [] rest = refl
 begin_same (p ∷ ps) rest = ap (λ (r : Ordering). ordering_then r (compare_begin (ps ++ rest) ps)) (sym (nat_cmp_is p p Equal refl)) ∙ begin_same ps rest
 
-not_above : (a b : ℕ) (key other : List ℕ) → is_gt (order (a ∷ key) (b ∷ other)) ≡ false → a ≤ b
-not_above a b key other e =
+not_above : (ps : List ℕ) (a b : ℕ) (key other : List ℕ) → is_gt (order (ps ++ a ∷ key) (ps ++ b ∷ other)) ≡ false → a ≤ b
+not_above [] a b key other e =
     elim (cases_lt b a) as (λ _. a ≤ b) [
-      | inl lt ↦ absurd (let far : is_gt (order (a ∷ key) (b ∷ other)) ≡ true = ap (λ (r : Ordering). is_gt (ordering_then r (order key other))) (greater_is a b lt) in let z : true ≡ false = sym far ∙ e in let no_more : ⊥ = cc in no_more)
+      | inl lt ↦ absurd (let far : is_gt (order (a ∷ key) (b ∷ other)) ≡ true = ap (λ (r : Ordering). is_gt (ordering_then r (order key other))) (greater_is a b lt) in true≢false (sym far ∙ e))
       | inr le ↦ le
     ]
-
-not_above_behind : (a : ℕ) (key other : List ℕ) → is_gt (order (a ∷ key) (a ∷ other)) ≡ false → is_gt (order key other) ≡ false
-not_above_behind a key other e = ap is_gt (sym (cmp-same a key other)) ∙ e
+not_above (p ∷ ps) a b key other e = not_above ps a b key other (ap is_gt (sym (cmp-same p (ps ++ a ∷ key) (ps ++ b ∷ other))) ∙ e)
 
 -- ---- what is held and the texts that stand
 
@@ -133,7 +131,7 @@ found_held : (xs : List Held) (k : List ℕ) → 0 < length (unwrap_or (find ord
 found_held [] k h = absurd (omega arith)
 found_held (x ∷ xs) k h =
     elim (eq_by_cmp (slice_cmp nat_cmp) k (key x)) as (λ v. eq_by_cmp (slice_cmp nat_cmp) k (key x) ≡ v → 0 < length (unwrap_or (cond v (Some x.text) (find order k (entries_of xs))) []) → HasKey (x ∷ xs) k) [
-      | true ↦ λ e _. record { at = 0; within = omega arith; here = λ d. sym (slice_cmp-IsAntisymmetric nat_cmp-IsAntisymmetric k (key x) ((Equal-is (slice_cmp nat_cmp k (key x))).0 e)) }
+      | true ↦ λ e _. record { at = 0; within = omega arith; here = λ d. sym (tied k (key x) e) }
       | false ↦ λ _ h. (let more = found_held xs k h in record { at = suc more.at; within = omega (arith, more.within); here = more.here })
     ] refl h
 
@@ -150,16 +148,12 @@ held_found (x ∷ xs) (suc i) d lt h =
       | false ↦ held_found xs i d (omega arith) h.1
     ]
 
-positive_at : (xs : List Held) (i : ℕ) (d : Held) → i < length xs → AllByRecursion (IsEntry 1) (entries_of xs) → AllByRecursion (λ n. 0 < n) (key (get_or xs i d))
-positive_at [] i d lt h = absurd (omega arith)
-positive_at (x ∷ xs) zero d lt h = h.0.key.positive
-positive_at (x ∷ xs) (suc i) d lt h = positive_at xs i d (omega arith) h.1
-
 positive : (xs : List Held) (k : List ℕ) → AreValues xs → StandsAt (texts_of xs) k → AllByRecursion (λ n. 0 < n) k
-positive [] k is h = absurd (let none = found_held [] k (stands-find [] k is.sorted h) in omega (arith, none.within))
-positive (x ∷ xs) k is h =
-    let leaf = found_held (x ∷ xs) k (stands-find (x ∷ xs) k is.sorted h) in
-    subst (λ (q : List ℕ). AllByRecursion (λ n. 0 < n) q) (leaf.here x) (positive_at (x ∷ xs) leaf.at x leaf.within is.each)
+positive xs k is h = by (find order k (entries_of xs)) refl (stands-find xs k is.sorted h)
+  where
+    by : (o : Option (List ℕ)) → find order k (entries_of xs) ≡ o → 0 < length (unwrap_or o []) → AllByRecursion (λ n. 0 < n) k
+    by None e some = absurd (omega arith)
+    by (Some t) e some = (found_kept 1 k t (entries_of xs) is.each e).key.positive
 
 -- ---- what a search finds
 
@@ -181,7 +175,7 @@ before_end ps x xs n k end leaf e =
       | inr le ↦ absurd (
           let out : is_within ps (get_or (x ∷ xs) leaf.at x) ≡ false = end.1 leaf.at x le leaf.within in
           let in_it : is_within ps (get_or (x ∷ xs) leaf.at x) ≡ true = ap (λ (q : List ℕ). is_le (compare_begin q ps)) (leaf.here x) ∙ ap is_le e in
-          let z : true ≡ false = sym in_it ∙ out in let no_more : ⊥ = cc in no_more)
+          true≢false (sym in_it ∙ out))
     ]
 
 pub none_before : (ps : List ℕ) (xs : List Held) (n : ℕ) → AreValues xs → IsEnd ps xs n → n ≡ 0 → IsLastUnder (texts_of xs) ps None
@@ -225,71 +219,52 @@ none_here ps (x ∷ xs) n l is bound end some at e k h b =
     let le = last_above ps x xs n l k is bound end at h b in
     let inside : is_le (compare_begin (key l) ps) ≡ true = ap (is_within ps) at ∙ end.0 (n - 1) l (omega arith) (omega (arith, some)) in
     let same : compare_begin (key l) ps ≡ Equal = begins-above ps k (key l) le b inside in
-    let z : true ≡ false = sym (ap is_eq same) ∙ e in
-    let no_more : ⊥ = cc in no_more
+    true≢false (sym (ap is_eq same) ∙ e)
 
--- ---- the last numbers
+-- ---- the last number behind others
 
-module _ (xs : List Held) (is : AreValues xs) where
-  first_positive : (n : ℕ) (k : List ℕ) → StandsAt (texts_of xs) (n ∷ k) → 0 < n
-  first_positive n k h = (positive xs (n ∷ k) is h).0
+-- what stands under a key stands at a key that goes on from it
+stands-at : (m : Texts) (more : ℕ) (key : List ℕ) → StandsUnder m more key → (rest : List ℕ) × StandsAt m (key ++ rest)
+stands-at m zero key h = ([], subst (λ (k : List ℕ). StandsAt m k) (sym (append-nil key)) h)
+stands-at m (suc more) key h =
+    let later = stands-at m more (key ++ h.0 ∷ []) h.1 in
+    (h.0 ∷ later.0, subst (λ (k : List ℕ). StandsAt m k) (append_assoc key (h.0 ∷ []) later.0) later.1)
 
-  pub last_field : (o : Option Place) → IsLastUnder (texts_of xs) [] o → (n : ℕ) → n ≡ elim o as (λ _. ℕ) [ None ↦ 0 | Some p ↦ p.field ] → IsLast (FieldAt (texts_of xs)) n
-  last_field None h n e = record {
-    there = λ lt. absurd (omega arith);
-    within = λ f at. absurd (h (f ∷ at.0 ∷ at.1.0 ∷ at.1.1.0 ∷ []) at.1.1.1 refl);
-  }
-  last_field (Some p) h n e = record {
-    there = λ lt. subst (λ (k : ℕ). FieldAt (texts_of xs) k) (sym e) (p.rep, (p.comp, (p.sub, h.0)));
-    within = λ f at. (first_positive f (at.0 ∷ at.1.0 ∷ at.1.1.0 ∷ []) at.1.1.1, (let le = not_above f p.field (at.0 ∷ at.1.0 ∷ at.1.1.0 ∷ []) (p.rep ∷ p.comp ∷ p.sub ∷ []) (h.2 (f ∷ at.0 ∷ at.1.0 ∷ at.1.1.0 ∷ []) at.1.1.1 refl) in omega (arith, le, e)));
-  }
+stands-under : (m : Texts) (more : ℕ) (key rest : List ℕ) → length rest ≡ more → StandsAt m (key ++ rest) → StandsUnder m more key
+stands-under m zero key [] e h = subst (λ (k : List ℕ). StandsAt m k) (append-nil key) h
+stands-under m zero key (n ∷ rest) e h = absurd (omega arith)
+stands-under m (suc more) key [] e h = absurd (omega arith)
+stands-under m (suc more) key (n ∷ rest) e h =
+    (n, stands-under m more (key ++ n ∷ []) rest (omega arith) (subst (λ (k : List ℕ). StandsAt m k) (sym (append_assoc key (n ∷ []) rest)) h))
 
-  pub last_rep : (f : ℕ) (o : Option Place) → IsLastUnder (texts_of xs) (f ∷ []) o → (n : ℕ) → n ≡ elim o as (λ _. ℕ) [ None ↦ 0 | Some p ↦ p.rep ] → IsLast (RepAt (texts_of xs) f) n
-  last_rep f None h n e = record {
-    there = λ lt. absurd (omega arith);
-    within = λ r at. absurd (h (f ∷ r ∷ at.0 ∷ at.1.0 ∷ []) at.1.1 (begin_same (f ∷ []) (r ∷ at.0 ∷ at.1.0 ∷ [])));
-  }
-  last_rep f (Some p) h n e =
-      let same : p.field ≡ f = (begin_is p.field (p.rep ∷ p.comp ∷ p.sub ∷ []) f [] h.1).head in
+positive_behind : (ps : List ℕ) (n : ℕ) (rest : List ℕ) → AllByRecursion (λ k. 0 < k) (ps ++ n ∷ rest) → 0 < n
+positive_behind [] n rest h = h.0
+positive_behind (p ∷ ps) n rest h = positive_behind ps n rest h.1
+
+module _ (xs : List Held) (is : AreValues xs) (ps : List ℕ) (short : length ps < 4) where
+  abbrev Stands : ℕ → Type 0
+  Stands n = StandsUnder (texts_of xs) (3 - length ps) (ps ++ n ∷ [])
+
+  stands : (n : ℕ) → Stands n → (rest : List ℕ) × StandsAt (texts_of xs) (ps ++ n ∷ rest)
+  stands n h =
+      let at = stands-at (texts_of xs) (3 - length ps) (ps ++ n ∷ []) h in
+      (at.0, subst (λ (k : List ℕ). StandsAt (texts_of xs) k) (append_assoc ps (n ∷ []) at.0) at.1)
+
+  pub last_none : IsLastUnder (texts_of xs) ps None → IsLast Stands 0
+  last_none none = record { there = λ lt. absurd (omega arith); within = λ n h. (let at = stands n h in absurd (none (ps ++ n ∷ at.0) at.1 (begin_same ps (n ∷ at.0)))) }
+
+  pub last_some : (p : Place) → IsLastUnder (texts_of xs) ps (Some p) → IsLast Stands (get_or (numbers p) (length ps) 0)
+  last_some p last =
+      let n = get_or (numbers p) (length ps) 0 in
+      let later = drop (length ps + 1) (numbers p) in
+      let four : length (numbers p) ≡ 4 = refl in
+      let rest : drop (length ps) (numbers p) ≡ n ∷ later = drop_more (numbers p) (length ps) 0 (omega (arith, short, four)) in
+      let key_is : numbers p ≡ ps ++ n ∷ later = begins (numbers p) ps last.1 ∙ ap (λ (k : List ℕ). ps ++ k) rest in
+      let long : length later ≡ 3 - length ps = omega (arith, short, four, length-drop (length ps + 1) (numbers p)) in
       record {
-        there = λ lt. subst (λ (k : ℕ). RepAt (texts_of xs) f k) (sym e) (p.comp, (p.sub, subst (λ (k : ℕ). StandsAt (texts_of xs) (k ∷ p.rep ∷ p.comp ∷ p.sub ∷ [])) same h.0));
-        within = λ r at. (
-            let le = h.2 (f ∷ r ∷ at.0 ∷ at.1.0 ∷ []) at.1.1 (begin_same (f ∷ []) (r ∷ at.0 ∷ at.1.0 ∷ [])) in
-            let here : is_gt (order (f ∷ r ∷ at.0 ∷ at.1.0 ∷ []) (f ∷ p.rep ∷ p.comp ∷ p.sub ∷ [])) ≡ false = subst (λ (k : ℕ). is_gt (order (f ∷ r ∷ at.0 ∷ at.1.0 ∷ []) (k ∷ p.rep ∷ p.comp ∷ p.sub ∷ [])) ≡ false) same le in
-            ((positive xs (f ∷ r ∷ at.0 ∷ at.1.0 ∷ []) is at.1.1).1.0, (let small = not_above r p.rep (at.0 ∷ at.1.0 ∷ []) (p.comp ∷ p.sub ∷ []) (not_above_behind f (r ∷ at.0 ∷ at.1.0 ∷ []) (p.rep ∷ p.comp ∷ p.sub ∷ []) here) in omega (arith, small, e))));
-      }
-
-  pub last_comp : (f r : ℕ) (o : Option Place) → IsLastUnder (texts_of xs) (f ∷ r ∷ []) o → (n : ℕ) → n ≡ elim o as (λ _. ℕ) [ None ↦ 0 | Some p ↦ p.comp ] → IsLast (CompAt (texts_of xs) f r) n
-  last_comp f r None h n e = record {
-    there = λ lt. absurd (omega arith);
-    within = λ c at. absurd (h (f ∷ r ∷ c ∷ at.0 ∷ []) at.1 (begin_same (f ∷ r ∷ []) (c ∷ at.0 ∷ [])));
-  }
-  last_comp f r (Some p) h n e =
-      let one = begin_is p.field (p.rep ∷ p.comp ∷ p.sub ∷ []) f (r ∷ []) h.1 in
-      let two = begin_is p.rep (p.comp ∷ p.sub ∷ []) r [] one.rest in
-      let key_is : numbers p ≡ f ∷ r ∷ p.comp ∷ p.sub ∷ [] = ap (λ (k : ℕ). k ∷ p.rep ∷ p.comp ∷ p.sub ∷ []) one.head ∙ ap (λ (k : ℕ). f ∷ k ∷ p.comp ∷ p.sub ∷ []) two.head in
-      record {
-        there = λ lt. subst (λ (k : ℕ). CompAt (texts_of xs) f r k) (sym e) (p.sub, subst (λ (q : List ℕ). StandsAt (texts_of xs) q) key_is h.0);
-        within = λ c at. (
-            let le = h.2 (f ∷ r ∷ c ∷ at.0 ∷ []) at.1 (begin_same (f ∷ r ∷ []) (c ∷ at.0 ∷ [])) in
-            let here : is_gt (order (f ∷ r ∷ c ∷ at.0 ∷ []) (f ∷ r ∷ p.comp ∷ p.sub ∷ [])) ≡ false = subst (λ (q : List ℕ). is_gt (order (f ∷ r ∷ c ∷ at.0 ∷ []) q) ≡ false) key_is le in
-            ((positive xs (f ∷ r ∷ c ∷ at.0 ∷ []) is at.1).1.1.0, (let small = not_above c p.comp (at.0 ∷ []) (p.sub ∷ []) (not_above_behind r (c ∷ at.0 ∷ []) (p.comp ∷ p.sub ∷ []) (not_above_behind f (r ∷ c ∷ at.0 ∷ []) (r ∷ p.comp ∷ p.sub ∷ []) here)) in omega (arith, small, e))));
-      }
-
-  pub last_sub : (f r c : ℕ) (o : Option Place) → IsLastUnder (texts_of xs) (f ∷ r ∷ c ∷ []) o → (n : ℕ) → n ≡ elim o as (λ _. ℕ) [ None ↦ 0 | Some p ↦ p.sub ] → IsLast (SubAt (texts_of xs) f r c) n
-  last_sub f r c None h n e = record {
-    there = λ lt. absurd (omega arith);
-    within = λ s at. absurd (h (f ∷ r ∷ c ∷ s ∷ []) at (begin_same (f ∷ r ∷ c ∷ []) (s ∷ [])));
-  }
-  last_sub f r c (Some p) h n e =
-      let one = begin_is p.field (p.rep ∷ p.comp ∷ p.sub ∷ []) f (r ∷ c ∷ []) h.1 in
-      let two = begin_is p.rep (p.comp ∷ p.sub ∷ []) r (c ∷ []) one.rest in
-      let three = begin_is p.comp (p.sub ∷ []) c [] two.rest in
-      let key_is : numbers p ≡ f ∷ r ∷ c ∷ p.sub ∷ [] = ap (λ (k : ℕ). k ∷ p.rep ∷ p.comp ∷ p.sub ∷ []) one.head ∙ ap (λ (k : ℕ). f ∷ k ∷ p.comp ∷ p.sub ∷ []) two.head ∙ ap (λ (k : ℕ). f ∷ r ∷ k ∷ p.sub ∷ []) three.head in
-      record {
-        there = λ lt. subst (λ (k : ℕ). SubAt (texts_of xs) f r c k) (sym e) (subst (λ (q : List ℕ). StandsAt (texts_of xs) q) key_is h.0);
-        within = λ s at. (
-            let le = h.2 (f ∷ r ∷ c ∷ s ∷ []) at (begin_same (f ∷ r ∷ c ∷ []) (s ∷ [])) in
-            let here : is_gt (order (f ∷ r ∷ c ∷ s ∷ []) (f ∷ r ∷ c ∷ p.sub ∷ [])) ≡ false = subst (λ (q : List ℕ). is_gt (order (f ∷ r ∷ c ∷ s ∷ []) q) ≡ false) key_is le in
-            ((positive xs (f ∷ r ∷ c ∷ s ∷ []) is at).1.1.1.0, (let small = not_above s p.sub [] [] (not_above_behind c (s ∷ []) (p.sub ∷ []) (not_above_behind r (c ∷ s ∷ []) (c ∷ p.sub ∷ []) (not_above_behind f (r ∷ c ∷ s ∷ []) (r ∷ c ∷ p.sub ∷ []) here))) in omega (arith, small, e))));
+        there = λ lt. stands-under (texts_of xs) (3 - length ps) (ps ++ n ∷ []) later long (subst (λ (k : List ℕ). StandsAt (texts_of xs) k) (key_is ∙ sym (append_assoc ps (n ∷ []) later)) last.0);
+        within = λ k h. (
+            let at = stands k h in
+            let le = last.2 (ps ++ k ∷ at.0) at.1 (begin_same ps (k ∷ at.0)) in
+            (positive_behind ps k at.0 (positive xs (ps ++ k ∷ at.0) is at.1), not_above ps k n at.0 later (subst (λ (q : List ℕ). is_gt (order (ps ++ k ∷ at.0) q) ≡ false) key_is le)));
       }

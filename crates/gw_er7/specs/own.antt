@@ -5,3 +5,4 @@ pub mod Ordered
 pub mod Layers
 pub mod Canonical
 pub mod Leaves
+pub mod Standing

@@ -1,14 +1,12 @@
 //! The last numbers that are present.
-ghost use Rattle.std.specs.Prelude.{◌≡◌, ◌+◌, ◌≤◌, [], ◌∷◌, length, true, false};
+ghost use Rattle.std.specs.Prelude.{◌≡◌, ◌≤◌, length, true, false};
 ghost use Rattle.std.specs.List.Sorted.{IsPartitionPoint};
 ghost use Rattle.std.specs.Ordering.{is_le};
 ghost use Rattle.std.specs.FinMap as texts;
 ghost use Rattle.gw_er7.specs.Message.{numbers};
-ghost use Rattle.gw_er7.specs.Presence.{IsStart};
 ghost use Rattle.gw_er7.specs.View.{entries_of, AreValues, compare_begin, is_within, IsLastUnder};
 
 use crate::place::Place;
-use crate::search::count_below;
 use crate::values::Values;
 use std::cmp::Ordering;
 
@@ -38,7 +36,7 @@ fn is_within(place: Place, prefix: &[usize]) -> bool
 }
 
 /// How many texts stand at places that don't begin above these numbers.
-fn count_within(values: &Values<'_>, prefix: &[usize]) -> usize
+pub(crate) fn count_within(values: &Values<'_>, prefix: &[usize]) -> usize
     requires { AreValues values.now }
     ensures bound { result ≤ length values.now }
     ensures end { IsPartitionPoint (λ h. is_within prefix.now h ≡ true) (λ h. is_within prefix.now h ≡ false) values.now result }
@@ -70,35 +68,4 @@ pub(crate) fn last_under(values: &Values<'_>, prefix: &[usize]) -> Option<Place>
         return Some(place);
     }
     None
-}
-
-/// How many texts stand at places below this field, and how many at places below the next one.
-pub(crate) fn field_range(values: &Values<'_>, field: usize) -> (usize, usize)
-    requires { AreValues values.now }
-    ensures first { IsStart (field ∷ []) (entries_of values.now) result.0 }
-    ensures behind { IsStart ((field + 1) ∷ []) (entries_of values.now) result.1 }
-{
-    let behind = count_within(values, &[field]);
-    if field == 0 {
-        return (0, behind);
-    }
-    (count_within(values, &[field - 1]), behind)
-}
-
-/// How many texts stand at places below this repetition, and how many at places below the next one.
-pub(crate) fn rep_range(values: &Values<'_>, field: usize, rep: usize) -> (usize, usize)
-    requires { AreValues values.now }
-    ensures first { IsStart (field ∷ rep ∷ []) (entries_of values.now) result.0 }
-    ensures behind { IsStart (field ∷ (rep + 1) ∷ []) (entries_of values.now) result.1 }
-{
-    let place = Place {
-        field,
-        rep,
-        comp: 0,
-        sub: 0,
-    };
-    (
-        count_below(values, place),
-        count_within(values, &[field, rep]),
-    )
 }

@@ -88,8 +88,8 @@ pub(crate) fn count_below_near(values: &Values<'_>, near: usize, place: Place) -
     count_below(values, place)
 }
 
-// The text at a place that these many texts stand below, empty where it is absent.
-fn text_behind<'a>(values: &Values<'a>, at: usize, place: Place) -> &'a [u8]
+/// The text at a place that these many texts stand below, empty where it is absent.
+pub(crate) fn text_behind<'a>(values: &Values<'a>, at: usize, place: Place) -> &'a [u8]
     requires sorted { T (is_sorted (slice_cmp nat_cmp) (entries_of values.now)) }
     requires bound { at ≤ length values.now }
     requires start { IsPartitionPoint (λ h. is_below (numbers place) h ≡ true) (λ h. is_below (numbers place) h ≡ false) values.now at }
@@ -103,20 +103,4 @@ fn text_behind<'a>(values: &Values<'a>, at: usize, place: Place) -> &'a [u8]
         return &[];
     }
     value.text
-}
-
-/// The text at a place, empty where it is absent.
-pub(crate) fn text_in<'a>(values: &Values<'a>, place: Place) -> &'a [u8]
-    requires { T (is_sorted (slice_cmp nat_cmp) (entries_of values.now)) }
-    ensures { result.now ≡ unwrap_or (find (slice_cmp nat_cmp) (numbers place) (entries_of values.now)) [] }
-{
-    text_behind(values, count_below(values, place), place)
-}
-
-/// The same, looked for from a number on.
-pub(crate) fn text_near<'a>(values: &Values<'a>, near: usize, place: Place) -> &'a [u8]
-    requires { T (is_sorted (slice_cmp nat_cmp) (entries_of values.now)) }
-    ensures { result.now ≡ unwrap_or (find (slice_cmp nat_cmp) (numbers place) (entries_of values.now)) [] }
-{
-    text_behind(values, count_below_near(values, near, place), place)
 }

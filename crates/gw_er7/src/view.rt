@@ -1,10 +1,10 @@
 //! Segments as they are lent.
 
-use crate::counts::{field_range, last_under, rep_range};
+use crate::counts::{count_within, last_under};
 use crate::layout::write_line;
 use crate::place::Place;
 use crate::same::{same_bytes, same_values};
-use crate::search::{count_below_near, text_in, text_near};
+use crate::search::{count_below, count_below_near, text_behind};
 use crate::values::Values;
 use std::alloc::AllocError;
 use std::marker::Model;
@@ -43,6 +43,7 @@ impl<'a> Segment<'a> {
     ghost use Rattle.gw_er7.specs.Presence.{SubAt, CompAt, RepAt, FieldAt, IsLast, IsStart};
     ghost use Rattle.gw_er7.specs.View.{stored, IsLent};
     ghost use Rattle.gw_er7.specs.Written.{line_text};
+    ghost use Rattle.gw_er7.specs.own.Standing.{StandsUnder};
 
     pub(crate) fn of(name: [u8; 3], values: Values<'a>) -> Segment<'a>
         requires { IsLent name values }
@@ -97,47 +98,46 @@ impl<'a> Segment<'a> {
     pub fn text(&self, place: Place) -> &'a [u8]
         ensures { result.now ≡ text_at self.now place }
     {
-        text_in(&self.values, place)
+        text_behind(&self.values, count_below(&self.values, place), place)
+    }
+
+    // The last number behind these under which a text stands, 0 where none does.
+    fn last(&self, prefix: &[usize]) -> usize
+        requires { length prefix.now < 4 }
+        ensures { IsLast (λ n. StandsUnder self.now.at (3 - length prefix.now) (prefix.now ++ n ∷ [])) result }
+    {
+        match last_under(&self.values, prefix) {
+            Some(place) => [place.field, place.rep, place.comp, place.sub][prefix.len()],
+            None => 0,
+        }
     }
 
     /// The number of the last field that is present, 0 where none is. It takes no memory.
     pub fn field_count(&self) -> usize
         ensures { IsLast (FieldAt self.now.at) result }
     {
-        match last_under(&self.values, &[]) {
-            Some(place) => place.field,
-            None => 0,
-        }
+        self.last(&[])
     }
 
     /// The number of the last repetition of a field that is present, 0 where none is. It takes no memory.
     pub fn reps(&self, field: usize) -> usize
         ensures { IsLast (RepAt self.now.at field) result }
     {
-        match last_under(&self.values, &[field]) {
-            Some(place) => place.rep,
-            None => 0,
-        }
+        self.last(&[field])
     }
 
     /// The number of the last component of a repetition that is present, 0 where none is. It takes no memory.
     pub fn comps(&self, field: usize, rep: usize) -> usize
         ensures { IsLast (CompAt self.now.at field rep) result }
     {
-        match last_under(&self.values, &[field, rep]) {
-            Some(place) => place.comp,
-            None => 0,
-        }
+        self.last(&[field, rep])
     }
 
     /// The number of the last subcomponent of a component that is present, 0 where none is. It takes no memory.
     pub fn subs(&self, field: usize, rep: usize, comp: usize) -> usize
         ensures { IsLast (SubAt self.now.at field rep comp) result }
     {
-        match last_under(&self.values, &[field, rep, comp]) {
-            Some(place) => place.sub,
-            None => 0,
-        }
+        self.last(&[field, rep, comp])
     }
 
     /// How many texts the segment has. It takes no memory.
@@ -170,7 +170,11 @@ impl<'a> Segment<'a> {
         ensures first { IsStart (field ∷ []) (texts.entries self.now.at) result.0 }
         ensures behind { IsStart ((field + 1) ∷ []) (texts.entries self.now.at) result.1 }
     {
-        field_range(&self.values, field)
+        let behind = count_within(&self.values, &[field]);
+        if field == 0 {
+            return (0, behind);
+        }
+        (count_within(&self.values, &[field - 1]), behind)
     }
 
     /// The numbers of the first text of a repetition and of the first text behind it: the texts of the repetition stand between.
@@ -179,13 +183,23 @@ impl<'a> Segment<'a> {
         ensures first { IsStart (field ∷ rep ∷ []) (texts.entries self.now.at) result.0 }
         ensures behind { IsStart (field ∷ (rep + 1) ∷ []) (texts.entries self.now.at) result.1 }
     {
-        rep_range(&self.values, field, rep)
+        let place = Place {
+            field,
+            rep,
+            comp: 0,
+            sub: 0,
+        };
+        (
+            count_below(&self.values, place),
+            count_within(&self.values, &[field, rep]),
+        )
     }
 
     /// The same as `text`, in a constant time where the text's number is the one named or one of a few behind it.
     pub fn text_near(&self, near: usize, place: Place) -> &'a [u8]
         ensures { result.now ≡ text_at self.now place }
     {
-        text_near(&self.values, near, place)
+        let at = count_below_near(&self.values, near, place);
+        text_behind(&self.values, at, place)
     }
 }

@@ -1,18 +1,24 @@
-use Rattle.std.proofs.Common.{subst, List, ◌∷◌, [], ◌+◌}
-use Rattle.gw_er7.specs.Entries.{Entry}
-use Rattle.gw_er7.specs.Presence.{IsStart}
-use Rattle.gw_er7.proofs.Lent.{values_of, entries_are}
+use Rattle.std.proofs.Common.{rules}
+use Rattle.gw_er7.proofs.Lent.{values_of, lent_start, field_behind, field_first}
 use Rattle.gw_er7.proofs.view.Segment.field_values.Goals as goal
 
-pub field_range-requires : goal.field_range-requires
-field_range-requires c = values_of c.self.inside.name c.self.inside.values c.self.invariant
+pub count_within-behind-requires : goal.count_within-behind-requires
+count_within-behind-requires c = values_of c.self.inside.name c.self.inside.values c.self.invariant
+
+pub count_within-requires : goal.count_within-requires
+count_within-requires c = values_of c.self.inside.name c.self.inside.values c.self.invariant
+
+pub returns-then-field-eq0-clause-behind : goal.returns-then-field-eq0-clause-behind
+returns-then-field-eq0-clause-behind c =
+    lent_start _ c.self.inside.name c.self.inside.values c.args.self.now _ c.self.invariant c.self.view_is
+    (field_behind c.args.field c.self.inside.values _ c.count_within-behind.ensures.bound c.count_within-behind.ensures.end)
 
 pub returns-clause-first : goal.returns-clause-first
 returns-clause-first c =
-    let e = entries_are c.self.inside.name c.self.inside.values c.args.self.now c.self.invariant c.self.view_is in
-    subst (λ (es : List Entry). IsStart (c.args.field ∷ []) es c.field_range.result.0) e c.field_range.ensures.first
+    lent_start _ c.self.inside.name c.self.inside.values c.args.self.now _ c.self.invariant c.self.view_is
+    (field_first c.args.field c.self.inside.values _ (search rules) c.count_within.ensures.bound c.count_within.ensures.end)
 
 pub returns-clause-behind : goal.returns-clause-behind
 returns-clause-behind c =
-    let e = entries_are c.self.inside.name c.self.inside.values c.args.self.now c.self.invariant c.self.view_is in
-    subst (λ (es : List Entry). IsStart ((c.args.field + 1) ∷ []) es c.field_range.result.1) e c.field_range.ensures.behind
+    lent_start _ c.self.inside.name c.self.inside.values c.args.self.now _ c.self.invariant c.self.view_is
+    (field_behind c.args.field c.self.inside.values _ c.count_within-behind.ensures.bound c.count_within-behind.ensures.end)

@@ -1,18 +1,15 @@
-use Rattle.std.proofs.Common.{subst, List, ◌∷◌, [], ◌+◌}
-use Rattle.gw_er7.specs.Entries.{Entry}
-use Rattle.gw_er7.specs.Presence.{IsStart}
-use Rattle.gw_er7.proofs.Lent.{values_of, entries_are}
+use Rattle.gw_er7.proofs.Lent.{values_of, lent_start, rep_behind, rep_first}
 use Rattle.gw_er7.proofs.view.Segment.rep_values.Goals as goal
 
-pub rep_range-requires : goal.rep_range-requires
-rep_range-requires c = values_of c.self.inside.name c.self.inside.values c.self.invariant
+pub count_within-requires : goal.count_within-requires
+count_within-requires c = values_of c.self.inside.name c.self.inside.values c.self.invariant
 
 pub returns-clause-first : goal.returns-clause-first
 returns-clause-first c =
-    let e = entries_are c.self.inside.name c.self.inside.values c.args.self.now c.self.invariant c.self.view_is in
-    subst (λ (es : List Entry). IsStart (c.args.field ∷ c.args.rep ∷ []) es c.rep_range.result.0) e c.rep_range.ensures.first
+    lent_start _ c.self.inside.name c.self.inside.values c.args.self.now _ c.self.invariant c.self.view_is
+    (rep_first c.args.field c.args.rep c.self.inside.values _ c.count_below.ensures.bound c.count_below.ensures.start)
 
 pub returns-clause-behind : goal.returns-clause-behind
 returns-clause-behind c =
-    let e = entries_are c.self.inside.name c.self.inside.values c.args.self.now c.self.invariant c.self.view_is in
-    subst (λ (es : List Entry). IsStart (c.args.field ∷ (c.args.rep + 1) ∷ []) es c.rep_range.result.1) e c.rep_range.ensures.behind
+    lent_start _ c.self.inside.name c.self.inside.values c.args.self.now _ c.self.invariant c.self.view_is
+    (rep_behind c.args.field c.args.rep c.self.inside.values _ c.count_within.ensures.bound c.count_within.ensures.end)
