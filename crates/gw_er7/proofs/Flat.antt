@@ -2,14 +2,14 @@
 use Rattle.std.proofs.Common.{◌≡◌, ℕ, zero, suc, ◌+◌, ◌<◌, List, [], ◌∷◌, ◌++◌, map, take, drop, refl, sym, ap, ◌∙◌, append-nil, arith}
 use Rattle.std.specs.Prelude.{◌==◌, not}
 use Rattle.std.specs.List.{prefix_len}
-use Rattle.gw_er7.specs.declared.level.Level.TheVariants.{Field, Repetition, Component, Subcomponent}
+use Rattle.gw_er7.specs.Message.{numbers}
 use Rattle.gw_er7.specs.Entries.{Entry}
-use Rattle.gw_er7.specs.own.Layers.{inside, part_text}
+use Rattle.gw_er7.specs.own.Gaps.{levels}
 use Rattle.gw_er7.specs.own.Ordered.{IsOrdered, IsCut}
 use Rattle.gw_er7.specs.View.{Held, entries_of}
-use Rattle.gw_er7.specs.Written.{last_number, layer, fields_text}
+use Rattle.gw_er7.specs.Written.{last_number, layer, leaf_text, component_text, repetition_text, field_text, fields_text}
 use Rattle.gw_er7.proofs.Runs.{cut_run}
-use Rattle.gw_er7.proofs.Steps.{levels, ones, steps, behind, steps-under}
+use Rattle.gw_er7.proofs.Steps.{ones, steps, behind, steps-under}
 use Rattle.gw_er7.proofs.PartByPart.{layer-last, layer-more, IsFurther, further}
 
 module _ (head : Held → ℕ) (tail : Held → Entry) (t : ℕ) (ts : List ℕ) (inner : List Entry → List ℕ) where
@@ -46,19 +46,23 @@ module _ (head : Held → ℕ) (tail : Held → Entry) (t : ℕ) (ts : List ℕ)
 
 -- ---- at each level
 
-subcomponent : (xs : List Held) → IsOrdered 1 (map (inside Subcomponent) xs) → steps [] [] (map (inside Subcomponent) xs) ≡ part_text Subcomponent (map (inside Subcomponent) xs)
+-- a text without the first numbers of its place
+abbrev inside : ℕ → Held → Entry
+inside n l = (drop n (numbers l.place), l.text)
+
+subcomponent : (xs : List Held) → IsOrdered 1 (map (inside 4) xs) → steps [] [] (map (inside 4) xs) ≡ leaf_text (map (inside 4) xs)
 subcomponent [] is = refl
 subcomponent (x ∷ []) is = append-nil x.text
 subcomponent (x ∷ y ∷ xs) is = absurd is.rising
 
-component : (xs : List Held) → IsOrdered 1 (map (inside Component) xs) → steps (38 ∷ []) (1 ∷ []) (map (inside Component) xs) ≡ part_text Component (map (inside Component) xs)
-component xs is = in_layer (λ l. l.place.sub) (inside Subcomponent) 38 [] (part_text Subcomponent) refl subcomponent 1 xs (omega arith) is
+component : (xs : List Held) → IsOrdered 1 (map (inside 3) xs) → steps (38 ∷ []) (1 ∷ []) (map (inside 3) xs) ≡ component_text (map (inside 3) xs)
+component xs is = in_layer (λ l. l.place.sub) (inside 4) 38 [] leaf_text refl subcomponent 1 xs (omega arith) is
 
-repetition : (xs : List Held) → IsOrdered 1 (map (inside Repetition) xs) → steps (94 ∷ 38 ∷ []) (1 ∷ 1 ∷ []) (map (inside Repetition) xs) ≡ part_text Repetition (map (inside Repetition) xs)
-repetition xs is = in_layer (λ l. l.place.comp) (inside Component) 94 (38 ∷ []) (part_text Component) refl component 1 xs (omega arith) is
+repetition : (xs : List Held) → IsOrdered 1 (map (inside 2) xs) → steps (94 ∷ 38 ∷ []) (1 ∷ 1 ∷ []) (map (inside 2) xs) ≡ repetition_text (map (inside 2) xs)
+repetition xs is = in_layer (λ l. l.place.comp) (inside 3) 94 (38 ∷ []) component_text refl component 1 xs (omega arith) is
 
-field : (xs : List Held) → IsOrdered 1 (map (inside Field) xs) → steps (126 ∷ 94 ∷ 38 ∷ []) (1 ∷ 1 ∷ 1 ∷ []) (map (inside Field) xs) ≡ part_text Field (map (inside Field) xs)
-field xs is = in_layer (λ l. l.place.rep) (inside Repetition) 126 (94 ∷ 38 ∷ []) (part_text Repetition) refl repetition 1 xs (omega arith) is
+field : (xs : List Held) → IsOrdered 1 (map (inside 1) xs) → steps (126 ∷ 94 ∷ 38 ∷ []) (1 ∷ 1 ∷ 1 ∷ []) (map (inside 1) xs) ≡ field_text (map (inside 1) xs)
+field xs is = in_layer (λ l. l.place.rep) (inside 2) 126 (94 ∷ 38 ∷ []) repetition_text refl repetition 1 xs (omega arith) is
 
 pub fields : (first : ℕ) (xs : List Held) → 0 < first → IsOrdered first (entries_of xs) → steps levels (first ∷ 1 ∷ 1 ∷ 1 ∷ []) (entries_of xs) ≡ fields_text first (entries_of xs)
-fields first xs lt is = in_layer (λ l. l.place.field) (inside Field) 124 (126 ∷ 94 ∷ 38 ∷ []) (part_text Field) refl field first xs lt is
+fields first xs lt is = in_layer (λ l. l.place.field) (inside 1) 124 (126 ∷ 94 ∷ 38 ∷ []) field_text refl field first xs lt is

@@ -2,7 +2,7 @@
 pub mod Separators
 pub mod Gathered
 pub mod Ordered
-pub mod Layers
+pub mod Gaps
 pub mod Canonical
 pub mod Leaves
 pub mod Standing

@@ -1,73 +1,61 @@
 //! How texts are written.
-ghost use Rattle.std.specs.Prelude.{◌≡◌, ◌-◌, ◌<◌, ◌++◌, ◌==◌, ◌&&◌, if◌then◌else◌, replicate, OnOk, MatchResult};
-ghost use Rattle.gw_er7.specs.Message.{first_field};
+ghost use Rattle.std.specs.Prelude.{◌≡◌, ◌-◌, ◌<◌, ◌++◌, ◌==◌, ◌&&◌, if◌then◌else◌, replicate, OnOk, IfOk, MatchResult};
+ghost use Rattle.gw_er7.specs.Message.{first_field, numbers};
 ghost use Rattle.gw_er7.specs.View.{entries_of};
 ghost use Rattle.gw_er7.specs.Written.{fields_text, behind_separator, delimiters_text, closed_line};
 ghost use Rattle.gw_er7.specs.own.Ordered.{IsOrdered};
-ghost use Rattle.gw_er7.specs.own.Layers.{number_at, separator_of};
+ghost use Rattle.gw_er7.specs.own.Gaps.{levels, gaps};
 
 use crate::checks::is_header;
-use crate::level::Level;
 use crate::place::Place;
 use crate::values::Values;
 use std::alloc::AllocError;
 
-fn number_at(level: Level, place: Place) -> usize
-    ensures { result ≡ number_at level place }
+/// Writes the separators of a level that lead from one number to another.
+fn write_gap(out: &mut Vec<u8>, separator: u8, from: usize, to: usize) -> Result<(), AllocError>
+    ensures { OnOk result (out.new.items ≡ out.old.items ++ replicate (to - from) separator) }
 {
-    match level {
-        Level::Field => place.field,
-        Level::Repetition => place.rep,
-        Level::Component => place.comp,
-        Level::Subcomponent => place.sub,
-    }
-}
-
-fn separator_of(level: Level) -> u8
-    ensures { result ≡ separator_of level }
-{
-    match level {
-        Level::Field => b'|',
-        Level::Repetition => b'~',
-        Level::Component => b'^',
-        Level::Subcomponent => b'&',
-    }
-}
-
-/// Writes the separators of a level between two places.
-fn write_gap(out: &mut Vec<u8>, level: Level, from: Place, to: Place) -> Result<(), AllocError>
-    ensures { OnOk result (out.new.items ≡ out.old.items ++ replicate (number_at level to - number_at level from) (separator_of level)) }
-{
-    let mut number = number_at(level, from);
-    while number < number_at(level, to) {
-        out.push(separator_of(level))?;
+    let mut number = from;
+    while number < to {
+        out.push(separator)?;
         number += 1;
     }
     Ok(())
 }
 
-/// The place from which separators are counted on the way from one place to another: behind the first number that differs each is counted from 1.
-fn counted_from(from: Place, to: Place) -> Place
-    ensures field { result.field ≡ from.field }
-    ensures rep { result.rep ≡ (if to.field == from.field then from.rep else 1) }
-    ensures comp { result.comp ≡ (if to.field == from.field && to.rep == from.rep then from.comp else 1) }
-    ensures sub { result.sub ≡ (if to.field == from.field && (to.rep == from.rep && to.comp == from.comp) then from.sub else 1) }
+fn start(same: bool, number: usize) -> usize
+    ensures { result ≡ (if same then number else 1) }
 {
-    let first = Place { sub: 1, ..from };
-    if to.field != from.field {
-        return Place {
-            rep: 1,
-            comp: 1,
-            ..first
-        };
+    if same { number } else { 1 }
+}
+
+/// Writes the separators of a level, counted from 1 where the places differ above it; gives whether they are the same up to it.
+fn write_level(
+    out: &mut Vec<u8>,
+    separator: u8,
+    same: bool,
+    from: usize,
+    to: usize,
+) -> Result<bool, AllocError>
+    ensures same { IfOk result (λ still. still ≡ (same && (to == from))) }
+    ensures gap { OnOk result (out.new.items ≡ out.old.items ++ replicate (to - (if same then from else 1)) separator) }
+{
+    write_gap(out, separator, start(same, from), to)?;
+    if !same {
+        return Ok(false);
     }
-    if to.rep != from.rep {
-        return Place { comp: 1, ..first };
-    }
-    if to.comp != from.comp {
-        return first;
-    }
-    from
+    Ok(to == from)
+}
+
+/// Writes the separators that lead from one place to another.
+fn write_gaps(out: &mut Vec<u8>, from: Place, to: Place) -> Result<(), AllocError>
+    ensures { OnOk result (out.new.items ≡ out.old.items ++ gaps levels (numbers from) (numbers to)) }
+{
+    let field = write_level(out, b'|', true, from.field, to.field)?;
+    let rep = write_level(out, b'~', field, from.rep, to.rep)?;
+    let comp = write_level(out, b'^', rep, from.comp, to.comp)?;
+    let _ = write_level(out, b'&', comp, from.sub, to.sub)?;
+    Ok(())
 }
 
 /// Writes the fields of these texts, the first of which has this number: each text behind the separators that lead to it.
@@ -84,11 +72,7 @@ fn write_fields(out: &mut Vec<u8>, first: usize, values: &Values<'_>) -> Result<
     };
     for i in 0..values.len() {
         let value = values.at(i);
-        let from = counted_from(here, value.place);
-        write_gap(out, Level::Field, from, value.place)?;
-        write_gap(out, Level::Repetition, from, value.place)?;
-        write_gap(out, Level::Component, from, value.place)?;
-        write_gap(out, Level::Subcomponent, from, value.place)?;
+        write_gaps(out, here, value.place)?;
         out.extend_from_slice(value.text)?;
         here = value.place;
     }

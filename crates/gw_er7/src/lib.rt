@@ -12,7 +12,6 @@ mod fields;
 mod laws;
 mod layout;
 mod leaves;
-mod level;
 mod lines;
 mod message;
 mod place;

@@ -2,7 +2,8 @@ use Rattle.std.proofs.Common.{◌≡◌, ◌++◌, drop}
 use Rattle.gw_er7.specs.Message.{numbers}
 use Rattle.gw_er7.specs.Written.{fields_text}
 use Rattle.gw_er7.specs.View.{entries_of}
-use Rattle.gw_er7.proofs.Steps.{levels, steps}
+use Rattle.gw_er7.specs.own.Gaps.{levels}
+use Rattle.gw_er7.proofs.Steps.{steps}
 use Rattle.gw_er7.proofs.layout.write_fields.Given as goal
 
 abbrev pub invariant-loop-i : goal.invariant-loop-i
