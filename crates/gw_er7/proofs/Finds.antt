@@ -75,17 +75,11 @@ pub record IsBetween (test : Held → Bool) (xs : List Held) (low high : ℕ) : 
   pub below : AllWithin (λ y. test y ≡ true) xs 0 low
   pub above : AllWithin (λ y. test y ≡ false) xs high (length xs)
 
-pub between_all : (test : Held → Bool) (xs : List Held) (n : ℕ) → n ≡ length xs → IsBetween test xs 0 n
-between_all test xs n e = record { order = omega arith; bound = omega arith; below = λ k d low high. absurd (omega arith); above = λ k d low high. absurd (omega arith) }
-
 pub between_up : (test : Held → Bool) (xs : List Held) (low high n : ℕ) (l : Held) → IsPartitionedBy test xs → IsBetween test xs low high → n < high → l ≡ get_or xs n l → test l ≡ true → IsBetween test xs (n + 1) high
 between_up test xs low high n l h is lt at passes = record { order = omega arith; bound = is.bound; below = all_before test xs n l h (omega (arith, lt, is.bound)) at passes; above = is.above }
 
 pub between_down : (test : Held → Bool) (xs : List Held) (low high n : ℕ) (l : Held) → IsPartitionedBy test xs → IsBetween test xs low high → low ≤ n → n < high → l ≡ get_or xs n l → test l ≡ false → IsBetween test xs low n
 between_down test xs low high n l h is le lt at fails = record { order = le; bound = omega (arith, lt, is.bound); below = is.below; above = none_from test xs n l h (omega (arith, lt, is.bound)) at fails }
-
-pub between_done : (test : Held → Bool) (xs : List Held) (low high : ℕ) → IsBetween test xs low high → high ≤ low → IsPartitionPoint (λ y. test y ≡ true) (λ y. test y ≡ false) xs low
-between_done test xs low high is done = (is.below, λ k d from to. is.above k d (omega (arith, from, done)) to)
 
 -- the same of places below one
 pub all_below : (q : List ℕ) (xs : List Held) (n : ℕ) (l : Held) → Sorted xs → n < length xs → l ≡ get_or xs n l → is_below q l ≡ true → AllWithin (λ y. is_below q y ≡ true) xs 0 (n + 1)

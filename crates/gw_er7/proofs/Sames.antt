@@ -16,11 +16,6 @@ zip_maps f (x ∷ xs) [] = (λ h. absurd h, λ e. absurd (cc))
 zip_maps f (x ∷ xs) (y ∷ ys) =
     (λ h. let e = (zip_maps f xs ys).0 h.1 in λ i. h.0 i ∷ e i, λ e. let k : f x ≡ f y = cc in let t : map f xs ≡ map f ys = cc in (k, (zip_maps f xs ys).1 t))
 
-pub zip_same : {A : Type 0} (xs ys : List A) → AllZip (λ x y. x ≡ y) xs ys ↔ (xs ≡ ys)
-zip_same xs ys =
-    let maps = zip_maps (λ x. x) xs ys in
-    (λ h. sym (map-id xs) ∙ maps.0 h ∙ map-id ys, λ e. maps.1 (map-id xs ∙ e ∙ sym (map-id ys)))
-
 -- one text more is compared
 module _ (xs ys : List Held) (i : ℕ) (a b : Held) (la : i < length xs) (lb : i < length ys) (ha : get_or xs i a ≡ a) (hb : get_or ys i b ≡ b) where
   abbrev Same : List Held → List Held → Type 0
@@ -50,12 +45,3 @@ segments_same name other xs ys zs ws r s t a b p q u v n h =
           a ∙ (λ i. record { name = n i; at = texts.from_sorted (e i) }) ∙ sym b,
       λ e. h.1 (z.1 (ap entries_of u ∙ values_of name other xs ys p q (sym a ∙ e ∙ b) ∙ ap entries_of (sym v))),
     )
-
-pub messages_same : (m n xs ys zs ws : List SegmentValue) (r : Bool) → m ≡ xs → n ≡ ys → zs ≡ xs → ws ≡ ys → IsTrue r ↔ AllZip (λ a b. a ≡ b) zs ws → IsTrue r ↔ (m ≡ n)
-messages_same m n xs ys zs ws r a b u v h =
-    let z = zip_same zs ws in
-    (λ k. a ∙ sym u ∙ z.0 (h.0 k) ∙ v ∙ sym b, λ e. h.1 (z.1 (u ∙ sym a ∙ e ∙ b ∙ sym v)))
-
--- equal texts are the same one by one
-pub texts_same : (xs ys : List Held) → xs ≡ ys → IsTrue true ↔ AllZip (λ a b. entry_of a ≡ entry_of b) xs ys
-texts_same xs ys e = (λ t. (zip_maps entry_of xs ys).1 (ap entries_of e), λ h. refl)

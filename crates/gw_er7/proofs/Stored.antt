@@ -36,9 +36,6 @@ pub line : (name : List ℕ) (es : List Entry) (s : SegmentValue) → T (is_sort
 line name es s sorted view =
     ap (λ (xs : List Entry). name ++ delimiters_text name ++ behind_separator (first_field name) xs ++ 13 ∷ []) (sym (entries-from_sorted (slice_cmp nat_cmp) es sorted)) ∙ ap (λ (v : SegmentValue). line_text v ++ 13 ∷ []) view
 
-pub held : (name : List ℕ) (es : List Entry) (s : SegmentValue) → T (is_sorted (slice_cmp nat_cmp) es) → stored name es ≡ s → texts.entries s.at ≡ es
-held name es s sorted view = ap (λ (v : SegmentValue). texts.entries v.at) (sym view) ∙ entries-from_sorted (slice_cmp nat_cmp) es sorted
-
 -- ---- all segments
 
 others_at : (i : ℕ) (ss : List SegmentValue) (d : SegmentValue) → i < length ss → AllByRecursion IsOther ss → IsSegment (get_or ss i d)

@@ -10,23 +10,13 @@ use Rattle.gw_er7.proofs.Lying.{sorted_from_map}
 use Rattle.gw_er7.proofs.Sames.{zip_maps}
 use Rattle.gw_er7.proofs.Sorted.{order}
 
-pub none : {X : Type 0} (xs : List X) → length xs ≡ 0 → xs ≡ []
-none xs e = nil_from_length xs e
-
 abbrev rises : Leaf → Leaf → Bool
 rises a b = is_lt (order (numbers a.place) (numbers b.place))
 
 module _ {N : Type 0} (said : N → Leaf) where
-  pub length-said : (ns : List N) → length (map said ns) ≡ length ns
-  length-said ns = length-map ns said
-
   -- none of the other width
   pub all_narrow : (ns : List N) (ws : List Leaf) → ws ≡ [] → all_said said ns ws ≡ map said ns
   all_narrow ns ws e = ap (λ (vs : List Leaf). map said ns ++ vs) e ∙ append-nil (map said ns)
-
-  -- none of this width
-  pub all_wide : (ns : List N) (ws : List Leaf) → ns ≡ [] → all_said said ns ws ≡ ws
-  all_wide ns ws e = ap (λ (ms : List N). map said ms ++ ws) e
 
   -- leaves that say the same, seen through these lists
   pub alike_same : (ns ms xs ys : List N) (ws vs all others : List Leaf) → xs ≡ ns → ys ≡ ms → AllZip (λ a b. said a ≡ said b) xs ys → ws ≡ vs → all_said said ns ws ≡ all → all_said said ms vs ≡ others → all ≡ others
