@@ -1,9 +1,7 @@
 -- The bytes of a raw value that stand for themselves, up to the first that doesn't.
-use Rattle.std.proofs.Common.{◌≡◌, ℕ, suc, ◌+◌, ◌≤◌, Bool, true, false, cond, not, List, [], ◌∷◌, ◌++◌, length, take, drop, None, Some, refl, sym, ap, subst, ◌∙◌, append_assoc, arith}
-use Rattle.std.specs.Prelude.{◌==◌, ◌||◌, nat_lt, position}
-use Rattle.std.proofs.lemmas.Bool.{or_parts}
-use Rattle.std.proofs.lemmas.Option.{cond_some}
-use Rattle.std.proofs.lemmas.Grind.{common_steps}
+use Rattle.std.proofs.Common.{◌≡◌, ℕ, suc, ◌+◌, Bool, true, false, cond, not, List, [], ◌∷◌, ◌++◌, length, take, drop, refl, sym, ap, subst, ◌∙◌, append_assoc, arith, inl, inr}
+use Rattle.std.specs.Prelude.{◌==◌, ◌||◌, nat_lt, unwrap_or, position}
+use Rattle.std.proofs.lemmas.Bool.{or_parts, cases_lt, lt-ltb, le-ltb}
 use Rattle.std.proofs.lemmas.List.Sums.{prefix_len-le-length}
 use Rattle.std.specs.List.{position_or_len, before_first}
 use Rattle.gw_er7.specs.declared.delimiters.Delimiters.{Delimiters}
@@ -32,13 +30,13 @@ canon-head d (b ∷ bs) =
 
 -- ---- what `position` found
 
-pub head_found : (d : Delimiters) (bs : List ℕ) (k : ℕ) → position (stops d) bs ≡ Some k → k ≡ position_or_len (stops d) bs
-head_found d bs k e = sym (cond_some (nat_lt (position_or_len (stops d) bs) (length bs)) (position_or_len (stops d) bs) k e).1
-
-pub head_whole : (d : Delimiters) (bs : List ℕ) → position (stops d) bs ≡ None → length bs ≡ position_or_len (stops d) bs
-head_whole d bs e =
-    let all : length bs ≤ position_or_len (stops d) bs = grind (arith, common_steps) in
-    omega (arith, prefix_len-le-length (λ b. not (stops d b)) bs)
+pub head_is : (d : Delimiters) (bs : List ℕ) → unwrap_or (position (stops d) bs) (length bs) ≡ position_or_len (stops d) bs
+head_is d bs =
+    let k = position_or_len (stops d) bs in
+    elim (cases_lt k (length bs)) as (λ _. unwrap_or (position (stops d) bs) (length bs) ≡ k) [
+      | inl lt ↦ (let below : nat_lt k (length bs) ≡ true = lt-ltb _ _ lt in rw below refl)
+      | inr le ↦ (let above : nat_lt k (length bs) ≡ false = le-ltb _ _ le in rw above (omega (arith, le, prefix_len-le-length (λ b. not (stops d b)) bs)))
+    ]
 
 -- the bytes at the head were taken in
 pub head_taken : (d : Delimiters) (text out bs rest : List ℕ) → out ≡ text ++ before_first (stops d) bs → rest ≡ drop (position_or_len (stops d) bs) bs → out ++ canon d rest ≡ text ++ canon d bs

@@ -1,6 +1,6 @@
 -- Parts that are the same, part by part.
-use Rattle.std.proofs.Common.{◌≡◌, ◌↔◌, ◌∙◌, ◌+◌, ◌<◌, ℕ, Bool, false, true, T, IsTrue, List, [], ◌∷◌, length, get_or, drop, map, refl, sym, ap}
-use Rattle.std.proofs.lemmas.List.{drop_more, map-id}
+use Rattle.std.proofs.Common.{◌≡◌, ◌↔◌, ◌∙◌, ◌+◌, ◌<◌, ℕ, Bool, false, T, IsTrue, List, [], ◌∷◌, length, get_or, drop, map, refl, sym, ap}
+use Rattle.std.proofs.lemmas.List.{drop_more}
 use Rattle.std.specs.List.{AllZip}
 use Rattle.std.specs.Ordering.{nat_cmp}
 use Rattle.std.specs.Cmp.Lexicographic.{slice_cmp}

@@ -1,6 +1,5 @@
 -- Leaves of two widths, which say the same.
 use Rattle.std.proofs.Common.{◌≡◌, ℕ, ◌<◌, Bool, List, [], ◌++◌, length, map, sym, ap, subst, ◌∙◌, append-nil, arith, inl, inr}
-use Rattle.std.proofs.lemmas.List.{length-map, nil_from_length}
 use Rattle.std.specs.List.{AllZip}
 use Rattle.std.specs.Ordering.{is_lt}
 use Rattle.gw_er7.specs.declared.leaves.Leaf.{Leaf}

@@ -1,7 +1,7 @@
 //! What is tested of the bytes, the header line and the other lines of a content.
 ghost use Rattle.std.specs.Prelude.{◌≡◌, ◌+◌, ◌≤◌, ◌<◌, ◌==◌, ◌↔◌, IsTrue, false, true, not, length, MatchOption, position};
-ghost use Rattle.gw_er7.specs.Content.{is_allowed, is_lower, delimiters_of, is_delimiter, are_distinct, are_delimiters, ends_at, is_delimited, is_segment_line};
-ghost use Rattle.gw_er7.specs.Names.{is_upper, is_digit, is_header, is_name_byte, is_named, is_name, IsName};
+ghost use Rattle.gw_er7.specs.Content.{is_allowed, delimiters_of, is_delimiter, are_distinct, are_delimiters, ends_at, is_delimited, is_segment_line};
+ghost use Rattle.gw_er7.specs.Names.{is_header, is_name_byte, is_named, is_name, IsName};
 
 use crate::delimiters::Delimiters;
 
@@ -18,24 +18,6 @@ pub(crate) fn first_control(content: &[u8]) -> Option<usize>
     content.iter().position(|byte| !is_allowed(*byte))
 }
 
-fn is_upper(byte: u8) -> bool
-    ensures { result ≡ is_upper byte }
-{
-    b'A' <= byte && byte <= b'Z'
-}
-
-fn is_lower(byte: u8) -> bool
-    ensures { result ≡ is_lower byte }
-{
-    b'a' <= byte && byte <= b'z'
-}
-
-fn is_digit(byte: u8) -> bool
-    ensures { result ≡ is_digit byte }
-{
-    b'0' <= byte && byte <= b'9'
-}
-
 /// Whether the line begins with MSH.
 pub(crate) fn is_header(line: &[u8]) -> bool
     ensures { result ≡ is_header line.now }
@@ -48,9 +30,9 @@ fn is_delimiter(byte: u8) -> bool
 {
     33 <= byte
         && byte <= 126
-        && !is_upper(byte)
-        && !is_lower(byte)
-        && !is_digit(byte)
+        && !byte.is_ascii_uppercase()
+        && !byte.is_ascii_lowercase()
+        && !byte.is_ascii_digit()
         && byte != b'"'
 }
 
@@ -110,13 +92,13 @@ pub(crate) fn header_delimiters(line: &[u8]) -> Option<Delimiters>
 fn is_name_byte(byte: u8) -> bool
     ensures { result ≡ is_name_byte byte }
 {
-    is_upper(byte) || is_digit(byte)
+    byte.is_ascii_uppercase() || byte.is_ascii_digit()
 }
 
 fn is_named(line: &[u8]) -> bool
     ensures { result ≡ is_named line.now }
 {
-    line.len() >= 3 && is_upper(line[0]) && is_name_byte(line[1]) && is_name_byte(line[2])
+    line.len() >= 3 && line[0].is_ascii_uppercase() && is_name_byte(line[1]) && is_name_byte(line[2])
 }
 
 /// Whether the line is one of a segment other than MSH.

@@ -22,10 +22,7 @@ fn has_no_special(bytes: &[u8]) -> bool
 fn is_body(body: &[u8]) -> bool
     ensures { result ≡ is_body body.now }
 {
-    match body {
-        [] => false,
-        _ => has_no_special(body),
-    }
+    !body.is_empty() && has_no_special(body)
 }
 
 /// The body of the sequence that begins with this byte, if one does.
@@ -100,10 +97,7 @@ fn first_stop(delimiters: Delimiters, raw: &[u8]) -> Option<usize>
 fn head_len(delimiters: Delimiters, raw: &[u8]) -> usize
     ensures { result ≡ position_or_len (λ b. is_special b || b == delimiters.escape) raw.now }
 {
-    match first_stop(delimiters, raw) {
-        Some(len) => len,
-        None => raw.len(),
-    }
+    first_stop(delimiters, raw).unwrap_or(raw.len())
 }
 
 /// Takes in the bytes up to the first that doesn't stand for itself, at once; gives those from there on.

@@ -1,9 +1,5 @@
-use Rattle.std.proofs.Common.{sym, ◌∙◌}
-use Rattle.gw_er7.proofs.Heads.{head_found, head_whole}
+use Rattle.gw_er7.proofs.Heads.{head_is}
 use Rattle.gw_er7.proofs.escapes.head_len.Goals as goal
 
-pub returns-in-Some : goal.returns-in-Some
-returns-in-Some c = head_found c.args.delimiters c.args.raw.now c.in-Some.len (sym c.first_stop.ensures ∙ c.in-Some.is)
-
-pub returns-in-None : goal.returns-in-None
-returns-in-None c = head_whole c.args.delimiters c.args.raw.now (sym c.first_stop.ensures ∙ c.in-None.is)
+pub returns : goal.returns
+returns c = rw c.unwrap_or.ensures (rw c.first_stop.ensures (head_is c.args.delimiters c.args.raw.now))
