@@ -98,7 +98,10 @@ fn is_name_byte(byte: u8) -> bool
 fn is_named(line: &[u8]) -> bool
     ensures { result ≡ is_named line.now }
 {
-    line.len() >= 3 && line[0].is_ascii_uppercase() && is_name_byte(line[1]) && is_name_byte(line[2])
+    line.len() >= 3
+        && line[0].is_ascii_uppercase()
+        && is_name_byte(line[1])
+        && is_name_byte(line[2])
 }
 
 /// Whether the line is one of a segment other than MSH.

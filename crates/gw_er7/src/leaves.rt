@@ -36,19 +36,16 @@ pub(crate) struct NarrowLeaf<P, L> {
 
 /// A width of numbers: `said` is the number that one says, and `most` the largest that fits.
 pub(crate) trait Number: Copy {
-    ghost use Rattle.std.specs.Prelude.{◌≡◌, ◌≤◌, ℕ};
+    ghost use Rattle.std.specs.Prelude.{◌≡◌, ◌≤◌, ◌↔◌, ℕ, IsSome, IfSome};
 
     ghost said: { Self → ℕ };
 
     ghost most: { ℕ };
 
-    fn most() -> usize
-        ensures { result ≡ most };
-
-    /// The number in this width, in which it has to fit.
-    fn narrowed(number: usize) -> Self
-        requires { number ≤ most }
-        ensures { said result ≡ number };
+    /// The number in this width, where it fits.
+    fn narrowed(number: usize) -> Option<Self>
+        ensures same { IfSome result (λ narrow. said narrow ≡ number) }
+        ensures fits { IsSome result ↔ (number ≤ most) };
 
     fn widened(self) -> usize
         ensures { result ≡ said self };
@@ -61,12 +58,8 @@ impl Number for u8 {
 
     ghost most = { 2 ^ 8 - 1 };
 
-    fn most() -> usize {
-        u8::MAX as usize
-    }
-
-    fn narrowed(number: usize) -> u8 {
-        number as u8
+    fn narrowed(number: usize) -> Option<u8> {
+        u8::try_from(number).ok()
     }
 
     fn widened(self) -> usize {
@@ -81,12 +74,8 @@ impl Number for u16 {
 
     ghost most = { 2 ^ 16 - 1 };
 
-    fn most() -> usize {
-        u16::MAX as usize
-    }
-
-    fn narrowed(number: usize) -> u16 {
-        number as u16
+    fn narrowed(number: usize) -> Option<u16> {
+        u16::try_from(number).ok()
     }
 
     fn widened(self) -> usize {
@@ -101,12 +90,8 @@ impl Number for u32 {
 
     ghost most = { 2 ^ 32 - 1 };
 
-    fn most() -> usize {
-        u32::MAX as usize
-    }
-
-    fn narrowed(number: usize) -> u32 {
-        number as u32
+    fn narrowed(number: usize) -> Option<u32> {
+        u32::try_from(number).ok()
     }
 
     fn widened(self) -> usize {
@@ -135,18 +120,6 @@ pub(crate) trait Width: Copy {
         ensures { result ≡ said self };
 }
 
-/// Whether no number of the leaf's place is larger than the first of these, and no other than the second.
-fn is_up_to(farthest: usize, largest: usize, leaf: Leaf) -> bool
-    ensures { IsTrue result ↔ IsUpTo farthest largest leaf }
-{
-    leaf.place.field <= farthest
-        && leaf.place.rep <= farthest
-        && leaf.place.comp <= farthest
-        && leaf.place.sub <= farthest
-        && leaf.from <= largest
-        && leaf.len <= largest
-}
-
 impl<P: Number, L: Number> Width for NarrowLeaf<P, L> {
     ghost said = { λ l. record {
       place = record { field = P.said l.field; rep = P.said l.rep; comp = P.said l.comp; sub = P.said l.sub };
@@ -159,16 +132,13 @@ impl<P: Number, L: Number> Width for NarrowLeaf<P, L> {
     ghost largest = { L.most };
 
     fn narrowed(leaf: Leaf) -> Option<NarrowLeaf<P, L>> {
-        if !is_up_to(P::most(), L::most(), leaf) {
-            return None;
-        }
         Some(NarrowLeaf {
-            field: P::narrowed(leaf.place.field),
-            rep: P::narrowed(leaf.place.rep),
-            comp: P::narrowed(leaf.place.comp),
-            sub: P::narrowed(leaf.place.sub),
-            from: L::narrowed(leaf.from),
-            len: L::narrowed(leaf.len),
+            field: P::narrowed(leaf.place.field)?,
+            rep: P::narrowed(leaf.place.rep)?,
+            comp: P::narrowed(leaf.place.comp)?,
+            sub: P::narrowed(leaf.place.sub)?,
+            from: L::narrowed(leaf.from)?,
+            len: L::narrowed(leaf.len)?,
         })
     }
 
