@@ -10,16 +10,19 @@ ghost use Rattle.gw_er7.specs.Written.{fields_text, written};
 ghost use Rattle.gw_er7.specs.Encoding.{HasNoIdle, IsWriting};
 
 /// A canonical text is its own canonical text under the standard delimiters.
+#[tactic(auto, using(crate::proofs::Fixed::canonical_stays))]
 pub fn canonical_stays()
     ensures { (text : List ℕ) → IsCanonical text → canon standard text ≡ text }
 {}
 
 /// The test of canonical texts is true exactly of them.
+#[tactic(auto, using(crate::proofs::Canonicals::decides))]
 pub fn canonical_is_decided()
     ensures { (text : List ℕ) → IsTrue (is_canonical text) ↔ IsCanonical text }
 {}
 
 /// A content reads as one message, or has one fault, and not both.
+#[tactic(auto, using(crate::proofs::Once::reads_once, crate::proofs::Faults::one_fault))]
 pub fn reads_once()
     ensures message { (content : List ℕ) (a b : List SegmentValue) → IsMessage a → IsMessage b → Reads content a → Reads content b → a ≡ b }
     ensures fault { (content : List ℕ) (a b : ReadFault) → Faulty content a → Faulty content b → a ≡ b }
@@ -27,17 +30,20 @@ pub fn reads_once()
 {}
 
 /// Each content of bytes reads as a message or has a fault.
+#[tactic(auto, using(crate::proofs::Total::answered))]
 pub fn reads_or_fails()
     ensures { (content : List ℕ) → ((k : ℕ) → slice_index content k < 256) →
         ((fault : ReadFault) × Faulty content fault) ⊎ ((message : List SegmentValue) × (IsMessage message × Reads content message)) }
 {}
 
 /// What is written for a message of at most 10,000 segments reads as that message.
+#[tactic(auto, using(crate::proofs::Again::reads_again))]
 pub fn written_is_read()
     ensures { (message : List SegmentValue) → IsMessage message → length message ≤ 10000 → Reads (written message) message }
 {}
 
 /// Behind the delimiters of its header line, no separator of a written content stands right before one of a higher level or the end of a line.
+#[tactic(auto, using(crate::proofs::Writings::no_idle_written))]
 pub fn written_has_no_idle_separator()
     ensures { (message : List SegmentValue) → IsMessage message → HasNoIdle (drop 8 (written message)) }
 {}
