@@ -17,7 +17,7 @@ use Rattle.gw_er7.specs.View.{Held, entries_of, is_below}
 use Rattle.gw_er7.proofs.Sorted.{order, first, second}
 use Rattle.gw_er7.proofs.Keys.{tie, no_tie}
 
-less : (r : Ordering) → T (is_lt r) → r ≡ Less
+pub less : (r : Ordering) → T (is_lt r) → r ≡ Less
 less Less h = refl
 less Equal h = absurd h
 less Greater h = absurd h
@@ -88,10 +88,6 @@ all_below q xs n l h lt is below = all_before (is_below q) xs n l (partitioned q
 pub none_below : (q : List ℕ) (xs : List Held) (n : ℕ) (l : Held) → Sorted xs → n < length xs → l ≡ get_or xs n l → is_below q l ≡ false → AllWithin (λ y. is_below q y ≡ false) xs n (length xs)
 none_below q xs n l h lt is behind = none_from (is_below q) xs n l (partitioned q xs h) lt is behind
 
-pub count_is : (q : List ℕ) (xs : List Held) (n : ℕ) → n ≤ length xs → IsPartitionPoint (λ y. is_below q y ≡ true) (λ y. is_below q y ≡ false) xs n → n ≡ position_or_len (λ l. not (is_below q l)) xs
-count_is q [] n le h = omega arith
-count_is q (x ∷ xs) n le h = sym (position_or_len_is (λ l. not (is_below q l)) (x ∷ xs) n x le (λ k lt. ap not (h.0 k x (omega arith) lt)) (λ lt. ap not (h.1 n x (omega arith) lt)))
-
 -- ---- what a look-up finds
 
 apart_less : (a b : List ℕ) → order a b ≡ Less → b ≢ a
@@ -113,19 +109,24 @@ abbrev pub hit : List ℕ → List Held → Option (List ℕ)
 hit q [] = None
 hit q (x ∷ xs) = cond (eq_by_cmp (slice_cmp nat_cmp) q (key x)) (Some x.text) None
 
-skipped : (q : List ℕ) (xs : List Held) → Sorted xs → find order q (entries_of xs) ≡ hit q (drop (prefix_len (λ l. not (not (is_below q l))) xs) xs)
-skipped q [] h = refl
-skipped q (x ∷ xs) h =
-    let k = prefix_len (λ l. not (not (is_below q l))) xs in
-    let more : 1 + k ≡ suc k = omega arith in
-    elim (order (key x) q) as (λ r. order (key x) q ≡ r → find order q (entries_of (x ∷ xs)) ≡ hit q (drop (cond (not (not (is_lt r))) (1 + k) 0) (x ∷ xs))) [
-      | Less ↦ λ e. look_less q x xs e ∙ skipped q xs (second _ _ h) ∙ ap (λ (j : ℕ). hit q (drop j (x ∷ xs))) (sym more)
-      | Equal ↦ λ e. here e
-      | Greater ↦ λ e. ap (λ (o : Option (List ℕ)). cond (eq_by_cmp (slice_cmp nat_cmp) q (key x)) (Some x.text) o) (look_above q (key x) xs (nat_list_cmp_total.antisymm q (key x) ∙ ap ordering_reverse e) (first _ _ h))
-    ] refl
-  where
-    here : order (key x) q ≡ Equal → find order q (entries_of (x ∷ xs)) ≡ hit q (x ∷ xs)
-    here e = (let same : eq_by_cmp (slice_cmp nat_cmp) q (key x) ≡ true = ap is_eq (nat_list_cmp_total.antisymm q (key x) ∙ ap ordering_reverse e) in rw same refl)
+abbrev IsStartOf : List ℕ → List Held → ℕ → Type 0
+IsStartOf q xs n = IsPartitionPoint (λ y. is_below q y ≡ true) (λ y. is_below q y ≡ false) xs n
+
+found_at : (q : List ℕ) (xs : List Held) (n : ℕ) → Sorted xs → n ≤ length xs → IsStartOf q xs n → find order q (entries_of xs) ≡ hit q (drop n xs)
+found_at q [] zero h le point = refl
+found_at q [] (suc n) h le point = absurd (omega arith)
+found_at q (x ∷ xs) (suc n) h le point =
+    let later : IsStartOf q xs n = ((λ k d low high. point.0 (suc k) d (omega arith) (omega arith)), (λ k d low high. point.1 (suc k) d (omega arith) (omega arith))) in
+    look_less q x xs (lt_true _ (point.0 0 x (omega arith) (omega arith))) ∙ found_at q xs n (second _ _ h) (omega arith) later
+found_at q (x ∷ xs) zero h le point =
+    elim (order (key x) q) as (λ r. order (key x) q ≡ r → is_lt r ≡ false → find order q (entries_of (x ∷ xs)) ≡ hit q (x ∷ xs)) [
+      | Less ↦ λ _ e. absurd (true≢false e)
+      | Equal ↦ λ e _. (let same : eq_by_cmp (slice_cmp nat_cmp) q (key x) ≡ true = ap is_eq (nat_list_cmp_total.antisymm q (key x) ∙ ap ordering_reverse e) in rw same refl)
+      | Greater ↦ λ e _. ap (λ (o : Option (List ℕ)). cond (eq_by_cmp (slice_cmp nat_cmp) q (key x)) (Some x.text) o) (look_above q (key x) xs (nat_list_cmp_total.antisymm q (key x) ∙ ap ordering_reverse e) (first _ _ h))
+    ] refl (point.1 0 x (omega arith) (omega arith))
+
+found_here : (q : List ℕ) (xs : List Held) (n : ℕ) (l : Held) → Sorted xs → IsStartOf q xs n → n < length xs → l ≡ get_or xs n l → find order q (entries_of xs) ≡ hit q (l ∷ drop (n + 1) xs)
+found_here q xs n l h point lt is = found_at q xs n h (omega (arith, lt)) point ∙ ap (hit q) (drop_more xs n l lt ∙ ap (λ (x : Held). x ∷ drop (n + 1) xs) (sym is))
 
 -- the test that the derived `==` makes
 abbrev pub same : Place → Place → Bool
@@ -142,20 +143,15 @@ same-numbers p q e =
     let s : p.sub ≡ q.sub = cc in
     rw (eq-eqb _ _ a, eq-eqb _ _ b, eq-eqb _ _ d, eq-eqb _ _ s) refl
 
-pub text_here : (p : Place) (xs : List Held) (n : ℕ) (l : Held) → Sorted xs → n ≡ position_or_len (λ l. not (is_below (numbers p) l)) xs → n < length xs → l ≡ get_or xs n l → same l.place p ≡ true → unwrap_or (find order (numbers p) (entries_of xs)) [] ≡ l.text
-text_here p xs n l h e lt is at =
-    let start : find order (numbers p) (entries_of xs) ≡ hit (numbers p) (l ∷ drop (n + 1) xs) =
-    skipped (numbers p) xs h ∙ ap (λ (j : ℕ). hit (numbers p) (drop j xs)) (sym e) ∙ ap (hit (numbers p)) (drop_more xs n l lt ∙ ap (λ (x : Held). x ∷ drop (n + 1) xs) (sym is)) in
+pub text_here : (p : Place) (xs : List Held) (n : ℕ) (l : Held) → Sorted xs → IsStartOf (numbers p) xs n → n < length xs → l ≡ get_or xs n l → same l.place p ≡ true → unwrap_or (find order (numbers p) (entries_of xs)) [] ≡ l.text
+text_here p xs n l h point lt is at =
     let tied : eq_by_cmp (slice_cmp nat_cmp) (numbers p) (key l) ≡ true = tie (numbers p) (key l) (sym (numbers-same l.place p at)) in
-    ap (λ (o : Option (List ℕ)). unwrap_or o []) (start ∙ ap (λ (b : Bool). cond b (Some l.text) None) tied)
+    ap (λ (o : Option (List ℕ)). unwrap_or o []) (found_here (numbers p) xs n l h point lt is ∙ ap (λ (b : Bool). cond b (Some l.text) None) tied)
 
-pub text_none : (p : Place) (xs : List Held) (n : ℕ) (l : Held) → Sorted xs → n ≡ position_or_len (λ l. not (is_below (numbers p) l)) xs → n < length xs → l ≡ get_or xs n l → same l.place p ≡ false → unwrap_or (find order (numbers p) (entries_of xs)) [] ≡ []
-text_none p xs n l h e lt is at =
-    let start : find order (numbers p) (entries_of xs) ≡ hit (numbers p) (l ∷ drop (n + 1) xs) =
-    skipped (numbers p) xs h ∙ ap (λ (j : ℕ). hit (numbers p) (drop j xs)) (sym e) ∙ ap (hit (numbers p)) (drop_more xs n l lt ∙ ap (λ (x : Held). x ∷ drop (n + 1) xs) (sym is)) in
+pub text_none : (p : Place) (xs : List Held) (n : ℕ) (l : Held) → Sorted xs → IsStartOf (numbers p) xs n → n < length xs → l ≡ get_or xs n l → same l.place p ≡ false → unwrap_or (find order (numbers p) (entries_of xs)) [] ≡ []
+text_none p xs n l h point lt is at =
     let apart : eq_by_cmp (slice_cmp nat_cmp) (numbers p) (key l) ≡ false = no_tie (numbers p) (key l) (λ s. true≢false (sym (same-numbers l.place p (sym s)) ∙ at)) in
-    ap (λ (o : Option (List ℕ)). unwrap_or o []) (start ∙ ap (λ (b : Bool). cond b (Some l.text) None) apart)
+    ap (λ (o : Option (List ℕ)). unwrap_or o []) (found_here (numbers p) xs n l h point lt is ∙ ap (λ (b : Bool). cond b (Some l.text) None) apart)
 
-pub text_past : (p : Place) (xs : List Held) (n : ℕ) → Sorted xs → n ≡ position_or_len (λ l. not (is_below (numbers p) l)) xs → length xs ≤ n → unwrap_or (find order (numbers p) (entries_of xs)) [] ≡ []
-text_past p xs n h e le =
-    ap (λ (o : Option (List ℕ)). unwrap_or o []) (skipped (numbers p) xs h ∙ ap (λ (j : ℕ). hit (numbers p) (drop j xs)) (sym e) ∙ ap (hit (numbers p)) (drop_all n xs le))
+pub text_past : (p : Place) (xs : List Held) (n : ℕ) → Sorted xs → n ≤ length xs → IsStartOf (numbers p) xs n → length xs ≤ n → unwrap_or (find order (numbers p) (entries_of xs)) [] ≡ []
+text_past p xs n h bound point le = ap (λ (o : Option (List ℕ)). unwrap_or o []) (found_at (numbers p) xs n h bound point ∙ ap (hit (numbers p)) (drop_all n xs le))

@@ -1,5 +1,5 @@
 -- Segments as they are lent: what their texts stand for.
-use Rattle.std.proofs.Common.{◌≡◌, ℕ, zero, suc, ◌+◌, ◌-◌, ◌<◌, ◌≤◌, true, false, List, [], ◌∷◌, length, get_or, Option, Some, Ordering, Less, Equal, Greater, refl, sym, ap, subst, ◌∙◌, arith}
+use Rattle.std.proofs.Common.{◌≡◌, ℕ, zero, suc, ◌+◌, ◌-◌, ◌<◌, ◌≤◌, true, false, List, [], ◌∷◌, length, get_or, Bool, Option, Some, Ordering, Less, Equal, Greater, refl, sym, ap, subst, ◌∙◌, arith}
 use Rattle.std.specs.Prelude.{slice_get, unwrap_or}
 use Rattle.std.proofs.lemmas.Bool.{true≢false}
 use Rattle.std.proofs.lemmas.List.{length-map}
@@ -96,10 +96,12 @@ within_is a n =
     (λ e. ap (λ (r : Ordering). is_lt (ordering_then r Greater)) (sym (less_is a (n + 1) (omega arith))))
     (λ gt. cases_cmp (λ r. false ≡ is_lt (ordering_then r Greater)) a (n + 1) (λ lt. absurd (omega arith)) (λ _. refl) (λ _. refl))
 
+start_by : (q : List ℕ) (test : Held → Bool) (xs : List Held) (m : ℕ) → ((l : Held) → test l ≡ is_below q l) → m ≤ length xs → IsPartitionPoint (λ l. test l ≡ true) (λ l. test l ≡ false) xs m → IsStart q (entries_of xs) m
+start_by q test xs m same bound point =
+    start_at q xs m bound ((λ k d low high. sym (same (get_or xs k d)) ∙ point.0 k d low high), (λ k d low high. sym (same (get_or xs k d)) ∙ point.1 k d low high))
+
 pub field_behind : (n : ℕ) (xs : List Held) (m : ℕ) → m ≤ length xs → IsPartitionPoint (λ l. is_within (n ∷ []) l ≡ true) (λ l. is_within (n ∷ []) l ≡ false) xs m → IsStart ((n + 1) ∷ []) (entries_of xs) m
-field_behind n xs m bound point =
-    start_at ((n + 1) ∷ []) xs m bound
-    ((λ k d low high. sym (within_is (get_or xs k d).place.field n) ∙ point.0 k d low high), (λ k d low high. sym (within_is (get_or xs k d).place.field n) ∙ point.1 k d low high))
+field_behind n xs m bound point = start_by ((n + 1) ∷ []) (is_within (n ∷ [])) xs m (λ l. within_is l.place.field n) bound point
 
 pub field_first : (n : ℕ) (xs : List Held) (m : ℕ) → 0 < n → m ≤ length xs → IsPartitionPoint (λ l. is_within ((n - 1) ∷ []) l ≡ true) (λ l. is_within ((n - 1) ∷ []) l ≡ false) xs m → IsStart (n ∷ []) (entries_of xs) m
 field_first n xs m some bound point = (let e : n - 1 + 1 ≡ n = omega arith in subst (λ (k : ℕ). IsStart (k ∷ []) (entries_of xs) m) e (field_behind (n - 1) xs m bound point))
@@ -112,11 +114,7 @@ rep_within_is Equal a n = within_is a n
 rep_within_is Greater a n = refl
 
 pub rep_behind : (f n : ℕ) (xs : List Held) (m : ℕ) → m ≤ length xs → IsPartitionPoint (λ l. is_within (f ∷ n ∷ []) l ≡ true) (λ l. is_within (f ∷ n ∷ []) l ≡ false) xs m → IsStart (f ∷ (n + 1) ∷ []) (entries_of xs) m
-rep_behind f n xs m bound point =
-    start_at (f ∷ (n + 1) ∷ []) xs m bound (
-      (λ k d low high. sym (rep_within_is (nat_cmp (get_or xs k d).place.field f) (get_or xs k d).place.rep n) ∙ point.0 k d low high),
-      (λ k d low high. sym (rep_within_is (nat_cmp (get_or xs k d).place.field f) (get_or xs k d).place.rep n) ∙ point.1 k d low high),
-    )
+rep_behind f n xs m bound point = start_by (f ∷ (n + 1) ∷ []) (is_within (f ∷ n ∷ [])) xs m (λ l. rep_within_is (nat_cmp l.place.field f) l.place.rep n) bound point
 
 -- no component and no subcomponent is below the number 0
 never_less : (c s : ℕ) → is_lt (ordering_then (nat_cmp c 0) (ordering_then (nat_cmp s 0) Equal)) ≡ false
@@ -135,6 +133,4 @@ below_is : (f n : ℕ) (l : Held) → is_below (f ∷ n ∷ 0 ∷ 0 ∷ []) l �
 below_is f n l = from_zero (nat_cmp l.place.field f) (nat_cmp l.place.rep n) l.place.comp l.place.sub
 
 pub rep_first : (f n : ℕ) (xs : List Held) (m : ℕ) → m ≤ length xs → IsPartitionPoint (λ l. is_below (f ∷ n ∷ 0 ∷ 0 ∷ []) l ≡ true) (λ l. is_below (f ∷ n ∷ 0 ∷ 0 ∷ []) l ≡ false) xs m → IsStart (f ∷ n ∷ []) (entries_of xs) m
-rep_first f n xs m bound point =
-    start_at (f ∷ n ∷ []) xs m bound
-    ((λ k d low high. sym (below_is f n (get_or xs k d)) ∙ point.0 k d low high), (λ k d low high. sym (below_is f n (get_or xs k d)) ∙ point.1 k d low high))
+rep_first f n xs m bound point = start_by (f ∷ n ∷ []) (is_below (f ∷ n ∷ 0 ∷ 0 ∷ [])) xs m (below_is f n) bound point

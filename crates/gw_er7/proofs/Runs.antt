@@ -1,22 +1,19 @@
 -- Texts in order, cut behind those with one number.
-use Rattle.std.proofs.Common.{◌≡◌, ◌≢◌, ℕ, suc, ◌+◌, ◌<◌, ◌≤◌, true, false, cond, not, List, [], ◌∷◌, ◌++◌, map, take, drop, Ordering, Greater, refl, sym, ap, subst, ◌∙◌, arith, inl, inr}
+use Rattle.std.proofs.Common.{◌≡◌, ℕ, suc, ◌+◌, ◌<◌, ◌≤◌, true, false, cond, not, List, [], ◌∷◌, ◌++◌, map, take, drop, Ordering, refl, sym, ap, subst, ◌∙◌, arith}
 use Rattle.std.specs.Prelude.{◌==◌, T}
-use Rattle.std.proofs.lemmas.Bool.{cases_lt, eqb-true, eq-eqb}
+use Rattle.std.proofs.lemmas.Bool.{eqb-true, eqb-false}
 use Rattle.std.specs.List.{prefix_len, AllByRecursion}
-use Rattle.std.specs.Ordering.{is_lt, ordering_then}
-use Rattle.std.specs.Cmp.{nat_cmp_is}
+use Rattle.std.specs.Ordering.{is_lt, is_gt}
 use Rattle.std.specs.FinMap.Entries.{below_all}
 use Rattle.gw_er7.specs.View.{Held}
 use Rattle.gw_er7.specs.Entries.{Entry, under}
 use Rattle.gw_er7.specs.own.Ordered.{IsAtLeast, Above, IsOrdered, IsCut}
 use Rattle.gw_er7.proofs.Sorted.{order, both, first, second, cmp-same}
+use Rattle.gw_er7.proofs.Finds.{less}
+use Rattle.gw_er7.proofs.Under.{not_above}
 
 less-le : (a b : ℕ) (key other : List ℕ) → T (is_lt (order (a ∷ key) (b ∷ other))) → a ≤ b
-less-le a b key other h =
-    elim (cases_lt b a) as (λ _. a ≤ b) [
-      | inl lt ↦ absurd (subst (λ (r : Ordering). T (is_lt (ordering_then r (order key other)))) (sym (nat_cmp_is a b Greater lt)) h)
-      | inr le ↦ le
-    ]
+less-le a b key other h = not_above [] a b key other (ap is_gt (less (order (a ∷ key) (b ∷ other)) h))
 
 below-strip : (n : ℕ) (key : List ℕ) (es rest : List Entry) → T (below_all order (n ∷ key) (map (under n) es ++ rest)) → T (below_all order key es)
 below-strip n key [] rest h = tt
@@ -28,9 +25,6 @@ positive-least (n ∷ key) h = omega (arith, h.0)
 
 none-ordered : (n : ℕ) → IsOrdered n []
 none-ordered n = record { rising = tt; from = tt; positive = tt }
-
-eq-false : (a b : ℕ) → (a == b) ≡ false → a ≢ b
-eq-false a b e same = absurd (let t : (a == b) ≡ true = eq-eqb a b same in let z : ⊥ = cc in z)
 
 module _ (head : Held → ℕ) (tail : Held → Entry) where
   abbrev full : Held → Entry
@@ -66,7 +60,7 @@ module _ (head : Held → ℕ) (tail : Held → Entry) where
               outer = more.outer;
             })
         | false ↦ λ e.
-            let far : n < head x = (let apart : head x ≢ n = eq-false _ _ e in omega (arith, is.from.0)) in
+            let far : n < head x = (let apart = eqb-false (head x) n e in omega (arith, is.from.0)) in
             let above : Above n (map full (x ∷ xs)) = (far, above-first n (tail x).0 (head x) xs far (first _ _ is.rising)) in
             record {
               whole = refl;

@@ -9,6 +9,7 @@ use Rattle.gw_er7.specs.Entries.{Entry}
 use Rattle.gw_er7.specs.Written.{strip, those, last_number, parts_from, layer, leaf_text, component_text, repetition_text, field_text, fields_text}
 use Rattle.gw_er7.specs.Encoding.{rank, IsIdle, HasNoIdle}
 use Rattle.gw_er7.proofs.Each.{Each-weaker}
+use Rattle.gw_er7.proofs.Under.{full}
 use Rattle.gw_er7.proofs.Uniques.{LastFull}
 use Rattle.gw_er7.proofs.Rounds.{IsTextByte, IsText, Texts, canonical_text, leaf_cases, Each-join, leaf-each, component-each, repetition-each, field-each}
 
@@ -167,10 +168,6 @@ leaf_tight = record {
   some = some;
 }
   where
-    full : (t : List ℕ) → t ≢ [] → 0 < length t
-    full [] some = absurd (some refl)
-    full (x ∷ t) some = omega arith
-
     here : (key text : List ℕ) (es : List Entry) → length key ≡ 0 → IsText text → 0 < length (leaf_text ((key, text) ∷ es))
     here [] text es len is = full text is.some
     here (k ∷ key) text es len is = absurd (omega arith)

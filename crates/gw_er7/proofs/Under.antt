@@ -99,7 +99,7 @@ begin_same : (ps rest : List ℕ) → compare_begin (ps ++ rest) ps ≡ Equal
 begin_same [] rest = refl
 begin_same (p ∷ ps) rest = ap (λ (r : Ordering). ordering_then r (compare_begin (ps ++ rest) ps)) (sym (nat_cmp_is p p Equal refl)) ∙ begin_same ps rest
 
-not_above : (ps : List ℕ) (a b : ℕ) (key other : List ℕ) → is_gt (order (ps ++ a ∷ key) (ps ++ b ∷ other)) ≡ false → a ≤ b
+pub not_above : (ps : List ℕ) (a b : ℕ) (key other : List ℕ) → is_gt (order (ps ++ a ∷ key) (ps ++ b ∷ other)) ≡ false → a ≤ b
 not_above [] a b key other e =
     elim (cases_lt b a) as (λ _. a ≤ b) [
       | inl lt ↦ absurd (let far : is_gt (order (a ∷ key) (b ∷ other)) ≡ true = ap (λ (r : Ordering). is_gt (ordering_then r (order key other))) (greater_is a b lt) in true≢false (sym far ∙ e))
@@ -135,7 +135,7 @@ found_held (x ∷ xs) k h =
       | false ↦ λ _ h. (let more = found_held xs k h in record { at = suc more.at; within = omega (arith, more.within); here = more.here })
     ] refl h
 
-full : (t : List ℕ) → t ≢ [] → 0 < length t
+pub full : (t : List ℕ) → t ≢ [] → 0 < length t
 full [] some = absurd (some refl)
 full (x ∷ t) some = omega arith
 

@@ -1,8 +1,10 @@
 //! The last numbers that are present.
-ghost use Rattle.std.specs.Prelude.{◌≡◌, ◌≤◌, length, true, false};
+ghost use Rattle.std.specs.Prelude.{◌≡◌, ◌≤◌, length, T, true, false};
 ghost use Rattle.std.specs.List.Sorted.{IsPartitionPoint};
-ghost use Rattle.std.specs.Ordering.{is_le};
+ghost use Rattle.std.specs.Ordering.{nat_cmp, is_le};
+ghost use Rattle.std.specs.Cmp.Lexicographic.{slice_cmp};
 ghost use Rattle.std.specs.FinMap as texts;
+ghost use Rattle.std.specs.FinMap.{is_sorted};
 ghost use Rattle.gw_er7.specs.Message.{numbers};
 ghost use Rattle.gw_er7.specs.View.{entries_of, AreValues, compare_begin, is_within, IsLastUnder};
 
@@ -37,7 +39,7 @@ fn is_within(place: Place, prefix: &[usize]) -> bool
 
 /// How many texts stand at places that don't begin above these numbers.
 pub(crate) fn count_within(values: &Values<'_>, prefix: &[usize]) -> usize
-    requires { AreValues values.now }
+    requires { T (is_sorted (slice_cmp nat_cmp) (entries_of values.now)) }
     ensures bound { result ≤ length values.now }
     ensures end { IsPartitionPoint (λ h. is_within prefix.now h ≡ true) (λ h. is_within prefix.now h ≡ false) values.now result }
 {

@@ -1,12 +1,6 @@
 use Rattle.std.proofs.Common.{rules}
-use Rattle.gw_er7.proofs.Lent.{values_of, lent_start, field_behind, field_first}
+use Rattle.gw_er7.proofs.Lent.{lent_start, field_behind, field_first}
 use Rattle.gw_er7.proofs.view.Segment.field_values.Goals as goal
-
-pub count_within-behind-requires : goal.count_within-behind-requires
-count_within-behind-requires c = values_of c.self.inside.name c.self.inside.values c.self.invariant
-
-pub count_within-requires : goal.count_within-requires
-count_within-requires c = values_of c.self.inside.name c.self.inside.values c.self.invariant
 
 pub returns-then-field-eq0-clause-behind : goal.returns-then-field-eq0-clause-behind
 returns-then-field-eq0-clause-behind c =

@@ -1,8 +1,5 @@
-use Rattle.gw_er7.proofs.Lent.{values_of, lent_start, rep_behind, rep_first}
+use Rattle.gw_er7.proofs.Lent.{lent_start, rep_behind, rep_first}
 use Rattle.gw_er7.proofs.view.Segment.rep_values.Goals as goal
-
-pub count_within-requires : goal.count_within-requires
-count_within-requires c = values_of c.self.inside.name c.self.inside.values c.self.invariant
 
 pub returns-clause-first : goal.returns-clause-first
 returns-clause-first c =
