@@ -15,7 +15,7 @@ use Rattle.gw_er7.specs.Message.{numbers, Texts, IsEntry}
 use Rattle.gw_er7.specs.own.Standing.{StandsUnder}
 use Rattle.gw_er7.specs.Presence.{IsLast}
 use Rattle.gw_er7.specs.View.{Held, entries_of, AreValues, compare_begin, is_within, StandsAt, IsLastUnder}
-use Rattle.gw_er7.proofs.Sorted.{order, cmp-same}
+use Rattle.gw_er7.proofs.Sorted.{order, second, cmp-same}
 use Rattle.gw_er7.proofs.Keys.{tie, tied}
 use Rattle.gw_er7.proofs.Once.{found_kept}
 use Rattle.gw_er7.proofs.Finds.{Sorted, rising_at}
@@ -121,20 +121,6 @@ stands-find xs k sorted h = subst (λ (o : Option (List ℕ)). 0 < length (unwra
 find-stands : (xs : List Held) (k : List ℕ) → Sorted xs → 0 < length (unwrap_or (find order k (entries_of xs)) []) → StandsAt (texts_of xs) k
 find-stands xs k sorted h = subst (λ (o : Option (List ℕ)). 0 < length (unwrap_or o [])) (sym (get-from_sorted (slice_cmp nat_cmp) (entries_of xs) k sorted)) h
 
--- what is held at a key
-record HasKey (xs : List Held) (k : List ℕ) : Type 0 where
-  at : ℕ
-  within : at < length xs
-  here : (d : Held) → key (get_or xs at d) ≡ k
-
-found_held : (xs : List Held) (k : List ℕ) → 0 < length (unwrap_or (find order k (entries_of xs)) []) → HasKey xs k
-found_held [] k h = absurd (omega arith)
-found_held (x ∷ xs) k h =
-    elim (eq_by_cmp (slice_cmp nat_cmp) k (key x)) as (λ v. eq_by_cmp (slice_cmp nat_cmp) k (key x) ≡ v → 0 < length (unwrap_or (cond v (Some x.text) (find order k (entries_of xs))) []) → HasKey (x ∷ xs) k) [
-      | true ↦ λ e _. record { at = 0; within = omega arith; here = λ d. sym (tied k (key x) e) }
-      | false ↦ λ _ h. (let more = found_held xs k h in record { at = suc more.at; within = omega (arith, more.within); here = more.here })
-    ] refl h
-
 pub full : (t : List ℕ) → t ≢ [] → 0 < length t
 full [] some = absurd (some refl)
 full (x ∷ t) some = omega arith
@@ -167,56 +153,54 @@ partitioned_within ps xs h i j d le short is =
 abbrev pub IsEnd : List ℕ → List Held → ℕ → Type 0
 IsEnd ps xs n = IsPartitionPoint (λ y. is_within ps y ≡ true) (λ y. is_within ps y ≡ false) xs n
 
--- a key that begins with the numbers stands before the end
-before_end : (ps : List ℕ) (x : Held) (xs : List Held) (n : ℕ) (k : List ℕ) → IsEnd ps (x ∷ xs) n → (leaf : HasKey (x ∷ xs) k) → compare_begin k ps ≡ Equal → leaf.at < n
-before_end ps x xs n k end leaf e =
-    elim (cases_lt leaf.at n) as (λ _. leaf.at < n) [
-      | inl lt ↦ lt
-      | inr le ↦ absurd (
-          let out : is_within ps (get_or (x ∷ xs) leaf.at x) ≡ false = end.1 leaf.at x le leaf.within in
-          let in_it : is_within ps (get_or (x ∷ xs) leaf.at x) ≡ true = ap (λ (q : List ℕ). is_le (compare_begin q ps)) (leaf.here x) ∙ ap is_le e in
-          true≢false (sym in_it ∙ out))
-    ]
+-- a text is found at the key
+abbrev IsFound : List ℕ → List Held → Type 0
+IsFound k xs = 0 < length (unwrap_or (find order k (entries_of xs)) [])
+
+-- none where no place begins with the numbers or stands before those that do
+none_within : (ps k : List ℕ) (xs : List Held) → ((i : ℕ) (d : Held) → i < length xs → is_within ps (get_or xs i d) ≡ false) → compare_begin k ps ≡ Equal → ¬ (IsFound k xs)
+none_within ps k [] none e h = omega arith
+none_within ps k (x ∷ xs) none e h =
+    elim (eq_by_cmp (slice_cmp nat_cmp) k (key x)) as (λ v. eq_by_cmp (slice_cmp nat_cmp) k (key x) ≡ v → 0 < length (unwrap_or (cond v (Some x.text) (find order k (entries_of xs))) []) → ⊥) [
+      | true ↦ λ t _. true≢false (sym (ap (λ (q : List ℕ). is_le (compare_begin q ps)) (sym (tied k (key x) t)) ∙ ap is_le e) ∙ none 0 x (omega arith))
+      | false ↦ λ _ h. none_within ps k xs (λ i d lt. none (suc i) d (omega arith)) e h
+    ] refl h
 
 pub none_before : (ps : List ℕ) (xs : List Held) (n : ℕ) → AreValues xs → IsEnd ps xs n → n ≡ 0 → IsLastUnder (texts_of xs) ps None
-none_before ps [] n is end none k h e = let leaf = found_held [] k (stands-find [] k is.sorted h) in absurd (omega (arith, leaf.within))
-none_before ps (x ∷ xs) n is end none k h e =
-    let leaf = found_held (x ∷ xs) k (stands-find (x ∷ xs) k is.sorted h) in
-    let lt = before_end ps x xs n k end leaf e in
-    absurd (omega (arith, lt))
+none_before ps xs n is end none k h e = none_within ps k xs (λ i d lt. end.1 i d (omega arith) lt) e (stands-find xs k is.sorted h)
 
-not_gt : (r : Ordering) → r ≡ Less → is_gt r ≡ false
-not_gt r e = ap is_gt e
-
--- what is held at a key that begins with the numbers doesn't stand above the last
-last_above : (ps : List ℕ) (x : Held) (xs : List Held) (n : ℕ) (l : Held) (k : List ℕ) → AreValues (x ∷ xs) → n ≤ length (x ∷ xs) → IsEnd ps (x ∷ xs) n → l ≡ get_or (x ∷ xs) (n - 1) l → StandsAt (texts_of (x ∷ xs)) k → compare_begin k ps ≡ Equal → is_gt (order k (key l)) ≡ false
-last_above ps x xs n l k is bound end at h e =
-    let leaf = found_held (x ∷ xs) k (stands-find (x ∷ xs) k is.sorted h) in
-    let lt = before_end ps x xs n k end leaf e in
-    let here : key (get_or (x ∷ xs) leaf.at l) ≡ k = leaf.here l in
-    elim (cases_lt leaf.at (n - 1)) as (λ _. is_gt (order k (key l)) ≡ false) [
-      | inl far ↦ (let rises = rising_at (x ∷ xs) leaf.at (n - 1) l is.sorted far (omega (arith, lt, bound)) in
-          ap (λ (q : List ℕ). is_gt (order q (key l))) (sym here) ∙ ap (λ (m : Held). is_gt (order (key (get_or (x ∷ xs) leaf.at l)) (key m))) at ∙ not_gt _ rises)
-      | inr near ↦ (let same : leaf.at ≡ n - 1 = omega (arith, lt, near) in
-          let key_is : k ≡ key l = sym here ∙ ap (λ (i : ℕ). key (get_or (x ∷ xs) i l)) same ∙ ap key (sym at) in
-          ap (λ (q : List ℕ). is_gt (order q (key l))) key_is ∙ ap is_gt (same_order (key l)))
-    ]
+-- what is found at a key that begins with the numbers doesn't stand above the last
+not_past : (ps k : List ℕ) (xs : List Held) (n : ℕ) (l : Held) → Sorted xs → n < length xs → IsEnd ps xs (suc n) → l ≡ get_or xs n l → compare_begin k ps ≡ Equal → IsFound k xs → is_gt (order k (key l)) ≡ false
+not_past ps k [] n l sorted lt end at e h = absurd (omega arith)
+not_past ps k (x ∷ xs) n l sorted lt end at e h =
+    elim (eq_by_cmp (slice_cmp nat_cmp) k (key x)) as (λ v. eq_by_cmp (slice_cmp nat_cmp) k (key x) ≡ v → 0 < length (unwrap_or (cond v (Some x.text) (find order k (entries_of xs))) []) → is_gt (order k (key l)) ≡ false) [
+      | true ↦ λ t _. ap (λ (q : List ℕ). is_gt (order q (key l))) (tied k (key x) t) ∙ ap (λ (m : Held). is_gt (order (key x) (key m))) at ∙ rises n lt
+      | false ↦ λ _ h. later (λ n lt end at. not_past ps k xs n l (second _ _ sorted) lt end at e h) h n lt end at
+    ] refl h
   where
-    same_order : (q : List ℕ) → order q q ≡ Equal
-    same_order q = (Equal-is (order q q)).0 (tie q q refl)
+    rises : (n : ℕ) → n < length (x ∷ xs) → is_gt (order (key x) (key (get_or (x ∷ xs) n l))) ≡ false
+    rises zero lt = ap is_gt ((Equal-is (order (key x) (key x))).0 (tie (key x) (key x) refl))
+    rises (suc n) lt = ap is_gt (rising_at (x ∷ xs) 0 (suc n) l sorted (omega arith) lt)
+
+    later : ((n : ℕ) → n < length xs → IsEnd ps xs (suc n) → l ≡ get_or xs n l → is_gt (order k (key l)) ≡ false) → IsFound k xs → (n : ℕ) → n < length (x ∷ xs) → IsEnd ps (x ∷ xs) (suc n) → l ≡ get_or (x ∷ xs) n l → is_gt (order k (key l)) ≡ false
+    later more h zero lt end at = absurd (none_within ps k xs (λ i d lt. end.1 (suc i) d (omega arith) (omega arith)) e h)
+    later more h (suc n) lt end at = more n (omega arith) ((λ i d low high. end.0 (suc i) d (omega arith) (omega arith)), (λ i d low high. end.1 (suc i) d (omega arith) (omega arith))) at
+
+last_above : (ps : List ℕ) (xs : List Held) (n : ℕ) (l : Held) (k : List ℕ) → AreValues xs → n ≤ length xs → IsEnd ps xs n → 0 < n → l ≡ get_or xs (n - 1) l → StandsAt (texts_of xs) k → compare_begin k ps ≡ Equal → is_gt (order k (key l)) ≡ false
+last_above ps xs n l k is bound end some at h e =
+    let whole : n ≡ suc (n - 1) = omega arith in
+    not_past ps k xs (n - 1) l is.sorted (omega arith) (subst (λ (m : ℕ). IsEnd ps xs m) whole end) at e (stands-find xs k is.sorted h)
 
 pub last_here : (ps : List ℕ) (xs : List Held) (n : ℕ) (l : Held) → AreValues xs → n ≤ length xs → IsEnd ps xs n → 0 < n → l ≡ get_or xs (n - 1) l → compare_begin (key l) ps ≡ Equal → IsLastUnder (texts_of xs) ps (Some l.place)
-last_here ps [] n l is bound end some at e = absurd (omega arith)
-last_here ps (x ∷ xs) n l is bound end some at e = (
-  find-stands (x ∷ xs) (key l) is.sorted (subst (λ (m : Held). 0 < length (unwrap_or (find order (key m) (entries_of (x ∷ xs))) [])) (sym at) (held_found (x ∷ xs) (n - 1) l (omega (arith, bound, some)) is.each)),
+last_here ps xs n l is bound end some at e = (
+  find-stands xs (key l) is.sorted (subst (λ (m : Held). IsFound (key m) xs) (sym at) (held_found xs (n - 1) l (omega arith) is.each)),
   e,
-  λ k h b. last_above ps x xs n l k is bound end at h b,
+  λ k h b. last_above ps xs n l k is bound end some at h b,
 )
 
 pub none_here : (ps : List ℕ) (xs : List Held) (n : ℕ) (l : Held) → AreValues xs → n ≤ length xs → IsEnd ps xs n → 0 < n → l ≡ get_or xs (n - 1) l → is_eq (compare_begin (key l) ps) ≡ false → IsLastUnder (texts_of xs) ps None
-none_here ps [] n l is bound end some at e k h b = absurd (omega arith)
-none_here ps (x ∷ xs) n l is bound end some at e k h b =
-    let le = last_above ps x xs n l k is bound end at h b in
+none_here ps xs n l is bound end some at e k h b =
+    let le = last_above ps xs n l k is bound end some at h b in
     let inside : is_le (compare_begin (key l) ps) ≡ true = ap (is_within ps) at ∙ end.0 (n - 1) l (omega arith) (omega (arith, some)) in
     let same : compare_begin (key l) ps ≡ Equal = begins-above ps k (key l) le b inside in
     true≢false (sym (ap is_eq same) ∙ e)
