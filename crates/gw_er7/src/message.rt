@@ -1,7 +1,7 @@
 //! Messages: segments, the first named MSH.
 
-use crate::same::are_same_segments;
-use crate::start::{Start, are_same_starts, end_of};
+use crate::same::{are_same, are_same_segments};
+use crate::start::{Start, end_of};
 use crate::texts::Texts;
 use crate::view::Segment;
 use std::alloc::{AllocError, Global};
@@ -76,7 +76,7 @@ impl Message {
     fn lies_alike(&self, other: &Message) -> bool
         ensures { IsTrue result → self.now ≡ other.now }
     {
-        are_same_starts(&self.starts, &other.starts) && self.texts.lie_alike(&other.texts)
+        are_same(&self.starts, &other.starts) && self.texts.lie_alike(&other.texts)
     }
 
     /// Whether the messages are equal: the same segments in the same order, each with the same texts at the same places. It takes no memory.

@@ -1,8 +1,8 @@
 //! Where the texts of a segment begin among those of its message, which lie one segment behind the other.
-ghost use Rattle.std.specs.Prelude.{◌≡◌, ◌+◌, ◌<◌, drop, length, IsTrue};
+ghost use Rattle.std.specs.Prelude.{◌≡◌, ◌+◌, ◌<◌, drop, length};
 ghost use Rattle.gw_er7.specs.View.{end_before};
 
-use crate::same::same_bytes;
+use crate::same::{Part, same_bytes};
 use crate::texts::Texts;
 
 /// A segment's name, and the number of its first text; its texts end where those of the next segment begin.
@@ -23,18 +23,12 @@ pub(crate) fn end_of(starts: &[Start], texts: &Texts, i: usize) -> usize
     texts.len()
 }
 
-/// Whether these are the same starts. It takes no memory.
-pub(crate) fn are_same_starts(starts: &[Start], others: &[Start]) -> bool
-    ensures { IsTrue result → starts.now ≡ others.now }
-{
-    if starts.len() != others.len() {
-        return false;
+impl Part for Start {
+    ghost use Rattle.std.specs.Prelude.{◌≡◌};
+
+    ghost same = { λ one other. one ≡ other };
+
+    fn is(&self, other: &Start) -> bool {
+        self.first == other.first && same_bytes(&self.name, &other.name)
     }
-    for (i, start) in starts.iter().enumerate() {
-        let other = others[i];
-        if start.first != other.first || !same_bytes(&start.name, &other.name) {
-            return false;
-        }
-    }
-    true
 }
