@@ -28,8 +28,3 @@ good_first field l ls good =
       | true ↦ λ good. (refl, good)
       | false ↦ λ good. absurd (let z : ⊥ = cc in z)
     ] good
-
-pub counted : (field : ℕ) (l : Line) (ls all : List Line) (n : ℕ) → is_segment_line field l.bytes ≡ true
-    → (first_bad field all ≡ first_bad field (l ∷ ls)) × (length all ≡ n + length (l ∷ ls))
-    → (first_bad field all ≡ first_bad field ls) × (length all ≡ (n + 1) + length ls)
-counted field l ls all n is h = (h.0 ∙ (rw is refl), omega (arith, h.1))

@@ -46,10 +46,6 @@ canon-sequence d b bs e = rw e (ap (λ (t : List ℕ). meaning d (body_of d bs) 
 pub canon-plain : (d : Delimiters) (b : ℕ) (bs : List ℕ) → opens d b bs ≡ false → canon d (b ∷ bs) ≡ plainly b ++ canon d bs
 canon-plain d b bs e = rw e refl
 
-pub is_body-full : (body : List ℕ) → 1 ≤ length body → is_body body ≡ list_all (λ x. not (is_special x)) body
-is_body-full [] h = absurd (omega arith)
-is_body-full (b ∷ bs) h = refl
-
 pub first_is : (rest : List ℕ) → 1 ≤ length rest → rest ≡ get_or rest 0 0 ∷ take (length rest - 1) (drop 1 rest)
 first_is [] h = absurd (omega arith)
 first_is (b ∷ rest) h =

@@ -63,29 +63,6 @@ steps-under t ts n ns (e ∷ es) later h =
 
 -- ---- a loop over the texts
 
-lined : (out f r c s : List ℕ) → out ++ f ++ r ++ c ++ s ≡ out ++ (f ++ (r ++ (c ++ (s ++ []))))
-lined out f r c s =
-    append_assoc (out ++ f ++ r) c s ∙ append_assoc (out ++ f) r (c ++ s) ∙ append_assoc out f (r ++ (c ++ s)) ∙ ap (λ (x : List ℕ). out ++ (f ++ (r ++ (c ++ x)))) (sym (append-nil s))
-
--- level by level, whatever differs
-counted : (x y z w : Bool) (out f : List ℕ) (r c s p q k : ℕ)
-    → out ++ f ++ replicate (p - (if x then r else 1)) 126 ++ replicate (q - (if x && y then c else 1)) 94 ++ replicate (k - (if (x && y) && z then s else 1)) 38
-    ≡ out ++ (f ++ (if x then replicate (p - r) 126 ++ (if y then replicate (q - c) 94 ++ (if z then replicate (k - s) 38 ++ (if w then [] else []) else replicate (k - 1) 38 ++ [])
-    else replicate (q - 1) 94 ++ (replicate (k - 1) 38 ++ [])) else replicate (p - 1) 126 ++ (replicate (q - 1) 94 ++ (replicate (k - 1) 38 ++ []))))
-counted false y z w out f r c s p q k = lined out f _ _ _
-counted true false z w out f r c s p q k = lined out f _ _ _
-counted true true false w out f r c s p q k = lined out f _ _ _
-counted true true true false out f r c s p q k = lined out f _ _ _
-counted true true true true out f r c s p q k = lined out f _ _ _
-
-pub four_gaps : (from to : Place) (x y z : Bool) (out one two three four : List ℕ) → x ≡ (to.field == from.field) → y ≡ (x && (to.rep == from.rep)) → z ≡ (y && (to.comp == from.comp))
-    → one ≡ out ++ replicate (to.field - from.field) 124 → two ≡ one ++ replicate (to.rep - (if x then from.rep else 1)) 126
-    → three ≡ two ++ replicate (to.comp - (if y then from.comp else 1)) 94 → four ≡ three ++ replicate (to.sub - (if z then from.sub else 1)) 38
-    → four ≡ out ++ gaps levels (numbers from) (numbers to)
-four_gaps from to x y z out one two three four ex ey ez e1 e2 e3 e4 =
-    rw (e4, e3, e2, e1, ez, ey, ex)
-    (counted (to.field == from.field) (to.rep == from.rep) (to.comp == from.comp) (to.sub == from.sub) out (replicate (to.field - from.field) 124) from.rep from.comp from.sub to.rep to.comp to.sub)
-
 -- a text was written
 pub stepped : (xs : List Held) (i : ℕ) (x : Held) (from : Place) (out mid new target : List ℕ) → drop i xs ≡ x ∷ drop (i + 1) xs
     → mid ≡ out ++ gaps levels (numbers from) (numbers x.place) → new ≡ mid ++ x.text
