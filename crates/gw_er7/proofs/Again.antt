@@ -21,6 +21,7 @@ use Rattle.gw_er7.proofs.Lined.{placed_line}
 use Rattle.gw_er7.proofs.Faults.{HasLine, HasNoControl, readable}
 use Rattle.gw_er7.proofs.Messages.{by_name, long, header_is, first_other}
 use Rattle.gw_er7.proofs.Each.{Each-append, Each-weaker}
+use Rattle.gw_er7.proofs.Ranges.{choose}
 use Rattle.gw_er7.proofs.Rounds.{fields-each, kept_texts, written_reads}
 
 abbrev Row : List ℕ → Type 0
@@ -44,10 +45,8 @@ behind-row first (e ∷ es) h =
 
 delimiters-row : (name : List ℕ) → Row (delimiters_text name)
 delimiters-row name =
-    elim (is_header name) as (λ v. Row (if v then 124 ∷ 94 ∷ 126 ∷ 92 ∷ 38 ∷ [] else [])) [
-      | true ↦ (high 124 (omega arith) (omega arith), (high 94 (omega arith) (omega arith), (high 126 (omega arith) (omega arith), (high 92 (omega arith) (omega arith), (high 38 (omega arith) (omega arith), tt)))))
-      | false ↦ tt
-    ]
+    choose Row (is_header name) (λ _. (high 124 (omega arith) (omega arith), (high 94 (omega arith) (omega arith), (high 126 (omega arith) (omega arith), (high 92 (omega arith) (omega arith),
+    (high 38 (omega arith) (omega arith), tt)))))) (λ _. tt)
 
 pub name-each : (Q : ℕ → Type 0) → ((b : ℕ) → 48 ≤ b → b ≤ 90 → Q b) → (name : List ℕ) → IsName name → AllByRecursion Q name
 name-each Q each name is =

@@ -1,5 +1,6 @@
 -- Lines that are taken in, one by one, and what is gathered from them.
 use Rattle.std.proofs.Common.{◌≡◌, ℕ, zero, suc, ◌+◌, ◌<◌, ◌≤◌, List, [], ◌∷◌, ◌++◌, length, take, drop, None, Result, Ok, Err, sym, ap, subst, ◌∙◌, append_assoc, arith}
+use Rattle.std.proofs.lemmas.Grind.{common_steps}
 use Rattle.std.specs.Prelude.{T, OnOk}
 use Rattle.std.proofs.lemmas.Bool.{and_parts}
 use Rattle.std.specs.Ordering.{nat_cmp}
@@ -57,10 +58,7 @@ good_rest field at bytes l behind begins good = (good_first field l (lines_from 
 
 pub one_more : (d : Delimiters) (had more whole : List SegmentValue) (l : Line) (now rest : List Line) → now ≡ l ∷ rest → more ≡ had ++ segment_of d 1 4 l.bytes ∷ []
     → had ++ others_of d now ≡ whole → more ++ others_of d rest ≡ whole
-one_more d had more whole l now rest begins grown so_far =
-    ap (λ ss. ss ++ others_of d rest) grown
-    ∙ (append_assoc had (segment_of d 1 4 l.bytes ∷ []) (others_of d rest)
-    ∙ (ap (λ ls. had ++ others_of d ls) (sym begins) ∙ so_far))
+one_more d had more whole l now rest begins grown so_far = grind (arith, common_steps)
 
 pub none_left : (d : Delimiters) (had whole : List SegmentValue) (now : List Line) → now ≡ [] → had ++ others_of d now ≡ whole → had ≡ whole
 none_left d had whole now none so_far = sym (append-nil had) ∙ (ap (λ ls. had ++ others_of d ls) (sym none) ∙ so_far)

@@ -23,8 +23,4 @@ placed_line at (b ∷ bs) ps h = refl
 -- ---- the first line that is no segment's
 
 pub good_first : (field : ℕ) (l : Line) (ls : List Line) → first_bad field (l ∷ ls) ≡ None → (is_segment_line field l.bytes ≡ true) × (first_bad field ls ≡ None)
-good_first field l ls good =
-    elim (is_segment_line field l.bytes) as (λ v. (if v then first_bad field ls else Some l.at) ≡ None → (v ≡ true) × (first_bad field ls ≡ None)) [
-      | true ↦ λ good. (refl, good)
-      | false ↦ λ good. absurd (let z : ⊥ = cc in z)
-    ] good
+good_first field l ls good = (grind (arith), grind (arith))

@@ -1,7 +1,7 @@
 -- What is read of lawful bytes is canonical.
 use Rattle.std.proofs.Common.{◌≡◌, ℕ, zero, suc, ◌+◌, ◌<◌, ◌≤◌, Bool, true, false, not, List, [], ◌∷◌, ◌++◌, map, length, Option, None, Some, refl, sym, ap, ◌∙◌, append-nil, arith}
 use Rattle.std.specs.Prelude.{◌==◌, ◌≢◌, if◌then◌else◌, ◌&&◌}
-use Rattle.std.proofs.lemmas.Bool.{and_parts}
+use Rattle.std.proofs.lemmas.Bool.{and_parts, not-true}
 use Rattle.std.proofs.lemmas.Bool.Decides.{nat_tests}
 use Rattle.std.proofs.lemmas.List.Concat.{flat_map-append}
 use Rattle.std.specs.List.{slice_split, list_all, flat_map, position_or_len, AllByRecursion}
@@ -63,7 +63,7 @@ an_escape : (b : ℕ) → 32 ≤ b → b < 92 → b ≢ 38 → IsGood (escaped (
 an_escape b low high other = good_escape (b ∷ []) ((λ e. absurd (let z : ⊥ = cc in z)), (letter b low high other, tt))
 
 -- what holds of both sides of a test holds of what it chooses
-choose : {A : Type 0} (P : A → Type 0) (v : Bool) {x y : A} → (v ≡ true → P x) → (v ≡ false → P y) → P (if v then x else y)
+pub choose : {A : Type 0} (P : A → Type 0) (v : Bool) {x y : A} → (v ≡ true → P x) → (v ≡ false → P y) → P (if v then x else y)
 choose P true one other = one refl
 choose P false one other = other refl
 
@@ -81,10 +81,8 @@ good-plainly b is =
 plain_body : (body : List ℕ) → Lawful body → list_all (λ x. not (is_special x)) body ≡ true → AllByRecursion IsPlain body
 plain_body [] h e = tt
 plain_body (b ∷ bs) h e =
-    elim (is_special b) as (λ v. is_special b ≡ v → (not v && list_all (λ x. not (is_special x)) bs) ≡ true → AllByRecursion IsPlain (b ∷ bs)) [
-      | true ↦ λ is e. absurd (let z : ⊥ = cc in z)
-      | false ↦ λ is e. (record { range = h.0; not_special = is }, plain_body bs h.1 e)
-    ] refl e
+    let both = and_parts (not (is_special b)) _ e in
+    (record { range = h.0; not_special = not-true (is_special b) both.0 }, plain_body bs h.1 both.1)
 
 good-escaped : (body : List ℕ) → Lawful body → is_body body ≡ true → IsGood (escaped body)
 good-escaped [] h e = absurd (let z : ⊥ = cc in z)

@@ -1,5 +1,7 @@
 -- Entries that are written one after the other: each text behind the separators that lead to its key.
 use Rattle.std.proofs.Common.{◌≡◌, ℕ, suc, ◌+◌, ◌-◌, Bool, true, false, List, [], ◌∷◌, ◌++◌, map, drop, refl, sym, ap, ◌∙◌, append-nil, append_assoc, arith}
+use Rattle.std.proofs.lemmas.Grind.{common_steps}
+use Rattle.std.proofs.lemmas.Bool.Decides.{nat_tests}
 use Rattle.std.specs.Prelude.{◌==◌, ◌&&◌, if◌then◌else◌, replicate}
 use Rattle.std.proofs.lemmas.Bool.{eq-eqb, ne_eqb}
 use Rattle.gw_er7.specs.declared.place.Place.{Place}
@@ -24,10 +26,8 @@ gaps-ones : (ts key : List ℕ) → gaps ts (ones ts) key ≡ leads ts key
 gaps-ones [] key = refl
 gaps-ones (t ∷ ts) [] = refl
 gaps-ones (t ∷ ts) (k ∷ key) =
-    elim (k == 1) as (λ v. replicate (k - 1) t ++ (if v then gaps ts (ones ts) key else leads ts key) ≡ replicate (k - 1) t ++ leads ts key) [
-      | true ↦ ap (λ (x : List ℕ). replicate (k - 1) t ++ x) (gaps-ones ts key)
-      | false ↦ refl
-    ]
+    let more = gaps-ones ts key in
+    grind (arith, nat_tests)
 
 -- a further separator leads to entries above n
 abbrev pub behind : ℕ → List ℕ → ℕ → List Entry → List ℕ
@@ -41,25 +41,17 @@ steps-behind t ts n ns (e ∷ es) h = one e.0 (e.1 ++ steps (t ∷ ts) e.0 es) h
     one : (key rest : List ℕ) → IsAbove n key → gaps (t ∷ ts) (n ∷ ns) key ++ rest ≡ t ∷ gaps (t ∷ ts) ((n + 1) ∷ ones ts) key ++ rest
     one [] rest above = absurd above
     one (k ∷ key) rest above =
-        let apart : (k == n) ≡ false = ne_eqb k n (λ e. absurd (omega arith)) in
+        let apart = ne_eqb k n (λ e. absurd (omega arith)) in
         let count : k - n ≡ suc (k - (n + 1)) = omega (arith, above) in
-        let begun : (if k == n + 1 then gaps ts (ones ts) key else leads ts key) ≡ leads ts key =
-        elim (k == n + 1) as (λ v. (if v then gaps ts (ones ts) key else leads ts key) ≡ leads ts key) [ true ↦ gaps-ones ts key | false ↦ refl ] in
-        ap (λ (v : Bool). (replicate (k - n) t ++ (if v then gaps ts ns key else leads ts key)) ++ rest) apart
-        ∙ ap (λ (c : ℕ). (replicate c t ++ leads ts key) ++ rest) count
-        ∙ ap (λ (x : List ℕ). t ∷ (replicate (k - (n + 1)) t ++ x) ++ rest) (sym begun)
+        let begun = gaps-ones ts key in
+        rw (apart, count) (grind (arith, common_steps))
 
 pub steps-under : (t : ℕ) (ts : List ℕ) (n : ℕ) (ns : List ℕ) (es later : List Entry) → Above n later → steps (t ∷ ts) (n ∷ ns) (map (under n) es ++ later) ≡ steps ts ns es ++ behind t ts n later
 steps-under t ts n ns [] later h = steps-behind t ts n ns later h
 steps-under t ts n ns (e ∷ es) later h =
     let same : (n == n) ≡ true = eq-eqb n n refl in
-    let none : n - n ≡ 0 = omega arith in
-    let gap = gaps ts ns e.0 in
-    let rest = steps (t ∷ ts) (n ∷ e.0) (map (under n) es ++ later) in
-    ap (λ (v : Bool). (replicate (n - n) t ++ (if v then gap else leads ts e.0)) ++ (e.1 ++ rest)) same
-    ∙ ap (λ (c : ℕ). (replicate c t ++ gap) ++ (e.1 ++ rest)) none
-    ∙ ap (λ (x : List ℕ). gap ++ (e.1 ++ x)) (steps-under t ts n e.0 es later h)
-    ∙ sym (append_assoc gap (e.1 ++ steps ts e.0 es) (behind t ts n later) ∙ ap (λ (x : List ℕ). gap ++ x) (append_assoc e.1 (steps ts e.0 es) (behind t ts n later)))
+    let more = steps-under t ts n e.0 es later h in
+    rw same (grind (arith, common_steps))
 
 -- ---- a loop over the texts
 
@@ -67,8 +59,4 @@ steps-under t ts n ns (e ∷ es) later h =
 pub stepped : (xs : List Held) (i : ℕ) (x : Held) (from : Place) (out mid new target : List ℕ) → drop i xs ≡ x ∷ drop (i + 1) xs
     → mid ≡ out ++ gaps levels (numbers from) (numbers x.place) → new ≡ mid ++ x.text
     → out ++ steps levels (numbers from) (entries_of (drop i xs)) ≡ target → new ++ steps levels (numbers x.place) (entries_of (drop (i + 1) xs)) ≡ target
-stepped xs i x from out mid new target next m e h =
-    let rest = steps levels (numbers x.place) (entries_of (drop (i + 1) xs)) in
-    let between = gaps levels (numbers from) (numbers x.place) in
-    ap (λ (y : List ℕ). y ++ rest) (e ∙ ap (λ (y : List ℕ). y ++ x.text) m) ∙ append_assoc (out ++ between) x.text rest ∙ append_assoc out between (x.text ++ rest)
-    ∙ ap (λ (ys : List Held). out ++ steps levels (numbers from) (entries_of ys)) (sym next) ∙ h
+stepped xs i x from out mid new target next m e h = grind (arith, common_steps)
