@@ -17,7 +17,7 @@ use Rattle.gw_er7.specs.View.{Held, entry_of, entries_of, is_below, is_within, s
 use Rattle.gw_er7.proofs.Sorted.{order}
 use Rattle.gw_er7.proofs.Each.{Each-weaker}
 use Rattle.gw_er7.proofs.Finds.{lt_true}
-use Rattle.gw_er7.proofs.Under.{cases_cmp, less_is}
+use Rattle.gw_er7.proofs.Under.{cmp_tells}
 
 one_positive : (n : ℕ) (k : List ℕ) → IsKey n k → IsKey 1 k
 one_positive n [] is = absurd (let four = is.four in omega arith)
@@ -90,11 +90,7 @@ start_is q name xs s n is e bound point = lent_start q name xs s n is e (start_a
 
 -- a number isn't above n where it is below the next one, and what has more numbers isn't below it
 within_is : (a n : ℕ) → is_le (ordering_then (nat_cmp a n) Equal) ≡ is_lt (ordering_then (nat_cmp a (n + 1)) Greater)
-within_is a n =
-    cases_cmp (λ r. is_le (ordering_then r Equal) ≡ is_lt (ordering_then (nat_cmp a (n + 1)) Greater)) a n
-    (λ lt. ap (λ (r : Ordering). is_lt (ordering_then r Greater)) (sym (less_is a (n + 1) (omega arith))))
-    (λ e. ap (λ (r : Ordering). is_lt (ordering_then r Greater)) (sym (less_is a (n + 1) (omega arith))))
-    (λ gt. cases_cmp (λ r. false ≡ is_lt (ordering_then r Greater)) a (n + 1) (λ lt. absurd (omega arith)) (λ _. refl) (λ _. refl))
+within_is a n = grind (arith, cmp_tells)
 
 start_by : (q : List ℕ) (test : Held → Bool) (xs : List Held) (m : ℕ) → ((l : Held) → test l ≡ is_below q l) → m ≤ length xs → IsPartitionPoint (λ l. test l ≡ true) (λ l. test l ≡ false) xs m → IsStart q (entries_of xs) m
 start_by q test xs m same bound point =
@@ -118,9 +114,7 @@ rep_behind f n xs m bound point = start_by (f ∷ (n + 1) ∷ []) (is_within (f 
 
 -- no component and no subcomponent is below the number 0
 never_less : (c s : ℕ) → is_lt (ordering_then (nat_cmp c 0) (ordering_then (nat_cmp s 0) Equal)) ≡ false
-never_less c s =
-    cases_cmp (λ r. is_lt (ordering_then r (ordering_then (nat_cmp s 0) Equal)) ≡ false) c 0
-    (λ lt. absurd (omega arith)) (λ _. cases_cmp (λ r. is_lt (ordering_then r Equal) ≡ false) s 0 (λ lt. absurd (omega arith)) (λ _. refl) (λ _. refl)) (λ _. refl)
+never_less c s = grind (arith, cmp_tells)
 
 from_zero : (p q : Ordering) (c s : ℕ) → is_lt (ordering_then p (ordering_then q (ordering_then (nat_cmp c 0) (ordering_then (nat_cmp s 0) Equal)))) ≡ is_lt (ordering_then p (ordering_then q Greater))
 from_zero Less q c s = refl

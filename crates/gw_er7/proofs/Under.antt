@@ -1,6 +1,6 @@
 -- The last place that begins with given numbers.
 use Rattle.std.proofs.Common.{◌≡◌, ◌≢◌, ℕ, zero, suc, ◌+◌, ◌-◌, ◌<◌, ◌≤◌, true, false, cond, List, [], ◌∷◌, ◌++◌, length, get_or, drop, Option, None, Some, Ordering, Less, Equal, Greater, refl, sym, ap, subst, ◌∙◌, append-nil, append_assoc, arith, inl, inr}
-use Rattle.std.specs.Prelude.{unwrap_or}
+use Rattle.std.specs.Prelude.{unwrap_or, ◌⊎◌}
 use Rattle.std.proofs.lemmas.Bool.{cases_lt, true≢false}
 use Rattle.std.proofs.lemmas.List.{drop_more, drop_all, length-drop}
 use Rattle.std.specs.List.{AllByRecursion}
@@ -22,20 +22,14 @@ use Rattle.gw_er7.proofs.Finds.{Sorted, rising_at}
 
 -- ---- how keys compare with their beginnings
 
-pub less_is : (a b : ℕ) → a < b → nat_cmp a b ≡ Less
-less_is a b lt = sym (nat_cmp_is a b Less lt)
-
-pub greater_is : (a b : ℕ) → b < a → nat_cmp a b ≡ Greater
-greater_is a b lt = sym (nat_cmp_is a b Greater lt)
-
--- the three cases of two numbers
-pub cases_cmp : (P : Ordering → Type 0) (a b : ℕ) → (a < b → P Less) → (a ≡ b → P Equal) → (b < a → P Greater) → P (nat_cmp a b)
-cases_cmp P a b less same greater = by (nat_cmp a b) refl
+-- what a comparison of numbers tells, for `grind`
+pub cmp_tells : (a b : ℕ) → ((nat_cmp a b ≡ Less) × (a < b)) ⊎ (((nat_cmp a b ≡ Equal) × (a ≡ b)) ⊎ ((nat_cmp a b ≡ Greater) × (b < a)))
+cmp_tells a b = by (nat_cmp a b) refl
   where
-    by : (r : Ordering) → r ≡ nat_cmp a b → P r
-    by Less e = less (ranked a b Less e)
-    by Equal e = same (ranked a b Equal e)
-    by Greater e = greater (ranked a b Greater e)
+    by : (r : Ordering) → r ≡ nat_cmp a b → ((nat_cmp a b ≡ Less) × (a < b)) ⊎ (((nat_cmp a b ≡ Equal) × (a ≡ b)) ⊎ ((nat_cmp a b ≡ Greater) × (b < a)))
+    by Less e = inl (sym e, ranked a b Less e)
+    by Equal e = inr (inl (sym e, ranked a b Equal e))
+    by Greater e = inr (inr (sym e, ranked a b Greater e))
 
 -- what comes before a key that isn't above the numbers isn't either
 within-less : (ps a b : List ℕ) → order a b ≡ Less → is_le (compare_begin b ps) ≡ true → is_le (compare_begin a ps) ≡ true
@@ -43,16 +37,8 @@ within-less [] a b lt h = refl
 within-less (p ∷ ps) [] b lt h = refl
 within-less (p ∷ ps) (x ∷ a) [] lt h = absurd (let z : ⊥ = cc in z)
 within-less (p ∷ ps) (x ∷ a) (y ∷ b) lt h =
-    cases_cmp (λ r. ordering_then r (order a b) ≡ Less → is_le (compare_begin (x ∷ a) (p ∷ ps)) ≡ true) x y
-    (λ xy _. cases_cmp (λ r. is_le (ordering_then r (compare_begin b ps)) ≡ true → is_le (compare_begin (x ∷ a) (p ∷ ps)) ≡ true) y p
-    (λ yp _. ap (λ (r : Ordering). is_le (ordering_then r (compare_begin a ps))) (less_is x p (omega arith)))
-    (λ yp _. ap (λ (r : Ordering). is_le (ordering_then r (compare_begin a ps))) (less_is x p (omega arith)))
-    (λ _ e. absurd (let z : ⊥ = cc in z)) h)
-    (λ xy later. cases_cmp (λ r. is_le (ordering_then r (compare_begin b ps)) ≡ true → is_le (compare_begin (x ∷ a) (p ∷ ps)) ≡ true) y p
-    (λ yp _. ap (λ (r : Ordering). is_le (ordering_then r (compare_begin a ps))) (less_is x p (omega arith)))
-    (λ yp e. ap (λ (r : Ordering). is_le (ordering_then r (compare_begin a ps))) (sym (nat_cmp_is x p Equal (xy ∙ yp))) ∙ within-less ps a b later e)
-    (λ _ e. absurd (let z : ⊥ = cc in z)) h)
-    (λ _ e. absurd (let z : ⊥ = cc in z)) lt
+    let more = within-less ps a b in
+    grind (arith, cmp_tells)
 
 -- between a key that begins with the numbers and their end, keys begin with them
 begins-above : (ps a b : List ℕ) → is_gt (order a b) ≡ false → compare_begin a ps ≡ Equal → is_le (compare_begin b ps) ≡ true → compare_begin b ps ≡ Equal
@@ -60,30 +46,22 @@ begins-above [] a b le e h = refl
 begins-above (p ∷ ps) [] b le e h = absurd (let z : ⊥ = cc in z)
 begins-above (p ∷ ps) (x ∷ a) [] le e h = absurd (let z : ⊥ = cc in z)
 begins-above (p ∷ ps) (x ∷ a) (y ∷ b) le e h =
-    cases_cmp (λ r. ordering_then r (compare_begin a ps) ≡ Equal → compare_begin (y ∷ b) (p ∷ ps) ≡ Equal) x p
-    (λ _ e. absurd (let z : ⊥ = cc in z))
-    (λ xp e. cases_cmp (λ r. is_gt (ordering_then r (order a b)) ≡ false → compare_begin (y ∷ b) (p ∷ ps) ≡ Equal) x y
-    (λ xy _. absurd (let far : is_le (compare_begin (y ∷ b) (p ∷ ps)) ≡ false = ap (λ (r : Ordering). is_le (ordering_then r (compare_begin b ps))) (greater_is y p (omega arith)) in true≢false (sym h ∙ far)))
-    (λ xy later.
-    let yp : nat_cmp y p ≡ Equal = sym (nat_cmp_is y p Equal (sym xy ∙ xp)) in
-    let rest : is_le (compare_begin b ps) ≡ true = sym (ap (λ (r : Ordering). is_le (ordering_then r (compare_begin b ps))) yp) ∙ h in
-    ap (λ (r : Ordering). ordering_then r (compare_begin b ps)) yp ∙ begins-above ps a b later e rest)
-    (λ _ e. absurd (let z : ⊥ = cc in z)) le)
-    (λ _ e. absurd (let z : ⊥ = cc in z)) e
+    let more = begins-above ps a b in
+    grind (arith, cmp_tells)
 
 -- ---- a loop over the numbers
 
+compared : (key ps : List ℕ) (i : ℕ) → i < length key → i < length ps → compare_begin (drop i key) (drop i ps) ≡ ordering_then (nat_cmp (get_or key i 0) (get_or ps i 0)) (compare_begin (drop (i + 1) key) (drop (i + 1) ps))
+compared key ps i short within = rw (drop_more key i 0 short, drop_more ps i 0 within) refl
+
 pub compared_equal : (key ps : List ℕ) (i : ℕ) → i < length key → i < length ps → get_or key i 0 ≡ get_or ps i 0 → compare_begin (drop i key) (drop i ps) ≡ compare_begin (drop (i + 1) key) (drop (i + 1) ps)
-compared_equal key ps i short within e =
-    rw (drop_more key i 0 short, drop_more ps i 0 within) (ap (λ (r : Ordering). ordering_then r (compare_begin (drop (i + 1) key) (drop (i + 1) ps))) (sym (nat_cmp_is (get_or key i 0) (get_or ps i 0) Equal e)))
+compared_equal key ps i short within e = (let here = compared key ps i short within in grind (arith, cmp_tells))
 
 pub compared_less : (key ps : List ℕ) (i : ℕ) → i < length key → i < length ps → get_or key i 0 < get_or ps i 0 → compare_begin (drop i key) (drop i ps) ≡ Less
-compared_less key ps i short within e =
-    rw (drop_more key i 0 short, drop_more ps i 0 within) (ap (λ (r : Ordering). ordering_then r (compare_begin (drop (i + 1) key) (drop (i + 1) ps))) (less_is (get_or key i 0) (get_or ps i 0) e))
+compared_less key ps i short within e = (let here = compared key ps i short within in grind (arith, cmp_tells))
 
 pub compared_greater : (key ps : List ℕ) (i : ℕ) → i < length key → i < length ps → get_or ps i 0 < get_or key i 0 → compare_begin (drop i key) (drop i ps) ≡ Greater
-compared_greater key ps i short within e =
-    rw (drop_more key i 0 short, drop_more ps i 0 within) (ap (λ (r : Ordering). ordering_then r (compare_begin (drop (i + 1) key) (drop (i + 1) ps))) (greater_is (get_or key i 0) (get_or ps i 0) e))
+compared_greater key ps i short within e = (let here = compared key ps i short within in grind (arith, cmp_tells))
 
 pub compared_short : (key ps : List ℕ) (i : ℕ) → length key ≤ i → i < length ps → compare_begin (drop i key) (drop i ps) ≡ Less
 compared_short key ps i over within = rw (drop_all i key over, drop_more ps i 0 within) refl
@@ -92,19 +70,17 @@ begins : (key ps : List ℕ) → compare_begin key ps ≡ Equal → key ≡ ps +
 begins key [] e = refl
 begins [] (p ∷ ps) e = absurd (let z : ⊥ = cc in z)
 begins (k ∷ key) (p ∷ ps) e =
-    cases_cmp (λ r. ordering_then r (compare_begin key ps) ≡ Equal → k ∷ key ≡ p ∷ (ps ++ drop (length ps) key)) k p
-    (λ _ e. absurd (let z : ⊥ = cc in z)) (λ same e. let rest = begins key ps e in λ i. same i ∷ rest i) (λ _ e. absurd (let z : ⊥ = cc in z)) e
+    let same : k ≡ p = grind (arith, cmp_tells) in
+    let rest : compare_begin key ps ≡ Equal = grind (arith, cmp_tells) in
+    let more = begins key ps rest in
+    λ i. same i ∷ more i
 
 begin_same : (ps rest : List ℕ) → compare_begin (ps ++ rest) ps ≡ Equal
 begin_same [] rest = refl
-begin_same (p ∷ ps) rest = ap (λ (r : Ordering). ordering_then r (compare_begin (ps ++ rest) ps)) (sym (nat_cmp_is p p Equal refl)) ∙ begin_same ps rest
+begin_same (p ∷ ps) rest = (let more = begin_same ps rest in grind (arith, cmp_tells))
 
 pub not_above : (ps : List ℕ) (a b : ℕ) (key other : List ℕ) → is_gt (order (ps ++ a ∷ key) (ps ++ b ∷ other)) ≡ false → a ≤ b
-not_above [] a b key other e =
-    elim (cases_lt b a) as (λ _. a ≤ b) [
-      | inl lt ↦ absurd (let far : is_gt (order (a ∷ key) (b ∷ other)) ≡ true = ap (λ (r : Ordering). is_gt (ordering_then r (order key other))) (greater_is a b lt) in true≢false (sym far ∙ e))
-      | inr le ↦ le
-    ]
+not_above [] a b key other e = grind (arith, cmp_tells)
 not_above (p ∷ ps) a b key other e = not_above ps a b key other (ap is_gt (sym (cmp-same p (ps ++ a ∷ key) (ps ++ b ∷ other))) ∙ e)
 
 -- ---- what is held and the texts that stand
