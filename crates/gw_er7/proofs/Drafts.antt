@@ -87,11 +87,10 @@ self_found (x ∷ xs) apart (suc k) d lt =
 found_in : (xs : List Held) (es : List Entry) → All (IsFoundIn es) xs → (q t : List ℕ) → find order q (entries_of xs) ≡ Some t → find order q es ≡ Some t
 found_in [] es all q t e = absurd (let z : ⊥ = cc in z)
 found_in (x ∷ xs) es all q t e =
-    elim (same q (key x)) as (λ v. same q (key x) ≡ v → cond v (Some x.text) (find order q (entries_of xs)) ≡ Some t → find order q es ≡ Some t) [
-      | true ↦ λ tie e. (let here : q ≡ key x = tied q (key x) tie in
-          ap (λ (k : List ℕ). find order k es) here ∙ all 0 x (omega arith) ∙ e)
-      | false ↦ λ _ e. found_in xs es (λ k d lt. all (suc k) d (omega arith)) q t e
-    ] refl e
+    let here = tied q (key x) in
+    let first = all 0 x (omega arith) in
+    let more = found_in xs es (λ k d lt. all (suc k) d (omega arith)) q t in
+    grind (arith)
 
 agree : (a b : Option (List ℕ)) → ((t : List ℕ) → a ≡ Some t → b ≡ Some t) → ((t : List ℕ) → b ≡ Some t → a ≡ Some t) → a ≡ b
 agree None None to from = refl
@@ -122,10 +121,8 @@ closed_is name xs ys moved sorted apart =
 none_any : (xs : List Held) (q : List ℕ) → find order q (entries_of xs) ≡ None → list_any (same q) (map key xs) ≡ false
 none_any [] q e = refl
 none_any (x ∷ xs) q e =
-    elim (same q (key x)) as (λ v. cond v (Some x.text) (find order q (entries_of xs)) ≡ None → (v || list_any (same q) (map key xs)) ≡ false) [
-      | true ↦ λ e. absurd (let z : ⊥ = cc in z)
-      | false ↦ λ e. none_any xs q e
-    ] e
+    let more = none_any xs q in
+    grind (arith)
 
 free : (xs : List Held) (name q : List ℕ) (s : SegmentValue) → drafted name xs ≡ s → texts.get s.at q ≡ None → find order q (entries_of xs) ≡ None
 free xs name q s view none = sym (get-from_entries nat_list_cmp_total (entries_of xs) q) ∙ ap (λ (v : SegmentValue). texts.get v.at q) view ∙ none

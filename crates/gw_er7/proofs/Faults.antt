@@ -124,10 +124,7 @@ is_told content TooManySegments h = refl
 
 pub one_fault : (content : List ℕ) (f g : ReadFault) → Faulty content f → Faulty content g → f ≡ g
 one_fault content f g a b =
-    elim (cases_lt (number f) (number g)) as (λ _. f ≡ g) [
-      | inl lt ↦ absurd (b.first f lt a.applies)
-      | inr le ↦ elim (cases_lt (number g) (number f)) as (λ _. f ≡ g) [
-        | inl lt ↦ absurd (a.first g lt b.applies)
-        | inr ge ↦ (let same : number f ≡ number g = omega arith in sym (is_told content f a.applies) ∙ ap (told content) same ∙ is_told content g b.applies)
-      ]
-    ]
+    let not_less : number f < number g → ⊥ = λ lt. b.first f lt a.applies in
+    let not_more : number g < number f → ⊥ = λ lt. a.first g lt b.applies in
+    let same : number f ≡ number g = omega (arith, not_less, not_more) in
+    sym (is_told content f a.applies) ∙ ap (told content) same ∙ is_told content g b.applies

@@ -43,12 +43,16 @@ lt_true Less h = refl
 lt_true Equal h = absurd (let z : ⊥ = cc in z)
 lt_true Greater h = absurd (let z : ⊥ = cc in z)
 
+pub partitioned_by : (test : Held → Bool) (xs : List Held) → ((i j : ℕ) (d : Held) → i < j → j < length xs → test (get_or xs j d) ≡ true → test (get_or xs i d) ≡ true) → IsPartitionedBy test xs
+partitioned_by test xs falls i j d le short is =
+    elim (cases_lt i j) as (λ _. test (get_or xs i d) ≡ true) [
+      | inl lt ↦ falls i j d lt short is
+      | inr ge ↦ (let same : j ≡ i = omega (arith, le, ge) in subst (λ (k : ℕ). test (get_or xs k d) ≡ true) same is)
+    ]
+
 pub partitioned : (q : List ℕ) (xs : List Held) → Sorted xs → IsPartitionedBy (is_below q) xs
 partitioned q xs h i j d le short is =
-    elim (cases_lt i j) as (λ _. is_below q (get_or xs i d) ≡ true) [
-      | inl lt ↦ ap is_lt (nat_list_cmp_total.trans (key (get_or xs i d)) (key (get_or xs j d)) q (rising_at xs i j d h lt short) (lt_true _ is))
-      | inr ge ↦ (let same : j ≡ i = omega (arith, le, ge) in subst (λ (k : ℕ). is_below q (get_or xs k d) ≡ true) same is)
-    ]
+    partitioned_by (is_below q) xs (λ i j d lt short is. ap is_lt (nat_list_cmp_total.trans (key (get_or xs i d)) (key (get_or xs j d)) q (rising_at xs i j d h lt short) (lt_true _ is))) i j d le short is
 
 here : (xs : List Held) (n : ℕ) (l d : Held) → n < length xs → l ≡ get_or xs n l → get_or xs n d ≡ l
 here [] n l d lt is = absurd (omega arith)

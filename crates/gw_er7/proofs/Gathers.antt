@@ -65,15 +65,11 @@ none_left d had whole now none so_far = sym (append-nil had) ∙ (ap (λ ls. had
 
 -- ---- places, of which the bytes from one on end below the most
 
-ends_below : (most at long : ℕ) → at < most → (0 < long → at + long < most) → at + long < most
-ends_below most at zero room later = omega arith
-ends_below most at (suc long) room later = later (omega arith)
-
 pub place_fits : (most at long here : ℕ) → at < most → (0 < long → at + long < most) → here ≤ at + long + 1 → here < most + 1
-place_fits most at long here room later under = let end = ends_below most at long room later in omega arith
+place_fits most at long here room later under = grind (arith)
 
 pub end_fits : (most at long here left : ℕ) → at < most → (0 < long → at + long < most) → (0 < left → here + left ≤ at + long) → 0 < left → here + left < most + 1
-end_fits most at long here left room later under some = let end = ends_below most at long room later in omega arith
+end_fits most at long here left room later under some = grind (arith)
 
 pub place_after : (at long here left place taken behind : ℕ) → (0 < left → here + left ≤ at + long) → behind < left → place + taken ≤ here + left → place + taken + 1 ≤ at + long + 1
 place_after at long here left place taken behind under shorter within = omega arith

@@ -1,5 +1,6 @@
 -- The bytes of a raw value that stand for themselves, up to the first that doesn't.
 use Rattle.std.proofs.Common.{◌≡◌, ℕ, suc, ◌+◌, Bool, true, false, cond, not, List, [], ◌∷◌, ◌++◌, length, take, drop, refl, sym, ap, subst, ◌∙◌, append_assoc, arith, inl, inr}
+use Rattle.std.proofs.lemmas.Bool.Decides.{nat_tests}
 use Rattle.std.specs.Prelude.{◌==◌, ◌||◌, nat_lt, unwrap_or, position}
 use Rattle.std.proofs.lemmas.Bool.{or_parts, cases_lt, lt-ltb, le-ltb}
 use Rattle.std.proofs.lemmas.List.Sums.{prefix_len-le-length}
@@ -21,22 +22,15 @@ canon-kept d b bs e =
 pub canon-head : (d : Delimiters) (bs : List ℕ) → canon d bs ≡ take (position_or_len (stops d) bs) bs ++ canon d (drop (position_or_len (stops d) bs) bs)
 canon-head d [] = refl
 canon-head d (b ∷ bs) =
-    let k = position_or_len (stops d) bs in
-    let more : 1 + k ≡ suc k = omega arith in
-    elim (stops d b) as (λ v. stops d b ≡ v → canon d (b ∷ bs) ≡ take (cond (not v) (1 + k) 0) (b ∷ bs) ++ canon d (drop (cond (not v) (1 + k) 0) (b ∷ bs))) [
-      | true ↦ λ e. refl
-      | false ↦ λ e. subst (λ (n : ℕ). canon d (b ∷ bs) ≡ take n (b ∷ bs) ++ canon d (drop n (b ∷ bs))) (sym more) (canon-kept d b bs e ∙ ap (λ (x : List ℕ). b ∷ x) (canon-head d bs))
-    ] refl
+    let more = canon-head d bs in
+    let kept = canon-kept d b bs in
+    let next : 1 + position_or_len (stops d) bs ≡ suc (position_or_len (stops d) bs) = omega arith in
+    grind (arith)
 
 -- ---- what `position` found
 
 pub head_is : (d : Delimiters) (bs : List ℕ) → unwrap_or (position (stops d) bs) (length bs) ≡ position_or_len (stops d) bs
-head_is d bs =
-    let k = position_or_len (stops d) bs in
-    elim (cases_lt k (length bs)) as (λ _. unwrap_or (position (stops d) bs) (length bs) ≡ k) [
-      | inl lt ↦ (let below : nat_lt k (length bs) ≡ true = lt-ltb _ _ lt in rw below refl)
-      | inr le ↦ (let above : nat_lt k (length bs) ≡ false = le-ltb _ _ le in rw above (omega (arith, le, prefix_len-le-length (λ b. not (stops d b)) bs)))
-    ]
+head_is d bs = (let le = prefix_len-le-length (λ b. not (stops d b)) bs in grind (arith, nat_tests))
 
 -- the bytes at the head were taken in
 pub head_taken : (d : Delimiters) (text out bs rest : List ℕ) → out ≡ text ++ before_first (stops d) bs → rest ≡ drop (position_or_len (stops d) bs) bs → out ++ canon d rest ≡ text ++ canon d bs

@@ -2,6 +2,7 @@
 use Rattle.std.proofs.Common.{◌≡◌, ◌≢◌, ℕ, zero, suc, ◌+◌, ◌-◌, ◌<◌, ◌≤◌, true, false, cond, List, [], ◌∷◌, ◌++◌, length, Option, None, Some, refl, sym, ap, subst, ◌∙◌, arith, inl, inr}
 use Rattle.std.specs.Prelude.{◌==◌, unwrap_or, slice_index_or, nat_lt, if◌then◌else◌}
 use Rattle.std.proofs.lemmas.Bool.{cases_eq, cases_lt, eq-eqb, ne_eqb, lt-ltb, le-ltb}
+use Rattle.std.proofs.lemmas.Bool.Decides.{nat_tests}
 use Rattle.std.proofs.lemmas.List.Elements.{All-from_recursion}
 use Rattle.std.proofs.lemmas.List.Splits.{slice_split_none, slice_split_at}
 use Rattle.std.specs.List.{slice_split, join_with_byte, flat_map, All, AllByRecursion}
@@ -66,10 +67,9 @@ look-those n key (e ∷ es) = look-strip n key e.0 e.1 es (look-those n key es)
     look-strip : (n : ℕ) (key other text : List ℕ) (es : List Entry) → look (n ∷ key) es ≡ look key (those n es) → look (n ∷ key) ((other, text) ∷ es) ≡ look key (strip n other text ++ those n es)
     look-strip n key [] text es h = h
     look-strip n key (m ∷ other) text es h =
-        elim (cases_eq m n) as (λ _. look (n ∷ key) ((m ∷ other, text) ∷ es) ≡ look key (strip n (m ∷ other) text ++ those n es)) [
-          | inl e ↦ rw (eq-eqb m n e, tie-cons n m key other (sym e)) (ap (λ (o : Option (List ℕ)). cond (eq_by_cmp (slice_cmp nat_cmp) key other) (Some text) o) h)
-          | inr apart ↦ rw (ne_eqb m n apart, no_tie (n ∷ key) (m ∷ other) (λ is. apart (let same : n ∷ key ≡ m ∷ other = is in cc))) h
-        ]
+        let tied = tie-cons n m key other in
+        let apart = no_tie (n ∷ key) (m ∷ other) in
+        grind (arith, nat_tests)
 
 those-past : (n : ℕ) (es : List Entry) → last_number es < n → those n es ≡ []
 those-past n [] lt = refl

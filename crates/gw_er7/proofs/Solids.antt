@@ -1,5 +1,6 @@
 -- What is written holds no idle separator, and ends with none.
 use Rattle.std.proofs.Common.{◌≡◌, ◌≢◌, ℕ, zero, suc, ◌+◌, ◌-◌, ◌<◌, ◌≤◌, max, true, false, List, [], ◌∷◌, ◌++◌, length, refl, sym, subst, arith, inl, inr}
+use Rattle.std.proofs.lemmas.Bool.Decides.{nat_tests}
 use Rattle.std.specs.Prelude.{◌==◌, unwrap_or, if◌then◌else◌}
 use Rattle.std.proofs.lemmas.Bool.{cases_lt, eq-eqb, ne_eqb}
 use Rattle.std.proofs.lemmas.List.{length-append}
@@ -102,13 +103,8 @@ attained n (e ∷ es) h some = by e.0 e.1 h.0.size (λ lt. attained n es h.1 (no
     by : (key text : List ℕ) → length key ≡ n + 1 → (0 < last_number es → 0 < length (those (last_number es) es)) → 0 < length (strip (max (first_number key) (last_number es)) key text ++ those (max (first_number key) (last_number es)) es)
     by [] text len later = absurd (omega arith)
     by (m ∷ key) text len later =
-        elim (cases_lt m (last_number es)) as (λ _. 0 < length (strip (max m (last_number es)) (m ∷ key) text ++ those (max m (last_number es)) es)) [
-          | inl lt ↦ (let big : max m (last_number es) ≡ last_number es = omega (arith, lt) in
-              let more = later (omega (arith, lt)) in
-              subst (λ (k : ℕ). 0 < length (strip k (m ∷ key) text ++ those k es)) (sym big) (omega (arith, length-append (strip (last_number es) (m ∷ key) text) (those (last_number es) es), more)))
-          | inr le ↦ (let big : max m (last_number es) ≡ m = omega (arith, le) in
-              subst (λ (k : ℕ). 0 < length (strip k (m ∷ key) text ++ those k es)) (sym big) (rw (eq-eqb m m refl) (omega arith)))
-        ]
+        let long = length-append (strip (last_number es) (m ∷ key) text) (those (last_number es) es) in
+        grind (arith, nat_tests)
 
 -- ---- parts joined
 

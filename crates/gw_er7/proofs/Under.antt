@@ -18,7 +18,7 @@ use Rattle.gw_er7.specs.View.{Held, entries_of, AreValues, compare_begin, is_wit
 use Rattle.gw_er7.proofs.Sorted.{order, second, cmp-same}
 use Rattle.gw_er7.proofs.Keys.{tie, tied}
 use Rattle.gw_er7.proofs.Once.{found_kept}
-use Rattle.gw_er7.proofs.Finds.{Sorted, rising_at}
+use Rattle.gw_er7.proofs.Finds.{Sorted, rising_at, partitioned_by}
 
 -- ---- how keys compare with their beginnings
 
@@ -105,10 +105,9 @@ held_found : (xs : List Held) (i : ℕ) (d : Held) → i < length xs → AllByRe
 held_found [] i d lt h = absurd (omega arith)
 held_found (x ∷ xs) zero d lt h = rw (tie (key x) (key x) refl) (full x.text h.0.some)
 held_found (x ∷ xs) (suc i) d lt h =
-    elim (eq_by_cmp (slice_cmp nat_cmp) (key (get_or xs i d)) (key x)) as (λ v. 0 < length (unwrap_or (cond v (Some x.text) (find order (key (get_or xs i d)) (entries_of xs))) [])) [
-      | true ↦ full x.text h.0.some
-      | false ↦ held_found xs i d (omega arith) h.1
-    ]
+    let here = full x.text h.0.some in
+    let more = held_found xs i d (omega arith) h.1 in
+    grind (arith)
 
 positive : (xs : List Held) (k : List ℕ) → AreValues xs → StandsAt (texts_of xs) k → AllByRecursion (λ n. 0 < n) k
 positive xs k is h = by (find order k (entries_of xs)) refl (stands-find xs k is.sorted h)
@@ -121,10 +120,7 @@ positive xs k is h = by (find order k (entries_of xs)) refl (stands-find xs k is
 
 pub partitioned_within : (ps : List ℕ) (xs : List Held) → Sorted xs → IsPartitionedBy (is_within ps) xs
 partitioned_within ps xs h i j d le short is =
-    elim (cases_lt i j) as (λ _. is_within ps (get_or xs i d) ≡ true) [
-      | inl lt ↦ within-less ps (key (get_or xs i d)) (key (get_or xs j d)) (rising_at xs i j d h lt short) is
-      | inr ge ↦ (let same : j ≡ i = omega (arith, le, ge) in subst (λ (k : ℕ). is_within ps (get_or xs k d) ≡ true) same is)
-    ]
+    partitioned_by (is_within ps) xs (λ i j d lt short is. within-less ps (key (get_or xs i d)) (key (get_or xs j d)) (rising_at xs i j d h lt short) is) i j d le short is
 
 abbrev pub IsEnd : List ℕ → List Held → ℕ → Type 0
 IsEnd ps xs n = IsPartitionPoint (λ y. is_within ps y ≡ true) (λ y. is_within ps y ≡ false) xs n
