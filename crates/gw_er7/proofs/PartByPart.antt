@@ -68,10 +68,8 @@ layer-more inner s n es rest above some =
     let all = last-later n es rest (omega (arith, far)) in
     let count : last_number (map (under n) es ++ rest) + 1 - n ≡ suc (suc (last_number rest - n - 1)) = omega (arith, all, far) in
     let later : last_number rest + 1 - (n + 1) ≡ suc (last_number rest - n - 1) = omega (arith, far) in
-    ap (λ (k : ℕ). join_with_byte s (parts_from inner (map (under n) es ++ rest) n k)) count
-    ∙ ap (λ (ps : List (List ℕ)). join_with_byte s (inner (those n (map (under n) es ++ rest)) ∷ ps)) (parts-later inner n (n + 1) (suc (last_number rest - n - 1)) es rest (omega arith))
-    ∙ ap (λ (x : List Entry). inner x ++ s ∷ join_with_byte s (parts_from inner rest (n + 1) (suc (last_number rest - n - 1)))) (those-first n es rest above)
-    ∙ ap (λ (k : ℕ). inner es ++ s ∷ join_with_byte s (parts_from inner rest (n + 1) k)) (sym later)
+    let parts = parts-later inner n (n + 1) (suc (last_number rest - n - 1)) es rest (omega arith) in
+    rw (count, those-first n es rest above, later) (ap (λ (ps : List (List ℕ)). join_with_byte s (inner es ∷ ps)) parts)
 
 -- ---- parts one after the other
 

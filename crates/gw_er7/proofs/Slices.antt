@@ -24,12 +24,9 @@ held_more bytes more (l ∷ ls) h =
 
 pub held_put : (bytes more new : List ℕ) (ls ms : List Leaf) (l : Leaf) → AreInside bytes ls → new ≡ bytes ++ more → ms ≡ ls ++ l ∷ [] → l.from ≡ length bytes → l.len ≡ length more → held new ms ≡ held bytes ls ++ record { place = l.place; text = more } ∷ []
 held_put bytes more new ls ms l h b e from len =
-    let here : held_at (bytes ++ more) l ≡ record { place = l.place; text = more } =
-    ap (λ (t : List ℕ). at_place t) (ap (λ (k : ℕ). take l.len (drop k (bytes ++ more))) from ∙ ap (λ (n : ℕ). take n (drop (length bytes) (bytes ++ more))) len ∙ slice_put bytes more) in
+    let text : take l.len (drop l.from (bytes ++ more)) ≡ more = rw (from, len) (slice_put bytes more) in
+    let here : held_at (bytes ++ more) l ≡ record { place = l.place; text = more } = λ i. record { place = l.place; text = text i } in
     rw (b, e) (map-append (held_at (bytes ++ more)) ls (l ∷ []) ∙ ap (λ (hs : List Held). hs ++ held_at (bytes ++ more) l ∷ []) (held_more bytes more ls h) ∙ ap (λ (x : Held). held bytes ls ++ x ∷ []) here)
-  where
-    at_place : List ℕ → Held
-    at_place t = record { place = l.place; text = t }
 
 pub length-held : (bytes : List ℕ) (ls : List Leaf) → length (held bytes ls) ≡ length ls
 length-held bytes ls = length-map ls (held_at bytes)
@@ -46,8 +43,6 @@ module _ (bytes : List ℕ) (from to : ℕ) (ls : List Leaf) (i : ℕ) (l : Leaf
   pub value_at : (other : Held) → get_or now i other ≡ record { place = l.place; text = take (l.from + l.len - l.from) (drop l.from bytes) }
   value_at other =
       let long : l.len ≡ l.from + l.len - l.from = omega arith in
+      let text = ap (λ (n : ℕ). take n (drop l.from bytes)) long in
       ap (λ (hs : List Held). get_or hs i other) (sym view) ∙ get_or-between from to (held bytes ls) i other before
-      ∙ get_or-map (held_at bytes) ls (from + i) l other (omega (arith, before, are.bound)) ∙ ap (held_at bytes) here ∙ ap (λ (n : ℕ). text_of n) long
-    where
-      text_of : ℕ → Held
-      text_of n = record { place = l.place; text = take n (drop l.from bytes) }
+      ∙ get_or-map (held_at bytes) ls (from + i) l other (omega (arith, before, are.bound)) ∙ ap (held_at bytes) here ∙ (λ j. record { place = l.place; text = text j })

@@ -12,30 +12,21 @@ end_of-end-requires c = omega (arith, c.requires, ap length c.self.view_is, leng
 
 pub lend-requires-clause-rising : goal.lend-requires-clause-rising
 lend-requires-clause-rising c =
-    let starts = c.self.inside.starts.items in
-    let texts = c.self.inside.texts in
-    let lt : c.args.i < length starts = omega (arith, c.requires, ap length c.self.view_is, length-lying starts texts) in
-    (lies_here starts c.deref.result.now texts c.args.i c.index.result.now c.end_of-end.result lt c.self.invariant.each c.index.ensures c.deref.ensures.value c.end_of-end.ensures).rising
+    let lt : c.args.i < length c.self.inside.starts.items = omega (arith, c.requires, ap length c.self.view_is, length-lying c.self.inside.starts.items c.self.inside.texts) in
+    (lies_here _ _ _ _ _ _ lt c.self.invariant.each c.index.ensures c.deref.ensures.value c.end_of-end.ensures).rising
 
 pub lend-requires-clause-bound : goal.lend-requires-clause-bound
 lend-requires-clause-bound c =
-    let starts = c.self.inside.starts.items in
-    let texts = c.self.inside.texts in
-    let lt : c.args.i < length starts = omega (arith, c.requires, ap length c.self.view_is, length-lying starts texts) in
-    (lies_here starts c.deref.result.now texts c.args.i c.index.result.now c.end_of-end.result lt c.self.invariant.each c.index.ensures c.deref.ensures.value c.end_of-end.ensures).bound
+    let lt : c.args.i < length c.self.inside.starts.items = omega (arith, c.requires, ap length c.self.view_is, length-lying c.self.inside.starts.items c.self.inside.texts) in
+    (lies_here _ _ _ _ _ _ lt c.self.invariant.each c.index.ensures c.deref.ensures.value c.end_of-end.ensures).bound
 
 pub of-requires : goal.of-requires
 of-requires c =
-    let starts = c.self.inside.starts.items in
-    let texts = c.self.inside.texts in
-    let lt : c.args.i < length starts = omega (arith, c.requires, ap length c.self.view_is, length-lying starts texts) in
-    lent_is starts texts c.lend.result c.args.i c.index.result.now c.end_of-end.result lt c.self.invariant.message c.lend.ensures
-    (lies_here starts c.deref.result.now texts c.args.i c.index.result.now c.end_of-end.result lt c.self.invariant.each c.index.ensures c.deref.ensures.value c.end_of-end.ensures)
+    let lt : c.args.i < length c.self.inside.starts.items = omega (arith, c.requires, ap length c.self.view_is, length-lying c.self.inside.starts.items c.self.inside.texts) in
+    lent_is _ _ _ _ _ _ lt c.self.invariant.message c.lend.ensures (lies_here _ _ _ _ _ _ lt c.self.invariant.each c.index.ensures c.deref.ensures.value c.end_of-end.ensures)
 
 pub returns : goal.returns
 returns c =
-    let starts = c.self.inside.starts.items in
-    let texts = c.self.inside.texts in
-    let lt : c.args.i < length starts = omega (arith, c.requires, ap length c.self.view_is, length-lying starts texts) in
-    let lies = lies_here starts c.deref.result.now texts c.args.i c.index.result.now c.end_of-end.result lt c.self.invariant.each c.index.ensures c.deref.ensures.value c.end_of-end.ensures in
+    let lt : c.args.i < length c.self.inside.starts.items = omega (arith, c.requires, ap length c.self.view_is, length-lying c.self.inside.starts.items c.self.inside.texts) in
+    let lies = lies_here _ _ _ _ _ _ lt c.self.invariant.each c.index.ensures c.deref.ensures.value c.end_of-end.ensures in
     here_is c.args.self.now c.args.i c.of.result c.requires (λ d. ap (λ (vs : List SegmentValue). get_or vs c.args.i d) (sym c.self.view_is) ∙ lies.is d ∙ ap (stored c.index.result.now.name) (sym c.lend.ensures) ∙ sym c.of.ensures)
