@@ -77,11 +77,8 @@ pub record IsOtherLine (line name : List ℕ) (es : List Entry) : Type 0 where
 other_line : (a b c : ℕ) (es : List Entry) → is_named (a ∷ b ∷ c ∷ []) ≡ true → is_header (a ∷ b ∷ c ∷ []) ≡ false → IsOtherLine (a ∷ b ∷ c ∷ behind_separator 1 es) (a ∷ b ∷ c ∷ []) es
 other_line a b c [] named headless = record { lawful = rw (named, headless) refl; begins = refl; behind = refl; some = omega arith }
 other_line a b c (e ∷ es) named headless =
-    let x = 124 ∷ fields_text 1 (e ∷ es) in
-    let named_too : is_named (a ∷ b ∷ c ∷ x) ≡ true = rw (long a b c x) named in
-    let headless_too : is_header (a ∷ b ∷ c ∷ x) ≡ false = rw (long a b c x) headless in
-    let end = or_right (length (a ∷ b ∷ c ∷ x) == 3) true refl in
-    record { lawful = and_from (is_named (a ∷ b ∷ c ∷ x)) _ named_too (and_from (not (is_header (a ∷ b ∷ c ∷ x))) _ (not_from_false _ headless_too) end); begins = refl; behind = refl; some = omega arith }
+    let long = long a b c (124 ∷ fields_text 1 (e ∷ es)) in
+    record { lawful = grind (arith, nat_tests); begins = refl; behind = refl; some = omega arith }
 
 -- no other segment is named MSH
 pub headless : (name : List ℕ) → IsName name → name ≢ header_name → is_header name ≡ false
@@ -107,13 +104,7 @@ pub record IsHeaderLine (line : List ℕ) (es : List Entry) : Type 0 where
 
 header-text : (es : List Entry) → IsHeaderLine (77 ∷ 83 ∷ 72 ∷ 124 ∷ 94 ∷ 126 ∷ 92 ∷ 38 ∷ behind_separator 3 es) es
 header-text [] = record { headed = refl; delimited = refl; delimiters = refl; begins = refl; behind = refl; some = omega arith }
-header-text (e ∷ es) =
-    let x = 124 ∷ fields_text 3 (e ∷ es) in
-    let line = 77 ∷ 83 ∷ 72 ∷ 124 ∷ 94 ∷ 126 ∷ 92 ∷ 38 ∷ x in
-    let eight : nat_le 8 (length line) ≡ true = grind (arith, nat_tests) in
-    let three : nat_le 3 (length line) ≡ true = grind (arith, nat_tests) in
-    let end = or_right (length line == 8) true refl in
-    record { headed = rw three refl; delimited = and_from (nat_le 8 (length line)) _ eight end; delimiters = refl; begins = refl; behind = refl; some = omega arith }
+header-text (e ∷ es) = record { headed = grind (arith, nat_tests); delimited = grind (arith, nat_tests); delimiters = refl; begins = refl; behind = refl; some = omega arith }
 
 -- ---- all lines
 

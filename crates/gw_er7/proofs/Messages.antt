@@ -94,10 +94,7 @@ name_is line e =
 
 -- the three bytes of a name that is MSH
 letters : (line : List ℕ) → is_header line ≡ true → (get_or line 0 0 ≡ 77) × (get_or line 1 0 ≡ 83) × (get_or line 2 0 ≡ 72)
-letters line e =
-    let all = and_parts (get_or line 0 0 == 77) _ (and_parts (nat_le 3 (length line)) _ e).1 in
-    let two = and_parts (get_or line 1 0 == 83) _ all.1 in
-    (eqb-true (get_or line 0 0) 77 all.0, eqb-true (get_or line 1 0) 83 two.0, eqb-true (get_or line 2 0) 72 two.1)
+letters line e = (grind (arith, nat_tests), grind (arith, nat_tests), grind (arith, nat_tests))
 
 pub header_is : (line : List ℕ) → is_header line ≡ true → take 3 line ≡ header_name
 header_is line e = (let is = letters line e in sym (three line (header_long line e)) ∙ (λ i. is.0 i ∷ is.1 i ∷ is.2 i ∷ []))
@@ -150,10 +147,7 @@ header_kept d line delimiters h is =
     record { segment = segment_kept d 3 9 line delimiters h (omega arith) (named is) (ap first_field name); name = name }
   where
     named : is_header line ≡ true → is_named line ≡ true
-    named is =
-        let is_it = letters line is in
-        let le : nat_le 3 (length line) ≡ true = le-leb 3 (length line) (header_long line is) in
-        rw (le, is_it.0, is_it.1, is_it.2) refl
+    named is = grind (arith, nat_tests)
 
 other_kept : (d : Delimiters) (field : ℕ) (line : List ℕ) → HasLawful d → Lawful line → is_segment_line field line ≡ true → IsOther (segment_of d 1 4 line)
 other_kept d field line delimiters h is =

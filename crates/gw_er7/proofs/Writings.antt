@@ -79,23 +79,15 @@ line_same : (count first : ℕ) (front x y : List ℕ) (s : SegmentValue) → 0 
 line_same count first front x y s lt a b =
     a.whole ∙ ap (λ (z : List ℕ). front ++ z) (same_behind first (drop count x) (drop count y) s lt a.behind b.behind a.tight b.tight a.spells b.spells) ∙ sym b.whole
 
--- the line has ended, or the field separator stands there
-parted : (u v : Bool) → (u ≡ true → ⊥) → (u || v) ≡ true → v ≡ true
-parted true v longer e = absurd (longer refl)
-parted false v longer e = e
-
 other_spelt : (x : List ℕ) (s : SegmentValue) → is_segment_line 124 x ≡ true → s.name ≡ take 3 x → WritesOther x s → Spelt 3 1 s.name x s
 other_spelt [] s e n w = absurd (let z : ⊥ = cc in z)
 other_spelt (a ∷ []) s e n w = absurd (let z : ⊥ = cc in z)
 other_spelt (a ∷ b ∷ []) s e n w = absurd (let z : ⊥ = cc in z)
-other_spelt (a ∷ b ∷ c ∷ x) s e n w = record { whole = ap (λ (name : List ℕ). name ++ x) (sym n); behind = behind x e; tight = w.tight.1.1.1; spells = w.spells }
+other_spelt (a ∷ b ∷ c ∷ x) s e n w = record { whole = ap (λ (name : List ℕ). name ++ x) (sym n); behind = behind x (and_parts (not (is_header (a ∷ b ∷ c ∷ x))) _ (and_parts (is_named (a ∷ b ∷ c ∷ x)) _ e).1).1; tight = w.tight.1.1.1; spells = w.spells }
   where
-    behind : (x : List ℕ) → is_segment_line 124 (a ∷ b ∷ c ∷ x) ≡ true → Behind x
-    behind [] e = tt
-    behind (d ∷ x) e =
-        let line = a ∷ b ∷ c ∷ d ∷ x in
-        let end = (and_parts (not (is_header line)) _ (and_parts (is_named line) _ e).1).1 in
-        eqb-true d 124 (parted (length line == 3) (d == 124) (λ is. (let n : length line ≡ 3 = eqb-true _ _ is in absurd (omega arith))) end)
+    behind : (x : List ℕ) → ends_at 124 3 (a ∷ b ∷ c ∷ x) ≡ true → Behind x
+    behind [] end = tt
+    behind (d ∷ x) end = grind (arith, nat_tests)
 
 -- ---- the header lines
 
@@ -125,9 +117,7 @@ header_spelt (a ∷ b ∷ c ∷ f ∷ g ∷ i ∷ j ∷ k ∷ x) s h e d w =
   where
     behind : (x : List ℕ) → f ≡ 124 → ends_at f 8 (a ∷ b ∷ c ∷ f ∷ g ∷ i ∷ j ∷ k ∷ x) ≡ true → Behind x
     behind [] field end = tt
-    behind (m ∷ x) field end =
-        let line = a ∷ b ∷ c ∷ f ∷ g ∷ i ∷ j ∷ k ∷ m ∷ x in
-        eqb-true m f (parted (length line == 8) (m == f) (λ is. (let n : length line ≡ 8 = eqb-true _ _ is in absurd (omega arith))) end) ∙ field
+    behind (m ∷ x) field end = grind (arith, nat_tests)
 
 -- ---- two contents
 
