@@ -1,7 +1,7 @@
 -- A written content reads as its message.
 use Rattle.std.proofs.Common.{◌≡◌, ◌≢◌, ℕ, ◌+◌, ◌<◌, ◌≤◌, Bool, true, false, not, List, [], ◌∷◌, ◌++◌, length, map, take, drop, None, Some, refl, sym, ap, subst, ◌∙◌, append_assoc, append-nil, arith}
-use Rattle.std.specs.Prelude.{◌==◌, nat_le, nat_lt, if◌then◌else◌, position}
-use Rattle.std.proofs.lemmas.Bool.{le-ltb, and_from, or_right, not_from_false, false_from_ne_true}
+use Rattle.std.specs.Prelude.{nat_lt, if◌then◌else◌, position}
+use Rattle.std.proofs.lemmas.Bool.{le-ltb, false_from_ne_true}
 use Rattle.std.proofs.lemmas.Bool.Decides.{nat_tests}
 use Rattle.std.proofs.lemmas.List.{take_all}
 use Rattle.std.proofs.lemmas.List.Elements.{All-from_recursion}
@@ -45,8 +45,19 @@ behind-row first (e ∷ es) h =
 
 delimiters-row : (name : List ℕ) → Row (delimiters_text name)
 delimiters-row name =
-    choose Row (is_header name) (λ _. (high 124 (omega arith) (omega arith), (high 94 (omega arith) (omega arith), (high 126 (omega arith) (omega arith), (high 92 (omega arith) (omega arith),
-    (high 38 (omega arith) (omega arith), tt)))))) (λ _. tt)
+    choose Row (is_header name) (λ _. (
+      high 124 (omega arith) (omega arith),
+      (
+        high 94 (omega arith) (omega arith),
+        (
+          high 126 (omega arith) (omega arith),
+          (
+            high 92 (omega arith) (omega arith),
+            (high 38 (omega arith) (omega arith), tt),
+          ),
+        ),
+      ),
+    )) (λ _. tt)
 
 pub name-each : (Q : ℕ → Type 0) → ((b : ℕ) → 48 ≤ b → b ≤ 90 → Q b) → (name : List ℕ) → IsName name → AllByRecursion Q name
 name-each Q each name is =

@@ -1,11 +1,11 @@
 -- Segments as they are lent: what their texts stand for.
-use Rattle.std.proofs.Common.{◌≡◌, ℕ, zero, suc, ◌+◌, ◌-◌, ◌<◌, ◌≤◌, true, false, List, [], ◌∷◌, length, get_or, Bool, Option, Some, Ordering, Less, Equal, Greater, refl, sym, ap, subst, ◌∙◌, arith}
+use Rattle.std.proofs.Common.{◌≡◌, ℕ, zero, suc, ◌+◌, ◌-◌, ◌<◌, ◌≤◌, true, false, List, [], ◌∷◌, length, get_or, Bool, Option, Some, Less, refl, sym, ap, subst, ◌∙◌, arith}
 use Rattle.std.specs.Prelude.{slice_get, unwrap_or}
 use Rattle.std.proofs.lemmas.Bool.{true≢false}
 use Rattle.std.proofs.lemmas.List.{length-map}
 use Rattle.std.specs.List.{AllByRecursion}
 use Rattle.std.specs.List.Sorted.{IsPartitionPoint}
-use Rattle.std.specs.Ordering.{nat_cmp, is_lt, is_le, ordering_then}
+use Rattle.std.specs.Ordering.{nat_cmp, is_lt}
 use Rattle.std.specs.Cmp.Lexicographic.{slice_cmp}
 use Rattle.std.specs.FinMap as texts
 use Rattle.std.specs.FinMap.{find, entries-from_sorted, get-from_sorted}
@@ -88,43 +88,20 @@ start_is q name xs s n is e bound point = lent_start q name xs s n is e (start_a
 
 -- ---- where a field begins and ends
 
--- a number isn't above n where it is below the next one, and what has more numbers isn't below it
-within_is : (a n : ℕ) → is_le (ordering_then (nat_cmp a n) Equal) ≡ is_lt (ordering_then (nat_cmp a (n + 1)) Greater)
-within_is a n = grind (arith, cmp_tells)
-
 start_by : (q : List ℕ) (test : Held → Bool) (xs : List Held) (m : ℕ) → ((l : Held) → test l ≡ is_below q l) → m ≤ length xs → IsPartitionPoint (λ l. test l ≡ true) (λ l. test l ≡ false) xs m → IsStart q (entries_of xs) m
 start_by q test xs m same bound point =
     start_at q xs m bound ((λ k d low high. sym (same (get_or xs k d)) ∙ point.0 k d low high), (λ k d low high. sym (same (get_or xs k d)) ∙ point.1 k d low high))
 
 pub field_behind : (n : ℕ) (xs : List Held) (m : ℕ) → m ≤ length xs → IsPartitionPoint (λ l. is_within (n ∷ []) l ≡ true) (λ l. is_within (n ∷ []) l ≡ false) xs m → IsStart ((n + 1) ∷ []) (entries_of xs) m
-field_behind n xs m bound point = start_by ((n + 1) ∷ []) (is_within (n ∷ [])) xs m (λ l. within_is l.place.field n) bound point
+field_behind n xs m bound point = start_by ((n + 1) ∷ []) (is_within (n ∷ [])) xs m (λ l. grind (arith, cmp_tells)) bound point
 
 pub field_first : (n : ℕ) (xs : List Held) (m : ℕ) → 0 < n → m ≤ length xs → IsPartitionPoint (λ l. is_within ((n - 1) ∷ []) l ≡ true) (λ l. is_within ((n - 1) ∷ []) l ≡ false) xs m → IsStart (n ∷ []) (entries_of xs) m
 field_first n xs m some bound point = (let e : n - 1 + 1 ≡ n = omega arith in subst (λ (k : ℕ). IsStart (k ∷ []) (entries_of xs) m) e (field_behind (n - 1) xs m bound point))
 
 -- ---- where a repetition begins and ends
 
-rep_within_is : (r : Ordering) (a n : ℕ) → is_le (ordering_then r (ordering_then (nat_cmp a n) Equal)) ≡ is_lt (ordering_then r (ordering_then (nat_cmp a (n + 1)) Greater))
-rep_within_is Less a n = refl
-rep_within_is Equal a n = within_is a n
-rep_within_is Greater a n = refl
-
 pub rep_behind : (f n : ℕ) (xs : List Held) (m : ℕ) → m ≤ length xs → IsPartitionPoint (λ l. is_within (f ∷ n ∷ []) l ≡ true) (λ l. is_within (f ∷ n ∷ []) l ≡ false) xs m → IsStart (f ∷ (n + 1) ∷ []) (entries_of xs) m
-rep_behind f n xs m bound point = start_by (f ∷ (n + 1) ∷ []) (is_within (f ∷ n ∷ [])) xs m (λ l. rep_within_is (nat_cmp l.place.field f) l.place.rep n) bound point
-
--- no component and no subcomponent is below the number 0
-never_less : (c s : ℕ) → is_lt (ordering_then (nat_cmp c 0) (ordering_then (nat_cmp s 0) Equal)) ≡ false
-never_less c s = grind (arith, cmp_tells)
-
-from_zero : (p q : Ordering) (c s : ℕ) → is_lt (ordering_then p (ordering_then q (ordering_then (nat_cmp c 0) (ordering_then (nat_cmp s 0) Equal)))) ≡ is_lt (ordering_then p (ordering_then q Greater))
-from_zero Less q c s = refl
-from_zero Greater q c s = refl
-from_zero Equal Less c s = refl
-from_zero Equal Greater c s = refl
-from_zero Equal Equal c s = never_less c s
-
-below_is : (f n : ℕ) (l : Held) → is_below (f ∷ n ∷ 0 ∷ 0 ∷ []) l ≡ is_below (f ∷ n ∷ []) l
-below_is f n l = from_zero (nat_cmp l.place.field f) (nat_cmp l.place.rep n) l.place.comp l.place.sub
+rep_behind f n xs m bound point = start_by (f ∷ (n + 1) ∷ []) (is_within (f ∷ n ∷ [])) xs m (λ l. grind (arith, cmp_tells)) bound point
 
 pub rep_first : (f n : ℕ) (xs : List Held) (m : ℕ) → m ≤ length xs → IsPartitionPoint (λ l. is_below (f ∷ n ∷ 0 ∷ 0 ∷ []) l ≡ true) (λ l. is_below (f ∷ n ∷ 0 ∷ 0 ∷ []) l ≡ false) xs m → IsStart (f ∷ n ∷ []) (entries_of xs) m
-rep_first f n xs m bound point = start_by (f ∷ n ∷ []) (is_below (f ∷ n ∷ 0 ∷ 0 ∷ [])) xs m (below_is f n) bound point
+rep_first f n xs m bound point = start_by (f ∷ n ∷ []) (is_below (f ∷ n ∷ 0 ∷ 0 ∷ [])) xs m (λ l. grind (arith, cmp_tells)) bound point

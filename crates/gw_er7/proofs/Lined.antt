@@ -1,5 +1,5 @@
 -- Lines, cut off one by one.
-use Rattle.std.proofs.Common.{◌≡◌, ℕ, ◌+◌, ◌<◌, true, false, if◌then◌else◌, List, [], ◌∷◌, length, take, drop, None, Some, refl, ap, ◌∙◌, arith}
+use Rattle.std.proofs.Common.{◌≡◌, ℕ, ◌+◌, ◌<◌, true, List, [], ◌∷◌, length, take, drop, None, Some, refl, ap, ◌∙◌, arith}
 use Rattle.std.specs.List.{slice_split}
 use Rattle.memchr.specs.Find.{IsFirstByte, is_byte2}
 use Rattle.gw_er7.specs.Content.{is_line_end, Line, placed, lines_from, first_bad, is_segment_line}

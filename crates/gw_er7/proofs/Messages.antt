@@ -1,7 +1,7 @@
 -- What is gathered from the lines of a content without a fault.
 use Rattle.std.proofs.Common.{◌≡◌, ℕ, ◌+◌, ◌<◌, ◌≤◌, Bool, true, false, not, List, [], ◌∷◌, length, take, drop, get_or, Option, None, Some, refl, sym, ap, subst, ◌∙◌, arith}
-use Rattle.std.specs.Prelude.{◌==◌, nat_le, if◌then◌else◌, position}
-use Rattle.std.proofs.lemmas.Bool.{leb-true, le-leb, eqb-true, and_parts, not-true, not-false, true_from_ne_false, true≢false}
+use Rattle.std.specs.Prelude.{nat_le, if◌then◌else◌, position}
+use Rattle.std.proofs.lemmas.Bool.{leb-true, le-leb, and_parts, not-true, not-false, true_from_ne_false, true≢false}
 use Rattle.std.proofs.lemmas.Bool.Decides.{nat_tests}
 use Rattle.std.proofs.lemmas.List.{nil_from_length}
 use Rattle.std.proofs.lemmas.List.Elements.{All-from_get_or, recursion_from_All}

@@ -1,15 +1,13 @@
 -- What was written is read again.
 use Rattle.std.proofs.Common.{◌≡◌, ◌≢◌, ℕ, zero, suc, ◌+◌, ◌-◌, ◌<◌, ◌≤◌, true, false, cond, List, [], ◌∷◌, ◌++◌, length, Option, None, Some, refl, sym, ap, subst, ◌∙◌, arith, inl, inr}
 use Rattle.std.specs.Prelude.{◌==◌, unwrap_or, slice_index_or, nat_lt, if◌then◌else◌}
-use Rattle.std.proofs.lemmas.Bool.{cases_eq, cases_lt, eq-eqb, ne_eqb, lt-ltb, le-ltb}
+use Rattle.std.proofs.lemmas.Bool.{cases_lt, eq-eqb, ne_eqb, lt-ltb, le-ltb}
 use Rattle.std.proofs.lemmas.Bool.Decides.{nat_tests}
 use Rattle.std.proofs.lemmas.List.Elements.{All-from_recursion}
 use Rattle.std.proofs.lemmas.List.Splits.{slice_split_none, slice_split_at}
 use Rattle.std.specs.List.{slice_split, join_with_byte, flat_map, All, AllByRecursion}
-use Rattle.std.specs.Ordering.{nat_cmp, eq_by_cmp}
-use Rattle.std.specs.Cmp.Lexicographic.{slice_cmp}
 use Rattle.std.specs.FinMap as texts
-use Rattle.gw_er7.specs.Text.{canon, standard, is_special, Item, Plain, Escape, spelled, IsItem, IsPlain, IsInRange, IsCanonical, escaped}
+use Rattle.gw_er7.specs.Text.{canon, standard, Item, Plain, Escape, spelled, IsItem, IsPlain, IsInRange, IsCanonical, escaped}
 use Rattle.gw_er7.specs.Message.{numbers, SegmentValue, first_number, IsEntry}
 use Rattle.gw_er7.specs.Reading.{raw_at, ReadsFields}
 use Rattle.gw_er7.specs.Encoding.{Spells}
@@ -207,11 +205,8 @@ field-again = again-level IsText (level (level raw_value 38) 94) repetition_text
 
 plain_byte : (b : ℕ) → IsPlain b → IsTextByte b
 plain_byte b is =
-    let no_special = is.not_special in
-    record { range = is.range; field = λ e. absurd (apart 124 e refl); repetition = λ e. absurd (apart 126 e refl); component = λ e. absurd (apart 94 e refl); subcomponent = λ e. absurd (apart 38 e refl) }
-  where
-    apart : (n : ℕ) → b ≡ n → is_special n ≡ true → ⊥
-    apart n e special = let t : true ≡ false = sym special ∙ ap is_special (sym e) ∙ is.not_special in cc
+    let plain = is.not_special in
+    record { range = is.range; field = λ e. grind (arith, nat_tests); repetition = λ e. grind (arith, nat_tests); component = λ e. grind (arith, nat_tests); subcomponent = λ e. grind (arith, nat_tests) }
 
 escape_byte : IsTextByte 92
 escape_byte = record { range = (omega arith, λ lt. absurd (omega arith)); field = λ e. absurd (omega arith); repetition = λ e. absurd (omega arith); component = λ e. absurd (omega arith); subcomponent = λ e. absurd (omega arith) }

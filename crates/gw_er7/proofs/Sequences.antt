@@ -1,13 +1,12 @@
 -- How far a raw value has been read.
-use Rattle.std.proofs.Common.{◌≡◌, ℕ, zero, suc, ◌+◌, ◌-◌, ◌<◌, ◌≤◌, true, false, not, List, [], ◌∷◌, ◌++◌, length, get_or, take, drop, None, Some, refl, sym, ap, ◌∙◌, append_assoc, arith}
+use Rattle.std.proofs.Common.{◌≡◌, ℕ, zero, suc, ◌+◌, ◌-◌, ◌<◌, ◌≤◌, true, false, List, [], ◌∷◌, ◌++◌, length, get_or, take, drop, None, Some, refl, sym, ap, ◌∙◌, append_assoc, arith}
 use Rattle.std.specs.Prelude.{◌==◌, nat_lt}
 use Rattle.std.proofs.lemmas.List.{take_all, length-take}
 use Rattle.std.proofs.lemmas.List.Sums.{position_or_len_is}
 use Rattle.std.proofs.lemmas.Bool.{le-ltb, lt-ltb, eq-eqb, and_right, false_from_ne_true}
-use Rattle.std.specs.List.{list_all}
 use Rattle.memchr.specs.Find.{IsFirstByte, is_byte}
 use Rattle.gw_er7.specs.declared.delimiters.Delimiters.{Delimiters}
-use Rattle.gw_er7.specs.Text.{canon, canon_from, opens, meaning, plainly, body_of, is_body, is_special}
+use Rattle.gw_er7.specs.Text.{canon, canon_from, opens, meaning, plainly, body_of, is_body}
 
 -- what a search for the escape character finds
 pub body_found : (d : Delimiters) (after : List ℕ) (k : ℕ) → IsFirstByte (is_byte d.escape) after (Some k) → body_of d after ≡ take k after

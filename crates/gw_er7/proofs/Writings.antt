@@ -1,7 +1,7 @@
 -- The written content is the only one that meets the rules of writing.
-use Rattle.std.proofs.Common.{◌≡◌, ℕ, ◌+◌, ◌-◌, ◌<◌, ◌≤◌, Bool, true, false, not, List, [], ◌∷◌, ◌++◌, length, map, take, drop, None, refl, sym, ap, subst, ◌∙◌, append-nil, arith}
-use Rattle.std.specs.Prelude.{◌==◌, ◌||◌, ◌↔◌, nat_le}
-use Rattle.std.proofs.lemmas.Bool.{eqb-true, and_parts, true_from_ne_false}
+use Rattle.std.proofs.Common.{◌≡◌, ℕ, ◌+◌, ◌-◌, ◌<◌, ◌≤◌, true, not, List, [], ◌∷◌, ◌++◌, length, map, take, drop, None, refl, sym, ap, subst, ◌∙◌, append-nil, arith}
+use Rattle.std.specs.Prelude.{◌↔◌, nat_le}
+use Rattle.std.proofs.lemmas.Bool.{and_parts, true_from_ne_false}
 use Rattle.std.proofs.lemmas.Bool.Decides.{nat_tests}
 use Rattle.std.specs.List.{flat_map, AllByRecursion}
 use Rattle.std.specs.FinMap as texts
@@ -19,7 +19,7 @@ use Rattle.gw_er7.specs.Encoding.{rank, IsIdle, HasNoIdle, Spells, WritesHeader,
 use Rattle.gw_er7.proofs.Once.{by_four}
 use Rattle.gw_er7.proofs.Messages.{is_none, header_is}
 use Rattle.gw_er7.proofs.Uniques.{Good, good_of, raw, Falls, same_bytes}
-use Rattle.gw_er7.proofs.Solids.{Solid, Plains, tight_of, solid_append, solid_plain, rank_other, shaped, from_first, fields_solid, fields_some, fields_low}
+use Rattle.gw_er7.proofs.Solids.{Solid, Plains, tight_of, solid_append, solid_plain, shaped, from_first, fields_solid, fields_some, fields_low}
 use Rattle.gw_er7.proofs.Rounds.{written_spells}
 use Rattle.gw_er7.proofs.Lined.{placed_line, good_first}
 use Rattle.gw_er7.proofs.Faults.{but_many}
@@ -173,7 +173,7 @@ behind_solid p first (e ∷ es) lt plain h =
     solid_append 124 p (fields_text first (e ∷ es)) (solid_plain p plain) (fields_solid first (e ∷ es) lt shape from) (fields_some first (e ∷ es) shape from (omega arith)) (fields_low first (e ∷ es) shape)
 
 name_plain : (name : List ℕ) → IsName name → Plains name
-name_plain = name-each (λ b. rank b ≡ 0) (λ b low most. rank_other b (λ e. absurd (omega arith)) (λ e. absurd (omega arith)) (λ e. absurd (omega arith)) (λ e. absurd (omega arith)) (λ e. absurd (omega arith)))
+name_plain = name-each (λ b. rank b ≡ 0) (λ b low most. grind (arith, nat_tests))
 
 writes_other : (s : SegmentValue) → IsOther s → WritesOther (line_text s) s
 writes_other s is =
