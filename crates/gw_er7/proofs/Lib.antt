@@ -16,7 +16,6 @@ pub mod PartByPart
 pub mod Steps
 pub mod Runs
 pub mod Flat
-pub mod Rooms
 pub mod Stored
 pub mod Slices
 pub mod Widths

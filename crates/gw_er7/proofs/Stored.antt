@@ -1,7 +1,8 @@
 -- Segments as they are stored, and how they are written.
-use Rattle.std.proofs.Common.{◌≡◌, ℕ, zero, suc, ◌+◌, ◌<◌, ◌≤◌, List, [], ◌∷◌, ◌++◌, length, get_or, drop, Some, sym, ap, subst, ◌∙◌, append-nil, append_assoc, arith}
+use Rattle.std.proofs.Common.{◌≡◌, ℕ, zero, suc, ◌+◌, ◌*◌, ◌<◌, ◌≤◌, List, [], ◌∷◌, ◌++◌, length, get_or, drop, Some, sym, ap, subst, ◌∙◌, append-nil, append_assoc, arith}
 use Rattle.std.specs.Prelude.{T, slice_get}
 use Rattle.std.proofs.lemmas.List.{drop_all, drop_more}
+use Rattle.std.proofs.lemmas.List.Elements.{All-from_recursion}
 use Rattle.std.proofs.lemmas.Option.{get_or_from_slice_get}
 use Rattle.std.specs.List.{AllByRecursion}
 use Rattle.std.specs.Ordering.{nat_cmp}
@@ -38,15 +39,14 @@ line name es s sorted view =
 
 -- ---- all segments
 
-others_at : (i : ℕ) (ss : List SegmentValue) (d : SegmentValue) → i < length ss → AllByRecursion IsOther ss → IsSegment (get_or ss i d)
-others_at i [] d lt h = absurd (omega arith)
-others_at zero (s ∷ ss) d lt h = h.0.segment
-others_at (suc i) (s ∷ ss) d lt h = others_at i ss d (omega arith) h.1
-
 pub segment_at : (i : ℕ) (ss : List SegmentValue) (d : SegmentValue) → i < length ss → IsMessage ss → IsSegment (get_or ss i d)
 segment_at i [] d lt h = absurd (omega arith)
 segment_at zero (s ∷ ss) d lt h = h.0.segment
-segment_at (suc i) (s ∷ ss) d lt h = others_at i ss d (omega arith) h.1
+segment_at (suc i) (s ∷ ss) d lt h = (All-from_recursion IsOther ss h.1 i d (omega arith)).segment
+
+-- room for a line of so many texts
+abbrev pub line_room : SegmentValue → ℕ
+line_room s = length (texts.entries s.at) * 8 + 4
 
 pub written_end : (ss : List SegmentValue) (i : ℕ) (out target : List ℕ) → length ss ≤ i → out ++ written (drop i ss) ≡ target → out ≡ target
 written_end ss i out target le h = sym (append-nil out) ∙ ap (λ (x : List SegmentValue). out ++ written x) (sym (drop_all i ss le)) ∙ h

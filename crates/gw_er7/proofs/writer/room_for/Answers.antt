@@ -1,7 +1,7 @@
 use Rattle.std.proofs.Common.{◌<◌, length, ap, arith}
 use Rattle.std.proofs.lemmas.List.Sums.{sum_by-drop_more}
 use Rattle.std.proofs.lemmas.Option.{get_or_from_slice_get}
-use Rattle.gw_er7.proofs.Rooms.{line_room}
+use Rattle.gw_er7.proofs.Stored.{line_room}
 use Rattle.gw_er7.proofs.writer.room_for.Goals as goal
 
 pub loop-i-preserved : goal.loop-i-preserved

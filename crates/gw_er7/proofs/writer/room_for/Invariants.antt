@@ -1,6 +1,6 @@
 use Rattle.std.proofs.Common.{◌≡◌, ◌<◌, ◌+◌, ◌-◌, ◌^◌, min, drop}
 use Rattle.std.specs.List.{sum_by}
-use Rattle.gw_er7.proofs.Rooms.{line_room}
+use Rattle.gw_er7.proofs.Stored.{line_room}
 use Rattle.gw_er7.proofs.writer.room_for.Given as goal
 
 abbrev pub invariant-loop-i : goal.invariant-loop-i
