@@ -21,7 +21,7 @@ use Rattle.gw_er7.proofs.Lined.{placed_line}
 use Rattle.gw_er7.proofs.Faults.{HasLine, HasNoControl, readable}
 use Rattle.gw_er7.proofs.Messages.{by_name, long, header_is, first_other}
 use Rattle.gw_er7.proofs.Each.{Each-append, Each-weaker}
-use Rattle.gw_er7.proofs.Ranges.{choose}
+use Rattle.gw_er7.proofs.Ranges.{choose, high}
 use Rattle.gw_er7.proofs.Rounds.{fields-each, kept_texts, written_reads}
 
 abbrev Row : List ℕ → Type 0
@@ -32,9 +32,6 @@ no_end b is = let tab = is.1 in grind (arith, nat_tests)
 
 allowed : (b : ℕ) → IsInRange b → is_allowed b ≡ true
 allowed b is = let tab = is.1 in grind (arith, nat_tests)
-
-high : (b : ℕ) → 32 ≤ b → b < 256 → IsInRange b
-high b le lt = (lt, λ low. absurd (omega arith))
 
 -- ---- the bytes of a line
 

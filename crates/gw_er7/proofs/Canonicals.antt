@@ -9,7 +9,7 @@ use Rattle.std.specs.List.{list_all, flat_map, AllByRecursion}
 use Rattle.gw_er7.specs.Text.{canon, standard, is_special, is_text_byte, is_canonical, body_of, Item, Plain, Escape, spelled, IsItem, IsInRange, IsPlain, IsCanonical}
 use Rattle.gw_er7.specs.own.Canonical.{is_plain, Follows}
 use Rattle.gw_er7.proofs.Fixed.{body_len, canonical_stays}
-use Rattle.gw_er7.proofs.Ranges.{Lawful, HasLawful, canonical-from}
+use Rattle.gw_er7.proofs.Ranges.{Lawful, HasLawful, high, canonical-from}
 use Rattle.gw_er7.proofs.Rounds.{IsTextByte, text_bytes}
 
 -- ---- plain bytes
@@ -144,9 +144,6 @@ good_body b bs k rest at lt there found some all e = record {
 
 lawful_standard : HasLawful standard
 lawful_standard = record { field = high 124 (omega arith) (omega arith); component = high 94 (omega arith) (omega arith); repetition = high 126 (omega arith) (omega arith); escape = high 92 (omega arith) (omega arith); subcomponent = high 38 (omega arith) (omega arith) }
-  where
-    high : (b : ℕ) → 32 ≤ b → b < 256 → IsInRange b
-    high b le lt = (lt, λ low. absurd (omega arith))
 
 in_range : (bs : List ℕ) → list_all is_text_byte bs ≡ true → Lawful bs
 in_range [] e = tt

@@ -139,12 +139,7 @@ numbers-same : (p q : Place) → same p q ≡ true → numbers p ≡ numbers q
 numbers-same p q e = grind (arith, nat_tests)
 
 same-numbers : (p q : Place) → numbers p ≡ numbers q → same p q ≡ true
-same-numbers p q e =
-    let a : p.field ≡ q.field = cc in
-    let b : p.rep ≡ q.rep = cc in
-    let d : p.comp ≡ q.comp = cc in
-    let s : p.sub ≡ q.sub = cc in
-    rw (eq-eqb _ _ a, eq-eqb _ _ b, eq-eqb _ _ d, eq-eqb _ _ s) refl
+same-numbers p q e = grind (arith, nat_tests)
 
 pub text_here : (p : Place) (xs : List Held) (n : ℕ) (l : Held) → Sorted xs → IsStartOf (numbers p) xs n → n < length xs → l ≡ get_or xs n l → same l.place p ≡ true → unwrap_or (find order (numbers p) (entries_of xs)) [] ≡ l.text
 text_here p xs n l h point lt is at =

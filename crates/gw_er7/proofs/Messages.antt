@@ -108,11 +108,7 @@ pub first_other : (name : List ℕ) → is_header name ≡ false → first_field
 first_other name e = ap (λ (v : Bool). if v then 3 else 1) e
 
 lawful-delimiter : (b : ℕ) → is_delimiter b ≡ true → IsInRange b
-lawful-delimiter b e =
-    let both = and_parts (nat_le 33 b) _ e in
-    let low = leb-true 33 b both.0 in
-    let high = leb-true b 126 (and_parts (nat_le b 126) _ both.1).0 in
-    (omega arith, λ under. absurd (omega arith))
+lawful-delimiter b e = (grind (arith, nat_tests), λ under. grind (arith, nat_tests))
 
 lawful-delimiters : (d : Delimiters) → are_delimiters d ≡ true → HasLawful d
 lawful-delimiters d e =

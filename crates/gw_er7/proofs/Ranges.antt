@@ -21,6 +21,9 @@ pub record HasLawful (d : Delimiters) : Type 0 where
   pub escape : IsInRange d.escape
   pub subcomponent : IsInRange d.subcomponent
 
+pub high : (b : ℕ) → 32 ≤ b → b < 256 → IsInRange b
+high b le lt = (lt, λ low. absurd (omega arith))
+
 -- ---- parts of lawful bytes
 
 abbrev AllLawful : List (List ℕ) → Type 0
