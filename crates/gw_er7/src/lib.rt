@@ -36,6 +36,6 @@ pub use laws::{
 };
 pub use message::Message;
 pub use place::Place;
-pub use reader::read;
+pub use reader::{read, read_block};
 pub use view::{Segment, Value};
 pub use writer::write;

@@ -106,3 +106,18 @@ pub fn read(alloc: Global, content: &[u8]) -> Result<Message, ReadFault>
     let (starts, taken) = take_segments(alloc, checked.delimiters, checked.header, content.len())?;
     Ok(Message::of(starts, taken.close()))
 }
+
+/// The message of a content that is handed over, as `read` gives it (HL7 v2.5.1 chapter 2, 2.5.4 and 2.6), with the same faults in the same order.
+/// On every error the content comes back as it was, beside the fault. A faulty content is never answered with `Memory`.
+pub fn read_block(content: Vec<u8>) -> Result<Message, (ReadFault, Vec<u8>)>
+    ensures ok { IfOk result (λ message. Reads content.items message) }
+    ensures faulty { (fault : ReadFault) → Faulty content.items fault → result ≡ Err (fault, content) }
+    ensures err { IfErr result (λ e. (e.0 ≡ ReadFault.Memory) ⊎ Faulty content.items e.0) }
+    ensures back { IfErr result (λ e. e.1.items ≡ content.items) }
+{
+    let alloc = *content.allocator();
+    match read(alloc, &content) {
+        Ok(message) => Ok(message),
+        Err(fault) => Err((fault, content)),
+    }
+}
