@@ -13,8 +13,10 @@ pub mod Placing
 pub mod Keeping
 pub mod Judging
 pub mod Lists
-pub mod Paired
-pub mod Tested
+pub mod Kept
+pub mod AtLengths
+pub mod Shortest
+pub mod AtPlaces
 pub mod Capped
 pub mod IdentityItems
 pub mod IdentityNamed

@@ -1,43 +1,21 @@
 //! Which texts can be read, and what a target subcomponent asks of them.
-ghost use Rattle.std.specs.Prelude.{◌≡◌, [], unwrap_or, option_and_then, option_copied};
-ghost use Rattle.gw_profile.specs.Seen.{sub as sub_value, profile_value};
+ghost use Rattle.std.specs.Prelude.{◌≡◌, option_and_then, option_copied};
+ghost use Rattle.gw_profile.specs.Seen.{sub as sub_value};
 ghost use Rattle.gw_profile.specs.Value.{table_of as table_in};
 ghost use Rattle.gw_maplang.specs.Seen.{now};
 ghost use Rattle.gw_profile.specs.Lengths.{octets};
 ghost use Rattle.gw_check.specs.Leaves as spec;
-ghost use Rattle.gw_check.specs.own.Against as against;
 ghost use Rattle.gw_check.specs.own.Uses.{sources_value, some_sub};
 ghost use Rattle.gw_resolve.specs.Seen.{source as seen_source};
-ghost use Rattle.gw_check.specs.Texts.{read_value, texts_value, rows_value, items_all, values_value, shape_value, some_items, meets};
+ghost use Rattle.gw_check.specs.Texts.{shape_value, some_items, meets};
 
 use crate::known::{at_field, comp_of, sub_of};
 use crate::presence::{is_absent, is_always};
-use crate::shape::{Presence, Shape, Values};
+use crate::shape::{Presence, Shape};
 use crate::sources::Sources;
-use crate::texts::{Read, Texts, may_be_long, may_be_outside};
-use gw_maplang::{Map, Table as Rows};
+use crate::texts::{may_be_long, may_be_outside};
 use gw_profile::{Profile, SubShape, Table, Usage};
 use gw_resolve::Source;
-
-// The values of the table of this name.
-fn values_of<'a>(profile: &'a Profile, name: &[u8]) -> &'a [Vec<u8>]
-    ensures { items_all result.now ≡ unwrap_or (table_in name.now profile.now.tables) [] }
-{
-    match profile.table(name) {
-        None => &[],
-        Some(table) => table.values(),
-    }
-}
-
-/// The values of the table of this name, or any texts, of at most so many octets.
-pub(crate) fn read_of<'a>(profile: &'a Profile, table: Option<&[u8]>, len: Option<u32>) -> Read<'a>
-    ensures { read_value result ≡ against.table_texts (profile_value profile.now) (now table.entry) len }
-{
-    match table {
-        None => Read::Any(len),
-        Some(name) => Read::Listed(len, values_of(profile, name)),
-    }
-}
 
 /// The table of this name.
 pub(crate) fn table_named<'a>(profile: &'a Profile, name: Option<&[u8]>) -> Option<&'a Table>
@@ -46,26 +24,6 @@ pub(crate) fn table_named<'a>(profile: &'a Profile, name: Option<&[u8]>) -> Opti
     match name {
         None => None,
         Some(name) => profile.table(name),
-    }
-}
-
-/// The rows of the table of this name.
-pub(crate) fn rows_named<'a>(map: &'a Map, name: Option<&[u8]>) -> Option<&'a Rows>
-    ensures { rows_value result ≡ against.rows_if map.now.tables (now name.entry) }
-{
-    match name {
-        None => None,
-        Some(name) => map.table(name),
-    }
-}
-
-/// What is read, as it is or as the table of this name gives it.
-pub(crate) fn texts_of<'a>(map: &'a Map, name: Option<&[u8]>, read: Read<'a>) -> Texts<'a>
-    ensures { texts_value result ≡ against.rowed map.now.tables (now name.entry) (read_value read.entry) }
-{
-    match name {
-        None => Texts::Of(read),
-        Some(name) => Texts::LookedUp(map.table(name), read),
     }
 }
 
@@ -83,16 +41,6 @@ pub(crate) fn source_sub<'e>(
 }
 
 // ---- what a subcomponent asks
-
-// The texts of a shape.
-fn shape_texts(values: &Values) -> Texts<'_>
-    ensures { texts_value result ≡ values_value values.now }
-{
-    match values {
-        Values::Any(len) => Texts::Of(Read::Any(*len)),
-        Values::Listed(all) => Texts::Of(Read::Listed(None, all)),
-    }
-}
 
 fn meets_usage(usage: Usage, presence: Presence) -> bool
     ensures { result ≡ meets usage presence }
@@ -114,6 +62,5 @@ pub fn included(shape: &Shape, sub: &SubShape, table: Option<&[Vec<u8>]>) -> boo
     if is_absent(shape.presence) {
         return true;
     }
-    let texts = shape_texts(&shape.values);
-    !may_be_outside(texts, table) && !may_be_long(texts, sub.len)
+    !may_be_outside(&shape.values, table) && !may_be_long(&shape.values, sub.len)
 }

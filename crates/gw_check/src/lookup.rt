@@ -10,7 +10,6 @@ use crate::given::is_unrowed;
 use crate::leaf::source_sub;
 use crate::mark::leaf_mark;
 use crate::sources::Sources;
-use crate::texts::other;
 use gw_resolve::{At, Failure, Leaf, Making, Rule, note};
 use std::alloc::AllocError;
 
@@ -25,16 +24,8 @@ fn check_lookup(
     let Leaf::LookedUp(name, source) = &at.leaf else {
         return Ok(());
     };
-    let sides = sources.sides;
-    if other(sides.map().table(name)).is_some() {
-        return Ok(());
-    }
-    note(
-        found,
-        10,
-        leaf_mark(field, at),
-        is_unrowed(sides, name, source_sub(sources, source)),
-    )
+    let is_unrowed = is_unrowed(sources.sides, name, source_sub(sources, source))?;
+    note(found, 10, leaf_mark(field, at), is_unrowed)
 }
 
 fn check_lookups(

@@ -1,5 +1,5 @@
 //! The rules on fields that are made of leaves.
-ghost use Rattle.std.specs.Prelude.{◌≡◌, ◌&&◌, ◌||◌, not, flat_map, OnOk};
+ghost use Rattle.std.specs.Prelude.{◌≡◌, ◌∷◌, [], ◌&&◌, ◌||◌, not, flat_map, OnOk};
 ghost use Rattle.gw_validate.specs.Breaches.{is_null};
 ghost use Rattle.gw_resolve.specs.Failures.{fails};
 ghost use Rattle.gw_check.specs.Fields as spec;
@@ -8,7 +8,6 @@ ghost use Rattle.gw_resolve.specs.Noted.{Notes};
 ghost use Rattle.gw_check.specs.own.Uses.{map_tables, leaves_value, some_comp, some_sub};
 ghost use Rattle.gw_resolve.specs.Seen.{at_leaf, mark as seen_mark};
 ghost use Rattle.gw_check.specs.own.Seen as seen;
-ghost use Rattle.gw_check.specs.Texts.{texts_value};
 
 use crate::given::{Given, table_of};
 use crate::known::{comp_of, sub_of};
@@ -18,7 +17,7 @@ use crate::mark::leaf_mark;
 use crate::presence::{is_absent, leaf_presence, source_presence};
 use crate::shape::Presence;
 use crate::sources::Sources;
-use crate::texts::{Texts, may_be_long, may_be_unlisted};
+use crate::texts::{is_long, is_missing};
 use crate::values::{check_values, is_forbidden};
 use gw_profile::{CompShape, FieldShape, Profile, SubShape};
 use gw_resolve::{At, Failure, Leaf, Mark, Source, note};
@@ -33,11 +32,11 @@ fn is_null(text: &[u8]) -> bool
 }
 
 // Another value than the table's, or too long.
-fn breaks(target: &Profile, texts: Texts<'_>, sub: &SubShape) -> bool
-    ensures { result ≡ seen.may_break target.now (texts_value texts.entry) sub.now }
+fn breaks(target: &Profile, text: &[u8], sub: &SubShape) -> bool
+    ensures { result ≡ seen.may_break target.now (leaves_spec.listed (text.now ∷ [])) sub.now }
 {
     let table = table_named(target, table_of(Some(sub)));
-    may_be_unlisted(texts, table) || may_be_long(texts, sub.len)
+    is_missing(table, text) || is_long(sub.len, text)
 }
 
 fn check_const(
@@ -52,7 +51,7 @@ fn check_const(
     if is_null(text) {
         return Ok(());
     }
-    note(found, 12, mark, breaks(target, Texts::One(text), sub))
+    note(found, 12, mark, breaks(target, text, sub))
 }
 
 // What a source gives, as it is or looked up in the table of this name.
@@ -115,12 +114,6 @@ fn is_forbidden_sub(sub: Option<&SubShape>) -> bool
     }
 }
 
-fn is_barred(comp: Option<&CompShape>, sub: Option<&SubShape>) -> bool
-    ensures { result ≡ (spec.is_forbidden_comp (some_comp comp.entry) || spec.is_forbidden_sub (some_sub sub.entry)) }
-{
-    is_forbidden_comp(comp) || is_forbidden_sub(sub)
-}
-
 fn check_barred(
     found: &mut Vec<Failure>,
     mark: Mark,
@@ -147,7 +140,8 @@ fn check_at(
     let sub = sub_of(comp, at.place.sub);
     let presence = leaf_presence(sources, &at.leaf);
     let mark = leaf_mark(field.number, at);
-    check_barred(found, mark, is_barred(comp, sub), presence)?;
+    let barred = is_forbidden_comp(comp) || is_forbidden_sub(sub);
+    check_barred(found, mark, barred, presence)?;
     match sub {
         None => Ok(()),
         Some(sub) => check_leaf(found, sources, mark, &at.leaf, sub),

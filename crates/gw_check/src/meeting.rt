@@ -1,12 +1,12 @@
-//! The pairs of tables that a map brings together.
+//! The tables that a map brings together.
 
 use crate::count::walking;
-use crate::given::{Given, pair_of};
+use crate::given::{Given, origin_of, table_of};
 use crate::inside::{fields_at, within_if};
 use crate::known::{at_field, comp_of, field_of, sub_of};
 use crate::leaf::source_sub;
-use crate::pair::Pair;
-use crate::sides::Sides;
+use crate::readings::Origin;
+use crate::sides::{Meetings, Sides};
 use crate::sources::Sources;
 use gw_profile::{FieldShape, Node};
 use gw_resolve::{
@@ -15,9 +15,28 @@ use gw_resolve::{
 use indexmap::IndexSet;
 use std::alloc::{AllocError, Global};
 
-// What these leaves read, each against the subcomponent at its place; a lookup also asks for its rows alone.
+// Where texts are from, and the table of the target that they are held against.
+fn meet<'a>(
+    alloc: Global,
+    meetings: &mut Meetings<'a>,
+    origin: Origin<'a>,
+    name: Option<&'a [u8]>,
+) -> Result<(), AllocError> {
+    if !meetings.contains_key(&origin) {
+        meetings.insert(origin, IndexSet::new(alloc))?;
+    }
+    let Some(name) = name else {
+        return Ok(());
+    };
+    if let Some(names) = meetings.get_mut(&origin) {
+        names.insert(name)?;
+    }
+    Ok(())
+}
+
+// What these leaves read, each against the subcomponent at its place.
 fn add_leaves<'a>(
-    pairs: &mut IndexSet<Pair<'a>>,
+    meetings: &mut Meetings<'a>,
     sources: Sources<'_, '_, '_, 'a, '_>,
     field: Option<&'a FieldShape>,
     leaves: &'a [At],
@@ -33,15 +52,15 @@ fn add_leaves<'a>(
             sub: source_sub(sources, source),
         };
         let sub = sub_of(comp_of(field, at.place.comp), at.place.sub);
-        pairs.insert(pair_of(given, sub))?;
-        pairs.insert(pair_of(given, None))?;
+        meet(sources.alloc, meetings, origin_of(given), table_of(sub))?;
     }
     Ok(())
 }
 
 // The subcomponents of a field that is copied from this one, each against that of the same number.
 fn add_copied<'a>(
-    pairs: &mut IndexSet<Pair<'a>>,
+    alloc: Global,
+    meetings: &mut Meetings<'a>,
     from: Option<&'a FieldShape>,
     field: Option<&'a FieldShape>,
 ) -> Result<(), AllocError> {
@@ -55,30 +74,32 @@ fn add_copied<'a>(
                 rows: None,
                 sub: sub_of(same, sub.number),
             };
-            pairs.insert(pair_of(given, Some(sub)))?;
+            meet(alloc, meetings, origin_of(given), table_of(Some(sub)))?;
         }
     }
     Ok(())
 }
 
 fn add_rule<'a>(
-    pairs: &mut IndexSet<Pair<'a>>,
+    meetings: &mut Meetings<'a>,
     sources: Sources<'_, '_, '_, 'a, '_>,
     fields: &'a [FieldShape],
     rule: &'a Rule,
 ) -> Result<(), AllocError> {
     let field = field_of(fields, rule.field);
     match &rule.making {
-        Making::Copy(from) => add_copied(pairs, at_field(sources, from), field),
-        Making::First(from) => add_copied(pairs, at_field(sources, from), field),
-        Making::Repeat(from, leaves) => { add_leaves(pairs, walking(sources, from), field, leaves) }
-        Making::Build(leaves) => add_leaves(pairs, sources, field, leaves),
+        Making::Copy(from) => add_copied(sources.alloc, meetings, at_field(sources, from), field),
+        Making::First(from) => add_copied(sources.alloc, meetings, at_field(sources, from), field),
+        Making::Repeat(from, leaves) => {
+            add_leaves(meetings, walking(sources, from), field, leaves)
+        }
+        Making::Build(leaves) => add_leaves(meetings, sources, field, leaves),
     }
 }
 
 fn add_segment<'a>(
     alloc: Global,
-    pairs: &mut IndexSet<Pair<'a>>,
+    meetings: &mut Meetings<'a>,
     sides: &Sides<'_>,
     scope: &[Element<'a, '_>],
     nodes: &'a [Node],
@@ -93,16 +114,16 @@ fn add_segment<'a>(
     };
     let fields = fields_at(nodes, segment.child);
     for rule in &segment.rules {
-        add_rule(pairs, sources, fields, rule)?;
+        add_rule(meetings, sources, fields, rule)?;
     }
     Ok(())
 }
 
-/// Adds the pairs that the items bring together, where the target's nodes of their level are these.
+/// Adds the tables that the items bring together, where the target's nodes of their level are these.
 #[cycle(add)]
 pub(crate) fn add_items<'a>(
     alloc: Global,
-    pairs: &mut IndexSet<Pair<'a>>,
+    meetings: &mut Meetings<'a>,
     sides: &Sides<'_>,
     scope: &[Element<'a, '_>],
     nodes: &'a [Node],
@@ -110,15 +131,15 @@ pub(crate) fn add_items<'a>(
 ) -> Result<(), AllocError> {
     for item in items {
         match item {
-            Item::Segment(segment) => add_segment(alloc, pairs, sides, scope, nodes, segment)?,
+            Item::Segment(segment) => add_segment(alloc, meetings, sides, scope, nodes, segment)?,
             Item::Group(group) => {
                 let inner = within(alloc, scope, &group.place)?;
                 let below = nodes_within(nodes, group.child);
-                add_items(alloc, pairs, sides, &inner, below, &group.items)?;
+                add_items(alloc, meetings, sides, &inner, below, &group.items)?;
             }
             Item::Flat(flat) => {
                 let inner = within(alloc, scope, &flat.place)?;
-                add_items(alloc, pairs, sides, &inner, nodes, &flat.items)?;
+                add_items(alloc, meetings, sides, &inner, nodes, &flat.items)?;
             }
         }
     }

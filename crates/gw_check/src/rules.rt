@@ -24,7 +24,7 @@ use crate::sides::Sides;
 use gw_maplang::Map;
 use gw_profile::{Level, Profile};
 use gw_resolve::{Element, Failure, Item, LeftOut, Named, Resolving, at_line, note};
-use indexmap::IndexSet;
+use indexmap::IndexMap;
 use std::alloc::{AllocError, Global};
 use std::sync::Arc;
 
@@ -92,14 +92,32 @@ fn add_failures(
     note(found, 9, at_line(line), passed)
 }
 
-// The failures of the rules 4 to 12 of a map without labels.
-fn failures_of<'a>(
+// The map with its profiles, and with what is found of the tables that its items bring together.
+fn sides_of<'a>(
     alloc: Global,
     source: &'a Profile,
     target: &'a Profile,
     map: &'a Map,
     level: &'a Level<'_>,
-    named: &'a Named,
+    items: &'a [Item],
+) -> Result<Sides<'a>, AllocError>
+    ensures { IfOk result (λ sides. sides ≡ spec.sides_of source.now target.now map.now) }
+{
+    let sides = Sides::new(alloc, source, target, map);
+    let mut meetings = IndexMap::new(alloc);
+    let scope = [Element::Whole(Some(level))];
+    add_items(alloc, &mut meetings, &sides, &scope, target.nodes(), items)?;
+    sides.knowing(meetings)
+}
+
+// The failures of the rules 4 to 12 of a map without labels.
+fn failures_of(
+    alloc: Global,
+    source: &Profile,
+    target: &Profile,
+    map: &Map,
+    level: &Level<'_>,
+    named: &Named,
 ) -> Result<Vec<Failure>, AllocError>
     requires { level.now ≡ source.now.nodes }
     ensures source { IfOk result (λ found. WellFormed (profile_value source.now)) }
@@ -107,18 +125,7 @@ fn failures_of<'a>(
     ensures found { IfOk result (λ found.
         seen_failures found.items ≡ seen.failures (spec.sides_of source.now target.now map.now) named.now.items.items named.now.drops.items) }
 {
-    let sides = Sides::new(alloc, source, target, map);
-    let mut pairs = IndexSet::new(alloc);
-    let scope = [Element::Whole(Some(level))];
-    add_items(
-        alloc,
-        &mut pairs,
-        &sides,
-        &scope,
-        target.nodes(),
-        &named.items,
-    )?;
-    let sides = sides.knowing(alloc, pairs)?;
+    let sides = sides_of(alloc, source, target, map, level, &named.items)?;
     let mut found = Vec::new(alloc);
     add_failures(alloc, &mut found, &sides, level, &named.items, &named.drops)?;
     Ok(found)

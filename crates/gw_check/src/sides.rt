@@ -1,26 +1,31 @@
 //! A map with its profiles, while it is checked.
 
-use crate::pair::{Against, Pair, compare};
+use crate::findings::{Findings, find};
+use crate::readings::{Origin, Step, Test, goes_beyond, readings_of, shortest, steps_of};
 use gw_maplang::Map;
 use gw_profile::Profile;
 use indexmap::{IndexMap, IndexSet};
 use std::alloc::{AllocError, Global};
 use std::marker::Model;
 
-/// A map with its profiles, and what is found of the pairs of tables that it brings together.
+/// Where texts are from, each with the tables of the target that they are held against, by their names.
+pub(crate) type Meetings<'a> = IndexMap<Origin<'a>, IndexSet<&'a [u8]>>;
+
+/// A map with its profiles, and what is found of the tables that it brings together.
 #[derive(Drop)]
 pub(crate) struct Sides<'a> {
+    alloc: Global,
     source: &'a Profile,
     target: &'a Profile,
     map: &'a Map,
-    known: IndexMap<Pair<'a>, Against>,
+    known: IndexMap<Origin<'a>, Findings<'a>>,
 }
 
 impl<'a> Model for Sides<'a> {
     ghost use Rattle.std.specs.Coded.{codes};
     ghost use Rattle.gw_profile.specs.contracts.node.Node as node;
     ghost use Rattle.gw_maplang.specs.contracts.item.Item as raw_item;
-    ghost use Rattle.gw_check.specs.own.Against.{AreAgainst};
+    ghost use Rattle.gw_check.specs.own.Findings.{AreFound};
     ghost use Rattle.gw_check.specs.own.Sides.{SidesValue, sides_of};
 
     ghost Value = { SidesValue };
@@ -29,15 +34,16 @@ impl<'a> Model for Sides<'a> {
 
     ghost view = { λ s. sides_of s.source.now s.target.now s.map.now };
 
-    ghost invariant = { λ s. AreAgainst (sides_of s.source.now s.target.now s.map.now) s.known.entries };
+    ghost invariant = { λ s. AreFound (sides_of s.source.now s.target.now s.map.now) s.known.entries };
 }
 
 impl<'a> Sides<'a> {
     ghost use Rattle.std.specs.Prelude.{◌≡◌, IfOk};
-    ghost use Rattle.gw_check.specs.own.Against.{pair_value, IsAgainst};
+    ghost use Rattle.gw_check.specs.own.Findings.{is_missing};
+    ghost use Rattle.gw_check.specs.own.Readings.{read_of, some_read, is_nothing, is_longer, IsShortest};
     ghost use Rattle.gw_check.specs.own.Sides.{sides_of};
 
-    /// The map and its profiles, with nothing found of any pair.
+    /// The map and its profiles, with nothing found of any table.
     pub(crate) fn new(
         alloc: Global,
         source: &'a Profile,
@@ -47,6 +53,7 @@ impl<'a> Sides<'a> {
         ensures { result ≡ sides_of source.now target.now map.now }
     {
         Sides {
+            alloc,
             source,
             target,
             map,
@@ -54,20 +61,24 @@ impl<'a> Sides<'a> {
         }
     }
 
-    /// The same, with what is found of these pairs.
-    pub(crate) fn knowing(
-        &self,
-        alloc: Global,
-        pairs: IndexSet<Pair<'a>>,
-    ) -> Result<Sides<'a>, AllocError>
+    /// The same, with what is found of these tables.
+    pub(crate) fn knowing(&self, meetings: Meetings<'a>) -> Result<Sides<'a>, AllocError>
         ensures { IfOk result (λ s. s ≡ self.now) }
     {
-        let mut known = IndexMap::with_capacity(alloc, pairs.len())?;
-        for pair in pairs {
-            let found = compare(self.source, self.target, self.map, pair);
-            known.insert(pair, found)?;
+        let mut known = IndexMap::with_capacity(self.alloc, meetings.len())?;
+        for (origin, names) in meetings {
+            let found = find(
+                self.alloc,
+                self.source,
+                self.target,
+                self.map,
+                origin,
+                names,
+            )?;
+            known.insert(origin, found)?;
         }
         Ok(Sides {
+            alloc: self.alloc,
             source: self.source,
             target: self.target,
             map: self.map,
@@ -96,13 +107,48 @@ impl<'a> Sides<'a> {
         self.map
     }
 
-    /// What is found of a pair.
-    pub(crate) fn of_pair(&self, pair: Pair<'_>) -> Against
-        ensures { IsAgainst self.now (pair_value pair.entry) result }
+    /// The octets of the shortest text for which something is given that isn't in the target's table of this name.
+    pub(crate) fn unlisted(
+        &self,
+        origin: Origin<'_>,
+        name: &[u8],
+    ) -> Result<Option<u64>, AllocError>
+        ensures { IfOk result (IsShortest (is_missing self.now.target.tables name.now) (read_of self.now.source.tables self.now.map.tables origin.entry)) }
     {
-        match self.known.get(&pair) {
-            Some(found) => *found,
-            None => compare(self.source, self.target, self.map, pair),
+        if let Some(found) = self.known.get(&origin) {
+            if let Some(octets) = found.unlisted.get(&name) {
+                return Ok(*octets);
+            }
         }
+        let readings = readings_of(self.alloc, self.source, self.map, origin)?;
+        Ok(shortest(&readings, Test::Unlisted(self.target.table(name))))
+    }
+
+    /// The octets of the shortest text for which nothing is given.
+    pub(crate) fn nothing(&self, origin: Origin<'_>) -> Result<Option<u64>, AllocError>
+        ensures { IfOk result (IsShortest is_nothing (read_of self.now.source.tables self.now.map.tables origin.entry)) }
+    {
+        if let Some(found) = self.known.get(&origin) {
+            return Ok(found.nothing);
+        }
+        let readings = readings_of(self.alloc, self.source, self.map, origin)?;
+        Ok(shortest(&readings, Test::Nothing))
+    }
+
+    /// Whether what is given for a text that isn't longer can have more octets than these.
+    pub(crate) fn goes_beyond(
+        &self,
+        origin: Origin<'_>,
+        len: Option<u32>,
+        most: u32,
+    ) -> Result<bool, AllocError>
+        ensures { IfOk result (λ b. b ≡ some_read len (is_longer most) (read_of self.now.source.tables self.now.map.tables origin.entry)) }
+    {
+        if let Some(found) = self.known.get(&origin) {
+            return Ok(goes_beyond(&found.steps, len, most));
+        }
+        let readings = readings_of(self.alloc, self.source, self.map, origin)?;
+        let steps = steps_of(self.alloc, &readings)?;
+        Ok(goes_beyond(&steps, len, most))
     }
 }

@@ -7,7 +7,7 @@ ghost use Rattle.gw_resolve.specs.Noted.{Notes};
 ghost use Rattle.gw_resolve.specs.Seen.{mark as seen_mark};
 ghost use Rattle.gw_check.specs.own.Seen as seen;
 
-use crate::given::{Given, against};
+use crate::given::{Given, may_be_long, may_be_unlisted};
 use crate::presence::{is_absent, is_always};
 use crate::shape::Presence;
 use crate::sides::Sides;
@@ -77,7 +77,8 @@ pub(crate) fn check_values(
     if is_absent(presence) {
         return Ok(());
     }
-    let stands = against(sides, given, sub);
-    note(found, 6, mark, stands.unlisted)?;
-    note(found, 7, mark, stands.long)
+    let is_unlisted = may_be_unlisted(sides, given, sub)?;
+    note(found, 6, mark, is_unlisted)?;
+    let is_long = may_be_long(sides, given, sub)?;
+    note(found, 7, mark, is_long)
 }

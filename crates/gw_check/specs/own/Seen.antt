@@ -38,7 +38,7 @@ use Rattle.gw_check.specs.Collected.{positions}
 use Rattle.gw_check.specs.Counts as counts
 use Rattle.gw_check.specs.Fields as spec
 use Rattle.gw_check.specs.Leaves.{Values, listed, source_shape, may_be_unlisted, may_be_long}
-use Rattle.gw_check.specs.own.Against.{rowed}
+use Rattle.gw_check.specs.own.Readings.{rowed}
 use Rattle.gw_check.specs.own.Sides.{SidesValue}
 use Rattle.gw_check.specs.own.Uses.{sources_value, target_value, given_texts, map_tables, some_comp, some_field, some_rule, leaves_value, rules_value}
 use Rattle.gw_check.specs.Reads as reads

@@ -16,7 +16,7 @@ use Rattle.gw_resolve.specs.Places.{Known}
 use Rattle.gw_resolve.specs.Resolved.{At, Rule}
 use Rattle.gw_check.specs.declared.given.Given.{Given}
 use Rattle.gw_check.specs.Leaves.{Sources, Values, sub_values}
-use Rattle.gw_check.specs.own.Against.{rowed}
+use Rattle.gw_check.specs.own.Readings.{rowed}
 use Rattle.gw_check.specs.own.Sides.{SidesValue}
 use Rattle.gw_resolve.specs.Seen.{scope, interval, saturated, at_leaf, rule}
 
@@ -51,8 +51,11 @@ abbrev pub some_rule : List TableValue → Option (Bor rules_of.Rule) → Option
 some_rule tables r = option_map (λ b. rule tables b.now) r
 
 -- what is read of a subcomponent, as it is or looked up
+abbrev pub source_values : SidesValue → Option (Bor SubShape) → Values
+source_values s sub = sub_values (profile_value s.source) (some_sub sub)
+
 abbrev pub given_texts : SidesValue → Given → Values
-given_texts s g = rowed s.map.tables (now g.rows) (sub_values (profile_value s.source) (some_sub g.sub))
+given_texts s g = rowed s.map.tables (now g.rows) (source_values s g.sub)
 
 -- ---- the segment at a place
 

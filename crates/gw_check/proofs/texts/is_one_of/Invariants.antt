@@ -1,7 +1,7 @@
 use Rattle.std.proofs.Common.{◌≡◌, drop}
-use Rattle.std.specs.Prelude.{bytes_eq}
-use Rattle.std.specs.List.{list_any}
+use Rattle.gw_profile.specs.Fault.{is_among}
+use Rattle.gw_check.specs.Texts.{items_all}
 use Rattle.gw_check.proofs.texts.is_one_of.Given as goal
 
 abbrev pub invariant-loop-other : goal.invariant-loop-other
-invariant-loop-other l = list_any (λ v. bytes_eq l.text v.items) l.all ≡ list_any (λ v. bytes_eq l.text v.items) (drop l.other-index l.all)
+invariant-loop-other l = is_among l.text (items_all l.all) ≡ is_among l.text (items_all (drop l.other-index l.all))
