@@ -130,17 +130,28 @@ fn place(n: usize) -> (usize, usize) {
     (1 + n / 99, 1 + n % 99)
 }
 
-/// A profile whose ZAA-1 has so many required subcomponents.
-fn subcomponents(name: &str, count: usize, table: &str) -> String {
+/// The length of the n-th subcomponent: none, or one of its own that takes each value of a table.
+fn length(n: usize, own: bool) -> String {
+    if own {
+        format!(" len {}", 6 + n)
+    } else {
+        String::new()
+    }
+}
+
+/// A profile whose ZAA-1 has so many required subcomponents, each with a length of its own if that is said.
+fn subcomponents(name: &str, count: usize, table: &str, own: bool) -> String {
     let mut profile = format!(
         "profile {name}\n{table}segment MSH R 1..1\nsegment ZAA R 1..1\n  field 1 R 1..1\n"
     );
     let named = if table.is_empty() { "" } else { " table CODES" };
-    for (comp, sub) in (0..count).map(place) {
+    for n in 0..count {
+        let (comp, sub) = place(n);
         if sub == 1 {
             writeln!(profile, "    comp {comp} R").expect("a String takes all");
         }
-        writeln!(profile, "      sub {sub} R{named}").expect("a String takes all");
+        let len = length(n, own);
+        writeln!(profile, "      sub {sub} R{len}{named}").expect("a String takes all");
     }
     profile
 }
@@ -156,8 +167,8 @@ fn table(count: usize, turned: bool) -> String {
     line
 }
 
-/// So many leaves for as many required subcomponents, each with a value of a table of so many, if of any.
-fn leaves(count: usize, values: usize, turned: bool) -> Case {
+/// So many leaves for as many required subcomponents, each with a value of a table of so many, if of any: read and asked at a length of its own, if that is said.
+fn leaves(count: usize, values: usize, turned: bool, own: bool) -> Case {
     let tables = |turned| match values {
         0 => String::new(),
         some => table(some, turned),
@@ -169,8 +180,8 @@ fn leaves(count: usize, values: usize, turned: bool) -> Case {
         writeln!(map, "    at {comp}.{sub} copy ZAA-1.{comp}.{sub}").expect("a String takes all");
     }
     case(
-        subcomponents("FROM", count, &tables(false)),
-        subcomponents("TO", count, &tables(turned)),
+        subcomponents("FROM", count, &tables(false), own),
+        subcomponents("TO", count, &tables(turned), own),
         map,
     )
 }
@@ -220,11 +231,18 @@ fn all(examples: &Path) -> io::Result<Vec<(&'static str, Case)>> {
         ("last_of_1000_segments", last_of(1_000)),
         ("last_of_9990_segments", last_of(LINES - 10)),
         ("drops_of_9900_fields", drops()),
-        ("leaves_300", leaves(300, 0, false)),
-        ("leaves_9702", leaves(9_702, 0, false)),
-        ("leaves_500_of_500_values", leaves(500, 500, false)),
-        ("leaves_9000_of_100000_values", leaves(9_000, VALUES, false)),
-        ("leaves_9000_of_turned_values", leaves(9_000, VALUES, true)),
+        ("leaves_300", leaves(300, 0, false, false)),
+        ("leaves_9702", leaves(9_702, 0, false, false)),
+        ("leaves_500_of_500_values", leaves(500, 500, false, false)),
+        (
+            "leaves_9000_of_100000_values",
+            leaves(9_000, VALUES, false, false),
+        ),
+        (
+            "leaves_9000_of_turned_values",
+            leaves(9_000, VALUES, true, false),
+        ),
+        ("leaves_9000_of_lengths", leaves(9_000, VALUES, false, true)),
         (
             "patients_with_one_order",
             flattened(format!("{HEADER}{one_order}")),
