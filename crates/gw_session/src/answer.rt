@@ -14,7 +14,7 @@ use crate::doors::refuse;
 use crate::turn::{INTERNAL, Said, Turn, Why};
 use gw_ack::{Ack, Header, Stamp, accept_ack, error_ack, reject_ack};
 use gw_crew::{Clock, Door};
-use gw_er7::{Message, ReadFault, read};
+use gw_er7::{Message, ReadFault, read_block};
 use std::alloc::{AllocError, Global};
 
 /// An answer: its code and its content.
@@ -104,16 +104,18 @@ pub(crate) fn deal<D: Door, C: Clock>(
     alloc: Global,
     door: &mut D,
     clock: &mut C,
-    content: &[u8],
+    content: Vec<u8>,
 ) -> Result<Answer, AllocError>
-    ensures dealt { IfOk result (λ answer. Deals (C.gives clock.old) content.now answer (D.noted door.old) (D.noted door.new)) }
-    ensures begun { OnErr result (Adds (Begun (content.now ∷ [])) (D.noted door.old) (D.noted door.new)) }
+    ensures dealt { IfOk result (λ answer. Deals (C.gives clock.old) content.items answer (D.noted door.old) (D.noted door.new)) }
+    ensures begun { OnErr result (Adds (Begun (content.items ∷ [])) (D.noted door.old) (D.noted door.new)) }
     ensures lawful { IfOk result (λ answer. HasNoEnd answer.content.items) }
     ensures clock { (stamp : List ℕ) → C.gives clock.new stamp ↔ C.gives clock.old stamp }
 {
-    match read(alloc, content) {
+    match read_block(content) {
         Ok(message) => deal_message(alloc, door, clock, message),
-        Err(ReadFault::Memory) => Err(AllocError),
-        Err(_) => deal_unreadable(alloc, door, clock),
+        Err((fault, _content)) => match fault {
+            ReadFault::Memory => Err(AllocError),
+            _ => deal_unreadable(alloc, door, clock),
+        },
     }
 }

@@ -76,7 +76,7 @@ pub fn session<D: Door, C: Clock, R: Source, W: Sink>(
     let mut blocks = BlockReader::new(alloc);
     let mut counts = Counts::none();
     'each: while let Some(content) = blocks.next(reader)? {
-        let answer = deal(alloc, door, clock, &content)?;
+        let answer = deal(alloc, door, clock, content)?;
         send(alloc, &mut counts, &answer, writer)?;
     }
     Ok(counts)

@@ -10,7 +10,7 @@ ghost use Rattle.gw_stream.specs.Answers.{ValidatedBy, IsAnswer};
 ghost use Rattle.gw_stream.specs.own.Bundled.{answered};
 
 use gw_ack::{Ack, Header, Stamp, accept_ack, error_ack, reject_ack};
-use gw_er7::{Message, ReadFault, read};
+use gw_er7::{Message, ReadFault, read_block};
 use gw_profile::Profile;
 use gw_validate::{Verdict, validate};
 use std::alloc::{AllocError, Global};
@@ -66,14 +66,16 @@ pub(crate) fn answer(
     profile: &Arc<Profile>,
     stamp: Stamp,
     number: u64,
-    content: &[u8],
+    content: Vec<u8>,
 ) -> Result<(Ack, Vec<u8>), AllocError>
-    ensures answer { IfOk result (λ a. IsAnswer (ValidatedBy profile.now) stamp number content.now (answered a)) }
+    ensures answer { IfOk result (λ a. IsAnswer (ValidatedBy profile.now) stamp number content.items (answered a)) }
     ensures content { IfOk result (λ a. HasNoEnd a.1.items) }
 {
-    match read(alloc, content) {
+    match read_block(content) {
         Ok(message) => answer_message(alloc, profile, stamp, number, message),
-        Err(ReadFault::Memory) => Err(AllocError),
-        Err(_) => answer_unreadable(alloc, stamp, number),
+        Err((fault, _content)) => match fault {
+            ReadFault::Memory => Err(AllocError),
+            _ => answer_unreadable(alloc, stamp, number),
+        },
     }
 }

@@ -13,7 +13,7 @@ use crate::answer::answer_unreadable;
 use crate::frame::framed;
 use crate::parcel::{Parcel, parcels};
 use gw_ack::{Ack, Header, Stamp, accept_ack, error_ack, reject_ack};
-use gw_er7::{Message, ReadFault, read};
+use gw_er7::{Message, ReadFault, read_block};
 use gw_plan::{Conforming, Plan, Refusal, admit};
 use std::alloc::{AllocError, Global};
 use std::sync::Arc;
@@ -107,14 +107,16 @@ pub(crate) fn serve(
     plan: &Arc<Plan>,
     stamp: Stamp,
     number: u64,
-    content: &[u8],
+    content: Vec<u8>,
 ) -> Result<Bundle, AllocError>
-    ensures made { IfOk result (Bundles (plan_value (arc_value plan.now)) stamp number content.now) }
+    ensures made { IfOk result (Bundles (plan_value (arc_value plan.now)) stamp number content.items) }
     ensures within { IfOk result (λ b. AreWithin (length (arc_value plan.now).receivers) b.parcels.items) }
 {
-    match read(alloc, content) {
+    match read_block(content) {
         Ok(message) => serve_message(alloc, plan, stamp, number, message),
-        Err(ReadFault::Memory) => Err(AllocError),
-        Err(_) => serve_unreadable(alloc, stamp, number),
+        Err((fault, _content)) => match fault {
+            ReadFault::Memory => Err(AllocError),
+            _ => serve_unreadable(alloc, stamp, number),
+        },
     }
 }

@@ -34,15 +34,15 @@ fn answer_content<W: Sink>(
     profile: &Arc<Profile>,
     stamp: Stamp,
     counts: &mut Counts,
-    content: &[u8],
+    content: Vec<u8>,
     writer: &mut W,
 ) -> Result<(), RunFault>
     requires works { W.has_failed writer.old ≡ false }
     requires total { IsTotal counts.old }
     requires room { counts.old.answered < 2 ^ 60 }
-    ensures ok { OnOk result (Answers (ValidatedBy profile.now) stamp (content.now ∷ [])
+    ensures ok { OnOk result (Answers (ValidatedBy profile.now) stamp (content.items ∷ [])
         (W.contents writer.old) (W.contents writer.new) counts.old counts.new) }
-    ensures part { OnErr result (Breaks (ValidatedBy profile.now) stamp (content.now ∷ [])
+    ensures part { OnErr result (Breaks (ValidatedBy profile.now) stamp (content.items ∷ [])
         (W.contents writer.old) (W.contents writer.new) counts.old) }
     ensures write { IsTrue (W.has_failed writer.new) ↔ IsErrOf result RunFault.Write }
     ensures kinds { IfErr result (λ e. (e ≡ RunFault.Memory) ⊎ (e ≡ RunFault.Write)) }
@@ -87,7 +87,7 @@ pub fn answer_stream<R: Source, W: Sink>(
     let mut blocks = BlockReader::new(alloc);
     let mut counts = Counts::none();
     'each: while let Some(content) = blocks.next(reader)? {
-        answer_content(alloc, &profile, stamp, &mut counts, &content, writer)?;
+        answer_content(alloc, &profile, stamp, &mut counts, content, writer)?;
     }
     Ok(counts)
 }
@@ -167,7 +167,7 @@ pub fn serve_once<R: Source, A: Sink, W: Sink>(
     let plan = Arc::new(alloc, plan)?;
     let mut counts = Counts::none();
     'each: while let Some(content) = blocks.next(reader)? {
-        let bundle = serve(alloc, &plan, stamp, counts.answered + 1, &content)?;
+        let bundle = serve(alloc, &plan, stamp, counts.answered + 1, content)?;
         send_counted(&mut counts, answers, outs, &bundle)?;
     }
     Ok(counts)

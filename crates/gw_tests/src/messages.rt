@@ -1,7 +1,11 @@
 //! Messages looked at and built.
 ghost use Rattle.std.specs.Prelude.{◌≡◌};
 
-use gw_er7::{Builder, Place, Segment, is_canonical, is_segment_name, read, write};
+use gw_er7::{
+    Builder, Message, Place, ReadFault, Segment, is_canonical, is_segment_name, read, read_block,
+    write,
+};
+use std::alloc::Global;
 use std::test::Fail;
 
 fn place(field: usize, rep: usize, comp: usize, sub: usize) -> Place
@@ -107,5 +111,37 @@ fn equal_messages_are_the_same(rt: HostRuntime) -> Result<(), Fail> {
     let same = read(rt.alloc(), SAME)?;
     let less = read(rt.alloc(), LESS)?;
     assert!(rt; message.same(&same) && !message.same(&less));
+    Ok(())
+}
+
+// One message with two sets of delimiters: what is escaped in one stands for itself in the other.
+const BARS: &[u8] = b"MSH|^~\\&|LAB\rPID|||a#b\\F\\c\r";
+
+const SIGNS: &[u8] = b"MSH#^~\\&#LAB\rPID###a\\F\\b|c\r";
+
+// The message of a copy of the content, which is handed over.
+fn read_copy(alloc: Global, content: &[u8]) -> Result<Message, ReadFault> {
+    let mut copy = Vec::new(alloc);
+    copy.extend_from_slice(content)?;
+    match read_block(copy) {
+        Ok(message) => Ok(message),
+        Err((fault, _content)) => Err(fault),
+    }
+}
+
+// Whether the content is read as this message, lent or handed over.
+fn is_read_as(alloc: Global, content: &[u8], message: &Message) -> Result<bool, ReadFault> {
+    Ok(read(alloc, content)?.same(message) && read_copy(alloc, content)?.same(message))
+}
+
+#[test]
+fn a_content_is_handed_over(rt: HostRuntime) -> Result<(), Fail> {
+    let alloc = rt.alloc();
+    let message = read(alloc, BARS)?;
+    assert!(rt; is_read_as(alloc, BARS, &message)? && is_read_as(alloc, SIGNS, &message)?);
+    let Err((fault, content)) = read_block(Vec::new(alloc)) else {
+        return Err("an empty content has no message".into());
+    };
+    assert!(rt; fault == ReadFault::Empty && content.is_empty());
     Ok(())
 }

@@ -3,5 +3,5 @@ use Rattle.gw_session.specs.Sessions.{Begun, not_yet}
 use Rattle.gw_session.proofs.Arriving.{adds_none}
 use Rattle.gw_session.proofs.answer.deal.Goals as goal
 
-pub returns-in-Err-Memory-clause-begun : goal.returns-in-Err-Memory-clause-begun
-returns-in-Err-Memory-clause-begun g c = adds_none (Begun (c.args.content.now ∷ [])) _ _ (not_yet (c.args.content.now ∷ [])) refl
+pub returns-in-Memory-clause-begun : goal.returns-in-Memory-clause-begun
+returns-in-Memory-clause-begun g c = adds_none (Begun (c.args.content.items ∷ [])) _ _ (not_yet (c.args.content.items ∷ [])) refl

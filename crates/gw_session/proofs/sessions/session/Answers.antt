@@ -41,8 +41,7 @@ returns-in_err-content-clause-kinds g c = let kind = reading_of_stream _ c.in_er
 pub returns-in_err-answer-clause-part : goal.returns-in_err-answer-clause-part
 returns-in_err-answer-clause-part g c =
     let goes = rw c.in-Some.is at c.in_ok-content.ensures.goes in
-    let begun = rw c.deref.ensures.value at c.in_err-answer.ensures.begun in
-    let part = deals_break _ _ _ _ _ _ _ _ _ c.each.invariant.deals _ _ _ goes begun in search rules
+    let part = deals_break _ _ _ _ _ _ _ _ _ c.each.invariant.deals _ _ _ goes c.in_err-answer.ensures.begun in search rules
 
 pub returns-in_err-answer-clause-kinds : goal.returns-in_err-answer-clause-kinds
 returns-in_err-answer-clause-kinds g c = let kind : OfStream Memory = memory in search rules
@@ -59,7 +58,7 @@ send-requires-clause-room g c =
 pub returns-in_err-send-clause-part : goal.returns-in_err-send-clause-part
 returns-in_err-send-clause-part g c =
     let goes = rw c.in-Some.is at c.in_ok-content.ensures.goes in
-    let one = rw c.deref.ensures.value at c.in_ok-answer.ensures.dealt in
+    let one = c.in_ok-answer.ensures.dealt in
     let part = deals_unsent _ _ _ _ _ _ _ _ _ c.each.invariant.deals _ _ _ _ _ _ c.each.invariant.stamps goes one c.in_err-send.ensures.part in search rules
 
 pub returns-in_err-send-clause-kinds : goal.returns-in_err-send-clause-kinds
@@ -76,7 +75,7 @@ each-smaller g c =
 pub each-preserved : goal.each-preserved
 each-preserved g c =
     let goes = rw c.in-Some.is at c.in_ok-content.ensures.goes in
-    let one = rw c.deref.ensures.value at c.in_ok-answer.ensures.dealt in
+    let one = c.in_ok-answer.ensures.dealt in
     record {
       reads = not_failed _ _ _ _ c.in_ok-content.was c.next.ensures.read;
       writes = not_failed _ _ _ _ c.in_ok-send.was c.send.ensures.write;

@@ -50,8 +50,7 @@ answer_content-requires-clause-room g c =
 pub returns-in_err-answer_content-clause-part : goal.returns-in_err-answer_content-clause-part
 returns-in_err-answer_content-clause-part g c =
     let goes = rw c.in-Some.is at c.in_ok-content.ensures.goes in
-    let off = rw c.deref.ensures.value at c.in_err-answer_content.ensures.part in
-    let part = progress_breaks _ _ _ _ _ _ _ _ _ _ _ c.each.invariant.progress goes off in search rules
+    let part = progress_breaks _ _ _ _ _ _ _ _ _ _ _ c.each.invariant.progress goes c.in_err-answer_content.ensures.part in search rules
 
 pub returns-in_err-answer_content-clause-kinds : goal.returns-in_err-answer_content-clause-kinds
 returns-in_err-answer_content-clause-kinds g c = let kind = sends_of_stream _ c.in_err-answer_content.ensures.kinds in search rules
@@ -66,11 +65,10 @@ each-smaller g c =
 pub each-preserved : goal.each-preserved
 each-preserved g c =
     let goes = rw c.in-Some.is at c.in_ok-content.ensures.goes in
-    let answers = rw c.deref.ensures.value at c.in_ok-answer_content.ensures.ok in
     record {
       reads = search rules;
       writes = search rules;
-      progress = progress_goes _ _ _ _ _ _ _ _ _ _ _ _ c.each.invariant.progress goes answers;
+      progress = progress_goes _ _ _ _ _ _ _ _ _ _ _ _ c.each.invariant.progress goes c.in_ok-answer_content.ensures.ok;
     }
 
 pub returns-clause-all : goal.returns-clause-all

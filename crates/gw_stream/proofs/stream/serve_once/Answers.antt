@@ -101,7 +101,7 @@ send_counted-requires-clause-room g c =
 pub returns-in_err-send_counted-clause-part : goal.returns-in_err-send_counted-clause-part
 returns-in_err-send_counted-clause-part g c =
     let goes = rw c.in-Some.is at c.in_ok-content.ensures.goes in
-    let made = rw (c.deref.ensures.value, c.each.invariant.plan) at c.in_ok-bundle.ensures.made in
+    let made = rw c.each.invariant.plan at c.in_ok-bundle.ensures.made in
     let part = serves_breaks _ _ _ _ _ _ _ _ _ _ _ _ c.each.invariant.serves goes made c.in_err-send_counted.ensures.part in search rules
 
 pub returns-in_err-send_counted-clause-kinds : goal.returns-in_err-send_counted-clause-kinds
@@ -119,7 +119,7 @@ each-smaller g c =
 pub each-preserved : goal.each-preserved
 each-preserved g c =
     let goes = rw c.in-Some.is at c.in_ok-content.ensures.goes in
-    let made = rw (c.deref.ensures.value, c.each.invariant.plan) at c.in_ok-bundle.ensures.made in
+    let made = rw c.each.invariant.plan at c.in_ok-bundle.ensures.made in
     let none = not_failed _ _ _ _ c.in_ok-send_counted.was c.send_counted.ensures.write in
     record {
       reads = not_failed _ _ _ _ c.in_ok-content.was c.next.ensures.read;
