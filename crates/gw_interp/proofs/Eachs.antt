@@ -4,9 +4,8 @@ use Rattle.std.specs.Prelude.{flat_map}
 use Rattle.std.proofs.lemmas.List.{drop_all}
 use Rattle.gw_er7.specs.Message.{SegmentValue}
 use Rattle.gw_er7.specs.Building.{IsBegun}
-use Rattle.gw_validate.specs.Occurring.{tree_of}
 use Rattle.gw_validate.specs.Fitting.{OccValue, IsLent}
-use Rattle.gw_validate.specs.Viewing.{count_at, occurrence_at, occurrence_of}
+use Rattle.gw_validate.specs.Viewing.{width, count_at, occurrence_at, occurrence_of}
 use Rattle.gw_maplang.specs.Shapes.{TableValue}
 use Rattle.gw_interp.specs.declared.items.Part.{Part}
 use Rattle.gw_interp.specs.declared.items.Part.TheVariants.{OneSegment, Level}
@@ -37,14 +36,14 @@ module _ (tables : List TableValue) (part : Part) (os : List OccValue) where
 
   -- where steps lead from the children from this number on
   abbrev left : OccValue → ℕ → List ℕ → ℕ → List Occurrence
-  left from child later k = flat_map (below later) (drop k (level_at (tree_of from.each) child))
+  left from child later k = flat_map (below later) (drop k (level_at from.tree child))
 
   -- the first children have what is given where steps lead from them, and what is walked is as it was
   pub record IsBelowDone (from : OccValue) (child : ℕ) (later : List ℕ) (k : ℕ) (old now : List SegmentValue) (walked : List OccValue) : Type 0 where
     pub kept : walked ≡ os
     pub walk : IsWalkDone Gives May names (flat_map (below later) (children (occurrence from) child)) (left from child later k) old now
 
-  pub none_below : (from : OccValue) (child : ℕ) (later : List ℕ) (old : List SegmentValue) → IsLent from → child < length from.each → IsBegun old → MayEach tables part os (below (child ∷ later) (occurrence from)) → IsBelowDone from child later 0 old old os
+  pub none_below : (from : OccValue) (child : ℕ) (later : List ℕ) (old : List SegmentValue) → IsLent from → child < width from.tree → IsBegun old → MayEach tables part os (below (child ∷ later) (occurrence from)) → IsBelowDone from child later 0 old old os
   none_below from child later old lent h lawful may =
       record {
         kept = refl;
@@ -52,12 +51,12 @@ module _ (tables : List TableValue) (part : Part) (os : List OccValue) where
             (none_walked Gives May names (flat_map (below later) (children (occurrence from) child)) old lawful may);
       }
 
-  module _ (from : OccValue) (child : ℕ) (later : List ℕ) (k : ℕ) (o : OccValue) (shows : occurrence_at (tree_of from.each) child k ≡ Some (occurrence_of o)) (old now : List SegmentValue) (walked : List OccValue) (d : IsBelowDone from child later k old now walked) where
+  module _ (from : OccValue) (child : ℕ) (later : List ℕ) (k : ℕ) (o : OccValue) (shows : occurrence_at from.tree child k ≡ Some (occurrence_of o)) (old now : List SegmentValue) (walked : List OccValue) (d : IsBelowDone from child later k old now walked) where
     all : List Occurrence
     all = flat_map (below later) (children (occurrence from) child)
 
     next : left from child later k ≡ below later (occurrence o) ++ left from child later (k + 1)
-    next = ap (flat_map (below later)) (drop_level (tree_of from.each) child k o shows)
+    next = ap (flat_map (below later)) (drop_level from.tree child k o shows)
 
     walk : IsWalkDone Gives May names (flat_map (below later) (children (occurrence from) child)) (below later (occurrence o) ++ left from child later (k + 1)) old now
     walk = subst (λ l. IsWalkDone Gives May names (flat_map (below later) (children (occurrence from) child)) l old now) next d.walk
@@ -78,9 +77,9 @@ module _ (tables : List TableValue) (part : Part) (os : List OccValue) where
               (subst (λ w. Adds (EachGives tables part w (below later (occurrence o))) now new) d.kept a) lawful;
         }
 
-  pub all_below : (from : OccValue) (child : ℕ) (later : List ℕ) (k : ℕ) (old now : List SegmentValue) (walked : List OccValue) → count_at (tree_of from.each) child ≤ k → IsBelowDone from child later k old now walked → Adds (EachGives tables part os (below (child ∷ later) (occurrence from))) old now
+  pub all_below : (from : OccValue) (child : ℕ) (later : List ℕ) (k : ℕ) (old now : List SegmentValue) (walked : List OccValue) → count_at from.tree child ≤ k → IsBelowDone from child later k old now walked → Adds (EachGives tables part os (below (child ∷ later) (occurrence from))) old now
   all_below from child later k old now walked le d =
-      let none : left from child later k ≡ [] = ap (flat_map (below later)) (drop_all k (level_at (tree_of from.each) child) (omega (arith, le, length_level (tree_of from.each) child))) in
+      let none : left from child later k ≡ [] = ap (flat_map (below later)) (drop_all k (level_at from.tree child) (omega (arith, le, length_level from.tree child))) in
       all_walked Gives May names (flat_map (below later) (children (occurrence from) child)) old now
       (subst (λ l. IsWalkDone Gives May names (flat_map (below later) (children (occurrence from) child)) l old now) none d.walk)
 

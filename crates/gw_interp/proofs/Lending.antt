@@ -4,12 +4,10 @@ use Rattle.std.specs.Prelude.{flat_map}
 use Rattle.std.proofs.lemmas.List.{length-map, length-reverse, get_or-reverse, get_or-map, take_all, take-append-drop}
 use Rattle.std.proofs.lemmas.Option.{slice_get_past, slice_get_cases}
 use Rattle.gw_er7.specs.Message.{SegmentValue}
-use Rattle.gw_validate.specs.declared.occurrences.Occurrences.{Occurrences, Segments, Groups'}
 use Rattle.gw_validate.specs.Trees.{Tree, leaf, segments, groups, Trees, no_trees, trees, count_of}
-use Rattle.gw_validate.specs.Occurring.{tree_of}
 use Rattle.gw_validate.specs.Fitting.{OccValue, IsLent, IsAlone}
 use Rattle.gw_validate.specs.Viewing as viewing
-use Rattle.gw_validate.specs.Viewing.{number, row, tree_at, count_at, occurrence_at, occurrence_of}
+use Rattle.gw_validate.specs.Viewing.{number, row, tree_at, width, count_at, occurrence_at, occurrence_of}
 use Rattle.gw_resolve.specs.Places.{Place}
 use Rattle.gw_interp.specs.Occurrences.{Occurrence, a_segment, nodes, list_of, level_at, children, below, in_scope, at_place}
 use Rattle.gw_interp.specs.own.Lent.{numbered, occurrence, scope, AreOf, IsFirstOf}
@@ -23,7 +21,7 @@ shown (row t) = nodes t
 shown_is : (o : OccValue) → shown (occurrence_of o) ≡ occurrence o
 shown_is o = by o.number
   where
-    by : (n : Option ℕ) → shown (viewing.numbered_or n (tree_of o.each)) ≡ numbered n (tree_of o.each)
+    by : (n : Option ℕ) → shown (viewing.numbered_or n o.tree) ≡ numbered n o.tree
     by None = refl
     by (Some n) = refl
 
@@ -78,26 +76,27 @@ length_level (segments ns t) (suc i) = length_level t i
 length_level (groups ts t) zero = length_trees ts
 length_level (groups ts t) (suc i) = length_level t i
 
-no_level : (each : List Occurrences) (i : ℕ) → length each ≤ i → level_at (tree_of each) i ≡ []
-no_level [] i h = refl
-no_level (o ∷ each) zero h = absurd (omega (arith, h))
-no_level (Segments ns ∷ each) (suc i) h = no_level each i (omega (arith, h))
-no_level (Groups' shape found ∷ each) (suc i) h = no_level each i (omega (arith, h))
+no_level : (t : Tree) (i : ℕ) → width t ≤ i → level_at t i ≡ []
+no_level leaf i h = refl
+no_level (segments ns t) zero h = absurd (omega (arith, h))
+no_level (segments ns t) (suc i) h = no_level t i (omega (arith, h))
+no_level (groups ts t) zero h = absurd (omega (arith, h))
+no_level (groups ts t) (suc i) h = no_level t i (omega (arith, h))
 
 -- the children of an occurrence that has none, and of one that has some
-pub no_children : (o : OccValue) (i : ℕ) → length o.each ≤ i → children (occurrence o) i ≡ []
+pub no_children : (o : OccValue) (i : ℕ) → width o.tree ≤ i → children (occurrence o) i ≡ []
 no_children o i h = by o.number
   where
-    by : (n : Option ℕ) → children (numbered n (tree_of o.each)) i ≡ []
-    by None = no_level o.each i h
+    by : (n : Option ℕ) → children (numbered n o.tree) i ≡ []
+    by None = no_level o.tree i h
     by (Some n) = refl
 
-pub level_children : (o : OccValue) (i : ℕ) → IsLent o → i < length o.each → children (occurrence o) i ≡ level_at (tree_of o.each) i
+pub level_children : (o : OccValue) (i : ℕ) → IsLent o → i < width o.tree → children (occurrence o) i ≡ level_at o.tree i
 level_children o i lent h = by o.number lent.alone
   where
-    by : (n : Option ℕ) → IsAlone n o.each → children (numbered n (tree_of o.each)) i ≡ level_at (tree_of o.each) i
+    by : (n : Option ℕ) → IsAlone n o.tree → children (numbered n o.tree) i ≡ level_at o.tree i
     by None e = refl
-    by (Some n) e = absurd (omega (arith, h, ap length e))
+    by (Some n) e = absurd (omega (arith, h, ap width e))
 
 pub walked_of : (m : List SegmentValue) (os : List OccValue) (i : ℕ) (o : OccValue) → i < length os → o ≡ get_or os i o → AreOf m os → o.message ≡ m
 walked_of m [] i o h is a = absurd (omega (arith, h))
@@ -162,23 +161,23 @@ some_first f xs ys x y more none is =
 module _ (above : OccValue) (i : ℕ) (steps : List ℕ) where
   -- the steps lead nowhere from the first children
   abbrev pub LeadNowhere : ℕ → Type 0
-  LeadNowhere k = flat_map (below steps) (take k (level_at (tree_of above.each) i)) ≡ []
+  LeadNowhere k = flat_map (below steps) (take k (level_at above.tree i)) ≡ []
 
-  next_child : (k : ℕ) (o : OccValue) → occurrence_at (tree_of above.each) i k ≡ Some (occurrence_of o) → take (k + 1) (level_at (tree_of above.each) i) ≡ take k (level_at (tree_of above.each) i) ++ occurrence o ∷ []
+  next_child : (k : ℕ) (o : OccValue) → occurrence_at above.tree i k ≡ Some (occurrence_of o) → take (k + 1) (level_at above.tree i) ≡ take k (level_at above.tree i) ++ occurrence o ∷ []
   next_child k o e =
       let next : k + 1 ≡ suc k = omega arith in
-      ap (λ n. take n (level_at (tree_of above.each) i)) next ∙ take_level (tree_of above.each) i k (occurrence_of o) e ∙ ap (λ p. take k (level_at (tree_of above.each) i) ++ p ∷ []) (shown_is o)
+      ap (λ n. take n (level_at above.tree i)) next ∙ take_level above.tree i k (occurrence_of o) e ∙ ap (λ p. take k (level_at above.tree i) ++ p ∷ []) (shown_is o)
 
-  pub passed : (k : ℕ) (o : OccValue) → occurrence_at (tree_of above.each) i k ≡ Some (occurrence_of o) → LeadNowhere k → below steps (occurrence o) ≡ [] → LeadNowhere (k + 1)
-  passed k o e none empty = ap (flat_map (below steps)) (next_child k o e) ∙ no_first (below steps) (take k (level_at (tree_of above.each) i)) (occurrence o) none empty
+  pub passed : (k : ℕ) (o : OccValue) → occurrence_at above.tree i k ≡ Some (occurrence_of o) → LeadNowhere k → below steps (occurrence o) ≡ [] → LeadNowhere (k + 1)
+  passed k o e none empty = ap (flat_map (below steps)) (next_child k o e) ∙ no_first (below steps) (take k (level_at above.tree i)) (occurrence o) none empty
 
-  pub found_first : (k : ℕ) (o first : OccValue) → IsLent above → i < length above.each → occurrence_at (tree_of above.each) i k ≡ Some (occurrence_of o) → LeadNowhere k → IsFirstOf (below steps (occurrence o)) (Some first) → IsFirstOf (flat_map (below steps) (children (occurrence above) i)) (Some first)
+  pub found_first : (k : ℕ) (o first : OccValue) → IsLent above → i < width above.tree → occurrence_at above.tree i k ≡ Some (occurrence_of o) → LeadNowhere k → IsFirstOf (below steps (occurrence o)) (Some first) → IsFirstOf (flat_map (below steps) (children (occurrence above) i)) (Some first)
   found_first k o first lent h e none is = (
-    is.0 ++ flat_map (below steps) (drop (k + 1) (level_at (tree_of above.each) i)),
-    ap (flat_map (below steps)) (level_children above i lent h ∙ sym (take-append-drop (k + 1) (level_at (tree_of above.each) i)) ∙ ap (λ l. l ++ drop (k + 1) (level_at (tree_of above.each) i)) (next_child k o e))
-        ∙ some_first (below steps) (take k (level_at (tree_of above.each) i)) (drop (k + 1) (level_at (tree_of above.each) i)) (occurrence o) (occurrence first) is.0 none is.1,
+    is.0 ++ flat_map (below steps) (drop (k + 1) (level_at above.tree i)),
+    ap (flat_map (below steps)) (level_children above i lent h ∙ sym (take-append-drop (k + 1) (level_at above.tree i)) ∙ ap (λ l. l ++ drop (k + 1) (level_at above.tree i)) (next_child k o e))
+        ∙ some_first (below steps) (take k (level_at above.tree i)) (drop (k + 1) (level_at above.tree i)) (occurrence o) (occurrence first) is.0 none is.1,
   )
 
-  pub none_first : (k : ℕ) → IsLent above → i < length above.each → count_at (tree_of above.each) i ≤ k → LeadNowhere k → flat_map (below steps) (children (occurrence above) i) ≡ []
+  pub none_first : (k : ℕ) → IsLent above → i < width above.tree → count_at above.tree i ≤ k → LeadNowhere k → flat_map (below steps) (children (occurrence above) i) ≡ []
   none_first k lent h le none =
-      ap (flat_map (below steps)) (level_children above i lent h ∙ sym (take_all k (level_at (tree_of above.each) i) (omega (arith, le, length_level (tree_of above.each) i)))) ∙ none
+      ap (flat_map (below steps)) (level_children above i lent h ∙ sym (take_all k (level_at above.tree i) (omega (arith, le, length_level above.tree i)))) ∙ none

@@ -7,7 +7,6 @@ use Rattle.std.specs.Cmp.Lexicographic.{slice_cmp}
 use Rattle.gw_er7.specs.Message.{Texts, text_of, SegmentValue}
 use Rattle.gw_er7.specs.Presence.{RepAt, FieldAt, IsLast}
 use Rattle.gw_validate.specs.Fitting.{OccValue, numbered, segment_of}
-use Rattle.gw_validate.specs.Occurring.{tree_of}
 use Rattle.gw_validate.specs.Conforming as conforming
 use Rattle.gw_interp.specs.Occurrences.{Occurrence, texts_of_first}
 use Rattle.gw_interp.specs.Meaning.{InFirst}
@@ -41,7 +40,7 @@ numbered_texts m i = by (slice_get m i)
 first_is : (m : List SegmentValue) (o : OccValue) (more : List Occurrence) → texts_of (numbered m o.number) ≡ texts_of_first m (occurrence o ∷ more)
 first_is m o more = by o.number
   where
-    by : (n : Option ℕ) → texts_of (numbered m n) ≡ texts_of_first m (lent.numbered n (tree_of o.each) ∷ more)
+    by : (n : Option ℕ) → texts_of (numbered m n) ≡ texts_of_first m (lent.numbered n o.tree ∷ more)
     by None = refl
     by (Some i) = numbered_texts m i
 

@@ -3,7 +3,6 @@ ghost use Rattle.std.specs.Prelude.{◌≡◌, IfOk, None};
 ghost use Rattle.gw_er7.specs.Message.{IsMessage};
 ghost use Rattle.gw_profile.specs.Seen.{profile_value};
 ghost use Rattle.gw_validate.specs.Conforming.{Conforms};
-ghost use Rattle.gw_validate.specs.Occurring.{tree_of};
 ghost use Rattle.gw_validate.specs.Broken.{IsTreeOf};
 ghost use Rattle.gw_maplang.specs.Lawful.{Lawful};
 ghost use Rattle.gw_maplang.specs.Seen.{map_value};
@@ -19,8 +18,8 @@ use std::alloc::{AllocError, Global};
 
 // The whole message as an occurrence, and what its tree keeps.
 fn root_of(tree: &Tree) -> Occ<'_>
-    ensures root { result ≡ record { message = tree.now.message; number = None; each = tree.now.each } }
-    ensures tree { IsTreeOf (profile_value tree.now.profile) tree.now.message (tree_of tree.now.each) }
+    ensures root { result ≡ record { message = tree.now.message; number = None; tree = tree.now.tree } }
+    ensures tree { IsTreeOf (profile_value tree.now.profile) tree.now.message tree.now.tree }
     ensures conforms { Conforms (profile_value tree.now.profile) tree.now.message }
     ensures message { IsMessage tree.now.message }
 {
@@ -45,7 +44,7 @@ fn rows_of(map: &CheckedMap) -> &Map
 /// It takes time by the occurrences that the map's items walk, by the rules that are made for each of them and by the texts that these read and put, times the logarithm of the values in a segment; how large the numbers of places are doesn't count. Where an item within another walks occurrences that don't stand within those of the other, each is walked once for each of the others: their numbers multiply, and the result may be larger than the message and the map together. The one error is want of memory.
 pub fn translate(alloc: Global, map: &CheckedMap, tree: &Tree) -> Result<Message, AllocError>
     requires takes { profile_value tree.now.profile ≡ profile_value map.now.source }
-    ensures means { IfOk result (λ made. Means (profile_value map.now.target) (resolved_map map.now) tree.now.message (tree_of tree.now.each) made) }
+    ensures means { IfOk result (λ made. Means (profile_value map.now.target) (resolved_map map.now) tree.now.message tree.now.tree made) }
     ensures conforms { IfOk result (λ made. Conforms (profile_value map.now.target) made) }
 {
     let mut scope = Vec::new(alloc);

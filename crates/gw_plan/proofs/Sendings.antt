@@ -9,7 +9,6 @@ use Rattle.gw_profile.specs.Seen.{profile_value}
 use Rattle.gw_validate.specs.Conforming.{Conforms}
 use Rattle.gw_validate.specs.Broken.{IsTreeOf}
 use Rattle.gw_validate.specs.Fitting.{TreeValue}
-use Rattle.gw_validate.specs.Occurring.{tree_of}
 use Rattle.gw_check.specs.Kept.{CheckedValue, resolved_map}
 use Rattle.gw_interp.specs.Meaning.{Means}
 use Rattle.gw_plan.specs.Held.{RouteHeld, map_between, plan_value, route_value}
@@ -20,7 +19,7 @@ use Rattle.gw_plan.proofs.Routes.{lookup_map}
 
 pub sends : (c : ConformingHeld) (receiver : ℕ) (route : RouteHeld) (map : CheckedValue) (t : TreeValue) (made : List SegmentValue) → t ≡ c.tree → routed (plan_value c.plan) c.tree.message ≡ Ok (route_value route)
     → profile_value c.tree.profile ≡ profile_value route.profile → Some map ≡ lookup (nat_eq receiver) route.legs → profile_value map.source ≡ profile_value route.profile
-    → IsTreeOf (profile_value t.profile) t.message (tree_of t.each) → Means (profile_value map.target) (resolved_map map) t.message (tree_of t.each) made → Conforms (profile_value map.target) made
+    → IsTreeOf (profile_value t.profile) t.message t.tree → Means (profile_value map.target) (resolved_map map) t.message t.tree made → Conforms (profile_value map.target) made
     → Translates c receiver made
 sends c receiver route map t made e routed_so profile leg source is_tree means conforms = record {
   route = route_value route;
@@ -28,8 +27,8 @@ sends c receiver route map t made e routed_so profile leg source is_tree means c
   by = map_between map;
   leg = sym (ap (option_map map_between) leg ∙ lookup_map map_between receiver route.legs);
   source = source;
-  tree = tree_of t.each;
-  is_tree = subst (λ (p : ProfileValue). IsTreeOf p c.tree.message (tree_of t.each)) (ap (λ (x : TreeValue). profile_value x.profile) e ∙ profile) (subst (λ (m : List SegmentValue). IsTreeOf (profile_value t.profile) m (tree_of t.each)) (ap (λ (x : TreeValue). x.message) e) is_tree);
-  means = subst (λ (m : List SegmentValue). Means (profile_value map.target) (resolved_map map) m (tree_of t.each) made) (ap (λ (x : TreeValue). x.message) e) means;
+  tree = t.tree;
+  is_tree = subst (λ (p : ProfileValue). IsTreeOf p c.tree.message t.tree) (ap (λ (x : TreeValue). profile_value x.profile) e ∙ profile) (subst (λ (m : List SegmentValue). IsTreeOf (profile_value t.profile) m t.tree) (ap (λ (x : TreeValue). x.message) e) is_tree);
+  means = subst (λ (m : List SegmentValue). Means (profile_value map.target) (resolved_map map) m t.tree made) (ap (λ (x : TreeValue). x.message) e) means;
   conforms = conforms;
 }

@@ -35,14 +35,14 @@ impl Model for Translated {
     ghost use Rattle.std.specs.Arc.{arc_value};
     ghost use Rattle.gw_er7.specs.Message.{segment_code};
     ghost use Rattle.gw_profile.specs.contracts.node.Node as node;
-    ghost use Rattle.gw_validate.specs.contracts.occurrences.Occurrences as occurrences;
+    ghost use Rattle.gw_validate.specs.Stored.{tree_code};
     ghost use Rattle.gw_maplang.specs.contracts.item.Item as raw_item;
     ghost use Rattle.gw_resolve.specs.contracts.resolved.Item as item;
     ghost use Rattle.gw_plan.specs.Translating.{TranslatedHeld, Translates};
 
     ghost Value = { TranslatedHeld };
 
-    ghost coded = { Prim.hlevel (codes, segment_code, node.the_row.coded, occurrences.the_row.coded, raw_item.the_row.coded, item.the_row.coded) };
+    ghost coded = { Prim.hlevel (codes, segment_code, node.the_row.coded, tree_code, raw_item.the_row.coded, item.the_row.coded) };
 
     ghost view = { λ t. record { source = arc_value t.source; receiver = t.receiver; message = t.message } };
 

@@ -21,7 +21,7 @@ use Rattle.gw_resolve.proofs.resolved.SegmentItem.TheSendSync as item
 use Rattle.gw_resolve.specs.contracts.resolved.Item as Item
 use Rattle.gw_check.specs.contracts.checked.CheckedMap as CheckedMap
 use Rattle.gw_validate.proofs.occurrences.Occurrences.TheLaws.TheKnot as occurrences
-use Rattle.gw_validate.specs.contracts.occurrences.Occurrences as Occurrences
+use Rattle.gw_validate.specs.contracts.occurrences.Found as Found
 use Rattle.gw_validate.specs.contracts.tree.Tree as Tree
 use Rattle.gw_plan.proofs.index.Index.TheSendSync as index
 use Rattle.gw_plan.proofs.plan.Receiver.TheSendSync as receiver
@@ -86,17 +86,17 @@ CheckedMap-sync = search (Profile-send, Profile-sync, Map-sync, Item-sync, cross
 
 -- ---- messages and plans
 
-Occurrences-send : IsSend (Occurrences.the_field).row
-Occurrences-send = occurrences.send-Occurrences (search (crosses, sendable) depth 20) (λ h s. Vec-send h s)
+Found-send : IsSend (Found.the_field).row
+Found-send = occurrences.send-Found (search (crosses, sendable) depth 20) (λ h s. Vec-send h s) (search (crosses, sendable) depth 20)
 
-Occurrences-sync : IsSync (Occurrences.the_field).row
-Occurrences-sync = occurrences.sync-Occurrences (search (crosses, sendable) depth 20) (λ h s. Vec-sync h s)
+Found-sync : IsSync (Found.the_field).row
+Found-sync = occurrences.sync-Found (search (crosses, sendable) depth 20) (λ h s. Vec-sync h s) (search (crosses, sendable) depth 20)
 
 Tree-send : IsSend (Tree.the_field).row
-Tree-send = search (Profile-send, Profile-sync, message.the_send, Occurrences-send, crosses, sendable) depth 60 fits 50000
+Tree-send = search (Profile-send, Profile-sync, message.the_send, Found-send, crosses, sendable) depth 60 fits 50000
 
 Tree-sync : IsSync (Tree.the_field).row
-Tree-sync = search (Profile-send, Profile-sync, message.the_sync, Occurrences-sync, crosses, sendable) depth 60 fits 50000
+Tree-sync = search (Profile-send, Profile-sync, message.the_sync, Found-sync, crosses, sendable) depth 60 fits 50000
 
 Route-send : IsSend (Route.the_field).row
 Route-send = search (Profile-send, Profile-sync, CheckedMap-send, CheckedMap-sync, maps.crosses, crosses, sendable) depth 60 fits 50000

@@ -1,12 +1,11 @@
 -- The tree of a list that fits is cut from its front, by one name of look-ahead.
-use Rattle.std.proofs.Common.{◌≡◌, ℕ, suc, ◌+◌, ◌-◌, ◌<◌, ◌≤◌, inl, inr, true, false, List, [], ◌∷◌, ◌++◌, Option, refl, sym, ap, ◌∙◌, subst, arith, length, append_assoc, append-nil, length-append, map, ◌↔◌, take, drop, get_or, drop-cons, Global}
+use Rattle.std.proofs.Common.{◌≡◌, ℕ, suc, ◌+◌, ◌-◌, ◌<◌, ◌≤◌, inl, inr, true, false, List, [], ◌∷◌, ◌++◌, Option, refl, sym, ap, ◌∙◌, subst, arith, length, append_assoc, append-nil, length-append, map, ◌↔◌, take, drop, get_or, get_or-drop, length-drop, length-take-le, drop-cons}
 use Rattle.std.specs.Prelude.{◌&&◌}
 use Rattle.std.specs.List.{AllByRecursion}
 use Rattle.std.specs.Str.{bytes_eq}
 use Rattle.gw_profile.specs.declared.node.Node.{Node, Seg, Group, Group'}
 use Rattle.gw_profile.specs.declared.node.SegNode as declared_segment
 use Rattle.gw_profile.specs.declared.node.GroupNode as declared_group
-use Rattle.std.specs.declared.vec.Vec.{Vec}
 use Rattle.gw_profile.specs.Seen.{row_forest, node_forest, forest, segment_value}
 use Rattle.gw_profile.specs.Shapes.{SegmentValue, GroupValue}
 use Rattle.gw_profile.specs.Shapes.{Forest, nothing, segment, group}
@@ -14,10 +13,10 @@ use Rattle.gw_validate.specs.Cuts.{Cut, Times, Fits}
 use Rattle.gw_validate.specs.own.Residual.{less, append, has_room, seg, grp}
 use Rattle.gw_validate.specs.own.Tests.{can_begin}
 use Rattle.gw_validate.specs.Trees.{Tree, leaf, segments, groups, Trees, no_trees, trees, count_of, IsTree, AreTrees}
-use Rattle.gw_validate.specs.declared.occurrences.Occurrences.{Occurrences, Segments, Groups}
+use Rattle.gw_validate.specs.declared.occurrences.Occurrences.{Occurrences}
 use Rattle.gw_validate.specs.declared.occurrences.Found.{Found}
-use Rattle.gw_validate.specs.Occurring.{occurrences_tree, tree_of, trees_of}
-use Rattle.gw_validate.proofs.Rows.{tree_of-push, trees_of-push, groups_tree}
+use Rattle.gw_validate.specs.own.Occurring.{kept, numbers_of, found_of, tree_from, tree_of, trees_of, AreOrdered, IsOrdered, IsUpTo, Rising}
+use Rattle.gw_validate.proofs.Rows.{one_tree, one_same, nodes_same, nodes_push, one_ordered, same_ordered, push_ordered}
 use Rattle.gw_validate.proofs.Walking.{forest_group, value_of}
 use Rattle.gw_validate.proofs.Joined.{append_nothing}
 use Rattle.gw_validate.proofs.Unique.{tree_fits}
@@ -245,17 +244,50 @@ node_more named n all f later list t u rest behind go built = λ g wf fits.
       there = b.there;
     }
 
-pub nodes_more : (named : ℕ → Name) (all : List Node) (i : ℕ) (node : Node) (list : List ℕ) (os os' : List Occurrences) (o : Occurrences) (rest behind : List ℕ) → i < length all → node ≡ get_or all i node → os' ≡ os ++ o ∷ [] → GoNodes named (forest all) (forest (take i all)) (forest (drop i all)) list (tree_of os) rest → Builds named (node_forest node nothing) rest (occurrences_tree o leaf) behind → GoNodes named (forest all) (forest (take (i + 1) all)) (forest (drop (i + 1) all)) list (tree_of os') behind
-nodes_more named all i node list os os' o rest behind lt at pushed go built =
+cons_at : {X : Type 0} (xs : List X) (i : ℕ) (x : X) → i < length xs → x ≡ get_or xs i x → drop i xs ≡ x ∷ drop (i + 1) xs
+cons_at xs i x lt at =
     let one : suc i ≡ i + 1 = omega arith in
-    let cons : drop i all ≡ node ∷ drop (i + 1) all = drop-cons all i node lt ∙ ap (λ n. n ∷ drop (suc i) all) (sym at) ∙ ap (λ j. node ∷ drop j all) one in
-    let front : forest (take (i + 1) all) ≡ append (forest (take i all)) (node_forest node nothing) =
-    ap forest (take_more all i node lt ∙ ap (λ n. take i all ++ n ∷ []) (sym at)) ∙ forest-push (take i all) node in
-    let tree : tree_of os' ≡ append_tree (tree_of os) (occurrences_tree o leaf) = ap tree_of pushed ∙ tree_of-push os o in
-    let step = node_more named node (forest all) (forest (take i all)) (forest (drop (i + 1) all)) list (tree_of os) (occurrences_tree o leaf) rest behind
-    (subst (λ l. GoNodes named (forest all) (forest (take i all)) (forest l) list (tree_of os) rest) cons go) built in
-    subst (λ f. GoNodes named (forest all) f (forest (drop (i + 1) all)) list (tree_of os') behind) (sym front)
-    (subst (λ t. GoNodes named (forest all) (append (forest (take i all)) (node_forest node nothing)) (forest (drop (i + 1) all)) list t behind) (sym tree) step)
+    drop-cons xs i x lt ∙ ap (λ y. y ∷ drop (suc i) xs) (sym at) ∙ ap (λ j. x ∷ drop j xs) one
+
+-- the nodes of a row so far
+pub record Going (named : ℕ → Name) (listed : List ℕ) (all : List Node) (i : ℕ) (list : List ℕ) (x : Found) (rest : List ℕ) : Type 0 where
+  pub up_to : IsUpTo i x
+  pub ordered : AreOrdered (kept x) 0 (forest (take i all))
+  pub built : GoNodes named (forest all) (forest (take i all)) (forest (drop i all)) list (tree_from listed (kept x) 0 (forest (take i all))) rest
+
+module _ (named : ℕ → Name) (listed : List ℕ) (all : List Node) (list : List ℕ) where
+  pub nodes_more : (i : ℕ) (node : Node) (x y : Found) (one : Option Occurrences) (rest behind : List ℕ) → i < length all → node ≡ get_or all i node
+      → IsUpTo (i + 1) y → kept y i ≡ one → ((k : ℕ) → k < i → kept y k ≡ kept x k)
+      → Going named listed all i list x rest → Builds named (node_forest node nothing) rest (one_tree listed (λ _. one) 0 node) behind → AreOrdered (λ _. one) 0 (node_forest node nothing)
+      → Going named listed all (i + 1) list y behind
+  nodes_more i node x y one rest behind lt at up here before go built ordered = record {
+    up_to = up;
+    ordered = subst (λ l. AreOrdered (kept y) 0 (forest l)) (sym more) (push_ordered (kept y) 0 i (take i all) node long
+        (same_ordered (kept x) (kept y) 0 (take i all) same go.ordered) (one_ordered (λ _. one) (kept y) 0 i node (sym here) ordered));
+    built = subst (λ f. GoNodes named (forest all) f (forest (drop (i + 1) all)) list (tree_from listed (kept y) 0 f) behind) (sym (ap forest more))
+        (subst (λ f. GoNodes named (forest all) f (forest (drop (i + 1) all)) list (tree_from listed (kept y) 0 (forest (take i all ++ node ∷ []))) behind) (sym (forest-push (take i all) node))
+        (subst (λ t. GoNodes named (forest all) (append (forest (take i all)) (node_forest node nothing)) (forest (drop (i + 1) all)) list t behind) (sym tree) step));
+  }
+    where
+      more : take (i + 1) all ≡ take i all ++ node ∷ []
+      more = take_more all i node lt ∙ ap (λ n. take i all ++ n ∷ []) (sym at)
+
+      long : i ≡ 0 + length (take i all)
+      long = omega (arith, length-take-le i all (omega (arith, lt)))
+
+      same : (k : ℕ) → 0 ≤ k → k < 0 + length (take i all) → kept x k ≡ kept y k
+      same k le below = sym (before k (omega (arith, below, long)))
+
+      tree : tree_from listed (kept y) 0 (forest (take i all ++ node ∷ [])) ≡ append_tree (tree_from listed (kept x) 0 (forest (take i all))) (one_tree listed (λ _. one) 0 node)
+      tree =
+          nodes_push listed (kept y) 0 i (take i all) node long
+          ∙ ap (λ t. append_tree t (one_tree listed (kept y) i node)) (sym (nodes_same listed (kept x) (kept y) 0 (take i all) same))
+          ∙ ap (append_tree (tree_from listed (kept x) 0 (forest (take i all)))) (one_same listed (kept y) (λ _. one) i 0 node here)
+
+      step : GoNodes named (forest all) (append (forest (take i all)) (node_forest node nothing)) (forest (drop (i + 1) all)) list (append_tree (tree_from listed (kept x) 0 (forest (take i all))) (one_tree listed (λ _. one) 0 node)) behind
+      step =
+          node_more named node (forest all) (forest (take i all)) (forest (drop (i + 1) all)) list (tree_from listed (kept x) 0 (forest (take i all))) (one_tree listed (λ _. one) 0 node) rest behind
+          (subst (λ l. GoNodes named (forest all) (forest (take i all)) (forest l) list (tree_from listed (kept x) 0 (forest (take i all))) rest) (cons_at all i node lt at) go.built) built
 
 pub nodes_end : (named : ℕ → Name) (all : List Node) (i : ℕ) (list : List ℕ) (t : Tree) (rest : List ℕ) → length all ≤ i → GoNodes named (forest all) (forest (take i all)) (forest (drop i all)) list t rest → Builds named (forest all) list t rest
 nodes_end named all i list t rest le go = λ g wf fits.
@@ -271,6 +303,26 @@ nodes_end named all i list t rest le go = λ g wf fits.
 
 pub nodes_init : (named : ℕ → Name) (all : List Node) (list : List ℕ) → GoNodes named (forest all) nothing (forest all) list leaf list
 nodes_init named all list = λ g wf fits. record { front = []; joined = refl; here = refl; kept = wf; there = fits }
+
+module _ (named : ℕ → Name) (listed : List ℕ) (all : List Node) (list : List ℕ) where
+  pub nodes_over : (i : ℕ) (x : Found) (rest : List ℕ) → length all ≤ i → Going named listed all i list x rest → Builds named (forest all) list (tree_of listed (forest all) x) rest × IsOrdered (forest all) x
+  nodes_over i x rest le go =
+      let whole : take i all ≡ all = grind (arith, common_steps) in (
+        nodes_end named all i list (tree_of listed (forest all) x) rest le
+            (subst (λ l. GoNodes named (forest all) (forest (take i all)) (forest (drop i all)) list (tree_from listed (kept x) 0 (forest l)) rest) whole go.built),
+        (go.up_to.rising, subst (λ l. AreOrdered (kept x) 0 (forest l)) whole go.ordered),
+      )
+
+  pub nodes_begin : (x : Found) → x.nodes.items ≡ [] → x.each.items ≡ [] → Going named listed all 0 list x list
+  nodes_begin x bare empty = record {
+    up_to = record {
+      same = ap length empty ∙ sym (ap length bare);
+      rising = subst Rising (sym bare) tt;
+      below = subst (AllByRecursion (λ k. k < 0)) (sym bare) tt;
+    };
+    ordered = tt;
+    built = nodes_init named all list;
+  }
 
 zero_plus : (n : ℕ) → n ≡ 0 + n
 zero_plus n = omega arith
@@ -295,66 +347,83 @@ groups_stuck named gv low high ch g list ts dl dh rest s i w e more u behind bui
 
 -- ---- the program's steps
 
-uncons : (l : List ℕ) → 1 ≤ length l → l ≡ get_or l 0 0 ∷ drop 1 l
-uncons [] h = absurd (omega arith)
-uncons (x ∷ l) h = refl
+module _ (listed : List ℕ) (here : ℕ) where
+  pub none_left : length listed ≤ here → drop here listed ≡ []
+  none_left le = grind (arith, common_steps)
 
-empty_below : (l : List ℕ) → length l < 1 → l ≡ []
-empty_below [] h = refl
-empty_below (x ∷ l) h = absurd (omega arith)
+  -- what was passed from one place up to another, and one more
+  pub one_passed : (at n : ℕ) → at ≤ here → here < length listed → n ≡ get_or listed here n → take (here + 1 - at) (drop at listed) ≡ take (here - at) (drop at listed) ++ n ∷ []
+  one_passed at n le lt is =
+      let next : here + 1 - at ≡ (here - at) + 1 = omega (arith, le) in
+      let there : at + (here - at) ≡ here = omega (arith, le) in
+      ap (λ k. take k (drop at listed)) next
+      ∙ take_more (drop at listed) (here - at) n (omega (arith, length-drop at listed, lt, le))
+      ∙ ap (λ m. take (here - at) (drop at listed) ++ m ∷ []) (get_or-drop at listed (here - at) n ∙ ap (λ k. get_or listed k n) there ∙ sym is)
 
-whole_tail : (l : List ℕ) → take (length l - 1) (drop 1 l) ≡ drop 1 l
-whole_tail l = grind (arith, common_steps)
+module _ (named : ℕ → Name) (sv : SegmentValue) (list ns : List ℕ) (dl : ℕ) (dh : Option ℕ) (listed : List ℕ) (here : ℕ) (go : GoSegments named sv list ns dl dh (drop here listed)) where
+  pub segments_over : length listed ≤ here → BuildsSegments named sv list ns (drop here listed)
+  segments_over le = λ g wf fits. segments_end named sv sv.card.min sv.card.max g list ns dl dh (drop here listed) (go g wf fits) (none_left listed here le)
 
-pub segments_over : (named : ℕ → Name) (sv : SegmentValue) (list ns : List ℕ) (dl : ℕ) (dh : Option ℕ) (rest : List ℕ) → length rest < 1 → GoSegments named sv list ns dl dh rest → BuildsSegments named sv list ns rest
-segments_over named sv list ns dl dh rest le go = λ g wf fits.
-    segments_end named sv sv.card.min sv.card.max g list ns dl dh rest (go g wf fits) (empty_below rest le)
+  module _ (n : ℕ) (lt : here < length listed) (is : n ≡ get_or listed here n) where
+    pub segments_stopped : false ≡ (has_room dh && bytes_eq sv.name (named n)) → BuildsSegments named sv list ns (drop here listed)
+    segments_stopped no_more = λ g wf fits.
+        segments_stop named sv sv.card.min sv.card.max g list ns dl dh (drop here listed) (go g wf fits) n (drop (here + 1) listed) (cons_at listed here n lt is) (sym no_more)
 
-pub segments_stopped : (named : ℕ → Name) (sv : SegmentValue) (list ns : List ℕ) (dl : ℕ) (dh : Option ℕ) (rest : List ℕ) → 1 ≤ length rest → false ≡ (has_room dh && bytes_eq sv.name (named (get_or rest 0 0))) → GoSegments named sv list ns dl dh rest → BuildsSegments named sv list ns rest
-segments_stopped named sv list ns dl dh rest le no_more go = λ g wf fits.
-    segments_stop named sv sv.card.min sv.card.max g list ns dl dh rest (go g wf fits) _ _ (uncons rest le) (sym no_more)
+    pub segments_next : (ns' : List ℕ) (dl' : ℕ) (dh' : Option ℕ) → true ≡ (has_room dh && bytes_eq sv.name (named n)) → ns' ≡ ns ++ n ∷ [] → dl' ≡ dl - 1 → dh' ≡ less dh → GoSegments named sv list ns' dl' dh' (drop (here + 1) listed)
+    segments_next ns' dl' dh' more grown lower fewer = λ g wf fits.
+        let s = segments_more named sv sv.card.min sv.card.max g list ns dl dh (drop here listed) (go g wf fits) n (drop (here + 1) listed) (cons_at listed here n lt is) (sym more) in
+        rw (grown, lower, fewer) s
 
-pub segments_next : (named : ℕ → Name) (sv : SegmentValue) (list ns ns' : List ℕ) (dl dl' : ℕ) (dh dh' : Option ℕ) (rest : List ℕ) → 1 ≤ length rest → true ≡ (has_room dh && bytes_eq sv.name (named (get_or rest 0 0))) → ns' ≡ ns ++ get_or rest 0 0 ∷ [] → dl' ≡ dl - 1 → dh' ≡ less dh → GoSegments named sv list ns dl dh rest → GoSegments named sv list ns' dl' dh' (take (length rest - 1) (drop 1 rest))
-segments_next named sv list ns ns' dl dl' dh dh' rest le more pushed lower fewer go = λ g wf fits.
-    let s = segments_more named sv sv.card.min sv.card.max g list ns dl dh rest (go g wf fits) _ _ (uncons rest le) (sym more) in
-    rw (pushed, lower, fewer, whole_tail rest) s
+module _ (named : ℕ → Name) (low : ℕ) (high : Option ℕ) (ch : Forest) (list : List ℕ) (ts : Trees) (dl : ℕ) (dh : Option ℕ) (listed : List ℕ) (here : ℕ) (go : GoGroups named low high ch list ts dl dh (drop here listed)) where
+  pub groups_over : length listed ≤ here → BuildsGroups named low high ch list ts (drop here listed)
+  groups_over le = λ g gv wf fits. groups_end named gv low high ch g list ts dl dh (drop here listed) (go g gv wf fits) (none_left listed here le)
 
-pub groups_over : (named : ℕ → Name) (low : ℕ) (high : Option ℕ) (ch : Forest) (list : List ℕ) (ts : Trees) (dl : ℕ) (dh : Option ℕ) (rest : List ℕ) → length rest < 1 → GoGroups named low high ch list ts dl dh rest → BuildsGroups named low high ch list ts rest
-groups_over named low high ch list ts dl dh rest le go = λ g gv wf fits.
-    groups_end named gv low high ch g list ts dl dh rest (go g gv wf fits) (empty_below rest le)
+  module _ (n : ℕ) (lt : here < length listed) (is : n ≡ get_or listed here n) where
+    pub groups_stopped : false ≡ (has_room dh && can_begin ch (named n)) → BuildsGroups named low high ch list ts (drop here listed)
+    groups_stopped no_more = λ g gv wf fits.
+        groups_stop named gv low high ch g list ts dl dh (drop here listed) (go g gv wf fits) n (drop (here + 1) listed) (cons_at listed here n lt is) (sym no_more)
 
-pub groups_stopped : (named : ℕ → Name) (low : ℕ) (high : Option ℕ) (ch : Forest) (list : List ℕ) (ts : Trees) (dl : ℕ) (dh : Option ℕ) (rest : List ℕ) → 1 ≤ length rest → false ≡ (has_room dh && can_begin ch (named (get_or rest 0 0))) → GoGroups named low high ch list ts dl dh rest → BuildsGroups named low high ch list ts rest
-groups_stopped named low high ch list ts dl dh rest le no_more go = λ g gv wf fits.
-    groups_stop named gv low high ch g list ts dl dh rest (go g gv wf fits) _ _ (uncons rest le) (sym no_more)
+    module _ (u : Tree) (behind : ℕ) (more : true ≡ (has_room dh && can_begin ch (named n))) (built : Builds named ch (drop here listed) u (drop behind listed)) where
+      pub groups_never : behind ≤ here → BuildsGroups named low high ch list ts (drop here listed)
+      groups_never le = λ g gv wf fits.
+          absurd (groups_stuck named gv low high ch g list ts dl dh (drop here listed) (go g gv wf fits) n (drop (here + 1) listed) (cons_at listed here n lt is) (sym more) u (drop behind listed) built
+          (omega (arith, length-drop here listed, length-drop behind listed, le)))
 
-pub groups_never : (named : ℕ → Name) (low : ℕ) (high : Option ℕ) (ch : Forest) (list : List ℕ) (ts : Trees) (dl : ℕ) (dh : Option ℕ) (rest : List ℕ) (u : Tree) (behind : List ℕ) → 1 ≤ length rest → true ≡ (has_room dh && can_begin ch (named (get_or rest 0 0))) → Builds named ch rest u behind → length rest ≤ length behind → GoGroups named low high ch list ts dl dh rest → BuildsGroups named low high ch list ts rest
-groups_never named low high ch list ts dl dh rest u behind le more built long go = λ g gv wf fits.
-    absurd (groups_stuck named gv low high ch g list ts dl dh rest (go g gv wf fits) _ _ (uncons rest le) (sym more) u behind built long)
+      pub groups_next : (ts' : Trees) (dl' : ℕ) (dh' : Option ℕ) → ts' ≡ append_trees ts (trees u no_trees) → dl' ≡ dl - 1 → dh' ≡ less dh → GoGroups named low high ch list ts' dl' dh' (drop behind listed)
+      groups_next ts' dl' dh' pushed lower fewer = λ g gv wf fits.
+          let s = groups_more named gv low high ch g list ts dl dh (drop here listed) (go g gv wf fits) n (drop (here + 1) listed) (cons_at listed here n lt is) (sym more) u (drop behind listed) built in
+          rw (pushed, lower, fewer) s
 
-pub groups_next : (named : ℕ → Name) (low : ℕ) (high : Option ℕ) (ch : Forest) (list : List ℕ) (fs fs' : List Found) (f : Found) (dl dl' : ℕ) (dh dh' : Option ℕ) (rest behind : List ℕ) → 1 ≤ length rest → true ≡ (has_room dh && can_begin ch (named (get_or rest 0 0))) → fs' ≡ fs ++ f ∷ [] → dl' ≡ dl - 1 → dh' ≡ less dh → Builds named ch rest (tree_of f.each.items) behind → GoGroups named low high ch list (trees_of fs) dl dh rest → GoGroups named low high ch list (trees_of fs') dl' dh' behind
-groups_next named low high ch list fs fs' f dl dl' dh dh' rest behind le more pushed lower fewer built go = λ g gv wf fits.
-    let s = groups_more named gv low high ch g list (trees_of fs) dl dh rest (go g gv wf fits) _ _ (uncons rest le) (sym more) (tree_of f.each.items) behind built in
-    let t : trees_of fs' ≡ append_trees (trees_of fs) (trees (tree_of f.each.items) no_trees) = ap trees_of pushed ∙ trees_of-push fs f in
-    rw (t, lower, fewer) s
+-- ---- a node
 
-pub segment_built_node : (named : ℕ → Name) (node : Node) (s : declared_segment.SegNode) (list : List ℕ) (ns : Vec ℕ Global) (rest : List ℕ) → node ≡ Seg s → BuildsSegments named (segment_value s) list ns.items rest → Builds named (node_forest node nothing) list (occurrences_tree (Segments ns) leaf) rest
-segment_built_node named node s list ns rest is h =
-    subst (λ n. Builds named (node_forest n nothing) list (segments ns.items leaf) rest) (sym is)
-    (segment_nodes named (segment_value s) list ns.items rest h)
+module _ (named : ℕ → Name) (listed list rest : List ℕ) (one : Option Occurrences) (node : Node) where
+  pub node_of_segment : (s : declared_segment.SegNode) (ns : List ℕ) → node ≡ Seg s → numbers_of listed one ≡ ns → BuildsSegments named (segment_value s) list ns rest → Builds named (node_forest node nothing) list (one_tree listed (λ _. one) 0 node) rest
+  node_of_segment s ns is numbers h =
+      subst (λ n. Builds named (node_forest n nothing) list (one_tree listed (λ _. one) 0 n) rest) (sym is)
+      (subst (λ xs. Builds named (segment (segment_value s) nothing) list (segments xs leaf) rest) (sym numbers) (segment_nodes named (segment_value s) list ns rest h))
 
-pub group_built_node : (named : ℕ → Name) (node : Node) (s : declared_group.GroupNode) (children : List Node) (list : List ℕ) (fs : Vec Found Global) (rest : List ℕ) → node ≡ Group s → children ≡ s.nodes.items → BuildsGroups named s.card.min s.card.max (forest children) list (trees_of fs.items) rest → Builds named (node_forest node nothing) list (occurrences_tree (Groups fs) leaf) rest
-group_built_node named node s children list fs rest is items h =
-    subst (λ f. Builds named f list (occurrences_tree (Groups fs) leaf) rest) (sym (ap (λ n. node_forest n nothing) is ∙ forest_group s nothing))
-    (subst (λ t. Builds named (group (value_of s) (forest s.nodes.items) nothing) list t rest) (sym (groups_tree fs leaf))
-    (subst (λ l. Builds named (group (value_of s) (forest l) nothing) list (groups (trees_of fs.items) leaf) rest) items
-    (group_nodes named (value_of s) s.card.min s.card.max (forest children) list (trees_of fs.items) rest h)))
+  pub segment_ordered : (s : declared_segment.SegNode) → node ≡ Seg s → AreOrdered (λ _. one) 0 (node_forest node nothing)
+  segment_ordered s is = subst (λ n. AreOrdered (λ _. one) 0 (node_forest n nothing)) (sym is) tt
+
+  module _ (s : declared_group.GroupNode) (children : List Node) (xs : List Found) (is : node ≡ Group s) (items : children ≡ s.nodes.items) (found : found_of one ≡ xs) where
+    as_group : node_forest node nothing ≡ group (value_of s) (forest children) nothing
+    as_group = ap (λ n. node_forest n nothing) is ∙ forest_group s nothing ∙ ap (λ l. group (value_of s) (forest l) nothing) (sym items)
+
+    pub node_of_group : BuildsGroups named s.card.min s.card.max (forest children) list (trees_of listed (forest children) xs) rest → Builds named (node_forest node nothing) list (one_tree listed (λ _. one) 0 node) rest
+    node_of_group h =
+        subst (λ f. Builds named f list (tree_from listed (λ _. one) 0 f) rest) (sym as_group)
+        (subst (λ ys. Builds named (group (value_of s) (forest children) nothing) list (groups (trees_of listed (forest children) ys) leaf) rest) (sym found)
+        (group_nodes named (value_of s) s.card.min s.card.max (forest children) list (trees_of listed (forest children) xs) rest h))
+
+    pub group_ordered : AllByRecursion (IsOrdered (forest children)) xs → AreOrdered (λ _. one) 0 (node_forest node nothing)
+    group_ordered a = subst (AreOrdered (λ _. one) 0) (sym as_group) (subst (AllByRecursion (IsOrdered (forest children))) (sym found) a, tt)
 
 -- where the whole list fits, the tree is the cut of all of it
 pub whole_built : (named : ℕ → Name) (f : Forest) (list : List ℕ) (t : Tree) (rest : List ℕ) → Determined f NoName → Fits f (map named list) → Builds named f list t rest → IsTree named t f list
 whole_built named f list t rest wf fits h =
     let b = h nothing (subst (λ g. Determined g NoName) (sym (append_nothing f)) wf) (subst (λ g. Fits g (map named list)) (sym (append_nothing f)) fits) in
-    subst (IsTree named t f) (sym (b.joined ∙ ap (λ l. b.front ++ l) (none_left rest b.there) ∙ append-nil b.front)) b.here
+    subst (IsTree named t f) (sym (b.joined ∙ ap (λ l. b.front ++ l) (no_more rest b.there) ∙ append-nil b.front)) b.here
   where
-    none_left : (l : List ℕ) → map named l ≡ [] → l ≡ []
-    none_left [] e = refl
-    none_left (x ∷ l) e = absurd (cc)
+    no_more : (l : List ℕ) → map named l ≡ [] → l ≡ []
+    no_more [] e = refl
+    no_more (x ∷ l) e = absurd (cc)

@@ -9,7 +9,10 @@ use Rattle.gw_validate.specs.declared.walk.Answer.TheVariants as answer
 use Rattle.gw_validate.specs.own.Answers.{Answers}
 use Rattle.gw_validate.specs.Cuts.{Fits, Begins, IsShortest}
 use Rattle.gw_validate.specs.Conforming.{names, NamesFit, numbers, segment_at, named, Conforms}
+use Rattle.gw_validate.specs.declared.occurrences.Found.{Found}
 use Rattle.gw_validate.specs.Trees.{Tree, IsTree, flatten, assigned}
+use Rattle.gw_validate.specs.own.Judging.{HasKept}
+use Rattle.gw_validate.specs.own.Occurring.{tree_of, IsOrdered}
 use Rattle.gw_validate.specs.own.Least.{Searched, BreachAt}
 use Rattle.gw_validate.specs.Broken.{IsTreeOf, Assigns, Breaks, sequence, spot_of, IsLeast}
 use Rattle.gw_validate.proofs.Listed.{Place, place, numbers_below}
@@ -18,6 +21,9 @@ use Rattle.gw_validate.proofs.Judged.{names_are, names_take, NoneBefore, order_b
 
 pub taken_fit : (f : Forest) (m : List SegmentValue) (taken : List ℕ) → taken ≡ numbers f m → NamesFit f m → Fits f (map (named m) taken)
 taken_fit f m taken e h = subst (Fits f) (sym (ap (map (named m)) e ∙ names_are f m)) h
+
+pub taken_within : (f : Forest) (m : List SegmentValue) (taken : List ℕ) → taken ≡ numbers f m → AllByRecursion (λ i. i < length m) taken
+taken_within f m taken is = subst (AllByRecursion (λ i. i < length m)) (sym is) (numbers_below f 0 (length m) m (omega arith))
 
 pub names_fit : (f : Forest) (m : List SegmentValue) (ns : List Name) → ns ≡ map (named m) (numbers f m) → Fits f ns → NamesFit f m
 names_fit f m ns e h = subst (Fits f) (e ∙ names_are f m) h
@@ -91,11 +97,8 @@ module _ (p : ProfileValue) (m : List SegmentValue) (wf : Determined p.nodes NoN
     pub tree_is : IsTreeOf p m t
     tree_is = subst (IsTree (named m) t p.nodes) is tree
 
-    pub all_within : AllByRecursion (λ i. i < length m) (flatten t)
+    all_within : AllByRecursion (λ i. i < length m) (flatten t)
     all_within = subst (AllByRecursion (λ i. i < length m)) (sym (tree_flat (named m) t p.nodes (numbers p.nodes m) tree_is)) (numbers_below p.nodes 0 (length m) m (omega arith))
-
-    pub fits_judged : Searched (BreachAt p m) (assigned t p.nodes) None → Conforms p m × IsTreeOf p m t
-    fits_judged s = (tree_message p m wf t tree_is (meets_all p m wf t tree_is s), tree_is)
 
     pub segment_judged : (n : ℕ) (q : List ℕ) (b : Breach) → Searched (BreachAt p m) (assigned t p.nodes) (Some (n, q)) → b.segment ≡ named m n → b.sequence ≡ sequence m n (named m n) → spot_of b ≡ q → IsLeast p m b
     segment_judged n q b s es eq ek =
@@ -110,3 +113,14 @@ module _ (p : ProfileValue) (m : List SegmentValue) (wf : Determined p.nodes NoN
             in_search [] n q a s = absurd s
             in_search (x ∷ ps) n q a (inl s) = subst (λ k. k < length m) (sym s.0) a.0
             in_search (x ∷ ps) n q a (inr s) = in_search ps n q a.1 s.1
+
+  -- it conforms, and what is kept is its tree
+  pub fits_judged : (found : Found) (taken : List ℕ) (is : taken ≡ numbers p.nodes m) → IsTree (named m) (tree_of taken p.nodes found) p.nodes taken → IsOrdered p.nodes found
+      → Searched (BreachAt p m) (assigned (tree_of taken p.nodes found) p.nodes) None → HasKept p m taken found
+  fits_judged found taken is tree ordered s =
+      let here = tree_is (tree_of taken p.nodes found) taken is tree in
+      record {
+        conforms = tree_message p m wf (tree_of taken p.nodes found) here (meets_all p m wf (tree_of taken p.nodes found) here s);
+        tree = here;
+        kept = record { ordered = ordered; within = taken_within p.nodes m taken is };
+      }

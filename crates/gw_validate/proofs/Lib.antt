@@ -20,7 +20,6 @@ pub mod Judged
 pub mod Gathered
 pub mod Searching
 pub mod Counting
-pub mod Lending
 pub mod Lawful
 pub mod Deciding
 pub mod Alone

@@ -2,10 +2,10 @@ pub mod Kinds
 pub mod Breaches
 pub mod Cuts
 pub mod Trees
+pub mod Stored
 pub mod Conforming
 pub mod Broken
 pub mod Fitting
 pub mod Viewing
 pub mod Verdict
-pub mod Occurring
 pub mod own

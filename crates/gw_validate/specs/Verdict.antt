@@ -4,12 +4,8 @@ use Rattle.gw_er7.specs.Message.{SegmentValue}
 use Rattle.gw_profile.specs.Shapes.{ProfileValue}
 use Rattle.gw_profile.specs.Seen.{profile_value}
 use Rattle.gw_validate.specs.declared.breach.Breach.{Breach}
-use Rattle.gw_validate.specs.declared.verdict.Judged.{Judged}
-use Rattle.gw_validate.specs.declared.verdict.Judged.TheVariants as judged
 use Rattle.gw_validate.specs.declared.verdict.Verdict.{Verdict}
 use Rattle.gw_validate.specs.declared.verdict.Verdict.TheVariants as verdict
-use Rattle.gw_validate.specs.Occurring.{tree_of}
-use Rattle.gw_validate.specs.Conforming.{Conforms}
 use Rattle.gw_validate.specs.Broken.{IsTreeOf, IsLeast}
 use Rattle.gw_validate.specs.Fitting.{TreeValue}
 
@@ -31,14 +27,9 @@ IfBreaks (verdict.Breaks b back) P = P b back
 pub record HasTree (p : ProfileValue) (m : List SegmentValue) (t : TreeValue) : Type 0 where
   pub profile : profile_value t.profile ≡ p
   pub message : t.message ≡ m
-  pub tree : IsTreeOf p m (tree_of t.each)
+  pub tree : IsTreeOf p m t.tree
 
 -- the least breach of this message, which is handed back
 pub record HasBreach (p : ProfileValue) (m : List SegmentValue) (b : Breach) (back : List SegmentValue) : Type 0 where
   pub least : IsLeast p m b
   pub message : back ≡ m
-
--- the same before the profile and the message are moved
-abbrev pub IsJudged : ProfileValue → List SegmentValue → Judged → Type 0
-IsJudged p m (judged.Fits each) = Conforms p m × IsTreeOf p m (tree_of each.items)
-IsJudged p m (judged.Breaks b) = IsLeast p m b × (Conforms p m → ⊥)

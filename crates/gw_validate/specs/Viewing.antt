@@ -1,7 +1,6 @@
 -- What the views of a tree show.
 use Rattle.std.specs.Prelude.{ℕ, zero, suc, length, Option, Some, None, option_map, slice_get}
 use Rattle.gw_validate.specs.Trees.{Tree, leaf, segments, groups, Trees, no_trees, trees, count_of}
-use Rattle.gw_validate.specs.Occurring.{tree_of}
 use Rattle.gw_validate.specs.Fitting.{OccValue}
 
 -- one occurrence: the number of a segment, or the occurrences in a group
@@ -42,4 +41,4 @@ numbered_or (Some n) t = number n
 
 -- what an occurrence that is lent shows
 abbrev pub occurrence_of : OccValue → Occurrence
-occurrence_of o = numbered_or o.number (tree_of o.each)
+occurrence_of o = numbered_or o.number o.tree

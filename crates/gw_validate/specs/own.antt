@@ -1,9 +1,12 @@
 -- The program's own words: no public contract rests on them.
 pub mod Residual
+pub mod Occurring
 pub mod Shortest
 pub mod State
 pub mod Tests
 pub mod Joining
 pub mod Least
 pub mod Building
+pub mod Judging
+pub mod Lending
 pub mod Answers

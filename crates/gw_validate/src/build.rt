@@ -1,19 +1,20 @@
 //! The tree of a list that fits.
-ghost use Rattle.std.specs.Prelude.{◌≡◌, ◌&&◌, IfOk, map};
+ghost use Rattle.std.specs.Prelude.{◌≡◌, ◌&&◌, ◌≤◌, ◌-◌, IfOk, map, take, drop};
+ghost use Rattle.std.specs.List.{AllByRecursion};
 ghost use Rattle.gw_validate.specs.own.Residual.{has_room};
 ghost use Rattle.std.specs.Str.{bytes_eq};
 ghost use Rattle.gw_validate.specs.own.Building.{Builds, BuildsGroups, BuildsSegments};
 ghost use Rattle.gw_profile.specs.Shapes.{nothing};
 ghost use Rattle.gw_profile.specs.Seen.{forest, node_forest, segment_value};
-ghost use Rattle.gw_validate.specs.Occurring.{tree_of, trees_of, occurrences_tree};
-ghost use Rattle.gw_validate.specs.Trees.{leaf, IsTree};
+ghost use Rattle.gw_validate.specs.own.Occurring.{tree_from, tree_of, trees_of, AreOrdered, IsOrdered};
+ghost use Rattle.gw_validate.specs.Trees.{IsTree};
 ghost use Rattle.gw_validate.specs.own.Tests.{can_begin, node_begins};
 ghost use Rattle.gw_validate.specs.Conforming.{named};
 ghost use Rattle.gw_validate.specs.Cuts.{Fits};
 ghost use Rattle.gw_profile.specs.Deterministic.{Determined, NoName};
 
 use crate::listing::name_at;
-use crate::occurrences::{Found, Occurrences};
+use crate::occurrences::{Found, Occurrences, of_group, of_segment};
 use crate::walk::{has_room, less_one, same_name};
 use gw_er7::Message;
 use gw_profile::{Card, Node, SegNode};
@@ -63,97 +64,108 @@ fn can_go_on(due: Card, children: &[Node], message: &Message, number: usize) -> 
     has_room(due) && can_begin(children, name_at(message, number))
 }
 
-// The occurrences of a segment.
-fn build_segments<'a>(
-    alloc: Global,
-    segment: &SegNode,
-    message: &Message,
-    taken: &'a [usize],
-) -> Result<(Vec<usize>, &'a [usize]), AllocError>
-    ensures { IfOk result (λ built. BuildsSegments (named message.now) (segment_value segment.now) taken.now built.0.items built.1.now) }
+// The place behind the segments of a node that stand in the list from this place on.
+fn pass_segments(segment: &SegNode, message: &Message, listed: &[usize], at: usize) -> usize
+    ensures on { at ≤ result }
+    ensures built { BuildsSegments (named message.now) (segment_value segment.now) (drop at listed.now) (take (result - at) (drop at listed.now)) (drop result listed.now) }
 {
-    let mut found = Vec::new(alloc);
     let mut due = segment.card;
-    let mut rest = taken;
-    while let [number, behind @ ..] = rest {
-        if !is_next(due, segment.name, message, *number) {
-            return Ok((found, rest));
+    let mut here = at;
+    while here < listed.len() {
+        if !is_next(due, segment.name, message, listed[here]) {
+            return here;
         }
-        found.push(*number)?;
         due = less_one(due);
-        rest = behind;
+        here += 1;
     }
-    Ok((found, rest))
+    here
 }
 
-// The occurrences of a group.
+// The occurrences of a group from this place on, and the place behind them.
 #[cycle(build)]
-fn build_groups<'a>(
+fn build_groups(
     alloc: Global,
     card: Card,
     children: &[Node],
     message: &Message,
-    taken: &'a [usize],
-) -> Result<(Vec<Found>, &'a [usize]), AllocError>
-    ensures { IfOk result (λ built. BuildsGroups (named message.now) card.min card.max (forest children.now) taken.now (trees_of built.0.items) built.1.now) }
+    listed: &[usize],
+    at: usize,
+) -> Result<(Vec<Found>, usize), AllocError>
+    ensures built { IfOk result (λ b. BuildsGroups (named message.now) card.min card.max (forest children.now)
+        (drop at listed.now) (trees_of listed.now (forest children.now) b.0.items) (drop b.1 listed.now)) }
+    ensures ordered { IfOk result (λ b. AllByRecursion (IsOrdered (forest children.now)) b.0.items) }
 {
     let mut found = Vec::new(alloc);
     let mut due = card;
-    let mut rest = taken;
-    while let [number, ..] = rest {
-        if !can_go_on(due, children, message, *number) {
-            return Ok((found, rest));
+    let mut here = at;
+    while here < listed.len() {
+        if !can_go_on(due, children, message, listed[here]) {
+            return Ok((found, here));
         }
-        let (each, behind) = build_nodes(alloc, children, message, rest)?;
-        if behind.len() >= rest.len() {
-            return Ok((found, rest));
+        let (one, behind) = build_nodes(alloc, children, message, listed, here)?;
+        if behind <= here {
+            return Ok((found, here));
         }
-        found.push(Found { each })?;
+        found.push(one)?;
         due = less_one(due);
-        rest = behind;
+        here = behind;
     }
-    Ok((found, rest))
+    Ok((found, here))
 }
 
+// The occurrences of a node from this place on, where it occurs, and the place behind them.
 #[cycle(build)]
-fn build_node<'a>(
+fn build_node(
     alloc: Global,
     node: &Node,
     message: &Message,
-    taken: &'a [usize],
-) -> Result<(Occurrences, &'a [usize]), AllocError>
-    ensures { IfOk result (λ built. Builds (named message.now) (node_forest node.now nothing) taken.now (occurrences_tree built.0 leaf) built.1.now) }
+    listed: &[usize],
+    at: usize,
+) -> Result<(Option<Occurrences>, usize), AllocError>
+    ensures built { IfOk result (λ b. Builds (named message.now) (node_forest node.now nothing)
+        (drop at listed.now) (tree_from listed.now (λ _. b.0) 0 (node_forest node.now nothing)) (drop b.1 listed.now)) }
+    ensures ordered { IfOk result (λ b. AreOrdered (λ _. b.0) 0 (node_forest node.now nothing)) }
 {
     match node {
         Node::Seg(segment) => {
-            let (found, rest) = build_segments(alloc, segment, message, taken)?;
-            Ok((Occurrences::Segments(found), rest))
+            let behind = pass_segments(segment, message, listed, at);
+            Ok((of_segment(at, behind), behind))
         }
         Node::Group(group) => {
-            let (found, rest) = build_groups(alloc, group.card, &group.nodes, message, taken)?;
-            Ok((Occurrences::Groups(found), rest))
+            let (found, behind) = build_groups(
+                alloc,
+                group.card,
+                &group.nodes,
+                message,
+                listed,
+                at,
+            )?;
+            Ok((of_group(found), behind))
         }
     }
 }
 
-// For each node its occurrences, and what stands behind them.
+// Of the nodes that occur from this place on their occurrences, and the place behind them.
 #[cycle(build)]
-fn build_nodes<'a>(
+fn build_nodes(
     alloc: Global,
     nodes: &[Node],
     message: &Message,
-    taken: &'a [usize],
-) -> Result<(Vec<Occurrences>, &'a [usize]), AllocError>
-    ensures { IfOk result (λ built. Builds (named message.now) (forest nodes.now) taken.now (tree_of built.0.items) built.1.now) }
+    listed: &[usize],
+    at: usize,
+) -> Result<(Found, usize), AllocError>
+    ensures built { IfOk result (λ b. Builds (named message.now) (forest nodes.now)
+        (drop at listed.now) (tree_of listed.now (forest nodes.now) b.0) (drop b.1 listed.now)) }
+    ensures ordered { IfOk result (λ b. IsOrdered (forest nodes.now) b.0) }
 {
-    let mut found = Vec::new(alloc);
-    let mut rest = taken;
-    for node in nodes {
-        let (one, behind) = build_node(alloc, node, message, rest)?;
-        found.push(one)?;
-        rest = behind;
+    let mut found = Found::none(alloc);
+    let mut here = at;
+    for (i, node) in nodes.iter().enumerate() {
+        let (one, behind) = build_node(alloc, node, message, listed, here)?;
+        found.put(i, one)?;
+        here = behind;
     }
-    Ok((found, rest))
+    Ok((found, here))
 }
 
 /// The tree of the segments of these numbers, whose names fit the nodes.
@@ -161,12 +173,13 @@ pub(crate) fn build(
     alloc: Global,
     nodes: &[Node],
     message: &Message,
-    taken: &[usize],
-) -> Result<Vec<Occurrences>, AllocError>
+    listed: &[usize],
+) -> Result<Found, AllocError>
     requires rules { Determined (forest nodes.now) NoName }
-    requires fits { Fits (forest nodes.now) (map (named message.now) taken.now) }
-    ensures { IfOk result (λ each. IsTree (named message.now) (tree_of each.items) (forest nodes.now) taken.now) }
+    requires fits { Fits (forest nodes.now) (map (named message.now) listed.now) }
+    ensures tree { IfOk result (λ found. IsTree (named message.now) (tree_of listed.now (forest nodes.now) found) (forest nodes.now) listed.now) }
+    ensures ordered { IfOk result (λ found. IsOrdered (forest nodes.now) found) }
 {
-    let (each, _) = build_nodes(alloc, nodes, message, taken)?;
-    Ok(each)
+    let (found, _) = build_nodes(alloc, nodes, message, listed, 0)?;
+    Ok(found)
 }

@@ -1,6 +1,7 @@
 //! The least breach of a segment's shape.
 ghost use Rattle.std.specs.Prelude.{◌≡◌, ℕ, ◌<◌, ◌∷◌, [], option_map, IfOk, IfErr, false, true, length, ◌-◌, ◌+◌, ◌≤◌, Some, None, if◌then◌else◌, map};
 ghost use Rattle.std.specs.List.{AllByRecursion};
+ghost use Rattle.gw_er7.specs.Message.{text_of};
 ghost use Rattle.gw_er7.specs.Presence.{RepAt, CompAt, IsLast};
 ghost use Rattle.gw_profile.specs.Lengths.{octets};
 ghost use Rattle.gw_profile.specs.Seen.{sub, comp as comp_value, field as field_value, items_of, profile_value};
@@ -114,17 +115,30 @@ fn absent_sub(shape: &SubShape) -> Option<Kind>
     }
 }
 
-// The least breach at the leaves of a component that is present.
-fn subs_breach(
+// The text at a leaf, where that at its component's first leaf is known.
+fn text_beside<'a>(segment: &Segment<'a>, near: usize, first: &'a [u8], place: Place) -> &'a [u8]
+    requires { first.now ≡ text_of segment.now.at place.field place.rep place.comp 1 }
+    ensures { result.now ≡ text_of segment.now.at place.field place.rep place.comp place.sub }
+{
+    if place.sub == 1 {
+        return first;
+    }
+    segment.text_near(near, place)
+}
+
+// The least breach at the leaves of a component that is present, of which the text at the first is known.
+fn subs_breach<'a>(
     profile: &Profile,
-    segment: &Segment<'_>,
+    segment: &Segment<'a>,
     near: usize,
+    first: &'a [u8],
     field: usize,
     rep: usize,
     comp: usize,
     subs: &[SubShape],
 ) -> Option<Spot>
-    requires { Rises (λ s. s.number) 0 (map sub subs.now) }
+    requires rises { Rises (λ s. s.number) 0 (map sub subs.now) }
+    requires first { first.now ≡ text_of segment.now.at field rep comp 1 }
     ensures { Least (SubsBreach (profile_value profile.now) segment.now.at field rep comp (map sub subs.now)) (option_map comp_key result) }
 {
     for sub in subs {
@@ -134,7 +148,7 @@ fn subs_breach(
             comp,
             sub: sub.number as usize,
         };
-        let text = segment.text_near(near, place);
+        let text = text_beside(segment, near, first, place);
         if let Some(kind) = sub_breach(profile, sub, text) {
             return Some(Spot {
                 sub: sub.number as usize,
@@ -156,19 +170,13 @@ fn absent_comp(shape: &CompShape) -> Option<Spot>
     }
 }
 
-// Whether a component is present.
-fn has_comp(segment: &Segment<'_>, near: usize, field: usize, rep: usize, comp: usize) -> bool
+// Whether a component is present, of which the text at the first leaf is known.
+fn has_comp(segment: &Segment<'_>, first: &[u8], field: usize, rep: usize, comp: usize) -> bool
+    requires { first.now ≡ text_of segment.now.at field rep comp 1 }
     ensures yes { result ≡ true → CompAt segment.now.at field rep comp }
     ensures no { result ≡ false → CompAt segment.now.at field rep comp → ⊥ }
 {
-    let first = Place {
-        field,
-        rep,
-        comp,
-        sub: 1,
-    };
-    let text = segment.text_near(near, first);
-    if text.len() > 0 {
+    if first.len() > 0 {
         return true;
     }
     segment.subs(field, rep, comp) > 0
@@ -186,7 +194,14 @@ fn comp_breach(
     requires { CompRises (comp_value shape.now) }
     ensures { Least (CompBreach (profile_value profile.now) segment.now.at field rep (comp_value shape.now)) (option_map comp_key result) }
 {
-    if !has_comp(segment, near, field, rep, shape.number as usize) {
+    let place = Place {
+        field,
+        rep,
+        comp: shape.number as usize,
+        sub: 1,
+    };
+    let first = segment.text_near(near, place);
+    if !has_comp(segment, first, field, rep, shape.number as usize) {
         return absent_comp(shape);
     }
     if is_forbidden(shape.usage) {
@@ -196,6 +211,7 @@ fn comp_breach(
         profile,
         segment,
         near,
+        first,
         field,
         rep,
         shape.number as usize,
@@ -264,11 +280,12 @@ fn rep_breach(
     )
 }
 
-/// A repetition that is present, and the number of its first text, from which others are looked for.
+/// A repetition that is present, the number of its first text, near which its texts are looked for, and that of the text behind it, near which the next repetition is.
 #[derive(Clone, Copy)]
 struct Present {
     rep: usize,
     at: usize,
+    behind: usize,
 }
 
 // The first repetition of a field that is present after this one, up to the last.
@@ -285,11 +302,15 @@ fn next_rep(segment: &Segment<'_>, field: usize, after: Present, last: usize) ->
         comp: 0,
         sub: 0,
     };
-    let at = segment.values_before(after.at, place);
+    let at = segment.values_before(after.behind, place);
     let holds = at < segment.value_count();
     prove!(holds);
     let rep = segment.value(at).place.rep;
-    Present { rep, at }
+    Present {
+        rep,
+        at,
+        behind: at + 1,
+    }
 }
 
 // The least breach in the repetitions of a field.
@@ -305,7 +326,11 @@ fn reps_breach(
     ensures { Least (RepsBreach (profile_value profile.now) segment.now.at (field_value shape.now)) (option_map field_key result) }
 {
     let mut before = 0;
-    let mut found = Present { rep: 0, at: 0 };
+    let mut found = Present {
+        rep: 0,
+        at: 0,
+        behind: 0,
+    };
     while found.rep < last {
         found = next_rep(segment, shape.number as usize, found, last);
         if let Some(breach) = rep_breach(profile, segment, found.at, shape, found.rep, before) {
@@ -325,7 +350,11 @@ fn count_reps(segment: &Segment<'_>, field: usize, last: usize) -> usize
     ensures { Counted (RepAt segment.now.at field) last result }
 {
     let mut count = 0;
-    let mut found = Present { rep: 0, at: 0 };
+    let mut found = Present {
+        rep: 0,
+        at: 0,
+        behind: 0,
+    };
     while found.rep < last {
         found = next_rep(segment, field, found, last);
         count += 1;

@@ -1,86 +1,132 @@
 //! Occurrences as they are lent.
-ghost use Rattle.std.specs.Prelude.{◌≡◌, ◌<◌, length, Some};
+ghost use Rattle.std.specs.Prelude.{◌≡◌, ◌<◌, List, length, get_or, Some};
 ghost use Rattle.std.specs.List.{AllByRecursion};
-ghost use Rattle.gw_validate.specs.Trees.{leaf, flatten};
-ghost use Rattle.gw_validate.specs.Occurring.{occurrences_tree};
-ghost use Rattle.gw_validate.specs.Viewing.{count_at, occurrence_at, occurrence_of};
+ghost use Rattle.gw_er7.specs.Message.{SegmentValue};
+ghost use Rattle.gw_profile.specs.Seen.{forest};
+ghost use Rattle.gw_validate.specs.Viewing.{count_at, occurrence_at, numbered_or};
+ghost use Rattle.gw_validate.specs.own.Judging.{IsKept};
+ghost use Rattle.gw_validate.specs.own.Lending.{row_tree, shown_number, shown_tree, IsOf};
+ghost use Rattle.gw_validate.specs.own.Occurring.{IsOrdered};
 
-use crate::occurrences::Occurrences;
+use crate::occurrences::Found;
 use gw_er7::{Message, Segment};
+use gw_profile::Node;
 use std::marker::Model;
+
+/// An occurrence of a group, or of the whole profile: the numbers that are listed, its child nodes, and which of them occur.
+#[derive(Clone, Copy, Drop)]
+struct Row<'a> {
+    listed: &'a [usize],
+    nodes: &'a [Node],
+    found: &'a Found,
+}
+
+/// A segment by its number, or a group's occurrence.
+#[derive(Clone, Copy, Drop)]
+enum Shown<'a> {
+    Segment(usize),
+    Group(Row<'a>),
+}
+
+// The number at this place.
+fn number_at(numbers: &[usize], k: usize) -> usize
+    requires { k < length numbers.now }
+    ensures { result ≡ get_or numbers.now k 0 }
+{
+    numbers[k]
+}
+
+// The occurrence of a group at this place.
+fn group_at<'a>(groups: &'a [Found], k: usize) -> &'a Found
+    requires { k < length groups.now }
+    ensures { result.now ≡ get_or groups.now k result.now }
+{
+    &groups[k]
+}
+
+impl<'a> Row<'a> {
+    // How often the child of this number occurs.
+    fn count(&self, child: usize) -> usize
+        requires child { child < length self.now.nodes.now }
+        requires ordered { IsOrdered (forest self.now.nodes.now) self.now.found.now }
+        ensures { result ≡ count_at (row_tree self.now) child }
+    {
+        match &self.nodes[child] {
+            Node::Seg(_) => self.found.segments(self.listed, child).len(),
+            Node::Group(_) => self.found.groups(child).len(),
+        }
+    }
+
+    // The occurrence of this number of the child.
+    fn child(&self, child: usize, k: usize) -> Shown<'a>
+        requires child { child < length self.now.nodes.now }
+        requires k { k < count_at (row_tree self.now) child }
+        requires ordered { IsOrdered (forest self.now.nodes.now) self.now.found.now }
+        ensures shows { occurrence_at (row_tree self.now) child k ≡ Some (numbered_or (shown_number result) (shown_tree result)) }
+        ensures lawful { (m : List SegmentValue) → AllByRecursion (λ i. i < length m) self.now.listed.now → IsOf m result }
+    {
+        let nodes: &'a [Node] = self.nodes;
+        let found: &'a Found = self.found;
+        match &nodes[child] {
+            Node::Seg(_) => Shown::Segment(number_at(found.segments(self.listed, child), k)),
+            Node::Group(group) => Shown::Group(Row {
+                listed: self.listed,
+                nodes: &group.nodes,
+                found: group_at(found.groups(child), k),
+            }),
+        }
+    }
+}
 
 /// One occurrence of a node in a message, lent by its tree: a segment, or a group with the occurrences of its children.
 #[derive(Drop)]
 pub struct Occ<'a> {
     message: &'a Message,
-    number: Option<usize>,
-    each: &'a [Occurrences],
+    shown: Shown<'a>,
 }
 
 impl<'a> Model for Occ<'a> {
     ghost use Rattle.std.specs.Prelude.{ℕ, List, Option};
     ghost use Rattle.std.specs.Coded.{codes};
     ghost use Rattle.gw_er7.specs.Message.{segment_code};
-    ghost use Rattle.gw_validate.specs.contracts.occurrences.Occurrences as occurrences;
-    ghost use Rattle.gw_validate.specs.Fitting.{OccValue, IsLent};
+    ghost use Rattle.gw_validate.specs.Stored.{tree_code};
+    ghost use Rattle.gw_validate.specs.Fitting.{OccValue};
+    ghost use Rattle.gw_validate.specs.own.Lending.{shown_number, shown_tree, IsOf};
 
     ghost Value = { OccValue };
 
-    ghost coded = { Prim.hlevel (codes, segment_code, occurrences.the_row.coded) };
+    ghost coded = { Prim.hlevel (codes, segment_code, tree_code) };
 
-    ghost view = { λ o. record { message = o.message.now; number = o.number; each = o.each.now } };
+    ghost view = { λ o. record { message = o.message.now; number = shown_number o.shown; tree = shown_tree o.shown } };
 
-    ghost invariant = { λ o. IsLent (record { message = o.message.now; number = o.number; each = o.each.now }) };
-}
-
-// How many occurrences there are.
-fn count_of(occurrences: &Occurrences) -> usize
-    ensures { result ≡ count_at (occurrences_tree occurrences.now leaf) 0 }
-{
-    match occurrences {
-        Occurrences::Segments(numbers) => numbers.len(),
-        Occurrences::Groups(found) => found.len(),
-    }
-}
-
-// The occurrence of this number.
-fn lend<'a>(message: &'a Message, occurrences: &'a Occurrences, k: usize) -> Occ<'a>
-    requires within { AllByRecursion (λ i. i < length message.now) (flatten (occurrences_tree occurrences.now leaf)) }
-    requires k { k < count_at (occurrences_tree occurrences.now leaf) 0 }
-    ensures message { result.message ≡ message.now }
-    ensures shows { occurrence_at (occurrences_tree occurrences.now leaf) 0 k ≡ Some (occurrence_of result) }
-{
-    match occurrences {
-        Occurrences::Segments(numbers) => Occ {
-            message,
-            number: Some(numbers[k]),
-            each: &[],
-        },
-        Occurrences::Groups(found) => Occ {
-            message,
-            number: None,
-            each: &found[k].each,
-        },
-    }
+    ghost invariant = { λ o. IsOf o.message.now o.shown };
 }
 
 impl<'a> Occ<'a> {
     ghost use Rattle.std.specs.Prelude.{◌≡◌, ◌<◌, length, Some, None};
-    ghost use Rattle.std.specs.List.{AllByRecursion};
-    ghost use Rattle.gw_validate.specs.Trees.{flatten};
-    ghost use Rattle.gw_validate.specs.Occurring.{tree_of};
-    ghost use Rattle.gw_validate.specs.Viewing.{count_at, occurrence_at, occurrence_of};
+    ghost use Rattle.gw_profile.specs.Seen.{forest};
+    ghost use Rattle.gw_validate.specs.Viewing.{width, count_at, occurrence_at, occurrence_of};
     ghost use Rattle.gw_validate.specs.Fitting.{IsLent, segment_of};
+    ghost use Rattle.gw_validate.specs.own.Judging.{IsKept};
+    ghost use Rattle.gw_validate.specs.own.Occurring.{tree_of};
 
-    /// The occurrence of a group, or of the whole profile.
-    pub(crate) fn of(message: &'a Message, each: &'a [Occurrences]) -> Occ<'a>
-        requires { AllByRecursion (λ i. i < length message.now) (flatten (tree_of each.now)) }
-        ensures { result ≡ record { message = message.now; number = None; each = each.now } }
+    /// The occurrence of the whole profile.
+    pub(crate) fn of(
+        message: &'a Message,
+        listed: &'a [usize],
+        nodes: &'a [Node],
+        found: &'a Found,
+    ) -> Occ<'a>
+        requires { IsKept (forest nodes.now) message.now listed.now found.now }
+        ensures { result ≡ record { message = message.now; number = None; tree = tree_of listed.now (forest nodes.now) found.now } }
     {
         Occ {
             message,
-            number: None,
-            each,
+            shown: Shown::Group(Row {
+                listed,
+                nodes,
+                found,
+            }),
         }
     }
 
@@ -90,37 +136,46 @@ impl<'a> Occ<'a> {
     {
         Occ {
             message: self.message,
-            number: self.number,
-            each: self.each,
+            shown: self.shown,
         }
     }
 
     /// How many children it has: as many as its node has, none for a segment. It takes no memory.
     pub fn children(&self) -> usize
-        ensures count { result ≡ length self.now.each }
+        ensures count { result ≡ width self.now.tree }
         ensures lent { IsLent self.now }
     {
-        self.each.len()
+        match &self.shown {
+            Shown::Segment(_) => 0,
+            Shown::Group(row) => row.nodes.len(),
+        }
     }
 
     /// How often the child of this number, from 0, occurs. It takes no memory.
     pub fn count(&self, child: usize) -> usize
-        requires { child < length self.now.each }
-        ensures { result ≡ count_at (tree_of self.now.each) child }
+        requires { child < width self.now.tree }
+        ensures { result ≡ count_at self.now.tree child }
     {
-        let each: &[Occurrences] = self.each;
-        count_of(&each[child])
+        match &self.shown {
+            Shown::Segment(_) => 0,
+            Shown::Group(row) => row.count(child),
+        }
     }
 
     /// The occurrence of this number, from 0, of the child. It takes no memory.
     pub fn child(&self, child: usize, k: usize) -> Occ<'a>
-        requires child { child < length self.now.each }
-        requires k { k < count_at (tree_of self.now.each) child }
+        requires child { child < width self.now.tree }
+        requires k { k < count_at self.now.tree child }
         ensures message { result.message ≡ self.now.message }
-        ensures shows { occurrence_at (tree_of self.now.each) child k ≡ Some (occurrence_of result) }
+        ensures shows { occurrence_at self.now.tree child k ≡ Some (occurrence_of result) }
     {
-        let each: &[Occurrences] = self.each;
-        lend(self.message, &each[child], k)
+        match &self.shown {
+            Shown::Segment(_) => self.again(),
+            Shown::Group(row) => Occ {
+                message: self.message,
+                shown: row.child(child, k),
+            },
+        }
     }
 
     /// The segment, None for a group. It takes no memory.
@@ -128,7 +183,9 @@ impl<'a> Occ<'a> {
         ensures segment { result ≡ segment_of self.now }
         ensures lent { IsLent self.now }
     {
-        let number = self.number?;
-        Some(self.message.segment(number))
+        match self.shown {
+            Shown::Segment(number) => Some(self.message.segment(number)),
+            Shown::Group(_) => None,
+        }
     }
 }

@@ -3,12 +3,12 @@ ghost use Rattle.std.specs.Prelude.{◌<◌, length, map};
 ghost use Rattle.std.specs.List.{AllByRecursion};
 ghost use Rattle.gw_profile.specs.Shapes.{nothing};
 ghost use Rattle.gw_profile.specs.Seen.{field, forest, node_forest, profile_value};
-ghost use Rattle.gw_validate.specs.Trees.{leaf, flatten, flatten_all, assigned, assigned_all};
-ghost use Rattle.gw_validate.specs.Occurring.{tree_of, trees_of, occurrences_tree};
+ghost use Rattle.gw_validate.specs.Trees.{assigned, assigned_all};
+ghost use Rattle.gw_validate.specs.own.Occurring.{Rising, kept, tree_from, tree_of, trees_of, AreOrdered, IsOrdered};
 ghost use Rattle.gw_validate.specs.own.Least.{ShapeRises, EachRises, FindsBreach};
 
 use crate::fields::{Spot, least_breach};
-use crate::occurrences::{Found, Occurrences};
+use crate::occurrences::Found;
 use gw_er7::Message;
 use gw_profile::{FieldShape, Node, Profile};
 
@@ -36,44 +36,47 @@ fn search_segments(
 fn search_groups(
     profile: &Profile,
     message: &Message,
+    listed: &[usize],
     groups: &[Found],
     nodes: &[Node],
 ) -> Option<(usize, Spot)>
     requires rises { EachRises (forest nodes.now) }
-    requires within { AllByRecursion (λ i. i < length message.now) (flatten_all (trees_of groups.now)) }
-    ensures { FindsBreach (profile_value profile.now) message.now (assigned_all (trees_of groups.now) (forest nodes.now)) result }
+    requires ordered { AllByRecursion (IsOrdered (forest nodes.now)) groups.now }
+    requires within { AllByRecursion (λ i. i < length message.now) listed.now }
+    ensures { FindsBreach (profile_value profile.now) message.now (assigned_all (trees_of listed.now (forest nodes.now) groups.now) (forest nodes.now)) result }
 {
     for group in groups {
-        if let Some(found) = search_nodes(profile, message, &group.each, nodes) {
+        if let Some(found) = search_nodes(profile, message, listed, group, nodes) {
             return Some(found);
         }
     }
     None
 }
 
+// The same of the node of this number.
 #[cycle(search)]
 fn search_node(
     profile: &Profile,
     message: &Message,
-    occurrences: &Occurrences,
+    listed: &[usize],
+    row: &Found,
+    i: usize,
     node: &Node,
 ) -> Option<(usize, Spot)>
     requires rises { EachRises (node_forest node.now nothing) }
-    requires within { AllByRecursion (λ i. i < length message.now) (flatten (occurrences_tree occurrences.now leaf)) }
-    ensures { FindsBreach (profile_value profile.now) message.now (assigned (occurrences_tree occurrences.now leaf) (node_forest node.now nothing)) result }
+    requires rising { Rising row.now.nodes.items }
+    requires ordered { AreOrdered (kept row.now) i (node_forest node.now nothing) }
+    requires within { AllByRecursion (λ i. i < length message.now) listed.now }
+    ensures { FindsBreach (profile_value profile.now) message.now (assigned (tree_from listed.now (kept row.now) i (node_forest node.now nothing)) (node_forest node.now nothing)) result }
 {
     match node {
         Node::Seg(segment) => {
-            let Occurrences::Segments(numbers) = occurrences else {
-                return None;
-            };
+            let numbers = row.segments(listed, i);
             search_segments(profile, message, &segment.fields, numbers)
         }
         Node::Group(group) => {
-            let Occurrences::Groups(groups) = occurrences else {
-                return None;
-            };
-            search_groups(profile, message, groups, &group.nodes)
+            let groups = row.groups(i);
+            search_groups(profile, message, listed, groups, &group.nodes)
         }
     }
 }
@@ -83,18 +86,17 @@ fn search_node(
 pub(crate) fn search_nodes(
     profile: &Profile,
     message: &Message,
-    each: &[Occurrences],
+    listed: &[usize],
+    row: &Found,
     nodes: &[Node],
 ) -> Option<(usize, Spot)>
     requires rises { EachRises (forest nodes.now) }
-    requires within { AllByRecursion (λ i. i < length message.now) (flatten (tree_of each.now)) }
-    ensures { FindsBreach (profile_value profile.now) message.now (assigned (tree_of each.now) (forest nodes.now)) result }
+    requires ordered { IsOrdered (forest nodes.now) row.now }
+    requires within { AllByRecursion (λ i. i < length message.now) listed.now }
+    ensures { FindsBreach (profile_value profile.now) message.now (assigned (tree_of listed.now (forest nodes.now) row.now) (forest nodes.now)) result }
 {
     for (i, node) in nodes.iter().enumerate() {
-        let Some(occurrences) = each.get(i) else {
-            return None;
-        };
-        if let Some(found) = search_node(profile, message, occurrences, node) {
+        if let Some(found) = search_node(profile, message, listed, row, i, node) {
             return Some(found);
         }
     }

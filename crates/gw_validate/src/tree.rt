@@ -1,16 +1,17 @@
 //! Messages that conform, each with the tree of its profile.
 use crate::occ::Occ;
-use crate::occurrences::Occurrences;
+use crate::occurrences::Found;
 use gw_er7::Message;
 use gw_profile::Profile;
 use std::marker::Model;
 use std::sync::Arc;
 
-/// A message that conforms to a profile, with for each node of the profile its occurrences.
+/// A message that conforms to a profile, with the occurrences of the profile's nodes.
 pub struct Tree {
     profile: Arc<Profile>,
     message: Message,
-    each: Vec<Occurrences>,
+    listed: Vec<usize>,
+    found: Found,
 }
 
 // (by hand: so no crate above proves again how what lies in it is let go)
@@ -19,7 +20,8 @@ impl Drop for Tree {
         let Tree {
             profile: _,
             message: _,
-            each: _,
+            listed: _,
+            found: _,
         } = self;
     }
 }
@@ -29,36 +31,45 @@ impl Model for Tree {
     ghost use Rattle.std.specs.Arc.{arc_value};
     ghost use Rattle.gw_er7.specs.Message.{segment_code};
     ghost use Rattle.gw_profile.specs.contracts.node.Node as node;
-    ghost use Rattle.gw_validate.specs.contracts.occurrences.Occurrences as occurrences;
-    ghost use Rattle.gw_validate.specs.Fitting.{TreeValue, IsFitting};
+    ghost use Rattle.gw_validate.specs.Stored.{tree_code};
+    ghost use Rattle.gw_profile.specs.Seen.{forest, profile_value};
+    ghost use Rattle.gw_validate.specs.Fitting.{TreeValue};
+    ghost use Rattle.gw_validate.specs.own.Judging.{HasKept};
+    ghost use Rattle.gw_validate.specs.own.Occurring.{tree_of};
 
     ghost Value = { TreeValue };
 
-    ghost coded = { Prim.hlevel (codes, segment_code, node.the_row.coded, occurrences.the_row.coded) };
+    ghost coded = { Prim.hlevel (codes, segment_code, node.the_row.coded, tree_code) };
 
-    ghost view = { λ t. record { profile = arc_value t.profile; message = t.message; each = t.each.items } };
+    ghost view = { λ t. record { profile = arc_value t.profile; message = t.message; tree = tree_of t.listed.items (forest (arc_value t.profile).nodes) t.found } };
 
-    ghost invariant = { λ t. IsFitting (record { profile = arc_value t.profile; message = t.message; each = t.each.items }) };
+    ghost invariant = { λ t. HasKept (profile_value (arc_value t.profile)) t.message t.listed.items t.found };
 }
 
 impl Tree {
     ghost use Rattle.std.specs.Prelude.{◌≡◌, None};
     ghost use Rattle.std.specs.Arc.{arc_value};
-    ghost use Rattle.gw_profile.specs.Seen.{profile_value};
-    ghost use Rattle.gw_validate.specs.Occurring.{tree_of};
+    ghost use Rattle.gw_profile.specs.Seen.{forest, profile_value};
     ghost use Rattle.gw_validate.specs.Conforming.{Conforms};
     ghost use Rattle.gw_validate.specs.Broken.{IsTreeOf};
-    ghost use Rattle.gw_validate.specs.Fitting.{IsFitting};
+    ghost use Rattle.gw_validate.specs.own.Judging.{HasKept};
+    ghost use Rattle.gw_validate.specs.own.Occurring.{tree_of};
 
     /// The tree of a message that conforms.
-    pub(crate) fn of(profile: Arc<Profile>, message: Message, each: Vec<Occurrences>) -> Tree
-        requires { IsFitting (record { profile = arc_value profile; message = message; each = each.items }) }
-        ensures { result ≡ record { profile = arc_value profile; message = message; each = each.items } }
+    pub(crate) fn of(
+        profile: Arc<Profile>,
+        message: Message,
+        listed: Vec<usize>,
+        found: Found,
+    ) -> Tree
+        requires { HasKept (profile_value (arc_value profile)) message listed.items found }
+        ensures { result ≡ record { profile = arc_value profile; message = message; tree = tree_of listed.items (forest (arc_value profile).nodes) found } }
     {
         Tree {
             profile,
             message,
-            each,
+            listed,
+            found,
         }
     }
 
@@ -79,10 +90,15 @@ impl Tree {
 
     /// The occurrence of the whole profile, whose children are the nodes at its top. It takes no memory.
     pub fn root(&self) -> Occ<'_>
-        ensures root { result ≡ record { message = self.now.message; number = None; each = self.now.each } }
-        ensures tree { IsTreeOf (profile_value self.now.profile) self.now.message (tree_of self.now.each) }
+        ensures root { result ≡ record { message = self.now.message; number = None; tree = self.now.tree } }
+        ensures tree { IsTreeOf (profile_value self.now.profile) self.now.message self.now.tree }
     {
-        Occ::of(&self.message, &self.each)
+        Occ::of(
+            &self.message,
+            &self.listed,
+            self.profile.nodes(),
+            &self.found,
+        )
     }
 
     /// The message, moved out. It takes no memory.
@@ -92,7 +108,8 @@ impl Tree {
         let Tree {
             profile: _,
             message,
-            each: _,
+            listed: _,
+            found: _,
         } = self;
         message
     }

@@ -7,13 +7,14 @@ ghost use Rattle.gw_profile.specs.Seen.{profile_value, forest};
 ghost use Rattle.gw_validate.specs.Conforming.{NamesFit, numbers, Conforms};
 ghost use Rattle.gw_validate.specs.own.Least.{segment_key};
 ghost use Rattle.gw_validate.specs.Broken.{sequence, spot_of};
-ghost use Rattle.gw_validate.specs.Verdict.{is_fit, IfFits, IfBreaks, HasTree, HasBreach, IsJudged};
+ghost use Rattle.gw_validate.specs.Verdict.{is_fit, IfFits, IfBreaks, HasTree, HasBreach};
+ghost use Rattle.gw_validate.specs.own.Judging.{IsJudged};
 
 use crate::breach::{Breach, Kind};
 use crate::build::build;
 use crate::fields::{Spot, of_kind};
 use crate::listing::{listed, name_at, names_of};
-use crate::occurrences::Occurrences;
+use crate::occurrences::Found;
 use crate::search::search_nodes;
 use crate::tree::Tree;
 use crate::walk::{Answer, walk};
@@ -31,10 +32,10 @@ pub enum Verdict {
     Breaks(Breach, Message),
 }
 
-/// The same, before the profile and the message are moved.
+/// The same, before the profile and the message are moved: the numbers of its segments that the profile knows, and the nodes that occur.
 #[derive(Drop)]
 enum Judged {
-    Fits(Vec<Occurrences>),
+    Fits(Vec<usize>, Found),
     Breaks(Breach),
 }
 
@@ -78,15 +79,15 @@ fn judge_segments(
     alloc: Global,
     profile: &Profile,
     message: &Message,
-    taken: &[usize],
+    taken: Vec<usize>,
 ) -> Result<Judged, AllocError>
-    requires taken { taken.now ≡ numbers (forest profile.now.nodes) message.now }
+    requires taken { taken.items ≡ numbers (forest profile.now.nodes) message.now }
     requires fits { NamesFit (forest profile.now.nodes) message.now }
     ensures { IfOk result (IsJudged (profile_value profile.now) message.now) }
 {
-    let each = build(alloc, profile.nodes(), message, taken)?;
-    match search_nodes(profile, message, &each, profile.nodes()) {
-        None => Ok(Judged::Fits(each)),
+    let found = build(alloc, profile.nodes(), message, &taken)?;
+    match search_nodes(profile, message, &taken, &found, profile.nodes()) {
+        None => Ok(Judged::Fits(taken, found)),
         Some((number, spot)) => Ok(Judged::Breaks(breach_at(
             message,
             number,
@@ -103,7 +104,7 @@ fn judge(alloc: Global, profile: &Profile, message: &Message) -> Result<Judged, 
     let taken = listed(alloc, profile, message)?;
     let names = names_of(alloc, message, &taken)?;
     match walk(alloc, profile.nodes(), &names)? {
-        Answer::Fits => judge_segments(alloc, profile, message, &taken),
+        Answer::Fits => judge_segments(alloc, profile, message, taken),
         Answer::OutOfOrder(i) => {
             let number = taken[i];
             Ok(Judged::Breaks(breach_at(
@@ -132,6 +133,8 @@ pub fn validate(alloc: Global, profile: Arc<Profile>, message: Message) -> Resul
     match judge(alloc, &profile, &message) {
         Err(_) => Err(message),
         Ok(Judged::Breaks(breach)) => Ok(Verdict::Breaks(breach, message)),
-        Ok(Judged::Fits(each)) => Ok(Verdict::Fits(Tree::of(profile, message, each))),
+        Ok(Judged::Fits(taken, found)) => Ok(Verdict::Fits(Tree::of(
+            profile, message, taken, found,
+        ))),
     }
 }

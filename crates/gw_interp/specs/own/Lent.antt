@@ -3,16 +3,15 @@ use Rattle.std.specs.Prelude.{◌≡◌, ℕ, List, [], ◌∷◌, map, reverse,
 use Rattle.std.specs.List.{AllByRecursion}
 use Rattle.gw_er7.specs.Message.{SegmentValue}
 use Rattle.gw_validate.specs.Trees.{Tree}
-use Rattle.gw_validate.specs.Occurring.{tree_of}
 use Rattle.gw_validate.specs.Fitting.{OccValue}
 use Rattle.gw_interp.specs.Occurrences.{Occurrence, a_segment, nodes}
 
 abbrev pub numbered : Option ℕ → Tree → Occurrence
-numbered None each = nodes each
-numbered (Some number) each = a_segment number
+numbered None t = nodes t
+numbered (Some number) t = a_segment number
 
 abbrev pub occurrence : OccValue → Occurrence
-occurrence o = numbered o.number (tree_of o.each)
+occurrence o = numbered o.number o.tree
 
 -- the occurrences that are walked, the innermost last in the program
 abbrev pub scope : List OccValue → List Occurrence

@@ -1,5 +1,6 @@
--- Trees as a program goes over them: one behind another, and how large they are.
+-- Trees as a program goes over them: one behind another; and how large a profile is.
 use Rattle.std.specs.Prelude.{ℕ, ◌+◌}
+use Rattle.gw_profile.specs.Shapes.{Forest, nothing, segment, group}
 use Rattle.gw_validate.specs.Trees.{Tree, leaf, segments, groups, Trees, no_trees, trees}
 
 -- one tree behind another
@@ -12,13 +13,8 @@ abbrev pub append_trees : Trees → Trees → Trees
 append_trees no_trees us = us
 append_trees (trees t ts) us = trees t (append_trees ts us)
 
-abbrev mutual
-  -- how large a tree is, by which a walk over it ends
-  pub weight : Tree → ℕ
-  weight leaf = 0
-  weight (segments ns t) = 1 + weight t
-  weight (groups ts t) = 1 + weight_all ts + weight t
-
-  pub weight_all : Trees → ℕ
-  weight_all no_trees = 0
-  weight_all (trees t ts) = 1 + weight t + weight_all ts
+-- how many nodes there are, by which a walk over them ends
+abbrev pub extent : Forest → ℕ
+extent nothing = 0
+extent (segment s rest) = 1 + extent rest
+extent (group g nodes rest) = 1 + extent nodes + extent rest

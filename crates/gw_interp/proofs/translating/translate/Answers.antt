@@ -7,7 +7,7 @@ use Rattle.gw_interp.proofs.translating.translate.Goals as goal
 
 pub put_items-requires-clause-begin : goal.put_items-requires-clause-begin
 put_items-requires-clause-begin c =
-    may_begin c.args.map.now c.items.ensures.checked c.rows_of-rows.ensures.lawful c.args.tree.now.profile c.requires.takes c.args.tree.now.message c.args.tree.now.each c.root_of.ensures.message c.root_of.ensures.conforms c.root_of.ensures.tree
+    may_begin c.args.map.now c.items.ensures.checked c.rows_of-rows.ensures.lawful c.args.tree.now.profile c.requires.takes c.args.tree.now.message c.args.tree.now.tree c.root_of.ensures.message c.root_of.ensures.conforms c.root_of.ensures.tree
     _
     (c.in_ok-push.ensures.items ∙ ap (λ l. l ++ c.root_of.result ∷ []) c.new-scope.ensures.items ∙ ap (λ r. r ∷ []) c.root_of.ensures.root)
     (forest c.nodes-nodes.result.now)
@@ -18,7 +18,7 @@ put_items-requires-clause-begin c =
 
 pub put_items-requires-clause-may : goal.put_items-requires-clause-may
 put_items-requires-clause-may c =
-    may_give c.args.map.now c.items.ensures.checked c.rows_of-rows.ensures.lawful c.args.tree.now.profile c.requires.takes c.args.tree.now.message c.args.tree.now.each c.root_of.ensures.message c.root_of.ensures.conforms c.root_of.ensures.tree
+    may_give c.args.map.now c.items.ensures.checked c.rows_of-rows.ensures.lawful c.args.tree.now.profile c.requires.takes c.args.tree.now.message c.args.tree.now.tree c.root_of.ensures.message c.root_of.ensures.conforms c.root_of.ensures.tree
     _
     (c.in_ok-push.ensures.items ∙ ap (λ l. l ++ c.root_of.result ∷ []) c.new-scope.ensures.items ∙ ap (λ r. r ∷ []) c.root_of.ensures.root)
     (forest c.nodes-nodes.result.now)
@@ -28,7 +28,7 @@ put_items-requires-clause-may c =
 
 pub finish-requires : goal.finish-requires
 finish-requires c =
-    some_made c.args.map.now c.items.ensures.checked c.rows_of-rows.ensures.lawful c.args.tree.now.profile c.requires.takes c.args.tree.now.message c.args.tree.now.each c.root_of.ensures.message c.root_of.ensures.conforms c.root_of.ensures.tree
+    some_made c.args.map.now c.items.ensures.checked c.rows_of-rows.ensures.lawful c.args.tree.now.profile c.requires.takes c.args.tree.now.message c.args.tree.now.tree c.root_of.ensures.message c.root_of.ensures.conforms c.root_of.ensures.tree
     _
     (c.in_ok-push.ensures.items ∙ ap (λ l. l ++ c.root_of.result ∷ []) c.new-scope.ensures.items ∙ ap (λ r. r ∷ []) c.root_of.ensures.root)
     (forest c.nodes-nodes.result.now)
@@ -40,7 +40,7 @@ finish-requires c =
 pub returns-clause-conforms : goal.returns-clause-conforms
 returns-clause-conforms c =
     subst (Conforms (profile_value c.args.map.now.target)) (sym c.finish.ensures)
-    (conforms_made c.args.map.now c.items.ensures.checked c.rows_of-rows.ensures.lawful c.args.tree.now.profile c.requires.takes c.args.tree.now.message c.args.tree.now.each c.root_of.ensures.message c.root_of.ensures.conforms c.root_of.ensures.tree
+    (conforms_made c.args.map.now c.items.ensures.checked c.rows_of-rows.ensures.lawful c.args.tree.now.profile c.requires.takes c.args.tree.now.message c.args.tree.now.tree c.root_of.ensures.message c.root_of.ensures.conforms c.root_of.ensures.tree
     _
     (c.in_ok-push.ensures.items ∙ ap (λ l. l ++ c.root_of.result ∷ []) c.new-scope.ensures.items ∙ ap (λ r. r ∷ []) c.root_of.ensures.root)
     (forest c.nodes-nodes.result.now)

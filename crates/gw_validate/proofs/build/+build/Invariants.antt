@@ -1,15 +1,20 @@
-use Rattle.std.proofs.Common.{length, take, drop}
-use Rattle.gw_validate.specs.own.Building.{GoGroups, GoNodes}
+use Rattle.std.proofs.Common.{◌-◌, length, drop}
+use Rattle.std.specs.List.{AllByRecursion}
 use Rattle.gw_profile.specs.Seen.{forest}
-use Rattle.gw_validate.specs.Occurring.{tree_of, trees_of}
+use Rattle.gw_validate.specs.own.Building.{GoGroups}
+use Rattle.gw_validate.specs.own.Occurring.{trees_of, IsOrdered}
 use Rattle.gw_validate.specs.Conforming.{named}
+use Rattle.gw_validate.proofs.Building.{Going}
 use Rattle.gw_validate.proofs.build.+build.Given as goal
 
-abbrev pub invariant-build_groups-loop-rest : goal.invariant-build_groups-loop-rest
-invariant-build_groups-loop-rest l = GoGroups (named l.message) l.fn.card.min l.fn.card.max (forest l.children) l.taken (trees_of l.found.items) l.due.min l.due.max l.rest
+abbrev pub invariant-build_groups-loop-here : goal.invariant-build_groups-loop-here
+invariant-build_groups-loop-here l = record {
+  going : GoGroups (named l.message) l.fn.card.min l.fn.card.max (forest l.children) (drop l.fn.at l.listed) (trees_of l.listed (forest l.children) l.found.items) l.due.min l.due.max (drop l.here l.listed);
+  ordered : AllByRecursion (IsOrdered (forest l.children)) l.found.items;
+}
 
-abbrev pub decreases-build_groups-loop-rest : goal.decreases-build_groups-loop-rest
-decreases-build_groups-loop-rest l = length l.rest
+abbrev pub decreases-build_groups-loop-here : goal.decreases-build_groups-loop-here
+decreases-build_groups-loop-here l = length l.listed - l.here
 
-abbrev pub invariant-build_nodes-loop-node : goal.invariant-build_nodes-loop-node
-invariant-build_nodes-loop-node l = GoNodes (named l.message) (forest l.nodes) (forest (take l.node-index l.nodes)) (forest (drop l.node-index l.nodes)) l.taken (tree_of l.found.items) l.rest
+abbrev pub invariant-build_nodes-loop-i : goal.invariant-build_nodes-loop-i
+invariant-build_nodes-loop-i l = Going (named l.message) l.listed l.nodes l.i (drop l.fn.at l.listed) l.found (drop l.here l.listed)

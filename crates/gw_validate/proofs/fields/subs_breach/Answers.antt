@@ -8,11 +8,11 @@ use Rattle.gw_validate.proofs.fields.subs_breach.Goals as goal
 
 pub returns-in-Some : goal.returns-in-Some
 returns-in-Some c =
-    sub_found sub (profile_value c.args.profile.now) c.args.segment.now.at c.args.field c.args.rep c.args.comp c.args.subs.now c.loop-sub.sub-index c.sub-item.result c.text_near-text.result.now c.loop-sub-test.true c.sub-item.is c.text_near-text.ensures c.in-Some.kind _ (ap (λ (s : Spot). s.kind) c.of_kind.ensures) c.loop-sub.invariant c.requires c.in-Some.ensures
+    sub_found sub (profile_value c.args.profile.now) c.args.segment.now.at c.args.field c.args.rep c.args.comp c.args.subs.now c.loop-sub.sub-index c.sub-item.result c.text_beside-text.result.now c.loop-sub-test.true c.sub-item.is c.text_beside-text.ensures c.in-Some.kind _ (ap (λ (s : Spot). s.kind) c.of_kind.ensures) c.loop-sub.invariant c.requires.rises c.in-Some.ensures
 
 pub loop-sub-preserved : goal.loop-sub-preserved
 loop-sub-preserved c =
-    sub_more sub (profile_value c.args.profile.now) c.args.segment.now.at c.args.field c.args.rep c.args.comp c.args.subs.now c.loop-sub.sub-index c.sub-item.result c.text_near-text.result.now c.loop-sub-test.true c.sub-item.is c.text_near-text.ensures c.loop-sub.invariant c.in_default.ensures
+    sub_more sub (profile_value c.args.profile.now) c.args.segment.now.at c.args.field c.args.rep c.args.comp c.args.subs.now c.loop-sub.sub-index c.sub-item.result c.text_beside-text.result.now c.loop-sub-test.true c.sub-item.is c.text_beside-text.ensures c.loop-sub.invariant c.in_default.ensures
 
 pub returns : goal.returns
 returns c =

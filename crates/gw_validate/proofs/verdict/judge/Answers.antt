@@ -36,8 +36,8 @@ returns-in-OutOfOrder c =
     (c.breach_at.ensures.sequence ∙ ap (sequence c.args.message.now c.index-number.result.now) c.name_at.ensures)
     (c.breach_at.ensures.spot ∙ ap (λ (s : Spot). segment_key s) c.of_kind.ensures))
 
-pub returns : goal.returns
-returns c =
+pub returns-in-Missing : goal.returns-in-Missing
+returns-in-Missing c =
     let taken : c.in_ok-taken.taken.items ≡ numbers (forest c.args.profile.now.nodes) c.args.message.now = c.in_ok-taken.ensures in
     let known : c.deref-2.result.now ≡ map (named c.args.message.now) (numbers (forest c.args.profile.now.nodes) c.args.message.now) =
     c.deref-2.ensures.value ∙ c.in_ok-names.ensures ∙ ap (map (named c.args.message.now)) (c.deref.ensures.value ∙ taken) in
@@ -46,9 +46,6 @@ returns c =
     (subst (λ (l : List Node). Answers (forest l) c.deref-2.result.now (answer.Missing c.in-Missing.name)) c.nodes.ensures.value (rw c.in-Missing.is at c.in_ok-walk.ensures))
     c.segment_count.ensures.count c.breach_at-in-Missing.ensures.segment c.breach_at-in-Missing.ensures.sequence
     (c.breach_at-in-Missing.ensures.spot ∙ ap (λ (s : Spot). segment_key s) c.of_kind-in-Missing.ensures))
-
-pub judge_segments-requires-clause-taken : goal.judge_segments-requires-clause-taken
-judge_segments-requires-clause-taken c = c.deref-in-Fits.ensures.value ∙ c.in_ok-taken.ensures
 
 pub returns-in-Fits : goal.returns-in-Fits
 returns-in-Fits c = c.judge_segments.ensures

@@ -1,26 +1,35 @@
-use Rattle.std.proofs.Common.{◌∙◌, sym, ap, subst, ◌<◌, length, List}
-use Rattle.gw_validate.specs.declared.occurrences.Occurrences.{Occurrences}
-use Rattle.gw_validate.specs.Occurring.{tree_of}
+use Rattle.std.proofs.Common.{◌≡◌, ◌<◌, ◌∙◌, sym, ap, subst, arith}
 use Rattle.gw_validate.specs.Fitting.{OccValue}
-use Rattle.gw_validate.specs.Viewing.{count_at, occurrence_at}
-use Rattle.gw_validate.proofs.Viewing.{count_child, at_child}
-use Rattle.gw_validate.proofs.Lending.{child_within}
+use Rattle.gw_validate.specs.Viewing.{width, count_at, occurrence_at}
+use Rattle.gw_validate.specs.own.Lending.{shown_tree, IsOf}
+use Rattle.gw_validate.specs.own.Occurring.{kept}
+use Rattle.gw_validate.proofs.Viewing.{width_nodes}
 use Rattle.gw_validate.proofs.occ.Occ.child.Goals as goal
 
-pub lend-requires-clause-within : goal.lend-requires-clause-within
-lend-requires-clause-within c =
-    let same = ap (λ (o : OccValue). o.each) c.self.view_is in
-    child_within (λ i. i < length c.self.inside.message.now) c.self.inside.each.now c.args.child c.index-each-child.result (subst (λ (l : List Occurrences). c.args.child < length l) (sym same) c.requires.child) c.index-each-child.is c.self.invariant.each
+pub child-requires-clause-child : goal.child-requires-clause-child
+child-requires-clause-child c =
+    let row = c.in-Group.row in
+    subst (λ n. c.args.child < n)
+    (ap (λ (o : OccValue). width o.tree) (sym c.self.view_is) ∙ ap (λ s. width (shown_tree s)) c.in-Group.is ∙ width_nodes row.listed.now (kept row.found.now) 0 row.nodes.now)
+    c.requires.child
 
-pub lend-requires-clause-k : goal.lend-requires-clause-k
-lend-requires-clause-k c =
-    let same = ap (λ (o : OccValue). o.each) c.self.view_is in
-    subst (λ n. c.args.k < n) (count_child c.self.inside.each.now c.args.child c.index-each-child.result (subst (λ (l : List Occurrences). c.args.child < length l) (sym same) c.requires.child) c.index-each-child.is)
-    (subst (λ (l : List Occurrences). c.args.k < count_at (tree_of l) c.args.child) (sym same) c.requires.k)
+pub child-requires-clause-k : goal.child-requires-clause-k
+child-requires-clause-k c =
+    subst (λ n. c.args.k < n)
+    (ap (λ (o : OccValue). count_at o.tree c.args.child) (sym c.self.view_is) ∙ ap (λ s. count_at (shown_tree s) c.args.child) c.in-Group.is)
+    c.requires.k
 
-pub returns-clause-shows : goal.returns-clause-shows
-returns-clause-shows c =
-    let same = ap (λ (o : OccValue). o.each) c.self.view_is in
-    ap (λ (l : List Occurrences). occurrence_at (tree_of l) c.args.child c.args.k) (sym same)
-    ∙ at_child c.self.inside.each.now c.args.child c.args.k c.index-each-child.result (subst (λ (l : List Occurrences). c.args.child < length l) (sym same) c.requires.child) c.index-each-child.is
-    ∙ c.lend.ensures.shows
+pub child-requires-clause-ordered : goal.child-requires-clause-ordered
+child-requires-clause-ordered c = (subst (IsOf c.self.inside.message.now) c.in-Group.is c.self.invariant).ordered
+
+pub invariant_of-result : goal.invariant_of-result
+invariant_of-result c = c.child.ensures.lawful c.self.inside.message.now (subst (IsOf c.self.inside.message.now) c.in-Group.is c.self.invariant).within
+
+pub returns-in-Segment-clause-shows : goal.returns-in-Segment-clause-shows
+returns-in-Segment-clause-shows c =
+    let none : count_at c.args.self.now.tree c.args.child ≡ 0 = ap (λ (o : OccValue). count_at o.tree c.args.child) (sym c.self.view_is) ∙ ap (λ s. count_at (shown_tree s) c.args.child) c.in-Segment.is in
+    absurd (omega (arith, c.requires.k, none))
+
+pub returns-in-Group-clause-shows : goal.returns-in-Group-clause-shows
+returns-in-Group-clause-shows c =
+    ap (λ (o : OccValue). occurrence_at o.tree c.args.child c.args.k) (sym c.self.view_is) ∙ ap (λ s. occurrence_at (shown_tree s) c.args.child c.args.k) c.in-Group.is ∙ c.child.ensures.shows

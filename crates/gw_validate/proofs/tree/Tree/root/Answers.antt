@@ -1,14 +1,11 @@
-use Rattle.std.proofs.Common.{◌<◌, sym, subst, length, List}
-use Rattle.std.specs.List.{AllByRecursion}
+use Rattle.std.proofs.Common.{◌∙◌, sym, ap, subst, List, ℕ}
 use Rattle.std.specs.Arc.{arc_value}
-use Rattle.gw_profile.specs.Seen.{profile_value}
-use Rattle.gw_validate.specs.declared.occurrences.Occurrences.{Occurrences}
-use Rattle.gw_validate.specs.Occurring.{tree_of}
-use Rattle.gw_validate.specs.Trees.{flatten}
-use Rattle.gw_validate.proofs.Lending.{tree_within}
+use Rattle.gw_profile.specs.declared.node.Node.{Node}
+use Rattle.gw_profile.specs.Seen.{Contents, forest}
+use Rattle.gw_validate.specs.own.Judging.{IsKept}
 use Rattle.gw_validate.proofs.tree.Tree.root.Goals as goal
 
 pub of-requires : goal.of-requires
 of-requires c =
-    subst (λ (l : List Occurrences). AllByRecursion (λ i. i < length c.self.inside.message) (flatten (tree_of l))) (sym c.deref.ensures.value)
-    (tree_within (profile_value (arc_value c.self.inside.profile)) c.self.inside.message (tree_of c.self.inside.each.items) c.self.invariant.tree)
+    subst (λ (l : List Node). IsKept (forest l) c.self.inside.message c.deref.result.now c.self.inside.found) (sym (c.nodes.ensures.value ∙ ap (λ (p : Contents). p.nodes) c.deref-2.ensures))
+    (subst (λ (l : List ℕ). IsKept (forest (arc_value c.self.inside.profile).nodes) c.self.inside.message l c.self.inside.found) (sym c.deref.ensures.value) c.self.invariant.kept)
