@@ -67,7 +67,8 @@ fn can_go_on(due: Card, children: &[Node], message: &Message, number: usize) -> 
 // The place behind the segments of a node that stand in the list from this place on.
 fn pass_segments(segment: &SegNode, message: &Message, listed: &[usize], at: usize) -> usize
     ensures on { at ≤ result }
-    ensures built { BuildsSegments (named message.now) (segment_value segment.now) (drop at listed.now) (take (result - at) (drop at listed.now)) (drop result listed.now) }
+    ensures built { BuildsSegments (named message.now) (segment_value segment.now)
+        (drop at listed.now) (take (result - at) (drop at listed.now)) (drop result listed.now) }
 {
     let mut due = segment.card;
     let mut here = at;

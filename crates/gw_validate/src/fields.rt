@@ -280,7 +280,8 @@ fn rep_breach(
     )
 }
 
-/// A repetition that is present, the number of its first text, near which its texts are looked for, and that of the text behind it, near which the next repetition is.
+/// A repetition that is present, the number of its first text, near which its texts are looked for,
+/// and that of the text behind it, near which the next repetition is.
 #[derive(Clone, Copy)]
 struct Present {
     rep: usize,

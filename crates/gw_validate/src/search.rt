@@ -67,7 +67,8 @@ fn search_node(
     requires rising { Rising row.now.nodes.items }
     requires ordered { AreOrdered (kept row.now) i (node_forest node.now nothing) }
     requires within { AllByRecursion (λ i. i < length message.now) listed.now }
-    ensures { FindsBreach (profile_value profile.now) message.now (assigned (tree_from listed.now (kept row.now) i (node_forest node.now nothing)) (node_forest node.now nothing)) result }
+    ensures { FindsBreach (profile_value profile.now) message.now
+        (assigned (tree_from listed.now (kept row.now) i (node_forest node.now nothing)) (node_forest node.now nothing)) result }
 {
     match node {
         Node::Seg(segment) => {
