@@ -1,7 +1,7 @@
 -- Look-ups among texts in order.
 use Rattle.std.proofs.Common.{◌≡◌, ◌≢◌, ℕ, zero, suc, ◌+◌, ◌<◌, ◌≤◌, Bool, true, false, cond, List, [], ◌∷◌, length, get_or, drop, Option, None, Some, Ordering, Less, Equal, Greater, refl, sym, ap, subst, ◌∙◌, arith, inl, inr}
 use Rattle.std.specs.Prelude.{◌==◌, ◌&&◌, T, unwrap_or}
-use Rattle.std.proofs.lemmas.Bool.{cases_lt, eq-eqb, true≢false}
+use Rattle.std.proofs.lemmas.Bool.{cases_lt, true≢false}
 use Rattle.std.proofs.lemmas.Bool.Decides.{nat_tests}
 use Rattle.std.proofs.lemmas.List.{drop_more, drop_all}
 use Rattle.std.specs.List.{AllWithin}
@@ -140,6 +140,18 @@ numbers-same p q e = grind (arith, nat_tests)
 
 same-numbers : (p q : Place) → numbers p ≡ numbers q → same p q ≡ true
 same-numbers p q e = grind (arith, nat_tests)
+
+-- where a text stands at a place, those before it stand below that place, and no other does
+pub start_here : (p : Place) (xs : List Held) (n : ℕ) (l : Held) → Sorted xs → n < length xs → l ≡ get_or xs n l → same l.place p ≡ true → IsPartitionPoint (λ y. is_below (numbers p) y ≡ true) (λ y. is_below (numbers p) y ≡ false) xs n
+start_here p xs n l h lt is at = (
+  (λ k d low high. ap is_lt (ap (order (key (get_or xs k d))) (sym (ap key (here xs n l d lt is) ∙ numbers-same l.place p at)) ∙ rising_at xs k n d h high lt)),
+  none_below (numbers p) xs n l h lt is (equal_not_less (order (key l) (numbers p)) (tie (key l) (numbers p) (numbers-same l.place p at))),
+)
+  where
+    equal_not_less : (r : Ordering) → is_eq r ≡ true → is_lt r ≡ false
+    equal_not_less Less e = absurd (let z : ⊥ = cc in z)
+    equal_not_less Equal e = refl
+    equal_not_less Greater e = refl
 
 pub text_here : (p : Place) (xs : List Held) (n : ℕ) (l : Held) → Sorted xs → IsStartOf (numbers p) xs n → n < length xs → l ≡ get_or xs n l → same l.place p ≡ true → unwrap_or (find order (numbers p) (entries_of xs)) [] ≡ l.text
 text_here p xs n l h point lt is at =

@@ -29,8 +29,8 @@ canon-head d (b ∷ bs) =
 
 -- ---- what `position` found
 
-pub head_is : (d : Delimiters) (bs : List ℕ) → unwrap_or (position (stops d) bs) (length bs) ≡ position_or_len (stops d) bs
-head_is d bs = (let le = prefix_len-le-length (λ b. not (stops d b)) bs in grind (arith, nat_tests))
+pub head_is : (p : ℕ → Bool) (bs : List ℕ) → unwrap_or (position p bs) (length bs) ≡ position_or_len p bs
+head_is p bs = (let le = prefix_len-le-length (λ b. not (p b)) bs in grind (arith, nat_tests))
 
 -- the bytes at the head were taken in
 pub head_taken : (d : Delimiters) (text out bs rest : List ℕ) → out ≡ text ++ before_first (stops d) bs → rest ≡ drop (position_or_len (stops d) bs) bs → out ++ canon d rest ≡ text ++ canon d bs

@@ -4,6 +4,7 @@ pub mod Cuts
 pub mod Separated
 pub mod Fixed
 pub mod Heads
+pub mod Marks
 pub mod Lined
 pub mod Faults
 pub mod Sorted

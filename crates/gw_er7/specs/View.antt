@@ -1,5 +1,5 @@
 -- Segments as they lie in memory, and what they stand for. The code's own words.
-use Rattle.std.specs.Prelude.{◌≡◌, ◌+◌, ◌<◌, ◌≤◌, ℕ, Bool, false, T, List, [], ◌∷◌, ◌++◌, length, map, take, drop, unwrap_or, Option, None, Some, refl}
+use Rattle.std.specs.Prelude.{◌≡◌, ◌+◌, ◌<◌, ◌≤◌, ℕ, Bool, false, T, List, [], ◌∷◌, length, map, take, drop, unwrap_or, Option, None, Some, refl}
 use Rattle.std.specs.List.{All, AllByRecursion, IsDistinct}
 use Rattle.std.specs.List.Sorted.{IsSortedBy}
 use Rattle.std.specs.Ordering.{nat_cmp, is_lt, is_le, is_gt, eq_by_cmp, ordering_then}

@@ -1,5 +1,6 @@
 //! The last numbers that are present.
-ghost use Rattle.std.specs.Prelude.{◌≡◌, ◌≤◌, length, T, true, false};
+ghost use Rattle.std.specs.Prelude.{◌≡◌, ◌≤◌, ◌∷◌, [], length, T, IsTrue, true, false};
+ghost use Rattle.std.specs.List.{AllWithin};
 ghost use Rattle.std.specs.List.Sorted.{IsPartitionPoint};
 ghost use Rattle.std.specs.Ordering.{nat_cmp, is_le};
 ghost use Rattle.std.specs.Cmp.Lexicographic.{slice_cmp};
@@ -9,6 +10,7 @@ ghost use Rattle.gw_er7.specs.Message.{numbers};
 ghost use Rattle.gw_er7.specs.View.{entries_of, AreValues, compare_begin, is_within, IsLastUnder};
 
 use crate::place::Place;
+use crate::search::NEAR;
 use crate::values::Values;
 use std::cmp::Ordering;
 
@@ -56,12 +58,56 @@ pub(crate) fn count_within(values: &Values<'_>, prefix: &[usize]) -> usize
     low
 }
 
-/// The last place that begins with these numbers.
-pub(crate) fn last_under(values: &Values<'_>, prefix: &[usize]) -> Option<Place>
-    requires { AreValues values.now }
+// Whether the texts before this number stand in fields up to this one.
+fn are_up_to(values: &Values<'_>, at: usize, field: usize) -> bool
+    requires { T (is_sorted (slice_cmp nat_cmp) (entries_of values.now)) }
+    ensures bound { IsTrue result → at ≤ length values.now }
+    ensures within { IsTrue result → AllWithin (λ h. is_within (field ∷ []) h ≡ true) values.now 0 at }
+{
+    if at == 0 {
+        return true;
+    }
+    if at > values.len() {
+        return false;
+    }
+    is_up_to(values.at(at - 1).place, field)
+}
+
+fn is_up_to(place: Place, field: usize) -> bool
+    ensures { result ≡ is_le (compare_begin (numbers place) (field ∷ [])) }
+{
+    place.field <= field
+}
+
+/// How many texts stand in fields up to this one: found at once where that is the number named or one of a few behind it.
+pub(crate) fn count_up_to(values: &Values<'_>, near: usize, field: usize) -> usize
+    requires { T (is_sorted (slice_cmp nat_cmp) (entries_of values.now)) }
+    ensures bound { result ≤ length values.now }
+    ensures end { IsPartitionPoint (λ h. is_within (field ∷ []) h ≡ true) (λ h. is_within (field ∷ []) h ≡ false) values.now result }
+{
+    if !are_up_to(values, near, field) {
+        return count_within(values, &[field]);
+    }
+    let mut at = near;
+    for _step in 0..NEAR {
+        if at == values.len() {
+            return at;
+        }
+        if !is_up_to(values.at(at).place, field) {
+            return at;
+        }
+        at += 1;
+    }
+    count_within(values, &[field])
+}
+
+/// The last place that begins with these numbers, where so many texts stand at places that don't begin above them.
+pub(crate) fn last_before(values: &Values<'_>, count: usize, prefix: &[usize]) -> Option<Place>
+    requires values { AreValues values.now }
+    requires bound { count ≤ length values.now }
+    requires end { IsPartitionPoint (λ h. is_within prefix.now h ≡ true) (λ h. is_within prefix.now h ≡ false) values.now count }
     ensures { IsLastUnder (texts.from_sorted (entries_of values.now)) prefix.now result }
 {
-    let count = count_within(values, prefix);
     if count == 0 {
         return None;
     }
@@ -70,4 +116,12 @@ pub(crate) fn last_under(values: &Values<'_>, prefix: &[usize]) -> Option<Place>
         return Some(place);
     }
     None
+}
+
+/// The last place that begins with these numbers.
+pub(crate) fn last_under(values: &Values<'_>, prefix: &[usize]) -> Option<Place>
+    requires { AreValues values.now }
+    ensures { IsLastUnder (texts.from_sorted (entries_of values.now)) prefix.now result }
+{
+    last_before(values, count_within(values, prefix), prefix)
 }

@@ -9,3 +9,12 @@ pub struct Delimiters {
     pub escape: u8,
     pub subcomponent: u8,
 }
+
+/// Those that the standard recommends: `|^~\&`.
+pub(crate) const STANDARD: Delimiters = Delimiters {
+    field: b'|',
+    component: b'^',
+    repetition: b'~',
+    escape: b'\\',
+    subcomponent: b'&',
+};

@@ -1,6 +1,6 @@
 //! The canonical text of a raw value (HL7 v2.5.1 chapter 2, 2.7 "Use of escape sequences in text fields").
-ghost use Rattle.std.specs.Prelude.{◌≡◌, ◌+◌, ◌++◌, ◌==◌, ◌||◌, drop, position, IfOk, IfNone, IfSome, OnOk, false, not};
-ghost use Rattle.std.specs.List.{list_all, position_or_len, before_first};
+ghost use Rattle.std.specs.Prelude.{◌≡◌, ◌≤◌, ◌+◌, ◌++◌, ◌==◌, ◌||◌, length, take, drop, position, IfOk, IfNone, IfSome, OnOk, false, not};
+ghost use Rattle.std.specs.List.{list_all, position_or_len};
 ghost use Rattle.gw_er7.specs.Text.{canon, escaped, plainly, meaning, delimiter_of, is_body, is_special, opens, IsBodyAt};
 
 use crate::delimiters::Delimiters;
@@ -100,16 +100,12 @@ fn head_len(delimiters: Delimiters, raw: &[u8]) -> usize
     first_stop(delimiters, raw).unwrap_or(raw.len())
 }
 
-/// Takes in the bytes up to the first that doesn't stand for itself, at once; gives those from there on.
-fn push_head<'a>(
-    text: &mut Vec<u8>,
-    delimiters: Delimiters,
-    raw: &'a [u8],
-) -> Result<&'a [u8], AllocError>
-    ensures head { OnOk result (text.new.items ≡ text.old.items ++ before_first (λ b. is_special b || b == delimiters.escape) raw.now) }
-    ensures rest { IfOk result (λ rest. rest.now ≡ drop (position_or_len (λ b. is_special b || b == delimiters.escape) raw.now) raw.now) }
+/// Takes in the first bytes, so many; gives those behind them.
+fn push_first<'a>(text: &mut Vec<u8>, raw: &'a [u8], len: usize) -> Result<&'a [u8], AllocError>
+    requires { len ≤ length raw.now }
+    ensures head { OnOk result (text.new.items ≡ text.old.items ++ take len raw.now) }
+    ensures rest { IfOk result (λ rest. rest.now ≡ drop len raw.now) }
 {
-    let len = head_len(delimiters, raw);
     if len == 0 {
         return Ok(raw);
     }
@@ -117,15 +113,17 @@ fn push_head<'a>(
     Ok(&raw[len..])
 }
 
-/// Takes in the canonical text of a raw value under the sender's delimiters.
+/// Takes in the canonical text of a raw value under the sender's delimiters, of which so many bytes stand for themselves before the first that doesn't.
 pub(crate) fn push_canonical(
     text: &mut Vec<u8>,
     delimiters: Delimiters,
     raw: &[u8],
+    plain: usize,
 ) -> Result<(), AllocError>
+    requires { plain ≡ position_or_len (λ b. is_special b || b == delimiters.escape) raw.now }
     ensures { OnOk result (text.new.items ≡ text.old.items ++ canon delimiters raw.now) }
 {
-    let mut rest = push_head(text, delimiters, raw)?;
+    let mut rest = push_first(text, raw, plain)?;
     while let [first, after @ ..] = rest {
         match body_at(delimiters, *first, after) {
             Some(body) => {
@@ -134,7 +132,7 @@ pub(crate) fn push_canonical(
             }
             None => {
                 push_plainly(text, *first)?;
-                rest = push_head(text, delimiters, after)?;
+                rest = push_first(text, after, head_len(delimiters, after))?;
             }
         }
     }
@@ -146,6 +144,6 @@ pub fn canonical(alloc: Global, delimiters: Delimiters, raw: &[u8]) -> Result<Ve
     ensures { IfOk result (λ text. text.items ≡ canon delimiters raw.now) }
 {
     let mut text = Vec::with_capacity(alloc, raw.len())?;
-    push_canonical(&mut text, delimiters, raw)?;
+    push_canonical(&mut text, delimiters, raw, head_len(delimiters, raw))?;
     Ok(text)
 }

@@ -1,12 +1,14 @@
 //! The texts of a segment's fields.
-ghost use Rattle.std.specs.Prelude.{◌≡◌, ◌+◌, ◌<◌, ◌≤◌, ◌^◌, ◌++◌, ◌-◌, true, position, OnOk, IfOk};
+ghost use Rattle.std.specs.Prelude.{◌≡◌, ◌==◌, ◌||◌, ◌+◌, ◌<◌, ◌≤◌, ◌^◌, ◌++◌, ◌-◌, true, position, OnOk, IfOk};
+ghost use Rattle.std.specs.List.{position_or_len};
 ghost use Rattle.gw_er7.specs.Message.{numbers};
 ghost use Rattle.gw_er7.specs.Entries.{fields};
-ghost use Rattle.gw_er7.specs.own.Separators.{separators, is_separator, next_numbers, value_at, held_in, taken_by, Keeps, IsCut};
+ghost use Rattle.gw_er7.specs.Text.{is_special};
+ghost use Rattle.gw_er7.specs.own.Separators.{separators, is_separator, is_mark, next_numbers, value_at, held_in, taken_by, Keeps, IsCut};
 ghost use Rattle.gw_er7.specs.View.{AreInside};
 
-use crate::delimiters::Delimiters;
-use crate::escapes::push_canonical;
+use crate::delimiters::{Delimiters, STANDARD};
+use crate::escapes::{is_special, push_canonical};
 use crate::leaves::{Leaf, MessageLeaves, Store};
 use crate::place::Place;
 use crate::texts::Texts;
@@ -30,13 +32,64 @@ fn first_separator(delimiters: Delimiters, bytes: &[u8]) -> Option<usize>
 }
 
 /// The bytes up to the first separator, and the separator and the bytes behind it where there is one.
-fn cut_value(delimiters: Delimiters, bytes: &[u8]) -> (&[u8], Option<(u8, &[u8])>)
+fn cut_at_separator(delimiters: Delimiters, bytes: &[u8]) -> (&[u8], Option<(u8, &[u8])>)
     ensures { IsCut (separators delimiters) bytes.now result.0.now result.1 }
 {
     match first_separator(delimiters, bytes) {
         None => (bytes, None),
         Some(at) => (&bytes[..at], Some((bytes[at], &bytes[at + 1..]))),
     }
+}
+
+/// Where a value ends, or the first byte of it that doesn't stand for itself.
+fn first_mark(delimiters: Delimiters, bytes: &[u8]) -> Option<usize>
+    ensures { result ≡ position (λ b. is_mark delimiters b) bytes.now }
+{
+    if delimiters == STANDARD {
+        return bytes.iter().position(|byte| is_special(*byte));
+    }
+    bytes.iter().position(|byte| {
+        is_special(*byte) || *byte == delimiters.escape || is_separator(delimiters, *byte)
+    })
+}
+
+/// How many bytes stand before that one, or how many there are where there is none.
+fn plain_len(delimiters: Delimiters, bytes: &[u8]) -> usize
+    ensures { result ≡ position_or_len (λ b. is_mark delimiters b) bytes.now }
+{
+    first_mark(delimiters, bytes).unwrap_or(bytes.len())
+}
+
+/// A raw value, the first bytes of which stand for themselves, and the separator and the bytes behind it where there is one.
+#[derive(Clone, Copy)]
+struct Cut<'a> {
+    raw: &'a [u8],
+    plain: usize,
+    behind: Option<(u8, &'a [u8])>,
+}
+
+/// The value with which bytes begin: most are looked through once, up to the separator behind them.
+fn cut_value(delimiters: Delimiters, bytes: &[u8]) -> Cut<'_>
+    ensures cut { IsCut (separators delimiters) bytes.now result.raw.now result.behind }
+    ensures plain { result.plain ≡ position_or_len (λ b. is_special b || b == delimiters.escape) result.raw.now }
+{
+    let plain = plain_len(delimiters, bytes);
+    if plain >= bytes.len() {
+        return Cut {
+            raw: bytes,
+            plain,
+            behind: None,
+        };
+    }
+    if is_separator(delimiters, bytes[plain]) {
+        return Cut {
+            raw: &bytes[..plain],
+            plain,
+            behind: Some((bytes[plain], &bytes[plain + 1..])),
+        };
+    }
+    let (raw, behind) = cut_at_separator(delimiters, bytes);
+    Cut { raw, plain, behind }
 }
 
 /// The place behind a separator: its own number is one more, and the lower ones begin again.
@@ -109,14 +162,16 @@ impl Taken {
     }
 }
 
-/// Takes in the raw value at a place.
+/// Takes in the raw value at a place, of which so many bytes stand for themselves before the first that doesn't.
 fn push_value(
     taken: &mut Taken,
     delimiters: Delimiters,
     place: Place,
     raw: &[u8],
+    plain: usize,
 ) -> Result<(), AllocError>
-    requires { AreInside taken.old.bytes.items taken.old.leaves }
+    requires inside { AreInside taken.old.bytes.items taken.old.leaves }
+    requires plain { plain ≡ position_or_len (λ b. is_special b || b == delimiters.escape) raw.now }
     ensures inside { OnOk result (AreInside taken.new.bytes.items taken.new.leaves) }
     ensures kept { OnOk result (Keeps taken.old taken.new) }
     ensures entries { OnOk result (taken_by taken.new ≡ taken_by taken.old ++ value_at delimiters (numbers place) raw.now) }
@@ -125,9 +180,9 @@ fn push_value(
         return Ok(());
     }
     let from = taken.bytes.len();
-    push_canonical(&mut taken.bytes, delimiters, raw)?;
+    push_canonical(&mut taken.bytes, delimiters, raw, plain)?;
     let len = taken.bytes.len() - from;
-    taken.leaves.push(Leaf { place, from, len })?;
+    taken.leaves.push(&Leaf { place, from, len })?;
     Ok(())
 }
 
@@ -152,9 +207,9 @@ pub(crate) fn take_fields(
     };
     let mut rest = bytes;
     loop {
-        let (raw, behind) = cut_value(delimiters, rest);
-        push_value(taken, delimiters, place, raw)?;
-        let Some((separator, later)) = behind else {
+        let cut = cut_value(delimiters, rest);
+        push_value(taken, delimiters, place, cut.raw, cut.plain)?;
+        let Some((separator, later)) = cut.behind else {
             return Ok(());
         };
         place = next_place(delimiters, place, separator);

@@ -231,8 +231,8 @@ pub(crate) trait Store: Drop {
         ensures { IfOk result (λ made. leaves made ≡ []) };
 
     /// Puts a leaf behind the others.
-    fn push(&mut self, leaf: Leaf) -> Result<(), AllocError>
-        ensures ok { OnOk result (leaves self.new ≡ leaves self.old ++ leaf ∷ []) }
+    fn push(&mut self, leaf: &Leaf) -> Result<(), AllocError>
+        ensures ok { OnOk result (leaves self.new ≡ leaves self.old ++ leaf.now ∷ []) }
         ensures err { OnErr result (leaves self.new ≡ leaves self.old) };
 
     /// Puts the leaves from this number on in the order of their places. It takes no memory.
@@ -273,8 +273,8 @@ impl Store for Vec<Leaf> {
         Ok(Vec::with_capacity(alloc, room)?)
     }
 
-    fn push(&mut self, leaf: Leaf) -> Result<(), AllocError> {
-        self.push(leaf)?;
+    fn push(&mut self, leaf: &Leaf) -> Result<(), AllocError> {
+        self.push(*leaf)?;
         Ok(())
     }
 
@@ -308,7 +308,7 @@ fn widen_into<N: Width, L: Store>(others: &mut L, narrow: &[N]) -> Result<(), Al
     ensures { OnOk result (L.leaves others.new ≡ L.leaves others.old ++ map N.said narrow.now) }
 {
     for leaf in narrow {
-        others.push(leaf.widened())?;
+        others.push(&leaf.widened())?;
     }
     Ok(())
 }
@@ -340,8 +340,8 @@ impl<N: Width, L: Store> Leaves<N, L> {
     ghost use Rattle.std.specs.Prelude.{◌≡◌, ◌++◌, ◌∷◌, [], OnOk, OnErr};
 
     /// Puts a leaf behind the others that doesn't fit in the narrow width: none is narrow from now on.
-    fn push_wide(&mut self, leaf: Leaf) -> Result<(), AllocError>
-        ensures ok { OnOk result (self.new ≡ self.old ++ leaf ∷ []) }
+    fn push_wide(&mut self, leaf: &Leaf) -> Result<(), AllocError>
+        ensures ok { OnOk result (self.new ≡ self.old ++ leaf.now ∷ []) }
         ensures err { OnErr result (self.new ≡ self.old) }
     {
         if self.narrow.is_empty() {
@@ -376,11 +376,11 @@ impl<N: Width, L: Store> Store for Leaves<N, L> {
         })
     }
 
-    fn push(&mut self, leaf: Leaf) -> Result<(), AllocError> {
-        if self.others.len() > 0 {
+    fn push(&mut self, leaf: &Leaf) -> Result<(), AllocError> {
+        if self.narrow.is_empty() && self.others.len() > 0 {
             return self.others.push(leaf);
         }
-        let Some(narrow) = N::narrowed(leaf) else {
+        let Some(narrow) = N::narrowed(*leaf) else {
             return self.push_wide(leaf);
         };
         self.narrow.push(narrow)?;

@@ -1,5 +1,5 @@
 //! Look-ups among texts in order.
-ghost use Rattle.std.specs.Prelude.{◌≡◌, ◌≤◌, [], length, unwrap_or, T, IsTrue, true, false};
+ghost use Rattle.std.specs.Prelude.{◌≡◌, ◌≤◌, [], length, unwrap_or, T, IsTrue, IfSome, true, false};
 ghost use Rattle.std.specs.List.{AllWithin};
 ghost use Rattle.std.specs.List.Sorted.{IsPartitionPoint};
 ghost use Rattle.std.specs.Ordering.{nat_cmp, is_lt};
@@ -26,7 +26,16 @@ pub(crate) fn compare_places(a: Place, b: Place) -> Ordering
 fn is_below(here: Place, place: Place) -> bool
     ensures { result ≡ is_lt (slice_cmp nat_cmp (numbers here) (numbers place)) }
 {
-    compare_places(here, place).is_lt()
+    if here.field != place.field {
+        return here.field < place.field;
+    }
+    if here.rep != place.rep {
+        return here.rep < place.rep;
+    }
+    if here.comp != place.comp {
+        return here.comp < place.comp;
+    }
+    here.sub < place.sub
 }
 
 /// How many texts stand at places below this one.
@@ -49,7 +58,7 @@ pub(crate) fn count_below(values: &Values<'_>, place: Place) -> usize
 }
 
 /// How far behind the number that was named a place is looked for, before all the texts are searched.
-const NEAR: usize = 8;
+pub(crate) const NEAR: usize = 8;
 
 // Whether the texts before this number stand at places below this one.
 fn are_below(values: &Values<'_>, at: usize, place: Place) -> bool
@@ -86,6 +95,23 @@ pub(crate) fn count_below_near(values: &Values<'_>, near: usize, place: Place) -
         at += 1;
     }
     count_below(values, place)
+}
+
+/// The text of this number, where it stands at this place.
+pub(crate) fn text_there<'a>(values: &Values<'a>, at: usize, place: Place) -> Option<&'a [u8]>
+    requires { T (is_sorted (slice_cmp nat_cmp) (entries_of values.now)) }
+    ensures bound { IfSome result (λ text. at ≤ length values.now) }
+    ensures start { IfSome result (λ text. IsPartitionPoint (λ h. is_below (numbers place) h ≡ true) (λ h. is_below (numbers place) h ≡ false) values.now at) }
+    ensures text { IfSome result (λ text. text.now ≡ unwrap_or (find (slice_cmp nat_cmp) (numbers place) (entries_of values.now)) []) }
+{
+    if at >= values.len() {
+        return None;
+    }
+    let value = values.at(at);
+    if value.place != place {
+        return None;
+    }
+    Some(value.text)
 }
 
 /// The text at a place that these many texts stand below, empty where it is absent.

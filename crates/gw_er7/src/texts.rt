@@ -72,7 +72,7 @@ impl Texts {
             from,
             len: text.len(),
         };
-        match self.leaves.push(leaf) {
+        match self.leaves.push(&leaf) {
             Ok(()) => Ok(()),
             Err(_) => {
                 self.bytes.truncate(from);

@@ -1,10 +1,10 @@
 //! Segments as they are lent.
 
-use crate::counts::{count_within, last_under};
+use crate::counts::{count_up_to, count_within, last_before, last_under};
 use crate::layout::write_line;
 use crate::place::Place;
 use crate::same::{same_bytes, same_values};
-use crate::search::{count_below, count_below_near, text_behind};
+use crate::search::{count_below, count_below_near, text_behind, text_there};
 use crate::values::Values;
 use std::alloc::AllocError;
 use std::marker::Model;
@@ -195,11 +195,29 @@ impl<'a> Segment<'a> {
         )
     }
 
-    /// The same as `text`, in a constant time where the text's number is the one named or one of a few behind it.
-    pub fn text_near(&self, near: usize, place: Place) -> &'a [u8]
-        ensures { result.now ≡ text_at self.now place }
+    /// The text at a place as `text` gives it, and the number of the first text from that place on.
+    /// It takes no memory, and a constant time where that is the number named or one of a few behind it.
+    pub fn find_near(&self, near: usize, place: Place) -> (usize, &'a [u8])
+        ensures start { IsStart (numbers place) (texts.entries self.now.at) result.0 }
+        ensures text { result.1.now ≡ text_at self.now place }
     {
+        if let Some(text) = text_there(&self.values, near, place) {
+            return (near, text);
+        }
         let at = count_below_near(&self.values, near, place);
-        text_behind(&self.values, at, place)
+        (at, text_behind(&self.values, at, place))
+    }
+
+    /// The number of the last repetition of a field that is present, as `reps` gives it, and the number of the first text behind the field.
+    /// It takes no memory, and a constant time where that is the number named or one of a few behind it.
+    pub fn reps_near(&self, near: usize, field: usize) -> (usize, usize)
+        ensures last { IsLast (RepAt self.now.at field) result.0 }
+        ensures behind { IsStart ((field + 1) ∷ []) (texts.entries self.now.at) result.1 }
+    {
+        let behind = count_up_to(&self.values, near, field);
+        match last_before(&self.values, behind, &[field]) {
+            Some(place) => (place.rep, behind),
+            None => (0, behind),
+        }
     }
 }

@@ -36,8 +36,16 @@ fn counts(segment: &Segment<'_>) -> (usize, usize, usize, usize, usize) {
 // Whether places are found wherever they are looked for first.
 fn is_found_from(segment: &Segment<'_>, near: usize) -> bool {
     segment.values_before(near, place(3, 1, 2, 0)) == 2
-        && segment.text_near(near, place(3, 3, 1, 1)) == b"d".as_slice()
-        && segment.text_near(near, place(3, 2, 1, 1)).is_empty()
+        && stands(segment, near, place(3, 3, 1, 1), 4, b"d")
+        && stands(segment, near, place(3, 2, 1, 1), 4, b"")
+        && segment.reps_near(near, 3) == (3, 5)
+        && segment.reps_near(near, 2) == (1, 1)
+}
+
+// Whether this text stands at a place, which begins at the value of this number.
+fn stands(segment: &Segment<'_>, near: usize, at: Place, number: usize, text: &[u8]) -> bool {
+    let (found, there) = segment.find_near(near, at);
+    found == number && there == text
 }
 
 // Whether the value of this number is this text, and is found by its place.

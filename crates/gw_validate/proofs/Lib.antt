@@ -24,4 +24,5 @@ pub mod Lawful
 pub mod Deciding
 pub mod Alone
 pub mod Keys
+pub mod Starts
 pub mod Nexts

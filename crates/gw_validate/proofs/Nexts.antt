@@ -1,156 +1,109 @@
--- The next repetition that is present.
-use Rattle.std.proofs.Common.{◌≡◌, ℕ, zero, suc, ◌+◌, ◌-◌, ◌<◌, ◌≤◌, ◌⊎◌, inl, inr, List, [], ◌∷◌, Option, Some, None, refl, sym, ap, ◌∙◌, subst, arith, length, slice_get, unwrap_or}
-use Rattle.std.specs.Prelude.{◌≢◌}
-use Rattle.std.specs.List.{AllByRecursion}
+-- The next repetition that is present, and whether a component is.
+use Rattle.std.proofs.Common.{◌≡◌, ℕ, zero, suc, ◌+◌, ◌-◌, ◌<◌, ◌≤◌, ◌⊎◌, inl, inr, List, [], ◌∷◌, Some, refl, sym, subst, arith, length, slice_get}
 use Rattle.std.specs.FinMap as texts
-use Rattle.std.proofs.lemmas.Option.{slice_get_past}
-use Rattle.gw_er7.specs.Message.{Texts, SegmentValue, IsSegment, IsEntry, first_field}
-use Rattle.gw_er7.specs.Presence.{SubAt, RepAt, IsLast, IsStart}
+use Rattle.std.proofs.lemmas.Bool.{cases_lt}
+use Rattle.gw_er7.specs.Message.{SegmentValue, IsSegment, IsEntry, first_field}
+use Rattle.gw_er7.specs.Presence.{SubAt, CompAt, RepAt, IsLast, IsStart}
 use Rattle.gw_validate.specs.Breaches.{Counted, NotAfter}
 use Rattle.gw_validate.proofs.Breaches.{counted_yes}
-use Rattle.gw_validate.proofs.Keys.{not_less, less_first, never_less, rising_at, Stands, found_at, find_at}
-
--- a present text stands among the entries
-module _ (m : Texts) where
-  standing : (f r c s : ℕ) (o : Option (List ℕ)) → texts.get m (f ∷ r ∷ c ∷ s ∷ []) ≡ o → 0 < length (unwrap_or o []) → (t : List ℕ) × Stands (texts.entries m) (f ∷ r ∷ c ∷ s ∷ []) t
-  standing f r c s None e h = absurd (omega arith)
-  standing f r c s (Some t) e h =
-      (t, found_at (f ∷ r ∷ c ∷ s ∷ []) t (texts.entries m) (sym (texts.get-entries m (f ∷ r ∷ c ∷ s ∷ [])) ∙ e))
-
-  pub stands : (f r c s : ℕ) → SubAt m f r c s → (t : List ℕ) × Stands (texts.entries m) (f ∷ r ∷ c ∷ s ∷ []) t
-  stands f r c s h = standing f r c s (texts.get m (f ∷ r ∷ c ∷ s ∷ [])) refl h
-
-  nonempty : (t : List ℕ) → t ≢ [] → 0 < length t
-  nonempty [] n = absurd (n refl)
-  nonempty (x ∷ t) n = omega arith
-
-  pub present : (f r c s j : ℕ) (t : List ℕ) → slice_get (texts.entries m) j ≡ Some (f ∷ r ∷ c ∷ s ∷ [], t) → t ≢ [] → SubAt m f r c s
-  present f r c s j t g n =
-      let found : texts.get m (f ∷ r ∷ c ∷ s ∷ []) ≡ Some t = texts.get-entries m (f ∷ r ∷ c ∷ s ∷ []) ∙ find_at (f ∷ r ∷ c ∷ s ∷ []) t (texts.entries m) j (texts.entries_sorted m) g in
-      subst (λ (o : Option (List ℕ)). 0 < length (unwrap_or o [])) (sym found) (nonempty t n)
-
-each_at : (P : List ℕ × List ℕ → Type 0) (es : List (List ℕ × List ℕ)) (j : ℕ) (e : List ℕ × List ℕ) → AllByRecursion P es → slice_get es j ≡ Some e → P e
-each_at P [] j e a g = absurd (cc)
-each_at P (x ∷ es) zero e a g = let same : x ≡ e = cc in subst P same a.0
-each_at P (x ∷ es) (suc j) e a g = each_at P es j e a.1 g
+use Rattle.gw_validate.proofs.Starts.{stands, present, each_at, heads, seconds, inside, low, early}
 
 module _ (v : SegmentValue) (f after last start : ℕ) (is : IsLast (RepAt v.at f) last) (lt : after < last) (begin : IsStart (f ∷ (after + 1) ∷ 0 ∷ 0 ∷ []) (texts.entries v.at) start) where
-  abbrev Es : List (List ℕ × List ℕ)
-  Es = texts.entries v.at
+  abbrev Key : List ℕ
+  Key = f ∷ (after + 1) ∷ 0 ∷ 0 ∷ []
 
-  from_rep : (r c s : ℕ) → after < r → NotAfter (f ∷ (after + 1) ∷ 0 ∷ 0 ∷ []) (f ∷ r ∷ c ∷ s ∷ [])
-  from_rep r c s h = inr (refl, by (compare (after + 1) r))
+  -- a later repetition comes no earlier
+  from_rep : (r c s : ℕ) → after < r → NotAfter Key (f ∷ r ∷ c ∷ s ∷ [])
+  from_rep r c s h = inr (refl, elim (cases_lt (after + 1) r) [ inl l ↦ inl l | inr le ↦ inr (omega (arith, le, h), rest) ])
     where
-      compare : (a b : ℕ) → (a < b) ⊎ ((a ≡ b) ⊎ (b < a))
-      compare zero zero = inr (inl refl)
-      compare zero (suc b) = inl (omega arith)
-      compare (suc a) zero = inr (inr (omega arith))
-      compare (suc a) (suc b) = elim (compare a b) [ inl l ↦ inl (omega arith) | inr h ↦ elim h [ inl e ↦ inr (inl (ap suc e)) | inr l ↦ inr (inr (omega arith)) ] ]
-
-      low : (c : ℕ) → (0 < c) ⊎ (0 ≡ c)
-      low zero = inr refl
-      low (suc c) = inl (omega arith)
+      none_below : (n : ℕ) → (0 < n) ⊎ (0 ≡ n)
+      none_below zero = inr refl
+      none_below (suc n) = inl (omega arith)
 
       rest : NotAfter (0 ∷ 0 ∷ []) (c ∷ s ∷ [])
-      rest = elim (low c) [ inl l ↦ inl l | inr e ↦ inr (e, elim (low s) [ inl l ↦ inl l | inr d ↦ inr (d, tt) ]) ]
+      rest = elim (none_below c) [ inl l ↦ inl l | inr e ↦ inr (e, elim (none_below s) [ inl l ↦ inl l | inr d ↦ inr (d, tt) ]) ]
 
-      by : (after + 1 < r) ⊎ ((after + 1 ≡ r) ⊎ (r < after + 1)) → NotAfter ((after + 1) ∷ 0 ∷ 0 ∷ []) (r ∷ c ∷ s ∷ [])
-      by (inl l) = inl l
-      by (inr (inl e)) = inr (e, rest)
-      by (inr (inr l)) = absurd (omega arith)
-
-  -- a later repetition stands from the start on
-  behind : (r c s j : ℕ) (t : List ℕ) → after < r → slice_get Es j ≡ Some (f ∷ r ∷ c ∷ s ∷ [], t) → start ≤ j
-  behind r c s j t h g = by (side j start)
-    where
-      side : (a b : ℕ) → (a < b) ⊎ (b ≤ a)
-      side zero zero = inr (omega arith)
-      side zero (suc b) = inl (omega arith)
-      side (suc a) zero = inr (omega arith)
-      side (suc a) (suc b) = elim (side a b) [ inl l ↦ inl (omega arith) | inr l ↦ inr (omega arith) ]
-
-      by : (j < start) ⊎ (start ≤ j) → start ≤ j
-      by (inl l) = absurd (never_less (f ∷ r ∷ c ∷ s ∷ []) (f ∷ (after + 1) ∷ 0 ∷ 0 ∷ []) refl (from_rep r c s h) (begin.before j (f ∷ r ∷ c ∷ s ∷ [], t) l g))
-      by (inr l) = l
-
-  pub start_within : start < length Es
+  pub start_within : start < length (texts.entries v.at)
   start_within =
       let p = is.there (omega arith) in
       let q = stands v.at f last p.0 p.1.0 p.1.1 in
-      let le = behind last p.0 p.1.0 q.1.at q.0 lt q.1.is in
-      inside q.1.at q.0 (f ∷ last ∷ p.0 ∷ p.1.0 ∷ []) le q.1.is
-    where
-      inside : (j : ℕ) (t k : List ℕ) → start ≤ j → slice_get Es j ≡ Some (k, t) → start < length Es
-      inside j t k le g = by (side j (length Es))
-        where
-          side : (a b : ℕ) → (a < b) ⊎ (b ≤ a)
-          side zero zero = inr (omega arith)
-          side zero (suc b) = inl (omega arith)
-          side (suc a) zero = inr (omega arith)
-          side (suc a) (suc b) = elim (side a b) [ inl l ↦ inl (omega arith) | inr l ↦ inr (omega arith) ]
+      inside v Key start refl begin (f ∷ last ∷ p.0 ∷ p.1.0 ∷ []) q.0 q.1.at refl (from_rep last p.0 p.1.0 lt) q.1.is
 
-          by : (j < length Es) ⊎ (length Es ≤ j) → start < length Es
-          by (inl l) = omega arith
-          by (inr l) = let none : slice_get Es j ≡ None = slice_get_past Es j l in absurd (cc)
+  module _ (whole : IsSegment v) (g0 r0 c0 s0 : ℕ) (t0 : List ℕ) (at : slice_get (texts.entries v.at) start ≡ Some (g0 ∷ r0 ∷ c0 ∷ s0 ∷ [], t0)) where
+    abbrev Found : List ℕ
+    Found = g0 ∷ r0 ∷ c0 ∷ s0 ∷ []
 
-  module _ (whole : IsSegment v) (g0 r0 c0 s0 : ℕ) (t0 : List ℕ) (at : slice_get Es start ≡ Some (g0 ∷ r0 ∷ c0 ∷ s0 ∷ [], t0)) where
-    low : NotAfter (f ∷ (after + 1) ∷ 0 ∷ 0 ∷ []) (g0 ∷ r0 ∷ c0 ∷ s0 ∷ [])
-    low = not_less (g0 ∷ r0 ∷ c0 ∷ s0 ∷ []) (f ∷ (after + 1) ∷ 0 ∷ 0 ∷ []) refl (begin.from start (g0 ∷ r0 ∷ c0 ∷ s0 ∷ [], t0) (omega arith) at)
+    no_earlier : NotAfter Key Found
+    no_earlier = low v Key start refl begin Found t0 refl at
 
     -- the first entry from the start on comes no later than any of a later repetition
-    early : (r c s j : ℕ) (t : List ℕ) → after < r → slice_get Es j ≡ Some (f ∷ r ∷ c ∷ s ∷ [], t) → NotAfter (g0 ∷ r0 ∷ c0 ∷ s0 ∷ []) (f ∷ r ∷ c ∷ s ∷ [])
-    early r c s j t h g = by (side start j) (behind r c s j t h g)
-      where
-        side : (a b : ℕ) → (a < b) ⊎ (b ≤ a)
-        side zero zero = inr (omega arith)
-        side zero (suc b) = inl (omega arith)
-        side (suc a) zero = inr (omega arith)
-        side (suc a) (suc b) = elim (side a b) [ inl l ↦ inl (omega arith) | inr l ↦ inr (omega arith) ]
-
-        self : (p : List ℕ) → NotAfter p p
-        self [] = tt
-        self (a ∷ p) = inr (refl, self p)
-
-        by : (start < j) ⊎ (j ≤ start) → start ≤ j → NotAfter (g0 ∷ r0 ∷ c0 ∷ s0 ∷ []) (f ∷ r ∷ c ∷ s ∷ [])
-        by (inl l) le =
-            less_first (g0 ∷ r0 ∷ c0 ∷ s0 ∷ []) (f ∷ r ∷ c ∷ s ∷ []) refl
-            (rising_at Es start j (g0 ∷ r0 ∷ c0 ∷ s0 ∷ [], t0) (f ∷ r ∷ c ∷ s ∷ [], t) (texts.entries_sorted v.at) l at g)
-        by (inr l) le =
-            let same : start ≡ j = omega arith in
-            let both : Some (g0 ∷ r0 ∷ c0 ∷ s0 ∷ [], t0) ≡ Some (f ∷ r ∷ c ∷ s ∷ [], t) = sym at ∙ ap (slice_get Es) same ∙ g in
-            let keys : g0 ∷ r0 ∷ c0 ∷ s0 ∷ [] ≡ f ∷ r ∷ c ∷ s ∷ [] = ap (λ (o : Option (List ℕ × List ℕ)). (unwrap_or o (g0 ∷ r0 ∷ c0 ∷ s0 ∷ [], t0)).0) both in
-            subst (NotAfter (g0 ∷ r0 ∷ c0 ∷ s0 ∷ [])) keys (self (g0 ∷ r0 ∷ c0 ∷ s0 ∷ []))
-
-    -- numbers of two keys in order
-    heads : (a b : ℕ) (p q : List ℕ) → NotAfter (a ∷ p) (b ∷ q) → a ≤ b
-    heads a b p q (inl l) = omega arith
-    heads a b p q (inr e) = omega (arith, e.0)
-
-    seconds : (a b : ℕ) (p q : List ℕ) → a ≡ b → NotAfter (a ∷ p) (b ∷ q) → NotAfter p q
-    seconds a b p q e (inl l) = absurd (omega (arith, e, l))
-    seconds a b p q e (inr n) = n.1
+    no_later : (r c s : ℕ) → after < r → SubAt v.at f r c s → NotAfter Found (f ∷ r ∷ c ∷ s ∷ [])
+    no_later r c s h p =
+        let q = stands v.at f r c s p in
+        early v Key start refl begin Found t0 refl at (f ∷ r ∷ c ∷ s ∷ []) q.0 q.1.at refl (from_rep r c s h) q.1.is
 
     field_is : g0 ≡ f
     field_is =
         let p = is.there (omega arith) in
-        let q = stands v.at f last p.0 p.1.0 p.1.1 in
-        let up = heads g0 f (r0 ∷ c0 ∷ s0 ∷ []) (last ∷ p.0 ∷ p.1.0 ∷ []) (early last p.0 p.1.0 q.1.at q.0 lt q.1.is) in
-        let down = heads f g0 ((after + 1) ∷ 0 ∷ 0 ∷ []) (r0 ∷ c0 ∷ s0 ∷ []) low in
+        let up = heads g0 f (r0 ∷ c0 ∷ s0 ∷ []) (last ∷ p.0 ∷ p.1.0 ∷ []) (no_later last p.0 p.1.0 lt p.1.1) in
+        let down = heads f g0 ((after + 1) ∷ 0 ∷ 0 ∷ []) (r0 ∷ c0 ∷ s0 ∷ []) no_earlier in
         omega arith
 
     pub next_after : after < r0
     next_after =
-        let l = heads (after + 1) r0 (0 ∷ 0 ∷ []) (c0 ∷ s0 ∷ []) (seconds f g0 ((after + 1) ∷ 0 ∷ 0 ∷ []) (r0 ∷ c0 ∷ s0 ∷ []) (sym field_is) low) in omega arith
+        let l = heads (after + 1) r0 (0 ∷ 0 ∷ []) (c0 ∷ s0 ∷ []) (seconds f g0 ((after + 1) ∷ 0 ∷ 0 ∷ []) (r0 ∷ c0 ∷ s0 ∷ []) (sym field_is) no_earlier) in omega arith
 
     pub next_there : RepAt v.at f r0
     next_there =
-        let entry : IsEntry (first_field v.name) (g0 ∷ r0 ∷ c0 ∷ s0 ∷ [], t0) = each_at (IsEntry (first_field v.name)) Es start (g0 ∷ r0 ∷ c0 ∷ s0 ∷ [], t0) whole.each at in
+        let entry : IsEntry (first_field v.name) (Found, t0) = each_at (IsEntry (first_field v.name)) (texts.entries v.at) start (Found, t0) whole.each at in
         subst (λ n. RepAt v.at n r0) field_is (c0, (s0, present v.at g0 r0 c0 s0 start t0 at entry.some))
 
     pub next_first : (r : ℕ) → after < r → RepAt v.at f r → r0 ≤ r
-    next_first r h p =
-        let q = stands v.at f r p.0 p.1.0 p.1.1 in
-        heads r0 r (c0 ∷ s0 ∷ []) (p.0 ∷ p.1.0 ∷ []) (seconds g0 f (r0 ∷ c0 ∷ s0 ∷ []) (r ∷ p.0 ∷ p.1.0 ∷ []) field_is (early r p.0 p.1.0 q.1.at q.0 h q.1.is))
+    next_first r h p = heads r0 r (c0 ∷ s0 ∷ []) (p.0 ∷ p.1.0 ∷ []) (seconds g0 f (r0 ∷ c0 ∷ s0 ∷ []) (r ∷ p.0 ∷ p.1.0 ∷ []) field_is (no_later r p.0 p.1.0 h p.1.1))
+
+-- ---- a component
+
+module _ (v : SegmentValue) (f r c start : ℕ) (whole : IsSegment v) (begin : IsStart (f ∷ r ∷ c ∷ 1 ∷ []) (texts.entries v.at) start) where
+  abbrev First : List ℕ
+  First = f ∷ r ∷ c ∷ 1 ∷ []
+
+  entry_at : (q t : List ℕ) (j : ℕ) → slice_get (texts.entries v.at) j ≡ Some (q, t) → IsEntry (first_field v.name) (q, t)
+  entry_at q t j g = each_at (IsEntry (first_field v.name)) (texts.entries v.at) j (q, t) whole.each g
+
+  -- a text of the component comes no earlier than its first
+  from_sub : (s : ℕ) (t : List ℕ) (j : ℕ) → slice_get (texts.entries v.at) j ≡ Some (f ∷ r ∷ c ∷ s ∷ [], t) → NotAfter First (f ∷ r ∷ c ∷ s ∷ [])
+  from_sub s t j g =
+      let some : 0 < s = (entry_at (f ∷ r ∷ c ∷ s ∷ []) t j g).key.positive.1.1.1.0 in
+      inr (refl, inr (refl, inr (refl, elim (cases_lt 1 s) [ inl l ↦ inl l | inr le ↦ inr (omega (arith, some, le), tt) ])))
+
+  pub comp_within : CompAt v.at f r c → start < length (texts.entries v.at)
+  comp_within p =
+      let q = stands v.at f r c p.0 p.1 in
+      inside v First start refl begin (f ∷ r ∷ c ∷ p.0 ∷ []) q.0 q.1.at refl (from_sub p.0 q.0 q.1.at q.1.is) q.1.is
+
+  module _ (g0 r0 c0 s0 : ℕ) (t0 : List ℕ) (at : slice_get (texts.entries v.at) start ≡ Some (g0 ∷ r0 ∷ c0 ∷ s0 ∷ [], t0)) where
+    pub comp_here : g0 ≡ f → r0 ≡ r → c0 ≡ c → CompAt v.at f r c
+    comp_here ef er ec =
+        subst (λ n. CompAt v.at n r c) ef (subst (λ n. CompAt v.at g0 n c) er (subst (λ n. CompAt v.at g0 r0 n) ec
+        (s0, present v.at g0 r0 c0 s0 start t0 at (entry_at (g0 ∷ r0 ∷ c0 ∷ s0 ∷ []) t0 start at).some)))
+
+    -- where the component is present, the first text from there on is of it
+    pub comp_is : CompAt v.at f r c → (g0 ≡ f) × (r0 ≡ r) × (c0 ≡ c)
+    comp_is p =
+        let q = stands v.at f r c p.0 p.1 in
+        let s = p.0 in
+        let later = early v First start refl begin (g0 ∷ r0 ∷ c0 ∷ s0 ∷ []) t0 refl at (f ∷ r ∷ c ∷ s ∷ []) q.0 q.1.at refl (from_sub s q.0 q.1.at q.1.is) q.1.is in
+        let earlier = low v First start refl begin (g0 ∷ r0 ∷ c0 ∷ s0 ∷ []) t0 refl at in
+        let field : g0 ≡ f = equal g0 f (r0 ∷ c0 ∷ s0 ∷ []) (r ∷ c ∷ s ∷ []) (r ∷ c ∷ 1 ∷ []) later earlier in
+        let later = seconds g0 f (r0 ∷ c0 ∷ s0 ∷ []) (r ∷ c ∷ s ∷ []) field later in
+        let earlier = seconds f g0 (r ∷ c ∷ 1 ∷ []) (r0 ∷ c0 ∷ s0 ∷ []) (sym field) earlier in
+        let rep : r0 ≡ r = equal r0 r (c0 ∷ s0 ∷ []) (c ∷ s ∷ []) (c ∷ 1 ∷ []) later earlier in
+        let later = seconds r0 r (c0 ∷ s0 ∷ []) (c ∷ s ∷ []) rep later in
+        let earlier = seconds r r0 (c ∷ 1 ∷ []) (c0 ∷ s0 ∷ []) (sym rep) earlier in
+        (field, rep, equal c0 c (s0 ∷ []) (s ∷ []) (1 ∷ []) later earlier)
+      where
+        equal : (a b : ℕ) (x y z : List ℕ) → NotAfter (a ∷ x) (b ∷ y) → NotAfter (b ∷ z) (a ∷ x) → a ≡ b
+        equal a b x y z up down = omega (arith, heads a b x y up, heads b a z x down)
 
 -- nothing is present between
 pub counted_gap : (P : ℕ → Type 0) (n r k : ℕ) → n < r → ((j : ℕ) → n < j → P j → r ≤ j) → Counted P n k → Counted P (r - 1) k

@@ -1,8 +1,9 @@
 //! The least breach of a segment's shape.
 ghost use Rattle.std.specs.Prelude.{◌≡◌, ℕ, ◌<◌, ◌∷◌, [], option_map, IfOk, IfErr, false, true, length, ◌-◌, ◌+◌, ◌≤◌, Some, None, if◌then◌else◌, map};
 ghost use Rattle.std.specs.List.{AllByRecursion};
+ghost use Rattle.std.specs.FinMap as texts;
 ghost use Rattle.gw_er7.specs.Message.{text_of};
-ghost use Rattle.gw_er7.specs.Presence.{RepAt, CompAt, IsLast};
+ghost use Rattle.gw_er7.specs.Presence.{RepAt, CompAt, IsLast, IsStart};
 ghost use Rattle.gw_profile.specs.Lengths.{octets};
 ghost use Rattle.gw_profile.specs.Seen.{sub, comp as comp_value, field as field_value, items_of, profile_value};
 ghost use Rattle.gw_validate.specs.declared.breach.Kind.TheVariants.{MissingValue};
@@ -115,22 +116,29 @@ fn absent_sub(shape: &SubShape) -> Option<Kind>
     }
 }
 
-// The text at a leaf, where that at its component's first leaf is known.
-fn text_beside<'a>(segment: &Segment<'a>, near: usize, first: &'a [u8], place: Place) -> &'a [u8]
+// The text at a leaf, where that at its component's first leaf is known. It is looked for from the text of the number `near` on, which rises to its own.
+fn text_beside<'a>(
+    segment: &Segment<'a>,
+    near: &mut usize,
+    first: &'a [u8],
+    place: Place,
+) -> &'a [u8]
     requires { first.now ≡ text_of segment.now.at place.field place.rep place.comp 1 }
     ensures { result.now ≡ text_of segment.now.at place.field place.rep place.comp place.sub }
 {
     if place.sub == 1 {
         return first;
     }
-    segment.text_near(near, place)
+    let (at, text) = segment.find_near(*near, place);
+    *near = at;
+    text
 }
 
 // The least breach at the leaves of a component that is present, of which the text at the first is known.
 fn subs_breach<'a>(
     profile: &Profile,
     segment: &Segment<'a>,
-    near: usize,
+    near: &mut usize,
     first: &'a [u8],
     field: usize,
     rep: usize,
@@ -170,23 +178,48 @@ fn absent_comp(shape: &CompShape) -> Option<Spot>
     }
 }
 
-// Whether a component is present, of which the text at the first leaf is known.
-fn has_comp(segment: &Segment<'_>, first: &[u8], field: usize, rep: usize, comp: usize) -> bool
-    requires { first.now ≡ text_of segment.now.at field rep comp 1 }
+// Whether a place is of a component.
+fn is_of(place: Place, field: usize, rep: usize, comp: usize) -> bool
+    ensures yes { result ≡ true → (place.field ≡ field) × (place.rep ≡ rep) × (place.comp ≡ comp) }
+    ensures no { result ≡ false → (place.field ≡ field) × (place.rep ≡ rep) × (place.comp ≡ comp) → ⊥ }
+{
+    if place.field != field {
+        return false;
+    }
+    if place.rep != rep {
+        return false;
+    }
+    place.comp == comp
+}
+
+// Whether a component is present, where the text at its first leaf and the number of the first text from there on are known.
+fn has_comp(
+    segment: &Segment<'_>,
+    at: usize,
+    first: &[u8],
+    field: usize,
+    rep: usize,
+    comp: usize,
+) -> bool
+    requires start { IsStart (field ∷ rep ∷ comp ∷ 1 ∷ []) (texts.entries segment.now.at) at }
+    requires first { first.now ≡ text_of segment.now.at field rep comp 1 }
     ensures yes { result ≡ true → CompAt segment.now.at field rep comp }
     ensures no { result ≡ false → CompAt segment.now.at field rep comp → ⊥ }
 {
     if first.len() > 0 {
         return true;
     }
-    segment.subs(field, rep, comp) > 0
+    if at >= segment.value_count() {
+        return false;
+    }
+    is_of(segment.value(at).place, field, rep, comp)
 }
 
 // The least breach of a component.
 fn comp_breach(
     profile: &Profile,
     segment: &Segment<'_>,
-    near: usize,
+    near: &mut usize,
     field: usize,
     rep: usize,
     shape: &CompShape,
@@ -200,8 +233,9 @@ fn comp_breach(
         comp: shape.number as usize,
         sub: 1,
     };
-    let first = segment.text_near(near, place);
-    if !has_comp(segment, first, field, rep, shape.number as usize) {
+    let (at, first) = segment.find_near(*near, place);
+    *near = at;
+    if !has_comp(segment, at, first, field, rep, place.comp) {
         return absent_comp(shape);
     }
     if is_forbidden(shape.usage) {
@@ -214,16 +248,16 @@ fn comp_breach(
         first,
         field,
         rep,
-        shape.number as usize,
+        place.comp,
         &shape.subs,
     )
 }
 
-// The least breach at the components of a repetition.
+// The least breach at the components of a repetition, the first text of which has this number.
 fn comps_breach(
     profile: &Profile,
     segment: &Segment<'_>,
-    near: usize,
+    at: usize,
     field: usize,
     rep: usize,
     comps: &[CompShape],
@@ -232,8 +266,9 @@ fn comps_breach(
     requires each { AllByRecursion CompRises (map comp_value comps.now) }
     ensures { Least (CompsBreach (profile_value profile.now) segment.now.at field rep (map comp_value comps.now)) (option_map rep_key result) }
 {
+    let mut near = at;
     for comp in comps {
-        if let Some(found) = comp_breach(profile, segment, near, field, rep, comp) {
+        if let Some(found) = comp_breach(profile, segment, &mut near, field, rep, comp) {
             return Some(Spot {
                 comp: comp.number as usize,
                 ..found
@@ -257,7 +292,7 @@ fn is_full(max: Option<u32>, count: usize) -> bool
 fn rep_breach(
     profile: &Profile,
     segment: &Segment<'_>,
-    near: usize,
+    at: usize,
     shape: &FieldShape,
     rep: usize,
     before: usize,
@@ -273,7 +308,7 @@ fn rep_breach(
     comps_breach(
         profile,
         segment,
-        near,
+        at,
         shape.number as usize,
         rep,
         &shape.comps,
@@ -314,10 +349,11 @@ fn next_rep(segment: &Segment<'_>, field: usize, after: Present, last: usize) ->
     }
 }
 
-// The least breach in the repetitions of a field.
+// The least breach in the repetitions of a field, which are looked for from the text of this number on.
 fn reps_breach(
     profile: &Profile,
     segment: &Segment<'_>,
+    first: usize,
     shape: &FieldShape,
     last: usize,
 ) -> Option<Spot>
@@ -329,8 +365,8 @@ fn reps_breach(
     let mut before = 0;
     let mut found = Present {
         rep: 0,
-        at: 0,
-        behind: 0,
+        at: first,
+        behind: first,
     };
     while found.rep < last {
         found = next_rep(segment, shape.number as usize, found, last);
@@ -345,16 +381,16 @@ fn reps_breach(
     None
 }
 
-// How many repetitions of a field are present.
-fn count_reps(segment: &Segment<'_>, field: usize, last: usize) -> usize
+// How many repetitions of a field are present, which are looked for from the text of this number on.
+fn count_reps(segment: &Segment<'_>, first: usize, field: usize, last: usize) -> usize
     requires { IsLast (RepAt segment.now.at field) last }
     ensures { Counted (RepAt segment.now.at field) last result }
 {
     let mut count = 0;
     let mut found = Present {
         rep: 0,
-        at: 0,
-        behind: 0,
+        at: first,
+        behind: first,
     };
     while found.rep < last {
         found = next_rep(segment, field, found, last);
@@ -364,7 +400,7 @@ fn count_reps(segment: &Segment<'_>, field: usize, last: usize) -> usize
 }
 
 // Whether fewer repetitions of a field are present than must be. Where the last is present and one is enough, none is counted.
-fn comes_short(segment: &Segment<'_>, shape: &FieldShape, last: usize) -> bool
+fn comes_short(segment: &Segment<'_>, first: usize, shape: &FieldShape, last: usize) -> bool
     requires { IsLast (RepAt segment.now.at shape.now.number) last }
     ensures yes { result ≡ true → (count : ℕ) × Counted (RepAt segment.now.at shape.now.number) last count × (count < shape.now.card.min) }
     ensures no { result ≡ false → (count : ℕ) → Counted (RepAt segment.now.at shape.now.number) last count → shape.now.card.min ≤ count }
@@ -372,26 +408,33 @@ fn comes_short(segment: &Segment<'_>, shape: &FieldShape, last: usize) -> bool
     if last > 0 && shape.card.min <= 1 {
         return false;
     }
-    let count = count_reps(segment, shape.number as usize, last);
+    let count = count_reps(segment, first, shape.number as usize, last);
     (count as u64) < u64::from(shape.card.min)
 }
 
-// The least breach of a field.
-fn field_breach(profile: &Profile, segment: &Segment<'_>, shape: &FieldShape) -> Option<Spot>
+// The least breach of a field, whose texts are looked for from the number `near` on, which rises to that of the first text behind them.
+fn field_breach(
+    profile: &Profile,
+    segment: &Segment<'_>,
+    near: &mut usize,
+    shape: &FieldShape,
+) -> Option<Spot>
     requires { FieldRises (field_value shape.now) }
     ensures { Least (FieldBreach (profile_value profile.now) segment.now.at (field_value shape.now)) (option_map field_key result) }
 {
-    let last = segment.reps(shape.number as usize);
+    let first = *near;
+    let (last, behind) = segment.reps_near(first, shape.number as usize);
+    *near = behind;
     if is_forbidden(shape.usage) {
         if last == 0 {
             return None;
         }
         return Some(of_kind(Kind::Forbidden));
     }
-    if comes_short(segment, shape, last) {
+    if comes_short(segment, first, shape, last) {
         return Some(of_kind(Kind::MissingValue));
     }
-    reps_breach(profile, segment, shape, last)
+    reps_breach(profile, segment, first, shape, last)
 }
 
 /// The least breach of a segment's shape.
@@ -403,8 +446,9 @@ pub(crate) fn least_breach(
     requires { ShapeRises (map field_value fields.now) }
     ensures { Least (SegmentBreach (profile_value profile.now) (map field_value fields.now) segment.now.at) (option_map segment_key result) }
 {
+    let mut near = 0;
     for field in fields {
-        if let Some(found) = field_breach(profile, segment, field) {
+        if let Some(found) = field_breach(profile, segment, &mut near, field) {
             return Some(Spot {
                 field: field.number as usize,
                 ..found

@@ -3,7 +3,7 @@ use Rattle.std.specs.Prelude.{◌≡◌, ℕ, ◌+◌, ◌==◌, ◌||◌, Bool,
 use Rattle.std.specs.List.{All}
 use denote.Ref.{Bor}
 use Rattle.gw_er7.specs.declared.delimiters.Delimiters.{Delimiters}
-use Rattle.gw_er7.specs.Text.{canon}
+use Rattle.gw_er7.specs.Text.{canon, is_special}
 use Rattle.gw_er7.specs.Entries.{Entry}
 use Rattle.gw_er7.specs.View.{Held, entries_of, held}
 use Rattle.gw_er7.specs.declared.fields.Taken.{Taken}
@@ -15,6 +15,10 @@ separators d = d.field ∷ d.repetition ∷ d.component ∷ d.subcomponent ∷ [
 abbrev pub is_separator : List ℕ → ℕ → Bool
 is_separator [] b = false
 is_separator (t ∷ ts) b = b == t || is_separator ts b
+
+-- it ends a value, or doesn't stand for itself
+abbrev pub is_mark : Delimiters → ℕ → Bool
+is_mark d b = (is_special b || b == d.escape) || is_separator (separators d) b
 
 -- the numbers behind a separator: its own is one more, and the lower ones begin again
 abbrev pub next_numbers : List ℕ → List ℕ → ℕ → List ℕ

@@ -1,20 +1,25 @@
-use Rattle.std.proofs.Common.{refl, sym, ap, ◌∙◌, ◌++◌, ◌∷◌, ◌+◌, take, get_or, List, ℕ}
+use Rattle.std.proofs.Common.{◌+◌, ℕ, List, get_or, take, sym, subst, arith}
 use Rattle.std.proofs.lemmas.List.{take_rest}
-use Rattle.std.proofs.lemmas.List.Quantifiers.{position-Some}
-use Rattle.gw_er7.specs.own.Separators.{separators, is_separator}
-use Rattle.gw_er7.proofs.Separated.{found_none, found_before, found_whole}
+use Rattle.gw_er7.specs.own.Separators.{separators, IsNextValue}
+use Rattle.gw_er7.proofs.Marks.{all_clear, all_plain, next_clear, next_plain, cut_plain}
 use Rattle.gw_er7.proofs.fields.cut_value.Goals as goal
 
-pub returns-in-None : goal.returns-in-None
-returns-in-None c = record { whole = refl; clear = found_none (is_separator (separators c.args.delimiters)) c.args.bytes.now (sym c.first_separator.ensures ∙ c.in-None.is) }
+pub returns-then-plain-bytes-clause-cut : goal.returns-then-plain-bytes-clause-cut
+returns-then-plain-bytes-clause-cut c = all_clear c.args.delimiters c.args.bytes.now c.plain_len-plain.result c.plain_len-plain.ensures c.if-plain-bytes.true
 
-pub returns-in-Some : goal.returns-in-Some
-returns-in-Some c =
+pub returns-then-plain-bytes-clause-plain : goal.returns-then-plain-bytes-clause-plain
+returns-then-plain-bytes-clause-plain c = all_plain c.args.delimiters c.args.bytes.now c.plain_len-plain.result c.plain_len-plain.ensures c.if-plain-bytes.true
+
+pub returns-then-is_separator-clause-cut : goal.returns-then-is_separator-clause-cut
+returns-then-is_separator-clause-cut c =
     let bytes = c.args.bytes.now in
-    let at = c.in-Some.at in
-    let found = sym c.first_separator.ensures ∙ c.in-Some.is in
-    record {
-      whole = found_whole (is_separator (separators c.args.delimiters)) bytes at found ∙ ap (λ (x : List ℕ). take at bytes ++ get_or bytes at 0 ∷ x) (sym (take_rest bytes (at + 1)));
-      clear = found_before (is_separator (separators c.args.delimiters)) bytes at found;
-      separates = (position-Some (is_separator (separators c.args.delimiters)) bytes at 0 found).1;
-    }
+    let k = c.plain_len-plain.result in
+    subst (λ (behind : List ℕ). IsNextValue (separators c.args.delimiters) bytes (take k bytes) (get_or bytes k 0) behind) (sym (take_rest bytes (k + 1)))
+    (next_clear c.args.delimiters bytes k c.plain_len-plain.ensures (omega arith) (sym c.if-is_separator.ensures))
+
+pub returns-then-is_separator-clause-plain : goal.returns-then-is_separator-clause-plain
+returns-then-is_separator-clause-plain c = next_plain c.args.delimiters c.args.bytes.now c.plain_len-plain.result c.plain_len-plain.ensures (omega arith)
+
+pub returns-clause-plain : goal.returns-clause-plain
+returns-clause-plain c =
+    cut_plain c.args.delimiters c.args.bytes.now c.plain_len-plain.result c.plain_len-plain.ensures _ _ (omega arith) (sym c.if-is_separator.ensures) c.cut_at_separator.ensures

@@ -19,7 +19,7 @@ returns-clause-kept c =
     let raw = c.args.raw.now in
     let l : Leaf = record { place = c.args.place; from = c.len-from.result; len = c.len.result - c.len-from.result } in
     let taken = c.in_ok-push_canonical.ensures in
-    let put = held_put old.bytes.items (canon d raw) new old.leaves c.push.new.self l c.requires taken c.in_ok-push.ensures.ok (omega (arith, c.len-from.ensures)) (omega (arith, c.len-from.ensures, c.len.ensures, ap length taken, length-append old.bytes.items (canon d raw))) in
+    let put = held_put old.bytes.items (canon d raw) new old.leaves c.push.new.self l c.requires.inside taken c.in_ok-push.ensures.ok (omega (arith, c.len-from.ensures)) (omega (arith, c.len-from.ensures, c.len.ensures, ap length taken, length-append old.bytes.items (canon d raw))) in
     rw put (take-append_seam (held_in old) (record { place = c.args.place; text = canon d raw } ∷ []))
 
 pub returns-clause-entries : goal.returns-clause-entries
@@ -30,7 +30,7 @@ returns-clause-entries c =
     let raw = c.args.raw.now in
     let l : Leaf = record { place = c.args.place; from = c.len-from.result; len = c.len.result - c.len-from.result } in
     let taken = c.in_ok-push_canonical.ensures in
-    let put = held_put old.bytes.items (canon d raw) new old.leaves c.push.new.self l c.requires taken c.in_ok-push.ensures.ok (omega (arith, c.len-from.ensures)) (omega (arith, c.len-from.ensures, c.len.ensures, ap length taken, length-append old.bytes.items (canon d raw))) in
+    let put = held_put old.bytes.items (canon d raw) new old.leaves c.push.new.self l c.requires.inside taken c.in_ok-push.ensures.ok (omega (arith, c.len-from.ensures)) (omega (arith, c.len-from.ensures, c.len.ensures, ap length taken, length-append old.bytes.items (canon d raw))) in
     let there : 0 < length raw = search rules in
     ap entries_of put ∙ map-append entry_of (held old.bytes.items old.leaves) (record { place = c.args.place; text = canon d raw } ∷ [])
     ∙ ap (λ (es : List Entry). entries_of (held old.bytes.items old.leaves) ++ es) (sym (some_value d (numbers c.args.place) raw there))

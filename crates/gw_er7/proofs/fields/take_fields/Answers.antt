@@ -11,18 +11,18 @@ returns-in_default-clause-kept c = keeps_on (held_in c.args.taken.now) (held_in 
 pub returns-in_default-clause-entries : goal.returns-in_default-clause-entries
 returns-in_default-clause-entries c =
     let place = c.loop-separator.place in
-    let last = rw c.in_default.is at c.cut_value.ensures in
-    value_last c.args.delimiters place.field place.rep place.comp place.sub c.loop-separator.rest.now c.cut_value.result.0.now (taken_by c.loop-separator.taken) (taken_by c.push_value.new.taken) _ last c.loop-separator.invariant.read c.in_ok-push_value.ensures.entries
+    let last = rw c.in_default.is at c.cut_value-cut.ensures.cut in
+    value_last c.args.delimiters place.field place.rep place.comp place.sub c.loop-separator.rest.now c.cut_value-cut.result.raw.now (taken_by c.loop-separator.taken) (taken_by c.push_value.new.taken) _ last c.loop-separator.invariant.read c.in_ok-push_value.ensures.entries
 
 pub loop-separator-preserved : goal.loop-separator-preserved
 loop-separator-preserved c =
     let place = c.loop-separator.place in
-    let next = rw c.in-Some.is at c.cut_value.ensures in
+    let next = rw c.in-Some.is at c.cut_value-cut.ensures.cut in
     let short = later_less _ _ _ _ _ next in
     record {
       inside = c.in_ok-push_value.ensures.inside;
       kept = keeps_on (held_in c.args.taken.now) (held_in c.loop-separator.taken) (held_in c.push_value.new.taken) c.loop-separator.invariant.kept c.in_ok-push_value.ensures.kept;
-      read = value_taken c.args.delimiters place.field place.rep place.comp place.sub (numbers c.next_place-place.result) c.loop-separator.rest.now c.cut_value.result.0.now c.in-Some.separator c.in-Some.later.now
+      read = value_taken c.args.delimiters place.field place.rep place.comp place.sub (numbers c.next_place-place.result) c.loop-separator.rest.now c.cut_value-cut.result.raw.now c.in-Some.separator c.in-Some.later.now
           (taken_by c.loop-separator.taken) (taken_by c.push_value.new.taken) _ next c.next_place-place.ensures.next c.loop-separator.invariant.read c.in_ok-push_value.ensures.entries;
       field = omega (arith, short, c.next_place-place.ensures.field, c.loop-separator.invariant.field);
       rep = omega (arith, short, c.next_place-place.ensures.rep, c.loop-separator.invariant.rep);
