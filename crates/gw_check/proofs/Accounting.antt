@@ -1,54 +1,22 @@
 -- What is accounted for, one after the other.
 use Rattle.std.proofs.Common.{◌≡◌, ℕ, Bool, true, false, List, [], ◌∷◌, ◌++◌, refl, sym, ap, ◌∙◌}
-use Rattle.std.specs.Prelude.{◌==◌, ◌&&◌, ◌||◌, bytes_eq, if◌then◌else◌}
+use Rattle.std.specs.Prelude.{◌==◌, ◌&&◌, ◌||◌, bytes_eq}
 use Rattle.std.specs.List.{list_any}
 use Rattle.std.specs.Global.{Vec}
 use Rattle.indexmap.specs.IndexSet.{insert_key}
 use Rattle.std.proofs.lemmas.Cmp.{nat_list_eq_equiv, nat_eq_equiv}
 use Rattle.std.proofs.lemmas.List.Folds.{list_any-append}
 use Rattle.gw_profile.proofs.Facts.{both}
+use Rattle.gw_leaves.proofs.Inserted.{or_none, inserted}
 use Rattle.gw_check.specs.declared.accounted.FieldAt.{FieldAt}
 use Rattle.gw_check.specs.declared.accounted.Accounted.{Accounted}
 use Rattle.gw_resolve.specs.Resolved.{Drop}
 use Rattle.gw_check.specs.Reads.{Position, SourceField, is_read}
 use Rattle.gw_check.specs.Collected.{field_at, fields_at, has_field, has_element, drops_field, drops_element, Gains, no_element, Accounts}
 
--- ---- tests
-
-pub or_none : (a : Bool) → a || false ≡ a
-or_none true = refl
-or_none false = refl
-
 pub or_assoc : (a b c : Bool) → (a || b) || c ≡ (a || (b || c))
 or_assoc true b c = refl
 or_assoc false b c = refl
-
-already : (a b : Bool) → (b ≡ true → a ≡ true) → a ≡ (a || b)
-already true b h = refl
-already false true h = absurd (cc (h refl))
-already false false h = refl
-
--- ---- one more key in a set
-
-module _ {K : Type 0} (eq : K → K → Bool) (test : K → Bool) (k : K) (alike : (x : K) → eq k x ≡ true → test k ≡ test x) where
-  found : (ks : List K) → list_any (eq k) ks ≡ true → test k ≡ true → list_any test ks ≡ true
-  found [] h t = h
-  found (x ∷ ks) h t = by (eq k x) refl h (λ e. found ks e t)
-    where
-      last : (b : Bool) → b || true ≡ true
-      last true = refl
-      last false = refl
-
-      by : (b : Bool) → eq k x ≡ b → b || list_any (eq k) ks ≡ true → (list_any (eq k) ks ≡ true → list_any test ks ≡ true) → test x || list_any test ks ≡ true
-      by true e h later = ap (λ b. b || list_any test ks) (sym (alike x e) ∙ t)
-      by false e h later = ap (λ b. test x || b) (later h) ∙ last (test x)
-
-  pub inserted : (ks : List K) → list_any test (insert_key eq ks k) ≡ (list_any test ks || test k)
-  inserted ks = by (list_any (eq k) ks) refl
-    where
-      by : (b : Bool) → list_any (eq k) ks ≡ b → list_any test (if b then ks else ks ++ k ∷ []) ≡ (list_any test ks || test k)
-      by true e = already (list_any test ks) (test k) (found ks e)
-      by false e = list_any-append test ks (k ∷ []) ∙ ap (λ b. list_any test ks || b) (or_none (test k))
 
 -- ---- a field, and an element
 

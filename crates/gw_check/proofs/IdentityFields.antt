@@ -16,16 +16,17 @@ use Rattle.gw_profile.specs.Among as lists
 use Rattle.gw_profile.proofs.Among.{among_is}
 use Rattle.gw_profile.proofs.Facts.{tells}
 use Rattle.gw_validate.specs.Breaches.{is_required, is_forbidden}
-use Rattle.gw_check.specs.declared.shape.Presence.{Presence}
-use Rattle.gw_check.specs.declared.shape.Presence.TheVariants.{Never}
+use Rattle.gw_leaves.specs.declared.shape.Presence.{Presence}
+use Rattle.gw_leaves.specs.declared.shape.Presence.TheVariants.{Never}
 use Rattle.gw_resolve.specs.Failures.{Mark, Failure}
 use Rattle.gw_resolve.specs.Intervals.{never, once, of_card, is_never, is_within}
 use Rattle.gw_resolve.specs.Places.{Element, a_segment}
 use Rattle.gw_resolve.specs.Resolved.{Rule, rule_of}
 use Rattle.gw_resolve.specs.Naming.{itself}
-use Rattle.gw_check.specs.Leaves.{Sources, listed, field_of, comp_of, sub_of, by_usage, comp_presence, sub_usage, sub_presence, is_always, is_absent, is_short, sub_values, may_be_unlisted, may_exceed, may_be_long}
-use Rattle.gw_check.specs.Counts.{rule_count, reference_count}
-use Rattle.gw_check.specs.Fields.{field_mark, comp_in, sub_in, is_expected, table_values, value_failures, copied_sub, copied_comp, copied_field, content_failures, count_failures, field_failures, rule_lookups, segment_failures}
+use Rattle.gw_leaves.specs.Leaves.{Sources, listed, field_of, comp_of, sub_of, by_usage, comp_presence, sub_usage, sub_presence, is_always, is_absent, is_short, sub_values, may_be_unlisted, may_exceed, may_be_long}
+use Rattle.gw_leaves.specs.Counts.{rule_count, reference_count}
+use Rattle.gw_leaves.specs.Components.{field_mark, comp_in, sub_in, table_values, value_failures, copied_sub, copied_comp, copied_field, rule_lookups}
+use Rattle.gw_check.specs.Fields.{is_expected, content_failures, count_failures, field_failures, segment_failures}
 use Rattle.gw_check.specs.Levels.{sources}
 use Rattle.gw_check.proofs.IdentityItems.{same_rule, same_rules}
 use Rattle.gw_check.proofs.IdentityNamed.{no_more, holds}

@@ -1,9 +1,7 @@
-pub mod Lacks
 pub mod Counted
 pub mod Stepped
 pub mod Within
 pub mod Passing
-pub mod Each
 pub mod Gapping
 pub mod Missing
 pub mod Collecting
@@ -12,17 +10,9 @@ pub mod Least
 pub mod Placing
 pub mod Keeping
 pub mod Judging
-pub mod Lists
-pub mod Kept
-pub mod AtLengths
-pub mod Shortest
-pub mod AtPlaces
-pub mod Capped
 pub mod IdentityItems
 pub mod IdentityNamed
 pub mod IdentityFields
 pub mod IdentityLevels
 pub mod IdentityReads
 pub mod IdentityAllowed
-pub mod Presences
-pub mod Fitting

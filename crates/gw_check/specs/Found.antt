@@ -14,7 +14,7 @@ use Rattle.gw_check.specs.Fields.{segment_failures}
 use Rattle.gw_resolve.specs.declared.resolved.SegmentItem.{SegmentItem}
 use Rattle.gw_check.specs.Counts.{items_count}
 use Rattle.gw_profile.specs.Seen.{profile_value}
-use Rattle.gw_check.specs.own.Sides.{SidesValue}
+use Rattle.gw_leaves.specs.Sides.{SidesValue}
 use Rattle.gw_check.specs.Levels.{sources, node_failures, level_failures, items_failures}
 use Rattle.gw_resolve.specs.Resolved.{Items, no_items, segment_item, group_item, flat_item}
 use Rattle.gw_resolve.specs.Noted.{Notes}

@@ -6,7 +6,7 @@ use Rattle.gw_profile.specs.Shapes.{ProfileValue, Forest, nothing, segment, grou
 use Rattle.gw_resolve.specs.Intervals.{Interval}
 use Rattle.gw_resolve.specs.Places.{Element, child, nodes_of_child, fields_of, within, within_if}
 use Rattle.gw_resolve.specs.Resolved.{Items, no_items, segment_item, group_item, flat_item, first_child}
-use Rattle.gw_check.specs.Leaves.{Sources}
+use Rattle.gw_leaves.specs.Leaves.{Sources}
 use Rattle.gw_check.specs.Counts.{items_count}
 use Rattle.gw_resolve.specs.Failures.{Mark, Failure, at_line}
 use Rattle.gw_check.specs.Fields.{often_failures, segment_failures}

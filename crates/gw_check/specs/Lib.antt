@@ -1,4 +1,3 @@
-pub mod Leaves
 pub mod Counts
 pub mod Fields
 pub mod Levels
@@ -11,7 +10,6 @@ pub mod Unread
 pub mod Gaps
 pub mod Gathered
 pub mod Kept
-pub mod Texts
 pub mod Answers
 pub mod Worked
 pub mod own

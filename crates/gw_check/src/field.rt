@@ -5,45 +5,17 @@ ghost use Rattle.gw_maplang.specs.Shapes.{TableValue};
 ghost use Rattle.gw_check.specs.Fields as spec;
 ghost use Rattle.gw_resolve.specs.Noted.{Notes};
 ghost use Rattle.gw_resolve.specs.Seen.{mark as seen_mark};
-ghost use Rattle.gw_check.specs.own.Uses.{some_rule};
+ghost use Rattle.gw_leaves.specs.Components.{field_mark};
+ghost use Rattle.gw_leaves.specs.Uses.{CountsRule, some_rule};
 ghost use Rattle.gw_check.specs.own.Seen as seen;
 
-use crate::copied::check_copied;
-use crate::count::{rule_count, walking};
-use crate::known::rule_of;
-use crate::lookup::check_rules;
-use crate::made::check_made;
-use crate::mark::field_mark;
 use crate::often::{Asked, check_often};
-use crate::sources::Sources;
+use gw_leaves::{Sources, check_lookups, check_making, field_mark, rule_count, rule_of};
 use gw_profile::FieldShape;
-use gw_resolve::{Failure, Interval, Making, Mark, Rule};
+use gw_resolve::{Failure, Interval, Rule};
 use std::alloc::AllocError;
 
 // ---- what the field has in it
-
-fn check_making(
-    found: &mut Vec<Failure>,
-    sources: Sources<'_, '_, '_, '_, '_>,
-    mark: Mark,
-    making: &Making,
-    field: &FieldShape,
-) -> Result<(), AllocError>
-    ensures { OnOk result (Notes found.old found.new (seen.making_failures sources.entry mark making.now field.now)) }
-{
-    match making {
-        Making::Copy(from) => check_copied(found, sources, mark, from, field),
-        Making::First(from) => check_copied(found, sources, mark, from, field),
-        Making::Repeat(from, leaves) => check_made(
-            found,
-            walking(sources, from),
-            mark,
-            leaves,
-            field,
-        ),
-        Making::Build(leaves) => check_made(found, sources, mark, leaves, field),
-    }
-}
 
 // The failures of what the rule gives, which comes so often.
 fn check_content(
@@ -53,7 +25,7 @@ fn check_content(
     rule: Option<&Rule>,
     count: Interval,
 ) -> Result<(), AllocError>
-    ensures { seen.CountsRule sources.entry rule.entry count →
+    ensures { CountsRule sources.entry rule.entry count →
         OnOk result (Notes found.old found.new (seen.content_failures sources.entry field.now rule.entry)) }
 {
     let Some(rule) = rule else {
@@ -90,7 +62,7 @@ pub(crate) fn is_missing(rule: Option<&Rule>) -> bool
 // What the field asks of how often its rule gives it.
 fn asked(holder: u32, rule: Option<&Rule>, field: &FieldShape) -> Asked
     ensures mark { (tables : List TableValue) →
-        seen_mark result.mark ≡ spec.field_mark (field_value field.now).number (spec.line_of_rule holder (some_rule tables rule.entry)) }
+        seen_mark result.mark ≡ field_mark (field_value field.now).number (spec.line_of_rule holder (some_rule tables rule.entry)) }
     ensures usage { result.usage ≡ (field_value field.now).usage }
     ensures card { result.card ≡ (field_value field.now).card }
     ensures is_missing { (tables : List TableValue) → result.is_missing ≡ spec.has_no_rule (some_rule tables rule.entry) }
@@ -156,5 +128,5 @@ pub(crate) fn check_segment(
     ensures { OnOk result (Notes found.old found.new (seen.segment_failures sources.entry holder rules.now (map field_value fields.now))) }
 {
     check_fields(found, sources, holder, rules, fields)?;
-    check_rules(found, sources, rules)
+    check_lookups(found, sources, rules)
 }

@@ -7,12 +7,11 @@ ghost use Rattle.gw_check.specs.Gaps as spec;
 ghost use Rattle.gw_check.specs.Gathered.{Finds, FindsAll, FindsField, FindsItem, FindsItems, FindsLevel, FindsNode, FindsSegment, FindsShapes, all_gaps};
 
 use crate::field::is_missing;
-use crate::inside::fields_at;
 use crate::items::leading;
-use crate::known::rule_of;
 use crate::labels::look_up;
 use crate::level::{has_no_item, usage_of};
 use crate::often::is_expected;
+use gw_leaves::{fields_at, rule_of};
 use gw_maplang::Map;
 use gw_profile::{Card, FieldShape, Level, Node, Profile, Usage};
 use gw_resolve::{Item, Resolving, Rule, SegmentItem, nodes_within};

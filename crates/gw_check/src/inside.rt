@@ -1,51 +1,15 @@
 //! The rules within the items of a map.
-ghost use Rattle.std.specs.Prelude.{◌≡◌, map, IfOk, OnOk, option_map};
-ghost use Rattle.gw_profile.specs.Seen.{forest, node_forest, field};
-ghost use Rattle.gw_profile.specs.Shapes.{nothing};
-ghost use Rattle.gw_resolve.specs.Places as places;
+ghost use Rattle.std.specs.Prelude.{OnOk};
+ghost use Rattle.gw_profile.specs.Seen.{forest};
 ghost use Rattle.gw_check.specs.Found.{NotesSegment, NotesItem, NotesItems};
-ghost use Rattle.gw_resolve.specs.Seen.{scope as walked, place as seen_place};
+ghost use Rattle.gw_resolve.specs.Seen.{scope as walked};
 
 use crate::field::check_segment;
 use crate::level::check_level;
-use crate::sides::Sides;
-use crate::sources::Sources;
-use gw_profile::{FieldShape, Node};
-use gw_resolve::{Element, Failure, Item, Place, SegmentItem, nodes_within, within};
+use gw_leaves::{Sides, Sources, fields_at, within_if};
+use gw_profile::Node;
+use gw_resolve::{Element, Failure, Item, SegmentItem, nodes_within, within};
 use std::alloc::{AllocError, Global};
-
-fn fields_of(node: &Node) -> &[FieldShape]
-    ensures { map field result.now ≡ places.fields_of (places.child (node_forest node.now nothing) 0) }
-{
-    match node {
-        Node::Seg(segment) => &segment.fields,
-        Node::Group(_) => &[],
-    }
-}
-
-/// The fields of the segment of this number.
-pub(crate) fn fields_at(nodes: &[Node], number: usize) -> &[FieldShape]
-    ensures { map field result.now ≡ places.fields_of (places.child (forest nodes.now) number) }
-{
-    match nodes.get(number) {
-        None => &[],
-        Some(node) => fields_of(node),
-    }
-}
-
-/// The scope of what is walked at a place; where none is said nothing more is walked.
-pub(crate) fn within_if<'a, 'l>(
-    alloc: Global,
-    scope: &[Element<'a, 'l>],
-    place: &Option<Place>,
-) -> Result<Vec<Element<'a, 'l>>, AllocError>
-    ensures { IfOk result (λ es. walked es.items ≡ places.within_if (walked scope.now) (option_map seen_place place.now)) }
-{
-    match place {
-        None => Vec::from_slice(alloc, scope),
-        Some(place) => within(alloc, scope, place),
-    }
-}
 
 // The failures of the rules on the segments that an item gives.
 fn check_given(

@@ -7,7 +7,7 @@ ghost use Rattle.gw_resolve.specs.Intervals as intervals;
 ghost use Rattle.gw_resolve.specs.Noted.{Notes};
 ghost use Rattle.gw_resolve.specs.Seen.{interval, mark as seen_mark, saturated};
 
-use crate::values::is_forbidden;
+use gw_leaves::is_forbidden;
 use gw_profile::{Card, Usage};
 use gw_resolve::{Failure, Interval, Mark, note};
 use std::alloc::AllocError;

@@ -10,7 +10,7 @@ ghost use Rattle.gw_check.specs.Unread as spec;
 use crate::accounted::{Accounted, FieldAt};
 use crate::labels::look_up;
 use crate::reads::{all_read, is_missed};
-use crate::values::is_forbidden;
+use gw_leaves::is_forbidden;
 use gw_maplang::Map;
 use gw_profile::{FieldShape, Level, Node, Profile, SegNode};
 use gw_resolve::{Item, LeftOut, Resolving};

@@ -9,7 +9,7 @@ ghost use Rattle.gw_resolve.specs.Seen.{place as seen_place, reference, source, 
 ghost use Rattle.gw_maplang.specs.Shapes.{TableValue};
 
 use crate::accounted::{Accounted, FieldAt};
-use crate::values::is_forbidden;
+use gw_leaves::is_forbidden;
 use gw_profile::{FieldShape, Node, SegNode, Usage};
 use gw_resolve::{At, Item, Leaf, LeftOut, Making, Place, Reference, Rule, SegmentItem, Source};
 use std::alloc::{AllocError, Global};

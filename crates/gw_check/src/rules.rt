@@ -11,20 +11,18 @@ ghost use Rattle.gw_check.specs.Checked.{all_failures};
 ghost use Rattle.gw_resolve.specs.Noted.{Notes};
 ghost use Rattle.gw_resolve.specs.Seen.{failures as seen_failures};
 ghost use Rattle.gw_check.specs.own.Seen as seen;
-ghost use Rattle.gw_check.specs.own.Sides as spec;
+ghost use Rattle.gw_leaves.specs.Sides as spec;
 
 use crate::checked::CheckedMap;
 use crate::failure::least;
 use crate::inside::check_items;
 use crate::labels::look_up;
 use crate::level::check_level;
-use crate::meeting::add_items;
 use crate::reads::passes_over;
-use crate::sides::Sides;
+use gw_leaves::Sides;
 use gw_maplang::Map;
 use gw_profile::{Level, Profile};
 use gw_resolve::{Element, Failure, Item, LeftOut, Named, Resolving, at_line, note};
-use indexmap::IndexMap;
 use std::alloc::{AllocError, Global};
 use std::sync::Arc;
 
@@ -92,24 +90,6 @@ fn add_failures(
     note(found, 9, at_line(line), passed)
 }
 
-// The map with its profiles, and with what is found of the tables that its items bring together.
-fn sides_of<'a>(
-    alloc: Global,
-    source: &'a Profile,
-    target: &'a Profile,
-    map: &'a Map,
-    level: &'a Level<'_>,
-    items: &'a [Item],
-) -> Result<Sides<'a>, AllocError>
-    ensures { IfOk result (λ sides. sides ≡ spec.sides_of source.now target.now map.now) }
-{
-    let sides = Sides::new(alloc, source, target, map);
-    let mut meetings = IndexMap::new(alloc);
-    let scope = [Element::Whole(Some(level))];
-    add_items(alloc, &mut meetings, &sides, &scope, target.nodes(), items)?;
-    sides.knowing(meetings)
-}
-
 // The failures of the rules 4 to 12 of a map without labels.
 fn failures_of(
     alloc: Global,
@@ -125,7 +105,7 @@ fn failures_of(
     ensures found { IfOk result (λ found.
         seen_failures found.items ≡ seen.failures (spec.sides_of source.now target.now map.now) named.now.items.items named.now.drops.items) }
 {
-    let sides = sides_of(alloc, source, target, map, level, &named.items)?;
+    let sides = Sides::of(alloc, source, target, map, level, &named.items)?;
     let mut found = Vec::new(alloc);
     add_failures(alloc, &mut found, &sides, level, &named.items, &named.drops)?;
     Ok(found)

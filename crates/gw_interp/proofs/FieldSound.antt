@@ -16,10 +16,11 @@ use Rattle.gw_resolve.specs.Intervals.{Interval, once, is_never, is_within}
 use Rattle.gw_resolve.specs.Places.{known}
 use Rattle.gw_resolve.specs.Failures.{Mark, fails}
 use Rattle.gw_resolve.specs.Resolved.{Making, copy, first, repeat, build, Rule, rule_of}
-use Rattle.gw_check.specs.Leaves.{Sources, at_field}
-use Rattle.gw_check.specs.Counts as counts
-use Rattle.gw_check.specs.Counts.{making_count, rule_count}
-use Rattle.gw_check.specs.Fields.{field_mark, counted, is_expected, has_no_rule, line_of_rule, making_failures, content_failures, count_failures, field_failures, rule_lookups, segment_failures}
+use Rattle.gw_leaves.specs.Leaves.{Sources, at_field}
+use Rattle.gw_leaves.specs.Counts as counts
+use Rattle.gw_leaves.specs.Counts.{making_count, rule_count}
+use Rattle.gw_leaves.specs.Components.{field_mark, making_failures, rule_lookups}
+use Rattle.gw_check.specs.Fields.{counted, is_expected, has_no_rule, line_of_rule, content_failures, count_failures, field_failures, segment_failures}
 use Rattle.gw_resolve.specs.Lawful.{LawfulMaking, LawfulRule, LawfulRules}
 use Rattle.gw_interp.specs.Occurrences.{texts_at}
 use Rattle.gw_interp.specs.Meaning.{Walked, walking, MakingMeans, RuleMeans, IsImage}

@@ -14,9 +14,9 @@ use Rattle.gw_maplang.specs.Shapes.{Row, Rows, second_of}
 use Rattle.gw_maplang.specs.Lawful.{LawfulRow}
 use Rattle.gw_resolve.specs.Places.{known}
 use Rattle.gw_resolve.specs.Resolved.{Reference, Source, Leaf, const, copied, looked_up, At, Making, copy, first, repeat, build, Rule}
-use Rattle.gw_check.specs.Leaves.{Values, any, listed, IsOf, Sources, at_field, or_otherwise, given, given_values, has_no_row, source_shape, leaf_shape}
-use Rattle.gw_check.specs.Counts as counts
-use Rattle.gw_check.specs.Fields.{lookup_failures, rule_lookups}
+use Rattle.gw_leaves.specs.Leaves.{Values, any, listed, IsOf, Sources, at_field, or_otherwise, given, given_values, has_no_row, source_shape, leaf_shape}
+use Rattle.gw_leaves.specs.Counts as counts
+use Rattle.gw_leaves.specs.Components.{lookup_failures, rule_lookups}
 use Rattle.gw_resolve.specs.Lawful.{LawfulRows, LawfulLeaf}
 use Rattle.gw_interp.specs.Occurrences.{texts_at}
 use Rattle.gw_interp.specs.Meaning.{Walked, SourceMeans, LeafMeans, look_up, walking}

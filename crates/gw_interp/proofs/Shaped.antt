@@ -11,13 +11,13 @@ use Rattle.gw_profile.specs.Value.{table_of}
 use Rattle.gw_profile.proofs.Among.{among_is}
 use Rattle.gw_profile.proofs.Facts.{not_of}
 use Rattle.gw_validate.specs.Breaches.{is_required, is_forbidden, is_long, lacks, is_unlisted, is_null}
-use Rattle.gw_check.specs.declared.shape.Presence.{Presence}
-use Rattle.gw_check.specs.declared.shape.Presence.TheVariants.{Always, Maybe, Never}
+use Rattle.gw_leaves.specs.declared.shape.Presence.{Presence}
+use Rattle.gw_leaves.specs.declared.shape.Presence.TheVariants.{Always, Maybe, Never}
 use Rattle.gw_resolve.specs.Failures.{Mark, fails}
-use Rattle.gw_check.specs.Leaves as leaves
-use Rattle.gw_check.specs.Leaves.{Values, IsOf, Shape, is_always, is_absent, by_usage, may_be_unlisted, may_be_long}
-use Rattle.gw_check.specs.Fields.{table_values, value_failures}
-use Rattle.gw_check.proofs.Fitting.{all_tabled, all_short}
+use Rattle.gw_leaves.specs.Leaves as leaves
+use Rattle.gw_leaves.specs.Leaves.{Values, IsOf, Shape, is_always, is_absent, by_usage, may_be_unlisted, may_be_long}
+use Rattle.gw_leaves.specs.Components.{table_values, value_failures}
+use Rattle.gw_leaves.proofs.Fitting.{all_tabled, all_short}
 use Rattle.gw_interp.proofs.Lists.{none_fails, both_empty}
 
 -- ---- presence

@@ -12,7 +12,7 @@ use Rattle.gw_validate.specs.Conforming.{named, segment_at}
 use Rattle.gw_resolve.specs.Intervals.{is_sure, is_never}
 use Rattle.gw_resolve.specs.Places as elements
 use Rattle.gw_resolve.specs.Places.{Element, Place, Known, known}
-use Rattle.gw_check.specs.Leaves.{Sources}
+use Rattle.gw_leaves.specs.Leaves.{Sources}
 use Rattle.gw_interp.specs.Occurrences.{Occurrence, a_segment, nodes, texts_at}
 use Rattle.gw_interp.specs.Meaning.{Walked}
 

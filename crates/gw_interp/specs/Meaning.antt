@@ -9,7 +9,7 @@ use Rattle.gw_validate.specs.Trees.{Tree}
 use Rattle.gw_maplang.specs.Shapes.{Rows}
 use Rattle.gw_resolve.specs.Places.{Place, child, nodes_of_child, name_of}
 use Rattle.gw_resolve.specs.Resolved.{Reference, Source, of_field, of_current, Leaf, const, copied, looked_up, At, leaf_at, Making, copy, first, repeat, build, Rule, rule_of, Items, no_items, segment_item, group_item, flat_item, Resolved}
-use Rattle.gw_check.specs.Leaves.{given}
+use Rattle.gw_leaves.specs.Leaves.{given}
 use Rattle.gw_interp.specs.Occurrences as occurrences
 use Rattle.gw_interp.specs.Occurrences.{Occurrence, at_place, texts_at}
 

@@ -4,7 +4,7 @@ ghost use Rattle.gw_er7.specs.Message.{SegmentValue};
 ghost use Rattle.gw_maplang.specs.Shapes.{table_of};
 ghost use Rattle.gw_maplang.specs.Seen.{now};
 ghost use Rattle.gw_resolve.specs.Naming.{no_rows};
-ghost use Rattle.gw_check.specs.Leaves.{given};
+ghost use Rattle.gw_leaves.specs.Leaves.{given};
 ghost use Rattle.gw_resolve.specs.Seen.{leaf as seen_leaf};
 ghost use Rattle.gw_validate.specs.Breaches.{is_null};
 ghost use Rattle.gw_interp.specs.own.Lent.{AreOf};

@@ -1,6 +1,7 @@
 //! What the checker hands back, and maps that it always allows.
 use crate::worked::{ORU, P1, profile};
-use gw_check::{CheckFault, Presence, Shape, Values, check, included};
+use gw_check::{CheckFault, check};
+use gw_leaves::{Presence, Shape, Values, included};
 use gw_profile::{SubShape, Usage};
 use std::test::Fail;
 

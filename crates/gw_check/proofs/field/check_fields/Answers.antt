@@ -1,9 +1,9 @@
 use Rattle.std.proofs.Common.{map}
 use Rattle.gw_profile.specs.Seen.{field}
 use Rattle.gw_check.specs.Fields.{field_failures}
-use Rattle.gw_check.specs.own.Uses.{sources_value, target_value, map_tables}
+use Rattle.gw_leaves.specs.Uses.{sources_value, target_value, map_tables}
 use Rattle.gw_resolve.specs.Seen.{failures, rule}
-use Rattle.gw_check.proofs.Each.{more_each, done_each}
+use Rattle.gw_leaves.proofs.Each.{more_each, done_each}
 use Rattle.gw_check.proofs.field.check_fields.Goals as goal
 
 pub loop-field-preserved : goal.loop-field-preserved

@@ -2,7 +2,7 @@ use Rattle.std.proofs.Common.{◌≡◌, ◌++◌, map, drop}
 use Rattle.std.specs.Prelude.{flat_map}
 use Rattle.gw_profile.specs.Seen.{field}
 use Rattle.gw_check.specs.Fields.{field_failures}
-use Rattle.gw_check.specs.own.Uses.{sources_value, target_value, map_tables}
+use Rattle.gw_leaves.specs.Uses.{sources_value, target_value, map_tables}
 use Rattle.gw_resolve.specs.Seen.{failures, rule}
 use Rattle.gw_check.proofs.field.check_fields.Given as goal
 

@@ -4,7 +4,7 @@ use Rattle.gw_profile.specs.Seen.{field}
 use Rattle.gw_resolve.specs.Seen.{rule}
 use Rattle.gw_check.specs.Gaps.{field_gaps}
 use Rattle.gw_check.specs.Gathered.{all_gaps}
-use Rattle.gw_check.proofs.Each.{more_each, done_each}
+use Rattle.gw_leaves.proofs.Each.{more_each, done_each}
 use Rattle.gw_check.proofs.gap.add_fields.Goals as goal
 
 pub loop-field-preserved : goal.loop-field-preserved

@@ -1,7 +1,7 @@
 use Rattle.gw_profile.specs.Seen.{field}
 use Rattle.gw_check.specs.Collected.{fields_at}
 use Rattle.gw_check.specs.Unread.{missed_field}
-use Rattle.gw_check.proofs.Each.{more_each, done_each}
+use Rattle.gw_leaves.proofs.Each.{more_each, done_each}
 use Rattle.gw_check.proofs.overlooked.add_fields.Goals as goal
 
 pub loop-field-preserved : goal.loop-field-preserved

@@ -1,7 +1,7 @@
 use Rattle.gw_resolve.specs.Seen.{at_leaf}
 use Rattle.gw_check.specs.Collected.{fields_at, positions}
 use Rattle.gw_check.specs.Reads.{at_reads}
-use Rattle.gw_check.proofs.Each.{more_each, done_each}
+use Rattle.gw_leaves.proofs.Each.{more_each, done_each}
 use Rattle.gw_check.proofs.reads.add_leaves.Goals as goal
 
 pub loop-at-preserved : goal.loop-at-preserved

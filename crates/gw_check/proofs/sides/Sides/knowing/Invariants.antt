@@ -1,5 +1,0 @@
-use Rattle.gw_check.specs.own.Findings.{AreFound}
-use Rattle.gw_check.proofs.sides.Sides.knowing.Given as goal
-
-abbrev pub invariant-loop-origin : goal.invariant-loop-origin
-invariant-loop-origin l = AreFound l.self l.known.entries

@@ -1,0 +1,35 @@
+-- One more key in a set: what holds of some of its keys.
+use Rattle.std.proofs.Common.{◌≡◌, Bool, true, false, List, [], ◌∷◌, ◌++◌, refl, sym, ap, ◌∙◌}
+use Rattle.std.specs.Prelude.{◌||◌, if◌then◌else◌}
+use Rattle.std.specs.List.{list_any}
+use Rattle.indexmap.specs.IndexSet.{insert_key}
+use Rattle.std.proofs.lemmas.List.Folds.{list_any-append}
+
+pub or_none : (a : Bool) → a || false ≡ a
+or_none true = refl
+or_none false = refl
+
+already : (a b : Bool) → (b ≡ true → a ≡ true) → a ≡ (a || b)
+already true b h = refl
+already false true h = absurd (cc (h refl))
+already false false h = refl
+
+module _ {K : Type 0} (eq : K → K → Bool) (test : K → Bool) (k : K) (alike : (x : K) → eq k x ≡ true → test k ≡ test x) where
+  found : (ks : List K) → list_any (eq k) ks ≡ true → test k ≡ true → list_any test ks ≡ true
+  found [] h t = h
+  found (x ∷ ks) h t = by (eq k x) refl h (λ e. found ks e t)
+    where
+      last : (b : Bool) → b || true ≡ true
+      last true = refl
+      last false = refl
+
+      by : (b : Bool) → eq k x ≡ b → b || list_any (eq k) ks ≡ true → (list_any (eq k) ks ≡ true → list_any test ks ≡ true) → test x || list_any test ks ≡ true
+      by true e h later = ap (λ b. b || list_any test ks) (sym (alike x e) ∙ t)
+      by false e h later = ap (λ b. test x || b) (later h) ∙ last (test x)
+
+  pub inserted : (ks : List K) → list_any test (insert_key eq ks k) ≡ (list_any test ks || test k)
+  inserted ks = by (list_any (eq k) ks) refl
+    where
+      by : (b : Bool) → list_any (eq k) ks ≡ b → list_any test (if b then ks else ks ++ k ∷ []) ≡ (list_any test ks || test k)
+      by true e = already (list_any test ks) (test k) (found ks e)
+      by false e = list_any-append test ks (k ∷ []) ∙ ap (λ b. list_any test ks || b) (or_none (test k))

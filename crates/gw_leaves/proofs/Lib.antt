@@ -1,0 +1,11 @@
+pub mod Each
+pub mod Lists
+pub mod Inserted
+pub mod Lacks
+pub mod Kept
+pub mod AtLengths
+pub mod Shortest
+pub mod AtPlaces
+pub mod Capped
+pub mod Presences
+pub mod Fitting

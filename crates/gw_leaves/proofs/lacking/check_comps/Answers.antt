@@ -1,0 +1,15 @@
+use Rattle.gw_profile.specs.Seen.{comp}
+use Rattle.gw_leaves.specs.own.Lacking.{all_lacks}
+use Rattle.gw_resolve.specs.Seen.{failures, mark}
+use Rattle.gw_leaves.proofs.Each.{more_each, done_each}
+use Rattle.gw_leaves.proofs.lacking.check_comps.Goals as goal
+
+pub loop-comp-preserved : goal.loop-comp-preserved
+loop-comp-preserved c =
+    more_each (all_lacks (mark c.args.mark) c.args.standing.now) comp c.args.comps.now c.loop-comp.comp-index _ c.comp-item.result
+    (failures c.loop-comp.found.items) (failures c.check_comp.new.found.items) c.loop-comp-test.true c.comp-item.is c.in_ok-check_comp.ensures c.loop-comp.invariant
+
+pub returns : goal.returns
+returns c =
+    done_each (all_lacks (mark c.args.mark) c.args.standing.now) comp c.args.comps.now c.loop-comp.comp-index _
+    (failures c.loop-comp.found.items) c.loop-comp-test.false c.loop-comp.invariant

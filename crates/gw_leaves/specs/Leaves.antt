@@ -1,0 +1,187 @@
+-- What is known of the texts that a leaf gives: whether one is there, and which it can be (HL7 v2.5.1 chapter 2, 2.12: usage, length, table).
+use Rattle.std.specs.Prelude.{◌≡◌, ℕ, Bool, true, false, ◌==◌, ◌&&◌, ◌||◌, not, nat_lt, nat_le, if◌then◌else◌, List, [], ◌∷◌, ◌++◌, map, filter, filter_map, Option, Some, None, find, option_map, option_to_list, unwrap_or}
+use Rattle.std.specs.List.{list_any}
+use Rattle.gw_profile.specs.declared.shape.Usage.{Usage}
+use Rattle.gw_profile.specs.declared.shape.Usage.TheVariants.{R, RE, O, X}
+use Rattle.gw_profile.specs.Among.{Among}
+use Rattle.gw_profile.specs.Shapes.{SubValue, CompValue, FieldValue, ProfileValue}
+use Rattle.gw_profile.specs.Lengths.{Count, octets, measure, len_count}
+use Rattle.gw_profile.specs.Fault.{is_among}
+use Rattle.gw_profile.specs.Value.{table_of}
+use Rattle.gw_leaves.specs.declared.shape.Presence.{Presence}
+use Rattle.gw_leaves.specs.declared.shape.Presence.TheVariants.{Always, Maybe, Never}
+use Rattle.gw_resolve.specs.Intervals.{is_sure, is_never}
+use Rattle.gw_resolve.specs.Places.{Element, Known, known}
+use Rattle.gw_maplang.specs.Shapes.{Row, Rows, second_of}
+use Rattle.gw_resolve.specs.Resolved.{Source, of_field, of_current, Reference, Leaf, const, copied, looked_up}
+
+-- ---- the elements of these numbers
+
+abbrev pub field_of : List FieldValue → ℕ → Option FieldValue
+field_of fields number = find (λ f. f.number == number) fields
+
+abbrev pub comp_of : Option FieldValue → ℕ → Option CompValue
+comp_of None number = None
+comp_of (Some f) number = find (λ c. c.number == number) f.comps
+
+abbrev pub sub_of : Option CompValue → ℕ → Option SubValue
+sub_of None number = None
+sub_of (Some c) number = find (λ s. s.number == number) c.subs
+
+-- ---- presence
+
+-- required is there wherever its parent is, forbidden never
+abbrev pub by_usage : Option Usage → Presence
+by_usage None = Maybe
+by_usage (Some R) = Always
+by_usage (Some RE) = Maybe
+by_usage (Some O) = Maybe
+by_usage (Some X) = Never
+
+abbrev pub is_always : Presence → Bool
+is_always Always = true
+is_always Maybe = false
+is_always Never = false
+
+abbrev pub is_absent : Presence → Bool
+is_absent Always = false
+is_absent Maybe = false
+is_absent Never = true
+
+-- of something that is there only where two things are
+abbrev pub both : Presence → Presence → Presence
+both Never b = Never
+both Always b = b
+both Maybe Always = Maybe
+both Maybe Maybe = Maybe
+both Maybe Never = Never
+
+abbrev pub comp_presence : Option CompValue → Presence
+comp_presence c = by_usage (option_map (λ (d : CompValue). d.usage) c)
+
+abbrev pub sub_usage : Option SubValue → Presence
+sub_usage s = by_usage (option_map (λ (t : SubValue). t.usage) s)
+
+-- of a subcomponent where its component is there: below one that never is, none is
+abbrev pub sub_presence : Option CompValue → Option SubValue → Presence
+sub_presence c s = if is_absent (comp_presence c) then Never else sub_usage s
+
+-- of a subcomponent in a repetition that is there
+abbrev pub rep_presence : Option FieldValue → ℕ → ℕ → Presence
+rep_presence f comp sub = both (comp_presence (comp_of f comp)) (sub_usage (sub_of (comp_of f comp) sub))
+
+-- of the first repetition of a field
+abbrev pub field_presence : Known → Option FieldValue → Presence
+field_presence k None = if is_never k.count.greatest then Never else Maybe
+field_presence k (Some f) =
+    if is_never k.count.greatest then Never else both (by_usage (Some f.usage)) (if is_sure k.count && nat_le 1 f.card.min then Always else Maybe)
+
+-- ---- values
+
+-- the listed texts, or any that by this count aren't longer than the length, if there is one
+pub data Values : Type 0 where
+  any : (count : Count) (len : Option ℕ) → Values
+  listed : (texts : List (List ℕ)) → Values
+
+pub record Shape : Type 0 where
+  pub presence : Presence
+  pub values : Values
+
+abbrev pub is_short : Count → Option ℕ → List ℕ → Bool
+is_short count None text = true
+is_short count (Some most) text = nat_le (measure count text) most
+
+-- the text is one of the values
+abbrev pub IsOf : Values → List ℕ → Type 0
+IsOf (any count len) text = is_short count len text ≡ true
+IsOf (listed texts) text = Among text texts
+
+-- with a table its texts that aren't too long, else any
+abbrev pub sub_values : ProfileValue → Option SubValue → Values
+sub_values profile None = any (len_count profile) None
+sub_values profile (Some s) = go s.table
+  where
+    go : Option (List ℕ) → Values
+    go None = any (len_count profile) s.len
+    go (Some name) = listed (filter (is_short (len_count profile) s.len) (unwrap_or (table_of name profile.tables) []))
+
+abbrev pub or_otherwise : Option (List ℕ) → Option (List ℕ) → Option (List ℕ)
+or_otherwise None otherwise = otherwise
+or_otherwise (Some text) otherwise = Some text
+
+-- what the rows give for a text
+abbrev pub given : Rows → List ℕ → Option (List ℕ)
+given table text = or_otherwise (second_of text table.rows) table.other
+
+abbrev pub given_values : Rows → Values → List (List ℕ)
+given_values table (any count len) = map (λ (r : Row). r.second) table.rows ++ option_to_list table.other
+given_values table (listed texts) = filter_map (given table) texts
+
+-- a text of the source has no row, as far as is known
+abbrev pub has_no_row : Rows → Values → Bool
+has_no_row table (any count len) = true
+has_no_row table (listed texts) = list_any (λ text. not (is_given (second_of text table.rows))) texts
+  where
+    is_given : Option (List ℕ) → Bool
+    is_given None = false
+    is_given (Some value) = true
+
+-- ---- the shape of a leaf
+
+-- what can be read: the source profile, what is walked, and the field whose repetition is walked
+pub record Sources : Type 0 where
+  pub profile : ProfileValue
+  pub scope : List Element
+  pub current : Option FieldValue
+
+abbrev pub at_field : Sources → Reference → Option FieldValue
+at_field s from = field_of (known s.scope from.place).fields from.field
+
+-- of the first repetition of the field of a reference
+abbrev pub reference_presence : Sources → Reference → Presence
+reference_presence s from = field_presence (known s.scope from.place) (at_field s from)
+
+abbrev pub source_shape : Sources → Source → Shape
+source_shape s (of_field from comp sub) =
+    record {
+      presence = both (field_presence (known s.scope from.place) (at_field s from)) (rep_presence (at_field s from) comp sub);
+      values = sub_values s.profile (sub_of (comp_of (at_field s from) comp) sub);
+    }
+source_shape s (of_current comp sub) =
+    record { presence = rep_presence s.current comp sub; values = sub_values s.profile (sub_of (comp_of s.current comp) sub) }
+
+abbrev pub leaf_shape : Sources → Leaf → Shape
+leaf_shape s (const text) = record { presence = Always; values = listed (text ∷ []) }
+leaf_shape s (copied source) = source_shape s source
+leaf_shape s (looked_up table source) =
+    record { presence = (source_shape s source).presence; values = listed (given_values table (source_shape s source).values) }
+
+-- ---- what a target subcomponent asks of them
+
+-- a value may be missing from the table
+abbrev pub may_be_unlisted : Values → Option (List (List ℕ)) → Bool
+may_be_unlisted values None = false
+may_be_unlisted (any count len) (Some table) = true
+may_be_unlisted (listed texts) (Some table) = list_any (λ text. not (is_among text table)) texts
+
+-- a text that isn't longer than the length by one count may be longer than the most by the other
+abbrev pub may_exceed : Count → ℕ → Count → ℕ → Bool
+may_exceed octets len octets most = nat_lt most len
+
+-- a value may be longer than the length, by the count of the target
+abbrev pub may_be_long : Count → Values → Option ℕ → Bool
+may_be_long to values None = false
+may_be_long to (any count None) (Some most) = true
+may_be_long to (any count (Some len)) (Some most) = may_exceed count len to most
+may_be_long to (listed texts) (Some most) = list_any (λ text. nat_lt most (measure to text)) texts
+
+-- what stands there always meets the subcomponent, with these values of its table and the count of its profile
+abbrev pub is_included : Count → Shape → SubValue → Option (List (List ℕ)) → Bool
+is_included to shape s table =
+    meets_usage s.usage && (is_absent shape.presence || (not (may_be_unlisted shape.values table) && not (may_be_long to shape.values s.len)))
+  where
+    meets_usage : Usage → Bool
+    meets_usage R = is_always shape.presence
+    meets_usage RE = true
+    meets_usage O = true
+    meets_usage X = is_absent shape.presence

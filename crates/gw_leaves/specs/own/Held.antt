@@ -1,0 +1,50 @@
+-- What is read at places and what it is read for, as the program holds it.
+use Rattle.std.specs.Prelude.{List, map, Option, option_map}
+use denote.Ref.{Bor}
+use Rattle.gw_profile.specs.declared.shape.SubShape.{SubShape}
+use Rattle.gw_profile.specs.declared.shape.CompShape.{CompShape}
+use Rattle.gw_profile.specs.declared.shape.FieldShape.{FieldShape}
+use Rattle.gw_profile.specs.Shapes.{SubValue, CompValue, FieldValue}
+use Rattle.gw_profile.specs.Seen.{field, comp, sub, profile_value}
+use Rattle.gw_maplang.specs.Seen.{now}
+use Rattle.gw_resolve.specs.declared.resolved.At as ats
+use Rattle.gw_resolve.specs.Places.{Known}
+use Rattle.gw_resolve.specs.Resolved.{At}
+use Rattle.gw_resolve.specs.Seen.{interval, saturated, at_leaf}
+use Rattle.gw_leaves.specs.declared.given.Given.{Given}
+use Rattle.gw_leaves.specs.declared.known.Known as the_known
+use Rattle.gw_leaves.specs.declared.sources.Sources.{Sources}
+use Rattle.gw_leaves.specs.Leaves.{Values, sub_values}
+use Rattle.gw_leaves.specs.Sides.{SidesValue}
+use Rattle.gw_leaves.specs.Uses.{map_tables}
+use Rattle.gw_leaves.specs.own.Readings.{rowed}
+
+abbrev pub leaves_value : Sources → List ats.At → List At
+leaves_value s leaves = map (at_leaf (map_tables s)) leaves
+
+-- ---- elements that may be there
+
+abbrev pub some_field : Option (Bor FieldShape) → Option FieldValue
+some_field f = option_map (λ b. field b.now) f
+
+abbrev pub some_comp : Option (Bor CompShape) → Option CompValue
+some_comp c = option_map (λ b. comp b.now) c
+
+abbrev pub some_sub : Option (Bor SubShape) → Option SubValue
+some_sub s = option_map (λ b. sub b.now) s
+
+-- what is read of a subcomponent, as it is or looked up
+abbrev pub source_values : SidesValue → Option (Bor SubShape) → Values
+source_values s sub = sub_values (profile_value s.source) (some_sub sub)
+
+abbrev pub given_texts : SidesValue → Given → Values
+given_texts s g = rowed s.map.tables (now g.rows) (source_values s g.sub)
+
+-- ---- the segment at a place
+
+abbrev pub known_value : the_known.Known → Known
+known_value k = record { count = interval k.count; fields = map field k.fields.now }
+
+-- the program's counts end at the cap
+abbrev pub saturated_known : Known → Known
+saturated_known k = record { count = saturated k.count; fields = k.fields }

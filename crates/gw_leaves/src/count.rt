@@ -1,0 +1,119 @@
+//! How often a rule gives its field.
+ghost use Rattle.std.specs.Prelude.{◌≡◌};
+ghost use Rattle.gw_leaves.specs.Counts as spec;
+ghost use Rattle.gw_leaves.specs.own.Held.{leaves_value, some_field, known_value};
+ghost use Rattle.gw_leaves.specs.Uses.{CountsRule, sources_value, target_value, map_tables};
+ghost use Rattle.gw_resolve.specs.Seen.{interval, saturated, reference, making as seen_making};
+
+use crate::known::{Known, at_field, field_of, segment_at};
+use crate::presence::{is_absent, is_always, leaf_presence};
+use crate::sources::Sources;
+use gw_profile::FieldShape;
+use gw_resolve::{At, Interval, Making, Reference, Rule, any_number, never, once};
+
+fn repetitions(field: Option<&FieldShape>) -> Interval
+    ensures { interval result ≡ saturated (spec.repetitions (some_field field.entry)) }
+{
+    match field {
+        None => any_number(),
+        Some(field) => Interval::of(field.card),
+    }
+}
+
+fn reference_count(known: Known<'_>, field: Option<&FieldShape>) -> Interval
+    ensures { interval result ≡ saturated (spec.reference_count (known_value known.entry) (some_field field.entry)) }
+{
+    if known.count.is_never() {
+        return never();
+    }
+    let count = repetitions(field);
+    if known.count.is_sure() {
+        return count;
+    }
+    count.or_none()
+}
+
+// Of the source field of a reference.
+fn field_count(sources: Sources<'_, '_, '_, '_, '_>, from: &Reference) -> Interval
+    ensures { interval result ≡ saturated (spec.field_count (sources_value sources.entry) (reference from.now)) }
+{
+    let known = segment_at(sources.scope, &from.place);
+    reference_count(known, field_of(known.fields, from.field))
+}
+
+/// The same below `repeat`, where the field of the reference is walked.
+pub(crate) fn walking<'p, 'm, 's, 'e, 'l>(
+    sources: Sources<'p, 'm, 's, 'e, 'l>,
+    from: &Reference,
+) -> Sources<'p, 'm, 's, 'e, 'l>
+    ensures tables { map_tables result ≡ map_tables sources.entry }
+    ensures target { target_value result ≡ target_value sources.entry }
+    ensures walking { sources_value result ≡ spec.walking (sources_value sources.entry) (reference from.now) }
+{
+    Sources {
+        current: at_field(sources, from),
+        ..sources
+    }
+}
+
+// Whether some leaf is always there.
+fn some_always(sources: Sources<'_, '_, '_, '_, '_>, leaves: &[At]) -> bool
+    ensures { result ≡ spec.some_always (sources_value sources.entry) (leaves_value sources.entry leaves.now) }
+{
+    for at in leaves {
+        if is_always(leaf_presence(sources, &at.leaf)) {
+            return true;
+        }
+    }
+    false
+}
+
+// Whether no leaf ever is.
+fn all_absent(sources: Sources<'_, '_, '_, '_, '_>, leaves: &[At]) -> bool
+    ensures { result ≡ spec.all_absent (sources_value sources.entry) (leaves_value sources.entry leaves.now) }
+{
+    for at in leaves {
+        if !is_absent(leaf_presence(sources, &at.leaf)) {
+            return false;
+        }
+    }
+    true
+}
+
+// What leaves give where there is something to give them for.
+fn leaves_count(sources: Sources<'_, '_, '_, '_, '_>, leaves: &[At], count: Interval) -> Interval
+    ensures { interval result ≡ spec.leaves_count (sources_value sources.entry) (leaves_value sources.entry leaves.now) (interval count) }
+{
+    if all_absent(sources, leaves) {
+        return never();
+    }
+    if some_always(sources, leaves) {
+        return count;
+    }
+    count.or_none()
+}
+
+fn making_count(sources: Sources<'_, '_, '_, '_, '_>, making: &Making) -> Interval
+    ensures { interval result ≡ saturated (spec.making_count (sources_value sources.entry) (seen_making (map_tables sources.entry) making.now)) }
+{
+    match making {
+        Making::Copy(from) => field_count(sources, from),
+        Making::First(from) => field_count(sources, from).at_most_one(),
+        Making::Repeat(from, leaves) => leaves_count(
+            walking(sources, from),
+            leaves,
+            field_count(sources, from),
+        ),
+        Making::Build(leaves) => leaves_count(sources, leaves, once()),
+    }
+}
+
+/// How often a rule gives its field, up to the cap; never where there is no rule. It takes no memory.
+pub fn rule_count(sources: Sources<'_, '_, '_, '_, '_>, rule: Option<&Rule>) -> Interval
+    ensures { CountsRule sources.entry rule.entry result }
+{
+    match rule {
+        None => never(),
+        Some(rule) => making_count(sources, &rule.making),
+    }
+}

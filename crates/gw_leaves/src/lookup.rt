@@ -1,0 +1,79 @@
+//! The rule on lookups: without a value for texts that have no row, each text of the source needs one.
+ghost use Rattle.std.specs.Prelude.{flat_map, OnOk};
+ghost use Rattle.gw_leaves.specs.Components as spec;
+ghost use Rattle.gw_resolve.specs.Noted.{Notes};
+ghost use Rattle.gw_leaves.specs.own.Held.{leaves_value};
+ghost use Rattle.gw_leaves.specs.Uses.{sources_value, map_tables, rules_value};
+ghost use Rattle.gw_resolve.specs.Seen.{at_leaf, rule as seen_rule};
+
+use crate::count::walking;
+use crate::given::is_unrowed;
+use crate::leaf::source_sub;
+use crate::mark::leaf_mark;
+use crate::sources::Sources;
+use gw_resolve::{At, Failure, Leaf, Making, Rule, note};
+use std::alloc::AllocError;
+
+fn check_lookup(
+    found: &mut Vec<Failure>,
+    sources: Sources<'_, '_, '_, '_, '_>,
+    field: u32,
+    at: &At,
+) -> Result<(), AllocError>
+    ensures { OnOk result (Notes found.old found.new (spec.lookup_failures (sources_value sources.entry) field (at_leaf (map_tables sources.entry) at.now))) }
+{
+    let Leaf::LookedUp(name, source) = &at.leaf else {
+        return Ok(());
+    };
+    let is_unrowed = is_unrowed(sources.sides, name, source_sub(sources, source))?;
+    note(found, 10, leaf_mark(field, at), is_unrowed)
+}
+
+fn check_leaves(
+    found: &mut Vec<Failure>,
+    sources: Sources<'_, '_, '_, '_, '_>,
+    field: u32,
+    leaves: &[At],
+) -> Result<(), AllocError>
+    ensures { OnOk result
+        (Notes found.old found.new (flat_map (spec.lookup_failures (sources_value sources.entry) field) (leaves_value sources.entry leaves.now))) }
+{
+    for at in leaves {
+        check_lookup(found, sources, field, at)?;
+    }
+    Ok(())
+}
+
+fn check_rule(
+    found: &mut Vec<Failure>,
+    sources: Sources<'_, '_, '_, '_, '_>,
+    rule: &Rule,
+) -> Result<(), AllocError>
+    ensures { OnOk result (Notes found.old found.new (spec.rule_lookups (sources_value sources.entry) (seen_rule (map_tables sources.entry) rule.now))) }
+{
+    match &rule.making {
+        Making::Copy(_) => Ok(()),
+        Making::First(_) => Ok(()),
+        Making::Repeat(from, leaves) => check_leaves(
+            found,
+            walking(sources, from),
+            rule.field,
+            leaves,
+        ),
+        Making::Build(leaves) => check_leaves(found, sources, rule.field, leaves),
+    }
+}
+
+/// Adds the failures of the lookups of these rules, each at its line and place. The one error is want of memory.
+pub fn check_lookups(
+    found: &mut Vec<Failure>,
+    sources: Sources<'_, '_, '_, '_, '_>,
+    rules: &[Rule],
+) -> Result<(), AllocError>
+    ensures { OnOk result (Notes found.old found.new (flat_map (spec.rule_lookups (sources_value sources.entry)) (rules_value sources.entry rules.now))) }
+{
+    for rule in rules {
+        check_rule(found, sources, rule)?;
+    }
+    Ok(())
+}

@@ -1,0 +1,178 @@
+//! The rules on fields that are made of leaves.
+ghost use Rattle.std.specs.Prelude.{◌≡◌, ◌∷◌, [], ◌&&◌, ◌||◌, not, flat_map, OnOk};
+ghost use Rattle.gw_validate.specs.Breaches.{is_null};
+ghost use Rattle.gw_resolve.specs.Failures.{fails};
+ghost use Rattle.gw_leaves.specs.Components as spec;
+ghost use Rattle.gw_leaves.specs.Leaves as leaves_spec;
+ghost use Rattle.gw_resolve.specs.Noted.{Notes};
+ghost use Rattle.gw_leaves.specs.own.Held.{leaves_value, some_comp, some_sub};
+ghost use Rattle.gw_leaves.specs.Uses.{map_tables};
+ghost use Rattle.gw_resolve.specs.Seen.{at_leaf, mark as seen_mark};
+ghost use Rattle.gw_leaves.specs.own.Seen as seen;
+
+use crate::given::{Given, table_of};
+use crate::known::{comp_of, sub_of};
+use crate::lacking::check_lacking;
+use crate::leaf::{source_sub, table_named};
+use crate::mark::leaf_mark;
+use crate::presence::{is_absent, leaf_presence, source_presence};
+use crate::shape::Presence;
+use crate::sources::Sources;
+use crate::texts::{is_long, is_missing};
+use crate::values::{check_values, is_forbidden};
+use gw_profile::{CompShape, FieldShape, Profile, SubShape};
+use gw_resolve::{At, Failure, Leaf, Mark, Source, note};
+use std::alloc::AllocError;
+
+// ---- what the leaves give
+
+fn is_null(text: &[u8]) -> bool
+    ensures { result ≡ is_null text.now }
+{
+    text == b"\"\"".as_slice()
+}
+
+// Another value than the table's, or too long.
+fn breaks(target: &Profile, text: &[u8], sub: &SubShape) -> bool
+    ensures { result ≡ seen.may_break target.now (leaves_spec.listed (text.now ∷ [])) sub.now }
+{
+    let table = table_named(target, table_of(Some(sub)));
+    is_missing(table, text) || is_long(sub.len, text)
+}
+
+fn check_const(
+    found: &mut Vec<Failure>,
+    target: &Profile,
+    mark: Mark,
+    text: &[u8],
+    sub: &SubShape,
+) -> Result<(), AllocError>
+    ensures { OnOk result (Notes found.old found.new (seen.const_failures target.now mark text.now sub.now)) }
+{
+    if is_null(text) {
+        return Ok(());
+    }
+    note(found, 12, mark, breaks(target, text, sub))
+}
+
+// What a source gives, as it is or looked up in the table of this name.
+fn check_source(
+    found: &mut Vec<Failure>,
+    sources: Sources<'_, '_, '_, '_, '_>,
+    mark: Mark,
+    rows: Option<&[u8]>,
+    source: &Source,
+    sub: &SubShape,
+) -> Result<(), AllocError>
+    ensures { OnOk result (Notes found.old found.new (seen.source_failures sources.entry mark rows.entry source.now sub.now)) }
+{
+    check_values(
+        found,
+        sources.sides,
+        mark,
+        source_presence(sources, source),
+        Given {
+            rows,
+            sub: source_sub(sources, source),
+        },
+        sub,
+    )
+}
+
+fn check_leaf(
+    found: &mut Vec<Failure>,
+    sources: Sources<'_, '_, '_, '_, '_>,
+    mark: Mark,
+    leaf: &Leaf,
+    sub: &SubShape,
+) -> Result<(), AllocError>
+    ensures { OnOk result (Notes found.old found.new (seen.leaf_failures sources.entry mark leaf.now sub.now)) }
+{
+    match leaf {
+        Leaf::Const(text) => check_const(found, sources.sides.target(), mark, text, sub),
+        Leaf::Copied(source) => check_source(found, sources, mark, None, source, sub),
+        Leaf::LookedUp(name, source) => {
+            check_source(found, sources, mark, Some(name.as_slice()), source, sub)
+        }
+    }
+}
+
+fn is_forbidden_comp(comp: Option<&CompShape>) -> bool
+    ensures { result ≡ spec.is_forbidden_comp (some_comp comp.entry) }
+{
+    match comp {
+        None => false,
+        Some(comp) => is_forbidden(comp.usage),
+    }
+}
+
+fn is_forbidden_sub(sub: Option<&SubShape>) -> bool
+    ensures { result ≡ spec.is_forbidden_sub (some_sub sub.entry) }
+{
+    match sub {
+        None => false,
+        Some(sub) => is_forbidden(sub.usage),
+    }
+}
+
+fn check_barred(
+    found: &mut Vec<Failure>,
+    mark: Mark,
+    barred: bool,
+    presence: Presence,
+) -> Result<(), AllocError>
+    ensures { OnOk result (Notes found.old found.new (fails 11 (seen_mark mark) (barred && not (leaves_spec.is_absent presence)))) }
+{
+    if !barred {
+        return Ok(());
+    }
+    note(found, 11, mark, !is_absent(presence))
+}
+
+fn check_at(
+    found: &mut Vec<Failure>,
+    sources: Sources<'_, '_, '_, '_, '_>,
+    field: &FieldShape,
+    at: &At,
+) -> Result<(), AllocError>
+    ensures { OnOk result (Notes found.old found.new (seen.made_leaf sources.entry field.now (at_leaf (map_tables sources.entry) at.now))) }
+{
+    let comp = comp_of(Some(field), at.place.comp);
+    let sub = sub_of(comp, at.place.sub);
+    let presence = leaf_presence(sources, &at.leaf);
+    let mark = leaf_mark(field.number, at);
+    let barred = is_forbidden_comp(comp) || is_forbidden_sub(sub);
+    check_barred(found, mark, barred, presence)?;
+    match sub {
+        None => Ok(()),
+        Some(sub) => check_leaf(found, sources, mark, &at.leaf, sub),
+    }
+}
+
+fn check_leaves(
+    found: &mut Vec<Failure>,
+    sources: Sources<'_, '_, '_, '_, '_>,
+    field: &FieldShape,
+    leaves: &[At],
+) -> Result<(), AllocError>
+    ensures { OnOk result (Notes found.old found.new (flat_map (seen.made_leaf sources.entry field.now) (leaves_value sources.entry leaves.now))) }
+{
+    for at in leaves {
+        check_at(found, sources, field, at)?;
+    }
+    Ok(())
+}
+
+/// The failures of a field that is made of these leaves.
+pub(crate) fn check_made(
+    found: &mut Vec<Failure>,
+    sources: Sources<'_, '_, '_, '_, '_>,
+    mark: Mark,
+    leaves: &[At],
+    field: &FieldShape,
+) -> Result<(), AllocError>
+    ensures { OnOk result (Notes found.old found.new (seen.made_field sources.entry mark leaves.now field.now)) }
+{
+    check_lacking(found, sources, mark, leaves, &field.comps)?;
+    check_leaves(found, sources, field, leaves)
+}

@@ -1,0 +1,36 @@
+//! The rules on what a rule makes of a field.
+ghost use Rattle.std.specs.Prelude.{OnOk};
+ghost use Rattle.gw_resolve.specs.Noted.{Notes};
+ghost use Rattle.gw_leaves.specs.Uses.{making_failures};
+
+use crate::copied::check_copied;
+use crate::count::walking;
+use crate::made::check_made;
+use crate::sources::Sources;
+use gw_profile::FieldShape;
+use gw_resolve::{Failure, Making, Mark};
+use std::alloc::AllocError;
+
+/// Adds the failures of what a rule makes of a target field, each at this mark or at a part of it. The one error is want of memory.
+pub fn check_making(
+    found: &mut Vec<Failure>,
+    sources: Sources<'_, '_, '_, '_, '_>,
+    mark: Mark,
+    making: &Making,
+    field: &FieldShape,
+) -> Result<(), AllocError>
+    ensures { OnOk result (Notes found.old found.new (making_failures sources.entry mark making.now field.now)) }
+{
+    match making {
+        Making::Copy(from) => check_copied(found, sources, mark, from, field),
+        Making::First(from) => check_copied(found, sources, mark, from, field),
+        Making::Repeat(from, leaves) => check_made(
+            found,
+            walking(sources, from),
+            mark,
+            leaves,
+            field,
+        ),
+        Making::Build(leaves) => check_made(found, sources, mark, leaves, field),
+    }
+}

@@ -1,0 +1,34 @@
+//! What fails of a segment, by its line.
+ghost use Rattle.std.specs.Prelude.{◌≡◌, None};
+ghost use Rattle.gw_leaves.specs.Components as spec;
+ghost use Rattle.gw_resolve.specs.Seen.{mark as seen_mark};
+
+use gw_resolve::{At, Mark};
+
+/// A mark of all of a target field, by its number and a line. It takes no memory.
+pub fn field_mark(number: u32, line: u32) -> Mark
+    ensures { seen_mark result ≡ spec.field_mark number line }
+{
+    Mark {
+        line,
+        child: None,
+        field: number,
+        comp: 0,
+        sub: 0,
+        count: None,
+    }
+}
+
+/// Where a leaf stands in its field.
+pub(crate) fn leaf_mark(field: u32, at: &At) -> Mark
+    ensures { seen_mark result ≡ record { line = at.now.line; child = None; field = field; comp = at.now.place.comp; sub = at.now.place.sub; count = None } }
+{
+    Mark {
+        line: at.line,
+        child: None,
+        field,
+        comp: at.place.comp,
+        sub: at.place.sub,
+        count: None,
+    }
+}

@@ -1,0 +1,149 @@
+//! Whether a text stands at a place.
+ghost use Rattle.std.specs.Prelude.{◌≡◌, ◌&&◌, nat_le, if◌then◌else◌};
+ghost use Rattle.gw_resolve.specs.Intervals.{is_sure};
+ghost use Rattle.gw_leaves.specs.Leaves as spec;
+ghost use Rattle.gw_leaves.specs.own.Held.{some_field, some_comp, some_sub, known_value};
+ghost use Rattle.gw_leaves.specs.Uses.{sources_value, map_tables};
+ghost use Rattle.gw_resolve.specs.Seen.{interval, reference, source as seen_source, leaf as seen_leaf};
+ghost use Rattle.gw_leaves.specs.declared.shape.Presence.TheVariants as presences;
+
+use crate::known::{Known, at_field, comp_of, field_of, segment_at, sub_of};
+use crate::shape::Presence;
+use crate::sources::Sources;
+use gw_profile::{Card, CompShape, FieldShape, SubShape, Usage};
+use gw_resolve::{Interval, Leaf, Reference, Source};
+
+fn by_usage(usage: Option<Usage>) -> Presence
+    ensures { result ≡ spec.by_usage usage }
+{
+    match usage {
+        Some(Usage::R) => Presence::Always,
+        Some(Usage::X) => Presence::Never,
+        _ => Presence::Maybe,
+    }
+}
+
+pub(crate) fn is_always(presence: Presence) -> bool
+    ensures { result ≡ spec.is_always presence }
+{
+    match presence {
+        Presence::Always => true,
+        _ => false,
+    }
+}
+
+pub(crate) fn is_absent(presence: Presence) -> bool
+    ensures { result ≡ spec.is_absent presence }
+{
+    match presence {
+        Presence::Never => true,
+        _ => false,
+    }
+}
+
+// Of something that is there only where two things are.
+fn both(one: Presence, other: Presence) -> Presence
+    ensures { result ≡ spec.both one other }
+{
+    match (one, other) {
+        (Presence::Never, _) => Presence::Never,
+        (Presence::Always, other) => other,
+        (Presence::Maybe, Presence::Never) => Presence::Never,
+        (Presence::Maybe, _) => Presence::Maybe,
+    }
+}
+
+/// Of a component.
+pub(crate) fn comp_presence(comp: Option<&CompShape>) -> Presence
+    ensures { result ≡ spec.comp_presence (some_comp comp.entry) }
+{
+    match comp {
+        None => by_usage(None),
+        Some(comp) => by_usage(Some(comp.usage)),
+    }
+}
+
+fn sub_usage(sub: Option<&SubShape>) -> Presence
+    ensures { result ≡ spec.sub_usage (some_sub sub.entry) }
+{
+    match sub {
+        None => by_usage(None),
+        Some(sub) => by_usage(Some(sub.usage)),
+    }
+}
+
+/// Of a subcomponent where its component is there.
+pub(crate) fn sub_presence(comp: Option<&CompShape>, sub: Option<&SubShape>) -> Presence
+    ensures { result ≡ spec.sub_presence (some_comp comp.entry) (some_sub sub.entry) }
+{
+    if is_absent(comp_presence(comp)) {
+        return Presence::Never;
+    }
+    sub_usage(sub)
+}
+
+// Of a subcomponent in a repetition that is there.
+fn rep_presence(field: Option<&FieldShape>, comp: u32, sub: u32) -> Presence
+    ensures { result ≡ spec.rep_presence (some_field field.entry) comp sub }
+{
+    let shape = comp_of(field, comp);
+    both(comp_presence(shape), sub_usage(sub_of(shape, sub)))
+}
+
+// Of the first repetition of a field that may come so often, in a segment that is there so often.
+fn first_presence(count: Interval, card: Card) -> Presence
+    ensures { result ≡ (if is_sure (interval count) && nat_le 1 card.min then presences.Always else presences.Maybe) }
+{
+    if count.is_sure() && card.min >= 1 {
+        return Presence::Always;
+    }
+    Presence::Maybe
+}
+
+// Of the first repetition of a field.
+fn field_presence(known: Known<'_>, field: Option<&FieldShape>) -> Presence
+    ensures { result ≡ spec.field_presence (known_value known.entry) (some_field field.entry) }
+{
+    if known.count.is_never() {
+        return Presence::Never;
+    }
+    match field {
+        None => Presence::Maybe,
+        Some(field) => both(
+            by_usage(Some(field.usage)),
+            first_presence(known.count, field.card),
+        ),
+    }
+}
+
+// Of the first repetition of the field of a reference.
+fn reference_presence(sources: Sources<'_, '_, '_, '_, '_>, from: &Reference) -> Presence
+    ensures { result ≡ spec.reference_presence (sources_value sources.entry) (reference from.now) }
+{
+    let known = segment_at(sources.scope, &from.place);
+    field_presence(known, field_of(known.fields, from.field))
+}
+
+/// Of the text of a source.
+pub(crate) fn source_presence(sources: Sources<'_, '_, '_, '_, '_>, source: &Source) -> Presence
+    ensures { result ≡ (spec.source_shape (sources_value sources.entry) (seen_source source.now)).presence }
+{
+    match source {
+        Source::OfField(from, at) => both(
+            reference_presence(sources, from),
+            rep_presence(at_field(sources, from), at.comp, at.sub),
+        ),
+        Source::OfCurrent(at) => rep_presence(sources.current, at.comp, at.sub),
+    }
+}
+
+/// Of the text of a leaf.
+pub(crate) fn leaf_presence(sources: Sources<'_, '_, '_, '_, '_>, leaf: &Leaf) -> Presence
+    ensures { result ≡ (spec.leaf_shape (sources_value sources.entry) (seen_leaf (map_tables sources.entry) leaf.now)).presence }
+{
+    match leaf {
+        Leaf::Const(_) => Presence::Always,
+        Leaf::Copied(source) => source_presence(sources, source),
+        Leaf::LookedUp(_, source) => source_presence(sources, source),
+    }
+}

@@ -1,0 +1,272 @@
+//! What can be read of the values of a table, whatever the length at which a place reads them.
+ghost use Rattle.std.specs.Prelude.{◌≡◌, IfOk, OnOk, IsTrue, map, unwrap_or, option_map, slice_get, Some, []};
+ghost use Rattle.gw_profile.specs.Value.{table_of as table_in};
+ghost use Rattle.gw_maplang.specs.Seen.{now};
+ghost use Rattle.gw_leaves.specs.Leaves as leaves;
+ghost use Rattle.gw_leaves.specs.Texts.{rows_value, items_all};
+ghost use Rattle.gw_leaves.specs.own.Readings as spec;
+ghost use Rattle.gw_leaves.specs.own.Readings.{readings_value, test_value, some_step, AreRising, AreAll, IsShortest, IsWithin, AddsStep, AreSteps};
+
+use gw_maplang::{Map, Table as Rows};
+use gw_profile::{Profile, Table};
+use std::alloc::{AllocError, Global};
+
+/// Where texts are from: the table of the map in which they are looked up, and the table of the source that lists them.
+pub(crate) type Origin<'a> = (Option<&'a [u8]>, Option<&'a [u8]>);
+
+/// A text that can be read: its octets, and what is given for it.
+#[derive(Clone, Copy)]
+pub(crate) struct Reading<'a> {
+    pub(crate) octets: u64,
+    pub(crate) text: Option<&'a [u8]>,
+}
+
+/// A test of what is given: that it isn't in this table, or that there is nothing.
+#[derive(Clone, Copy)]
+pub(crate) enum Test<'a> {
+    Unlisted(Option<&'a Table>),
+    Nothing,
+}
+
+/// For texts from so many octets on, the most octets of what is given for one.
+#[derive(Clone, Copy)]
+pub(crate) struct Step {
+    pub(crate) from: u64,
+    pub(crate) most: u64,
+}
+
+/// Whether any text can be read.
+pub(crate) fn is_any(origin: Origin<'_>) -> bool
+    ensures { result ≡ spec.is_any (now origin.entry.0) (now origin.entry.1) }
+{
+    origin.0.is_none() && origin.1.is_none()
+}
+
+// ---- what can be read
+
+// The values of the table of this name.
+fn values_of<'a>(source: &'a Profile, name: &[u8]) -> &'a [Vec<u8>]
+    ensures { items_all result.now ≡ unwrap_or (table_in name.now source.now.tables) [] }
+{
+    match source.table(name) {
+        None => &[],
+        Some(table) => table.values(),
+    }
+}
+
+// What the rows give for a text.
+fn given<'a>(rows: Option<&'a Rows>, text: &[u8]) -> Option<&'a [u8]>
+    ensures { now result ≡ leaves.given (rows_value rows.entry) text.now }
+{
+    let rows = rows?;
+    match rows.second(text) {
+        None => rows.other(),
+        Some(second) => Some(second),
+    }
+}
+
+// Each value as it is.
+fn themselves<'a>(alloc: Global, values: &'a [Vec<u8>]) -> Result<Vec<Reading<'a>>, AllocError>
+    ensures { IfOk result (λ made. readings_value made.items ≡ map spec.itself (items_all values.now)) }
+{
+    let mut made = Vec::with_capacity(alloc, values.len())?;
+    for value in values {
+        made.push(Reading {
+            octets: value.len() as u64,
+            text: Some(value.as_slice()),
+        })?;
+    }
+    Ok(made)
+}
+
+// What the rows give for each value.
+fn looked_up<'a>(
+    alloc: Global,
+    rows: Option<&'a Rows>,
+    values: &'a [Vec<u8>],
+) -> Result<Vec<Reading<'a>>, AllocError>
+    ensures { IfOk result (λ made. readings_value made.items ≡ map (spec.looked_up (rows_value rows.entry)) (items_all values.now)) }
+{
+    let mut made = Vec::with_capacity(alloc, values.len())?;
+    for value in values {
+        made.push(Reading {
+            octets: value.len() as u64,
+            text: given(rows, value),
+        })?;
+    }
+    Ok(made)
+}
+
+// What the row of this number gives.
+fn second_at<'a>(rows: &'a Rows, i: usize) -> Option<&'a [u8]>
+    ensures { now result ≡ option_map (λ r. r.second) (slice_get rows.now.rows i) }
+{
+    match rows.rows().get_index(i) {
+        None => None,
+        Some((_, second)) => Some(second.as_slice()),
+    }
+}
+
+// All that the rows give, each for a text as short as one likes.
+fn all_given<'a>(alloc: Global, rows: &'a Rows) -> Result<Vec<Reading<'a>>, AllocError>
+    ensures { IfOk result (λ made. readings_value made.items ≡ spec.all_given rows.now) }
+{
+    let mut made = Vec::new(alloc);
+    for i in 0..rows.rows().len() {
+        made.push(Reading {
+            octets: 0,
+            text: second_at(rows, i),
+        })?;
+    }
+    made.push(Reading {
+        octets: 0,
+        text: rows.other(),
+    })?;
+    Ok(made)
+}
+
+// All that can be read of an origin, in the order of its table.
+fn gathered<'a>(
+    alloc: Global,
+    source: &'a Profile,
+    map: &'a Map,
+    origin: Origin<'a>,
+) -> Result<Vec<Reading<'a>>, AllocError>
+    ensures { IfOk result (λ made. readings_value made.items ≡ spec.read_of source.now.tables map.now.tables origin.entry) }
+{
+    let (rows, table) = origin;
+    match rows {
+        None => match table {
+            None => Ok(Vec::new(alloc)),
+            Some(name) => themselves(alloc, values_of(source, name)),
+        },
+        Some(rows) => match table {
+            None => match map.table(rows) {
+                None => {
+                    let mut made = Vec::new(alloc);
+                    made.push(Reading {
+                        octets: 0,
+                        text: None,
+                    })?;
+                    Ok(made)
+                }
+                Some(rows) => all_given(alloc, rows),
+            },
+            Some(name) => looked_up(alloc, map.table(rows), values_of(source, name)),
+        },
+    }
+}
+
+/// All that can be read of an origin, the shorter texts first.
+pub(crate) fn readings_of<'a>(
+    alloc: Global,
+    source: &'a Profile,
+    map: &'a Map,
+    origin: Origin<'a>,
+) -> Result<Vec<Reading<'a>>, AllocError>
+    ensures rising { IfOk result (λ made. AreRising made.items) }
+    ensures all { IfOk result (λ made. AreAll (spec.read_of source.now.tables map.now.tables origin.entry) made.items) }
+{
+    let mut made = gathered(alloc, source, map, origin)?;
+    made.sort_unstable_by_key(
+        |reading: &Reading| -> u64
+            ensures { result ≡ reading.now.octets }
+        { reading.octets },
+    );
+    Ok(made)
+}
+
+// ---- what is found of it
+
+/// Whether there is a text of so many octets, and it isn't longer.
+pub(crate) fn fits(len: Option<u32>, octets: Option<u64>) -> bool
+    ensures { result ≡ spec.fits_some len octets }
+{
+    let Some(octets) = octets else {
+        return false;
+    };
+    match len {
+        None => true,
+        Some(most) => octets <= u64::from(most),
+    }
+}
+
+// Whether the test holds of what is given.
+fn holds(test: Test<'_>, given: Option<&[u8]>) -> bool
+    ensures { result ≡ test_value test.entry (now given.entry) }
+{
+    match given {
+        None => match test {
+            Test::Nothing => true,
+            Test::Unlisted(_) => false,
+        },
+        Some(text) => match test {
+            Test::Nothing => false,
+            Test::Unlisted(None) => true,
+            Test::Unlisted(Some(table)) => !table.contains(text),
+        },
+    }
+}
+
+/// The octets of the shortest text for which the test holds of what is given; the first of these that is found.
+pub(crate) fn shortest(readings: &[Reading<'_>], test: Test<'_>) -> Option<u64>
+    requires { AreRising readings.now }
+    ensures { IsShortest (test_value test.entry) (readings_value readings.now) result }
+{
+    for reading in readings {
+        if holds(test, reading.text) {
+            return Some(reading.octets);
+        }
+    }
+    None
+}
+
+// Whether the last of these steps is as low, and goes as far.
+fn is_within(step: Step, steps: &[Step]) -> bool
+    ensures { IsTrue result → IsWithin step steps.now }
+{
+    match steps.last() {
+        None => false,
+        Some(last) => last.from <= step.from && step.most <= last.most,
+    }
+}
+
+// Adds the step that a text makes, where the last doesn't go as far.
+fn add_step(steps: &mut Vec<Step>, reading: Reading<'_>) -> Result<(), AllocError>
+    ensures { OnOk result (AddsStep steps.old.items steps.new.items (spec.reading_value reading.entry)) }
+{
+    let Some(text) = reading.text else {
+        return Ok(());
+    };
+    let step = Step {
+        from: reading.octets,
+        most: text.len() as u64,
+    };
+    if !is_within(step, steps) {
+        steps.push(step)?;
+    }
+    Ok(())
+}
+
+/// How long what is given can be, from which octets of a text on.
+pub(crate) fn steps_of(alloc: Global, readings: &[Reading<'_>]) -> Result<Vec<Step>, AllocError>
+    ensures { IfOk result (λ steps. AreSteps (readings_value readings.now) steps.items) }
+{
+    let mut steps = Vec::new(alloc);
+    for reading in readings {
+        add_step(&mut steps, *reading)?;
+    }
+    Ok(steps)
+}
+
+/// Whether what is given for a text that isn't longer can have more octets than these.
+pub(crate) fn goes_beyond(steps: &[Step], len: Option<u32>, most: u32) -> bool
+    ensures { result ≡ some_step len most steps.now }
+{
+    for step in steps {
+        if fits(len, Some(step.from)) && u64::from(most) < step.most {
+            return true;
+        }
+    }
+    false
+}

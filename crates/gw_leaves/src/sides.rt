@@ -1,0 +1,181 @@
+//! A map with its profiles, while it is checked.
+
+use crate::findings::{Findings, find};
+use crate::meeting::add_items;
+use crate::readings::{Origin, Step, Test, goes_beyond, readings_of, shortest, steps_of};
+use gw_maplang::Map;
+use gw_profile::{Level, Profile};
+use gw_resolve::{Element, Item};
+use indexmap::{IndexMap, IndexSet};
+use std::alloc::{AllocError, Global};
+use std::marker::Model;
+
+/// Where texts are from, each with the tables of the target that they are held against, by their names.
+pub(crate) type Meetings<'a> = IndexMap<Origin<'a>, IndexSet<&'a [u8]>>;
+
+/// A map with its profiles, and what is found of the tables that it brings together.
+pub struct Sides<'a> {
+    alloc: Global,
+    source: &'a Profile,
+    target: &'a Profile,
+    map: &'a Map,
+    known: IndexMap<Origin<'a>, Findings<'a>>,
+}
+
+// (by hand: so no crate above proves again how what lies in it is let go)
+impl<'a> Drop for Sides<'a> {
+    fn drop(self) {
+        let Sides {
+            alloc: _,
+            source: _,
+            target: _,
+            map: _,
+            known: _,
+        } = self;
+    }
+}
+
+impl<'a> Model for Sides<'a> {
+    ghost use Rattle.std.specs.Coded.{codes};
+    ghost use Rattle.gw_profile.specs.contracts.node.Node as node;
+    ghost use Rattle.gw_maplang.specs.contracts.item.Item as raw_item;
+    ghost use Rattle.gw_leaves.specs.own.Findings.{AreFound};
+    ghost use Rattle.gw_leaves.specs.Sides.{SidesValue, sides_of};
+
+    ghost Value = { SidesValue };
+
+    ghost coded = { Prim.hlevel (codes, node.the_row.coded, raw_item.the_row.coded) };
+
+    ghost view = { λ s. sides_of s.source.now s.target.now s.map.now };
+
+    ghost invariant = { λ s. AreFound (sides_of s.source.now s.target.now s.map.now) s.known.entries };
+}
+
+impl<'a> Sides<'a> {
+    ghost use Rattle.std.specs.Prelude.{◌≡◌, IfOk};
+    ghost use Rattle.gw_leaves.specs.own.Findings.{is_missing};
+    ghost use Rattle.gw_leaves.specs.own.Readings.{read_of, some_read, is_nothing, is_longer, IsShortest};
+    ghost use Rattle.gw_leaves.specs.Sides.{sides_of};
+
+    /// The map with its profiles, and what is found of the tables that its items bring together, where this is the level of the source's nodes. The one error is want of memory.
+    pub fn of(
+        alloc: Global,
+        source: &'a Profile,
+        target: &'a Profile,
+        map: &'a Map,
+        level: &'a Level<'_>,
+        items: &'a [Item],
+    ) -> Result<Sides<'a>, AllocError>
+        ensures { IfOk result (λ sides. sides ≡ sides_of source.now target.now map.now) }
+    {
+        let sides = Sides::new(alloc, source, target, map);
+        let mut meetings = IndexMap::new(alloc);
+        let scope = [Element::Whole(Some(level))];
+        add_items(alloc, &mut meetings, &sides, &scope, target.nodes(), items)?;
+        sides.knowing(meetings)
+    }
+
+    // The map and its profiles, with nothing found of any table.
+    fn new(alloc: Global, source: &'a Profile, target: &'a Profile, map: &'a Map) -> Sides<'a>
+        ensures { result ≡ sides_of source.now target.now map.now }
+    {
+        Sides {
+            alloc,
+            source,
+            target,
+            map,
+            known: IndexMap::new(alloc),
+        }
+    }
+
+    // The same, with what is found of these tables.
+    fn knowing(&self, meetings: Meetings<'a>) -> Result<Sides<'a>, AllocError>
+        ensures { IfOk result (λ s. s ≡ self.now) }
+    {
+        let mut known = IndexMap::with_capacity(self.alloc, meetings.len())?;
+        for (origin, names) in meetings {
+            let found = find(
+                self.alloc,
+                self.source,
+                self.target,
+                self.map,
+                origin,
+                names,
+            )?;
+            known.insert(origin, found)?;
+        }
+        Ok(Sides {
+            alloc: self.alloc,
+            source: self.source,
+            target: self.target,
+            map: self.map,
+            known,
+        })
+    }
+
+    /// The source's profile. It takes no memory.
+    pub fn source(&self) -> &'a Profile
+        ensures { result.now ≡ self.now.source }
+    {
+        self.source
+    }
+
+    /// The target's profile. It takes no memory.
+    pub fn target(&self) -> &'a Profile
+        ensures { result.now ≡ self.now.target }
+    {
+        self.target
+    }
+
+    /// The map. It takes no memory.
+    pub fn map(&self) -> &'a Map
+        ensures { result.now ≡ self.now.map }
+    {
+        self.map
+    }
+
+    /// The octets of the shortest text for which something is given that isn't in the target's table of this name.
+    pub(crate) fn unlisted(
+        &self,
+        origin: Origin<'_>,
+        name: &[u8],
+    ) -> Result<Option<u64>, AllocError>
+        ensures { IfOk result (IsShortest (is_missing self.now.target.tables name.now) (read_of self.now.source.tables self.now.map.tables origin.entry)) }
+    {
+        if let Some(found) = self.known.get(&origin) {
+            if let Some(octets) = found.unlisted.get(&name) {
+                return Ok(*octets);
+            }
+        }
+        let readings = readings_of(self.alloc, self.source, self.map, origin)?;
+        Ok(shortest(&readings, Test::Unlisted(self.target.table(name))))
+    }
+
+    /// The octets of the shortest text for which nothing is given.
+    pub(crate) fn nothing(&self, origin: Origin<'_>) -> Result<Option<u64>, AllocError>
+        ensures { IfOk result (IsShortest is_nothing (read_of self.now.source.tables self.now.map.tables origin.entry)) }
+    {
+        if let Some(found) = self.known.get(&origin) {
+            return Ok(found.nothing);
+        }
+        let readings = readings_of(self.alloc, self.source, self.map, origin)?;
+        Ok(shortest(&readings, Test::Nothing))
+    }
+
+    /// Whether what is given for a text that isn't longer can have more octets than these.
+    pub(crate) fn goes_beyond(
+        &self,
+        origin: Origin<'_>,
+        len: Option<u32>,
+        most: u32,
+    ) -> Result<bool, AllocError>
+        ensures { IfOk result (λ b. b ≡ some_read len (is_longer most) (read_of self.now.source.tables self.now.map.tables origin.entry)) }
+    {
+        if let Some(found) = self.known.get(&origin) {
+            return Ok(goes_beyond(&found.steps, len, most));
+        }
+        let readings = readings_of(self.alloc, self.source, self.map, origin)?;
+        let steps = steps_of(self.alloc, &readings)?;
+        Ok(goes_beyond(&steps, len, most))
+    }
+}

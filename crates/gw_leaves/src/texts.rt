@@ -1,0 +1,94 @@
+//! What a subcomponent asks of texts that are known one by one.
+ghost use Rattle.std.specs.Prelude.{◌≡◌, ◌∷◌, [], not, nat_lt, length, option_copied};
+ghost use Rattle.gw_profile.specs.Fault.{is_among};
+ghost use Rattle.gw_profile.specs.Lengths.{octets};
+ghost use Rattle.std.specs.List.{list_any};
+ghost use Rattle.gw_leaves.specs.Leaves as spec;
+ghost use Rattle.gw_leaves.specs.Texts.{items_all, some_items, values_value};
+
+use crate::shape::Values;
+use gw_profile::Table;
+
+// ---- one text
+
+/// Whether the text is missing from the table.
+pub(crate) fn is_missing(table: Option<&Table>, text: &[u8]) -> bool
+    ensures { result ≡ spec.may_be_unlisted (spec.listed (text.now ∷ [])) (option_copied table.entry) }
+{
+    match table {
+        None => false,
+        Some(table) => !table.contains(text),
+    }
+}
+
+/// Whether the text is longer than this.
+pub(crate) fn is_long(len: Option<u32>, text: &[u8]) -> bool
+    ensures { result ≡ spec.may_be_long octets (spec.listed (text.now ∷ [])) len }
+{
+    match len {
+        None => false,
+        Some(most) => u64::from(most) < text.len() as u64,
+    }
+}
+
+// ---- those of a shape
+
+fn is_one_of(text: &[u8], all: &[Vec<u8>]) -> bool
+    ensures { result ≡ is_among text.now (items_all all.now) }
+{
+    for other in all {
+        if text == other.as_slice() {
+            return true;
+        }
+    }
+    false
+}
+
+fn some_outside(texts: &[Vec<u8>], all: &[Vec<u8>]) -> bool
+    ensures { result ≡ list_any (λ v. not (is_among v.items (items_all all.now))) texts.now }
+{
+    for text in texts {
+        if !is_one_of(text, all) {
+            return true;
+        }
+    }
+    false
+}
+
+fn some_over(texts: &[Vec<u8>], most: u32) -> bool
+    ensures { result ≡ list_any (λ v. nat_lt most (length v.items)) texts.now }
+{
+    for text in texts {
+        if u64::from(most) < text.len() as u64 {
+            return true;
+        }
+    }
+    false
+}
+
+/// Whether a text of a shape may be missing from these.
+pub(crate) fn may_be_outside(values: &Values, table: Option<&[Vec<u8>]>) -> bool
+    ensures { result ≡ spec.may_be_unlisted (values_value values.now) (some_items table.entry) }
+{
+    let Some(all) = table else {
+        return false;
+    };
+    match values {
+        Values::Any(_) => true,
+        Values::Listed(texts) => some_outside(texts, all),
+    }
+}
+
+/// Whether a text of a shape may be longer than this.
+pub(crate) fn may_be_long(values: &Values, len: Option<u32>) -> bool
+    ensures { result ≡ spec.may_be_long octets (values_value values.now) len }
+{
+    let Some(most) = len else {
+        return false;
+    };
+    match values {
+        Values::Any(None) => true,
+        Values::Any(Some(len)) => most < *len,
+        Values::Listed(texts) => some_over(texts, most),
+    }
+}

@@ -1,0 +1,85 @@
+//! The rules on what can stand at one place: usage, table and length.
+ghost use Rattle.std.specs.Prelude.{◌≡◌, ◌&&◌, not, OnOk};
+ghost use Rattle.gw_validate.specs.Breaches.{is_required, is_forbidden};
+ghost use Rattle.gw_resolve.specs.Failures.{fails};
+ghost use Rattle.gw_leaves.specs.Leaves as leaves_spec;
+ghost use Rattle.gw_resolve.specs.Noted.{Notes};
+ghost use Rattle.gw_resolve.specs.Seen.{mark as seen_mark};
+ghost use Rattle.gw_leaves.specs.own.Seen as seen;
+
+use crate::given::{Given, may_be_long, may_be_unlisted};
+use crate::presence::{is_absent, is_always};
+use crate::shape::Presence;
+use crate::sides::Sides;
+use gw_profile::{SubShape, Usage};
+use gw_resolve::{Failure, Mark, note};
+use std::alloc::AllocError;
+
+pub(crate) fn is_required(usage: Usage) -> bool
+    ensures { result ≡ is_required usage }
+{
+    match usage {
+        Usage::R => true,
+        _ => false,
+    }
+}
+
+/// Whether the usage is X. It takes no memory.
+pub fn is_forbidden(usage: Usage) -> bool
+    ensures { result ≡ is_forbidden usage }
+{
+    match usage {
+        Usage::X => true,
+        _ => false,
+    }
+}
+
+/// Something required isn't always there.
+pub(crate) fn check_required(
+    found: &mut Vec<Failure>,
+    mark: Mark,
+    usage: Usage,
+    presence: Presence,
+) -> Result<(), AllocError>
+    ensures { OnOk result (Notes found.old found.new (fails 5 (seen_mark mark) (is_required usage && not (leaves_spec.is_always presence)))) }
+{
+    if !is_required(usage) {
+        return Ok(());
+    }
+    note(found, 5, mark, !is_always(presence))
+}
+
+/// Something forbidden may be there.
+pub(crate) fn check_forbidden(
+    found: &mut Vec<Failure>,
+    mark: Mark,
+    usage: Usage,
+    presence: Presence,
+) -> Result<(), AllocError>
+    ensures { OnOk result (Notes found.old found.new (fails 11 (seen_mark mark) (is_forbidden usage && not (leaves_spec.is_absent presence)))) }
+{
+    if !is_forbidden(usage) {
+        return Ok(());
+    }
+    note(found, 11, mark, !is_absent(presence))
+}
+
+/// What can stand there has another value than its table's, or is too long.
+pub(crate) fn check_values(
+    found: &mut Vec<Failure>,
+    sides: &Sides<'_>,
+    mark: Mark,
+    presence: Presence,
+    given: Given<'_>,
+    sub: &SubShape,
+) -> Result<(), AllocError>
+    ensures { OnOk result (Notes found.old found.new (seen.value_failures sides.now mark presence given.entry sub.now)) }
+{
+    if is_absent(presence) {
+        return Ok(());
+    }
+    let is_unlisted = may_be_unlisted(sides, given, sub)?;
+    note(found, 6, mark, is_unlisted)?;
+    let is_long = may_be_long(sides, given, sub)?;
+    note(found, 7, mark, is_long)
+}
