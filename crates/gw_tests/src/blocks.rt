@@ -1,14 +1,13 @@
 //! Blocks of streams that are cut in any way.
 use gw_mllp::{Decoder, FrameFault, is_content};
-use std::alloc::Global;
+use std::alloc::{AllocError, Global};
 use std::test::Fail;
 
 /// A gap, a content with a lone FS, CR LF between blocks, a content with VT and a last FS, an empty content.
 const STREAM: &[u8] = b"x\x0bA\x1cB\x1c\r\r\n\x0b\x0b\x1c\x1c\r\x0b\x1c\r";
 
-/// The blocks of the stream, each with `;` behind it. The stream is cut behind each byte whose bit is set.
-fn framed(alloc: Global, stream: &[u8], cuts: u32) -> Result<Vec<u8>, FrameFault> {
-    let mut decoder = Decoder::new(alloc);
+/// Feeds the stream, cut behind each byte whose bit is set.
+fn feed(alloc: Global, decoder: &mut Decoder, stream: &[u8], cuts: u32) -> Result<(), FrameFault> {
     let mut piece = Vec::new(alloc);
     let mut left = cuts;
     for byte in stream {
@@ -19,12 +18,24 @@ fn framed(alloc: Global, stream: &[u8], cuts: u32) -> Result<Vec<u8>, FrameFault
         }
         left /= 2;
     }
-    decoder.feed(&piece)?;
+    decoder.feed(&piece)
+}
+
+/// Puts a block behind the others, and `;` behind it.
+fn add(blocks: &mut Vec<u8>, block: &[u8]) -> Result<(), AllocError> {
+    blocks.extend_from_slice(block)?;
+    blocks.push(b';')?;
+    Ok(())
+}
+
+/// The blocks of the stream, each with `;` behind it. The stream is cut behind each byte whose bit is set.
+fn framed(alloc: Global, stream: &[u8], cuts: u32) -> Result<Vec<u8>, FrameFault> {
+    let mut decoder = Decoder::new(alloc);
+    feed(alloc, &mut decoder, stream, cuts)?;
     let mut blocks = Vec::new(alloc);
     for _byte in stream {
         if let Some(block) = decoder.next_block() {
-            blocks.extend_from_slice(&block)?;
-            blocks.push(b';')?;
+            add(&mut blocks, &block)?;
         }
     }
     decoder.at_end()?;

@@ -1,8 +1,11 @@
 //! What the checker hands back, and maps that it always allows.
-use crate::worked::{ORU, P1, profile};
+use crate::worked::{ORU, P1, map, profile};
 use gw_check::{CheckFault, check};
 use gw_leaves::{Presence, Shape, Values, included};
-use gw_profile::{SubShape, Usage};
+use gw_maplang::Map;
+use gw_profile::{Profile, SubShape, Usage};
+use std::alloc::Global;
+use std::sync::Arc;
 use std::test::Fail;
 
 const T1: &str =
@@ -15,16 +18,27 @@ const M1: &[u8] =
 const CLINIC: &str =
     "profile CLINIC\ntable SEX M F U\nsegment MSH R 1..1\n  field 10 R 1..1\nsegment ZPI X 0..0\nsegment PID R 1..1\n  field 3 R 1..2\n  field 4 X 0..0\n  field 5 RE 0..1\n    comp 1 R len 4\n    comp 2 X\ngroup VISIT O 0..9\n  segment PV1 R 1..1\n  segment NTE RE 0..1\n    field 3 RE 0..1\nend\n";
 
+// The rule that refuses a map, its line, and the map.
+fn refusal(
+    alloc: Global,
+    source: Arc<Profile>,
+    target: Arc<Profile>,
+    map: Map,
+) -> Result<(u8, u32, Map), Fail> {
+    match check(alloc, source, target, map) {
+        Err(CheckFault::Rule { rule, line, map }) => Ok((rule, line, map)),
+        _ => Err("a rule refuses it".into()),
+    }
+}
+
 /// A map that is refused comes back, with the least rule that fails and its line.
 #[test]
 fn refused(rt: HostRuntime) -> Result<(), Fail> {
     let alloc = rt.alloc();
     let source = profile(alloc, P1)?;
     let target = profile(alloc, T1)?;
-    let given = gw_maplang::parse(alloc, M1)?;
-    let Err(CheckFault::Rule { rule, line, map }) = check(alloc, source, target, given) else {
-        return Err("a rule refuses it".into());
-    };
+    let given = map(alloc, M1)?;
+    let (rule, line, map) = refusal(alloc, source, target, given)?;
     assert_eq!(rt; (rule, line), (5, 9));
     assert_eq!(rt; map.name(), b"M1".as_slice());
     Ok(())

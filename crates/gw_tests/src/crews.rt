@@ -1,16 +1,17 @@
 //! A worker, a courier and a swap over one gate.
+use crate::gates::begun;
+use crate::locked::replies;
 use crate::streams::Device;
-use crate::worked::plan_text;
+use crate::worked::{admitted, archive, plan_text};
 use gw_crew::{Door, Note, Pause, Solo, SwapFault, courier, swap, worker};
-use gw_er7::read;
-use gw_gate::{Event, Gate, MOST, Reply};
-use gw_plan::{Conforming, Plan, admit};
+use gw_gate::{Event, MOST};
+use gw_plan::Plan;
 use gw_stream::{Counts, Reads, RunFault, Writes};
 use std::alloc::Global;
 use std::sync::Arc;
 use std::test::Fail;
 
-pub(crate) const MESSAGE: &[u8] =
+const MESSAGE: &[u8] =
     b"MSH|^~\\&|LAB|H1|GW|H2|20240102030405||ADT^A01^ADT_A01|7|P|2.5.1\rPID|||123|||||F\r";
 
 /// What the receiver is sent.
@@ -41,34 +42,26 @@ const CARRIED: Counts = Counts {
     ar: 0,
 };
 
-// A door to a gate that opens with the plan.
-pub(crate) fn door(alloc: Global) -> Result<(Arc<Plan>, Solo), Fail> {
-    let Ok(plan) = Plan::parse(alloc, &plan_text(alloc, "ARCHIVE")?) else {
-        return Err("no plan".into());
-    };
-    let plan = Arc::new(alloc, plan)?;
-    let Ok(gate) = Gate::begin(alloc, plan.clone()?) else {
-        return Err("no memory".into());
-    };
-    Ok((plan, Solo::new(alloc, gate)))
+// A door to a gate that opens with this plan.
+fn door_of(alloc: Global, plan: &Arc<Plan>) -> Result<Solo, Fail> {
+    let gate = begun(alloc, plan)?;
+    Ok(Solo::new(alloc, gate))
 }
 
-// The message, admitted under the plan.
-fn admitted(alloc: Global, plan: &Arc<Plan>) -> Result<Arc<Conforming>, Fail> {
-    let message = read(alloc, MESSAGE)?;
-    match admit(alloc, plan, 0, message) {
-        Ok(conforming) => Ok(conforming),
-        Err(_) => Err("it is refused".into()),
-    }
+// A door to a gate that opens with the plan.
+pub(crate) fn door(alloc: Global) -> Result<Solo, Fail> {
+    let plan = Arc::new(alloc, archive(alloc)?)?;
+    door_of(alloc, &plan)
 }
 
 // A door at whose gate so many messages arrived.
-fn arrived(alloc: Global, count: usize) -> Result<Solo, Fail> {
-    let (plan, mut door) = door(alloc)?;
-    for _message in 0..count {
-        match door.call(Event::Arrive(admitted(alloc, &plan)?)) {
-            Ok(Reply::Accepted { .. }) => {}
-            _ => return Err("it isn't accepted".into()),
+fn arrived(alloc: Global, count: u64) -> Result<Solo, Fail> {
+    let plan = Arc::new(alloc, archive(alloc)?)?;
+    let mut door = door_of(alloc, &plan)?;
+    for n in 0..count {
+        let event = Event::Arrive(admitted(alloc, &plan, 0, MESSAGE)?);
+        if !replies(&mut door, event, ("Accepted", n)) {
+            return Err("it isn't accepted".into());
         }
     }
     Ok(door)
@@ -109,19 +102,19 @@ fn work(alloc: Global, door: &mut Solo, left: u64) -> Result<Counts, Fail> {
     }
 }
 
-// What a courier does whose devices fail after so many calls, and what it wrote.
+// What a courier does whose devices fail after so many calls, and how many bytes of the message's block it wrote.
 fn carry(
     alloc: Global,
     door: &mut Solo,
     answers: &[u8],
     reads: usize,
     writes: usize,
-) -> (Result<Counts, RunFault>, Vec<u8>) {
+) -> (Result<Counts, RunFault>, Option<usize>) {
     let mut reader = Reads::new(Device::new(alloc, answers, 1, reads, 0));
     let mut output = Device::new(alloc, b"", 1, writes, 0);
     let mut writer = Writes::new(&mut output);
     let result = courier(alloc, door, 0, &mut reader, &mut writer);
-    (result, output.held)
+    (result, output.holds(SENT))
 }
 
 #[test]
@@ -130,10 +123,10 @@ fn a_message_is_worked_on_and_carried(rt: HostRuntime) -> Result<(), Fail> {
     let mut door = arrived(alloc, 1)?;
     assert_eq!(rt; work(alloc, &mut door, 9)?.put, 1);
     let (result, held) = carry(alloc, &mut door, ACKED, 1_000, 1_000);
-    assert!(rt; result == Ok(CARRIED) && held.as_slice() == SENT);
+    assert!(rt; result == Ok(CARRIED) && held == Some(SENT.len()));
     assert_eq!(rt; work(alloc, &mut door, 9)?, NOTHING);
     let (result, held) = carry(alloc, &mut door, b"", 1_000, 1_000);
-    assert!(rt; result == Ok(NOTHING) && held.is_empty());
+    assert!(rt; result == Ok(NOTHING) && held == Some(0));
     assert_eq!(rt; (door.notes().len(), door.gate().journal().len()), (8, 4));
     Ok(())
 }
@@ -155,7 +148,7 @@ fn fails(alloc: Global, answers: &[u8], reads: usize, writes: usize) -> Result<b
     let mut door = arrived(alloc, 1)?;
     let _counts = work(alloc, &mut door, 9)?;
     let (result, held) = carry(alloc, &mut door, answers, reads, writes);
-    Ok(result == Err(RunFault::Line { n: 0 }) && SENT.starts_with(held.as_slice()))
+    Ok(result == Err(RunFault::Line { n: 0 }) && held.is_some())
 }
 
 /// Each device fails at each of its calls in turn; and what comes back ends early, is no message, or acknowledges another.
@@ -177,13 +170,19 @@ fn a_line_fails(rt: HostRuntime) -> Result<(), Fail> {
 #[test]
 fn a_plan_is_swapped_in(rt: HostRuntime) -> Result<(), Fail> {
     let alloc = rt.alloc();
-    let (_plan, mut door) = door(alloc)?;
+    let mut door = door(alloc)?;
     let (like, other) = (plan_text(alloc, "ARCHIVE")?, plan_text(alloc, "OTHER")?);
-    assert_eq!(rt; swap(alloc, &mut door, &like), Ok(1));
-    assert_eq!(rt; swap(alloc, &mut door, &other), Err(SwapFault::Unlike));
+    assert_eq!(rt; swap(alloc, &mut door, like.as_bytes()), Ok(1));
+    assert_eq!(rt;
+        swap(alloc, &mut door, other.as_bytes()),
+        Err(SwapFault::Unlike)
+    );
     for _entry in 0..MOST {
         let _ = door.call(Event::Refuse(207));
     }
-    assert_eq!(rt; swap(alloc, &mut door, &like), Err(SwapFault::Full));
+    assert_eq!(rt;
+        swap(alloc, &mut door, like.as_bytes()),
+        Err(SwapFault::Full)
+    );
     Ok(())
 }

@@ -28,37 +28,51 @@ fn gives(desk: &mut Desk<u64>, want: Option<(u64, u64)>) -> bool {
     before == want && desk.release() == want
 }
 
+/// A call on a desk, with its answer.
+#[derive(Clone, Copy)]
+enum Call {
+    Brings(u64, u64, Status),
+    Gives(Option<(u64, u64)>),
+}
+
+/// Calls on a desk at which 0, 3 and 4 are due.
+const CALLS: [Call; 13] = [
+    Call::Brings(4, 40, Status::Waiting),
+    Call::Brings(4, 41, Status::Repeat),
+    Call::Brings(1, 10, Status::Stranger),
+    Call::Brings(0, 5, Status::Waiting),
+    Call::Gives(Some((0, 5))),
+    Call::Brings(0, 6, Status::Repeat),
+    Call::Brings(2, 20, Status::Stranger),
+    Call::Gives(None),
+    Call::Brings(3, 30, Status::Waiting),
+    Call::Gives(Some((3, 30))),
+    Call::Gives(Some((4, 40))),
+    Call::Gives(None),
+    Call::Brings(3, 31, Status::Repeat),
+];
+
+fn answers(desk: &mut Desk<u64>, call: Call) -> bool {
+    match call {
+        Call::Brings(number, value, want) => brings(desk, number, value, want),
+        Call::Gives(want) => gives(desk, want),
+    }
+}
+
 #[test]
 fn numbers_with_gaps(rt: HostRuntime) -> Result<(), Fail> {
     values_are_given_in_order::<u64>();
     let mut desk = Desk::new(rt.alloc());
-    let room_before = desk.has_room();
+    assert!(rt; !desk.has_room());
     desk.reserve()?;
-    let room = desk.has_room();
+    assert!(rt; desk.has_room());
     desk.due(0);
     desk.reserve()?;
     desk.due(3);
     desk.reserve()?;
     desk.due(4);
-    let answers = [
-        !room_before,
-        room,
-        brings(&mut desk, 4, 40, Status::Waiting),
-        brings(&mut desk, 4, 41, Status::Repeat),
-        brings(&mut desk, 1, 10, Status::Stranger),
-        brings(&mut desk, 0, 5, Status::Waiting),
-        gives(&mut desk, Some((0, 5))),
-        brings(&mut desk, 0, 6, Status::Repeat),
-        brings(&mut desk, 2, 20, Status::Stranger),
-        gives(&mut desk, None),
-        brings(&mut desk, 3, 30, Status::Waiting),
-        gives(&mut desk, Some((3, 30))),
-        gives(&mut desk, Some((4, 40))),
-        gives(&mut desk, None),
-        brings(&mut desk, 3, 31, Status::Repeat),
-    ];
-    for (at, answer) in answers.iter().enumerate() {
-        assert!(rt; *answer, "call {at}");
+    for (at, call) in CALLS.iter().enumerate() {
+        assert!(rt; answers(&mut desk, *call), "call {at}");
     }
     Ok(())
 }

@@ -1,4 +1,5 @@
 //! All failures of maps, in the order of the definition.
+use crate::worked;
 use crate::worked::profile;
 use gw_check::failures;
 use std::alloc::Global;
@@ -29,9 +30,7 @@ const CASES: &[(&str, &[(u8, u32)])] = &[
 fn found(alloc: Global, source: &str, target: &str, map: &str) -> Result<Vec<(u8, u32)>, Fail> {
     let source = profile(alloc, source)?;
     let target = profile(alloc, target)?;
-    let Ok(map) = gw_maplang::parse(alloc, map.as_bytes()) else {
-        return Err("no map".into());
-    };
+    let map = worked::map(alloc, map.as_bytes())?;
     let mut found = Vec::new(alloc);
     for failure in &failures(alloc, &source, &target, &map)? {
         found.push((failure.rule, failure.mark.line))?;

@@ -1,7 +1,8 @@
 //! What a gate replies, and what its receivers are sent.
-use gw_er7::{read, write};
+use crate::worked;
+use gw_er7::write;
 use gw_gate::{Event, Gate, MOST, Reply, replay};
-use gw_plan::{Conforming, Plan, Translated, admit, translate_for};
+use gw_plan::{Conforming, Plan, Translated, translate_for};
 use std::alloc::Global;
 use std::sync::Arc;
 use std::test::Fail;
@@ -16,29 +17,21 @@ const PLAN: [&str; 2] = [
 pub(crate) fn plan(alloc: Global, word: &str) -> Result<Arc<Plan>, Fail> {
     let [before, behind] = PLAN;
     let text = format!(in alloc; "{before}{word}{behind}")?;
-    let Ok(plan) = Plan::parse(alloc, text.as_bytes()) else {
-        return Err("no plan".into());
-    };
-    let shared = Arc::new(alloc, plan)?;
+    let shared = Arc::new(alloc, worked::plan(alloc, text.as_bytes())?)?;
     Ok(shared)
 }
 
 /// A plan of another receiver.
 const OTHER: &[u8] = b"plan G\nreceiver B x\nbegin profile\nprofile P\nsegment MSH R 1..1\nstop\n";
 
-// A message with this control id, admitted under this version of the plan.
+// A message with this control id, admitted under the first version of the plan.
 pub(crate) fn admitted(
     alloc: Global,
     plan: &Arc<Plan>,
-    version: u64,
     control: u64,
 ) -> Result<Arc<Conforming>, Fail> {
     let content = format!(in alloc; "MSH|^~\\&|||||||ADT^A01|{control}\r")?;
-    let message = read(alloc, content.as_bytes())?;
-    match admit(alloc, plan, version, message) {
-        Ok(conforming) => Ok(conforming),
-        Err(_) => Err("it is refused".into()),
-    }
+    worked::admitted(alloc, plan, 0, content.as_bytes())
 }
 
 // What its receiver is sent.
@@ -80,168 +73,125 @@ pub(crate) fn said(reply: &Reply) -> (&'static str, u64) {
     }
 }
 
-/// Events, what a gate replies to each, and how many messages it accepted, results it kept, results it gave out and entries it made.
-#[derive(Drop)]
+/// What comes to a gate.
+#[derive(Clone, Copy)]
+pub(crate) enum Step {
+    Look,
+    /// The message with this control id.
+    Arrive(u64),
+    /// The plan that takes the place of the first.
+    Later,
+    /// The plan of another receiver.
+    Other,
+    Take,
+    /// Under this number what is made of the message with this control id.
+    Put { n: u64, control: u64 },
+    /// The pair of this number.
+    Reissue(u64),
+    Release,
+}
+
+/// What comes to a gate, what it replies to each, and how many messages it accepted, results it kept, results it gave out and entries it made.
+#[derive(Clone, Copy)]
 pub(crate) struct History {
-    pub(crate) events: Vec<Event>,
-    pub(crate) replies: &'static [(&'static str, u64)],
+    pub(crate) steps: &'static [(Step, (&'static str, u64))],
     pub(crate) counts: [u64; 4],
 }
 
-// Three messages, whose results come in another order, one of them twice.
-pub(crate) fn out_of_order(alloc: Global, plan: &Arc<Plan>) -> Result<History, Fail> {
-    let mut events = Vec::new(alloc);
-    for n in 0..3 {
-        events.push(Event::Arrive(admitted(alloc, plan, 0, n)?))?;
-    }
-    for n in [2, 0, 0, 1] {
-        let translated = made(alloc, &admitted(alloc, plan, 0, n)?)?;
-        events.push(Event::Put { n, translated })?;
-    }
-    for _release in 0..4 {
-        events.push(Event::Release(0))?;
-    }
-    Ok(History {
-        events,
-        replies: &[
-            ("Accepted", 0),
-            ("Accepted", 1),
-            ("Accepted", 2),
-            ("Kept", 0),
-            ("Kept", 0),
-            ("Repeat", 0),
-            ("Kept", 0),
-            ("Out", 0),
-            ("Out", 1),
-            ("Out", 2),
-            ("Nothing", 0),
-        ],
-        counts: [3, 3, 3, 9],
-    })
-}
+/// Three messages, whose results come in another order, one of them twice.
+pub(crate) const OUT_OF_ORDER: History = History {
+    steps: &[
+        (Step::Arrive(0), ("Accepted", 0)),
+        (Step::Arrive(1), ("Accepted", 1)),
+        (Step::Arrive(2), ("Accepted", 2)),
+        (Step::Put { n: 2, control: 2 }, ("Kept", 0)),
+        (Step::Put { n: 0, control: 0 }, ("Kept", 0)),
+        (Step::Put { n: 0, control: 0 }, ("Repeat", 0)),
+        (Step::Put { n: 1, control: 1 }, ("Kept", 0)),
+        (Step::Release, ("Out", 0)),
+        (Step::Release, ("Out", 1)),
+        (Step::Release, ("Out", 2)),
+        (Step::Release, ("Nothing", 0)),
+    ],
+    counts: [3, 3, 3, 9],
+};
 
-// A pair is issued again before its result and after it, and one that isn't due; a plan of another receiver comes.
-fn issued_again(alloc: Global, plan: &Arc<Plan>) -> Result<History, Fail> {
-    let message = admitted(alloc, plan, 0, 0)?;
-    let (once, again) = (made(alloc, &message)?, made(alloc, &message)?);
-    let Ok(other) = Plan::parse(alloc, OTHER) else {
-        return Err("no plan".into());
-    };
-    let mut events = Vec::new(alloc);
-    for event in [
-        Event::Arrive(message),
-        Event::Take,
-        Event::Take,
-        Event::Reissue { n: 0, receiver: 0 },
-        Event::Take,
-        Event::Put {
-            n: 0,
-            translated: once,
-        },
-        Event::Put {
-            n: 0,
-            translated: again,
-        },
-        Event::Reissue { n: 0, receiver: 0 },
-        Event::Reissue { n: 5, receiver: 0 },
-        Event::Swap(Arc::new(alloc, other)?),
-    ] {
-        events.push(event)?;
-    }
-    Ok(History {
-        events,
-        replies: &[
-            ("Accepted", 0),
-            ("Job", 0),
-            ("Idle", 0),
-            ("Issued", 0),
-            ("Job", 0),
-            ("Kept", 0),
-            ("Repeat", 0),
-            ("Done", 0),
-            ("Stranger", 0),
-            ("Unlike", 0),
-        ],
-        counts: [1, 1, 0, 5],
-    })
-}
+/// A pair is issued again before its result and after it, and one that isn't due; a plan of another receiver comes.
+const ISSUED_AGAIN: History = History {
+    steps: &[
+        (Step::Arrive(0), ("Accepted", 0)),
+        (Step::Take, ("Job", 0)),
+        (Step::Take, ("Idle", 0)),
+        (Step::Reissue(0), ("Issued", 0)),
+        (Step::Take, ("Job", 0)),
+        (Step::Put { n: 0, control: 0 }, ("Kept", 0)),
+        (Step::Put { n: 0, control: 0 }, ("Repeat", 0)),
+        (Step::Reissue(0), ("Done", 0)),
+        (Step::Reissue(5), ("Stranger", 0)),
+        (Step::Other, ("Unlike", 0)),
+    ],
+    counts: [1, 1, 0, 5],
+};
 
-// A plan is swapped in over a message that was accepted.
-fn swapped(alloc: Global, plan: &Arc<Plan>, later: Arc<Plan>) -> Result<History, Fail> {
-    let first = admitted(alloc, plan, 0, 7)?;
-    let second = admitted(alloc, plan, 0, 8)?;
-    let translated = made(alloc, &first)?;
-    let mut events = Vec::new(alloc);
-    for event in [
-        Event::Look,
-        Event::Arrive(first),
-        Event::Swap(later),
-        Event::Arrive(second),
-        Event::Look,
-        Event::Take,
-        Event::Put { n: 0, translated },
-        Event::Release(0),
-    ] {
-        events.push(event)?;
-    }
-    Ok(History {
-        events,
-        replies: &[
-            ("Current", 0),
-            ("Accepted", 0),
-            ("Swapped", 1),
-            ("Stale", 1),
-            ("Current", 1),
-            ("Job", 0),
-            ("Kept", 0),
-            ("Out", 0),
-        ],
-        counts: [1, 1, 1, 5],
-    })
-}
+/// A plan is swapped in over a message that was accepted.
+const SWAPPED: History = History {
+    steps: &[
+        (Step::Look, ("Current", 0)),
+        (Step::Arrive(7), ("Accepted", 0)),
+        (Step::Later, ("Swapped", 1)),
+        (Step::Arrive(8), ("Stale", 1)),
+        (Step::Look, ("Current", 1)),
+        (Step::Take, ("Job", 0)),
+        (Step::Put { n: 0, control: 7 }, ("Kept", 0)),
+        (Step::Release, ("Out", 0)),
+    ],
+    counts: [1, 1, 1, 5],
+};
 
-// What may happen at a gate that opens with the plan.
-pub(crate) fn histories(
+/// What may happen at a gate.
+pub(crate) const HISTORIES: [History; 3] = [OUT_OF_ORDER, ISSUED_AGAIN, SWAPPED];
+
+// The event of a step at a gate that opens with the first plan.
+pub(crate) fn event(
     alloc: Global,
-    plan: &Arc<Plan>,
-    later: Arc<Plan>,
-) -> Result<Vec<History>, Fail> {
-    let mut all = Vec::new(alloc);
-    all.push(out_of_order(alloc, plan)?)?;
-    all.push(issued_again(alloc, plan)?)?;
-    all.push(swapped(alloc, plan, later)?)?;
-    Ok(all)
+    first: &Arc<Plan>,
+    later: &Arc<Plan>,
+    step: Step,
+) -> Result<Event, Fail> {
+    match step {
+        Step::Look => Ok(Event::Look),
+        Step::Arrive(control) => Ok(Event::Arrive(admitted(alloc, first, control)?)),
+        Step::Later => Ok(Event::Swap(later.clone()?)),
+        Step::Other => Ok(Event::Swap(Arc::new(alloc, worked::plan(alloc, OTHER)?)?)),
+        Step::Take => Ok(Event::Take),
+        Step::Put { n, control } => {
+            let translated = made(alloc, &admitted(alloc, first, control)?)?;
+            Ok(Event::Put { n, translated })
+        }
+        Step::Reissue(n) => Ok(Event::Reissue { n, receiver: 0 }),
+        Step::Release => Ok(Event::Release(0)),
+    }
 }
 
-// What a gate that opens with the plan replies to the events, in order.
-fn stepped(
-    alloc: Global,
-    plan: &Arc<Plan>,
-    events: Vec<Event>,
-) -> Result<Vec<(&'static str, u64)>, Fail> {
-    let mut gate = begun(alloc, plan)?;
-    let mut replies = Vec::new(alloc);
-    for event in events {
-        let Ok(reply) = gate.step(event) else {
-            return Err("no memory".into());
-        };
-        replies.push(said(&reply))?;
+// What a gate replies to an event.
+fn replied(gate: &mut Gate, event: Event) -> Result<(&'static str, u64), Fail> {
+    match gate.step(event) {
+        Ok(reply) => Ok(said(&reply)),
+        Err(_) => Err("no memory".into()),
     }
-    Ok(replies)
 }
 
 #[test]
 fn a_gate_replies_in_turn(rt: HostRuntime) -> Result<(), Fail> {
     let alloc = rt.alloc();
     let first = plan(alloc, "ONE")?;
-    for history in histories(alloc, &first, plan(alloc, "TWO")?)? {
-        let History {
-            events,
-            replies,
-            ..
-        } = history;
-        let found = stepped(alloc, &first, events)?;
-        assert_eq!(rt; found.as_slice(), replies);
+    let later = plan(alloc, "TWO")?;
+    for history in &HISTORIES {
+        let mut gate = begun(alloc, &first)?;
+        for (step, reply) in history.steps {
+            let event = event(alloc, &first, &later, *step)?;
+            assert_eq!(rt; replied(&mut gate, event)?, *reply);
+        }
     }
     Ok(())
 }
@@ -255,17 +205,22 @@ fn sent(alloc: Global, reply: Option<&Reply>) -> Result<Vec<u8>, Fail> {
     Ok(written)
 }
 
+// The events by which a gate is opened and a plan is swapped in over a message that was accepted.
+fn swapped(alloc: Global) -> Result<Vec<Event>, Fail> {
+    let first = plan(alloc, "ONE")?;
+    let later = plan(alloc, "TWO")?;
+    let mut events = Vec::new(alloc);
+    events.push(Event::Swap(first.clone()?))?;
+    for (step, _) in SWAPPED.steps {
+        events.push(event(alloc, &first, &later, *step)?)?;
+    }
+    Ok(events)
+}
+
 #[test]
 fn a_message_stays_under_its_plan(rt: HostRuntime) -> Result<(), Fail> {
     let alloc = rt.alloc();
-    let first = plan(alloc, "ONE")?;
-    let later = swapped(alloc, &first, plan(alloc, "TWO")?)?;
-    let mut events = Vec::new(alloc);
-    events.push(Event::Swap(first))?;
-    for event in later.events {
-        events.push(event)?;
-    }
-    let Ok((gate, replies)) = replay(alloc, events) else {
+    let Ok((gate, replies)) = replay(alloc, swapped(alloc)?) else {
         return Err("it is no replay".into());
     };
     assert_eq!(rt; (gate.journal().len(), replies.len()), (5, 8));
@@ -282,11 +237,7 @@ fn a_full_journal_takes_no_entry(rt: HostRuntime) -> Result<(), Fail> {
         let _ = gate.step(Event::Refuse(207));
     }
     assert_eq!(rt; gate.journal().len(), 262_144);
-    for (event, expected) in [(Event::Refuse(207), "Full"), (Event::Look, "Current")] {
-        let Ok(reply) = gate.step(event) else {
-            return Err("no memory".into());
-        };
-        assert_eq!(rt; said(&reply), (expected, 0));
-    }
+    assert_eq!(rt; replied(&mut gate, Event::Refuse(207))?, ("Full", 0));
+    assert_eq!(rt; replied(&mut gate, Event::Look)?, ("Current", 0));
     Ok(())
 }

@@ -1,8 +1,8 @@
 //! A gate that threads step behind its lock.
 ghost use Rattle.std.specs.Prelude.{◌≡◌};
 
-use crate::gates::{History, begun, histories, out_of_order, plan, said};
-use gw_gate::Event;
+use crate::gates::{HISTORIES, History, OUT_OF_ORDER, Step, begun, event, plan, said};
+use gw_gate::{Event, Gate};
 use gw_plan::Plan;
 use gw_run::{Door, LockedGate, Pass, Report, RunFault, join_all};
 use std::alloc::Global;
@@ -11,70 +11,64 @@ use std::sync::ledger::{Blank, Ledger};
 use std::sync::{Arc, Wait};
 use std::test::Fail;
 
-// What the pass replies to the events, in order.
-fn told<L: Ledger, R: Wait>(
-    alloc: Global,
-    pass: &mut Pass<'_, L, R>,
-    events: Vec<Event>,
-) -> Result<Vec<(&'static str, u64)>, Fail> {
-    let mut replies = Vec::new(alloc);
-    for event in events {
-        let Ok(reply) = pass.call(event) else {
-            return Err("no memory".into());
-        };
-        replies.push(said(&reply))?;
+// Whether a door replies so to the event.
+pub(crate) fn replies<D: Door>(door: &mut D, event: Event, reply: (&'static str, u64)) -> bool {
+    match door.call(event) {
+        Ok(found) => said(&found) == reply,
+        Err(_) => false,
     }
-    Ok(replies)
 }
 
-/// What comes of one pass to a gate: its replies, and what is reported by its receipts.
-type Run = (Vec<(&'static str, u64)>, Result<Report, RunFault>);
-
-// What one pass to a new gate replies to the events, in order, and what is reported in the end, unless its receipts are lost.
-fn through_one<L: Ledger, R: Wait>(
-    rt: &R,
+// Whether the pass replies so to all steps, in order.
+fn replies_to_all<L: Ledger, R: Wait>(
     alloc: Global,
-    plan: &Arc<Plan>,
+    pass: &mut Pass<'_, L, R>,
+    plans: (&Arc<Plan>, &Arc<Plan>),
+    steps: &[(Step, (&'static str, u64))],
+) -> Result<bool, Fail> {
+    for (step, reply) in steps {
+        let event = event(alloc, plans.0, plans.1, *step)?;
+        if !replies(pass, event, *reply) {
+            return Ok(false);
+        }
+    }
+    Ok(true)
+}
+
+// Whether one pass to a gate replies as is said, and what is reported in the end, unless its receipts are lost.
+fn through_one<L: Ledger, R: Wait + AllocGlobal>(
+    rt: &R,
+    gate: Gate,
     blank: Blank,
-    events: Vec<Event>,
+    plans: (&Arc<Plan>, &Arc<Plan>),
+    history: &History,
     is_lost: bool,
-) -> Result<Run, Fail>
+) -> Result<(bool, Result<Report, RunFault>), Fail>
     requires name { blank.name ≡ L.name }
     requires parts { blank.parts ≡ L.parts }
     requires one { blank.parts ≡ 1 }
 {
+    let alloc = rt.alloc();
     let (book, all) = blank.open::<L>();
-    let gate = LockedGate::new(begun(alloc, plan)?, book);
+    let gate = LockedGate::new(gate, book);
     let mut pass = gate.pass(alloc, rt, all);
-    let replies = told(alloc, &mut pass, events)?;
-    let receipts = pass.end();
+    let is_told = replies_to_all(alloc, &mut pass, plans, history.steps)?;
     let mut passes = Vec::new(alloc);
+    let receipts = pass.end();
     if !is_lost {
         passes.push(receipts)?;
     }
     let mut counted = gate.into_counted();
-    Ok((replies, join_all(alloc, &mut counted, passes)))
+    Ok((is_told, join_all(alloc, &mut counted, passes)))
 }
 
 #[test]
 fn one_pass_replies_as_its_gate(rt: HostRuntime) -> Result<(), Fail> {
     let alloc = rt.alloc();
     let first = plan(alloc, "ONE")?;
-    for history in histories(alloc, &first, plan(alloc, "TWO")?)? {
-        let History {
-            events,
-            replies,
-            counts: [accepted, kept, released, entries],
-        } = history;
-        let (found, joined) = through_one::<Brand, _>(
-            &rt,
-            alloc,
-            &first,
-            Blank::new(1),
-            events,
-            false,
-        )?;
-        assert_eq!(rt; found.as_slice(), replies);
+    let later = plan(alloc, "TWO")?;
+    for history in &HISTORIES {
+        let [accepted, kept, released, entries] = history.counts;
         let report = Report {
             accepted,
             refused: 0,
@@ -82,7 +76,10 @@ fn one_pass_replies_as_its_gate(rt: HostRuntime) -> Result<(), Fail> {
             released,
             entries,
         };
-        assert_eq!(rt; joined, Ok(report));
+        let gate = begun(alloc, &first)?;
+        let plans = (&first, &later);
+        let run = through_one::<Brand, _>(&rt, gate, Blank::new(1), plans, history, false)?;
+        assert_eq!(rt; run, (true, Ok(report)));
     }
     Ok(())
 }
@@ -91,8 +88,16 @@ fn one_pass_replies_as_its_gate(rt: HostRuntime) -> Result<(), Fail> {
 fn a_lost_receipt_is_missed(rt: HostRuntime) -> Result<(), Fail> {
     let alloc = rt.alloc();
     let plan = plan(alloc, "ONE")?;
-    let History { events, .. } = out_of_order(alloc, &plan)?;
-    let (_, joined) = through_one::<Brand, _>(&rt, alloc, &plan, Blank::new(1), events, true)?;
+    let gate = begun(alloc, &plan)?;
+    let plans = (&plan, &plan);
+    let (_, joined) = through_one::<Brand, _>(
+        &rt,
+        gate,
+        Blank::new(1),
+        plans,
+        &OUT_OF_ORDER,
+        true,
+    )?;
     assert_eq!(rt; joined, Err(RunFault::Unsettled));
     Ok(())
 }

@@ -5,7 +5,7 @@ use gw_er7::{
     Builder, Message, Place, ReadFault, Segment, is_canonical, is_segment_name, read, read_block,
     write,
 };
-use std::alloc::Global;
+use std::alloc::{AllocError, Global};
 use std::test::Fail;
 
 fn place(field: usize, rep: usize, comp: usize, sub: usize) -> Place
@@ -90,21 +90,29 @@ fn texts_and_names_are_told(rt: HostRuntime) -> Result<(), Fail> {
     Ok(())
 }
 
-#[test]
-fn a_message_is_built(rt: HostRuntime) -> Result<(), Fail> {
-    let mut builder = Builder::new(rt.alloc());
+// A message that is built place by place.
+fn built(alloc: Global) -> Result<Message, AllocError> {
+    let mut builder = Builder::new(alloc);
     builder.begin(*b"MSH")?;
     builder.put(place(3, 1, 1, 1), b"LAB")?;
     builder.begin(*b"PID")?;
     builder.put(place(5, 1, 1, 1), b"x")?;
     builder.put(place(3, 1, 1, 1), b"a#b\\F\\c")?;
-    let message = builder.finish();
-    let written = write(rt.alloc(), &message)?;
-    let want = b"MSH|^~\\&|LAB\rPID|||a#b\\F\\c||x\r".as_slice();
-    assert_eq!(rt; written.as_slice(), want);
-    let copy = message.copy(rt.alloc())?;
-    let again = write(rt.alloc(), &copy)?;
-    assert_eq!(rt; again.as_slice(), want);
+    Ok(builder.finish())
+}
+
+#[test]
+fn a_message_is_built(rt: HostRuntime) -> Result<(), Fail> {
+    let alloc = rt.alloc();
+    let message = built(alloc)?;
+    let copy = message.copy(alloc)?;
+    for made in [&message, &copy] {
+        let written = write(alloc, made)?;
+        assert_eq!(rt;
+            written.as_slice(),
+            b"MSH|^~\\&|LAB\rPID|||a#b\\F\\c||x\r".as_slice()
+        );
+    }
     Ok(())
 }
 
@@ -113,12 +121,16 @@ const SAME: &[u8] = b"MSH|^~\\&\rPID||x|a^b&c~~d||\r";
 
 const LESS: &[u8] = b"MSH|^~\\&\rPID||x|a^b&c\r";
 
+// Whether the content is read as this message.
+fn is_same(alloc: Global, content: &[u8], message: &Message) -> Result<bool, ReadFault> {
+    Ok(read(alloc, content)?.same(message))
+}
+
 #[test]
 fn equal_messages_are_the_same(rt: HostRuntime) -> Result<(), Fail> {
-    let message = read(rt.alloc(), CONTENT)?;
-    let same = read(rt.alloc(), SAME)?;
-    let less = read(rt.alloc(), LESS)?;
-    assert!(rt; message.same(&same) && !message.same(&less));
+    let alloc = rt.alloc();
+    let message = read(alloc, CONTENT)?;
+    assert!(rt; is_same(alloc, SAME, &message)? && !is_same(alloc, LESS, &message)?);
     Ok(())
 }
 
@@ -139,7 +151,7 @@ fn read_copy(alloc: Global, content: &[u8]) -> Result<Message, ReadFault> {
 
 // Whether the content is read as this message, lent or handed over.
 fn is_read_as(alloc: Global, content: &[u8], message: &Message) -> Result<bool, ReadFault> {
-    Ok(read(alloc, content)?.same(message) && read_copy(alloc, content)?.same(message))
+    Ok(is_same(alloc, content, message)? && read_copy(alloc, content)?.same(message))
 }
 
 #[test]

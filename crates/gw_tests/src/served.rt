@@ -1,8 +1,7 @@
 //! A stream served under a plan, over devices that give and take little, and fail.
 use crate::streams::Device;
-use crate::worked::plan_text;
+use crate::worked;
 use gw_ack::Stamp;
-use gw_plan::Plan;
 use gw_stream::{Counts, Reads, RunFault, Writes, serve_once};
 use std::alloc::Global;
 use std::test::Fail;
@@ -40,32 +39,58 @@ const COUNTS: Counts = Counts {
     ar: 3,
 };
 
-/// What a run answers, and the devices that it wrote to: the answers' and the archive's.
-fn run<'a>(
+/// What a run over these devices answers.
+fn answered(
     alloc: Global,
-    input: Device<'a>,
-    mut answers: Device<'a>,
-    mut archive: Device<'a>,
-) -> Result<(Result<Counts, RunFault>, Device<'a>, Device<'a>), Fail> {
-    let Ok(plan) = Plan::parse(alloc, &plan_text(alloc, "ARCHIVE")?) else {
-        return Err("no plan".into());
-    };
+    input: &mut Device<'_>,
+    answers: &mut Device<'_>,
+    archive: &mut Device<'_>,
+) -> Result<Result<Counts, RunFault>, Fail> {
+    let stamp = Stamp::from_digits(b"20240102030406").ok_or("a stamp")?;
+    let plan = worked::archive(alloc)?;
     if plan.receivers().len() != 1 {
         return Err("another number of receivers".into());
     }
-    let stamp = Stamp::from_digits(b"20240102030406").ok_or("a stamp")?;
-    let mut reader = Reads::new(input);
-    let mut writer = Writes::new(&mut answers);
     let mut outs = Vec::new(alloc);
-    outs.push(Writes::new(&mut archive))?;
+    outs.push(Writes::new(archive))?;
+    let mut reader = Reads::new(input);
+    let mut writer = Writes::new(answers);
     let result = serve_once(alloc, plan, stamp, &mut reader, &mut writer, &mut outs);
-    drop(outs);
-    Ok((result, answers, archive))
+    Ok(result)
+}
+
+/// What a run answers; how many bytes of the answers and of what the archive is sent their devices then hold, and how many calls these have left.
+#[derive(Clone, Copy)]
+struct Served {
+    result: Result<Counts, RunFault>,
+    answers: Option<usize>,
+    archive: Option<usize>,
+    calls: (usize, usize),
+}
+
+fn run(
+    alloc: Global,
+    mut input: Device<'_>,
+    mut answers: Device<'_>,
+    mut archive: Device<'_>,
+) -> Result<Served, Fail> {
+    let result = answered(alloc, &mut input, &mut answers, &mut archive)?;
+    Ok(Served {
+        result,
+        answers: answers.holds(ANSWERS),
+        archive: archive.holds(ARCHIVE),
+        calls: (answers.calls, archive.calls),
+    })
 }
 
 /// A device that takes so many bytes a call, so often.
 fn sink<'a>(alloc: Global, most: usize, calls: usize) -> Device<'a> {
     Device::new(alloc, b"", most, calls, 0)
+}
+
+/// How many bytes the archive is sent, where the message is accepted.
+fn sent(is_accepted: bool) -> usize {
+    if is_accepted { ARCHIVE.len() } else { 0 }
 }
 
 /// The bytes are the same, however the stream was cut. Each block goes out in one write, where its writer takes it.
@@ -74,14 +99,9 @@ fn whole_and_in_pieces(rt: HostRuntime) -> Result<(), Fail> {
     let alloc = rt.alloc();
     for most in [65_536, 1] {
         let input = Device::new(alloc, STREAM, most, 1000, 0);
-        let (result, answers, archive) = run(
-            alloc,
-            input,
-            sink(alloc, 65_536, 5),
-            sink(alloc, 65_536, 1),
-        )?;
-        assert!(rt; result == Ok(COUNTS) && answers.calls == 0 && archive.calls == 0);
-        assert!(rt; answers.held.as_slice() == ANSWERS && archive.held.as_slice() == ARCHIVE);
+        let served = run(alloc, input, sink(alloc, 65_536, 5), sink(alloc, 65_536, 1))?;
+        assert!(rt; served.result == Ok(COUNTS) && served.calls == (0, 0));
+        assert!(rt; served.answers == Some(ANSWERS.len()) && served.archive == Some(ARCHIVE.len()));
     }
     Ok(())
 }
@@ -91,20 +111,14 @@ fn reader_fails(rt: HostRuntime) -> Result<(), Fail> {
     let alloc = rt.alloc();
     for reads in 0..STREAM.len() + 2 {
         let input = Device::new(alloc, STREAM, 1, reads, 0);
-        let (result, answers, archive) = run(
-            alloc,
-            input,
-            sink(alloc, 1, 2000),
-            sink(alloc, 1, 2000),
-        )?;
+        let served = run(alloc, input, sink(alloc, 1, 2000), sink(alloc, 1, 2000))?;
         let want = if reads > STREAM.len() {
             Ok(COUNTS)
         } else {
             Err(RunFault::Read)
         };
-        assert!(rt; result == want && ANSWERS.starts_with(answers.held.as_slice()));
-        let sent = answers.held.len() > FIRST.len();
-        assert!(rt; archive.held.as_slice() == if sent { ARCHIVE } else { b"" });
+        let answers = served.answers.ok_or("other answers")?;
+        assert!(rt; served.result == want && served.archive == Some(sent(answers > FIRST.len())));
     }
     Ok(())
 }
@@ -115,16 +129,9 @@ fn answers_fail(rt: HostRuntime) -> Result<(), Fail> {
     let alloc = rt.alloc();
     for writes in 0..ANSWERS.len() {
         let input = Device::new(alloc, STREAM, 65_536, 1000, 0);
-        let (result, answers, archive) = run(
-            alloc,
-            input,
-            sink(alloc, 1, writes),
-            sink(alloc, 1, 2000),
-        )?;
-        assert!(rt; result == Err(RunFault::Write) && answers.held.len() == writes);
-        assert!(rt; ANSWERS.starts_with(answers.held.as_slice()));
-        let sent = writes >= FIRST.len();
-        assert!(rt; archive.held.as_slice() == if sent { ARCHIVE } else { b"" });
+        let served = run(alloc, input, sink(alloc, 1, writes), sink(alloc, 1, 2000))?;
+        assert!(rt; served.result == Err(RunFault::Write) && served.answers == Some(writes));
+        assert!(rt; served.archive == Some(sent(writes >= FIRST.len())));
     }
     Ok(())
 }
@@ -135,14 +142,9 @@ fn archive_fails(rt: HostRuntime) -> Result<(), Fail> {
     let alloc = rt.alloc();
     for writes in 0..ARCHIVE.len() {
         let input = Device::new(alloc, STREAM, 65_536, 1000, 0);
-        let (result, answers, archive) = run(
-            alloc,
-            input,
-            sink(alloc, 1, 2000),
-            sink(alloc, 1, writes),
-        )?;
-        assert!(rt; result == Err(RunFault::Write) && answers.held.as_slice() == FIRST);
-        assert!(rt; archive.held.len() == writes && ARCHIVE.starts_with(archive.held.as_slice()));
+        let served = run(alloc, input, sink(alloc, 1, 2000), sink(alloc, 1, writes))?;
+        assert!(rt; served.result == Err(RunFault::Write) && served.answers == Some(FIRST.len()));
+        assert!(rt; served.archive == Some(writes));
     }
     Ok(())
 }

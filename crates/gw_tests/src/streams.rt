@@ -27,7 +27,7 @@ const COUNTS: Counts = Counts {
 #[derive(Drop)]
 pub(crate) struct Device<'a> {
     rest: &'a [u8],
-    pub(crate) held: Vec<u8>,
+    held: Vec<u8>,
     most: usize,
     pub(crate) calls: usize,
     often: usize,
@@ -49,6 +49,15 @@ impl<'a> Device<'a> {
             calls,
             often,
             left: often,
+        }
+    }
+
+    /// How many bytes of these it holds, if it holds a beginning of them.
+    pub(crate) fn holds(&self, bytes: &[u8]) -> Option<usize> {
+        if bytes.starts_with(self.held.as_slice()) {
+            Some(self.held.len())
+        } else {
+            None
         }
     }
 
@@ -90,18 +99,28 @@ impl Write for Device<'_> {
     }
 }
 
-/// What a run answers, and the device that it wrote to.
-fn run<'a, R: Read + Drop>(
+/// What a run over these devices answers.
+fn answered(
     alloc: Global,
-    input: R,
-    mut output: Device<'a>,
-) -> Result<(Result<Counts, RunFault>, Device<'a>), Fail> {
-    let profile = profile(alloc, "profile P\nsegment MSH R 1..1\nsegment PID R 1..1\n")?;
+    input: &mut Device<'_>,
+    output: &mut Device<'_>,
+) -> Result<Result<Counts, RunFault>, Fail> {
     let stamp = Stamp::from_digits(b"20240102030406").ok_or("a stamp")?;
+    let profile = profile(alloc, "profile P\nsegment MSH R 1..1\nsegment PID R 1..1\n")?;
     let mut reader = Reads::new(input);
-    let mut writer = Writes::new(&mut output);
+    let mut writer = Writes::new(output);
     let result = answer_stream(alloc, profile, stamp, &mut reader, &mut writer);
-    Ok((result, output))
+    Ok(result)
+}
+
+/// What a run answers, how many bytes of the answers its output then holds, and how many calls that has left.
+fn run(
+    alloc: Global,
+    mut input: Device<'_>,
+    mut output: Device<'_>,
+) -> Result<(Result<Counts, RunFault>, Option<usize>, usize), Fail> {
+    let result = answered(alloc, &mut input, &mut output)?;
+    Ok((result, output.holds(ANSWERS), output.calls))
 }
 
 #[test]
@@ -109,13 +128,13 @@ fn reader_fails(rt: HostRuntime) -> Result<(), Fail> {
     let alloc = rt.alloc();
     for reads in 0..STREAM.len() + 2 {
         let input = Device::new(alloc, STREAM, 1, reads, 0);
-        let (result, output) = run(alloc, input, Device::new(alloc, b"", 1, 1000, 0))?;
+        let (result, held, _) = run(alloc, input, Device::new(alloc, b"", 1, 1000, 0))?;
         let want = if reads > STREAM.len() {
             Ok(COUNTS)
         } else {
             Err(RunFault::Read)
         };
-        assert!(rt; result == want && ANSWERS.starts_with(output.held.as_slice()));
+        assert!(rt; result == want && held.is_some());
     }
     Ok(())
 }
@@ -125,17 +144,16 @@ fn reader_fails(rt: HostRuntime) -> Result<(), Fail> {
 fn writer_fails(rt: HostRuntime) -> Result<(), Fail> {
     let alloc = rt.alloc();
     let input = Device::new(alloc, STREAM, 1, 1000, 0);
-    let (result, output) = run(alloc, input, Device::new(alloc, b"", 65_536, 3, 0))?;
-    assert!(rt; result == Ok(COUNTS) && output.held.as_slice() == ANSWERS && output.calls == 0);
+    let (result, held, calls) = run(alloc, input, Device::new(alloc, b"", 65_536, 3, 0))?;
+    assert!(rt; result == Ok(COUNTS) && held == Some(ANSWERS.len()) && calls == 0);
     for writes in 0..ANSWERS.len() {
         let input = Device::new(alloc, STREAM, 1, 1000, 0);
-        let (result, output) = run(alloc, input, Device::new(alloc, b"", 1, writes, 0))?;
-        assert!(rt; result == Err(RunFault::Write) && output.held.len() == writes);
-        assert!(rt; ANSWERS.starts_with(output.held.as_slice()));
+        let (result, held, _) = run(alloc, input, Device::new(alloc, b"", 1, writes, 0))?;
+        assert!(rt; result == Err(RunFault::Write) && held == Some(writes));
     }
     let input = Device::new(alloc, STREAM, 1, 1000, 0);
-    let (result, output) = run(alloc, input, Device::new(alloc, b"", 0, 1000, 0))?;
-    assert!(rt; result == Err(RunFault::Write) && output.held.is_empty());
+    let (result, held, _) = run(alloc, input, Device::new(alloc, b"", 0, 1000, 0))?;
+    assert!(rt; result == Err(RunFault::Write) && held == Some(0));
     Ok(())
 }
 
@@ -143,35 +161,18 @@ fn writer_fails(rt: HostRuntime) -> Result<(), Fail> {
 #[test]
 fn interrupted(rt: HostRuntime) -> Result<(), Fail> {
     let alloc = rt.alloc();
-    let rows: [(usize, usize, Result<Counts, RunFault>, &[u8]); 4] = [
-        (1, 1, Ok(COUNTS), ANSWERS),
-        (999, 999, Ok(COUNTS), ANSWERS),
-        (1_000, 0, Err(RunFault::Read), b""),
-        (0, 1_000, Err(RunFault::Write), b""),
+    let rows: [(usize, usize, Result<Counts, RunFault>, usize); 4] = [
+        (1, 1, Ok(COUNTS), ANSWERS.len()),
+        (999, 999, Ok(COUNTS), ANSWERS.len()),
+        (1_000, 0, Err(RunFault::Read), 0),
+        (0, 1_000, Err(RunFault::Write), 0),
     ];
-    for (reads, writes, want, answers) in rows {
+    for (reads, writes, want, count) in rows {
         let input = Device::new(alloc, STREAM, 1, 1000, reads);
-        let (result, output) = run(alloc, input, Device::new(alloc, b"", 1, 1000, writes))?;
-        assert!(rt; result == want && output.held.as_slice() == answers);
+        let (result, held, _) = run(alloc, input, Device::new(alloc, b"", 1, 1000, writes))?;
+        assert!(rt; result == want && held == Some(count));
     }
     Ok(())
-}
-
-/// Gives CR, one byte a read, so often.
-#[derive(Drop)]
-struct Gap {
-    left: usize,
-}
-
-impl Read for Gap {
-    fn read(&mut self, buf: &mut [u8]) -> io::Result<usize> {
-        if self.left == 0 || buf.is_empty() {
-            return Ok(0);
-        }
-        self.left -= 1;
-        buf[0] = 13;
-        Ok(1)
-    }
 }
 
 /// The 1,000,000th read that gives something is one too many.
@@ -182,9 +183,10 @@ fn turns(rt: HostRuntime) -> Result<(), Fail> {
         (999_999, Ok(Counts::none())),
         (1_000_000, Err(RunFault::Turns)),
     ] {
-        let output = Device::new(alloc, b"", 1, 1000, 0);
-        let (result, output) = run(alloc, Gap { left }, output)?;
-        assert!(rt; result == want && output.held.is_empty());
+        let gap = Vec::from_elem(alloc, b'\r', left)?;
+        let input = Device::new(alloc, &gap, 1, 2_000_000, 0);
+        let (result, held, _) = run(alloc, input, Device::new(alloc, b"", 1, 1000, 0))?;
+        assert!(rt; result == want && held == Some(0));
     }
     Ok(())
 }

@@ -3,11 +3,10 @@ ghost use Rattle.std.specs.Prelude.{◌≡◌, ◌<◌};
 ghost use Rattle.std.specs.Thread.{IsSend, IsSync};
 
 use crate::gates::{admitted, begun, plan};
-use gw_gate::{Event, Reply};
+use crate::locked::replies;
+use gw_gate::Event;
 use gw_plan::Plan;
-use gw_run::{
-    Counts, Door, LockedGate, Pass, Pause, Phase, Receipts, Report, RunFault, join_all, worker,
-};
+use gw_run::{Door, LockedGate, Pass, Pause, Phase, Receipts, Report, RunFault, join_all, worker};
 use std::alloc::Global;
 use std::marker::Brand;
 use std::sync::atomic::{AtomicBool, Ordering};
@@ -58,8 +57,8 @@ struct Hand<'a, L: Ledger> {
     other: &'a AtomicBool,
 }
 
-// What a worker counts at the gate, and what its pass leaves.
-fn work<L: Ledger, R: Wait>(rt: &R, hand: Hand<'_, L>) -> (Option<Counts>, Receipts<L>)
+// How many results a worker puts at the gate, and what its pass leaves.
+fn work<L: Ledger, R: Wait>(rt: &R, hand: Hand<'_, L>) -> (Option<u64>, Receipts<L>)
     requires part { 0 < hand.share.parts }
     requires none { hand.share.amount ≡ 0 }
 {
@@ -76,8 +75,11 @@ fn work<L: Ledger, R: Wait>(rt: &R, hand: Hand<'_, L>) -> (Option<Counts>, Recei
         other,
         stopped: false,
     };
-    let counts = worker(alloc, &mut pass, &mut pause).ok();
-    (counts, pass.end())
+    let put = match worker(alloc, &mut pass, &mut pause) {
+        Ok(counts) => Some(counts.put),
+        Err(_) => None,
+    };
+    (put, pass.end())
 }
 
 // What a pass leaves through which so many messages arrived.
@@ -89,9 +91,9 @@ fn arrive<L: Ledger, R: Wait>(
 ) -> Result<Receipts<L>, Fail> {
     let mut pass = pass;
     for n in 0..count {
-        match pass.call(Event::Arrive(admitted(alloc, plan, 0, n)?)) {
-            Ok(Reply::Accepted { .. }) => {}
-            _ => return Err("it isn't accepted".into()),
+        let event = Event::Arrive(admitted(alloc, plan, n)?);
+        if !replies(&mut pass, event, ("Accepted", n)) {
+            return Err("it isn't accepted".into());
         }
     }
     Ok(pass.end())
@@ -138,13 +140,13 @@ fn meet<L: Ledger + Send, R: Threads + Wait + Sync>(
             requires { (0 < second.share.parts) × (second.share.amount ≡ 0) × IsSend L.row × IsSync R.row }
         { work(rt, second) },
     );
-    let put = [one.0.map(|c| c.put), two.0.map(|c| c.put)];
+    let ((left, first), (right, second)) = (one, two);
     let mut passes = Vec::new(alloc);
-    for receipts in [arrived, one.1, two.1] {
+    for receipts in [arrived, first, second] {
         passes.push(receipts)?;
     }
     let mut counted = gate.into_counted();
-    Ok((put, join_all(alloc, &mut counted, passes)))
+    Ok(([left, right], join_all(alloc, &mut counted, passes)))
 }
 
 #[test]

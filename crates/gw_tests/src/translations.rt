@@ -1,14 +1,13 @@
 //! A message whose places no one counts up to, and what a map makes of it.
 ghost use Rattle.std.specs.Prelude.{◌≡◌};
 
-use crate::worked::profile;
+use crate::worked;
+use crate::worked::{profile, tree};
 use gw_check::{CheckedMap, check};
 use gw_er7::{Builder, Message, Place};
 use gw_interp::translate;
-use gw_profile::Profile;
-use gw_validate::{Tree, Verdict, validate};
+use gw_validate::Tree;
 use std::alloc::{AllocError, Global};
-use std::sync::Arc;
 use std::test::Fail;
 
 const P: &str =
@@ -48,20 +47,10 @@ fn far(alloc: Global) -> Result<Message, AllocError> {
 fn checked(alloc: Global) -> Result<CheckedMap, Fail> {
     let source = profile(alloc, P)?;
     let target = source.clone()?;
-    let Ok(map) = gw_maplang::parse(alloc, M) else {
-        return Err("no map".into());
-    };
+    let map = worked::map(alloc, M)?;
     match check(alloc, source, target, map) {
         Ok(map) => Ok(map),
         Err(_) => Err("the map is refused".into()),
-    }
-}
-
-fn tree_of(alloc: Global, source: Arc<Profile>) -> Result<Tree, Fail> {
-    let message = far(alloc)?;
-    match validate(alloc, source, message) {
-        Ok(Verdict::Fits(tree)) => Ok(tree),
-        _ => Err("it breaks".into()),
     }
 }
 
@@ -89,7 +78,7 @@ fn is_copied(made: &Message) -> bool {
 fn values_far_away(rt: HostRuntime) -> Result<(), Fail> {
     let alloc = rt.alloc();
     let map = checked(alloc)?;
-    let tree = tree_of(alloc, map.source().clone()?)?;
+    let tree = tree(alloc, map.source().clone()?, far(alloc)?)?;
     let made = made(alloc, &map, &tree)?;
     assert!(rt; is_copied(&made));
     Ok(())

@@ -1,7 +1,7 @@
 //! The tree of a message that conforms.
-use crate::worked::{ORU, profile};
+use crate::worked::{ORU, profile, tree};
 use gw_er7::read;
-use gw_validate::{Occ, Verdict, validate};
+use gw_validate::Occ;
 use std::test::Fail;
 
 // The occurrence of this number of a child, if there is one.
@@ -30,10 +30,7 @@ fn is_shaped(root: &Occ<'_>) -> Option<bool> {
 fn results(rt: HostRuntime) -> Result<(), Fail> {
     let alloc = rt.alloc();
     let content = b"MSH|^~\\&\rPID|1\rOBR|1\rOBR|2\rPID|2\rOBR|3\r";
-    let message = read(alloc, content)?;
-    let Ok(Verdict::Fits(tree)) = validate(alloc, profile(alloc, ORU)?, message) else {
-        return Err("it fits".into());
-    };
+    let tree = tree(alloc, profile(alloc, ORU)?, read(alloc, content)?)?;
     assert!(rt; is_shaped(&tree.root()) == Some(true) && tree.message().segment_count() == 6);
     assert!(rt; tree.profile().name() == b"ORU".as_slice());
     assert!(rt; tree.into_message().segment_count() == 6);

@@ -1,6 +1,10 @@
-//! Worked profiles and a worked plan.
+//! Worked profiles and a worked plan, and what is read by them.
+use gw_er7::{Message, read};
+use gw_maplang::Map;
+use gw_plan::{Conforming, Plan, admit};
 use gw_profile::Profile;
-use std::alloc::Global;
+use gw_validate::{Tree, Verdict, validate};
+use std::alloc::{AllocError, Global};
 use std::sync::Arc;
 use std::test::Fail;
 
@@ -30,10 +34,51 @@ const PLAN: [&str; 2] = [
 ];
 
 /// The plan's text, with a receiver of this name.
-pub fn plan_text(alloc: Global, name: &str) -> Result<Vec<u8>, Fail> {
-    let mut text = Vec::new(alloc);
-    for part in [PLAN[0], name, PLAN[1], "to ", name, " by M2\n"] {
-        text.extend_from_slice(part.as_bytes())?;
+pub fn plan_text(alloc: Global, name: &str) -> Result<String, AllocError> {
+    let [before, behind] = PLAN;
+    format!(in alloc; "{before}{name}{behind}to {name} by M2\n")
+}
+
+/// A plan of this text.
+pub fn plan(alloc: Global, text: &[u8]) -> Result<Plan, Fail> {
+    match Plan::parse(alloc, text) {
+        Ok(plan) => Ok(plan),
+        Err(_) => Err("no plan".into()),
     }
-    Ok(text)
+}
+
+/// The plan with the receiver ARCHIVE.
+pub fn archive(alloc: Global) -> Result<Plan, Fail> {
+    let text = plan_text(alloc, "ARCHIVE")?;
+    plan(alloc, text.as_bytes())
+}
+
+/// A map of this text.
+pub fn map(alloc: Global, text: &[u8]) -> Result<Map, Fail> {
+    match gw_maplang::parse(alloc, text) {
+        Ok(map) => Ok(map),
+        Err(_) => Err("no map".into()),
+    }
+}
+
+/// The tree of a message that conforms.
+pub fn tree(alloc: Global, profile: Arc<Profile>, message: Message) -> Result<Tree, Fail> {
+    match validate(alloc, profile, message) {
+        Ok(Verdict::Fits(tree)) => Ok(tree),
+        _ => Err("it breaks".into()),
+    }
+}
+
+/// A message that is admitted under this version of the plan.
+pub fn admitted(
+    alloc: Global,
+    plan: &Arc<Plan>,
+    version: u64,
+    content: &[u8],
+) -> Result<Arc<Conforming>, Fail> {
+    let message = read(alloc, content)?;
+    match admit(alloc, plan, version, message) {
+        Ok(conforming) => Ok(conforming),
+        Err(_) => Err("it is refused".into()),
+    }
 }

@@ -9,7 +9,7 @@ use Rattle.gw_er7.specs.Message.{SegmentValue, numbers, IsEntry, IsSegment, IsMe
 use Rattle.gw_er7.specs.Building.{IsBegun, MayPut, with_last}
 use Rattle.gw_er7.proofs.Lasts.{kept_put}
 use Rattle.gw_er7.proofs.Builds.{begun, begun_segment, begun_header, begun_named, entry_at, canonical_of, may_put}
-use Rattle.gw_tests.proofs.messages.a_message_is_built.Goals as goal
+use Rattle.gw_tests.proofs.messages.built.Goals as goal
 
 abbrev third : List ℕ
 third = 3 ∷ 1 ∷ 1 ∷ 1 ∷ []
@@ -63,28 +63,28 @@ free : texts.get (put_in fifth (120 ∷ []) (begun pid)).at third ≡ None
 free = get-insert nat_list_cmp_total (begun pid).at fifth (120 ∷ []) third ∙ none_at pid third
 
 pub begin-requires : goal.begin-requires
-begin-requires g c = subst (λ (ss : List SegmentValue). IsBegun (ss ++ begun header_name ∷ [])) (sym c.new-builder.ensures) begun_header
+begin-requires c = subst (λ (ss : List SegmentValue). IsBegun (ss ++ begun header_name ∷ [])) (sym c.new-builder.ensures) begun_header
 
 pub put-requires : goal.put-requires
-put-requires g c =
+put-requires c =
     let list : c.begin.new.self ≡ begun header_name ∷ [] = c.in_ok-begin.ensures.ok ∙ ap (λ (x : List SegmentValue). x ++ begun header_name ∷ []) c.new-builder.ensures in
     subst (λ (ss : List SegmentValue). MayPut (numbers c.place.result) lab ss) (sym list)
     (subst (λ (p : Place). MayPut (numbers p) lab (begun header_name ∷ [])) (sym c.place.ensures) (none_at header_name third, header_entry))
 
 pub begin-requires-2 : goal.begin-requires-2
-begin-requires-2 g c =
+begin-requires-2 c =
     let list = second _ _ _ _ c.new-builder.ensures c.in_ok-begin.ensures.ok c.place.ensures c.in_ok-put.ensures.ok in
     subst (λ (ss : List SegmentValue). IsBegun (ss ++ begun pid ∷ [])) (sym list) pid_begun
 
 pub put-requires-2 : goal.put-requires-2
-put-requires-2 g c =
+put-requires-2 c =
     let list = second _ _ _ _ c.new-builder.ensures c.in_ok-begin.ensures.ok c.place.ensures c.in_ok-put.ensures.ok in
     let more = c.in_ok-begin-2.ensures.ok ∙ ap (λ (ss : List SegmentValue). ss ++ begun pid ∷ []) list in
     subst (λ (ss : List SegmentValue). MayPut (numbers c.place-2.result) (120 ∷ []) ss) (sym more)
     (subst (λ (p : Place). MayPut (numbers p) (120 ∷ []) (first ∷ begun pid ∷ [])) (sym c.place-2.ensures) (none_at pid fifth, fifth_entry))
 
 pub put-requires-3 : goal.put-requires-3
-put-requires-3 g c =
+put-requires-3 c =
     let list = second _ _ _ _ c.new-builder.ensures c.in_ok-begin.ensures.ok c.place.ensures c.in_ok-put.ensures.ok in
     let more = c.in_ok-begin-2.ensures.ok ∙ ap (λ (ss : List SegmentValue). ss ++ begun pid ∷ []) list in
     let last = third_list _ _ _ more c.place-2.ensures c.in_ok-put-2.ensures.ok in
