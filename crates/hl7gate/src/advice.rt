@@ -1,6 +1,7 @@
 //! What a person needs of a map that a rule refuses: the file and its line, what the rule demands, and what to do.
 use crate::elements::{Named, tell_name};
 use crate::maps::Sides;
+use crate::report::say;
 use crate::subjects::Told;
 use gw_check::{FieldAt, Gap, gaps, unread};
 use gw_maplang::Map;
@@ -47,8 +48,7 @@ pub(crate) struct Found {
     gaps: Gaps,
     /// What each line makes, and of what.
     sites: Vec<Site>,
-    /// The failures of each rule at each line, in the order of the definition.
-    alike: BTreeMap<(u32, u8), Vec<Failure>>,
+    alike: Alike,
 }
 
 /// A map that a rule refuses, with its text and its profiles.
@@ -101,19 +101,25 @@ pub(crate) fn advice(rule: u8) -> &'static str {
 /// What a rule demands, without what to do.
 fn demand(rule: u8) -> &'static [u8] {
     let said = advice(rule).as_bytes();
-    match said.iter().position(|byte| *byte == b':') {
+    match cut(said, b':') {
         None => said,
-        Some(end) => &said[..end],
+        Some((said, _)) => said,
     }
+}
+
+/// What stands before the first of these bytes, and what stands behind it.
+fn cut(text: &[u8], byte: u8) -> Option<(&[u8], &[u8])> {
+    let at = text.iter().position(|found| *found == byte)?;
+    Some((&text[..at], &text[at + 1..]))
 }
 
 /// What stands behind so many lines.
 pub(crate) fn behind(text: &[u8], lines: u32) -> &[u8] {
     let mut rest = text;
     for _ in 0..lines {
-        match rest.iter().position(|byte| *byte == b'\n') {
+        match cut(rest, b'\n') {
             None => return &[],
-            Some(end) => rest = &rest[end + 1..],
+            Some((_, behind)) => rest = behind,
         }
     }
     rest
@@ -121,9 +127,9 @@ pub(crate) fn behind(text: &[u8], lines: u32) -> &[u8] {
 
 /// The first line, without the blanks around it.
 fn first_line(text: &[u8]) -> &[u8] {
-    match text.iter().position(|byte| *byte == b'\n') {
+    match cut(text, b'\n') {
         None => text.trim_ascii(),
-        Some(end) => text[..end].trim_ascii(),
+        Some((line, _)) => line.trim_ascii(),
     }
 }
 
@@ -173,21 +179,25 @@ fn marked(mark: Mark) -> Place {
 }
 
 /// The failures of each rule at each line, in the order of the definition.
-fn alike(
-    alloc: Global,
-    failures: &[Failure],
-) -> Result<BTreeMap<(u32, u8), Vec<Failure>>, AllocError> {
-    let mut alike: BTreeMap<(u32, u8), Vec<Failure>> = BTreeMap::new(alloc);
+type Alike = BTreeMap<(u32, u8), Vec<Failure>>;
+
+/// Puts a failure behind those of its rule at its line.
+fn add(alloc: Global, alike: &mut Alike, failure: Failure) -> Result<(), AllocError> {
+    let key = (failure.mark.line, failure.rule);
+    if let Some(others) = alike.get_mut(&key) {
+        others.push(failure)?;
+        return Ok(());
+    }
+    let mut first = Vec::new(alloc);
+    first.push(failure)?;
+    alike.insert(key, first)?;
+    Ok(())
+}
+
+fn alike(alloc: Global, failures: &[Failure]) -> Result<Alike, AllocError> {
+    let mut alike = BTreeMap::new(alloc);
     for failure in failures {
-        let key = (failure.mark.line, failure.rule);
-        match alike.get_mut(&key) {
-            Some(others) => others.push(*failure)?,
-            None => {
-                let mut first = Vec::new(alloc);
-                first.push(*failure)?;
-                alike.insert(key, first)?;
-            }
-        }
+        add(alloc, &mut alike, *failure)?;
     }
     Ok(alike)
 }
@@ -224,9 +234,9 @@ impl Refusal<'_> {
         let Sides { source, target } = self.sides;
         let map = &self.refused.map;
         let unread = unread(alloc, source, target, map)?;
-        let gaps = Gaps::of(alloc, gaps(alloc, source, target, map)?)?;
         let sites = sites(alloc, source, target, map)?;
         let alike = alike(alloc, &self.refused.failures)?;
+        let gaps = Gaps::of(alloc, gaps(alloc, source, target, map)?)?;
         Ok(Found {
             unread,
             gaps,
@@ -239,11 +249,11 @@ impl Refusal<'_> {
     fn tell_unread<E: Write>(&self, errors: &mut E, unread: &[FieldAt]) {
         for (i, field) in unread.iter().enumerate() {
             if i > 0 {
-                let _ = errors.write_all(b", ");
+                say(errors, b", ");
             }
             tell_name(errors, &self.sides.source, unread_field(field));
         }
-        let _ = errors.write_all(b": neither read nor dropped");
+        say(errors, b": neither read nor dropped");
     }
 
     /// Tells what nothing gives, of the failures of a rule at a line. False where something gives it all.
@@ -252,14 +262,14 @@ impl Refusal<'_> {
         for failure in failures {
             if let Some(gap) = gaps.at(failure.mark) {
                 if any {
-                    let _ = errors.write_all(b", ");
+                    say(errors, b", ");
                 }
                 any = true;
                 tell_name(errors, &self.sides.target, missing(gap));
             }
         }
         if any {
-            let _ = errors.write_all(b": no item and no rule gives it");
+            say(errors, b": no item and no rule gives it");
         }
         any
     }
@@ -296,7 +306,7 @@ impl Refusal<'_> {
             return Ok(());
         };
         if is_told {
-            let _ = errors.write_all(b"; ");
+            say(errors, b"; ");
         }
         if given.rule == 9 {
             self.tell_unread(errors, &found.unread);
@@ -322,13 +332,13 @@ impl Refusal<'_> {
         let line = first.mark.line;
         let _ = write!(errors, "{path}:{line}: K{rule}: ");
         if rule <= LAST_OF_LABELS {
-            let _ = errors.write_all(first_line(text));
-            let _ = errors.write_all(b": ");
-            let _ = errors.write_all(demand(rule));
+            say(errors, first_line(text));
+            say(errors, b": ");
+            say(errors, demand(rule));
         } else {
             self.tell_subject(alloc, errors, found, failures)?;
         }
-        let _ = errors.write_all(b"\n");
+        say(errors, b"\n");
         Ok(())
     }
 
@@ -368,13 +378,13 @@ impl Refusal<'_> {
         let rule = self.refused.least.rule;
         let line = self.refused.least.mark.line;
         let _ = write!(errors, "{path}:{line}: ");
-        let _ = errors.write_all(line_at(text, line));
-        let _ = errors.write_all(b"\n");
+        say(errors, line_at(text, line));
+        say(errors, b"\n");
         if rule > LAST_OF_LABELS
             && let Some(failures) = found.alike.get(&(line, rule))
         {
             self.tell_subject(alloc, errors, found, failures)?;
-            let _ = errors.write_all(b"\n");
+            say(errors, b"\n");
         }
         let _ = writeln!(errors, "{}", advice(rule));
         self.tell_others(alloc, errors, found)

@@ -108,15 +108,23 @@ fn stamp<'a>(alloc: Global) -> Arg<'a> {
 
 /// The command of a form.
 fn command<'a>(alloc: Global, form: &Form) -> Result<Command<'a>, AllocError> {
-    let mut command = Command::new(alloc, form.name).about(form.about);
+    let mut args = Vec::new(alloc);
     for (name, help) in form.words {
-        command = command.arg(needed(alloc, name, help))?;
+        args.push(needed(alloc, name, help))?;
     }
     if form.is_stamped {
-        command.arg(stamp(alloc))
-    } else {
-        Ok(command)
+        args.push(stamp(alloc))?;
     }
+    Command::new(alloc, form.name).about(form.about).args(args)
+}
+
+/// All commands, in their order.
+fn commands<'a>(alloc: Global) -> Result<Vec<Command<'a>>, AllocError> {
+    let mut commands = Vec::new(alloc);
+    for form in &FORMS {
+        commands.push(command(alloc, form)?)?;
+    }
+    Ok(commands)
 }
 
 /// The program without its commands.
@@ -134,11 +142,8 @@ fn program<'a>(alloc: Global) -> Result<Command<'a>, AllocError> {
 
 /// The program with all its commands.
 fn grammar<'a>(alloc: Global) -> Result<Command<'a>, AllocError> {
-    let mut program = program(alloc)?;
-    for form in &FORMS {
-        program = program.subcommand(command(alloc, form)?)?;
-    }
-    Ok(program)
+    let commands = commands(alloc)?;
+    program(alloc)?.subcommands(commands)
 }
 
 /// The command that the words ask for.

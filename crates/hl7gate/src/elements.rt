@@ -1,4 +1,5 @@
 //! Elements of a profile in the field's words: their names, how often they come, and what stands in them.
+use crate::report::say;
 use gw_profile::{Card, Node, Profile, Usage};
 use gw_resolve::Interval;
 use gw_subjects::{Spot, comp_at, field_at, sub_at};
@@ -52,9 +53,9 @@ fn tell_path<E: Write>(errors: &mut E, nodes: &[Node], at: &[usize]) {
             return;
         };
         if i > 0 {
-            let _ = errors.write_all(b"/");
+            say(errors, b"/");
         }
-        let _ = errors.write_all(label_of(node));
+        say(errors, label_of(node));
         level = nodes_of(node);
     }
 }
@@ -90,7 +91,7 @@ fn usage_word(usage: Usage) -> &'static str {
 
 /// Tells a usage, and how often an element may come.
 fn tell_usage<E: Write>(errors: &mut E, usage: Usage, card: Option<Card>) {
-    let _ = errors.write_all(usage_word(usage).as_bytes());
+    say(errors, usage_word(usage).as_bytes());
     let Some(card) = card else {
         return;
     };
@@ -112,18 +113,18 @@ pub(crate) fn tell_interval<E: Write>(errors: &mut E, count: Interval) {
 
 /// Tells the name of a profile.
 pub(crate) fn tell_profile<E: Write>(errors: &mut E, profile: &Profile) {
-    let _ = errors.write_all(b" in ");
-    let _ = errors.write_all(profile.name());
+    say(errors, b" in ");
+    say(errors, profile.name());
 }
 
 /// Tells what a profile says of an element, which it may not list.
 fn tell_what<E: Write>(errors: &mut E, profile: &Profile, said: Option<(Usage, Option<Card>)>) {
     match said {
         None => {
-            let _ = errors.write_all(b" isn't listed");
+            say(errors, b" isn't listed");
         }
         Some((usage, card)) => {
-            let _ = errors.write_all(b" is ");
+            say(errors, b" is ");
             tell_usage(errors, usage, card);
         }
     }

@@ -35,18 +35,31 @@ pub(crate) fn in_map(
     Ok(Some(said))
 }
 
+/// The patterns of a plan's lines, each behind its keyword.
+const PATTERNS: [(&[u8], &[u8]); 7] = [
+    (b"plan", b"plan NAME, as the first line"),
+    (b"receiver", b"receiver NAME ADDRESS"),
+    (
+        b"accept",
+        b"accept version WORD .. or accept processing WORD ..",
+    ),
+    (
+        b"begin",
+        b"begin profile or begin map, below the first line",
+    ),
+    (b"stop", b"stop, behind the lines of a profile or a map"),
+    (b"route", b"route CODE EVENT from PROFILE"),
+    (b"to", b"to RECEIVER by MAP, below a route"),
+];
+
 /// The pattern of a plan's lines with this keyword, or all keywords where it is none.
 fn pattern(keyword: &[u8]) -> &'static [u8] {
-    match keyword {
-        b"plan" => b"plan NAME, as the first line",
-        b"receiver" => b"receiver NAME ADDRESS",
-        b"accept" => b"accept version WORD .. or accept processing WORD ..",
-        b"begin" => b"begin profile or begin map, below the first line",
-        b"stop" => b"stop, behind the lines of a profile or a map",
-        b"route" => b"route CODE EVENT from PROFILE",
-        b"to" => b"to RECEIVER by MAP, below a route",
-        _ => b"plan, receiver, accept, begin, stop, route or to",
+    for (word, said) in PATTERNS {
+        if word == keyword {
+            return said;
+        }
     }
+    b"plan, receiver, accept, begin, stop, route or to"
 }
 
 /// The form of text to which a line of a plan belongs.
@@ -62,10 +75,13 @@ fn begun(line: &[u8]) -> Form {
     let Some(kind) = line.strip_prefix(b"begin".as_slice()) else {
         return Form::Plan;
     };
-    match keyword_of(kind) {
-        b"profile" => Form::Profile,
-        b"map" => Form::Map,
-        _ => Form::Plan,
+    let keyword = keyword_of(kind);
+    if keyword == b"profile".as_slice() {
+        Form::Profile
+    } else if keyword == b"map".as_slice() {
+        Form::Map
+    } else {
+        Form::Plan
     }
 }
 

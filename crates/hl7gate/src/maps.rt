@@ -125,20 +125,36 @@ fn judge<'a>(alloc: Global, sides: &Sides, written: &Written<'a>) -> Result<Judg
     examined(alloc, sides, map)
 }
 
-/// Prints the rule that refuses a map; what a person needs to mend it goes to `errors`.
+// Prints the rule of a failure, and its line.
+fn write_rule<'a, O: Write>(
+    alloc: Global,
+    failure: Failure,
+    output: &mut O,
+) -> Result<(), Ended<'a>> {
+    let Failure { rule, mark } = failure;
+    let line = mark.line;
+    let said = format!(in alloc; "refused K{rule} line {line}\n")?;
+    write_all(output, said.as_bytes())?;
+    Ok(())
+}
+
+/// Prints the rule that refuses a map, and answers false; what a person needs to mend it goes to `errors`.
 fn write_refusal<'a, O: Write, E: Write>(
     alloc: Global,
     refusal: Refusal<'_>,
     output: &mut O,
     errors: &mut E,
-) -> Result<(), Ended<'a>> {
+) -> Result<bool, Ended<'a>> {
     let found = refusal.found(alloc)?;
-    let Failure { rule, mark } = refusal.refused.least;
-    let line = mark.line;
-    let said = format!(in alloc; "refused K{rule} line {line}\n")?;
-    write_all(output, said.as_bytes())?;
+    write_rule(alloc, refusal.refused.least, output)?;
     refusal.tell(alloc, errors, &found)?;
-    Ok(())
+    Ok(false)
+}
+
+// Prints that the rules allow a map, and answers true.
+fn write_accepted<'a, O: Write>(output: &mut O) -> Result<bool, Ended<'a>> {
+    write_all(output, b"accepted\n")?;
+    Ok(true)
 }
 
 // Prints what the rules say of a map. False where they refuse it.
@@ -149,19 +165,16 @@ fn write_judged<'a, O: Write, E: Write>(
     output: &mut O,
     errors: &mut E,
 ) -> Result<bool, Ended<'a>> {
-    match &judge(alloc, sides, written)? {
-        Judged::Allowed(_) => {
-            write_all(output, b"accepted\n")?;
-            Ok(true)
-        }
+    let judged = judge(alloc, sides, written)?;
+    match &judged {
+        Judged::Allowed(_) => write_accepted(output),
         Judged::Refused(refused) => {
             let refusal = Refusal {
                 sides,
                 written,
                 refused,
             };
-            write_refusal(alloc, refusal, output, errors)?;
-            Ok(false)
+            write_refusal(alloc, refusal, output, errors)
         }
     }
 }
@@ -220,30 +233,31 @@ fn write_message<'a, O: Write>(
     Ok(())
 }
 
-/// Writes the translation of the content on standard input, which has no frame.
+/// Writes the translation of the content on standard input, which has no frame, and answers true.
 fn write_translation<'a, R: AllocGlobal, I: Read, O: Write>(
     rt: &R,
     map: &CheckedMap,
     input: &mut I,
     output: &mut O,
-) -> Result<(), Ended<'a>> {
+) -> Result<bool, Ended<'a>> {
     let content = read_all(rt, input)?;
     let message = translated(rt, map, &content)?;
-    write_message(rt.alloc(), &message, output)
+    write_message(rt.alloc(), &message, output)?;
+    Ok(true)
 }
 
-/// Tells the rule that refuses a map, and what a person needs to mend it.
+/// Tells the rule that refuses a map, and what a person needs to mend it, and answers false.
 fn tell_refusal<'a, E: Write>(
     alloc: Global,
     refusal: Refusal<'_>,
     errors: &mut E,
-) -> Result<(), Ended<'a>> {
+) -> Result<bool, Ended<'a>> {
     let found = refusal.found(alloc)?;
     let Failure { rule, mark } = refusal.refused.least;
     let line = mark.line;
     let _ = writeln!(errors, "refused K{rule} line {line}");
     refusal.tell(alloc, errors, &found)?;
-    Ok(())
+    Ok(false)
 }
 
 // Writes the translation by a map that the rules allow, and else tells the rule that refuses it: then it answers false.
@@ -255,19 +269,16 @@ fn translate_judged<'a, R: AllocGlobal, I: Read, O: Write, E: Write>(
     output: &mut O,
     errors: &mut E,
 ) -> Result<bool, Ended<'a>> {
-    match &judge(rt.alloc(), sides, written)? {
-        Judged::Allowed(map) => {
-            write_translation(rt, map, input, output)?;
-            Ok(true)
-        }
+    let judged = judge(rt.alloc(), sides, written)?;
+    match &judged {
+        Judged::Allowed(map) => write_translation(rt, map, input, output),
         Judged::Refused(refused) => {
             let refusal = Refusal {
                 sides,
                 written,
                 refused,
             };
-            tell_refusal(rt.alloc(), refusal, errors)?;
-            Ok(false)
+            tell_refusal(rt.alloc(), refusal, errors)
         }
     }
 }

@@ -68,9 +68,11 @@ fn paths_of(alloc: Global, folder: &str, plan: &Plan) -> Result<Vec<PathBuf>, Al
 }
 
 /// That this file can't be made or written.
-fn unwritten<'a>(alloc: Global, path: &PathBuf) -> Result<Ended<'a>, AllocError> {
-    let file = String::from_str(alloc, path.as_str())?;
-    Ok(Ended::Unwritten { file })
+fn unwritten<'a>(alloc: Global, path: &PathBuf) -> Ended<'a> {
+    match String::from_str(alloc, path.as_str()) {
+        Ok(file) => Ended::Unwritten { file },
+        Err(_) => Ended::Run(RunFault::Memory),
+    }
 }
 
 /// Makes a file anew.
@@ -82,7 +84,7 @@ fn make_file<'a, R: Files + AllocGlobal>(
 {
     match File::create(rt, path.as_str()) {
         Ok(file) => Ok(Writes::new(file)),
-        Err(_) => Err(unwritten(rt.alloc(), path)?),
+        Err(_) => Err(unwritten(rt.alloc(), path)),
     }
 }
 
@@ -107,13 +109,13 @@ fn ended_by<'a, S: Sink>(
     fault: RunFault,
     paths: &[PathBuf],
     files: &[S],
-) -> Result<Ended<'a>, AllocError> {
+) -> Ended<'a> {
     for (path, file) in paths.iter().zip(files) {
         if file.failed() {
             return unwritten(alloc, path);
         }
     }
-    Ok(Ended::Run(fault))
+    Ended::Run(fault)
 }
 
 /// Answers each message of a stream by the plan of the file PLAN, and writes what each receiver is sent to a file of FOLDER.
@@ -144,6 +146,6 @@ pub(crate) fn run<'a, R: Files + Clock + AllocGlobal, I: Read, O: Write, E: Writ
         &mut files,
     ) {
         Ok(counts) => Ok(counts),
-        Err(fault) => Err(ended_by(rt.alloc(), fault, &paths, &files)?),
+        Err(fault) => Err(ended_by(rt.alloc(), fault, &paths, &files)),
     }
 }

@@ -59,6 +59,20 @@ fn done<'a, R: Files + Clock + AllocGlobal, I: Read, O: Write, E: Write + IsTerm
     }
 }
 
+/// Does the command of these words, tells why where it isn't done, and answers the status.
+fn told<R: Files + Clock + AllocGlobal, I: Read, O: Write, E: Write + IsTerminal>(
+    rt: &R,
+    words: &ArgMatches<'_>,
+    input: &mut I,
+    output: &mut O,
+    errors: &mut E,
+) -> u8 {
+    match done(rt, words, input, output, errors) {
+        Ok(status) => status,
+        Err(ended) => tell(errors, &ended),
+    }
+}
+
 /// Does what the words say, and answers the status: 0 done, 1 refused, 2 usage, 3 a fault of a device, a frame or a run, 4 want of memory.
 pub fn command<R: Files + Clock + AllocGlobal, I: Read, O: Write, E: Write + IsTerminal>(
     rt: &R,
@@ -69,9 +83,6 @@ pub fn command<R: Files + Clock + AllocGlobal, I: Read, O: Write, E: Write + IsT
 ) -> u8 {
     match parse(rt.alloc(), words) {
         Err(error) => tell_words(output, errors, &error),
-        Ok(matches) => match done(rt, &matches, input, output, errors) {
-            Ok(status) => status,
-            Err(ended) => tell(errors, &ended),
-        },
+        Ok(matches) => told(rt, &matches, input, output, errors),
     }
 }

@@ -81,12 +81,24 @@ pub(crate) fn tell_fault<E: Write>(errors: &mut E, fault: RunFault) -> u8 {
     }
 }
 
+/// Writes what is told; where it can't be written, nothing is done about it.
+pub(crate) fn say<E: Write>(errors: &mut E, bytes: &[u8]) {
+    let _ = errors.write_all(bytes);
+}
+
 /// Writes all the bytes, and what the writer holds back.
 pub(crate) fn write_all<O: Write>(output: &mut O, bytes: &[u8]) -> Result<(), RunFault> {
     if output.write_all(bytes).is_err() || output.flush().is_err() {
         return Err(RunFault::Write);
     }
     Ok(())
+}
+
+// Tells a fault of a file or an address, which is named.
+fn tell_device<E: Write>(errors: &mut E, fault: RunFault, name: &str, said: &str) -> u8 {
+    let status = tell_fault(errors, fault);
+    let _ = writeln!(errors, "{name}: {said}");
+    status
 }
 
 // What is said, where something is.
@@ -109,14 +121,15 @@ pub(crate) fn tell<E: Write>(errors: &mut E, ended: &Ended<'_>) -> u8 {
             USAGE
         }
         Ended::Unheard { address } => {
-            let status = tell_fault(errors, RunFault::Read);
-            let _ = writeln!(errors, "{address}: can't be listened on");
-            status
+            tell_device(errors, RunFault::Read, address, "can't be listened on")
         }
         Ended::Unread { path } => {
-            let status = tell_fault(errors, RunFault::Read);
-            let _ = writeln!(errors, "{path}: the file can't be opened or read");
-            status
+            tell_device(
+                errors,
+                RunFault::Read,
+                path,
+                "the file can't be opened or read",
+            )
         }
         Ended::Profile {
             path,
@@ -134,9 +147,12 @@ pub(crate) fn tell<E: Write>(errors: &mut E, ended: &Ended<'_>) -> u8 {
             expected,
         } => tell_plan(errors, path, *fault, text_of(expected)),
         Ended::Unwritten { file } => {
-            let status = tell_fault(errors, RunFault::Write);
-            let _ = writeln!(errors, "{file}: the file can't be made or written");
-            status
+            tell_device(
+                errors,
+                RunFault::Write,
+                file,
+                "the file can't be made or written",
+            )
         }
         Ended::Message { fault } => tell_message(errors, *fault),
         Ended::Breaks(breach) => tell_breach(errors, *breach),

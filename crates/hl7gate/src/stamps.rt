@@ -22,7 +22,7 @@ pub(crate) fn stamp_of<R: Clock>(clock: &R, digits: Option<&str>) -> Option<Stam
 }
 
 /// The system's clock, in UTC: each answer has the time at which it is made.
-#[derive(Clone, Copy)]
+#[derive(Drop)]
 pub(crate) struct Utc<'a, R: Clock> {
     clock: &'a R,
     start: Stamp,

@@ -4,6 +4,7 @@ use crate::elements::{
     tell_sub,
 };
 use crate::maps::Sides;
+use crate::report::say;
 use gw_maplang::Map;
 use gw_profile::{Profile, SubShape, Usage};
 use gw_resolve::{Failure, Mark};
@@ -148,7 +149,7 @@ impl Told<'_> {
     /// Tells what the source has for a part of the target of which rule 5 or 11 fails.
     fn tell_source<E: Write>(&self, errors: &mut E, rule: u8, mark: Mark, from: &Spot) {
         let source = &self.sides.source;
-        let _ = errors.write_all(b", and ");
+        say(errors, b", and ");
         if is_copy(self.site) && mark.comp > 0 {
             tell_part(errors, source, from);
         } else if rule == 5 {
@@ -163,10 +164,10 @@ impl Told<'_> {
         let Failure { rule, mark } = failure;
         tell_part(errors, &self.sides.target, &parts.target);
         if let (4, Some(count)) = (rule, mark.count) {
-            let _ = errors.write_all(b", and the map gives it ");
+            say(errors, b", and the map gives it ");
             tell_interval(errors, count);
         } else if rule == 5 && mark.comp > 0 && !is_copy(self.site) {
-            let _ = errors.write_all(b", and no leaf is always there for it");
+            say(errors, b", and no leaf is always there for it");
         } else if let Some(from) = &parts.source {
             self.tell_source(errors, rule, mark, from);
         }
@@ -189,7 +190,7 @@ fn len_of(sub: Option<&SubShape>) -> Option<u32> {
 /// Tells how long a text of an element may be.
 fn tell_length<E: Write>(errors: &mut E, profile: &Profile, spot: &Spot) {
     tell_name(errors, profile, element_of(spot));
-    let _ = errors.write_all(b" has ");
+    say(errors, b" has ");
     tell_most(errors, len_of(sub_at(profile, spot)));
     tell_profile(errors, profile);
 }
@@ -208,11 +209,11 @@ fn tell_table<E: Write>(errors: &mut E, profile: &Profile, spot: &Spot) {
     tell_name(errors, profile, element_of(spot));
     match table_of(sub_at(profile, spot)) {
         None => {
-            let _ = errors.write_all(b" has no table");
+            say(errors, b" has no table");
         }
         Some(name) => {
-            let _ = errors.write_all(b" has the table ");
-            let _ = errors.write_all(name);
+            say(errors, b" has the table ");
+            say(errors, name);
         }
     }
     tell_profile(errors, profile);
@@ -246,9 +247,9 @@ fn first_strange<'a>(sides: &'a Sides, from: &SubShape, to: &SubShape) -> Option
 
 /// Tells a text that stands in the way.
 fn tell_text<E: Write>(errors: &mut E, text: &[u8], said: &str) {
-    let _ = errors.write_all(b": ");
-    let _ = errors.write_all(text);
-    let _ = errors.write_all(said.as_bytes());
+    say(errors, b": ");
+    say(errors, text);
+    say(errors, said.as_bytes());
 }
 
 impl Told<'_> {
@@ -257,8 +258,8 @@ impl Told<'_> {
         let Origin::LookedUp(name, _) = &self.site.origin else {
             return false;
         };
-        let _ = errors.write_all(b", looked up in ");
-        let _ = errors.write_all(name);
+        say(errors, b", looked up in ");
+        say(errors, name);
         true
     }
 
@@ -266,7 +267,7 @@ impl Told<'_> {
     fn tell_strange<E: Write>(&self, errors: &mut E, to: &Spot, from: &Spot) {
         let Sides { source, target } = self.sides;
         tell_table(errors, target, to);
-        let _ = errors.write_all(b", and ");
+        say(errors, b", and ");
         tell_table(errors, source, from);
         if self.tell_lookup(errors) {
             return;
@@ -284,7 +285,7 @@ impl Told<'_> {
     fn tell_long<E: Write>(&self, errors: &mut E, to: &Spot, from: &Spot) {
         let Sides { source, target } = self.sides;
         tell_length(errors, target, to);
-        let _ = errors.write_all(b", and ");
+        say(errors, b", and ");
         tell_length(errors, source, from);
         if self.tell_lookup(errors) {
             return;
