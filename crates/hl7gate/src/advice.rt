@@ -48,7 +48,8 @@ pub(crate) struct Found {
     gaps: Gaps,
     /// What each line makes, and of what.
     sites: Vec<Site>,
-    alike: Alike,
+    /// The failures of each rule at each line, in the order of the definition.
+    alike: BTreeMap<(u32, u8), Vec<Failure>>,
 }
 
 /// A map that a rule refuses, with its text and its profiles.
@@ -179,25 +180,21 @@ fn marked(mark: Mark) -> Place {
 }
 
 /// The failures of each rule at each line, in the order of the definition.
-type Alike = BTreeMap<(u32, u8), Vec<Failure>>;
-
-/// Puts a failure behind those of its rule at its line.
-fn add(alloc: Global, alike: &mut Alike, failure: Failure) -> Result<(), AllocError> {
-    let key = (failure.mark.line, failure.rule);
-    if let Some(others) = alike.get_mut(&key) {
-        others.push(failure)?;
-        return Ok(());
-    }
-    let mut first = Vec::new(alloc);
-    first.push(failure)?;
-    alike.insert(key, first)?;
-    Ok(())
-}
-
-fn alike(alloc: Global, failures: &[Failure]) -> Result<Alike, AllocError> {
-    let mut alike = BTreeMap::new(alloc);
+fn alike(
+    alloc: Global,
+    failures: &[Failure],
+) -> Result<BTreeMap<(u32, u8), Vec<Failure>>, AllocError> {
+    let mut alike: BTreeMap<(u32, u8), Vec<Failure>> = BTreeMap::new(alloc);
     for failure in failures {
-        add(alloc, &mut alike, *failure)?;
+        let key = (failure.mark.line, failure.rule);
+        match alike.get_mut(&key) {
+            Some(others) => others.push(*failure)?,
+            None => {
+                let mut first = Vec::new(alloc);
+                first.push(*failure)?;
+                alike.insert(key, first)?;
+            }
+        }
     }
     Ok(alike)
 }

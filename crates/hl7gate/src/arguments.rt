@@ -108,23 +108,15 @@ fn stamp<'a>(alloc: Global) -> Arg<'a> {
 
 /// The command of a form.
 fn command<'a>(alloc: Global, form: &Form) -> Result<Command<'a>, AllocError> {
-    let mut args = Vec::new(alloc);
+    let mut command = Command::new(alloc, form.name).about(form.about);
     for (name, help) in form.words {
-        args.push(needed(alloc, name, help))?;
+        command = command.arg(needed(alloc, name, help))?;
     }
     if form.is_stamped {
-        args.push(stamp(alloc))?;
+        command.arg(stamp(alloc))
+    } else {
+        Ok(command)
     }
-    Command::new(alloc, form.name).about(form.about).args(args)
-}
-
-/// All commands, in their order.
-fn commands<'a>(alloc: Global) -> Result<Vec<Command<'a>>, AllocError> {
-    let mut commands = Vec::new(alloc);
-    for form in &FORMS {
-        commands.push(command(alloc, form)?)?;
-    }
-    Ok(commands)
 }
 
 /// The program without its commands.
@@ -142,8 +134,11 @@ fn program<'a>(alloc: Global) -> Result<Command<'a>, AllocError> {
 
 /// The program with all its commands.
 fn grammar<'a>(alloc: Global) -> Result<Command<'a>, AllocError> {
-    let commands = commands(alloc)?;
-    program(alloc)?.subcommands(commands)
+    let mut program = program(alloc)?;
+    for form in &FORMS {
+        program = program.subcommand(command(alloc, form)?)?;
+    }
+    Ok(program)
 }
 
 /// The command that the words ask for.

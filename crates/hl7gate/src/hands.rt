@@ -30,7 +30,7 @@ fn take_sessions<L: Ledger + Send, R: Threads + Wait + Clock + Eprint + AllocGlo
 ) {
     thread::scope(
         thread::scope_env(),
-        service.rt(),
+        service.rt,
         |scope|
             requires { IsSend L.row × IsSync R.row }
         {
@@ -67,7 +67,7 @@ fn with_workers<L: Ledger + Send, R: Threads + Wait + Clock + Eprint + AllocGlob
 ) {
     thread::scope(
         thread::scope_env(),
-        service.rt(),
+        service.rt,
         |scope|
             requires { IsSend L.row × IsSync R.row }
         {
@@ -104,7 +104,7 @@ pub(crate) fn with_couriers<
 ) {
     thread::scope(
         thread::scope_env(),
-        service.rt(),
+        service.rt,
         |scope|
             requires { IsSend L.row × IsSync R.row × IsSend I.row × IsSend D.row × IsSync D.row }
         {

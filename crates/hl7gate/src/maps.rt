@@ -7,7 +7,7 @@ use crate::advice::{Refusal, Refused, Written};
 use crate::ended::Ended;
 use crate::expected;
 use crate::files::{read_all, read_text};
-use crate::report::write_all;
+use crate::report::{DONE, REFUSED, write_all};
 use clap::ArgMatches;
 use gw_check::CheckedMap;
 use gw_er7::Message;
@@ -138,33 +138,33 @@ fn write_rule<'a, O: Write>(
     Ok(())
 }
 
-/// Prints the rule that refuses a map, and answers false; what a person needs to mend it goes to `errors`.
+/// Prints the rule that refuses a map, and answers the status; what a person needs to mend it goes to `errors`.
 fn write_refusal<'a, O: Write, E: Write>(
     alloc: Global,
     refusal: Refusal<'_>,
     output: &mut O,
     errors: &mut E,
-) -> Result<bool, Ended<'a>> {
+) -> Result<u8, Ended<'a>> {
     let found = refusal.found(alloc)?;
     write_rule(alloc, refusal.refused.least, output)?;
     refusal.tell(alloc, errors, &found)?;
-    Ok(false)
+    Ok(REFUSED)
 }
 
-// Prints that the rules allow a map, and answers true.
-fn write_accepted<'a, O: Write>(output: &mut O) -> Result<bool, Ended<'a>> {
+// Prints that the rules allow a map, and answers the status.
+fn write_accepted<'a, O: Write>(output: &mut O) -> Result<u8, Ended<'a>> {
     write_all(output, b"accepted\n")?;
-    Ok(true)
+    Ok(DONE)
 }
 
-// Prints what the rules say of a map. False where they refuse it.
+// Prints what the rules say of a map, and answers the status.
 fn write_judged<'a, O: Write, E: Write>(
     alloc: Global,
     sides: &Sides,
     written: &Written<'a>,
     output: &mut O,
     errors: &mut E,
-) -> Result<bool, Ended<'a>> {
+) -> Result<u8, Ended<'a>> {
     let judged = judge(alloc, sides, written)?;
     match &judged {
         Judged::Allowed(_) => write_accepted(output),
@@ -179,14 +179,14 @@ fn write_judged<'a, O: Write, E: Write>(
     }
 }
 
-/// Prints whether the rules allow a map, and else the rule that refuses it; what a person needs to mend it goes to `errors`. False where it is refused.
+/// Prints whether the rules allow a map, and else the rule that refuses it; what a person needs to mend it goes to `errors`. Answers the status.
 /// The files SOURCE, TARGET and MAP are each read and parsed before the next.
 pub(crate) fn check<'a, R: Files + AllocGlobal, O: Write, E: Write>(
     rt: &R,
     words: &ArgMatches<'a>,
     output: &mut O,
     errors: &mut E,
-) -> Result<bool, Ended<'a>> {
+) -> Result<u8, Ended<'a>> {
     let sides = read_sides(rt, words)?;
     let written = read_written(rt, words)?;
     write_judged(rt.alloc(), &sides, &written, output, errors)
@@ -233,34 +233,34 @@ fn write_message<'a, O: Write>(
     Ok(())
 }
 
-/// Writes the translation of the content on standard input, which has no frame, and answers true.
+/// Writes the translation of the content on standard input, which has no frame, and answers the status.
 fn write_translation<'a, R: AllocGlobal, I: Read, O: Write>(
     rt: &R,
     map: &CheckedMap,
     input: &mut I,
     output: &mut O,
-) -> Result<bool, Ended<'a>> {
+) -> Result<u8, Ended<'a>> {
     let content = read_all(rt, input)?;
     let message = translated(rt, map, &content)?;
     write_message(rt.alloc(), &message, output)?;
-    Ok(true)
+    Ok(DONE)
 }
 
-/// Tells the rule that refuses a map, and what a person needs to mend it, and answers false.
+/// Tells the rule that refuses a map, and what a person needs to mend it, and answers the status.
 fn tell_refusal<'a, E: Write>(
     alloc: Global,
     refusal: Refusal<'_>,
     errors: &mut E,
-) -> Result<bool, Ended<'a>> {
+) -> Result<u8, Ended<'a>> {
     let found = refusal.found(alloc)?;
     let Failure { rule, mark } = refusal.refused.least;
     let line = mark.line;
     let _ = writeln!(errors, "refused K{rule} line {line}");
     refusal.tell(alloc, errors, &found)?;
-    Ok(false)
+    Ok(REFUSED)
 }
 
-// Writes the translation by a map that the rules allow, and else tells the rule that refuses it: then it answers false.
+// Writes the translation by a map that the rules allow, and else tells the rule that refuses it. Answers the status.
 fn translate_judged<'a, R: AllocGlobal, I: Read, O: Write, E: Write>(
     rt: &R,
     sides: &Sides,
@@ -268,7 +268,7 @@ fn translate_judged<'a, R: AllocGlobal, I: Read, O: Write, E: Write>(
     input: &mut I,
     output: &mut O,
     errors: &mut E,
-) -> Result<bool, Ended<'a>> {
+) -> Result<u8, Ended<'a>> {
     let judged = judge(rt.alloc(), sides, written)?;
     match &judged {
         Judged::Allowed(map) => write_translation(rt, map, input, output),
@@ -283,7 +283,7 @@ fn translate_judged<'a, R: AllocGlobal, I: Read, O: Write, E: Write>(
     }
 }
 
-/// Prints the translation of the content on standard input. A map that is refused is told before that is read: then it answers false.
+/// Prints the translation of the content on standard input. A map that is refused is told before that is read. Answers the status.
 /// The files SOURCE, TARGET and MAP are each read and parsed before the next.
 pub(crate) fn translate<'a, R: Files + AllocGlobal, I: Read, O: Write, E: Write>(
     rt: &R,
@@ -291,7 +291,7 @@ pub(crate) fn translate<'a, R: Files + AllocGlobal, I: Read, O: Write, E: Write>
     input: &mut I,
     output: &mut O,
     errors: &mut E,
-) -> Result<bool, Ended<'a>> {
+) -> Result<u8, Ended<'a>> {
     let sides = read_sides(rt, words)?;
     let written = read_written(rt, words)?;
     translate_judged(rt, &sides, &written, input, output, errors)

@@ -28,6 +28,32 @@ fn validate<'a, R: Files + Clock + AllocGlobal, I: Read, O: Write>(
     Ok(counts)
 }
 
+/// Validates a stream, tells where it has no message, and answers the status.
+fn validated<'a, R: Files + Clock + AllocGlobal, I: Read, O: Write, E: Write>(
+    rt: &R,
+    words: &ArgMatches<'a>,
+    input: &mut I,
+    output: &mut O,
+    errors: &mut E,
+) -> Result<u8, Ended<'a>> {
+    let counts = validate(rt, words, input, output)?;
+    tell_if_none(errors, counts);
+    Ok(status_if(counts.aa == counts.answered))
+}
+
+/// Runs a plan, tells where the stream has no message, and answers the status.
+fn ran<'a, R: Files + Clock + AllocGlobal, I: Read, O: Write, E: Write + IsTerminal>(
+    rt: &R,
+    words: &ArgMatches<'a>,
+    input: &mut I,
+    output: &mut O,
+    errors: &mut E,
+) -> Result<u8, Ended<'a>> {
+    let counts = run(rt, words, input, output, errors)?;
+    tell_if_none(errors, counts);
+    Ok(DONE)
+}
+
 /// Does the command of these words, and answers the status.
 fn done<'a, R: Files + Clock + AllocGlobal, I: Read, O: Write, E: Write + IsTerminal>(
     rt: &R,
@@ -37,39 +63,11 @@ fn done<'a, R: Files + Clock + AllocGlobal, I: Read, O: Write, E: Write + IsTerm
     errors: &mut E,
 ) -> Result<u8, Ended<'a>> {
     match words.subcommand() {
-        Some(("validate", words)) => {
-            let counts = validate(rt, words, input, output)?;
-            tell_if_none(errors, counts);
-            Ok(status_if(counts.aa == counts.answered))
-        }
-        Some(("run", words)) => {
-            let counts = run(rt, words, input, output, errors)?;
-            tell_if_none(errors, counts);
-            Ok(DONE)
-        }
-        Some(("check", words)) => {
-            let accepted = check(rt, words, output, errors)?;
-            Ok(status_if(accepted))
-        }
-        Some(("translate", words)) => {
-            let accepted = translate(rt, words, input, output, errors)?;
-            Ok(status_if(accepted))
-        }
+        Some(("validate", words)) => validated(rt, words, input, output, errors),
+        Some(("run", words)) => ran(rt, words, input, output, errors),
+        Some(("check", words)) => check(rt, words, output, errors),
+        Some(("translate", words)) => translate(rt, words, input, output, errors),
         _ => Ok(USAGE),
-    }
-}
-
-/// Does the command of these words, tells why where it isn't done, and answers the status.
-fn told<R: Files + Clock + AllocGlobal, I: Read, O: Write, E: Write + IsTerminal>(
-    rt: &R,
-    words: &ArgMatches<'_>,
-    input: &mut I,
-    output: &mut O,
-    errors: &mut E,
-) -> u8 {
-    match done(rt, words, input, output, errors) {
-        Ok(status) => status,
-        Err(ended) => tell(errors, &ended),
     }
 }
 
@@ -83,6 +81,9 @@ pub fn command<R: Files + Clock + AllocGlobal, I: Read, O: Write, E: Write + IsT
 ) -> u8 {
     match parse(rt.alloc(), words) {
         Err(error) => tell_words(output, errors, &error),
-        Ok(matches) => told(rt, &matches, input, output, errors),
+        Ok(matches) => match done(rt, &matches, input, output, errors) {
+            Ok(status) => status,
+            Err(ended) => tell(errors, &ended),
+        },
     }
 }

@@ -66,7 +66,7 @@ pub(crate) fn tell_report<O: Write, E: Write>(
     }
 }
 
-/// The status of a map that was checked, and of a stream that was answered to its end.
+/// The status of a stream that was answered to its end.
 pub(crate) fn status_if(accepted: bool) -> u8 {
     if accepted { DONE } else { REFUSED }
 }

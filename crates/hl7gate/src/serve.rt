@@ -50,25 +50,6 @@ fn connect<R: Net<Stream = TcpStream, Listener = TcpListener>>(
     Some(stream)
 }
 
-/// The connection to a receiver, and tells whether there is one.
-fn connect_told<R: Net<Stream = TcpStream, Listener = TcpListener> + Eprint>(
-    rt: &R,
-    receiver: &Receiver,
-) -> Option<TcpStream> {
-    let name = receiver.name.as_slice();
-    let connected = connect(rt, receiver);
-    if connected.is_some() {
-        let _ = eprintln!(rt;
-            "receiver {} at {} connected",
-            name.escape_ascii(),
-            receiver.address.escape_ascii()
-        );
-    } else {
-        let _ = eprintln!(rt; "receiver {} unreachable", name.escape_ascii());
-    }
-    connected
-}
-
 /// The lines to the receivers of a plan, in its order.
 fn connect_all<'p, R: Net<Stream = TcpStream, Listener = TcpListener> + Eprint + AllocGlobal>(
     rt: &R,
@@ -76,12 +57,19 @@ fn connect_all<'p, R: Net<Stream = TcpStream, Listener = TcpListener> + Eprint +
 ) -> Result<Vec<Line<'p>>, RunFault> {
     let mut lines = Vec::new(rt.alloc());
     for (number, receiver) in plan.receivers().iter().enumerate() {
-        let Some(stream) = connect_told(rt, receiver) else {
+        let name = receiver.name.as_slice();
+        let Some(stream) = connect(rt, receiver) else {
+            let _ = eprintln!(rt; "receiver {} unreachable", name.escape_ascii());
             return Err(RunFault::Write);
         };
+        let _ = eprintln!(rt;
+            "receiver {} at {} connected",
+            name.escape_ascii(),
+            receiver.address.escape_ascii()
+        );
         lines.push(Line {
             receiver: number,
-            name: receiver.name.as_slice(),
+            name,
             stream,
         })?;
     }

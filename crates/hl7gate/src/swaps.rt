@@ -72,7 +72,7 @@ pub(crate) fn swap_all<L: Ledger, R: Wait + Files + Print + Eprint + AllocGlobal
     paths: I,
 ) {
     if let Err(fault) = swap_lines(service, paths) {
-        let _ = eprintln!(service.rt(); "swaps ended: fault {}: {fault}", fault.number());
+        let _ = eprintln!(service.rt; "swaps ended: fault {}: {fault}", fault.number());
         service.fail(fault);
     }
 }
@@ -84,7 +84,7 @@ fn swap_lines<L: Ledger, R: Wait + Files + Print + Eprint + AllocGlobal, I: Read
     let Some(mut pass) = service.pass() else {
         return Err(RunFault::Memory);
     };
-    let read = swap_with(service.rt(), &mut pass, paths);
+    let read = swap_with(service.rt, &mut pass, paths);
     service.hand_in(pass);
     read
 }

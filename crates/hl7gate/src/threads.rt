@@ -21,7 +21,7 @@ pub(crate) const PARTS: u64 = 1_000_000;
 /// What the threads of a service share: its gate behind the lock, the parts of the ledger, what ended passes leave, and what went wrong.
 #[derive(Drop)]
 pub(crate) struct Service<'a, L: Ledger, R: Wait> {
-    rt: &'a R,
+    pub(crate) rt: &'a R,
     start: Stamp,
     gate: LockedGate<L>,
     tickets: Mutex<Tickets<L>>,
@@ -82,11 +82,6 @@ impl<'a, L: Ledger, R: Wait + AllocGlobal> Service<'a, L, R> {
         }
     }
 
-    /// The handle of the runtime.
-    pub(crate) fn rt(&self) -> &'a R {
-        self.rt
-    }
-
     /// A way to the gate, unless all parts of the ledger were given away.
     pub(crate) fn pass(&self) -> Option<Pass<'_, L, R>> {
         let share = self.tickets.lock(self.rt).take()?;
@@ -135,8 +130,8 @@ impl<'a, L: Ledger, R: Wait + AllocGlobal> Service<'a, L, R> {
     fn do_left(&self, pass: &mut Pass<'_, L, R>, workers: u64) -> Result<(), RunFault> {
         for _job in 0..workers {
             let left = self.outcome.lock(self.rt).next_left();
-            if let Some(job) = left
-                && !is_issued(pass, job)
+            if let Some((n, receiver)) = left
+                && pass.call(Event::Reissue { n, receiver }).is_err()
             {
                 return Err(RunFault::Memory);
             }
@@ -157,32 +152,16 @@ impl<'a, L: Ledger, R: Wait + AllocGlobal> Service<'a, L, R> {
             outcome,
             ..
         } = self;
-        match outcome.into_inner().first() {
-            Some(fault) => Err(fault),
-            None => settled(rt, gate, tickets.into_inner(), receipts.into_inner()),
+        if let Some(fault) = outcome.into_inner().first() {
+            return Err(fault);
         }
+        let mut receipts = receipts.into_inner();
+        // (the parts that no thread had counted nothing)
+        let unused = gate.pass(rt.alloc(), rt, tickets.into_inner().rest());
+        receipts.push(unused.end())?;
+        let mut counted = gate.into_counted();
+        join_all(rt.alloc(), &mut counted, receipts)
     }
-}
-
-// Whether the pair of a job is issued again; it isn't for want of memory.
-fn is_issued<L: Ledger, R: Wait>(pass: &mut Pass<'_, L, R>, job: (u64, usize)) -> bool {
-    let (n, receiver) = job;
-    let replied = pass.call(Event::Reissue { n, receiver });
-    replied.is_ok()
-}
-
-// What a gate did, by the parts of the ledger that no thread has and by what its passes left.
-fn settled<L: Ledger, R: Wait + AllocGlobal>(
-    rt: &R,
-    gate: LockedGate<L>,
-    tickets: Tickets<L>,
-    mut receipts: Vec<Receipts<L>>,
-) -> Result<Report, RunFault> {
-    // (the parts that no thread had counted nothing)
-    let unused = gate.pass(rt.alloc(), rt, tickets.rest());
-    receipts.push(unused.end())?;
-    let mut counted = gate.into_counted();
-    join_all(rt.alloc(), &mut counted, receipts)
 }
 
 impl<L: Ledger, R: Wait + AllocGlobal + Clock + Eprint> Service<'_, L, R> {
@@ -195,23 +174,20 @@ impl<L: Ledger, R: Wait + AllocGlobal + Clock + Eprint> Service<'_, L, R> {
         } = connection;
         let _ = eprintln!(self.rt; "session {number} from {peer}");
         match self.answer(&stream) {
-            Ok(counts) => self.tell_session(number, counts),
+            Ok(counts) => {
+                let Counts {
+                    answered,
+                    aa,
+                    ae,
+                    ar,
+                    ..
+                } = counts;
+                let _ = eprintln!(self.rt;
+                    "session {number} ended: answered {answered}, AA {aa}, AE {ae}, AR {ar}"
+                );
+            }
             Err(fault) => self.end_session(number, fault),
         }
-    }
-
-    // Tells what a session did.
-    fn tell_session(&self, number: u64, counts: Counts) {
-        let Counts {
-            answered,
-            aa,
-            ae,
-            ar,
-            ..
-        } = counts;
-        let _ = eprintln!(self.rt;
-            "session {number} ended: answered {answered}, AA {aa}, AE {ae}, AR {ar}"
-        );
     }
 
     /// A session ended by a fault, or couldn't be taken.
@@ -247,15 +223,10 @@ impl<L: Ledger, R: Wait + AllocGlobal + Clock + Eprint> Service<'_, L, R> {
         let worked = worker(self.rt.alloc(), &mut pass, &mut Onward);
         self.hand_in(pass);
         if let Err((fault, job)) = worked {
-            self.end_worker(number, fault, job);
-        }
-    }
-
-    // A worker ended by a fault, and may have left a job.
-    fn end_worker(&self, number: u64, fault: RunFault, job: Option<(u64, usize)>) {
-        let _ = eprintln!(self.rt; "worker {number} ended: fault {}: {fault}", fault.number());
-        if let Some(job) = job {
-            self.outcome.lock(self.rt).leave(job);
+            let _ = eprintln!(self.rt; "worker {number} ended: fault {}: {fault}", fault.number());
+            if let Some(job) = job {
+                self.outcome.lock(self.rt).leave(job);
+            }
         }
     }
 
@@ -267,34 +238,28 @@ impl<L: Ledger, R: Wait + AllocGlobal + Clock + Eprint> Service<'_, L, R> {
             stream,
         } = line;
         match self.send(receiver, &stream) {
-            Ok(counts) => self.tell_courier(name, counts),
-            Err(fault) => self.end_courier(receiver, name, fault),
+            Ok(counts) => {
+                let Counts {
+                    sent,
+                    aa,
+                    ae,
+                    ar,
+                    ..
+                } = counts;
+                let _ = eprintln!(self.rt;
+                    "receiver {} ended: sent {sent}, AA {aa}, AE {ae}, AR {ar}",
+                    name.escape_ascii()
+                );
+            }
+            Err(fault) => {
+                let _ = eprintln!(self.rt;
+                    "receiver {} ended: fault {}: {fault}",
+                    name.escape_ascii(),
+                    fault.number()
+                );
+                self.outcome.lock(self.rt).of_courier(receiver, fault);
+            }
         }
-    }
-
-    // Tells what a courier did.
-    fn tell_courier(&self, name: &[u8], counts: Counts) {
-        let Counts {
-            sent,
-            aa,
-            ae,
-            ar,
-            ..
-        } = counts;
-        let _ = eprintln!(self.rt;
-            "receiver {} ended: sent {sent}, AA {aa}, AE {ae}, AR {ar}",
-            name.escape_ascii()
-        );
-    }
-
-    // A courier ended by a fault.
-    fn end_courier(&self, receiver: usize, name: &[u8], fault: RunFault) {
-        let _ = eprintln!(self.rt;
-            "receiver {} ended: fault {}: {fault}",
-            name.escape_ascii(),
-            fault.number()
-        );
-        self.outcome.lock(self.rt).of_courier(receiver, fault);
     }
 
     fn send(&self, receiver: usize, stream: &TcpStream) -> Result<Counts, RunFault> {
