@@ -324,8 +324,33 @@ struct Present {
     behind: usize,
 }
 
-// The first repetition of a field that is present after this one, up to the last.
+// The first repetition of a field that is present after this one, up to the last: mostly the next number, with a text at its first leaf.
 fn next_rep(segment: &Segment<'_>, field: usize, after: Present, last: usize) -> Present
+    requires last { IsLast (RepAt segment.now.at field) last }
+    requires after { after.rep < last }
+    ensures there { RepAt segment.now.at field result.rep }
+    ensures after { after.rep < result.rep }
+    ensures first { (rep : ℕ) → after.rep < rep → RepAt segment.now.at field rep → result.rep ≤ rep }
+{
+    let next = Place {
+        field,
+        rep: after.rep + 1,
+        comp: 1,
+        sub: 1,
+    };
+    let (at, text) = segment.find_near(after.behind, next);
+    if text.len() == 0 {
+        return later_rep(segment, field, after, last);
+    }
+    Present {
+        rep: next.rep,
+        at,
+        behind: at.saturating_add(1),
+    }
+}
+
+// The same, whatever its number and its first text.
+fn later_rep(segment: &Segment<'_>, field: usize, after: Present, last: usize) -> Present
     requires last { IsLast (RepAt segment.now.at field) last }
     requires after { after.rep < last }
     ensures there { RepAt segment.now.at field result.rep }

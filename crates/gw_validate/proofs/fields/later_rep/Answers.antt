@@ -1,7 +1,7 @@
 use Rattle.std.proofs.Common.{◌<◌, length, arith}
 use Rattle.std.specs.FinMap as texts
 use Rattle.gw_validate.proofs.Nexts.{start_within, next_there, next_after, next_first}
-use Rattle.gw_validate.proofs.fields.next_rep.Goals as goal
+use Rattle.gw_validate.proofs.fields.later_rep.Goals as goal
 
 pub prove-unreachable-requires : goal.prove-unreachable-requires
 prove-unreachable-requires c =
