@@ -101,7 +101,8 @@ pub(crate) fn count_below_near(values: &Values<'_>, near: usize, place: Place) -
 pub(crate) fn text_there<'a>(values: &Values<'a>, at: usize, place: Place) -> Option<&'a [u8]>
     requires { T (is_sorted (slice_cmp nat_cmp) (entries_of values.now)) }
     ensures bound { IfSome result (λ text. at ≤ length values.now) }
-    ensures start { IfSome result (λ text. IsPartitionPoint (λ h. is_below (numbers place) h ≡ true) (λ h. is_below (numbers place) h ≡ false) values.now at) }
+    ensures start { IfSome result (λ text.
+        IsPartitionPoint (λ h. is_below (numbers place) h ≡ true) (λ h. is_below (numbers place) h ≡ false) values.now at) }
     ensures text { IfSome result (λ text. text.now ≡ unwrap_or (find (slice_cmp nat_cmp) (numbers place) (entries_of values.now)) []) }
 {
     if at >= values.len() {
