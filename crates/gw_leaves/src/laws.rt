@@ -11,7 +11,9 @@ ghost use Rattle.gw_resolve.specs.Seen.{saturated};
 ghost use Rattle.gw_leaves.specs.declared.shape.Presence.TheVariants.{Always, Never};
 ghost use Rattle.gw_leaves.specs.Leaves.{Sources, Values, IsOf, Shape, listed, at_field, comp_of, sub_of, source_shape, may_be_unlisted, may_be_long, is_included};
 
-/// A text that is taken from a field is always there exactly where its segment is, its field is required and comes at least once, and its component and subcomponent are required. It is never there exactly where its segment never is, or the field, the component or the subcomponent is forbidden.
+/// A text that is taken from a field is always there exactly where its segment is, its field is required and comes at least once,
+/// and its component and subcomponent are required.
+/// It is never there exactly where its segment never is, or the field, the component or the subcomponent is forbidden.
 pub fn presence_of_a_leaf()
     ensures always { (s : Sources) (from : Reference) (comp sub : ℕ) → ((source_shape s (of_field from comp sub)).presence ≡ Always) ↔
         ((is_never (known s.scope from.place).count.greatest ≡ false) × (1 ≤ (known s.scope from.place).count.least)
@@ -36,7 +38,9 @@ pub fn counts_at_the_cap()
     ensures none { (i : Interval) → is_never (saturated i).greatest ≡ is_never i.greatest }
 {}
 
-/// What can stand at a place is included exactly where it meets the usage, and is never there or has only values of the table that aren't too long. Where none can be missing from a table, each stands in it, and where each of listed values stands in it, none can. None can be too long exactly where each has at most that length in the count of the target.
+/// What can stand at a place is included exactly where it meets the usage, and is never there or has only values of the table that aren't too long.
+/// Where none can be missing from a table, each stands in it, and where each of listed values stands in it, none can.
+/// None can be too long exactly where each has at most that length in the count of the target.
 pub fn values_that_are_included()
     ensures included { (to : Count) (shape : Shape) (s : SubValue) (table : Option (List (List ℕ))) → (is_included to shape s table ≡ true) ↔
         ((s.usage ≡ R → shape.presence ≡ Always) × (s.usage ≡ X → shape.presence ≡ Never)

@@ -33,7 +33,8 @@ pub(crate) fn source_sub<'e>(
     sources: Sources<'_, '_, '_, 'e, '_>,
     source: &Source,
 ) -> Option<&'e SubShape>
-    ensures { (spec.source_shape (sources_value sources.entry) (seen_source source.now)).values ≡ spec.sub_values (sources_value sources.entry).profile (some_sub result) }
+    ensures { (spec.source_shape (sources_value sources.entry) (seen_source source.now)).values ≡
+        spec.sub_values (sources_value sources.entry).profile (some_sub result) }
 {
     match source {
         Source::OfField(from, at) => sub_of(comp_of(at_field(sources, from), at.comp), at.sub),

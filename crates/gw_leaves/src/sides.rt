@@ -57,7 +57,8 @@ impl<'a> Sides<'a> {
     ghost use Rattle.gw_leaves.specs.own.Readings.{read_of, some_read, is_nothing, is_longer, IsShortest};
     ghost use Rattle.gw_leaves.specs.Sides.{sides_of};
 
-    /// The map with its profiles, and what is found of the tables that its items bring together, where this is the level of the source's nodes. The one error is want of memory.
+    /// The map with its profiles, and what is found of the tables that its items bring together, where this is the level of the source's nodes.
+    /// The one error is want of memory.
     pub fn of(
         alloc: Global,
         source: &'a Profile,
