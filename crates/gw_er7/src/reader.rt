@@ -74,7 +74,8 @@ fn take_others(
     Ok(())
 }
 
-/// The starts and the texts of the segments of a content of so many bytes, line by line, each taken in where it is read: what most messages need is asked for at once.
+/// The starts and the texts of the segments of a content of so many bytes, line by line, each taken in where it is read:
+/// what most messages need is asked for at once.
 fn take_segments(
     alloc: Global,
     delimiters: Delimiters,
@@ -96,7 +97,8 @@ fn take_segments(
     Ok((starts, taken))
 }
 
-/// The message of a content, whatever its delimiters and line ends. Each fault but `Memory` is found before anything is made, so a faulty content is never answered with `Memory`.
+/// The message of a content, whatever its delimiters and line ends.
+/// Each fault but `Memory` is found before anything is made, so a faulty content is never answered with `Memory`.
 pub fn read(alloc: Global, content: &[u8]) -> Result<Message, ReadFault>
     ensures ok { IfOk result (λ message. Reads content.now message) }
     ensures faulty { (fault : ReadFault) → Faulty content.now fault → result ≡ Err fault }
