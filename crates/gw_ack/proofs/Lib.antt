@@ -2,6 +2,5 @@ pub mod Begun
 pub mod Finding
 pub mod Lawful
 pub mod Says
-pub mod Stamped
 pub mod AnswerRows
 pub mod Tables

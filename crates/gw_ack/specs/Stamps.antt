@@ -1,5 +1,5 @@
 -- The time stamp of an answer: YYYYMMDDHHMMSS (HL7 v2.5.1 chapter 2A, 2.A.22 "DTM").
-use Rattle.std.specs.Prelude.{◌≡◌, ℕ, ◌+◌, ◌/◌, ◌%◌, ◌≤◌, List, [], ◌∷◌, ◌++◌, length, slice_index, EachIndex}
+use Rattle.std.specs.Prelude.{◌≡◌, ℕ, ◌≤◌, List, length, slice_index, EachIndex}
 
 -- 0 to 9
 abbrev pub IsDigit : ℕ → Type 0
@@ -9,11 +9,3 @@ IsDigit b = (48 ≤ b) × (b ≤ 57)
 pub record IsStamp (text : List ℕ) : Type 0 where
   pub fourteen : length text ≡ 14
   pub digits : EachIndex text (λ k. IsDigit (slice_index text k))
-
--- a number below 100 in two digits
-abbrev pub two : ℕ → List ℕ
-two n = (48 + n / 10) ∷ (48 + n % 10) ∷ []
-
--- year, month, day, hour, minute, second
-abbrev pub stamped : ℕ → ℕ → ℕ → ℕ → ℕ → ℕ → List ℕ
-stamped year month day hour minute second = two (year / 100) ++ two (year % 100) ++ two month ++ two day ++ two hour ++ two minute ++ two second

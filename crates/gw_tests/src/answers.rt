@@ -1,5 +1,6 @@
 //! Acknowledgments that are read, and those that routes will need.
 use gw_ack::{Ack, AckFault, Header, Stamp, read_ack, reject_ack};
+use gw_civil::FromCivil;
 use gw_er7::read;
 use jiff::civil::date;
 use std::test::Fail;

@@ -1,5 +1,6 @@
 //! The time stamps of answers.
 use gw_ack::Stamp;
+use gw_civil::FromCivil;
 use jiff::Timestamp;
 use jiff::tz::Offset;
 use std::time::Clock;

@@ -1,0 +1,8 @@
+//! The time stamp of a civil date and time (data type DTM, HL7 v2.5.1 chapter 2A, 2.A.22).
+//!
+//! [`FromCivil`] gives `gw_ack`'s `Stamp` the call `from_civil`, for `jiff`'s dates.
+#![tactic(auto)]
+
+mod stamp;
+
+pub use stamp::FromCivil;
