@@ -1,5 +1,4 @@
 use Rattle.std.proofs.Common.{refl, ◌∙◌}
-use Rattle.std.proofs.lemmas.Result.{IfOk-from_err}
 use Rattle.gw_ack.proofs.Begun.{header_begins, goes_on, some_segment, msa_is_other}
 use Rattle.gw_ack.proofs.AnswerRows.{msh_rows, msa_rows}
 use Rattle.gw_ack.proofs.answer.begun.Goals as goal
@@ -17,18 +16,3 @@ add_segment-requires-2-clause-begun c =
 
 pub add_segment-requires-2-clause-rows : goal.add_segment-requires-2-clause-rows
 add_segment-requires-2-clause-rows c = rw (c.deref-2.ensures.value, c.in_ok-msa.ensures) (msa_rows c.args.code.now c.control-control.result.now c.requires (rw c.control-control.ensures.value c.control-control.ensures.header.control))
-
-pub returns-in_err-add_segment : goal.returns-in_err-add_segment
-returns-in_err-add_segment c = IfOk-from_err _ _ c.from_residual-in_err-add_segment.ensures.0
-
-pub returns-in_err-add_segment-2 : goal.returns-in_err-add_segment-2
-returns-in_err-add_segment-2 c = IfOk-from_err _ _ c.from_residual-in_err-add_segment-2.ensures.0
-
-pub returns-in_err-msa : goal.returns-in_err-msa
-returns-in_err-msa c = IfOk-from_err _ _ c.from_residual-in_err-msa.ensures.0
-
-pub returns-in_err-msh : goal.returns-in_err-msh
-returns-in_err-msh c = IfOk-from_err _ _ c.from_residual-in_err-msh.ensures.0
-
-pub returns-in_err-number : goal.returns-in_err-number
-returns-in_err-number c = IfOk-from_err _ _ c.from_residual.ensures.0

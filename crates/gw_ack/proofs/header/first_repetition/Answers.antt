@@ -1,12 +1,8 @@
 use Rattle.gw_ack.specs.Seen.{leaves}
 use Rattle.std.specs.FinMap as texts
-use Rattle.std.proofs.lemmas.Result.{IfOk-from_err}
 use Rattle.gw_ack.proofs.Tables.{leaves_step}
 use Rattle.gw_ack.proofs.header.first_repetition.Goals as goal
 
 pub loop-i-preserved : goal.loop-i-preserved
 loop-i-preserved c =
     leaves_step c.args.field (texts.entries c.args.segment.now.at) c.loop-i.i _ (leaves c.loop-i.found.items) (leaves c.add_leaf.new.found.items) c.value-value.ensures c.loop-i.invariant c.in_ok-add_leaf.ensures
-
-pub returns-in_err-add_leaf : goal.returns-in_err-add_leaf
-returns-in_err-add_leaf c = IfOk-from_err _ _ c.from_residual.ensures.0
