@@ -1,18 +1,16 @@
 -- What is accounted for, one after the other.
-use Rattle.std.proofs.Common.{◌≡◌, ℕ, Bool, true, false, List, [], ◌∷◌, ◌++◌, refl, sym, ap, ◌∙◌}
+use Rattle.std.proofs.Common.{◌≡◌, ℕ, Bool, true, false, [], ◌∷◌, refl, sym, ap, ◌∙◌}
 use Rattle.std.specs.Prelude.{◌==◌, ◌&&◌, ◌||◌, bytes_eq}
 use Rattle.std.specs.List.{list_any}
 use Rattle.std.specs.Global.{Vec}
 use Rattle.indexmap.specs.IndexSet.{insert_key}
 use Rattle.std.proofs.lemmas.Cmp.{nat_list_eq_equiv, nat_eq_equiv}
-use Rattle.std.proofs.lemmas.List.Folds.{list_any-append}
 use Rattle.gw_profile.proofs.Facts.{both}
 use Rattle.gw_leaves.proofs.Inserted.{or_none, inserted}
 use Rattle.gw_check.specs.declared.accounted.FieldAt.{FieldAt}
 use Rattle.gw_check.specs.declared.accounted.Accounted.{Accounted}
-use Rattle.gw_resolve.specs.Resolved.{Drop}
-use Rattle.gw_check.specs.Reads.{Position, SourceField, is_read}
-use Rattle.gw_check.specs.Collected.{field_at, fields_at, has_field, has_element, drops_field, drops_element, Gains, no_element, Accounts}
+use Rattle.gw_check.specs.Reads.{Position, is_read}
+use Rattle.gw_check.specs.Collected.{field_at, has_field, has_element, Gains, no_element}
 
 pub or_assoc : (a b c : Bool) → (a || b) || c ≡ (a || (b || c))
 or_assoc true b c = refl
@@ -51,25 +49,4 @@ element_added old v new keys rest = record {
       ∙ inserted (λ a b. bytes_eq a.items b.items) (λ x. bytes_eq at x.items) v
       (λ x e. nat_list_eq_equiv.symm at v.items ∙ nat_list_eq_equiv.congr v.items x.items at e ∙ nat_list_eq_equiv.symm x.items at) old.elements.keys
       ∙ ap (λ b. has_element old at || b) (nat_list_eq_equiv.symm at v.items);
-}
-
--- ---- all of them
-
-pub fields_more : (first old new : Accounted) (fs : List FieldAt) (f : FieldAt) → Gains first old (is_read (fields_at fs)) no_element → Gains old new (is_read (field_at f ∷ [])) no_element → Gains first new (is_read (fields_at (fs ++ f ∷ []))) no_element
-fields_more first old new fs f h k = record {
-  fields = λ at n.
-      k.fields at n ∙ ap (λ b. b || is_read (field_at f ∷ []) at n) (h.fields at n)
-      ∙ or_assoc (has_field first at n) (is_read (fields_at fs) at n) (is_read (field_at f ∷ []) at n)
-      ∙ ap (λ b. has_field first at n || b) (sym (ap (λ l. is_read l at n) (fields_push fs f) ∙ list_any-append (λ (r : SourceField). bytes_eq r.at at && r.field == n) (fields_at fs) (field_at f ∷ [])));
-  elements = λ at. k.elements at ∙ ap (λ b. b || false) (h.elements at) ∙ or_none (has_element first at || false);
-}
-  where
-    fields_push : (xs : List FieldAt) (x : FieldAt) → fields_at (xs ++ x ∷ []) ≡ fields_at xs ++ field_at x ∷ []
-    fields_push [] x = refl
-    fields_push (y ∷ xs) x = ap (λ l. field_at y ∷ l) (fields_push xs x)
-
-pub all_accounted : (none mid known : Accounted) (reads : List FieldAt) (drops : List Drop) → none.fields.keys ≡ [] → none.elements.keys ≡ [] → Gains none mid (is_read (fields_at reads)) no_element → Gains mid known (drops_field drops) (drops_element drops) → Accounts known (fields_at reads) drops
-all_accounted none mid known reads drops e f h k = record {
-  fields = λ at n. k.fields at n ∙ ap (λ b. b || drops_field drops at n) (h.fields at n ∙ ap (λ l. list_any (λ x. bytes_eq at x.at.items && n == x.field) l || is_read (fields_at reads) at n) e);
-  elements = λ at. k.elements at ∙ ap (λ b. b || drops_element drops at) (h.elements at ∙ ap (λ l. list_any (λ x. bytes_eq at x.items) l || false) f);
 }

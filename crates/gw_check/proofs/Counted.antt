@@ -1,10 +1,9 @@
 -- How often the items of a level come, and for which node.
 use Rattle.std.proofs.lemmas.List.{take_more, drop_all}
-use Rattle.std.proofs.Common.{◌≡◌, inl, inr, ◌==◌, ℕ, ◌+◌, ◌++◌, take, true, false, List, [], ◌∷◌, Option, Some, refl, sym, ap, ◌∙◌, drop, length, ◌<◌, ◌≤◌, suc, ◌-◌, get_or, subst, arith, drop-cons}
+use Rattle.std.proofs.Common.{◌≡◌, inl, inr, ◌==◌, ℕ, ◌+◌, ◌++◌, take, true, false, List, [], ◌∷◌, Option, refl, sym, ap, ◌∙◌, drop, length, ◌<◌, ◌≤◌, suc, ◌-◌, get_or, subst, arith, drop-cons}
 use Rattle.gw_maplang.specs.Shapes.{TableValue}
-use Rattle.gw_resolve.specs.declared.resolved.GroupItem.{GroupItem}
 use Rattle.gw_resolve.specs.declared.resolved.FlatItem.{FlatItem}
-use Rattle.gw_resolve.specs.declared.resolved.Item.{Item, Segment, Group, Flat, Group', Flat'}
+use Rattle.gw_resolve.specs.declared.resolved.Item.{Item, Segment, Flat, Group', Flat'}
 use Rattle.gw_resolve.specs.declared.interval.Interval as declared
 use Rattle.gw_resolve.specs.Intervals.{sum, product}
 use Rattle.gw_resolve.specs.Places.{Element, count_at, within}
@@ -15,7 +14,7 @@ use Rattle.gw_check.specs.own.ItemByItem.{first_count, CountsOne, CountsAll, Fir
 use Rattle.gw_check.specs.Levels.{is_of, its, beyond, has_no_item}
 use Rattle.std.proofs.lemmas.Bool.Decides.{eqb_tells}
 use Rattle.gw_resolve.proofs.Saturation.{sum_saturated, product_saturated}
-use Rattle.gw_resolve.proofs.Rows.{group_items, flat_items}
+use Rattle.gw_resolve.proofs.Rows.{flat_items}
 
 -- one item more
 pub count_more : (scope : List Element) (i : Item) (is : List Item) (one more total : declared.Interval) → CountsOne scope i one → CountsAll scope is more → interval total ≡ saturated (sum (interval one) (interval more)) → CountsAll scope (i ∷ is) total
@@ -28,10 +27,6 @@ count_more scope i is one more total a b e tables =
     go (Segment s) = refl
     go (Group' line child from shape row) = refl
     go (Flat' line from shape row) = refl
-
--- a group, and a flat
-pub count_group : (scope : List Element) (i : Item) (g : GroupItem) (c : declared.Interval) → i ≡ Group g → interval c ≡ saturated (count_at scope (place g.place)) → CountsOne scope i c
-count_group scope i g c is e tables = e ∙ sym (ap (λ x. saturated (first_count scope x)) (ap (λ j. with_item tables j no_items) is ∙ group_items tables g no_items))
 
 pub count_flat : (scope inner : List Element) (i : Item) (f : FlatItem) (at each c : declared.Interval) → i ≡ Flat f → interval at ≡ saturated (count_at scope (place f.place)) → inner ≡ within scope (place f.place) → CountsAll inner f.items.items each → interval c ≡ saturated (product (interval at) (interval each)) → CountsOne scope i c
 count_flat scope inner i f at each c is often there more e tables =
@@ -46,9 +41,6 @@ pub child_flat : (i : Item) (f : FlatItem) (is : List Item) (c : Option ℕ) →
 child_flat i f is c same items first tables =
     first tables ∙ ap (λ l. first_child (all_items tables l)) items
     ∙ sym (ap first_child (ap (λ j. with_item tables j no_items) same ∙ flat_items tables f no_items))
-
-pub child_group : (i : Item) (g : GroupItem) → i ≡ Group g → ChildOf i (Some g.child)
-child_group i g same tables = sym (ap first_child (ap (λ j. with_item tables j no_items) same ∙ group_items tables g no_items))
 
 pub child_first : (i : Item) (is : List Item) (c : Option ℕ) → ChildOf i c → FirstChild (i ∷ is) c
 child_first i is c h tables = h tables ∙ go i

@@ -172,18 +172,11 @@ reading_long (Some bytes) (Some rest) blocks h was empty long =
 
 -- ---- waits
 
-pub out_so : (r n : ℕ) (t : TranslatedSeen) (old mid new : List NoteSeen) (at : ℕ) → Adds (Waits r) old mid → new ≡ mid ++ Added at (WasOut n r t) ∷ []
-    → ComesOut r n t old new
-out_so r n t old mid new at was is = record { mid = mid; waits = was; at = at; noted = is }
-
 pub full_so : (r : ℕ) (old mid new : List NoteSeen) → Adds (Waits r) old mid → new ≡ mid ++ WasFull ∷ [] → ComesNone r old new
 full_so r old mid new was is = record { mid = mid; waits = was; last = WasFull; ends = full; noted = is }
 
 pub none_so : (r : ℕ) (old mid asked new : List NoteSeen) → Adds (Waits r) old mid → asked ≡ mid ++ WasNothing r ∷ [] → new ≡ asked → ComesNone r old new
 none_so r old mid asked new was is same = record { mid = mid; waits = was; last = WasNothing r; ends = none_left; noted = same ∙ is }
-
-pub longer_by : (old mid : List NoteSeen) (note : NoteSeen) (new : List NoteSeen) → mid ≡ old ++ note ∷ [] → new ≡ mid → length old < length new
-longer_by old mid note new is same = let both = ap length is ∙ length-append old (note ∷ []) in let kept = ap length same in omega (arith, both, kept)
 
 -- ---- rounds
 
@@ -360,9 +353,6 @@ next_so unread left left' h h1 h2 h3 piece content run takes feeds gives =
     λ s blocks was. reading_gives s left' blocks h2 h3 content (reading_more s left left' blocks h1 h2 piece (run s blocks was) takes feeds) gives
 
 -- ---- how often the source was read
-
-pub reads_none : (before : ℕ) → ReadTimes 0 before before
-reads_none before small = omega arith
 
 pub reads_once : (times before between after : ℕ) → ReadTimes times before between → ReadTimes 1 between after → ReadTimes (times + 1) before after
 reads_once times before between after many one small = let there = many (omega arith) in let more = one (omega arith) in omega arith

@@ -7,7 +7,7 @@ use Rattle.std.proofs.lemmas.Bool.{false≢true}
 use Rattle.gw_gate.specs.Parts.{PlanSeen}
 use Rattle.gw_gate.specs.Journal.{EntrySeen, Journal, end, opening}
 use Rattle.gw_gate.specs.Replies.{EventSeen, Looks, Arrives, Refuses, Swaps, Takes, Puts, Reissues, Releases, added, with_added, reply}
-use Rattle.gw_gate.specs.Replies.{Refused, Noted}
+use Rattle.gw_gate.specs.Replies.{Noted}
 use Rattle.gw_gate.specs.Replies.{ReplySeen, IsCurrent, IsAccepted, IsStale, IsRefused, IsSwapped, IsUnlike, IsJob, IsIdle, IsKept, IsRepeat, IsStranger}
 use Rattle.gw_gate.specs.Replies.{IsIssued, IsDone, IsOut, IsNothing, IsFull}
 use Rattle.gw_gate.specs.Lawful.{IsLawful}
@@ -121,10 +121,6 @@ stayed j j' event back given lawful copied is step =
       back_is = is ∙ event_is event given row copied;
       after_is = step.replied.new_is ∙ ap (with_added j) (sym step.note_is);
     }
-
--- the step was refused for want of memory
-pub refused_stays : (j j' : Journal) (event back : EventSeen) → Refused j event back j' → Stayed j event back j'
-refused_stays j j' event back was = record { back_is = was.back_is; after_is = was.new_is }
 
 pub at_is : (items : List Entry) (h : List EntrySeen) → entries_seen items ≡ h → length items ≡ length h
 at_is items h is = sym (as_long items) ∙ ap length is

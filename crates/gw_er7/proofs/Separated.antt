@@ -10,7 +10,7 @@ use Rattle.std.proofs.lemmas.Grind.{common_steps}
 use Rattle.std.proofs.lemmas.List.Splits.{slice_split_none, slice_split_at}
 use Rattle.gw_er7.specs.declared.delimiters.Delimiters.{Delimiters}
 use Rattle.gw_er7.specs.Text.{canon}
-use Rattle.gw_er7.specs.Entries.{Entry, under, numbered, level, value, fields}
+use Rattle.gw_er7.specs.Entries.{Entry, under, numbered, level, value}
 use Rattle.gw_er7.specs.own.Separators.{separators, is_separator, next_numbers, value_at, IsClear, IsLastValue, IsNextValue}
 
 -- the entries of bytes that are cut at these separators, the highest first
@@ -125,9 +125,6 @@ next_value d (t ∷ ts) (n ∷ ns) bytes s behind len clear is =
         alone k x lt = let z : k ≡ 0 = omega arith in subst (λ j. (get_or (s ∷ []) j x == t) ≡ false) (sym z) e
 
 -- ---- a segment's fields
-
-pub all_fields : (d : Delimiters) (first : ℕ) (bytes : List ℕ) → rest d (separators d) (first ∷ 1 ∷ 1 ∷ 1 ∷ []) bytes ≡ fields d first bytes
-all_fields d first bytes = numbered_from d d.field first (d.repetition ∷ d.component ∷ d.subcomponent ∷ []) bytes
 
 pub value_last : (d : Delimiters) (f r c s : ℕ) (bytes raw : List ℕ) (out new target : List Entry) → IsLastValue (separators d) bytes raw → out ++ rest d (separators d) (f ∷ r ∷ c ∷ s ∷ []) bytes ≡ target
     → new ≡ out ++ value_at d (f ∷ r ∷ c ∷ s ∷ []) raw → new ≡ target

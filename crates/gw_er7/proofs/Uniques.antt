@@ -34,10 +34,6 @@ Fine [] = ⊥
 Fine (p ∷ []) = Unit {0}
 Fine (p ∷ q ∷ ps) = LastFull (q ∷ ps)
 
-record AreGood (r : ℕ) (ps : List (List ℕ)) : Type 0 where
-  each : AllByRecursion (Good r) ps
-  fine : Fine ps
-
 weaker : (r q : ℕ) (x : List ℕ) → q ≤ r → Good r x → Good q x
 weaker r q [] le h = tt
 weaker r q (b ∷ []) le h = λ some. (let more : r ≤ rank b = h some in omega arith)

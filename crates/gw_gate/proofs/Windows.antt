@@ -1,11 +1,10 @@
 -- Desks seen without where their values lie.
-use Rattle.std.proofs.Common.{◌≡◌, ◌≢◌, ◌==◌, ℕ, zero, suc, ◌+◌, ◌-◌, ◌<◌, ◌≤◌, nat_lt, true, false, if◌then◌else◌, Bool, List, [], ◌∷◌, ◌++◌, length, map, drop, get_or, slice_get, slice_set, Option, None, Some, option_map, ◌⊎◌, inl, inr, refl, sym, ap, ◌∙◌, arith}
+use Rattle.std.proofs.Common.{◌≡◌, ◌==◌, ℕ, zero, suc, ◌+◌, ◌-◌, ◌<◌, ◌≤◌, nat_lt, true, false, if◌then◌else◌, Bool, List, [], ◌∷◌, ◌++◌, length, map, drop, get_or, slice_get, slice_set, Option, None, Some, option_map, ◌⊎◌, inl, inr, refl, sym, ap, ◌∙◌, arith}
 use Rattle.std.proofs.lemmas.Grind.{common_steps}
-use Rattle.std.proofs.lemmas.List.{map-append}
 use Rattle.std.proofs.lemmas.Option.{slice_get-map, gets}
 use Rattle.std.specs.declared.alloc.Global.{Global}
 use Rattle.std.specs.declared.sync.Arc.{Arc}
-use Rattle.gw_reorder.specs.State.{DeskState, SameButRoom, nothing_due, with_due}
+use Rattle.gw_reorder.specs.State.{DeskState, SameButRoom, nothing_due}
 use Rattle.gw_reorder.specs.Calls.{place_of, status_of, status_at, slot_status, after_holding, after_bringing, next_of, after_giving, kept_pair, kept_with}
 use Rattle.gw_reorder.specs.declared.desk.Status.{Status}
 use Rattle.gw_reorder.specs.declared.desk.Status.TheVariants.{Waiting, Repeat, Stranger}
@@ -53,9 +52,6 @@ map_drop : {A B : Type 0} (f : A → B) (xs : List A) → map f (drop 1 xs) ≡ 
 map_drop f [] = refl
 map_drop f (y ∷ xs) = refl
 
-pub due_seen : (s : Held) (n : ℕ) → desk_seen (with_due s n) ≡ with_due (desk_seen s) n
-due_seen s n = ap (λ l. record { due = s.due ++ n ∷ []; released = s.released; kept = l; room = s.room - 1 }) (map-append slot_seen s.kept (None ∷ []))
-
 kept_seen : (s : Held) (o : Option ℕ) (x : Arc Translated Global) → map slot_seen (kept_with s o x) ≡ kept_with (desk_seen s) o (value_seen x)
 kept_seen s None x = refl
 kept_seen s (Some place) x = map_set slot_seen s.kept (place - s.released) (Some x)
@@ -72,22 +68,13 @@ giving_seen : (s : Held) (o : Option (ℕ × Arc Translated Global)) → desk_se
 giving_seen s None = refl
 giving_seen s (Some given) = ap (λ l. record (desk_seen s) { released = s.released + 1; kept = l }) (map_drop slot_seen s.kept)
 
-pub give_seen : (s : Held) → desk_seen (after_giving s (next_of s)) ≡ after_giving (desk_seen s) (next_of (desk_seen s))
-give_seen s = giving_seen s (next_of s) ∙ ap (after_giving (desk_seen s)) (sym (next_seen s))
-
 -- ---- among the others
-
-pub at_seen : (ds : List Held) (r : ℕ) (s : Held) → slice_get ds r ≡ Some s → desk_at ds r ≡ desk_seen s
-at_seen ds r s is = let e : get_or ds r nothing_due ≡ s = grind (arith, common_steps, gets) in ap desk_seen e
 
 pub at_none : (ds : List Held) (r : ℕ) → length ds ≤ r → desk_at ds r ≡ nothing_due
 at_none ds r past = let e : get_or ds r nothing_due ≡ nothing_due = grind (arith, common_steps, gets) in ap desk_seen e
 
 pub set_at : (ds : List Held) (r : ℕ) (s : Held) → r < length ds → desk_at (slice_set ds r s) r ≡ desk_seen s
 set_at ds r s within = let e : get_or (slice_set ds r s) r nothing_due ≡ s = grind (arith, common_steps, gets) in ap desk_seen e
-
-pub set_other : (ds : List Held) (r q : ℕ) (s : Held) → q ≢ r → desk_at (slice_set ds r s) q ≡ desk_at ds q
-set_other ds r q s ne = let e : get_or (slice_set ds r s) q nothing_due ≡ get_or ds q nothing_due = grind (arith, common_steps, gets) in ap desk_seen e
 
 pub pushed : (ds : List Held) (q : ℕ) → desk_at (ds ++ nothing_due ∷ []) q ≡ desk_at ds q
 pushed [] zero = refl

@@ -3,14 +3,13 @@ use Rattle.std.proofs.Common.{get_or, ◌≡◌, inl, inr, ℕ, zero, suc, ◌+�
 use Rattle.std.specs.Prelude.{flat_map}
 use Rattle.std.proofs.lemmas.List.{length-map, length-reverse, get_or-reverse, get_or-map, take_all, take-append-drop}
 use Rattle.std.proofs.lemmas.Option.{slice_get_past, slice_get_cases}
-use Rattle.gw_er7.specs.Message.{SegmentValue}
 use Rattle.gw_validate.specs.Trees.{Tree, leaf, segments, groups, Trees, no_trees, trees, count_of}
 use Rattle.gw_validate.specs.Fitting.{OccValue, IsLent, IsAlone}
 use Rattle.gw_validate.specs.Viewing as viewing
 use Rattle.gw_validate.specs.Viewing.{number, row, tree_at, width, count_at, occurrence_at, occurrence_of}
 use Rattle.gw_resolve.specs.Places.{Place}
 use Rattle.gw_interp.specs.Occurrences.{Occurrence, a_segment, nodes, list_of, level_at, children, below, in_scope, at_place}
-use Rattle.gw_interp.specs.own.Lent.{numbered, occurrence, scope, AreOf, IsFirstOf}
+use Rattle.gw_interp.specs.own.Lent.{numbered, occurrence, scope, IsFirstOf}
 
 -- ---- the children of a node
 
@@ -97,11 +96,6 @@ level_children o i lent h = by o.number lent.alone
     by : (n : Option ℕ) → IsAlone n o.tree → children (numbered n o.tree) i ≡ level_at o.tree i
     by None e = refl
     by (Some n) e = absurd (omega (arith, h, ap width e))
-
-pub walked_of : (m : List SegmentValue) (os : List OccValue) (i : ℕ) (o : OccValue) → i < length os → o ≡ get_or os i o → AreOf m os → o.message ≡ m
-walked_of m [] i o h is a = absurd (omega (arith, h))
-walked_of m (x ∷ os) zero o h is a = ap (λ (p : OccValue). p.message) is ∙ a.0
-walked_of m (x ∷ os) (suc i) o h is a = walked_of m os i o (omega (arith, h)) is a.1
 
 pub flat_two : {A B : Type 0} (f : A → List B) (xs ys : List A) → flat_map f (xs ++ ys) ≡ flat_map f xs ++ flat_map f ys
 flat_two f [] ys = refl

@@ -37,7 +37,6 @@ mod Copies
 mod Placed
 mod Ruled
 mod RuleByRule
-mod Inner
 mod Giving
 mod Levels
 mod Weights

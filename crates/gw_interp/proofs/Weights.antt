@@ -47,9 +47,6 @@ lighter_flat i f is same items =
     let g : weight_all is ≡ weight_all f.items.items = ap weight_all items in
     omega (arith, e, g)
 
-pub lighter_segment : (i : Item) (s : SegmentItem) → i ≡ Segment s → weight_one i ≡ weight_segments s
-lighter_segment i s same = let e : weight_one i ≡ 2 + steps_of (option_map place s.place) + 0 = ap weight (ap (λ j. with_item [] j no_items) same) in omega (arith, e)
-
 weight_more : (i : Item) (rest : Items) → weight (with_item [] i rest) ≡ weight_one i + weight rest
 weight_more (Segment s) rest = omega arith
 weight_more (Group' line j from shape row) rest = omega arith

@@ -6,6 +6,5 @@ pub mod Kept
 pub mod AtLengths
 pub mod Shortest
 pub mod AtPlaces
-pub mod Capped
 pub mod Presences
 pub mod Fitting

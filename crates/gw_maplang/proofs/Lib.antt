@@ -4,7 +4,6 @@ pub mod Paths
 pub mod Among
 pub mod Shaped
 pub mod Kept
-pub mod Lists
 pub mod Formed
 pub mod Same
 pub mod Keywords

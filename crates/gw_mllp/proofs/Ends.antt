@@ -1,5 +1,5 @@
 -- Where FS CR stands in a list, and where it does not.
-use Rattle.std.proofs.Common.{◌≡◌, ◌≢◌, ℕ, ◌+◌, ◌-◌, ◌<◌, take, List, [], ◌∷◌, ◌++◌, length, refl, sym, ap, subst, ◌∙◌, append_assoc, arith, inl, inr, ◌⊎◌}
+use Rattle.std.proofs.Common.{◌≡◌, ℕ, ◌+◌, ◌-◌, ◌<◌, take, List, [], ◌∷◌, ◌++◌, length, refl, sym, ap, ◌∙◌, append_assoc, arith, inl, inr, ◌⊎◌}
 use Rattle.std.proofs.lemmas.List.{length-append, get_or_push, take_all, take_more}
 use Rattle.std.specs.Prelude.{slice_index}
 use Rattle.gw_mllp.specs.Stream.{Lacks, HasNoEnd, content_len}
@@ -23,9 +23,6 @@ HasNoEnd-nil (x ∷ before) after e = absurd cc
 
 pub HasNoEnd-front : (a b : List ℕ) → HasNoEnd (a ++ b) → HasNoEnd a
 HasNoEnd-front a b h before after e = h before (after ++ b) (ap (λ (s : List ℕ). s ++ b) e ∙ append_assoc before (28 ∷ 13 ∷ after) b)
-
-pub HasNoEnd-tail : (x : ℕ) (a : List ℕ) → HasNoEnd (x ∷ a) → HasNoEnd a
-HasNoEnd-tail x a h before after e = h (x ∷ before) after (ap (λ (s : List ℕ). x ∷ s) e)
 
 -- a byte that stands nowhere
 pub Lacks-at : (k : ℕ) (u before after : List ℕ) → Lacks k u → u ≡ before ++ k ∷ after → ⊥
@@ -62,27 +59,6 @@ pub last-push : (a : List ℕ) (x : ℕ) → slice_index (a ++ x ∷ []) (length
 last-push a x =
     let n : length (a ++ x ∷ []) - 1 ≡ length a = omega (arith, length-append a (x ∷ [])) in
     rw n (get_or_push a x 0 (length a) refl)
-
--- CR where the last byte is not FS
-pub HasNoEnd-return : (t : List ℕ) → HasNoEnd t → slice_index t (length t - 1) ≢ 28 → HasNoEnd (t ++ 13 ∷ [])
-HasNoEnd-return t ht last before after e =
-    elim (overlap t (13 ∷ []) before (28 ∷ 13 ∷ after) e) as (λ _. ⊥) [
-      | inl p ↦ return-late t before after ht last p.0 p.1 p.2
-      | inr p ↦ return-early after p.0 p.2
-    ]
-  where
-    return-early : (after w : List ℕ) → 13 ∷ [] ≡ w ++ 28 ∷ 13 ∷ after → ⊥
-    return-early after w e = absurd (omega (arith, ap length e, length-append w (28 ∷ 13 ∷ after)))
-
-    return-late : (t before after : List ℕ) → HasNoEnd t → slice_index t (length t - 1) ≢ 28 → (w : List ℕ) → t ≡ before ++ w → 28 ∷ 13 ∷ after ≡ w ++ 13 ∷ [] → ⊥
-    return-late t before after ht last [] e f = absurd cc
-    return-late t before after ht last (x ∷ []) e f =
-        let x-is : x ≡ 28 = cc in
-        last (subst (λ (s : List ℕ). slice_index s (length s - 1) ≡ 28) (sym (e ∙ ap (λ (b : ℕ). before ++ b ∷ []) x-is)) (last-push before 28))
-    return-late t before after ht last (x ∷ y ∷ w) e f =
-        let x-is : x ≡ 28 = cc in
-        let y-is : y ≡ 13 = cc in
-        ht before w (e ∙ ap (λ (b : ℕ). before ++ b ∷ y ∷ w) x-is ∙ ap (λ (b : ℕ). before ++ 28 ∷ b ∷ w) y-is)
 
 pub content_len-push : (c : List ℕ) → content_len (c ++ 28 ∷ []) ≡ length c
 content_len-push c = rw (last-push c 28) (omega (arith, length-append c (28 ∷ [])))

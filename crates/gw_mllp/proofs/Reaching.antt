@@ -4,8 +4,8 @@ use Rattle.std.proofs.lemmas.List.{append-nil, length-append, length-drop, lengt
 use Rattle.std.proofs.Math.Seq.{take-append-add}
 use Rattle.std.specs.Prelude.{slice_index}
 use Rattle.memchr.specs.Find.{FindsNeedle}
-use Rattle.gw_mllp.specs.Stream.{Lacks, IsGap, HasNoEnd, content_len}
-use Rattle.gw_mllp.specs.Taken.{Begins, Straddles, EndsAt, Overruns, StaysOpen, IsLone}
+use Rattle.gw_mllp.specs.Stream.{Lacks, HasNoEnd, content_len}
+use Rattle.gw_mllp.specs.Taken.{Straddles, EndsAt, Overruns, StaysOpen, IsLone}
 use Rattle.gw_mllp.proofs.Ends.{overlap, HasNoEnd-front, HasNoEnd-more, last-push, content_len-push, popped}
 use Rattle.gw_mllp.proofs.Fronts.{content_len-le}
 use Rattle.gw_mllp.proofs.Occurs.{cut_at, no_end_from_find, no_end_before}
@@ -108,11 +108,6 @@ overruns_by_end content bytes run after whole ends long =
         at_seam : (content run kept : List ℕ) → 0 < length run → (w : List ℕ) → content ≡ (kept ++ 28 ∷ []) ++ w → 13 ∷ [] ≡ w ++ run → (front : List ℕ) × (run ≡ front ++ 13 ∷ []) × (content ++ front ≡ kept ++ 28 ∷ [])
         at_seam content run kept some [] e f = ([], sym f, append-nil content ∙ e ∙ append-nil (kept ++ 28 ∷ []))
         at_seam content run kept some (x ∷ w) e f = absurd (omega (arith, some, ap length f, length-append w run))
-
--- what stands behind the VT
-pub begins_at : (bytes gap back : List ℕ) → bytes ≡ gap ++ back → IsGap gap → 0 < length back → ((b : ℕ) (bs : List ℕ) → back ≡ b ∷ bs → b ≡ 11) → Begins bytes (drop 1 back)
-begins_at bytes gap [] whole lacks some first = absurd (omega arith)
-begins_at bytes gap (b ∷ back) whole lacks some first = (gap, lacks, whole ∙ ap (λ (x : ℕ). gap ++ x ∷ back) (first b back refl))
 
 -- the run without its FS and CR, where it has both
 pub ended : (content run kept : List ℕ) → content ++ run ≡ kept ++ 28 ∷ 13 ∷ [] → 2 ≤ length run → (content ++ take (length run - 2) run) ++ 28 ∷ 13 ∷ [] ≡ content ++ run

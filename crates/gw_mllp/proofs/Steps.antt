@@ -141,15 +141,6 @@ through made made' tail bytes inner run after begins e g between = record {
   shorter = λ some. omega (arith, length-append (begins.0 ++ 11 ∷ []) run, length-append begins.0 (11 ∷ []));
 }
 
-pub gap_alone : (made : List (List ℕ)) (bytes : List ℕ) → IsGap bytes → Steps made Between bytes made Between []
-gap_alone made bytes lacks = record {
-  run = bytes;
-  whole = sym (append-nil bytes);
-  goes = goes_gap made bytes lacks;
-  between = λ some. refl;
-  shorter = λ some. absurd (omega arith);
-}
-
 pub begun_open : (made : List (List ℕ)) (bytes inner content : List ℕ) → Begins bytes inner → StaysOpen [] inner → content ≡ inner → Steps made Between bytes made (Within content) []
 begun_open made bytes inner content begins stays e =
     rw e (through made made (Within inner) bytes inner inner [] begins (sym (append-nil inner)) (goes_open made [] inner stays) (λ some. absurd (omega arith)))
@@ -171,9 +162,6 @@ pub record Walks (made : List (List ℕ)) (piece : List ℕ) (made' : List (List
   pub whole : piece ≡ run ++ after
   pub goes : Goes made Between run made' Between
 
-pub walk_none : (made : List (List ℕ)) (piece : List ℕ) → Walks made piece made piece
-walk_none made piece = record { run = []; whole = refl; goes = goes_nowhere made Between }
-
 pub walk_more : (made made₁ made₂ : List (List ℕ)) (tail : Tail) (piece mid after : List ℕ) → Walks made piece made₁ mid → Steps made₁ Between mid made₂ tail after → 0 < length after → Walks made piece made₂ after
 walk_more made made₁ made₂ tail piece mid after w s some = record {
   run = w.run ++ s.run;
@@ -186,18 +174,10 @@ walk_last made made₁ made₂ tail piece mid after w s e =
     let whole : piece ≡ w.run ++ s.run = w.whole ∙ ap (λ (x : List ℕ). w.run ++ x) (s.whole ∙ ap (λ (x : List ℕ). s.run ++ x) e ∙ append-nil s.run) in
     subst (λ (x : List ℕ). Goes made Between x made₂ tail) (sym whole) (goes_on made made₁ made₂ Between Between tail w.run s.run w.goes s.goes)
 
-pub walk_all : (made made' : List (List ℕ)) (piece after : List ℕ) → Walks made piece made' after → after ≡ [] → Goes made Between piece made' Between
-walk_all made made' piece after w e =
-    let whole : piece ≡ w.run = w.whole ∙ ap (λ (x : List ℕ). w.run ++ x) e ∙ append-nil w.run in
-    subst (λ (x : List ℕ). Goes made Between x made' Between) (sym whole) w.goes
-
 pub shorter : (made made' : List (List ℕ)) (tail tail' : Tail) (bytes after : List ℕ) → Steps made tail bytes made' tail' after → 0 < length after → length after < length bytes
 shorter made made' tail tail' bytes after s some = omega (arith, ap length s.whole, length-append s.run after, s.shorter some)
 
 -- ---- what a decoder adds
-
-pub adds_blocks : (waiting waiting' made : List (List ℕ)) (tail : Tail) (piece : List ℕ) → Goes [] Between piece made tail → waiting' ≡ waiting ++ made → Adds waiting Between piece waiting' tail
-adds_blocks waiting waiting' made tail piece g e = record { made = made; waits = e; goes = g }
 
 pub adds_none : (waiting : List (List ℕ)) (tail tail' : Tail) (piece : List ℕ) → Goes [] tail piece [] tail' → Adds waiting tail piece waiting tail'
 adds_none waiting tail tail' piece g = record { made = []; waits = sym (append-nil waiting); goes = g }

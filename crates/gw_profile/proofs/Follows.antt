@@ -149,10 +149,6 @@ snoc_same (x ∷ xs) (y ∷ ys) a b e =
 pub taken_back : {A : Type 0} (old kept sets : List A) (x held : A) → old ≡ kept ++ x ∷ [] → old ≡ sets ++ held ∷ [] → (x ≡ held) × (kept ≡ sets)
 taken_back old kept sets x held a b = let h = snoc_same kept sets x held (sym a ∙ b) in (h.1, h.0)
 
-pub none_taken : {A : Type 0} (sets : List A) (held : A) → [] ≡ sets ++ held ∷ [] → ⊥
-none_taken [] held e = cc
-none_taken (x ∷ sets) held e = cc
-
 -- what can come behind the children of a group, with the sets of the levels around it
 pub behind_more : {S : Type 0} (x : List ℕ) (start : ℕ) (sets : List (IndexSet (List ℕ) S)) (near : IndexSet (List ℕ) S) (again : List (List ℕ)) → start ≤ length sets
     → is_among x (again ++ joined (drop start (sets ++ near ∷ []))) ≡ is_among x (near.keys ++ joined (drop start sets)) || is_among x again

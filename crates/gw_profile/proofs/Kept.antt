@@ -98,9 +98,6 @@ repeats_step done v rest new =
     ∙ sym (shuffle_behind (list_any (λ w. is_among w done) rest) (is_among v rest) (has_repeat rest))
     ∙ ap (λ b. b || has_repeat rest) (sym (any_push done v rest))
 
-pub repeats_hit : (done : List (List ℕ)) (v : List ℕ) (rest : List (List ℕ)) → is_among v done ≡ true → repeats_behind done (v ∷ rest) ≡ true
-repeats_hit done v rest hit = ap (λ b. (b || list_any (λ w. is_among w done) rest) || (is_among v rest || has_repeat rest)) hit
-
 pub repeats_none : (rest : List (List ℕ)) → has_repeat rest ≡ repeats_behind [] rest
 repeats_none rest = ap (λ b. b || has_repeat rest) (sym (no_one rest))
   where

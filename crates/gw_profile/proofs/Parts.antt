@@ -44,10 +44,6 @@ next_names names above End below e = e
 
 -- ---- usage
 
-at_most_none : (most : Option ℕ) → AtMost most 1 → AtMost most 0
-at_most_none None h = tt
-at_most_none (Some m) h = omega arith
-
 not_allowed : (most : Option ℕ) → (AtMost most 1 → ⊥) → most ≡ Some 0
 not_allowed None h = absurd (h tt)
 not_allowed (Some m) h = zero_most m (λ k. h (omega (arith, k)))

@@ -43,11 +43,6 @@ segment_of nothing other = other
 segment_of (segment s rest) other = s
 segment_of (group g nodes rest) other = other
 
-rest_of : Forest → Forest
-rest_of nothing = nothing
-rest_of (segment s rest) = rest
-rest_of (group g nodes rest) = rest
-
 pub segments_same : (x y : SegNode) (node : Node) (r : Bool) → node ≡ Seg y → IsTrue r ↔ (segment_value x ≡ segment_value y) → IsTrue r ↔ SameNode (Seg x) node
 segments_same x y node r is h = subst (λ (n : Node). IsTrue r ↔ SameNode (Seg x) n) (sym is)
     (λ t. λ rest. ap (λ (s : SegmentValue). segment s rest) (h.0 t), λ e. h.1 (let k = e nothing in cc))
@@ -135,9 +130,6 @@ tables_same name other r xs ys n h =
 
 no_table : TableValue
 no_table = record { name = []; values = [] }
-
-pub table_differs : (xs ys : List TableValue) (i : ℕ) (r : Bool) → i < length xs → i < length ys → r ≡ false → IsTrue r ↔ (slice_get xs i ≡ slice_get ys i) → (xs ≡ ys) ↔ (drop i xs ≡ drop i ys) → IsTrue false ↔ (xs ≡ ys)
-table_differs xs ys i r m n off f rest = (λ t. absurd (cc), λ e. sym off ∙ f.1 (ap (λ (l : List TableValue). slice_get l i) e))
 
 pub table_more : (xs ys : List TableValue) (i : ℕ) → i < length xs → i < length ys → slice_get xs i ≡ slice_get ys i → (xs ≡ ys) ↔ (drop i xs ≡ drop i ys) → (xs ≡ ys) ↔ (drop (i + 1) xs ≡ drop (i + 1) ys)
 table_more xs ys i m n same rest =

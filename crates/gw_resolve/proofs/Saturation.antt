@@ -1,9 +1,9 @@
 -- Counts that end at the cap.
 use Rattle.std.proofs.Common.{◌≡◌, inl, inr, ℕ, zero, suc, ◌+◌, ◌*◌, ◌≤◌, ◌<◌, Option, Some, None, refl, sym, ap, ◌∙◌, arith, ap₂}
-use Rattle.std.specs.Prelude.{min, option_map, IfSome, nat_lt}
+use Rattle.std.specs.Prelude.{min, option_map}
 use Rattle.std.proofs.lemmas.Bool.Decides.{leb_tells, eqb_tells}
 use Rattle.std.proofs.Math.Nat.{mul_comm, mul-le-mul_right}
-use Rattle.gw_resolve.specs.Intervals.{Interval, add, multiply, sum, product, is_within, is_never}
+use Rattle.gw_resolve.specs.Intervals.{Interval, add, multiply, sum, product, is_never}
 use Rattle.gw_resolve.specs.Seen.{cap, saturated}
 
 -- from the cap on all are one
@@ -78,37 +78,6 @@ sum_saturated a b =
     go (Some x) (Some y) = ap Some (omega arith)
 
 -- ---- comparisons with a profile's numbers
-
-pub within_saturated : (i : Interval) (most : Option ℕ) → IfSome most (λ n. n ≤ 9999) → is_within (saturated i).greatest most ≡ is_within i.greatest most
-within_saturated i None low = refl
-within_saturated i (Some limit) low = go i.greatest
-  where
-    go : (g : Option ℕ) → is_within (option_map (λ n. min n cap) g) (Some limit) ≡ is_within g (Some limit)
-    go None = refl
-    go (Some n) =
-        elim (leb_tells n limit) [
-          | inl h ↦ elim (leb_tells (min n cap) limit) [
-            | inl k ↦ k.0 ∙ sym h.0
-            | inr k ↦ absurd (omega (arith, h.1, k.1))
-          ]
-          | inr h ↦ elim (leb_tells (min n cap) limit) [
-            | inl k ↦ absurd (omega (arith, h.1, k.1, low))
-            | inr k ↦ k.0 ∙ sym h.0
-          ]
-        ]
-
-pub below_saturated : (i : Interval) (n : ℕ) → n ≤ 9999 → nat_lt (saturated i).least n ≡ nat_lt i.least n
-below_saturated i n low =
-    elim (leb_tells (suc i.least) n) [
-      | inl h ↦ elim (leb_tells (suc (min i.least cap)) n) [
-        | inl k ↦ k.0 ∙ sym h.0
-        | inr k ↦ absurd (omega (arith, h.1, k.1))
-      ]
-      | inr h ↦ elim (leb_tells (suc (min i.least cap)) n) [
-        | inl k ↦ absurd (omega (arith, h.1, k.1, low))
-        | inr k ↦ k.0 ∙ sym h.0
-      ]
-    ]
 
 pub never_saturated : (i : Interval) → is_never (saturated i).greatest ≡ is_never i.greatest
 never_saturated i = go i.greatest

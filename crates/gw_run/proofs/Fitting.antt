@@ -50,9 +50,6 @@ module _ (j : Journal) (swaps : List ℕ) (seen : List PlanSeen) (tells : PlansA
 
 -- ---- a full journal
 
-full_at : (j : Journal) (k : ℕ) → j.start.entries ≡ 0 → length (until j k).entries ≡ k → k ≡ most → fits (until j k) WasFull ≡ true
-full_at j k start long is = equals (length (until j k).entries) most (long ∙ is)
-
 module _ (j : Journal) (start : j.start.entries ≡ 0) where
   many : (k : ℕ) → length j.entries ≤ k → length (until j k).entries ≡ length j.entries
   many k le = let l = length-take (k - j.start.entries) j.entries in omega (arith, l, start)

@@ -1,5 +1,5 @@
 -- How often numbers are those of receipts.
-use Rattle.std.proofs.Common.{◌≡◌, ◌≢◌, ℕ, zero, suc, ◌+◌, ◌-◌, ◌<◌, ◌≤◌, ◌==◌, ◌&&◌, ◌⊎◌, inl, inr, Bool, true, false, List, [], ◌∷◌, ◌++◌, length, get_or, slice_set, take, Option, None, Some, refl, sym, ap, subst, ◌∙◌, arith, append_assoc, append-nil}
+use Rattle.std.proofs.Common.{◌≡◌, ◌≢◌, ℕ, zero, suc, ◌+◌, ◌-◌, ◌<◌, ◌≤◌, ◌==◌, ◌&&◌, ◌⊎◌, inl, inr, Bool, true, false, List, [], ◌∷◌, ◌++◌, length, get_or, slice_set, take, Option, None, Some, refl, sym, ap, ◌∙◌, arith, append_assoc, append-nil}
 use Rattle.std.specs.Prelude.{cond, min}
 use Rattle.std.specs.Option.{option_to_list}
 use Rattle.std.specs.List.{list_all, range_with_len}
@@ -26,20 +26,6 @@ having_this all r k is = having_more all r k ∙ ap (λ b. having all k + cond b
 
 having_other : (all : List ReceiptSeen) (r : ReceiptSeen) (k : ℕ) → r.at ≢ k → having (all ++ r ∷ []) k ≡ having all k
 having_other all r k other = having_more all r k ∙ ap (λ b. having all k + cond b 1 0) (differs r.at k other) ∙ (let e : having all k + 0 ≡ having all k = omega arith in e)
-
-pub mark_other : (marks : List ℕ) (since : ℕ) (all : List ReceiptSeen) (r : ReceiptSeen) → ((p : ℕ) → p < length marks → r.at ≢ since + p) → Marks since all marks → Marks since (all ++ r ∷ []) marks
-mark_other marks since all r other was p lt = was p lt ∙ ap (λ n. min n 2) (sym (having_other all r (since + p) (other p lt)))
-
-pub mark_full : (marks : List ℕ) (since : ℕ) (all : List ReceiptSeen) (r : ReceiptSeen) (place : ℕ) → r.at ≡ since + place → place < length marks → 2 ≤ get_or marks place 0 → Marks since all marks → Marks since (all ++ r ∷ []) marks
-mark_full marks since all r place is within twice was p lt = by (cases_eq p place)
-  where
-    by : (p ≡ place) ⊎ (p ≢ place) → get_or marks p 0 ≡ min (having (all ++ r ∷ []) (since + p)) 2
-    by (inl same) =
-        let one = having_this all r (since + p) (omega arith) in
-        let old = was p lt in
-        let high : 2 ≤ get_or marks p 0 = subst (λ q. 2 ≤ get_or marks q 0) (sym same) twice in
-        omega (arith, one, old, high)
-    by (inr other) = was p lt ∙ ap (λ n. min n 2) (sym (having_other all r (since + p) (λ e. other (omega arith))))
 
 pub mark_more : (marks : List ℕ) (since : ℕ) (all : List ReceiptSeen) (r : ReceiptSeen) (place x : ℕ) → r.at ≡ since + place → place < length marks → x < 2 → x ≡ get_or marks place 0 → Marks since all marks → Marks since (all ++ r ∷ []) (slice_set marks place (x + 1))
 mark_more marks since all r place x is within less read was p lt = by (cases_eq p place)

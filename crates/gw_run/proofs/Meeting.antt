@@ -1,5 +1,5 @@
 -- How notes agree with a journal, one after another.
-use Rattle.std.proofs.Common.{◌≡◌, ℕ, ◌+◌, ◌-◌, ◌<◌, ◌≤◌, ◌&&◌, ◌⊎◌, inl, inr, Bool, true, false, List, [], ◌∷◌, Option, Some, slice_get, refl, sym, ap, ◌∙◌, arith}
+use Rattle.std.proofs.Common.{◌≡◌, ℕ, ◌+◌, ◌-◌, ◌<◌, ◌≤◌, ◌&&◌, ◌⊎◌, inl, inr, Bool, true, false, List, ◌∷◌, Option, slice_get, refl, sym, ap, ◌∙◌, arith}
 use Rattle.std.specs.Prelude.{nat_le, IsTrue, not, max}
 use Rattle.std.proofs.lemmas.Grind.{common_steps}
 use Rattle.std.proofs.lemmas.Bool.{cases_lt}
@@ -18,21 +18,6 @@ and_true true = refl
 and_true false = refl
 
 -- ---- receipts
-
-pub receipt_fails : (j : Journal) (low need at : ℕ) (e : EntrySeen) (notes : List NoteSeen) → stands j at e ≡ false → meets j low need (Added at e ∷ notes) ≡ false
-receipt_fails j low need at e notes fails =
-    ap (λ b. ((nat_le low at && b) && agrees j (at + 1) notes) && nat_le need at) fails
-    ∙ ap (λ b. (b && agrees j (at + 1) notes) && nat_le need at) (and_false (nat_le low at))
-
-pub receipt_low : (j : Journal) (low need at : ℕ) (e : EntrySeen) (notes : List NoteSeen) → at < low → meets j low need (Added at e ∷ notes) ≡ false
-receipt_low j low need at e notes below =
-    let less : nat_le low at ≡ false = grind (arith, common_steps) in
-    ap (λ b. ((b && stands j at e) && agrees j (at + 1) notes) && nat_le need at) less
-
-pub receipt_early : (j : Journal) (low need at : ℕ) (e : EntrySeen) (notes : List NoteSeen) → at < need → meets j low need (Added at e ∷ notes) ≡ false
-receipt_early j low need at e notes below =
-    let less : nat_le need at ≡ false = grind (arith, common_steps) in
-    ap (λ b. agrees j low (Added at e ∷ notes) && b) less ∙ and_false (agrees j low (Added at e ∷ notes))
 
 pub receipt_stands : (j : Journal) (low need at : ℕ) (e : EntrySeen) (notes : List NoteSeen) → low ≤ at → need ≤ at → stands j at e ≡ true → meets j low need (Added at e ∷ notes) ≡ meets j (at + 1) 0 notes
 receipt_stands j low need at e notes above enough is =
@@ -81,18 +66,4 @@ pub other_after : (j : Journal) (low need : ℕ) (note : NoteSeen) (notes : List
     → meets j low need (note ∷ notes) ≡ ((is_within (next_at (end j) notes) first && agrees j low notes) && nat_le need (next_at (end j) notes))
 other_after j low need note notes first is other = other_is j low need note notes other ∙ ap (λ b. (b && agrees j low notes) && nat_le need (next_at (end j) notes)) (is (next_at (end j) notes))
 
-pub other_fits : (j : Journal) (low need : ℕ) (note : NoteSeen) (notes : List NoteSeen) (k : ℕ) → IsFirst j low note (Some k) → IsTrue (not (is_receipt note))
-    → meets j low need (note ∷ notes) ≡ meets j low (max need k) notes
-other_fits j low need note notes k is other =
-    let h = next_at (end j) notes in
-    other_after j low need note notes (Some k) is other ∙ swap_and (nat_le k h) (agrees j low notes) (nat_le need h) ∙ ap (λ b. agrees j low notes && b) (both_max need k h)
-
 -- ---- the end
-
-pub all_meet : (j : Journal) (low need : ℕ) → meets j low need [] ≡ nat_le need (end j)
-all_meet j low need = refl
-
-pub none_needed : (j : Journal) (low : ℕ) (notes : List NoteSeen) → agrees j low notes ≡ meets j low 0 notes
-none_needed j low notes =
-    let none : nat_le 0 (next_at (end j) notes) ≡ true = grind (arith, common_steps) in
-    sym (ap (λ b. agrees j low notes && b) none ∙ and_true (agrees j low notes))

@@ -249,9 +249,6 @@ even_or b n other = by b (is_even n) refl other
 pub turns_stay : (test : ℕ → Bool) (m at : ℕ) (ats : List ℕ) → at ≡ m + 1 → test at ≡ is_even (length ats) → TurnsTo test m ats → TurnsTo test at ats
 turns_stay test m at ats is same was = record { rise = rise_stay m at ats is was.rise; tells = told_stay (λ k i. test k ≡ is_even i) m at ats is was.rise was.tells same }
 
-pub turns_push : (test : ℕ → Bool) (m at : ℕ) (ats : List ℕ) → at ≡ m + 1 → test at ≢ is_even (length ats) → TurnsTo test m ats → TurnsTo test at (ats ++ at ∷ [])
-turns_push test m at ats is other was = record { rise = rise_push m at ats is was.rise; tells = told_push (λ k i. test k ≡ is_even i) m at ats is was.rise was.tells (even_or (test at) (length ats) other) }
-
 pub counts_stay : (f : ℕ → ℕ) (m at : ℕ) (ats : List ℕ) → at ≡ m + 1 → f at ≡ f m + 0 → CountsTo f m ats → CountsTo f at ats
 counts_stay f m at ats is same was =
     let here = was.tells m (length ats) (omega arith) (passes_all m ats was.rise.below) in

@@ -27,9 +27,6 @@ are_join J s n (c ∷ cs) (a ∷ xs) ds bs p q =
 pub blocks_more : (xs bs : List Answer) → blocks_of (xs ++ bs) ≡ blocks_of xs ++ blocks_of bs
 blocks_more xs bs = flat_map-append (λ a. block a.content) xs bs
 
-pub answers_none : (J : Judge) (s : List ℕ) (w : Option (List ℕ)) (c : Counts) → Answers J s [] w w c c
-answers_none J s w c = record { answers = []; each = tt; appends = Appends-nil w; counted = refl }
-
 pub answers_one : (J : Judge) (s content : List ℕ) (a : Answer) (w w' : Option (List ℕ)) (c c' : Counts) → IsAnswer J s (c.answered + 1) content a
     → Appends w w' (block a.content) → c' ≡ with_answer a.code c → Answers J s (content ∷ []) w w' c c'
 answers_one J s content a w w' c c' is more counted = record {

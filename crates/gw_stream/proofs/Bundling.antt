@@ -30,7 +30,7 @@ use Rattle.gw_stream.specs.Answers.{Answer, Reply, accept, refuse, reject}
 use Rattle.gw_stream.specs.own.Bundled.{AreParcels, AreWithin, Bundles, IsParcel, post, posts}
 use Rattle.gw_stream.specs.Posts.{Post, Whom, receiver, sender}
 use Rattle.gw_stream.specs.Served as served
-use Rattle.gw_stream.specs.Served.{AreDeliveries, Delivery, IsDelivery, IsServing, Routed, SaidBy, Serving, delivered, posts_of, receivers_of}
+use Rattle.gw_stream.specs.Served.{Delivery, IsDelivery, Routed, SaidBy, delivered, receivers_of}
 use Rattle.gw_stream.proofs.Posting.{map_long}
 use Rattle.gw_stream.proofs.Replying.{says, says_unreadable}
 
@@ -276,8 +276,3 @@ if_unreadable (Err e) plan s n content fault faulty none code content_is = tt
 pub within_none : {E : Type 0} (r : Result Bundle E) (count : ℕ) → IfOk r (λ b. b.parcels.items ≡ []) → IfOk r (λ b. AreWithin count b.parcels.items)
 within_none (Ok b) count none = subst (λ (ps : List Parcel). AreWithin count ps) (sym none) tt
 within_none (Err e) count none = tt
-
-pub within_moved : {E : Type 0} (r : Result Bundle E) (plan other : PlanHeld) → other ≡ plan → IfOk r (λ b. AreWithin (length other.receivers) b.parcels.items)
-    → IfOk r (λ b. AreWithin (length plan.receivers) b.parcels.items)
-within_moved (Ok b) plan other same within = subst (λ (p : PlanHeld). AreWithin (length p.receivers) b.parcels.items) same within
-within_moved (Err e) plan other same within = tt

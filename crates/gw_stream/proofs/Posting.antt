@@ -1,5 +1,5 @@
 -- What is sent to writers, in order.
-use Rattle.std.proofs.Common.{◌≡◌, ◌≢◌, ◌<◌, ◌||◌, ℕ, zero, suc, Result, Ok, Err, OnOk, OnErr, IsErr, IsTrue, ◌↔◌, ◌+◌, take, drop, Bool, true, false, List, Option, None, length, [], ◌∷◌, ◌++◌, map, arith, rules, subst, sym, ap, ◌∙◌, refl, append_assoc, append-nil}
+use Rattle.std.proofs.Common.{◌≡◌, ◌≢◌, ◌<◌, ◌||◌, ℕ, zero, suc, Result, Ok, Err, OnOk, OnErr, IsTrue, ◌+◌, take, drop, Bool, true, false, List, Option, None, length, [], ◌∷◌, ◌++◌, map, arith, rules, subst, sym, ap, ◌∙◌, refl, append_assoc, append-nil}
 use Rattle.std.proofs.KnownBytes.{Appends-nil, Appends-trans}
 use Rattle.std.proofs.lemmas.List.{map-append, take_more, take-append-drop}
 use Rattle.std.proofs.Math.Dec.{eqb-suc-suc, eqb-suc-zero, eqb-zero-suc}
@@ -56,9 +56,6 @@ cut whom bytes front is = part (record { whom = whom; bytes = bytes }) [] front 
 
 -- ---- the receivers' writers
 
-pub out_none : (k : List (Option (List ℕ))) → SendsOut [] k k
-out_none k to_sender = sends_none (all_held to_sender k)
-
 pub out_join : (ps qs : List Post) (a b c : List (Option (List ℕ))) → SendsOut ps a b → SendsOut qs b c → SendsOut (ps ++ qs) a c
 out_join ps qs a b c p q to_sender = sends_join ps qs (all_held to_sender a) (all_held to_sender b) (all_held to_sender c) (p to_sender) (q to_sender)
 
@@ -104,11 +101,6 @@ map_index f (y ∷ ys) (suc i) d e lt = map_index f ys i d e (omega arith)
 pub map_long : {A B : Type 0} (f : A → B) (xs : List A) → length (map f xs) ≡ length xs
 map_long f [] = refl
 map_long f (y ∷ ys) = ap suc (map_long f ys)
-
-pub set_long : {A : Type 0} (xs : List A) (i : ℕ) (x : A) → length (slice_set xs i x) ≡ length xs
-set_long [] i x = refl
-set_long (y ∷ ys) zero x = refl
-set_long (y ∷ ys) (suc i) x = ap suc (set_long ys i x)
 
 -- the bytes that the writer of this number holds grew
 pub sends_to : {W : Type 0} (held : W → Option (List ℕ)) (outs : List W) (r : ℕ) (d new : W) (bytes : List ℕ) → r < length outs
@@ -223,16 +215,6 @@ pub none_failed : (a b : Bool) → a ≡ false → b ≡ false → IsTrue (a || 
 none_failed true b p q is = search rules
 none_failed false true p q is = search rules
 none_failed false false p q is = search rules
-
--- of two writers of which the one hasn't failed, the other has
-pub either_failed : {T E : Type 0} (a b : Bool) (r : Result T E) → a ≡ false → IsTrue b ↔ IsErr r → IsTrue (a || b) ↔ IsErr r
-either_failed true b r works failed = search rules
-either_failed false b r works failed = failed
-
-pub first_failed : {T E : Type 0} (a b : Bool) (r : Result T E) → b ≡ false → IsTrue a ↔ IsErr r → IsTrue (a || b) ↔ IsErr r
-first_failed a true r works failed = search rules
-first_failed true false r works failed = failed
-first_failed false false r works failed = failed
 
 -- ---- what was sent in order is, for each, a beginning of what is meant for it
 

@@ -1,11 +1,10 @@
 -- A run over a stream, block by block.
 use Rattle.std.proofs.Common.{◌≡◌, ◌<◌, ◌≤◌, ◌+◌, ℕ, List, Option, length, [], ◌∷◌, ◌++◌, arith, subst, sym, ap, ◌∙◌, refl, append_assoc, append-nil, IfSome, Some, None, length-append, map}
 use Rattle.std.proofs.lemmas.Grind.{common_steps}
-use Rattle.std.proofs.KnownBytes.{Consumes-nil, Consumes-trans, Consumes-whole}
+use Rattle.std.proofs.KnownBytes.{Consumes-trans, Consumes-whole}
 use Rattle.std.specs.Io.KnownBytes.{Consumes, IsAtEnd}
 use Rattle.std.specs.List.{flat_map}
 use Rattle.gw_mllp.specs.Stream.{Blocks, Has, Held, Overlong, Between, Within, Stands, Tail, LongAfter, Part, spelled, content_of}
-use Rattle.gw_stream.specs.declared.block_reader.BlockReader.{BlockReader}
 use Rattle.gw_stream.specs.declared.fault.RunFault.{RunFault}
 use Rattle.gw_stream.specs.declared.fault.RunFault.TheVariants.{Frame}
 use Rattle.gw_stream.specs.Faults.{OfReading, truncated}
@@ -56,44 +55,6 @@ walk_few left reads here given w =
     omega arith
 
 -- ---- steps
-
-pub walk_begins : (left : Option (List ℕ)) (reads : ℕ) (blocks : BlockReader) → Stands [] [] blocks.decoder → blocks.turns ≡ 0
-    → Walks left reads (record { left = left; reads = reads; blocks = blocks }) []
-walk_begins left reads blocks stands none = record {
-  taken = [];
-  takes = Consumes-nil left;
-  many = omega arith;
-  few = omega arith;
-  most = omega arith;
-  stands = stands;
-  counted = λ small. omega arith;
-}
-
-pub goes_none : (here : Place) → Goes here here []
-goes_none here left reads given w = subst (Walks left reads here) (sym (append-nil given)) w
-
-pub goes_join : (here there beyond : Place) (more others : List (List ℕ)) → Goes here there more → Goes there beyond others → Goes here beyond (more ++ others)
-goes_join here there beyond more others p q left reads given w =
-    subst (Walks left reads beyond) (append_assoc given more others) (q left reads (given ++ more) (p left reads given w))
-
--- a block is given
-pub goes_given : (left : Option (List ℕ)) (reads : ℕ) (old new : BlockReader) (content : List ℕ)
-    → old.decoder ≡ record new.decoder { waiting = content ∷ new.decoder.waiting } → new.turns ≡ old.turns
-    → Goes (record { left = left; reads = reads; blocks = old }) (record { left = left; reads = reads; blocks = new }) (content ∷ [])
-goes_given left reads old new content is turns left₀ reads₀ given w =
-    let many = w.many in
-    let few = w.few in
-    let most = w.most in
-    let stands : Stands w.taken given (record new.decoder { waiting = content ∷ new.decoder.waiting }) = subst (Stands w.taken given) is w.stands in
-    record {
-      taken = w.taken;
-      takes = w.takes;
-      many = omega arith;
-      few = omega arith;
-      most = omega arith;
-      stands = subst (λ l. Has w.taken l new.decoder.tail) (sym (append_assoc given (content ∷ []) new.decoder.waiting)) stands;
-      counted = subst (λ n. ReadTimes n reads₀ reads) (sym turns) w.counted;
-    }
 
 counts_more : (times before between after : ℕ) → ReadTimes times before between → ReadTimes 1 between after → ReadTimes (times + 1) before after
 counts_more times before between after many one small = let there = many (omega arith) in let more = one (omega arith) in omega arith

@@ -1,15 +1,12 @@
 -- What lines make, taken together.
 use Rattle.std.proofs.lemmas.Result.{IfOk-from_err}
 use Rattle.std.proofs.Common.{◌≡◌, ℕ, suc, ◌+◌, ◌<◌, ◌≤◌, List, [], ◌∷◌, ◌++◌, drop, drop-cons, get_or, refl, sym, ap, ◌∙◌, arith, map, Option, Some, None, option_map, OnOk, Result, Ok, Err, length, subst}
-use Rattle.std.specs.Prelude.{flat_map, option_to_list, IsErr}
-use Rattle.std.specs.Global.{Vec}
+use Rattle.std.specs.Prelude.{option_to_list, IsErr}
 use Rattle.std.proofs.lemmas.List.{append-nil, append_assoc}
 use Rattle.gw_profile.specs.Shapes.{ProfileValue}
 use Rattle.gw_maplang.specs.Shapes.{TableValue, MapValue}
 use Rattle.gw_resolve.specs.declared.failure.Failure.{Failure}
 use Rattle.gw_resolve.specs.declared.named.Named.{Named}
-use Rattle.gw_resolve.specs.declared.resolved.At.{At}
-use Rattle.gw_resolve.specs.declared.resolved.Reference.{Reference}
 use Rattle.gw_resolve.specs.declared.resolved.Making as makings
 use Rattle.gw_resolve.specs.declared.resolved.GroupItem.{GroupItem}
 use Rattle.gw_resolve.specs.declared.resolved.FlatItem.{FlatItem}
@@ -20,11 +17,11 @@ use Rattle.gw_resolve.specs.declared.resolved.Rule as rules_of
 use Rattle.gw_resolve.specs.Resolved.{Items, no_items, first_child}
 use Rattle.gw_resolve.specs.Naming.{resolved}
 use Rattle.gw_resolve.specs.Outcome.{IsNamed, IsLost}
-use Rattle.gw_resolve.specs.Seen.{failures, place, reference, at_leaf, making, rule, with_item, row_items, all_items}
+use Rattle.gw_resolve.specs.Seen.{failures, place, rule, with_item, row_items, all_items}
 use Rattle.gw_resolve.proofs.Rows.{group_items, flat_items}
-use Rattle.gw_subjects.specs.Positions.{Position, inner, inner_if, positions}
+use Rattle.gw_subjects.specs.Positions.{Position, inner, inner_if}
 use Rattle.gw_subjects.specs.Seen.{Adds, FirstChild, ChildOf, all_sites, segment_item}
-use Rattle.gw_subjects.specs.Sites.{Site, Origin, unsaid, repeated, read_at, leaf_sites, making_sites, rules_sites, node_sites, node_origin, origin_if, segment_sites, items_sites, none_if, sites, site_of}
+use Rattle.gw_subjects.specs.Sites.{Site, Origin, unsaid, rules_sites, node_sites, node_origin, origin_if, segment_sites, items_sites, none_if, sites, site_of}
 use Rattle.gw_subjects.specs.declared.site.Site as declared
 
 -- where a call fails, nothing is said of what it made
@@ -42,26 +39,6 @@ added_twice tables old mid new a b h k = k ∙ ap (λ l. l ++ b) h ∙ append_as
 
 pub whole_made : (tables : List TableValue) (line : ℕ) (at : Position) (field : ℕ) (one other : Origin) (old new : List declared.Site) → one ≡ other → Adds tables old new (site_of line at field 0 0 one ∷ []) → Adds tables old new (site_of line at field 0 0 other ∷ [])
 whole_made tables line at field one other old new same h = h ∙ ap (λ o. all_sites tables old ++ (site_of line at field 0 0 o ∷ [])) same
-
-pub repeat_made : (tables : List TableValue) (scope : List Position) (at : Position) (line field : ℕ) (old mid new : List declared.Site) (m : makings.Making) (from : Reference) (leaves : Vec At) (list : List At) →
-    m ≡ makings.TheVariants.Repeat from leaves → list ≡ leaves.items →
-    Adds tables old mid (flat_map (leaf_sites scope (Some (reference from)) at field) (map (at_leaf tables) list)) →
-    Adds tables mid new (site_of line at field 0 0 (repeated (read_at scope (reference from) 0 0)) ∷ []) →
-    Adds tables old new (making_sites scope at line field (making tables m))
-repeat_made tables scope at line field old mid new m from leaves list is items h k =
-    subst (λ x. Adds tables old new (making_sites scope at line field (making tables x))) (sym is)
-    (subst (λ l. Adds tables old new (flat_map (leaf_sites scope (Some (reference from)) at field) (map (at_leaf tables) l) ++ (site_of line at field 0 0 (repeated (read_at scope (reference from) 0 0)) ∷ []))) items
-    (added_twice tables old mid new _ _ h k))
-
-pub build_made : (tables : List TableValue) (scope : List Position) (at : Position) (line field : ℕ) (old mid new : List declared.Site) (m : makings.Making) (leaves : Vec At) (list : List At) →
-    m ≡ makings.TheVariants.Build leaves → list ≡ leaves.items →
-    Adds tables old mid (flat_map (leaf_sites scope None at field) (map (at_leaf tables) list)) →
-    Adds tables mid new (site_of line at field 0 0 unsaid ∷ []) →
-    Adds tables old new (making_sites scope at line field (making tables m))
-build_made tables scope at line field old mid new m leaves list is items h k =
-    subst (λ x. Adds tables old new (making_sites scope at line field (making tables x))) (sym is)
-    (subst (λ l. Adds tables old new (flat_map (leaf_sites scope None at field) (map (at_leaf tables) l) ++ (site_of line at field 0 0 unsaid ∷ []))) items
-    (added_twice tables old mid new _ _ h k))
 
 -- ---- a segment
 
@@ -148,11 +125,6 @@ child_at_first [] i c some is h = absurd (omega (arith, some))
 child_at_first (x ∷ items) i c some is h = child_first x items c (subst (λ j. ChildOf j c) is h)
 
 -- ---- the whole
-
-pub first_made : (tables : List TableValue) (items : List Item) (empty scope : List (Vec ℕ)) (top : Vec ℕ) (old new : List declared.Site) → empty ≡ [] → top.items ≡ [] → scope ≡ empty ++ top ∷ [] → old ≡ [] → Adds tables old new (items_sites (positions scope) [] (all_items tables items)) → all_sites tables new ≡ items_sites ([] ∷ []) [] (all_items tables items)
-first_made tables items empty scope top old new e f g none h =
-    h ∙ ap (λ l. all_sites tables l ++ items_sites (positions scope) [] (all_items tables items)) none
-    ∙ ap (λ s. items_sites s [] (all_items tables items)) (ap positions (g ∙ ap (λ l. l ++ top ∷ []) e) ∙ ap (λ p. p ∷ []) f)
 
 abbrev of_map : ProfileValue → ProfileValue → MapValue → List Site
 of_map from to m = items_sites ([] ∷ []) [] (resolved from to m).items

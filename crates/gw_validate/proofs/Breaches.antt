@@ -222,11 +222,6 @@ module _ (profile : ProfileValue) (m : Texts) (shape : FieldValue) (r before : �
 
 -- ---- the program's steps
 
-pub get_or_any : {X : Type 0} (xs : List X) (i : ℕ) (d e : X) → i < length xs → get_or xs i d ≡ get_or xs i e
-get_or_any [] i d e lt = absurd (omega arith)
-get_or_any (x ∷ xs) zero d e lt = refl
-get_or_any (x ∷ xs) (suc i) d e lt = get_or_any xs i d e (omega arith)
-
 module _ {Y : Type 0} (value : Y → SubValue) (profile : ProfileValue) (m : Texts) (f r c : ℕ) (subs : List Y) (i : ℕ) (y : Y) (text : List ℕ) (lt : i < length subs) (at : y ≡ get_or subs i y) (is : text ≡ text_of m f r c (value y).number) where
   abbrev At : SubValue → List ℕ → Type 0
   At s = SubBreach profile s (text_of m f r c s.number)
@@ -253,9 +248,6 @@ counted_no P (suc r) k lt c n = inr (n, subst (λ j. Counted P j k) (let e : suc
 pub counted_yes : (P : ℕ → Type 0) (r k : ℕ) → 0 < r → Counted P (r - 1) k → P r → Counted P r (k + 1)
 counted_yes P zero k lt c p = absurd (omega arith)
 counted_yes P (suc r) k lt c p = inl (p, k, (let e : k + 1 ≡ suc k = omega arith in e), subst (λ j. Counted P j k) (let e : suc r - 1 ≡ r = omega arith in e) c)
-
-pub counted_before : (P : ℕ → Type 0) (i k : ℕ) → Counted P i k → Counted P (i + 1 - 1) k
-counted_before P i k c = subst (λ j. Counted P j k) (let e : i ≡ i + 1 - 1 = omega arith in e) c
 
 module _ (profile : ProfileValue) (m : Texts) (shape : FieldValue) where
   module _ (n r before : ℕ) (g : RepsGoing profile m shape n before) (lt : n < r) (there : RepAt m shape.number r) (first : (j : ℕ) → n < j → RepAt m shape.number j → r ≤ j) where

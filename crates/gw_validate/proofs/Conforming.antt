@@ -2,8 +2,8 @@
 use Rattle.std.proofs.Common.{◌≡◌, ℕ, zero, suc, ◌≤◌, List, [], ◌∷◌, ◌++◌, refl, sym, ap, ◌∙◌, subst, length, map, ◌↔◌}
 use Rattle.std.specs.List.{AllByRecursion}
 use Rattle.gw_profile.specs.Shapes.{Forest, nothing, segment, group, FieldValue}
-use Rattle.gw_validate.specs.Cuts.{Many, Fits}
-use Rattle.gw_validate.proofs.Unique.{one_tree, tree_fits}
+use Rattle.gw_validate.specs.Cuts.{Many}
+use Rattle.gw_validate.proofs.Unique.{one_tree}
 use Rattle.gw_validate.specs.Trees.{Tree, leaf, segments, groups, Trees, no_trees, trees, count_of, IsTree, AreTrees, assigned, assigned_all, AllMeet, MeetingTree}
 use Rattle.gw_validate.specs.Conforming.{One, Seq}
 use Rattle.gw_profile.specs.Deterministic.{Name, AtMost, Determined, NoName}
@@ -100,6 +100,3 @@ tree_decides named meets f t l wf is = (
   λ h. let m = meeting_tree named meets f l h in subst (λ u. AllMeet meets (assigned u f)) (one_tree named f NoName wf m.tree t l m.is is) m.met,
   λ m. tree_conforms named meets t f l is m,
 )
-
-pub conforms_fits : (named : ℕ → Name) (meets : List FieldValue → ℕ → Type 0) (f : Forest) (l : List ℕ) → Seq named meets f l → Fits f (map named l)
-conforms_fits named meets f l h = let m = meeting_tree named meets f l h in tree_fits named m.tree f l m.is

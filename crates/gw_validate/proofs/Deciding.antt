@@ -14,7 +14,7 @@ use Rattle.gw_validate.specs.Trees.{Tree, IsTree, flatten, assigned}
 use Rattle.gw_validate.specs.own.Judging.{HasKept}
 use Rattle.gw_validate.specs.own.Occurring.{tree_of, IsOrdered}
 use Rattle.gw_validate.specs.own.Least.{Searched, BreachAt}
-use Rattle.gw_validate.specs.Broken.{IsTreeOf, Assigns, Breaks, sequence, spot_of, IsLeast}
+use Rattle.gw_validate.specs.Broken.{IsTreeOf, Breaks, sequence, spot_of, IsLeast}
 use Rattle.gw_validate.proofs.Listed.{Place, place, numbers_below}
 use Rattle.gw_validate.proofs.Flat.{tree_flat, assigned_flat}
 use Rattle.gw_validate.proofs.Judged.{names_are, names_take, NoneBefore, order_breaks, order_least, missing_breaks, missing_least, segment_breaks, segment_least, meets_all, tree_message, breaks_nothing}
@@ -27,11 +27,6 @@ taken_within f m taken is = subst (AllByRecursion (λ i. i < length m)) (sym is)
 
 pub names_fit : (f : Forest) (m : List SegmentValue) (ns : List Name) → ns ≡ map (named m) (numbers f m) → Fits f ns → NamesFit f m
 names_fit f m ns e h = subst (Fits f) (e ∙ names_are f m) h
-
-assigns_within : (P : ℕ → Type 0) (ps : List (ℕ × List FieldValue)) (i : ℕ) (shape : List FieldValue) → AllByRecursion P (map (λ (p : ℕ × List FieldValue). p.0) ps) → Assigns ps i shape → P i
-assigns_within P [] i shape a h = absurd h
-assigns_within P (p ∷ ps) i shape a (inl e) = subst (λ (x : ℕ × List FieldValue). P x.0) e a.0
-assigns_within P (p ∷ ps) i shape a (inr h) = assigns_within P ps i shape a.1 h
 
 get_segment : (m : List SegmentValue) (i : ℕ) → i < length m → slice_get m i ≡ Some (segment_at m i)
 get_segment [] i lt = absurd (omega arith)

@@ -8,7 +8,7 @@ use Rattle.gw_validate.specs.declared.walk.Step.TheVariants.{Taken, Passed, Stuc
 use Rattle.std.specs.Str.{bytes_eq}
 use Rattle.gw_profile.specs.Shapes.{Forest, nothing, segment, group}
 use Rattle.gw_validate.specs.own.Residual.{less, append, has_room, when, pass, or_else, before, after_name, seg, grp}
-use Rattle.gw_profile.specs.Seen.{forest, row_forest, node_forest}
+use Rattle.gw_profile.specs.Seen.{forest}
 use Rattle.gw_profile.specs.Nodes.{card_of}
 use Rattle.gw_validate.specs.own.Shortest.{head, several, shortest, shortest_node}
 use Rattle.gw_validate.specs.own.State.{due_forest, frame_forest, stack_on, Tries}
@@ -104,10 +104,6 @@ shortest-join (group gv ch rest) g = ap (λ l. several gv.card.min (shortest ch)
 pub shortest_due : (n : Node) (due : Card) (rest : Forest) → shortest (due_forest n due rest) ≡ several due.min (shortest_node n) ++ shortest rest
 shortest_due (Seg s) due rest = refl
 shortest_due (Group' lb u c shape row) due rest = refl
-
-pub head_node : (n : Node) (rest : Forest) → head (shortest (node_forest n rest)) ≡ first_of_two (head (several (card_of n).min (shortest_node n))) (head (shortest rest))
-head_node (Seg s) rest = head-append (several s.card.min (s.name ∷ [])) (shortest rest)
-head_node (Group' lb u c shape row) rest = head-append (several c.min (shortest (row_forest row))) (shortest rest)
 
 -- the first name of a frame's shortest list
 pub head_frame : (f : Frame) (behind : Forest) → head (shortest (append (frame_forest f) behind)) ≡ first_of_two (head (several f.due.min (shortest_node f.node.now))) (first_of_two (head (shortest (forest f.rest.now))) (head (shortest behind)))

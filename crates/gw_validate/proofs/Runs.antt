@@ -1,13 +1,13 @@
 -- What is left of a forest after several names, and its shortest completion.
-use Rattle.std.proofs.Common.{◌≡◌, ℕ, zero, suc, ◌+◌, ◌<◌, ◌≤◌, List, [], ◌∷◌, ◌++◌, Option, Some, None, refl, sym, ap, ◌∙◌, subst, arith, length, append-nil, length-append}
+use Rattle.std.proofs.Common.{◌≡◌, ℕ, zero, suc, ◌+◌, ◌<◌, ◌≤◌, List, [], ◌∷◌, ◌++◌, Option, Some, None, refl, sym, ap, ◌∙◌, subst, arith, length, length-append}
 use Rattle.gw_profile.specs.Shapes.{Forest, nothing, segment, group}
 use Rattle.gw_validate.specs.Cuts.{Cut, Many, Times, Fits}
 use Rattle.gw_validate.specs.Cuts.{Begins, IsShortest}
 use Rattle.gw_validate.specs.own.Residual.{after_name}
 use Rattle.gw_validate.specs.own.Shortest.{several, shortest}
-use Rattle.gw_validate.proofs.Step.{empty_fits, optional_fits, fits_first, child_full}
+use Rattle.gw_validate.proofs.Step.{fits_first, child_full}
 use Rattle.gw_validate.proofs.Exact.{Step, Steps, step}
-use Rattle.gw_profile.specs.Deterministic.{Name, Optional, Determined}
+use Rattle.gw_profile.specs.Deterministic.{Name, Determined}
 
 abbrev pub and_then : Option Forest → (Forest → Option Forest) → Option Forest
 and_then None f = None
@@ -68,13 +68,6 @@ shortest_least (segment sv rest) v h =
 shortest_least (group gv ch rest) v h =
     cut_least _ _ gv.card.min gv.card.max (shortest ch) (shortest rest) (shortest_least ch) (shortest_least rest) v h
 
--- the laws of a run
-pub fits_ends : (f : Forest) (A : Name → Type 0) (w : List Name) (g : Forest) → Run f A w g → Fits f w → Optional g
-fits_ends f A w g r h = empty_fits g A r.kept (r.forth [] (subst (Fits f) (sym (append-nil w)) h))
-
-pub ends_fits : (f : Forest) (A : Name → Type 0) (w : List Name) (g : Forest) → Run f A w g → Optional g → Fits f w
-ends_fits f A w g r o = subst (Fits f) (append-nil w) (r.back [] (optional_fits g A r.kept o))
-
 pub run_begins : (f : Forest) (A : Name → Type 0) (w : List Name) (g : Forest) → Run f A w g → Begins f w
 run_begins f A w g r = (shortest g, r.back (shortest g) (shortest_fits g A r.kept))
 
@@ -106,10 +99,6 @@ cut_only P R low high l m some p only r alone v c short =
 not_empty : (l : List Name) → (l ≡ [] → ⊥) → 0 < length l
 not_empty [] h = absurd (h refl)
 not_empty (x ∷ l) h = omega arith
-
-nil_short : (l : List Name) → length l ≤ 0 → l ≡ []
-nil_short [] h = refl
-nil_short (x ∷ l) h = absurd (omega arith)
 
 -- no other list that fits is as short
 pub shortest_only : (f : Forest) (A : Name → Type 0) → Determined f A → (v : List Name) → Fits f v → length v ≤ length (shortest f) → v ≡ shortest f

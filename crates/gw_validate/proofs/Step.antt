@@ -18,11 +18,6 @@ join_fits nothing g l h = subst (Fits g) (sym (h.joined ∙ ap (λ a. a ++ h.bac
 join_fits (segment sv rest) g l h = cut_map _ _ _ l (join_fits rest g) (cut_right _ _ _ l h)
 join_fits (group gv ch rest) g l h = cut_map _ _ _ l (join_fits rest g) (cut_right _ _ _ l h)
 
-follows_next : (P : Type 0) (z : Type 0) (F O A : Type 0) → (P ⊎ (z × F)) ⊎ ((z × O) × A) → P ⊎ (z × (F ⊎ (O × A)))
-follows_next P z F O A (inl (inl p)) = inl p
-follows_next P z F O A (inl (inr f)) = inr (f.0, inl f.1)
-follows_next P z F O A (inr o) = inr (o.0.0, inr (o.0.1, o.1))
-
 regroup : (P : Type 0) (z : Type 0) (F O : Type 0) → P ⊎ (z × (F ⊎ O)) → (P ⊎ (z × F)) ⊎ (z × O)
 regroup P z F O (inl p) = inl (inl p)
 regroup P z F O (inr (q, inl f)) = inl (inr (q, f))

@@ -50,14 +50,6 @@ never : (b : Bool) (o : Option Forest) → or_else (when b None) o ≡ o
 never true o = refl
 never false o = refl
 
-pub pass_zero : (m : ℕ) (o : Option Forest) → m ≡ 0 → pass m o ≡ o
-pass_zero zero o z = refl
-pass_zero (suc m) o z = absurd (omega arith)
-
-pub pass_more : (m : ℕ) (o : Option Forest) → (m ≡ 0 → ⊥) → pass m o ≡ None
-pass_more zero o z = absurd (z refl)
-pass_more (suc m) o z = refl
-
 pub passed_segment : (s : declared_segment.SegNode) (due : Card) (rest : Forest) (x : Name) → (s.name ≡ x → ⊥) → after_name (due_forest (Seg s) due rest) x ≡ pass due.min (after_name rest x)
 passed_segment s due rest x other =
     elim (name_tells x s.name) [ inl e ↦ absurd (other (sym e.1)) | inr e ↦ rw e.0 (never (has_room due.max) _) ]
@@ -75,10 +67,6 @@ passed_group g due rest x other =
   where
     middle : after_name (grp (value_of g) due.min due.max (forest g.nodes.items) rest) x ≡ pass due.min (after_name rest x)
     middle = rw other (never (has_room due.max) _)
-
-pub passed_full : (n : Node) (due : Card) (rest : Forest) (x : Name) → has_room due.max ≡ false → after_name (due_forest n due rest) x ≡ pass due.min (after_name rest x)
-passed_full (Seg s) due rest x full = rw full refl
-passed_full (Group' lb u c shape row) due rest x full = rw full refl
 
 pub tried_left_out : (m : ℕ) (all others : Option Forest) (old new : List Frame) → all ≡ pass m others → new ≡ old → NodeTried m all others old new (left_out m)
 tried_left_out zero all others old new e s = (refl, e, s)
