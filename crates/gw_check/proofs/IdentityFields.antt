@@ -9,7 +9,9 @@ use Rattle.gw_profile.specs.declared.shape.Usage.TheVariants.{R, RE, O, X}
 use Rattle.gw_profile.specs.Fault.{is_among, least_field}
 use Rattle.gw_profile.specs.Line as line
 use Rattle.gw_profile.specs.Shapes.{SubValue, CompValue, FieldValue, SegmentValue, ProfileValue}
-use Rattle.gw_profile.specs.Lengths.{Count, octets, measure, len_count}
+use Rattle.gw_profile.specs.declared.shape.Count.{Count}
+use Rattle.gw_profile.specs.declared.shape.Count.TheVariants.{Octets, Characters}
+use Rattle.gw_profile.specs.Lengths.{measure, len_count}
 use Rattle.gw_profile.specs.Value.{table_of}
 use Rattle.gw_profile.specs.WellFormed.{Agrees, Rising, field_numbers, LawfulComp, LawfulField, LawfulSegment}
 use Rattle.gw_profile.specs.Among as lists
@@ -138,7 +140,8 @@ none_long count most (x ∷ texts) = by (is_short count (Some most) x) refl (non
 
 -- lengths of one count
 not_exceeded : (count : Count) (most : ℕ) → may_exceed count most count most ≡ false
-not_exceeded octets most = le-ltb most most (omega arith)
+not_exceeded Octets most = le-ltb most most (omega arith)
+not_exceeded Characters most = le-ltb most most (omega arith)
 
 module _ (profile : ProfileValue) where
   abbrev sub_with : ℕ → Usage → Option ℕ → Option (List ℕ) → SubValue

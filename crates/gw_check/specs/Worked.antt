@@ -3,6 +3,8 @@ use Rattle.std.specs.Prelude.{ℕ, ◌+◌, List, [], ◌∷◌, Option, Some, N
 use Rattle.gw_profile.specs.declared.shape.Usage.{Usage}
 use Rattle.gw_profile.specs.declared.shape.Usage.TheVariants.{R, RE, O}
 use Rattle.gw_profile.specs.declared.shape.Card.{Card}
+use Rattle.gw_profile.specs.declared.shape.Count.{Count}
+use Rattle.gw_profile.specs.declared.shape.Count.TheVariants.{Octets, Characters}
 use Rattle.gw_profile.specs.Shapes.{FieldValue, Forest, nothing, segment, group, ProfileValue}
 use Rattle.gw_profile.specs.Value.{leaf_comp}
 use Rattle.gw_maplang.specs.declared.rule.LeafPlace.{LeafPlace}
@@ -38,6 +40,7 @@ abbrev patients : List ℕ → FieldValue → ProfileValue
 patients name sex =
     record {
       name = name;
+      count = Octets;
       tables = record { name = codes "SEX"; values = codes "M" ∷ codes "F" ∷ codes "U" ∷ [] } ∷ [];
       nodes =
           msh (field 10 R (card 1 1) ∷ [])
@@ -60,6 +63,7 @@ abbrev pub t1 : ProfileValue
 t1 =
     record {
       name = codes "T1";
+      count = Octets;
       tables = record { name = codes "ISO"; values = codes "1" ∷ codes "2" ∷ codes "9" ∷ [] } ∷ [];
       nodes = msh (field 10 R (card 1 1) ∷ []) (seg (codes "PID") R (card 1 1) (coded 8 R (card 1 1) (codes "ISO") ∷ []) nothing);
     }
@@ -111,12 +115,13 @@ abbrev pub kin : ProfileValue
 kin =
     record {
       name = codes "KIN";
+      count = Octets;
       tables = [];
       nodes = msh [] (seg (codes "NK1") O (card 0 2) [] (seg (codes "GT1") O (card 0 2) [] nothing));
     }
 
 abbrev pub contacts : ℕ → ProfileValue
-contacts most = record { name = codes "CONTACTS"; tables = []; nodes = msh [] (seg (codes "NK1") O (card 0 most) [] nothing) }
+contacts most = record { name = codes "CONTACTS"; count = Octets; tables = []; nodes = msh [] (seg (codes "NK1") O (card 0 most) [] nothing) }
 
 abbrev pub both_kinds : MapValue
 both_kinds =
@@ -135,6 +140,7 @@ abbrev pub oru : ProfileValue
 oru =
     record {
       name = codes "ORU";
+      count = Octets;
       tables = [];
       nodes =
           msh []
@@ -145,7 +151,7 @@ oru =
     }
 
 abbrev pub orders : Card → ProfileValue
-orders how_many = record { name = codes "FLAT"; tables = []; nodes = msh [] (seg (codes "OBR") R how_many (field 1 RE (card 0 1) ∷ []) nothing) }
+orders how_many = record { name = codes "FLAT"; count = Octets; tables = []; nodes = msh [] (seg (codes "OBR") R how_many (field 1 RE (card 0 1) ∷ []) nothing) }
 
 abbrev pub any_orders : ProfileValue
 any_orders = orders (many 1)
@@ -169,6 +175,40 @@ m3 =
           (flat 3 (codes "PATIENT_RESULT") (flat 4 (codes "ORDER") (item 5 (codes "OBR") (codes "OBR") (copies 6 (codes "OBR") 1 ∷ []) raw.nothing) raw.nothing) raw.nothing);
       drops = [];
     }
+
+-- names of at most four octets, or of at most four characters
+abbrev four : List ℕ → Count → ProfileValue
+four name count =
+    record {
+      name = name;
+      count = count;
+      tables = [];
+      nodes =
+          msh []
+          (seg (codes "PID") R (card 1 1) (record { number = 5; usage = RE; card = card 0 1; comps = leaf_comp (record { len = Some 4; table = None }) ∷ [] } ∷ []) nothing);
+    }
+
+abbrev pub s2 : ProfileValue
+s2 = four (codes "S2") Octets
+
+abbrev pub s3 : ProfileValue
+s3 = four (codes "S3") Characters
+
+abbrev pub m5 : MapValue
+m5 =
+    record {
+      name = codes "M5";
+      source = codes "S2";
+      target = codes "S3";
+      line = 1;
+      tables = [];
+      items = item 2 (codes "MSH") (codes "MSH") [] (item 3 (codes "PID") (codes "PID") (copies 4 (codes "PID") 5 ∷ []) raw.nothing);
+      drops = [];
+    }
+
+-- the leaf of the name
+abbrev pub name_at : ℕ → Mark
+name_at line = record (at_line line) { field = 5; comp = 1; sub = 1 }
 
 abbrev pub failure : ℕ → Mark → Option Failure
 failure rule mark = Some (record { rule = rule; mark = mark })

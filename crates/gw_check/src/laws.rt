@@ -6,7 +6,7 @@ ghost use Rattle.gw_maplang.specs.Identity.{identity};
 ghost use Rattle.gw_resolve.specs.Failures.{at_line};
 ghost use Rattle.gw_leaves.specs.Components.{field_mark};
 ghost use Rattle.gw_check.specs.Checked.{all_failures, least};
-ghost use Rattle.gw_check.specs.Worked.{p1, p2, p3, t1, m1, m4, kin, contacts, both_kinds, oru, any_orders, two_orders, m3, failure, often, sex_at};
+ghost use Rattle.gw_check.specs.Worked.{p1, p2, p3, t1, m1, m4, kin, contacts, both_kinds, oru, any_orders, two_orders, m3, s2, s3, m5, failure, often, sex_at, name_at};
 
 /// What the rules say of worked maps.
 pub fn worked_maps()
@@ -19,6 +19,8 @@ pub fn worked_maps()
     ensures enough_room { least (all_failures kin (contacts 4) both_kinds) ≡ None }
     ensures flattened { least (all_failures oru any_orders m3) ≡ None }
     ensures flattened_too_many { least (all_failures oru two_orders m3) ≡ failure 4 (often 1 None (at_line 3)) }
+    ensures octets_to_characters { least (all_failures s2 s3 m5) ≡ None }
+    ensures characters_to_octets { least (all_failures s3 s2 m5) ≡ failure 7 (name_at 4) }
 {}
 
 /// The map that makes of each message of a profile the message itself, as far as the profile lists it, is allowed from the profile to itself.

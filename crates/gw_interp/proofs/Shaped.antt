@@ -4,7 +4,8 @@ use Rattle.std.specs.Prelude.{◌&&◌, not, option_and_then}
 use Rattle.std.proofs.lemmas.Bool.{le-ltb}
 use Rattle.gw_profile.specs.declared.shape.Usage.{Usage}
 use Rattle.gw_profile.specs.declared.shape.Usage.TheVariants.{R, RE, O, X}
-use Rattle.gw_profile.specs.Lengths.{Count, measure, len_count}
+use Rattle.gw_profile.specs.declared.shape.Count.{Count}
+use Rattle.gw_profile.specs.Lengths.{measure, len_count}
 use Rattle.gw_profile.specs.Fault.{is_among}
 use Rattle.gw_profile.specs.Shapes.{SubValue, TableValue, ProfileValue}
 use Rattle.gw_profile.specs.Value.{table_of}

@@ -5,7 +5,8 @@ use Rattle.std.specs.List.{list_any}
 use Rattle.std.proofs.lemmas.Bool.Decides.{nat_tests}
 use Rattle.std.proofs.lemmas.List.Folds.{list_any-append}
 use Rattle.gw_profile.specs.Fault.{is_among}
-use Rattle.gw_profile.specs.Lengths.{octets}
+use Rattle.gw_profile.specs.declared.shape.Count.{Count}
+use Rattle.gw_profile.specs.Lengths.{measure, len_count}
 use Rattle.gw_profile.specs.Shapes.{SubValue, ProfileValue}
 use Rattle.gw_maplang.specs.Shapes.{Rows, Row, second_of}
 use Rattle.gw_maplang.specs.Shapes as maps
@@ -51,20 +52,20 @@ any_one p (Some t) = or_false (p t)
 -- ---- what is read at one length
 
 -- texts as they are
-any_itself : (p : List ℕ → Bool) (len : Option ℕ) (texts : List (List ℕ)) → list_any p (filter (is_short octets len) texts) ≡ some_read len (holds_of p) (map itself texts)
-any_itself p None texts = any_filter p (is_short octets None) texts ∙ sym (any_map itself (λ r. fits None r.0 && holds_of p r.1) texts)
-any_itself p (Some most) texts = any_filter p (is_short octets (Some most)) texts ∙ sym (any_map itself (λ r. fits (Some most) r.0 && holds_of p r.1) texts)
+any_itself : (count : Count) (p : List ℕ → Bool) (len : Option ℕ) (texts : List (List ℕ)) → list_any p (filter (is_short count len) texts) ≡ some_read len (holds_of p) (map (itself count) texts)
+any_itself count p None texts = any_filter p (is_short count None) texts ∙ sym (any_map (itself count) (λ r. fits None r.0 && holds_of p r.1) texts)
+any_itself count p (Some most) texts = any_filter p (is_short count (Some most)) texts ∙ sym (any_map (itself count) (λ r. fits (Some most) r.0 && holds_of p r.1) texts)
 
 -- what is given for them
-any_looked_up : (p : List ℕ → Bool) (len : Option ℕ) (rows : Rows) (texts : List (List ℕ)) → list_any p (filter_map (given rows) (filter (is_short octets len) texts)) ≡ some_read len (holds_of p) (map (looked_up rows) texts)
-any_looked_up p None rows texts =
-    any_filter_map p (given rows) (filter (is_short octets None) texts)
-    ∙ any_filter (λ t. holds_of p (given rows t)) (is_short octets None) texts
-    ∙ sym (any_map (looked_up rows) (λ r. fits None r.0 && holds_of p r.1) texts)
-any_looked_up p (Some most) rows texts =
-    any_filter_map p (given rows) (filter (is_short octets (Some most)) texts)
-    ∙ any_filter (λ t. holds_of p (given rows t)) (is_short octets (Some most)) texts
-    ∙ sym (any_map (looked_up rows) (λ r. fits (Some most) r.0 && holds_of p r.1) texts)
+any_looked_up : (count : Count) (p : List ℕ → Bool) (len : Option ℕ) (rows : Rows) (texts : List (List ℕ)) → list_any p (filter_map (given rows) (filter (is_short count len) texts)) ≡ some_read len (holds_of p) (map (looked_up count rows) texts)
+any_looked_up count p None rows texts =
+    any_filter_map p (given rows) (filter (is_short count None) texts)
+    ∙ any_filter (λ t. holds_of p (given rows t)) (is_short count None) texts
+    ∙ sym (any_map (looked_up count rows) (λ r. fits None r.0 && holds_of p r.1) texts)
+any_looked_up count p (Some most) rows texts =
+    any_filter_map p (given rows) (filter (is_short count (Some most)) texts)
+    ∙ any_filter (λ t. holds_of p (given rows t)) (is_short count (Some most)) texts
+    ∙ sym (any_map (looked_up count rows) (λ r. fits (Some most) r.0 && holds_of p r.1) texts)
 
 -- all that rows give: no length is too small for it
 fits_none : (len : Option ℕ) → fits len 0 ≡ true
@@ -154,30 +155,30 @@ more_seconds (r ∷ rows) (suc i) got low e =
 module _ (profile : ProfileValue) (tables : List maps.TableValue) where
   -- what may be missing from these values
   pub unlisted_read : (rows table : Option (List ℕ)) (len : Option ℕ) (values : List (List ℕ)) → is_any rows table ≡ false
-      → may_be_unlisted (rowed tables rows (table_texts profile table len)) (Some values) ≡ some_read len (is_unlisted values) (all_read profile.tables tables rows table)
+      → may_be_unlisted (rowed tables rows (table_texts profile table len)) (Some values) ≡ some_read len (is_unlisted values) (all_read (len_count profile) profile.tables tables rows table)
   unlisted_read None None len values e = absurd (true≢false e)
-  unlisted_read None (Some name) len values e = any_itself (λ t. not (is_among t values)) len (values_named profile.tables name)
+  unlisted_read None (Some name) len values e = any_itself (len_count profile) (λ t. not (is_among t values)) len (values_named profile.tables name)
   unlisted_read (Some rows) None len values e = any_second (λ t. not (is_among t values)) len (rows_named tables rows)
-  unlisted_read (Some rows) (Some name) len values e = any_looked_up (λ t. not (is_among t values)) len (rows_named tables rows) (values_named profile.tables name)
+  unlisted_read (Some rows) (Some name) len values e = any_looked_up (len_count profile) (λ t. not (is_among t values)) len (rows_named tables rows) (values_named profile.tables name)
 
   -- what may be longer
-  pub long_read : (rows table : Option (List ℕ)) (len : Option ℕ) (most : ℕ) → is_any rows table ≡ false
-      → may_be_long octets (rowed tables rows (table_texts profile table len)) (Some most) ≡ some_read len (holds_of (λ t. nat_lt most (length t))) (all_read profile.tables tables rows table)
-  long_read None None len most e = absurd (true≢false e)
-  long_read None (Some name) len most e = any_itself (λ t. nat_lt most (length t)) len (values_named profile.tables name)
-  long_read (Some rows) None len most e = any_second (λ t. nat_lt most (length t)) len (rows_named tables rows)
-  long_read (Some rows) (Some name) len most e = any_looked_up (λ t. nat_lt most (length t)) len (rows_named tables rows) (values_named profile.tables name)
+  pub long_read : (to : Count) (rows table : Option (List ℕ)) (len : Option ℕ) (most : ℕ) → is_any rows table ≡ false
+      → may_be_long to (rowed tables rows (table_texts profile table len)) (Some most) ≡ some_read len (holds_of (λ t. nat_lt most (measure to t))) (all_read (len_count profile) profile.tables tables rows table)
+  long_read to None None len most e = absurd (true≢false e)
+  long_read to None (Some name) len most e = any_itself (len_count profile) (λ t. nat_lt most (measure to t)) len (values_named profile.tables name)
+  long_read to (Some rows) None len most e = any_second (λ t. nat_lt most (measure to t)) len (rows_named tables rows)
+  long_read to (Some rows) (Some name) len most e = any_looked_up (len_count profile) (λ t. nat_lt most (measure to t)) len (rows_named tables rows) (values_named profile.tables name)
 
   -- what may have no row, where nothing stands for it
   pub unrowed_read : (rows : List ℕ) (table : Option (List ℕ)) (len : Option ℕ)
-      → some_read len is_nothing (all_read profile.tables tables (Some rows) table) ≡ is_unrowed (rows_named tables rows) (table_texts profile table len)
+      → some_read len is_nothing (all_read (len_count profile) profile.tables tables (Some rows) table) ≡ is_unrowed (rows_named tables rows) (table_texts profile table len)
   unrowed_read rows None len = any_given is_nothing len (rows_named tables rows) ∙ ap (λ b. b || is_nothing (rows_named tables rows).other) (none_given (rows_named tables rows).rows) ∙ sym (and_true (is_nothing (rows_named tables rows).other))
   unrowed_read rows (Some name) None =
-      any_map (looked_up (rows_named tables rows)) (λ r. fits None r.0 && is_nothing r.1) (values_named profile.tables name)
-      ∙ nothing_given (is_short octets None) (rows_named tables rows) (values_named profile.tables name) (rows_named tables rows).other refl
+      any_map (looked_up (len_count profile) (rows_named tables rows)) (λ r. fits None r.0 && is_nothing r.1) (values_named profile.tables name)
+      ∙ nothing_given (is_short (len_count profile) None) (rows_named tables rows) (values_named profile.tables name) (rows_named tables rows).other refl
   unrowed_read rows (Some name) (Some most) =
-      any_map (looked_up (rows_named tables rows)) (λ r. fits (Some most) r.0 && is_nothing r.1) (values_named profile.tables name)
-      ∙ nothing_given (is_short octets (Some most)) (rows_named tables rows) (values_named profile.tables name) (rows_named tables rows).other refl
+      any_map (looked_up (len_count profile) (rows_named tables rows)) (λ r. fits (Some most) r.0 && is_nothing r.1) (values_named profile.tables name)
+      ∙ nothing_given (is_short (len_count profile) (Some most)) (rows_named tables rows) (values_named profile.tables name) (rows_named tables rows).other refl
 
 -- ---- a subcomponent
 

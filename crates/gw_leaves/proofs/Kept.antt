@@ -65,10 +65,10 @@ module _ {K V W : Type 0} (eq : K → K → Bool) (value : K → W) (same : (x y
 
 module _ (s : SidesValue) (origin : Origin) (known : List (Origin × Findings)) (f : Findings) where
   abbrev IsIt : Option (List ℕ) × Option (List ℕ) → Findings → Type 0
-  IsIt o g = IsFound s.target.tables (all_read s.source.tables s.map.tables o.0 o.1) g
+  IsIt o g = IsFound s.target.count s.target.tables (all_read s.source.count s.source.tables s.map.tables o.0 o.1) g
 
-  pub found_in : Some f ≡ lookup (origins_eq origin) known → AreFound s known → IsFound s.target.tables (read_of s.source.tables s.map.tables origin) f
+  pub found_in : Some f ≡ lookup (origins_eq origin) known → AreFound s known → IsFound s.target.count s.target.tables (read_of s.source.count s.source.tables s.map.tables origin) f
   found_in e h = found origins_eq origin_value same_origin IsIt origin known f e h
 
-  pub kept_in : IsFound s.target.tables (read_of s.source.tables s.map.tables origin) f → AreFound s known → AreFound s (insert_entry origins_eq known origin f)
+  pub kept_in : IsFound s.target.count s.target.tables (read_of s.source.count s.source.tables s.map.tables origin) f → AreFound s known → AreFound s (insert_entry origins_eq known origin f)
   kept_in new h = kept origins_eq origin_value same_origin IsIt origin known f new h

@@ -7,6 +7,7 @@ use Rattle.std.proofs.lemmas.List.{get_or-drop, get_or_default, length-drop}
 use Rattle.std.proofs.lemmas.List.Folds.{list_any_none, list_any_at}
 use Rattle.std.proofs.lemmas.List.Sorted.{list_any-IsPermutation}
 use denote.Ref.{Bor}
+use Rattle.gw_profile.specs.declared.shape.Count.{Count}
 use Rattle.gw_profile.specs.Shapes.{TableValue}
 use Rattle.gw_maplang.specs.Seen.{now}
 use Rattle.gw_leaves.specs.declared.readings.Reading.{Reading}
@@ -23,30 +24,30 @@ fits_less (Some most) a b l e = grind (arith, nat_tests)
 
 module _ (test : Option (List ℕ) → Bool) where
   abbrev pub hits : Option ℕ → Reading → Bool
-  hits len r = fits len r.octets && test (now r.text)
+  hits len r = fits len r.size && test (now r.text)
 
   pub some_is : (len : Option ℕ) (xs : List Reading) → some_read len test (readings_value xs) ≡ list_any (hits len) xs
   some_is len xs = any_map reading_value (λ r. fits len r.0 && test r.1) xs
 
   -- the first of which it holds is the shortest
   pub first : (xs : List Reading) (i : ℕ) (r : Reading) (len : Option ℕ) → i < length xs → r ≡ get_or xs i r → test (now r.text) ≡ true → AreRising xs
-      → fits len r.octets ≡ some_read len test (readings_value (drop i xs))
+      → fits len r.size ≡ some_read len test (readings_value (drop i xs))
   first xs i r len low at holds up =
-      by (fits len r.octets) refl
-      ∙ ap (λ b. (fits len r.octets && b) || some_read len test (readings_value (drop (suc i) xs))) (sym holds)
+      by (fits len r.size) refl
+      ∙ ap (λ b. (fits len r.size && b) || some_read len test (readings_value (drop (suc i) xs))) (sym holds)
       ∙ ap (λ ys. some_read len test (readings_value ys)) (sym (drop-cons xs i r low ∙ ap (λ x. x ∷ drop (suc i) xs) (sym at)))
     where
-      later : (k : ℕ) (d : Reading) → k < length (drop (suc i) xs) → r.octets ≤ (get_or (drop (suc i) xs) k d).octets
+      later : (k : ℕ) (d : Reading) → k < length (drop (suc i) xs) → r.size ≤ (get_or (drop (suc i) xs) k d).size
       later k d l =
           let a = up i (suc i + k) d (omega arith) (omega (arith, l, length-drop (suc i) xs)) in
-          omega (arith, a, ap (λ (x : Reading). x.octets) (at ∙ get_or_default xs i r d low), ap (λ (x : Reading). x.octets) (get_or-drop (suc i) xs k d))
+          omega (arith, a, ap (λ (x : Reading). x.size) (at ∙ get_or_default xs i r d low), ap (λ (x : Reading). x.size) (get_or-drop (suc i) xs k d))
 
-      none : fits len r.octets ≡ false → some_read len test (readings_value (drop (suc i) xs)) ≡ false
+      none : fits len r.size ≡ false → some_read len test (readings_value (drop (suc i) xs)) ≡ false
       none e =
           some_is len (drop (suc i) xs)
-          ∙ list_any_none (hits len) (drop (suc i) xs) (λ k d l. ap (λ b. b && test (now (get_or (drop (suc i) xs) k d).text)) (fits_less len r.octets _ (later k d l) e))
+          ∙ list_any_none (hits len) (drop (suc i) xs) (λ k d l. ap (λ b. b && test (now (get_or (drop (suc i) xs) k d).text)) (fits_less len r.size _ (later k d l) e))
 
-      by : (b : Bool) → fits len r.octets ≡ b → fits len r.octets ≡ ((fits len r.octets && true) || some_read len test (readings_value (drop (suc i) xs)))
+      by : (b : Bool) → fits len r.size ≡ b → fits len r.size ≡ ((fits len r.size && true) || some_read len test (readings_value (drop (suc i) xs)))
       by true e = e ∙ ap (λ b. (b && true) || some_read len test (readings_value (drop (suc i) xs))) (sym e)
       by false e = e ∙ sym (none e) ∙ ap (λ b. (b && true) || some_read len test (readings_value (drop (suc i) xs))) (sym e)
 
@@ -64,8 +65,8 @@ within_last steps i s last low at from far len most t = list_any_at (λ (x : Ste
     reaches None h = grind (arith, nat_tests)
     reaches (Some n) h = grind (arith, nat_tests)
 
-pub steps_of_all : (all : List spec.Reading) (xs : List Reading) (steps : List Step) → AreAll all xs → AreSteps (readings_value xs) steps → AreSteps all steps
-steps_of_all all xs steps same h len most = h len most ∙ sym (list_any-IsPermutation (λ r. fits len r.0 && is_longer most r.1) all (readings_value xs) same)
+pub steps_of_all : (to : Count) (all : List spec.Reading) (xs : List Reading) (steps : List Step) → AreAll all xs → AreSteps to (readings_value xs) steps → AreSteps to all steps
+steps_of_all to all xs steps same h len most = h len most ∙ sym (list_any-IsPermutation (λ r. fits len r.0 && is_longer to most r.1) all (readings_value xs) same)
 
 -- ---- tables of the target
 

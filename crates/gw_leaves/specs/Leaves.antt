@@ -5,7 +5,9 @@ use Rattle.gw_profile.specs.declared.shape.Usage.{Usage}
 use Rattle.gw_profile.specs.declared.shape.Usage.TheVariants.{R, RE, O, X}
 use Rattle.gw_profile.specs.Among.{Among}
 use Rattle.gw_profile.specs.Shapes.{SubValue, CompValue, FieldValue, ProfileValue}
-use Rattle.gw_profile.specs.Lengths.{Count, octets, measure, len_count}
+use Rattle.gw_profile.specs.declared.shape.Count.{Count}
+use Rattle.gw_profile.specs.declared.shape.Count.TheVariants.{Octets, Characters}
+use Rattle.gw_profile.specs.Lengths.{measure, len_count}
 use Rattle.gw_profile.specs.Fault.{is_among}
 use Rattle.gw_profile.specs.Value.{table_of}
 use Rattle.gw_leaves.specs.declared.shape.Presence.{Presence}
@@ -164,9 +166,12 @@ may_be_unlisted values None = false
 may_be_unlisted (any count len) (Some table) = true
 may_be_unlisted (listed texts) (Some table) = list_any (λ text. not (is_among text table)) texts
 
--- a text that isn't longer than the length by one count may be longer than the most by the other
+-- A text that isn't longer than the length by one count may be longer than the most by the other.
+-- A text has no more characters than octets; its characters set no limit to its octets.
 abbrev pub may_exceed : Count → ℕ → Count → ℕ → Bool
-may_exceed octets len octets most = nat_lt most len
+may_exceed Octets len to most = nat_lt most len
+may_exceed Characters len Octets most = true
+may_exceed Characters len Characters most = nat_lt most len
 
 -- a value may be longer than the length, by the count of the target
 abbrev pub may_be_long : Count → Values → Option ℕ → Bool

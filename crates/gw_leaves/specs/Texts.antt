@@ -4,7 +4,6 @@ use Rattle.std.specs.Global.{Vec}
 use denote.Ref.{Bor}
 use Rattle.gw_profile.specs.declared.shape.Usage.{Usage}
 use Rattle.gw_profile.specs.declared.shape.Usage.TheVariants.{R, RE, O, X}
-use Rattle.gw_profile.specs.Lengths.{octets}
 use Rattle.gw_maplang.specs.Shapes.{Rows}
 use Rattle.gw_leaves.specs.declared.shape.Presence.{Presence}
 use Rattle.gw_leaves.specs.declared.shape.Values as values_of
@@ -26,7 +25,7 @@ is_there (Some text) = true
 -- ---- a shape that was made
 
 abbrev pub values_value : values_of.Values → Values
-values_value (values_of.TheVariants.Any len) = any octets len
+values_value (values_of.TheVariants.Any len count) = any count len
 values_value (values_of.TheVariants.Listed all) = listed (items_all all.items)
 
 abbrev pub shape_value : shapes.Shape → Shape

@@ -12,15 +12,15 @@ use std::alloc::{AllocError, Global};
 /// What is found of all that can be read of an origin.
 #[derive(Drop)]
 pub(crate) struct Findings<'a> {
-    /// For tables of the target, by their names: the octets of the shortest text for which something is given that isn't in it.
+    /// For tables of the target, by their names: the length of the shortest text for which something is given that isn't in it.
     pub(crate) unlisted: IndexMap<&'a [u8], Option<u64>>,
-    /// The octets of the shortest text for which nothing is given.
+    /// The length of the shortest text for which nothing is given.
     pub(crate) nothing: Option<u64>,
     /// How long what is given can be.
     pub(crate) steps: Vec<Step>,
 }
 
-// The octets of the shortest text for which something is given that isn't in a table of the target, for each of these.
+// The length of the shortest text for which something is given that isn't in a table of the target, for each of these.
 fn find_unlisted<'a>(
     alloc: Global,
     target: &Profile,
@@ -32,8 +32,8 @@ fn find_unlisted<'a>(
 {
     let mut unlisted = IndexMap::with_capacity(alloc, names.len())?;
     for name in names {
-        let octets = shortest(readings, Test::Unlisted(target.table(name)));
-        unlisted.insert(name, octets)?;
+        let size = shortest(readings, Test::Unlisted(target.table(name)));
+        unlisted.insert(name, size)?;
     }
     Ok(unlisted)
 }
@@ -47,10 +47,10 @@ pub(crate) fn find<'a>(
     origin: Origin<'a>,
     names: IndexSet<&'a [u8]>,
 ) -> Result<Findings<'a>, AllocError>
-    ensures { IfOk result (IsFound target.now.tables (read_of source.now.tables map.now.tables origin.entry)) }
+    ensures { IfOk result (IsFound target.now.count target.now.tables (read_of source.now.count source.now.tables map.now.tables origin.entry)) }
 {
     let readings = readings_of(alloc, source, map, origin)?;
-    let steps = steps_of(alloc, &readings)?;
+    let steps = steps_of(alloc, target.count(), &readings)?;
     let unlisted = find_unlisted(alloc, target, &readings, names)?;
     Ok(Findings {
         unlisted,

@@ -1,6 +1,5 @@
 //! What is read at a place, and what a subcomponent of the target asks of it.
 ghost use Rattle.std.specs.Prelude.{◌≡◌, IfOk};
-ghost use Rattle.gw_profile.specs.Lengths.{octets};
 ghost use Rattle.gw_profile.specs.Seen.{sub as sub_value};
 ghost use Rattle.gw_maplang.specs.Seen.{now};
 ghost use Rattle.gw_leaves.specs.Components.{table_values};
@@ -11,6 +10,7 @@ ghost use Rattle.gw_leaves.specs.own.Held.{some_sub, given_texts, source_values}
 
 use crate::readings::{Origin, fits, is_any};
 use crate::sides::Sides;
+use crate::texts::may_exceed;
 use gw_profile::SubShape;
 use std::alloc::AllocError;
 
@@ -34,7 +34,7 @@ pub(crate) fn table_of<'a>(sub: Option<&'a SubShape>) -> Option<&'a [u8]>
     }
 }
 
-// The most octets that a subcomponent takes.
+// The length of a subcomponent.
 fn len_of(sub: Option<&SubShape>) -> Option<u32>
     ensures { result ≡ spec.len_of (some_sub sub.entry) }
 {
@@ -79,7 +79,7 @@ pub(crate) fn may_be_long(
     given: Given<'_>,
     sub: &SubShape,
 ) -> Result<bool, AllocError>
-    ensures { IfOk result (λ b. b ≡ leaves.may_be_long octets (given_texts sides.now given.entry) (sub_value sub.now).len) }
+    ensures { IfOk result (λ b. b ≡ leaves.may_be_long sides.now.target.count (given_texts sides.now given.entry) (sub_value sub.now).len) }
 {
     let Some(most) = sub.len else {
         return Ok(false);
@@ -89,7 +89,7 @@ pub(crate) fn may_be_long(
     if is_any(origin) {
         return match len {
             None => Ok(true),
-            Some(len) => Ok(most < len),
+            Some(len) => Ok(may_exceed(sides.source().count(), len, sides.target().count(), most)),
         };
     }
     sides.goes_beyond(origin, len, most)

@@ -3,7 +3,8 @@ ghost use Rattle.std.specs.Prelude.{◌≡◌, ◌↔◌, ◌⊎◌, ◌≤◌, 
 ghost use Rattle.gw_profile.specs.declared.shape.Usage.TheVariants.{R, X};
 ghost use Rattle.gw_profile.specs.Among.{Among};
 ghost use Rattle.gw_profile.specs.Shapes.{SubValue};
-ghost use Rattle.gw_profile.specs.Lengths.{Count, measure};
+ghost use Rattle.gw_profile.specs.declared.shape.Count.{Count};
+ghost use Rattle.gw_profile.specs.Lengths.{measure};
 ghost use Rattle.gw_resolve.specs.Intervals.{Interval, sum, product, is_sure, is_never, is_within};
 ghost use Rattle.gw_resolve.specs.Places.{known};
 ghost use Rattle.gw_resolve.specs.Resolved.{Reference, of_field};

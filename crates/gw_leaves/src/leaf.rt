@@ -3,7 +3,6 @@ ghost use Rattle.std.specs.Prelude.{◌≡◌, option_and_then, option_copied};
 ghost use Rattle.gw_profile.specs.Seen.{sub as sub_value};
 ghost use Rattle.gw_profile.specs.Value.{table_of as table_in};
 ghost use Rattle.gw_maplang.specs.Seen.{now};
-ghost use Rattle.gw_profile.specs.Lengths.{octets};
 ghost use Rattle.gw_leaves.specs.Leaves as spec;
 ghost use Rattle.gw_leaves.specs.own.Held.{some_sub};
 ghost use Rattle.gw_leaves.specs.Uses.{sources_value};
@@ -15,7 +14,7 @@ use crate::presence::{is_absent, is_always};
 use crate::shape::{Presence, Shape};
 use crate::sources::Sources;
 use crate::texts::{may_be_long, may_be_outside};
-use gw_profile::{Profile, SubShape, Table, Usage};
+use gw_profile::{Count, Profile, SubShape, Table, Usage};
 use gw_resolve::Source;
 
 /// The table of this name.
@@ -54,9 +53,9 @@ fn meets_usage(usage: Usage, presence: Presence) -> bool
     }
 }
 
-/// Whether what can stand there always meets the subcomponent, with these values of its table. It takes no memory.
-pub fn included(shape: &Shape, sub: &SubShape, table: Option<&[Vec<u8>]>) -> bool
-    ensures { result ≡ spec.is_included octets (shape_value shape.now) (sub_value sub.now) (some_items table.entry) }
+/// Whether what can stand there always meets the subcomponent, with these values of its table; `count` is what the lengths of its profile count. It takes no memory.
+pub fn included(shape: &Shape, sub: &SubShape, table: Option<&[Vec<u8>]>, count: Count) -> bool
+    ensures { result ≡ spec.is_included count (shape_value shape.now) (sub_value sub.now) (some_items table.entry) }
 {
     if !meets_usage(sub.usage, shape.presence) {
         return false;
@@ -64,5 +63,5 @@ pub fn included(shape: &Shape, sub: &SubShape, table: Option<&[Vec<u8>]>) -> boo
     if is_absent(shape.presence) {
         return true;
     }
-    !may_be_outside(&shape.values, table) && !may_be_long(&shape.values, sub.len)
+    !may_be_outside(&shape.values, table) && !may_be_long(&shape.values, sub.len, count)
 }

@@ -37,7 +37,7 @@ fn breaks(target: &Profile, text: &[u8], sub: &SubShape) -> bool
     ensures { result ≡ seen.may_break target.now (leaves_spec.listed (text.now ∷ [])) sub.now }
 {
     let table = table_named(target, table_of(Some(sub)));
-    is_missing(table, text) || is_long(sub.len, text)
+    is_missing(table, text) || is_long(sub.len, text, target.count())
 }
 
 fn check_const(

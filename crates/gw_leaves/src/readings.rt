@@ -8,16 +8,16 @@ ghost use Rattle.gw_leaves.specs.own.Readings as spec;
 ghost use Rattle.gw_leaves.specs.own.Readings.{readings_value, test_value, some_step, AreRising, AreAll, IsShortest, IsWithin, AddsStep, AreSteps};
 
 use gw_maplang::{Map, Table as Rows};
-use gw_profile::{Profile, Table};
+use gw_profile::{Count, Profile, Table, measure};
 use std::alloc::{AllocError, Global};
 
 /// Where texts are from: the table of the map in which they are looked up, and the table of the source that lists them.
 pub(crate) type Origin<'a> = (Option<&'a [u8]>, Option<&'a [u8]>);
 
-/// A text that can be read: its octets, and what is given for it.
+/// A text that can be read: its length by the count of the source, and what is given for it.
 #[derive(Clone, Copy)]
 pub(crate) struct Reading<'a> {
-    pub(crate) octets: u64,
+    pub(crate) size: u64,
     pub(crate) text: Option<&'a [u8]>,
 }
 
@@ -28,7 +28,7 @@ pub(crate) enum Test<'a> {
     Nothing,
 }
 
-/// For texts from so many octets on, the most octets of what is given for one.
+/// The greatest length of what is given for texts of this length or more, by the count of the target.
 #[derive(Clone, Copy)]
 pub(crate) struct Step {
     pub(crate) from: u64,
@@ -66,13 +66,17 @@ fn given<'a>(rows: Option<&'a Rows>, text: &[u8]) -> Option<&'a [u8]>
 }
 
 // Each value as it is.
-fn themselves<'a>(alloc: Global, values: &'a [Vec<u8>]) -> Result<Vec<Reading<'a>>, AllocError>
-    ensures { IfOk result (λ made. readings_value made.items ≡ map spec.itself (items_all values.now)) }
+fn themselves<'a>(
+    alloc: Global,
+    count: Count,
+    values: &'a [Vec<u8>],
+) -> Result<Vec<Reading<'a>>, AllocError>
+    ensures { IfOk result (λ made. readings_value made.items ≡ map (spec.itself count) (items_all values.now)) }
 {
     let mut made = Vec::with_capacity(alloc, values.len())?;
     for value in values {
         made.push(Reading {
-            octets: value.len() as u64,
+            size: measure(count, value),
             text: Some(value.as_slice()),
         })?;
     }
@@ -82,15 +86,16 @@ fn themselves<'a>(alloc: Global, values: &'a [Vec<u8>]) -> Result<Vec<Reading<'a
 // What the rows give for each value.
 fn looked_up<'a>(
     alloc: Global,
+    count: Count,
     rows: Option<&'a Rows>,
     values: &'a [Vec<u8>],
 ) -> Result<Vec<Reading<'a>>, AllocError>
-    ensures { IfOk result (λ made. readings_value made.items ≡ map (spec.looked_up (rows_value rows.entry)) (items_all values.now)) }
+    ensures { IfOk result (λ made. readings_value made.items ≡ map (spec.looked_up count (rows_value rows.entry)) (items_all values.now)) }
 {
     let mut made = Vec::with_capacity(alloc, values.len())?;
     for value in values {
         made.push(Reading {
-            octets: value.len() as u64,
+            size: measure(count, value),
             text: given(rows, value),
         })?;
     }
@@ -114,12 +119,12 @@ fn all_given<'a>(alloc: Global, rows: &'a Rows) -> Result<Vec<Reading<'a>>, Allo
     let mut made = Vec::new(alloc);
     for i in 0..rows.rows().len() {
         made.push(Reading {
-            octets: 0,
+            size: 0,
             text: second_at(rows, i),
         })?;
     }
     made.push(Reading {
-        octets: 0,
+        size: 0,
         text: rows.other(),
     })?;
     Ok(made)
@@ -132,27 +137,34 @@ fn gathered<'a>(
     map: &'a Map,
     origin: Origin<'a>,
 ) -> Result<Vec<Reading<'a>>, AllocError>
-    ensures { IfOk result (λ made. readings_value made.items ≡ spec.read_of source.now.tables map.now.tables origin.entry) }
+    ensures { IfOk result (λ made. readings_value made.items ≡ spec.read_of source.now.count source.now.tables map.now.tables origin.entry) }
 {
     let (rows, table) = origin;
     match rows {
         None => match table {
             None => Ok(Vec::new(alloc)),
-            Some(name) => themselves(alloc, values_of(source, name)),
+            Some(name) => themselves(alloc, source.count(), values_of(source, name)),
         },
         Some(rows) => match table {
             None => match map.table(rows) {
                 None => {
                     let mut made = Vec::new(alloc);
                     made.push(Reading {
-                        octets: 0,
+                        size: 0,
                         text: None,
                     })?;
                     Ok(made)
                 }
                 Some(rows) => all_given(alloc, rows),
             },
-            Some(name) => looked_up(alloc, map.table(rows), values_of(source, name)),
+            Some(name) => {
+                looked_up(
+                    alloc,
+                    source.count(),
+                    map.table(rows),
+                    values_of(source, name),
+                )
+            }
         },
     }
 }
@@ -165,29 +177,29 @@ pub(crate) fn readings_of<'a>(
     origin: Origin<'a>,
 ) -> Result<Vec<Reading<'a>>, AllocError>
     ensures rising { IfOk result (λ made. AreRising made.items) }
-    ensures all { IfOk result (λ made. AreAll (spec.read_of source.now.tables map.now.tables origin.entry) made.items) }
+    ensures all { IfOk result (λ made. AreAll (spec.read_of source.now.count source.now.tables map.now.tables origin.entry) made.items) }
 {
     let mut made = gathered(alloc, source, map, origin)?;
     made.sort_unstable_by_key(
         |reading: &Reading| -> u64
-            ensures { result ≡ reading.now.octets }
-        { reading.octets },
+            ensures { result ≡ reading.now.size }
+        { reading.size },
     );
     Ok(made)
 }
 
 // ---- what is found of it
 
-/// Whether there is a text of so many octets, and it isn't longer.
-pub(crate) fn fits(len: Option<u32>, octets: Option<u64>) -> bool
-    ensures { result ≡ spec.fits_some len octets }
+/// Whether there is such a text, and its length is within this.
+pub(crate) fn fits(len: Option<u32>, size: Option<u64>) -> bool
+    ensures { result ≡ spec.fits_some len size }
 {
-    let Some(octets) = octets else {
+    let Some(size) = size else {
         return false;
     };
     match len {
         None => true,
-        Some(most) => octets <= u64::from(most),
+        Some(most) => size <= u64::from(most),
     }
 }
 
@@ -208,14 +220,14 @@ fn holds(test: Test<'_>, given: Option<&[u8]>) -> bool
     }
 }
 
-/// The octets of the shortest text for which the test holds of what is given; the first of these that is found.
+/// The length of the shortest text for which the test holds of what is given; the first of these that is found.
 pub(crate) fn shortest(readings: &[Reading<'_>], test: Test<'_>) -> Option<u64>
     requires { AreRising readings.now }
     ensures { IsShortest (test_value test.entry) (readings_value readings.now) result }
 {
     for reading in readings {
         if holds(test, reading.text) {
-            return Some(reading.octets);
+            return Some(reading.size);
         }
     }
     None
@@ -232,15 +244,15 @@ fn is_within(step: Step, steps: &[Step]) -> bool
 }
 
 // Adds the step that a text makes, where the last doesn't go as far.
-fn add_step(steps: &mut Vec<Step>, reading: Reading<'_>) -> Result<(), AllocError>
-    ensures { OnOk result (AddsStep steps.old.items steps.new.items (spec.reading_value reading.entry)) }
+fn add_step(steps: &mut Vec<Step>, to: Count, reading: Reading<'_>) -> Result<(), AllocError>
+    ensures { OnOk result (AddsStep to steps.old.items steps.new.items (spec.reading_value reading.entry)) }
 {
     let Some(text) = reading.text else {
         return Ok(());
     };
     let step = Step {
-        from: reading.octets,
-        most: text.len() as u64,
+        from: reading.size,
+        most: measure(to, text),
     };
     if !is_within(step, steps) {
         steps.push(step)?;
@@ -248,18 +260,22 @@ fn add_step(steps: &mut Vec<Step>, reading: Reading<'_>) -> Result<(), AllocErro
     Ok(())
 }
 
-/// How long what is given can be, from which octets of a text on.
-pub(crate) fn steps_of(alloc: Global, readings: &[Reading<'_>]) -> Result<Vec<Step>, AllocError>
-    ensures { IfOk result (λ steps. AreSteps (readings_value readings.now) steps.items) }
+/// How long what is given can be, by the length of the text that it is given for.
+pub(crate) fn steps_of(
+    alloc: Global,
+    to: Count,
+    readings: &[Reading<'_>],
+) -> Result<Vec<Step>, AllocError>
+    ensures { IfOk result (λ steps. AreSteps to (readings_value readings.now) steps.items) }
 {
     let mut steps = Vec::new(alloc);
     for reading in readings {
-        add_step(&mut steps, *reading)?;
+        add_step(&mut steps, to, *reading)?;
     }
     Ok(steps)
 }
 
-/// Whether what is given for a text that isn't longer can have more octets than these.
+/// Whether what is given for a text that isn't longer can be longer than this.
 pub(crate) fn goes_beyond(steps: &[Step], len: Option<u32>, most: u32) -> bool
     ensures { result ≡ some_step len most steps.now }
 {

@@ -1,5 +1,7 @@
 //! What can stand at a source place, as far as the source's profile says.
 
+use gw_profile::Count;
+
 /// Whether a text stands there.
 #[derive(Clone, Copy, Drop)]
 pub enum Presence {
@@ -11,8 +13,8 @@ pub enum Presence {
 /// Which texts can stand there, `""` aside.
 #[derive(Drop)]
 pub enum Values {
-    /// Any text, of at most so many octets where a length is known.
-    Any(Option<u32>),
+    /// Any text, by this count not longer than the length, where there is one.
+    Any(Option<u32>, Count),
     /// One of these.
     Listed(Vec<Vec<u8>>),
 }

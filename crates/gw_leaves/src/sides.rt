@@ -53,8 +53,8 @@ impl<'a> Model for Sides<'a> {
 
 impl<'a> Sides<'a> {
     ghost use Rattle.std.specs.Prelude.{◌≡◌, IfOk};
-    ghost use Rattle.gw_leaves.specs.own.Findings.{is_missing};
-    ghost use Rattle.gw_leaves.specs.own.Readings.{read_of, some_read, is_nothing, is_longer, IsShortest};
+    ghost use Rattle.gw_leaves.specs.own.Findings.{is_missing, read_at};
+    ghost use Rattle.gw_leaves.specs.own.Readings.{some_read, is_nothing, is_longer, IsShortest};
     ghost use Rattle.gw_leaves.specs.Sides.{sides_of};
 
     /// The map with its profiles, and what is found of the tables that its items bring together, where this is the level of the source's nodes.
@@ -135,26 +135,26 @@ impl<'a> Sides<'a> {
         self.map
     }
 
-    /// The octets of the shortest text for which something is given that isn't in the target's table of this name.
+    /// The length of the shortest text for which something is given that isn't in the target's table of this name.
     pub(crate) fn unlisted(
         &self,
         origin: Origin<'_>,
         name: &[u8],
     ) -> Result<Option<u64>, AllocError>
-        ensures { IfOk result (IsShortest (is_missing self.now.target.tables name.now) (read_of self.now.source.tables self.now.map.tables origin.entry)) }
+        ensures { IfOk result (IsShortest (is_missing self.now.target.tables name.now) (read_at self.now origin.entry)) }
     {
         if let Some(found) = self.known.get(&origin) {
-            if let Some(octets) = found.unlisted.get(&name) {
-                return Ok(*octets);
+            if let Some(size) = found.unlisted.get(&name) {
+                return Ok(*size);
             }
         }
         let readings = readings_of(self.alloc, self.source, self.map, origin)?;
         Ok(shortest(&readings, Test::Unlisted(self.target.table(name))))
     }
 
-    /// The octets of the shortest text for which nothing is given.
+    /// The length of the shortest text for which nothing is given.
     pub(crate) fn nothing(&self, origin: Origin<'_>) -> Result<Option<u64>, AllocError>
-        ensures { IfOk result (IsShortest is_nothing (read_of self.now.source.tables self.now.map.tables origin.entry)) }
+        ensures { IfOk result (IsShortest is_nothing (read_at self.now origin.entry)) }
     {
         if let Some(found) = self.known.get(&origin) {
             return Ok(found.nothing);
@@ -163,20 +163,20 @@ impl<'a> Sides<'a> {
         Ok(shortest(&readings, Test::Nothing))
     }
 
-    /// Whether what is given for a text that isn't longer can have more octets than these.
+    /// Whether what is given for a text that isn't longer can be longer than this.
     pub(crate) fn goes_beyond(
         &self,
         origin: Origin<'_>,
         len: Option<u32>,
         most: u32,
     ) -> Result<bool, AllocError>
-        ensures { IfOk result (λ b. b ≡ some_read len (is_longer most) (read_of self.now.source.tables self.now.map.tables origin.entry)) }
+        ensures { IfOk result (λ b. b ≡ some_read len (is_longer self.now.target.count most) (read_at self.now origin.entry)) }
     {
         if let Some(found) = self.known.get(&origin) {
             return Ok(goes_beyond(&found.steps, len, most));
         }
         let readings = readings_of(self.alloc, self.source, self.map, origin)?;
-        let steps = steps_of(self.alloc, &readings)?;
+        let steps = steps_of(self.alloc, self.target.count(), &readings)?;
         Ok(goes_beyond(&steps, len, most))
     }
 }

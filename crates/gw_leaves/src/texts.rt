@@ -1,13 +1,13 @@
 //! What a subcomponent asks of texts that are known one by one.
-ghost use Rattle.std.specs.Prelude.{◌≡◌, ◌∷◌, [], not, nat_lt, length, option_copied};
+ghost use Rattle.std.specs.Prelude.{◌≡◌, ◌∷◌, [], not, nat_lt, option_copied};
 ghost use Rattle.gw_profile.specs.Fault.{is_among};
-ghost use Rattle.gw_profile.specs.Lengths.{octets};
+ghost use Rattle.gw_profile.specs.Lengths.{measure as measured};
 ghost use Rattle.std.specs.List.{list_any};
 ghost use Rattle.gw_leaves.specs.Leaves as spec;
 ghost use Rattle.gw_leaves.specs.Texts.{items_all, some_items, values_value};
 
 use crate::shape::Values;
-use gw_profile::Table;
+use gw_profile::{Count, Table, measure};
 
 // ---- one text
 
@@ -22,12 +22,12 @@ pub(crate) fn is_missing(table: Option<&Table>, text: &[u8]) -> bool
 }
 
 /// Whether the text is longer than this.
-pub(crate) fn is_long(len: Option<u32>, text: &[u8]) -> bool
-    ensures { result ≡ spec.may_be_long octets (spec.listed (text.now ∷ [])) len }
+pub(crate) fn is_long(len: Option<u32>, text: &[u8], to: Count) -> bool
+    ensures { result ≡ spec.may_be_long to (spec.listed (text.now ∷ [])) len }
 {
     match len {
         None => false,
-        Some(most) => u64::from(most) < text.len() as u64,
+        Some(most) => u64::from(most) < measure(to, text),
     }
 }
 
@@ -55,11 +55,11 @@ fn some_outside(texts: &[Vec<u8>], all: &[Vec<u8>]) -> bool
     false
 }
 
-fn some_over(texts: &[Vec<u8>], most: u32) -> bool
-    ensures { result ≡ list_any (λ v. nat_lt most (length v.items)) texts.now }
+fn some_over(texts: &[Vec<u8>], most: u32, to: Count) -> bool
+    ensures { result ≡ list_any (λ v. nat_lt most (measured to v.items)) texts.now }
 {
     for text in texts {
-        if u64::from(most) < text.len() as u64 {
+        if u64::from(most) < measure(to, text) {
             return true;
         }
     }
@@ -74,21 +74,34 @@ pub(crate) fn may_be_outside(values: &Values, table: Option<&[Vec<u8>]>) -> bool
         return false;
     };
     match values {
-        Values::Any(_) => true,
+        Values::Any(_, _) => true,
         Values::Listed(texts) => some_outside(texts, all),
     }
 }
 
+/// Whether a text that isn't longer than the length by one count may be longer than the most by the other.
+pub(crate) fn may_exceed(count: Count, len: u32, to: Count, most: u32) -> bool
+    ensures { result ≡ spec.may_exceed count len to most }
+{
+    match count {
+        Count::Octets => most < len,
+        Count::Characters => match to {
+            Count::Octets => true,
+            Count::Characters => most < len,
+        },
+    }
+}
+
 /// Whether a text of a shape may be longer than this.
-pub(crate) fn may_be_long(values: &Values, len: Option<u32>) -> bool
-    ensures { result ≡ spec.may_be_long octets (values_value values.now) len }
+pub(crate) fn may_be_long(values: &Values, len: Option<u32>, to: Count) -> bool
+    ensures { result ≡ spec.may_be_long to (values_value values.now) len }
 {
     let Some(most) = len else {
         return false;
     };
     match values {
-        Values::Any(None) => true,
-        Values::Any(Some(len)) => most < *len,
-        Values::Listed(texts) => some_over(texts, most),
+        Values::Any(None, _) => true,
+        Values::Any(Some(len), count) => may_exceed(*count, *len, to, most),
+        Values::Listed(texts) => some_over(texts, most, to),
     }
 }

@@ -4,12 +4,12 @@ use Rattle.std.specs.Prelude.{if◌then◌else◌, IfSome, codes}
 use Rattle.std.specs.Option.{is_some}
 use Rattle.gw_lines.specs.Words.{Word}
 use Rattle.gw_lines.specs.Spelled.{is_keyword}
-use Rattle.gw_lines.specs.Parts.{◌>>=◌, name_at, segment_at, number_at, some_values, with_all}
+use Rattle.gw_lines.specs.Parts.{◌>>=◌, name_at, segment_at, number_at, some_values, with_all, first_word}
 use Rattle.gw_lines.specs.Reading.{first_of, accepted}
 use Rattle.gw_lines.proofs.Taken.{taken_by}
 use Rattle.gw_profile.specs.declared.fault.ProfileFault.TheVariants.{Syntax}
 use Rattle.gw_profile.specs.Shapes.{ProfileValue}
-use Rattle.gw_profile.specs.Line.{Line, Begins, Table, Segment, Field, Comp, Sub, Group, End, profile_form, table_form, segment_form, field_form, comp_form, sub_form, group_form, form}
+use Rattle.gw_profile.specs.Line.{Line, Begins, Table, Segment, Field, Comp, Sub, Group, End, Counts, profile_form, table_form, segment_form, field_form, comp_form, sub_form, group_form, count_form, form}
 use Rattle.gw_profile.specs.Line.{label_at, usage_at, card_at, options, leaf_options}
 use Rattle.gw_profile.specs.Fault.{grammar, tests, takes}
 use Rattle.gw_profile.specs.Value.{name_of}
@@ -33,6 +33,7 @@ Says ws (Comp number usage leaf) = Unit {0}
 Says ws (Sub number usage leaf) = Unit {0}
 Says ws (Group at label usage card) = Unit {0}
 Says ws End = Unit {0}
+Says ws Counts = Unit {0}
 
 begins_says : (w : Word) (more : List Word) → is_keyword (codes "profile") w ≡ true → IfSome (profile_form more) (Says (w ∷ more))
 begins_says w more k = by (name_at more) refl
@@ -64,7 +65,9 @@ form_says at (w ∷ more) =
     (λ u. after (w ∷ more) (options u.0 false u.1) _ (λ l. tt))))
     (either_gives P (is_keyword (codes "group") w) (group_form at more) _ (after (w ∷ more) (name_at more) _ (λ l. after (w ∷ more) (usage_at l.1) _
     (λ u. after (w ∷ more) (card_at u.1) _ (λ c. with_all_is P c.1 (Group at l.0 u.0 c.0) tt))))
-    (either_gives P (is_keyword (codes "end") w) (with_all more End) None (with_all_is P more End tt) tt)))))))
+    (either_gives P (is_keyword (codes "end") w) (with_all more End) _ (with_all_is P more End tt)
+    (either_gives P (is_keyword (codes "count") w) (count_form more) None (after (w ∷ more) (first_word more) _
+    (λ c. either_gives P (is_keyword (codes "characters") c.0) (with_all c.1 Counts) None (with_all_is P c.1 Counts tt) tt)) tt))))))))
 
 -- the first line of a profile says its name
 first_begins : (at : ℕ) (line : Line) → first_of (tests [] at line) ≡ None → (name : List ℕ) × (line ≡ Begins name)
@@ -76,6 +79,7 @@ first_begins at (Comp number usage leaf) e = absurd (cc)
 first_begins at (Sub number usage leaf) e = absurd (cc)
 first_begins at (Group line label usage card) e = absurd (cc)
 first_begins at End e = absurd (cc)
+first_begins at Counts e = absurd (cc)
 
 some_said : (all : List Line) → is_unclosed all ≡ false → all ≡ [] → ⊥
 some_said [] closed e = cc

@@ -1,5 +1,6 @@
 -- A worked plan, and texts with one fault each.
 use Rattle.std.specs.Prelude.{ℕ, List, [], ◌∷◌, codes}
+use Rattle.gw_profile.specs.declared.shape.Count.TheVariants.{Octets}
 use Rattle.gw_profile.specs.Shapes.{nothing, ProfileValue}
 use Rattle.gw_plan.specs.Shapes.{RouteValue, PlanValue}
 use Rattle.gw_plan.specs.Joined.{joined}
@@ -7,7 +8,7 @@ use Rattle.gw_plan.specs.Joined.{joined}
 -- ---- routes
 
 abbrev profile : ProfileValue
-profile = record { name = codes "P2"; tables = []; nodes = nothing }
+profile = record { name = codes "P2"; count = Octets; tables = []; nodes = nothing }
 
 -- admissions, and messages without an event
 abbrev pub admission : RouteValue

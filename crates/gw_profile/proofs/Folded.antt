@@ -6,15 +6,17 @@ use Rattle.std.proofs.lemmas.Slice.Eq.{bytes_eq-Decides}
 use Rattle.gw_profile.specs.declared.shape.Usage as usages
 use Rattle.gw_profile.specs.declared.shape.Usage.TheVariants.{R, O}
 use Rattle.gw_profile.specs.declared.shape.Card.{Card}
+use Rattle.gw_profile.specs.declared.shape.Count.{Count}
+use Rattle.gw_profile.specs.declared.shape.Count.TheVariants.{Octets, Characters}
 use Rattle.gw_profile.specs.Shapes.{SubValue, CompValue, FieldValue, SegmentValue, TableValue, Forest, nothing, segment, group, ProfileValue}
-use Rattle.gw_profile.specs.Line.{Line, Begins, Table, Segment, Field, Comp, Sub, Group, End, said_leaf}
+use Rattle.gw_profile.specs.Line.{Line, Begins, Table, Segment, Field, Comp, Sub, Group, End, Counts, said_leaf}
 use Rattle.gw_profile.specs.Value as Value
 use Rattle.gw_profile.specs.Value.{Parts, no_parts, parts, Nodes, nodes, next, past, with_group, name_of, profile, sub_of}
 use Rattle.gw_profile.specs.LookAhead.{is_optional}
 use Rattle.gw_profile.specs.Deterministic.{Name, Determined}
 use Rattle.gw_profile.specs.Whole.{empty_group, is_msh, is_header, is_first, is_headed}
 use Rattle.gw_profile.specs.WellFormed.{EachSegment, IsHeader, IsOther, Headed, once}
-use Rattle.gw_profile.specs.Written.{subs_on, comps_on, fields_on, segment_line, nodes_on, tables_on, profile_lines}
+use Rattle.gw_profile.specs.Written.{subs_on, comps_on, fields_on, segment_line, nodes_on, tables_on, profile_lines, count_on}
 use Rattle.gw_profile.proofs.Facts.{both, true_not, false_not, and_of, either, unchosen}
 use Rattle.gw_profile.proofs.Ambiguity.{optional_is, demands_not}
 
@@ -107,17 +109,39 @@ tables_tables : (tables : List TableValue) (below : List Line) → Value.tables 
 tables_tables [] below e = e
 tables_tables (t ∷ tables) below e = ap (λ ts. t ∷ ts) (tables_tables tables below e)
 
+count_nodes : (count : Count) (below : List Line) → nodes (count_on count below) ≡ nodes below
+count_nodes Octets below = refl
+count_nodes Characters below = refl
+
+count_tables : (count : Count) (below : List Line) → Value.tables (count_on count below) ≡ Value.tables below
+count_tables Octets below = refl
+count_tables Characters below = refl
+
+-- no table or node says a count
+plain_count : (name : List ℕ) (tables : List TableValue) (f : Forest) → Value.count_of (Begins name ∷ tables_on tables (nodes_on f [])) ≡ Octets
+plain_count name [] nothing = refl
+plain_count name [] (segment s rest) = refl
+plain_count name [] (group g inner rest) = refl
+plain_count name (t ∷ tables) f = refl
+
+count_again : (name : List ℕ) (count : Count) (tables : List TableValue) (f : Forest) → Value.count_of (Begins name ∷ count_on count (tables_on tables (nodes_on f []))) ≡ count
+count_again name Octets tables f = plain_count name tables f
+count_again name Characters tables f = refl
+
 tables_nodes : (tables : List TableValue) (below : List Line) → nodes (tables_on tables below) ≡ nodes below
 tables_nodes [] below = refl
 tables_nodes (t ∷ tables) below = tables_nodes tables below
 
-abbrev Profile : List ℕ → List TableValue → Forest → ProfileValue
-Profile name tables f = record { name = name; tables = tables; nodes = f }
+abbrev Profile : List ℕ → Count → List TableValue → Forest → ProfileValue
+Profile name count tables f = record { name = name; count = count; tables = tables; nodes = f }
 
 pub profile_again : (p : ProfileValue) → profile (profile_lines p) ≡ p
 profile_again p =
-    ap (λ (n : Nodes). Profile p.name (Value.tables (tables_on p.tables (nodes_on p.nodes []))) n.here) (tables_nodes p.tables (nodes_on p.nodes []) ∙ nodes_nodes p.nodes [] refl refl)
-    ∙ ap (λ ts. Profile p.name ts p.nodes) (tables_tables p.tables (nodes_on p.nodes []) (nodes_tables p.nodes []))
+    let below = tables_on p.tables (nodes_on p.nodes []) in
+    let all = count_on p.count below in
+    ap (λ c. Profile p.name c (Value.tables all) (nodes all).here) (count_again p.name p.count p.tables p.nodes)
+    ∙ ap (λ (n : Nodes). Profile p.name p.count (Value.tables all) n.here) (count_nodes p.count below ∙ tables_nodes p.tables (nodes_on p.nodes []) ∙ nodes_nodes p.nodes [] refl refl)
+    ∙ ap (λ ts. Profile p.name p.count ts p.nodes) (count_tables p.count below ∙ tables_tables p.tables (nodes_on p.nodes []) (nodes_tables p.nodes []))
 
 -- ---- numbers of lines
 
@@ -131,6 +155,7 @@ at_line n (Comp number usage leaf) = Comp number usage leaf
 at_line n (Sub number usage leaf) = Sub number usage leaf
 at_line n (Group at label usage card) = Group n label usage card
 at_line n End = End
+at_line n Counts = Counts
 
 abbrev pub numbered : ℕ → List Line → List Line
 numbered n [] = []
@@ -148,11 +173,13 @@ parts_numbered n (Comp number usage leaf ∷ below) =
 parts_numbered n (Sub number usage leaf ∷ below) = ap (λ (q : Parts). Pieces (sub_of number usage leaf ∷ q.subs) q.comps q.fields) (parts_numbered (n + 1) below)
 parts_numbered n (Group at label usage card ∷ below) = refl
 parts_numbered n (End ∷ below) = refl
+parts_numbered n (Counts ∷ below) = refl
 
 nodes_numbered : (n : ℕ) (all : List Line) → nodes (numbered n all) ≡ nodes all
 nodes_numbered n [] = refl
 nodes_numbered n (Begins name ∷ below) = nodes_numbered (n + 1) below
 nodes_numbered n (Table name values ∷ below) = nodes_numbered (n + 1) below
+nodes_numbered n (Counts ∷ below) = nodes_numbered (n + 1) below
 nodes_numbered n (Segment name label renamed usage card ∷ below) =
     ap (λ (q : Parts). At (segment (record { name = name; label = label; usage = unwrap_or usage O; card = card; fields = q.fields }) (nodes (numbered (n + 1) below)).here) (nodes (numbered (n + 1) below)).behind) (parts_numbered (n + 1) below)
     ∙ ap (λ (m : Nodes). At (segment (record { name = name; label = label; usage = unwrap_or usage O; card = card; fields = (parts below).fields }) m.here) m.behind) (nodes_numbered (n + 1) below)
@@ -172,12 +199,30 @@ tables_numbered n (Comp number usage leaf ∷ below) = tables_numbered (n + 1) b
 tables_numbered n (Sub number usage leaf ∷ below) = tables_numbered (n + 1) below
 tables_numbered n (Group at label usage card ∷ below) = tables_numbered (n + 1) below
 tables_numbered n (End ∷ below) = tables_numbered (n + 1) below
+tables_numbered n (Counts ∷ below) = tables_numbered (n + 1) below
+
+said_numbered : (n : ℕ) (line : Line) → Value.said_count (at_line n line) ≡ Value.said_count line
+said_numbered n (Begins name) = refl
+said_numbered n (Table name values) = refl
+said_numbered n (Segment name label renamed usage card) = refl
+said_numbered n (Field number usage card leaf) = refl
+said_numbered n (Comp number usage leaf) = refl
+said_numbered n (Sub number usage leaf) = refl
+said_numbered n (Group at label usage card) = refl
+said_numbered n End = refl
+said_numbered n Counts = refl
+
+count_numbered : (n : ℕ) (all : List Line) → Value.count_of (numbered n all) ≡ Value.count_of all
+count_numbered n [] = refl
+count_numbered n (line ∷ []) = refl
+count_numbered n (line ∷ next ∷ below) = said_numbered (n + 1) next
 
 pub profile_numbered : (n : ℕ) (p : ProfileValue) → profile (numbered n (profile_lines p)) ≡ p
 profile_numbered n p =
-    let all = tables_on p.tables (nodes_on p.nodes []) in
-    ap (λ ts. Profile p.name ts (nodes (numbered (n + 1) all)).here) (tables_numbered (n + 1) all)
-    ∙ ap (λ (m : Nodes). Profile p.name (Value.tables all) m.here) (nodes_numbered (n + 1) all)
+    let all = count_on p.count (tables_on p.tables (nodes_on p.nodes [])) in
+    ap (λ c. Profile p.name c (Value.tables (numbered (n + 1) all)) (nodes (numbered (n + 1) all)).here) (count_numbered n (Begins p.name ∷ all))
+    ∙ ap (λ ts. Profile p.name (Value.count_of (Begins p.name ∷ all)) ts (nodes (numbered (n + 1) all)).here) (tables_numbered (n + 1) all)
+    ∙ ap (λ (m : Nodes). Profile p.name (Value.count_of (Begins p.name ∷ all)) (Value.tables all) m.here) (nodes_numbered (n + 1) all)
     ∙ profile_again p
 
 -- ---- the rules of the whole
@@ -214,6 +259,7 @@ empty_numbered : (n : ℕ) (all : List Line) → empty_group all ≡ None → em
 empty_numbered n [] e = e
 empty_numbered n (Begins name ∷ below) e = empty_numbered (n + 1) below e
 empty_numbered n (Table name values ∷ below) e = empty_numbered (n + 1) below e
+empty_numbered n (Counts ∷ below) e = empty_numbered (n + 1) below e
 empty_numbered n (Segment name label renamed usage card ∷ below) e = empty_numbered (n + 1) below e
 empty_numbered n (Field number usage card leaf ∷ below) e = empty_numbered (n + 1) below e
 empty_numbered n (Comp number usage leaf ∷ below) e = empty_numbered (n + 1) below e
@@ -223,8 +269,12 @@ empty_numbered n (Group at label usage card ∷ below) e =
     none_empty n (is_optional (nodes (numbered (n + 1) below)).here) _ (ap (λ (m : Nodes). is_optional m.here) (nodes_numbered (n + 1) below) ∙ p.0) (empty_numbered (n + 1) below p.1)
 empty_numbered n (End ∷ below) e = empty_numbered (n + 1) below e
 
+count_empty : (count : Count) (below : List Line) → empty_group (count_on count below) ≡ empty_group below
+count_empty Octets below = refl
+count_empty Characters below = refl
+
 pub written_empty : (n : ℕ) (p : ProfileValue) (A : Name → Type 0) → Determined p.nodes A → empty_group (numbered n (profile_lines p)) ≡ None
-written_empty n p A d = empty_numbered n (profile_lines p) (tables_empty p.tables (nodes_on p.nodes []) ∙ nodes_empty p.nodes A [] d refl)
+written_empty n p A d = empty_numbered n (profile_lines p) (count_empty p.count (tables_on p.tables (nodes_on p.nodes [])) ∙ tables_empty p.tables (nodes_on p.nodes []) ∙ nodes_empty p.nodes A [] d refl)
 
 -- no line that has MSH as its name or label
 abbrev Headless : List Line → Type 0
@@ -259,6 +309,7 @@ headless_numbered : (n : ℕ) (all : List Line) → Headless all → Headless (n
 headless_numbered n [] h = h
 headless_numbered n (Begins name ∷ below) h = headless_numbered (n + 1) below h
 headless_numbered n (Table name values ∷ below) h = headless_numbered (n + 1) below h
+headless_numbered n (Counts ∷ below) h = headless_numbered (n + 1) below h
 headless_numbered n (Segment name label renamed usage card ∷ below) h = let p = both (not (is_msh name || is_msh label)) _ h in and_of _ _ p.0 (headless_numbered (n + 1) below p.1)
 headless_numbered n (Field number usage card leaf ∷ below) h = headless_numbered (n + 1) below h
 headless_numbered n (Comp number usage leaf ∷ below) h = headless_numbered (n + 1) below h
@@ -280,5 +331,9 @@ tables_headed : (n : ℕ) (tables : List TableValue) (f : Forest) → Headed f �
 tables_headed n [] f h = nodes_headed n f h
 tables_headed n (t ∷ tables) f h = tables_headed (n + 1) tables f h
 
+count_headed : (n : ℕ) (count : Count) (tables : List TableValue) (f : Forest) → Headed f → is_headed (numbered n (count_on count (tables_on tables (nodes_on f [])))) ≡ true
+count_headed n Octets tables f h = tables_headed n tables f h
+count_headed n Characters tables f h = tables_headed (n + 1) tables f h
+
 pub written_headed : (n : ℕ) (p : ProfileValue) → Headed p.nodes → is_headed (numbered n (profile_lines p)) ≡ true
-written_headed n p h = tables_headed (n + 1) p.tables p.nodes h
+written_headed n p h = count_headed (n + 1) p.count p.tables p.nodes h

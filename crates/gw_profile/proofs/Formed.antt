@@ -11,7 +11,7 @@ use Rattle.gw_lines.specs.Parts.{◌>>=◌, name_at, segment_at, number_at, valu
 use Rattle.gw_profile.specs.declared.shape.Usage as usages
 use Rattle.gw_profile.specs.declared.shape.Usage.TheVariants.{R, RE, O, X}
 use Rattle.gw_profile.specs.declared.shape.Card.{Card}
-use Rattle.gw_profile.specs.Line.{Line, Leaf, Begins, Table, Segment, Field, Comp, Sub, Group, End, is_forbidden, usage_at, card_word, card_at, label_at, len_at, table_at, is_said, said_leaf, lawful_leaf, options, leaf_options, profile_form, table_form, segment_form, field_form, comp_form, sub_form, group_form, form}
+use Rattle.gw_profile.specs.Line.{Line, Leaf, Begins, Table, Segment, Field, Comp, Sub, Group, End, Counts, is_forbidden, usage_at, card_word, card_at, label_at, len_at, table_at, is_said, said_leaf, lawful_leaf, options, leaf_options, profile_form, table_form, segment_form, field_form, comp_form, sub_form, group_form, form}
 use Rattle.gw_profile.specs.WellFormed.{Counted}
 use Rattle.gw_profile.specs.Written.{digits, usage_text, card_text, len_words, table_words, option_words, line_words}
 use Rattle.gw_profile.proofs.Shaped.{Measured, Numbered}
@@ -159,3 +159,4 @@ form_here at (Comp number usage (Some leaf)) h = absurd (cc)
 form_here at (Sub number usage leaf) h = sub_here number usage leaf h
 form_here at (Group line label usage card) h = group_here at label usage card h
 form_here at End h = refl
+form_here at Counts h = refl

@@ -12,7 +12,7 @@ use Rattle.std.proofs.lemmas.Cmp.{nat_list_eq_equiv}
 use Rattle.std.proofs.lemmas.List.{append-nil, reverse-append, reverse-reverse, take_more}
 use Rattle.gw_profile.specs.Shapes.{TableValue}
 use Rattle.gw_profile.specs.Among.{Among, Distinct}
-use Rattle.gw_profile.specs.Line.{Line, Begins, Table, Segment, Field, Comp, Sub, Group, End}
+use Rattle.gw_profile.specs.Line.{Line, Begins, Table, Segment, Field, Comp, Sub, Group, End, Counts}
 use Rattle.gw_lines.specs.Grammar.{Taken}
 use Rattle.gw_profile.specs.Value as Value
 use Rattle.gw_profile.proofs.Facts.{false_not}
@@ -124,6 +124,7 @@ new_table_of above (Comp number usage leaf) p held e = tt
 new_table_of above (Sub number usage leaf) p held e = tt
 new_table_of above (Group at label usage card) p held e = tt
 new_table_of above End p held e = tt
+new_table_of above Counts p held e = tt
 
 pub new_table : (above : List Line) (line : Line) → Taken grammar above line → (held : List TableValue) → table_names held ≡ tables above → IsNewTable held line
 new_table above line t held e = new_table_of above line (taken_keeps above line t).passes held e
@@ -138,6 +139,7 @@ new_label_of above (Comp number usage leaf) p held e = tt
 new_label_of above (Sub number usage leaf) p held e = tt
 new_label_of above (Group at label usage card) p held e = ap (is_among label) e ∙ not_among_is label (levels above).labels p.3
 new_label_of above End p held e = tt
+new_label_of above Counts p held e = tt
 
 pub new_label : (above : List Line) (line : Line) → Taken grammar above line → (held : List (List ℕ)) → held ≡ (levels above).labels → IsNewLabel held line
 new_label above line t held e = new_label_of above line (taken_keeps above line t).passes held e
@@ -163,6 +165,7 @@ tables_more (Comp number usage leaf ∷ xs) ys = tables_more xs ys
 tables_more (Sub number usage leaf ∷ xs) ys = tables_more xs ys
 tables_more (Group at label usage card ∷ xs) ys = tables_more xs ys
 tables_more (End ∷ xs) ys = tables_more xs ys
+tables_more (Counts ∷ xs) ys = tables_more xs ys
 
 one_table : (line : Line) (held : List TableValue) → held ++ Value.tables (line ∷ []) ≡ with_table held line
 one_table (Begins name) held = simp append-nil
@@ -173,6 +176,7 @@ one_table (Comp number usage leaf) held = simp append-nil
 one_table (Sub number usage leaf) held = simp append-nil
 one_table (Group at label usage card) held = simp append-nil
 one_table End held = simp append-nil
+one_table Counts held = simp append-nil
 
 pub kept_is : (all : List Line) → Value.tables (reverse all) ≡ kept all
 kept_is [] = refl

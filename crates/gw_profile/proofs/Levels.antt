@@ -6,7 +6,7 @@ use Rattle.gw_profile.specs.declared.shape.Usage.TheVariants.{O}
 use Rattle.gw_profile.specs.declared.shape.Card.{Card}
 use Rattle.gw_profile.specs.Among.{Among, Distinct}
 use Rattle.gw_profile.specs.Shapes.{SegmentValue, GroupValue, Forest, nothing, segment, group}
-use Rattle.gw_profile.specs.Line.{Line, Begins, Table, Segment, Field, Comp, Sub, Group, End, is_forbidden}
+use Rattle.gw_profile.specs.Line.{Line, Begins, Table, Segment, Field, Comp, Sub, Group, End, Counts, is_forbidden}
 use Rattle.gw_profile.specs.Fault.{Levels, levels, outside, least_field}
 use Rattle.gw_profile.specs.Value.{Nodes, nodes, parts, next, past}
 use Rattle.gw_profile.specs.WellFormed.{LawfulField, LawfulSegment, LawfulGroup, EachSegment, EachGroup, labels, depth}
@@ -103,6 +103,8 @@ pub levels_lawful : (names : List (List ℕ)) (above below : List Line) → AreN
 levels_lawful names above [] e g l = record { here = no_nodes names (length (levels above).outer) (levels above).labels l; behind = none_behind names (levels above).outer }
 levels_lawful names above (Begins name ∷ below) e g l =
     let i = levels_lawful names (Begins name ∷ above) below (next_names names above (Begins name) below e) g.1 l in record { here = i.here; behind = i.behind }
+levels_lawful names above (Counts ∷ below) e g l =
+    let i = levels_lawful names (Counts ∷ above) below (next_names names above Counts below e) g.1 l in record { here = i.here; behind = i.behind }
 levels_lawful names above (Table name values ∷ below) e g l =
     let i = levels_lawful names (Table name values ∷ above) below (next_names names above (Table name values) below e) g.1 l in record { here = i.here; behind = i.behind }
 levels_lawful names above (Segment name label renamed usage card ∷ below) e g l =

@@ -7,7 +7,7 @@ use Rattle.gw_profile.specs.declared.shape.Usage.TheVariants.{R, RE, O, X}
 use Rattle.gw_profile.specs.declared.shape.Card.{Card}
 use Rattle.gw_profile.specs.Among.{Among}
 use Rattle.gw_profile.specs.Shapes.{SubValue, CompValue, FieldValue}
-use Rattle.gw_profile.specs.Line.{Line, Leaf, Begins, Table, Segment, Field, Comp, Sub, Group, End, agrees, is_forbidden}
+use Rattle.gw_profile.specs.Line.{Line, Leaf, Begins, Table, Segment, Field, Comp, Sub, Group, End, Counts, agrees, is_forbidden}
 use Rattle.gw_profile.specs.Fault as Fault
 use Rattle.gw_profile.specs.Fault.{Parent, parents, with_part, has_leaf}
 use Rattle.gw_profile.specs.Value as Value
@@ -41,6 +41,7 @@ next_names names above (Comp number usage leaf) below e = e
 next_names names above (Sub number usage leaf) below e = e
 next_names names above (Group at label usage card) below e = e
 next_names names above End below e = e
+next_names names above Counts below e = e
 
 -- ---- usage
 
@@ -168,6 +169,7 @@ pub parts_lawful : (names : List (List ℕ)) (above below : List Line) → AreNa
 parts_lawful names above [] e g = no_parts_lawful names (parents above)
 parts_lawful names above (Begins name ∷ below) e g = no_parts_lawful names (parents above)
 parts_lawful names above (Table name values ∷ below) e g = no_parts_lawful names (parents above)
+parts_lawful names above (Counts ∷ below) e g = no_parts_lawful names (parents above)
 parts_lawful names above (Segment name label renamed usage card ∷ below) e g = no_parts_lawful names (parents above)
 parts_lawful names above (Field number usage card leaf ∷ below) e g =
     let i = parts_lawful names (Field number usage card leaf ∷ above) below (next_names names above (Field number usage card leaf) below e) g.1 in

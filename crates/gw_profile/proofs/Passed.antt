@@ -5,8 +5,8 @@ use Rattle.std.specs.Option.{is_some}
 use Rattle.std.proofs.lemmas.Bool.Decides.{nat_tests}
 use Rattle.gw_lines.specs.Reading.{first_of}
 use Rattle.gw_profile.specs.Among.{Among, Distinct}
-use Rattle.gw_profile.specs.Line.{Line, Leaf, Begins, Table, Segment, Field, Comp, Sub, Group, End, agrees, is_forbidden}
-use Rattle.gw_profile.specs.Fault.{Parent, parents, begun, tables, levels, is_among, has_repeat, is_unknown, names_unknown, begins_tests, table_tests, segment_tests, group_tests, end_tests, part_tests, tests, grammar}
+use Rattle.gw_profile.specs.Line.{Line, Leaf, Begins, Table, Segment, Field, Comp, Sub, Group, End, Counts, agrees, is_forbidden}
+use Rattle.gw_profile.specs.Fault.{Parent, parents, begun, tables, levels, is_among, has_repeat, is_unknown, names_unknown, begins_tests, table_tests, segment_tests, group_tests, end_tests, part_tests, tests, grammar, just_begun, counts_tests}
 use Rattle.gw_lines.specs.Grammar.{Taken}
 use Rattle.gw_lines.proofs.Taken.{clear_of, taken_by}
 use Rattle.gw_profile.proofs.Facts.{neither, not_false, no_clash, le_is, lt_is}
@@ -31,6 +31,7 @@ Passes above (Sub number usage leaf) = PartPasses number leaf (parents above).co
 Passes above (Group at label usage card) =
     (begun above ≡ true) × (agrees usage card ≡ true) × (is_forbidden usage ≡ false) × (Among label (levels above).labels → ⊥) × (length (levels above).outer < 8)
 Passes above End = 0 < length (levels above).outer
+Passes above Counts = just_begun above ≡ true
 
 pub record Keeps (above : List Line) (line : Line) : Type 0 where
   pub shaped : Shaped line
@@ -70,6 +71,7 @@ passes_is above at (Group line label usage card) e =
     let c = clear_of (group_tests above at label usage card) e in
     let u = neither (not (agrees usage card)) (is_forbidden usage) c.1.0 in
     (not_false _ c.0, not_false _ u.0, u.1, not_among label (levels above).labels c.1.1.0, lt_is 8 (length (levels above).outer) c.1.1.1.0)
+passes_is above at Counts e = not_false _ (clear_of (counts_tests above at) e).0
 passes_is above at End e = not_zero (length (levels above).outer) (clear_of (end_tests above at) e).0
 
 pub taken_keeps : (above : List Line) (line : Line) → Taken grammar above line → Keeps above line

@@ -13,7 +13,7 @@ use Rattle.gw_profile.specs.declared.shape.Usage as usages
 use Rattle.gw_profile.specs.declared.shape.Usage.TheVariants.{O}
 use Rattle.gw_profile.specs.declared.shape.Card.{Card}
 use Rattle.gw_profile.specs.Shapes.{SubValue, CompValue, FieldValue, Forest, ProfileValue}
-use Rattle.gw_profile.specs.Line.{Line, Leaf, Begins, Table, Segment, Field, Comp, Sub, Group, End, agrees, is_forbidden, said_leaf}
+use Rattle.gw_profile.specs.Line.{Line, Leaf, Begins, Table, Segment, Field, Comp, Sub, Group, End, Counts, agrees, is_forbidden, said_leaf}
 use Rattle.gw_profile.specs.Fault.{levels, outside, has_leaf, begun, takes}
 use Rattle.gw_profile.specs.Value as Value
 use Rattle.gw_profile.specs.Value.{Parts, Nodes, parts, nodes, next, past, name_of, profile, sub_of, subs_of, comps_of}
@@ -23,7 +23,7 @@ use Rattle.gw_profile.specs.Whole.{empty_group, is_headed, is_unclosed, unambigu
 use Rattle.gw_profile.specs.WellFormed.{table_names}
 use Rattle.gw_lines.specs.Grammar.{AllTaken}
 use Rattle.gw_profile.specs.Fault.{grammar}
-use Rattle.gw_profile.specs.Written.{subs_on, comps_on, fields_on, segment_line, nodes_on, tables_on, profile_lines, plain_leaf, sub_below, comp_below, plain_on, plain_lines, meaning}
+use Rattle.gw_profile.specs.Written.{subs_on, comps_on, fields_on, segment_line, nodes_on, tables_on, profile_lines, plain_leaf, sub_below, comp_below, plain_on, plain_lines, meaning, count_on}
 use Rattle.gw_profile.proofs.Facts.{or_right, neither, not_false}
 use Rattle.gw_profile.proofs.Parts.{Goes, AreNames, next_names, parts_lawful}
 use Rattle.gw_profile.proofs.WellFormed.{turned}
@@ -64,6 +64,7 @@ behind_count : (above below : List Line) → Goes above below → length (levels
 behind_count above [] g e = sym e
 behind_count above (Begins name ∷ below) g e = behind_count (Begins name ∷ above) below g.1 e
 behind_count above (Table name values ∷ below) g e = behind_count (Table name values ∷ above) below g.1 e
+behind_count above (Counts ∷ below) g e = behind_count (Counts ∷ above) below g.1 e
 behind_count above (Segment name label renamed usage card ∷ below) g e = behind_count (Segment name label renamed usage card ∷ above) below g.1 e
 behind_count above (Field number usage card leaf ∷ below) g e = behind_count (Field number usage card leaf ∷ above) below g.1 e
 behind_count above (Comp number usage leaf ∷ below) g e = behind_count (Comp number usage leaf ∷ above) below g.1 e
@@ -139,6 +140,9 @@ plain_is names above [] n g e = refl
 plain_is names above (Begins name ∷ below) n g e =
     let m = next_names names above (Begins name) below n in let i = parts_lawful names (Begins name ∷ above) below m g.1 in
     plain_is names (Begins name ∷ above) below m g.1 e ∙ none_open (parts below) (nodes below) i.subs i.comps i.fields
+plain_is names above (Counts ∷ below) n g e =
+    let m = next_names names above Counts below n in let i = parts_lawful names (Counts ∷ above) below m g.1 in
+    plain_is names (Counts ∷ above) below m g.1 e ∙ none_open (parts below) (nodes below) i.subs i.comps i.fields
 plain_is names above (Table name values ∷ below) n g e =
     let m = next_names names above (Table name values) below n in let i = parts_lawful names (Table name values ∷ above) below m g.1 in
     plain_is names (Table name values ∷ above) below m g.1 e ∙ none_open (parts below) (nodes below) i.subs i.comps i.fields
@@ -183,7 +187,7 @@ plain_of all t closed =
     let zero : length (levels all).outer ≡ 0 = (Decides-eqb (length (levels all).outer) 0).0 (not_false _ c.1) in
     let open_none : length (levels (reverse_aux below [])).outer ≡ 0 = ap (λ l. length (levels l).outer) (reverse-reverse all) ∙ zero in
     let i = parts_lawful (table_names (Value.tables below)) [] below refl g in
-    ap (λ ls. Begins (name_of below) ∷ tables_on (Value.tables below) ls)
+    ap (λ ls. Begins (name_of below) ∷ count_on (Value.count_of below) (tables_on (Value.tables below) ls))
     (plain_is (table_names (Value.tables below)) [] below refl g open_none ∙ none_open (parts below) (nodes below) i.subs i.comps i.fields
     ∙ ap (nodes_on (nodes below).here) (none_behind (nodes below).behind (behind_count [] below g open_none)))
 

@@ -6,10 +6,10 @@ use Rattle.std.specs.List.{AllByRecursion, list_all, list_any, position_or_len, 
 use Rattle.gw_lines.specs.Words.{Word, Plain, Quoted, lines, without_last, is_lawful, is_blank, is_comment, is_quote, ends_word, quoted, plain, front, onto, words_from, words}
 use Rattle.gw_lines.specs.Spelled.{name, is_keyword}
 use Rattle.gw_lines.specs.Values.{is_value, bytes_of, value_bytes}
-use Rattle.gw_lines.specs.Parts.{◌>>=◌, name_at, segment_at, number_at, values, some_values, with_all}
+use Rattle.gw_lines.specs.Parts.{◌>>=◌, first_word, name_at, segment_at, number_at, values, some_values, with_all}
 use Rattle.gw_profile.specs.declared.fault.ProfileFault.TheVariants.{Syntax}
 use Rattle.gw_profile.specs.Shapes.{ProfileValue}
-use Rattle.gw_profile.specs.Line.{Line, Begins, Table, Segment, Field, Comp, Sub, Group, End, profile_form, table_form, segment_form, field_form, comp_form, sub_form, group_form, form, label_at, usage_at, card_at, options, leaf_options}
+use Rattle.gw_profile.specs.Line.{Line, Begins, Table, Segment, Field, Comp, Sub, Group, End, Counts, profile_form, table_form, segment_form, field_form, comp_form, sub_form, group_form, form, label_at, usage_at, card_at, options, leaf_options, count_form}
 use Rattle.gw_profile.specs.Fault.{grammar, takes}
 use Rattle.gw_profile.specs.Value as Value
 use Rattle.gw_profile.specs.Value.{profile}
@@ -81,6 +81,7 @@ Clean (Comp number usage leaf) = Unit {0}
 Clean (Sub number usage leaf) = Unit {0}
 Clean (Group at label usage card) = Unit {0}
 Clean End = Unit {0}
+Clean Counts = Unit {0}
 
 name_at_is : (ws : List Word) → AllByRecursion NoQuote ws → IfSome (name_at ws) (λ p. AllByRecursion NoQuote p.1)
 name_at_is [] h = tt
@@ -115,7 +116,8 @@ form_is at (w ∷ more) h =
     (either_gives Clean (is_keyword (codes "comp") w) (comp_form more) _ (after (number_at 99 more) _ (λ n. after (usage_at n.1) _ (λ u. after (leaf_options u.0 u.1) _ (λ l. tt))))
     (either_gives Clean (is_keyword (codes "sub") w) (sub_form more) _ (after (number_at 99 more) _ (λ n. after (usage_at n.1) _ (λ u. after (options u.0 false u.1) _ (λ l. tt))))
     (either_gives Clean (is_keyword (codes "group") w) (group_form at more) _ (after (name_at more) _ (λ l. after (usage_at l.1) _ (λ u. after (card_at u.1) _ (λ c. with_all_is Clean c.1 (Group at l.0 u.0 c.0) tt))))
-    (either_gives Clean (is_keyword (codes "end") w) (with_all more End) None (with_all_is Clean more End tt) tt)))))))
+    (either_gives Clean (is_keyword (codes "end") w) (with_all more End) _ (with_all_is Clean more End tt)
+    (either_gives Clean (is_keyword (codes "count") w) (count_form more) None (after (first_word more) _ (λ c. either_gives Clean (is_keyword (codes "characters") c.0) (with_all c.1 Counts) None (with_all_is Clean c.1 Counts tt) tt)) tt))))))))
 
 -- ---- texts
 
@@ -138,6 +140,7 @@ tables_clean (Comp number usage leaf ∷ all) h = tables_clean all h.1
 tables_clean (Sub number usage leaf ∷ all) h = tables_clean all h.1
 tables_clean (Group at label usage card ∷ all) h = tables_clean all h.1
 tables_clean (End ∷ all) h = tables_clean all h.1
+tables_clean (Counts ∷ all) h = tables_clean all h.1
 
 pub spelled_has_no_quote : (text : List ℕ) (p : ProfileValue) → spelled text ≡ Ok p → HasNoQuote p
 spelled_has_no_quote text p e =

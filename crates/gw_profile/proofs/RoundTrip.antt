@@ -12,15 +12,15 @@ use Rattle.gw_profile.specs.declared.fault.ProfileFault.{ProfileFault}
 use Rattle.gw_profile.specs.declared.fault.ProfileFault.TheVariants.{Syntax, TooLarge}
 use Rattle.gw_profile.specs.Among.{Among, Distinct}
 use Rattle.gw_profile.specs.Shapes.{Forest, nothing, segment, group, ProfileValue}
-use Rattle.gw_profile.specs.Line.{Line, Leaf, Begins, Table, Segment, Field, Comp, Sub, Group, End, agrees, is_forbidden}
-use Rattle.gw_profile.specs.Fault.{Parent, parents, tables, levels, is_among, has_repeat, is_unknown, names_unknown, begins_tests, table_tests, segment_tests, group_tests, end_tests, part_tests, tests, takes, grammar}
+use Rattle.gw_profile.specs.Line.{Line, Leaf, Begins, Table, Segment, Field, Comp, Sub, Group, End, Counts, agrees, is_forbidden}
+use Rattle.gw_profile.specs.Fault.{Parent, parents, tables, levels, is_among, has_repeat, is_unknown, names_unknown, begins_tests, table_tests, segment_tests, group_tests, end_tests, part_tests, tests, takes, grammar, counts_tests}
 use Rattle.gw_lines.specs.Grammar.{tested}
 use Rattle.gw_profile.specs.Value.{profile}
 use Rattle.gw_profile.specs.LookAhead.{ambiguous}
 use Rattle.gw_profile.specs.Deterministic.{Name, NoName, Deterministic, Determined}
 use Rattle.gw_profile.specs.Whole.{is_headed, is_unclosed, unambiguous, headed, filled, ruled, whole, spelled, most_bytes, most_lines}
 use Rattle.gw_profile.specs.WellFormed.{WellFormed}
-use Rattle.gw_profile.specs.Written.{profile_lines, line_words, written, HasNoQuote, tables_on, nodes_on}
+use Rattle.gw_profile.specs.Written.{profile_lines, line_words, written, HasNoQuote, tables_on, nodes_on, count_on}
 use Rattle.gw_profile.proofs.Facts.{false_not, both_false, not_of, if_false, le_test, gt_test}
 use Rattle.gw_profile.proofs.Among.{among_is}
 use Rattle.gw_profile.proofs.Ambiguity.{not_ambiguous_is}
@@ -72,6 +72,7 @@ passes_again above at (Sub number usage leaf) h = part_again at number (is_some 
 passes_again above at (Group line label usage card) h =
     no_fault (group_tests above at label usage card)
     (not_of _ h.0, (both_false (not (agrees usage card)) (is_forbidden usage) (not_of _ h.1) h.2, (new_name label (levels above).labels h.3, (gt_test 8 (length (levels above).outer) h.4, tt))))
+passes_again above at Counts h = no_fault (counts_tests above at) (not_of _ h, tt)
 passes_again above at End h = no_fault (end_tests above at) (not_zero (length (levels above).outer) h, tt)
 
 -- ---- lines are taken
@@ -85,6 +86,7 @@ some_words (Comp number usage leaf) e = cc
 some_words (Sub number usage leaf) e = cc
 some_words (Group at label usage card) e = cc
 some_words End e = cc
+some_words Counts e = cc
 
 with_some : (above : List Line) (at : ℕ) (ws : List Word) → (ws ≡ [] → ⊥) → with_line (Syntax at) (adding takes) above at (Some ws) ≡ added above (takes above at ws)
 with_some above at [] h = absurd (h refl)
@@ -99,6 +101,7 @@ unnumbered at (Comp number usage leaf) h = h
 unnumbered at (Sub number usage leaf) h = h
 unnumbered at (Group line label usage card) h = h
 unnumbered at End h = h
+unnumbered at Counts h = h
 
 line_taken : (above : List Line) (at : ℕ) (line : Line) → Writable (at_line at line) → Passes above (at_line at line) → with_line (Syntax at) (adding takes) above at (words (row line)) ≡ Ok (at_line at line ∷ above)
 line_taken above at line w p =
@@ -146,7 +149,7 @@ pub written_is_spelled : (p : ProfileValue) → WellFormed p → HasNoQuote p �
 written_is_spelled p w plain small =
     let all = profile_lines p in
     let ends = profile_stands p w plain in
-    let rows : lines (written p) ≡ map row all = text_rows (Begins p.name) (tables_on p.tables (nodes_on p.nodes [])) (all_writable [] 1 all ends) in
+    let rows : lines (written p) ≡ map row all = text_rows (Begins p.name) (count_on p.count (tables_on p.tables (nodes_on p.nodes []))) (all_writable [] 1 all ends) in
     if_false (is_too_large most_bytes most_lines (written p)) (Err TooLarge) (spelled_below Syntax (adding takes) whole [] 1 (lines (written p))) small
     ∙ ap (spelled_below Syntax (adding takes) whole [] 1) rows
     ∙ ap (λ (r : Result (List Line) ProfileFault). r >>= λ last. whole last (1 + length (map row all))) (lines_taken [] 1 all ends)

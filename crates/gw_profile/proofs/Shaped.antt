@@ -10,7 +10,7 @@ use Rattle.gw_lines.specs.Spelled.{plain_bytes, name, segment_word, is_name, is_
 use Rattle.gw_lines.specs.Values.{is_value, bytes_of, value_bytes}
 use Rattle.gw_lines.specs.Parts.{◌>>=◌, first_word, name_at, segment_at, number_at, behind, values, some_values, with_all}
 use Rattle.gw_profile.specs.declared.shape.Usage.{Usage}
-use Rattle.gw_profile.specs.Line.{Line, Leaf, Begins, Table, Segment, Field, Comp, Sub, Group, End, is_forbidden, usage_at, card_word, card_at, label_behind, label_at, leaf_at, len_behind, len_at, table_at, is_said, said_leaf, lawful_leaf, options, leaf_options, profile_form, table_form, segment_form, field_form, comp_form, sub_form, group_form, keyword_form, form}
+use Rattle.gw_profile.specs.Line.{Line, Leaf, Begins, Table, Segment, Field, Comp, Sub, Group, End, Counts, count_form, is_forbidden, usage_at, card_word, card_at, label_behind, label_at, leaf_at, len_behind, len_at, table_at, is_said, said_leaf, lawful_leaf, options, leaf_options, profile_form, table_form, segment_form, field_form, comp_form, sub_form, group_form, keyword_form, form}
 use Rattle.gw_profile.specs.WellFormed.{Counted}
 use Rattle.gw_profile.proofs.Facts.{both, and_of, or_left, or_right, le_is}
 
@@ -33,6 +33,7 @@ Shaped (Comp number usage leaf) = Numbered 99 number × LeafIs usage leaf
 Shaped (Sub number usage leaf) = Numbered 99 number × LeafIs usage leaf
 Shaped (Group at label usage card) = (is_name label ≡ true) × Counted card
 Shaped End = Unit {0}
+Shaped Counts = Unit {0}
 
 -- ---- steps
 
@@ -231,6 +232,11 @@ group_form_is at words =
     (λ usage i. gives (λ p. Counted p.0) _ (card_at usage.1) _ (card_at_is usage.1)
     (λ card j. with_all_is Shaped card.1 (Group at label.0 usage.0 card.0) (h, j))))
 
+count_form_is : (words : List Word) → IfSome (count_form words) Shaped
+count_form_is words =
+    gives (λ _. Unit {0}) _ (first_word words) _ (any (first_word words))
+    (λ w h. either_gives Shaped (is_keyword (codes "characters") w.0) (with_all w.1 Counts) None (with_all_is Shaped w.1 Counts tt) tt)
+
 keyword_form_is : (at : ℕ) (keyword : Word) (more : List Word) → IfSome (keyword_form at keyword more) Shaped
 keyword_form_is at keyword more =
     either_gives _ (is_keyword (codes "profile") keyword) (profile_form more) _ (profile_form_is more)
@@ -240,7 +246,8 @@ keyword_form_is at keyword more =
     (either_gives _ (is_keyword (codes "comp") keyword) (comp_form more) _ (comp_form_is more)
     (either_gives _ (is_keyword (codes "sub") keyword) (sub_form more) _ (sub_form_is more)
     (either_gives _ (is_keyword (codes "group") keyword) (group_form at more) _ (group_form_is at more)
-    (either_gives _ (is_keyword (codes "end") keyword) (with_all more End) None (with_all_is Shaped more End tt) tt)))))))
+    (either_gives _ (is_keyword (codes "end") keyword) (with_all more End) _ (with_all_is Shaped more End tt)
+    (either_gives _ (is_keyword (codes "count") keyword) (count_form more) None (count_form_is more) tt))))))))
 
 pub form_is : (at : ℕ) (words : List Word) → IfSome (form at words) Shaped
 form_is at [] = tt

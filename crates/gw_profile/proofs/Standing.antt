@@ -12,15 +12,17 @@ use Rattle.gw_lines.specs.Values.{is_value}
 use Rattle.gw_profile.specs.declared.shape.Usage as usages
 use Rattle.gw_profile.specs.declared.shape.Usage.TheVariants.{R, RE, O, X}
 use Rattle.gw_profile.specs.declared.shape.Card.{Card}
+use Rattle.gw_profile.specs.declared.shape.Count.{Count}
+use Rattle.gw_profile.specs.declared.shape.Count.TheVariants.{Octets, Characters}
 use Rattle.gw_profile.specs.Among.{Among, Distinct}
 use Rattle.gw_profile.specs.Shapes.{SubValue, CompValue, FieldValue, TableValue, Forest, nothing, segment, group, ProfileValue}
-use Rattle.gw_profile.specs.Line.{Line, Leaf, Begins, Table, Segment, Field, Comp, Sub, Group, End, agrees, is_forbidden, is_said, said_leaf}
+use Rattle.gw_profile.specs.Line.{Line, Leaf, Begins, Table, Segment, Field, Comp, Sub, Group, End, Counts, agrees, is_forbidden, is_said, said_leaf}
 use Rattle.gw_profile.specs.Fault as Fault
 use Rattle.gw_profile.specs.Fault.{Parent, parents, with_part, least_field, has_leaf, begun, Levels, levels, outside}
 use Rattle.gw_profile.specs.Deterministic.{AtMost}
 use Rattle.gw_profile.specs.Whole.{is_unclosed}
 use Rattle.gw_profile.specs.WellFormed.{Agrees, Counted, Rising, sub_numbers, comp_numbers, field_numbers, LawfulSub, LawfulComp, LawfulField, LawfulSegment, LawfulGroup, LawfulTable, EachSegment, EachGroup, labels, depth, table_names, WellFormed}
-use Rattle.gw_profile.specs.Written.{subs_on, comps_on, fields_on, segment_line, nodes_on, tables_on, profile_lines, HasNoQuote}
+use Rattle.gw_profile.specs.Written.{subs_on, comps_on, fields_on, segment_line, nodes_on, tables_on, profile_lines, HasNoQuote, count_on}
 use Rattle.gw_profile.proofs.Facts.{and_of, true_not, not_false}
 use Rattle.gw_profile.proofs.Among.{among_append}
 use Rattle.gw_profile.proofs.Ambiguity.{allows_is, zero_is}
@@ -46,6 +48,7 @@ Writable (Comp number usage leaf) = Numbered 99 number × (is_some usage ≡ tru
 Writable (Sub number usage leaf) = Numbered 99 number × (is_some usage ≡ true) × LeafWritable usage leaf
 Writable (Group at label usage card) = (is_name label ≡ true) × (is_some usage ≡ true) × Counted card
 Writable End = Unit {0}
+Writable Counts = Unit {0}
 
 -- below these lines each line can be written and passes its tests, and all is closed at the end
 abbrev pub Ends : List Line → List Line → Type 0
@@ -257,14 +260,11 @@ tables_stand (t ∷ tables) near n above below a each plain d apart k = (
 -- ---- the whole
 
 pub profile_stands : (p : ProfileValue) → WellFormed p → HasNoQuote p → Ends [] (numbered 1 (profile_lines p))
-profile_stands p w plain =
-    let names = table_names p.tables in (
-      w.named,
-      refl,
-      tables_stand p.tables [] (1 + 1) (Begins p.name ∷ []) (nodes_on p.nodes []) (record { begun_now = refl; tables_now = refl; levels_now = refl }) w.tables plain w.tables_distinct (λ x h e. e)
-          (λ m now a. nodes_stand names (table_named p.tables w.tables) p.nodes [] [] m now [] a w.segments w.groups w.distinct (λ x h e. e) (omega (arith, w.nested))
-          (λ m now a. closed now a)),
-    )
+profile_stands p w plain = (
+  w.named,
+  refl,
+  counted p.count,
+)
   where
     closed : (now : List Line) → At (table_names p.tables) (record { labels = [] ++ labels p.nodes; outer = [] }) now → is_unclosed now ≡ false
     closed now a = by (begun now) a.begun_now (levels now) a.levels_now
@@ -272,3 +272,13 @@ profile_stands p w plain =
         by : (b : Bool) → b ≡ true → (l : Levels) → l ≡ record { labels = [] ++ labels p.nodes; outer = [] } → not b || not (length l.outer == 0) ≡ false
         by true e l f = subst (λ (l : Levels). not (length l.outer == 0) ≡ false) (sym f) refl
         by false e l f = absurd (cc)
+
+    below : (n : ℕ) (above : List Line) → At [] top above → Ends above (numbered n (tables_on p.tables (nodes_on p.nodes [])))
+    below n above a =
+        tables_stand p.tables [] n above (nodes_on p.nodes []) a w.tables plain w.tables_distinct (λ x h e. e)
+        (λ m now a. nodes_stand (table_names p.tables) (table_named p.tables w.tables) p.nodes [] [] m now [] a w.segments w.groups w.distinct (λ x h e. e) (omega (arith, w.nested))
+        (λ m now a. closed now a))
+
+    counted : (count : Count) → Ends (Begins p.name ∷ []) (numbered (1 + 1) (count_on count (tables_on p.tables (nodes_on p.nodes []))))
+    counted Octets = below (1 + 1) (Begins p.name ∷ []) (record { begun_now = refl; tables_now = refl; levels_now = refl })
+    counted Characters = (tt, refl, below (1 + 1 + 1) (Counts ∷ Begins p.name ∷ []) (record { begun_now = refl; tables_now = refl; levels_now = refl }))

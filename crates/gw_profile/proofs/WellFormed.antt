@@ -13,7 +13,7 @@ use Rattle.gw_profile.specs.declared.shape.Usage.TheVariants.{R, RE, O, X}
 use Rattle.gw_profile.specs.declared.shape.Card.{Card}
 use Rattle.gw_profile.specs.Among.{Among, Distinct}
 use Rattle.gw_profile.specs.Shapes.{GroupValue, Forest, nothing, segment, group, ProfileValue}
-use Rattle.gw_profile.specs.Line.{Line, Begins, Table, Segment, Field, Comp, Sub, Group, End, allows, agrees}
+use Rattle.gw_profile.specs.Line.{Line, Begins, Table, Segment, Field, Comp, Sub, Group, End, Counts, allows, agrees}
 use Rattle.gw_profile.specs.Fault as Fault
 use Rattle.gw_profile.specs.Fault.{levels, takes}
 use Rattle.gw_profile.specs.Value as Value
@@ -56,6 +56,7 @@ others : (below : List Line) → list_all (λ other. not (is_header other)) belo
 others [] e = (tt, tt)
 others (Begins name ∷ below) e = others below e
 others (Table name values ∷ below) e = others below e
+others (Counts ∷ below) e = others below e
 others (Segment name label renamed usage card ∷ below) e =
     let p = both (not (is_msh name || is_msh label)) _ e in let h = others below p.1 in ((is_other name label p.0, h.0), h.1)
 others (Field number usage card leaf ∷ below) e = others below e
@@ -89,6 +90,7 @@ headed_is : (above below : List Line) → Goes above below → is_headed below �
 headed_is above [] g e = absurd (cc)
 headed_is above (Begins name ∷ below) g e = headed_is (Begins name ∷ above) below g.1 e
 headed_is above (Table name values ∷ below) g e = headed_is (Table name values ∷ above) below g.1 e
+headed_is above (Counts ∷ below) g e = headed_is (Counts ∷ above) below g.1 e
 headed_is above (Segment name label renamed usage card ∷ below) g e =
     let p = both (is_msh name && not renamed && is_once usage card) _ e in
     let q = both (is_msh name && not renamed) (is_once usage card) p.0 in
@@ -112,6 +114,7 @@ named_is (Field number usage card leaf ∷ below) g e = absurd g.0.passes.0
 named_is (Comp number usage leaf ∷ below) g e = absurd g.0.passes.0
 named_is (Sub number usage leaf ∷ below) g e = absurd g.0.passes.0
 named_is (Group at label usage card ∷ below) g e = absurd (no_clash (sym g.0.passes.0))
+named_is (Counts ∷ below) g e = absurd (no_clash (sym g.0.passes))
 named_is (End ∷ below) g e = absurd (omega (arith, g.0.passes))
 
 -- ---- groups that are never empty
@@ -126,6 +129,7 @@ filled_is : (below : List Line) → empty_group below ≡ None → OfNodes (Each
 filled_is [] e = (tt, tt)
 filled_is (Begins name ∷ below) e = filled_is below e
 filled_is (Table name values ∷ below) e = filled_is below e
+filled_is (Counts ∷ below) e = filled_is below e
 filled_is (Segment name label renamed usage card ∷ below) e = let h = filled_is below e in (h.0, h.1)
 filled_is (Field number usage card leaf ∷ below) e = filled_is below e
 filled_is (Comp number usage leaf ∷ below) e = filled_is below e
@@ -145,6 +149,7 @@ pub record LawfulTables (above below : List Line) : Type 0 where
 
 tables_lawful : (above below : List Line) → Goes above below → LawfulTables above below
 tables_lawful above [] g = record { each = tt; distinct = tt; apart = λ x h k. h }
+tables_lawful above (Counts ∷ below) g = let h = tables_lawful (Counts ∷ above) below g.1 in record { each = h.each; distinct = h.distinct; apart = h.apart }
 tables_lawful above (Begins name ∷ below) g = let h = tables_lawful (Begins name ∷ above) below g.1 in record { each = h.each; distinct = h.distinct; apart = h.apart }
 tables_lawful above (Table name values ∷ below) g =
     let h = tables_lawful (Table name values ∷ above) below g.1 in

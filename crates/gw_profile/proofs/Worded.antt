@@ -14,7 +14,7 @@ use Rattle.gw_lines.specs.Values.{is_value}
 use Rattle.gw_profile.specs.declared.shape.Usage as usages
 use Rattle.gw_profile.specs.declared.shape.Usage.TheVariants.{R, RE, O, X}
 use Rattle.gw_profile.specs.declared.shape.Card.{Card}
-use Rattle.gw_profile.specs.Line.{Line, Leaf, Begins, Table, Segment, Field, Comp, Sub, Group, End}
+use Rattle.gw_profile.specs.Line.{Line, Leaf, Begins, Table, Segment, Field, Comp, Sub, Group, End, Counts}
 use Rattle.gw_profile.specs.Written.{digits, usage_text, most_text, card_text, len_words, table_words, option_words, line_words, word_bytes, more_bytes, words_bytes, lines_bytes}
 use Rattle.gw_profile.proofs.Facts.{both, and_of, either, neither, or_left, or_right, true_not, false_not, le_is, le_test, not_is, is_not, not_of, both_false, if_true, if_false}
 use Rattle.gw_profile.proofs.Shaped.{lawful_is_name}
@@ -196,6 +196,7 @@ no_comment (Comp number usage leaf) = refl
 no_comment (Sub number usage leaf) = refl
 no_comment (Group at label usage card) = refl
 no_comment End = refl
+no_comment Counts = refl
 
 name_is_word : (text : List ℕ) → is_name text ≡ true → WordIs (Plain text)
 name_is_word text e =
@@ -257,6 +258,7 @@ line_are_words (Comp number usage (Some leaf)) h = absurd (cc)
 line_are_words (Sub number usage leaf) h = ((λ e. cc, refl), (digits_word number, (usage_word usage, options_words usage leaf h.2)))
 line_are_words (Group at label usage card) h = ((λ e. cc, refl), (name_is_word label h.0, (usage_word usage, (card_is_word card, tt))))
 line_are_words End h = ((λ e. cc, refl), tt)
+line_are_words Counts h = ((λ e. cc, refl), ((λ e. cc, refl), tt))
 
 pub row_lawful : (line : Line) → Writable line → list_all is_lawful (words_bytes (line_words line)) ≡ true
 row_lawful line h = words_lawful (line_words line) (line_are_words line h)

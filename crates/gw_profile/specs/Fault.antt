@@ -9,7 +9,7 @@ use Rattle.gw_profile.specs.declared.fault.ProfileFault.{ProfileFault}
 use Rattle.gw_profile.specs.declared.fault.ProfileFault.TheVariants.{Syntax, Usage, Duplicate, UnknownTable, TooDeep}
 use Rattle.gw_profile.specs.declared.shape.Usage as declared
 use Rattle.gw_profile.specs.declared.shape.Card.{Card}
-use Rattle.gw_profile.specs.Line.{Line, Leaf, Begins, Table, Segment, Field, Comp, Sub, Group, End, form, agrees, is_forbidden}
+use Rattle.gw_profile.specs.Line.{Line, Leaf, Begins, Table, Segment, Field, Comp, Sub, Group, End, Counts, form, agrees, is_forbidden}
 
 -- ---- what the lines above leave open
 
@@ -56,6 +56,12 @@ parents (line ∷ above) = no_parents
 abbrev pub begun : List Line → Bool
 begun [] = false
 begun (line ∷ above) = true
+
+-- one line stands above, which is the first
+abbrev pub just_begun : List Line → Bool
+just_begun [] = false
+just_begun (line ∷ []) = true
+just_begun (line ∷ next ∷ above) = false
 
 -- the names of the tables
 abbrev pub tables : List Line → List (List ℕ)
@@ -139,6 +145,10 @@ group_tests above at label usage card =
 abbrev pub end_tests : List Line → ℕ → List (Bool × ProfileFault)
 end_tests above at = (length (levels above).outer == 0, Syntax at) ∷ []
 
+-- what lengths count is said directly below the first line
+abbrev pub counts_tests : List Line → ℕ → List (Bool × ProfileFault)
+counts_tests above at = (not (just_begun above), Syntax at) ∷ []
+
 -- the tests of a line, in the order of the faults
 abbrev pub tests : List Line → ℕ → Line → List (Bool × ProfileFault)
 tests above at (Begins name) = begins_tests above at
@@ -149,6 +159,7 @@ tests above at (Comp number usage leaf) = part_tests at number (is_some usage) l
 tests above at (Sub number usage leaf) = part_tests at number (is_some usage) leaf (parents above).comp (tables above)
 tests above at (Group line label usage card) = group_tests above at label usage card
 tests above at End = end_tests above at
+tests above at Counts = counts_tests above at
 
 -- the lines of a profile, as they are declared
 abbrev pub grammar : Grammar Line ProfileFault

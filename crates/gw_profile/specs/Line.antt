@@ -23,6 +23,8 @@ pub data Line : Type 0 where
   Sub : (number : ℕ) (usage : Option Usage) (leaf : Option Leaf) → Line
   Group : (at : ℕ) (label : List ℕ) (usage : Option Usage) (card : Card) → Line
   End : Line
+  -- its lengths count characters
+  Counts : Line
 
 abbrev pub usage_of : List ℕ → Option (Option Usage)
 usage_of bytes =
@@ -194,6 +196,12 @@ group_form at words = do
   card ← card_at usage.1
   with_all card.1 (Group at label.0 usage.0 card.0)
 
+-- count characters
+abbrev pub count_form : List Word → Option Line
+count_form words = do
+  w ← first_word words
+  if is_keyword (codes "characters") w.0 then with_all w.1 Counts else None
+
 -- the line of a keyword and the words behind it
 abbrev pub keyword_form : ℕ → Word → List Word → Option Line
 keyword_form at keyword more =
@@ -205,6 +213,7 @@ keyword_form at keyword more =
     else if is_keyword (codes "sub") keyword then sub_form more
     else if is_keyword (codes "group") keyword then group_form at more
     else if is_keyword (codes "end") keyword then with_all more End
+    else if is_keyword (codes "count") keyword then count_form more
     else None
 
 -- the line that these words are

@@ -13,7 +13,8 @@ pattern keyword =
     else if bytes_eq keyword (codes "sub") then codes "sub N USAGE [len N] [table NAME], below a component"
     else if bytes_eq keyword (codes "group") then codes "group LABEL USAGE CARD"
     else if bytes_eq keyword (codes "end") then codes "end, of a group"
-    else codes "profile, table, segment, field, comp, sub, group or end"
+    else if bytes_eq keyword (codes "count") then codes "count characters, directly below profile NAME"
+    else codes "profile, count, table, segment, field, comp, sub, group or end"
 
 -- the pattern, and what stands there
 abbrev pub expected_at : Option (List ℕ) → List ℕ × List ℕ

@@ -2,6 +2,7 @@
 use Rattle.std.specs.Prelude.{◌≡◌, ℕ, if◌then◌else◌, List, [], ◌∷◌, ◌++◌, map, reverse, Option, None, Some, false}
 use Rattle.gw_profile.specs.WellFormed.{table_names}
 use Rattle.gw_lines.specs.Grammar.{AllTaken}
+use Rattle.gw_profile.specs.declared.shape.Count.{Count}
 use Rattle.gw_profile.specs.declared.shape.SubShape.{SubShape}
 use Rattle.gw_profile.specs.declared.shape.CompShape.{CompShape}
 use Rattle.gw_profile.specs.declared.shape.FieldShape.{FieldShape}
@@ -37,6 +38,7 @@ line (declared.TheVariants.Comp number usage l) = Spec.Comp number usage (leaf_o
 line (declared.TheVariants.Sub number usage l) = Spec.Sub number usage (leaf_of l)
 line (declared.TheVariants.Group at label usage card) = Spec.Group at label.now usage card
 line declared.TheVariants.End = Spec.End
+line declared.TheVariants.Counts = Spec.Counts
 
 abbrev pub sub : SubShape → SubValue
 sub s = record { number = s.number; usage = s.usage; len = s.len; table = option_map (λ t. t.items) s.table }
@@ -145,8 +147,9 @@ Agreed a = Agrees a.parents (map table a.tables.entries) a.levels (said a)
 -- a profile, with its nodes as they are lent
 pub record Contents : Type 0 where
   pub name : List ℕ
+  pub count : Count
   pub tables : List TableValue
   pub nodes : List Node
 
 abbrev pub profile_value : Contents → ProfileValue
-profile_value p = record { name = p.name; tables = p.tables; nodes = forest p.nodes }
+profile_value p = record { name = p.name; count = p.count; tables = p.tables; nodes = forest p.nodes }

@@ -2,6 +2,7 @@
 use Rattle.std.specs.Prelude.{ℕ, List, Option}
 use Rattle.gw_profile.specs.declared.shape.Usage.{Usage}
 use Rattle.gw_profile.specs.declared.shape.Card.{Card}
+use Rattle.gw_profile.specs.declared.shape.Count.{Count}
 
 pub record SubValue : Type 0 where
   pub number : ℕ
@@ -44,5 +45,6 @@ pub record TableValue : Type 0 where
 
 pub record ProfileValue : Type 0 where
   pub name : List ℕ
+  pub count : Count
   pub tables : List TableValue
   pub nodes : Forest

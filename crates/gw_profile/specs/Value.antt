@@ -2,8 +2,10 @@
 use Rattle.std.specs.Prelude.{ℕ, List, [], ◌∷◌, Option, Some, None, unwrap_or, bytes_eq, if◌then◌else◌}
 use Rattle.gw_profile.specs.declared.shape.Usage as declared
 use Rattle.gw_profile.specs.declared.shape.Usage.TheVariants.{R, O}
+use Rattle.gw_profile.specs.declared.shape.Count.{Count}
+use Rattle.gw_profile.specs.declared.shape.Count.TheVariants.{Octets, Characters}
 use Rattle.gw_profile.specs.Shapes.{SubValue, CompValue, FieldValue, SegmentValue, GroupValue, TableValue, Forest, nothing, segment, group, ProfileValue}
-use Rattle.gw_profile.specs.Line.{Line, Leaf, Begins, Table, Segment, Field, Comp, Sub, Group, End}
+use Rattle.gw_profile.specs.Line.{Line, Leaf, Begins, Table, Segment, Field, Comp, Sub, Group, End, Counts}
 
 -- ---- what lines spell, from the first on
 
@@ -84,8 +86,19 @@ name_of [] = []
 name_of (Begins name ∷ below) = name
 name_of (line ∷ below) = []
 
+-- what lengths count where this is the second line
+abbrev pub said_count : Line → Count
+said_count Counts = Characters
+said_count line = Octets
+
+-- what the lengths of these lines count: octets, unless the second line says characters
+abbrev pub count_of : List Line → Count
+count_of [] = Octets
+count_of (first ∷ []) = Octets
+count_of (first ∷ next ∷ below) = said_count next
+
 abbrev pub profile : List Line → ProfileValue
-profile lines = record { name = name_of lines; tables = tables lines; nodes = (nodes lines).here }
+profile lines = record { name = name_of lines; count = count_of lines; tables = tables lines; nodes = (nodes lines).here }
 
 -- the values of the table of this name
 abbrev pub table_of : List ℕ → List TableValue → Option (List (List ℕ))

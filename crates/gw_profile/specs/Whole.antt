@@ -8,7 +8,7 @@ use Rattle.gw_profile.specs.declared.shape.Usage as usages
 use Rattle.gw_profile.specs.declared.shape.Usage.TheVariants.{R, RE, O, X}
 use Rattle.gw_profile.specs.declared.shape.Card.{Card}
 use Rattle.gw_profile.specs.Shapes.{ProfileValue}
-use Rattle.gw_profile.specs.Line.{Line, Begins, Table, Segment, Group, allows}
+use Rattle.gw_profile.specs.Line.{Line, Begins, Table, Segment, Group, Counts, allows}
 use Rattle.gw_profile.specs.Fault.{begun, levels, takes}
 use Rattle.gw_profile.specs.Value.{nodes, profile}
 use Rattle.gw_profile.specs.LookAhead.{is_optional, ambiguous}
@@ -44,6 +44,7 @@ is_first line = false
 abbrev pub is_preamble : Line → Bool
 is_preamble (Begins name) = true
 is_preamble (Table name values) = true
+is_preamble Counts = true
 is_preamble line = false
 
 -- the first node is the header, and MSH stands nowhere else

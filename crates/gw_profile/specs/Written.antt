@@ -9,8 +9,10 @@ use Rattle.gw_profile.specs.declared.fault.ProfileFault.TheVariants.{Syntax}
 use Rattle.gw_profile.specs.declared.shape.Usage as declared
 use Rattle.gw_profile.specs.declared.shape.Usage.TheVariants.{R, RE, O, X}
 use Rattle.gw_profile.specs.declared.shape.Card.{Card}
+use Rattle.gw_profile.specs.declared.shape.Count.{Count}
+use Rattle.gw_profile.specs.declared.shape.Count.TheVariants.{Octets, Characters}
 use Rattle.gw_profile.specs.Shapes.{SubValue, CompValue, FieldValue, TableValue, Forest, nothing, segment, group, ProfileValue}
-use Rattle.gw_profile.specs.Line.{Line, Leaf, Begins, Table, Segment, Field, Comp, Sub, Group, End, said_leaf}
+use Rattle.gw_profile.specs.Line.{Line, Leaf, Begins, Table, Segment, Field, Comp, Sub, Group, End, Counts, said_leaf}
 use Rattle.gw_profile.specs.Fault.{takes}
 use Rattle.gw_profile.specs.Value as Value
 
@@ -42,8 +44,13 @@ abbrev pub tables_on : List TableValue → List Line → List Line
 tables_on [] below = below
 tables_on (t ∷ tables) below = Table t.name t.values ∷ tables_on tables below
 
+-- a profile in octets has no such line
+abbrev pub count_on : Count → List Line → List Line
+count_on Octets below = below
+count_on Characters below = Counts ∷ below
+
 abbrev pub profile_lines : ProfileValue → List Line
-profile_lines p = Begins p.name ∷ tables_on p.tables (nodes_on p.nodes [])
+profile_lines p = Begins p.name ∷ count_on p.count (tables_on p.tables (nodes_on p.nodes []))
 
 -- ---- the words of a line
 
@@ -93,6 +100,7 @@ line_words (Comp number usage leaf) = Plain (codes "comp") ∷ Plain (digits num
 line_words (Sub number usage leaf) = Plain (codes "sub") ∷ Plain (digits number) ∷ Plain (usage_text usage) ∷ option_words leaf
 line_words (Group at label usage card) = Plain (codes "group") ∷ Plain label ∷ Plain (usage_text usage) ∷ Plain (card_text card) ∷ []
 line_words End = Plain (codes "end") ∷ []
+line_words Counts = Plain (codes "count") ∷ Plain (codes "characters") ∷ []
 
 -- ---- the bytes
 
@@ -145,9 +153,10 @@ plain_on (Comp number usage leaf ∷ below) = Comp number usage None ∷ sub_bel
 plain_on (Sub number usage leaf ∷ below) = Sub number usage (plain_leaf leaf) ∷ plain_on below
 plain_on (Group at label usage card ∷ below) = Group 0 label usage card ∷ plain_on below
 plain_on (End ∷ below) = End ∷ plain_on below
+plain_on (Counts ∷ below) = plain_on below
 
 abbrev pub plain_lines : List Line → List Line
-plain_lines all = Begins (Value.name_of all) ∷ tables_on (Value.tables all) (plain_on all)
+plain_lines all = Begins (Value.name_of all) ∷ count_on (Value.count_of all) (tables_on (Value.tables all) (plain_on all))
 
 -- the plain lines of a text, or its first faulty line
 abbrev pub meaning : List ℕ → Result (List Line) ProfileFault

@@ -12,7 +12,7 @@ ghost use Rattle.gw_profile.specs.Value as spec;
 use crate::form::{Leaf, Line};
 use crate::node::{GroupNode, Node, SegNode};
 use crate::rules::is_optional;
-use crate::shape::{Card, CompShape, FieldShape, SubShape, Usage};
+use crate::shape::{Card, CompShape, Count, FieldShape, SubShape, Usage};
 use std::alloc::{AllocError, Global};
 use std::mem;
 
@@ -27,10 +27,11 @@ struct Below {
     empty: Option<u32>,
 }
 
-/// The name and the nodes of a profile, with the line of its first group that may be empty.
+/// The name, the count and the nodes of a profile, with the line of its first group that may be empty.
 #[derive(Drop)]
 pub struct Built {
     pub name: Vec<u8>,
+    pub count: Count,
     pub nodes: Vec<Node>,
     pub empty: Option<u32>,
 }
@@ -336,9 +337,30 @@ fn name_of<'a>(lines: &[Line<'a>]) -> &'a [u8]
     }
 }
 
+// What lengths count where this is the second line.
+fn said_count(whole: &Line) -> Count
+    ensures { result ≡ spec.said_count (line whole.now) }
+{
+    match whole {
+        Line::Counts => Count::Characters,
+        _ => Count::Octets,
+    }
+}
+
+// What the lengths of these lines count.
+fn count_of(lines: &[Line]) -> Count
+    ensures { result ≡ spec.count_of (map line lines.now) }
+{
+    match lines {
+        [] => Count::Octets,
+        [_] => Count::Octets,
+        [_, next, ..] => said_count(next),
+    }
+}
+
 /// What these lines spell.
 pub fn build(alloc: Global, lines: &[Line]) -> Result<Built, AllocError>
-    ensures value { IfOk result (λ b. built b ≡ (spec.name_of (map line lines.now), (spec.nodes (map line lines.now)).here)) }
+    ensures value { IfOk result (λ b. built b ≡ (spec.name_of (map line lines.now), spec.count_of (map line lines.now), (spec.nodes (map line lines.now)).here)) }
     ensures empty { IfOk result (λ b. b.empty ≡ empty_group (map line lines.now)) }
 {
     let name = copy_of(alloc, name_of(lines))?;
@@ -348,5 +370,10 @@ pub fn build(alloc: Global, lines: &[Line]) -> Result<Built, AllocError>
         ..
     } = all_below(alloc, lines)?;
     nodes.reverse();
-    Ok(Built { name, nodes, empty })
+    Ok(Built {
+        name,
+        count: count_of(lines),
+        nodes,
+        empty,
+    })
 }

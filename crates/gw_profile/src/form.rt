@@ -28,6 +28,7 @@ pub enum Line<'a> {
     Sub(u32, Option<Usage>, Option<Leaf<'a>>),
     Group(u32, &'a [u8], Option<Usage>, Card),
     End,
+    Counts,
 }
 
 // The usage of these bytes; an inner nothing for C and CE.
@@ -274,6 +275,16 @@ fn group_form<'a>(at: u32, words: &[Word<'a>]) -> Option<Line<'a>>
     with_all(more, Line::Group(at, label, usage, card))
 }
 
+fn count_form<'a>(words: &[Word<'a>]) -> Option<Line<'a>>
+    ensures { option_map line result ≡ spec.count_form (map word words.now) }
+{
+    let (first, more) = first_word(words)?;
+    if first.is(b"characters") {
+        return with_all(more, Line::Counts);
+    }
+    None
+}
+
 fn table_form<'a>(alloc: Global, words: &[Word<'a>]) -> Result<Option<Line<'a>>, AllocError>
     ensures { IfOk result (λ found. option_map line found ≡ spec.table_form (map word words.now)) }
 {
@@ -317,6 +328,9 @@ fn keyword_form<'a>(
     }
     if keyword.is(b"end") {
         return Ok(with_all(more, Line::End));
+    }
+    if keyword.is(b"count") {
+        return Ok(count_form(more));
     }
     Ok(None)
 }

@@ -1,5 +1,5 @@
 //! What holds of the definitions.
-ghost use Rattle.std.specs.Prelude.{◌≡◌, ◌↔◌, [], ℕ, List, Ok, Some, None, false};
+ghost use Rattle.std.specs.Prelude.{◌≡◌, ◌↔◌, [], ℕ, List, Ok, Err, Some, None, false};
 ghost use Rattle.gw_profile.specs.Shapes.{Forest, ProfileValue};
 ghost use Rattle.gw_profile.specs.LookAhead.{ambiguous};
 ghost use Rattle.gw_profile.specs.Deterministic.{Name, NoName, Deterministic, FirstShared};
@@ -7,7 +7,8 @@ ghost use Rattle.gw_lines.specs.Reading.{is_too_large};
 ghost use Rattle.gw_profile.specs.Whole.{spelled, most_bytes, most_lines};
 ghost use Rattle.gw_profile.specs.Written.{HasNoQuote, profile_lines, written, meaning};
 ghost use Rattle.gw_profile.specs.WellFormed.{WellFormed};
-ghost use Rattle.gw_profile.specs.Worked.{worked, worked_written, worked_text};
+ghost use Rattle.gw_profile.specs.declared.fault.ProfileFault.TheVariants.{Syntax};
+ghost use Rattle.gw_profile.specs.Worked.{worked, worked_written, worked_text, counted, counted_text, late_count};
 
 /// A list of nodes is refused as ambiguous unless it is deterministic.
 pub fn ambiguous_is_not_deterministic()
@@ -49,4 +50,6 @@ pub fn worked_profile()
     ensures written { written worked ≡ worked_written }
     ensures spelled { spelled worked_text ≡ Ok worked }
     ensures again { spelled worked_written ≡ Ok worked }
+    ensures counted { spelled counted_text ≡ Ok counted }
+    ensures late { spelled late_count ≡ Err (Syntax 3) }
 {}

@@ -33,7 +33,10 @@ fn pattern(keyword: &[u8]) -> &'static [u8]
     if keyword == b"end".as_slice() {
         return b"end, of a group";
     }
-    b"profile, table, segment, field, comp, sub, group or end"
+    if keyword == b"count".as_slice() {
+        return b"count characters, directly below profile NAME";
+    }
+    b"profile, count, table, segment, field, comp, sub, group or end"
 }
 
 /// What was expected at the line of this number, from 1, of a text that is no profile: the pattern of its keyword, or the keywords that there are; behind the last line what is missing. The one error is want of memory.

@@ -8,16 +8,18 @@ ghost use Rattle.gw_profile.specs.WellFormed.{WellFormed};
 
 use crate::names::names_of;
 use crate::node::Node;
-use crate::same::{same_nodes, same_tables};
+use crate::same::{same_count, same_nodes, same_tables};
+use crate::shape::Count;
 use crate::table::Table;
 use indexmap::IndexMap;
 use std::alloc::{AllocError, Global};
 use std::collections::HashSet;
 use std::marker::Model;
 
-/// A message profile: its tables in order, its tree of segments and groups, and the names of its segments. It is well formed by its type.
+/// A message profile: what its lengths count, its tables in order, its tree of segments and groups, and the names of its segments. It is well formed by its type.
 pub struct Profile {
     name: Vec<u8>,
+    count: Count,
     tables: IndexMap<Vec<u8>, Table>,
     nodes: Vec<Node>,
     names: HashSet<[u8; 3]>,
@@ -28,6 +30,7 @@ impl Drop for Profile {
     fn drop(self) {
         let Profile {
             name: _,
+            count: _,
             tables: _,
             nodes: _,
             names: _,
@@ -47,9 +50,9 @@ impl Model for Profile {
 
     ghost coded = { Prim.hlevel (codes, node.the_row.coded) };
 
-    ghost view = { λ p. record { name = p.name.items; tables = map table p.tables.entries; nodes = p.nodes.items } };
+    ghost view = { λ p. record { name = p.name.items; count = p.count; tables = map table p.tables.entries; nodes = p.nodes.items } };
 
-    ghost invariant = { λ p. IsKept (record { name = p.name.items; tables = map table p.tables.entries; nodes = p.nodes.items }) p.names };
+    ghost invariant = { λ p. IsKept (record { name = p.name.items; count = p.count; tables = map table p.tables.entries; nodes = p.nodes.items }) p.names };
 }
 
 impl Profile {
@@ -57,15 +60,17 @@ impl Profile {
     pub(crate) fn of(
         alloc: Global,
         name: Vec<u8>,
+        count: Count,
         tables: IndexMap<Vec<u8>, Table>,
         nodes: Vec<Node>,
     ) -> Result<Profile, AllocError>
-        requires { WellFormed (record { name = name.items; tables = map table tables.entries; nodes = forest nodes.items }) }
-        ensures { IfOk result (λ p. p ≡ record { name = name.items; tables = map table tables.entries; nodes = nodes.items }) }
+        requires { WellFormed (record { name = name.items; count = count; tables = map table tables.entries; nodes = forest nodes.items }) }
+        ensures { IfOk result (λ p. p ≡ record { name = name.items; count = count; tables = map table tables.entries; nodes = nodes.items }) }
     {
         let names = names_of(alloc, &nodes)?;
         Ok(Profile {
             name,
+            count,
             tables,
             nodes,
             names,
@@ -77,6 +82,13 @@ impl Profile {
         ensures { result.now ≡ self.now.name }
     {
         self.name.as_slice()
+    }
+
+    /// What its lengths count. It takes no memory.
+    pub fn count(&self) -> Count
+        ensures { result ≡ self.now.count }
+    {
+        self.count
     }
 
     /// The nodes at the top, in order. It takes no memory.
@@ -108,11 +120,14 @@ impl Profile {
         self.tables.get(name)
     }
 
-    /// Whether the two are one profile: the same name, tables and nodes. It takes no memory.
+    /// Whether the two are one profile: the same name, count, tables and nodes. It takes no memory.
     pub fn same(&self, other: &Profile) -> bool
         ensures { IsTrue result ↔ (profile_value self.now ≡ profile_value other.now) }
     {
         if self.name != other.name {
+            return false;
+        }
+        if !same_count(self.count, other.count) {
             return false;
         }
         if !same_tables(&self.tables, &other.tables) {

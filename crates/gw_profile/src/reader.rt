@@ -166,6 +166,16 @@ impl<'a> Above<'a> {
         }
     }
 
+    fn counts_fault(&self, at: u32) -> Option<ProfileFault>
+        ensures { result ≡ first_of (spec.counts_tests (said self.now) at) }
+    {
+        if self.lines.len() == 1 {
+            None
+        } else {
+            Some(ProfileFault::Syntax(at))
+        }
+    }
+
     // The fault of a line below these; `found` is its table.
     fn fault_of(&self, at: u32, whole: &Line<'a>, found: &Option<Table>) -> Option<ProfileFault>
         requires agreed { Agreed self.now }
@@ -204,6 +214,7 @@ impl<'a> Above<'a> {
             ),
             Line::Group(_, label, usage, card) => self.group_fault(at, label, *usage, *card),
             Line::End => self.end_fault(at),
+            Line::Counts => self.counts_fault(at),
         }
     }
 
@@ -300,9 +311,14 @@ impl<'a> Form<'a> for Reader<'a> {
 
     fn finish(self, at: u32) -> Result<Profile, ProfileFault> {
         let Reader { above } = self;
-        let Built { name, nodes, .. } = above.ruled(at)?;
+        let Built {
+            name,
+            count,
+            nodes,
+            ..
+        } = above.ruled(at)?;
         let alloc = above.alloc;
-        let profile = Profile::of(alloc, name, above.into_tables(), nodes)?;
+        let profile = Profile::of(alloc, name, count, above.into_tables(), nodes)?;
         Ok(profile)
     }
 }

@@ -6,12 +6,19 @@ ghost use Rattle.gw_profile.specs.own.Same.{SameNode, group_of, lent_table};
 ghost use Rattle.gw_profile.specs.declared.node.Node.{Seg, Group};
 
 use crate::node::{GroupNode, Node, SegNode};
-use crate::shape::{Card, CompShape, FieldShape, SubShape, Usage};
+use crate::shape::{Card, CompShape, Count, FieldShape, SubShape, Usage};
 use crate::table::Table;
 use gw_er7::same::{Part, are_same, same_bytes};
 use indexmap::IndexMap;
 
 fn same_usage(one: Usage, other: Usage) -> bool
+    ensures { IsTrue result ↔ (one ≡ other) }
+{
+    one == other
+}
+
+/// Whether these are the same count.
+pub fn same_count(one: Count, other: Count) -> bool
     ensures { IsTrue result ↔ (one ≡ other) }
 {
     one == other

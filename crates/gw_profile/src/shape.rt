@@ -16,6 +16,15 @@ pub struct Card {
     pub max: Option<u32>,
 }
 
+/// What the lengths of a profile count in a canonical text.
+#[derive(Clone, Copy, PartialEq, Eq, Debug, Drop)]
+pub enum Count {
+    /// Every octet.
+    Octets,
+    /// The octets outside 0x80 to 0xBF. In UTF-8 each of them begins a character.
+    Characters,
+}
+
 /// A subcomponent, with the name of its table.
 #[derive(PartialEq, Drop)]
 pub struct SubShape {

@@ -60,6 +60,7 @@ fn is_preamble(whole: &Line) -> bool
     match whole {
         Line::Begins(_) => true,
         Line::Table(_, _) => true,
+        Line::Counts => true,
         _ => false,
     }
 }

@@ -1,7 +1,9 @@
 -- The elements of a profile that are named by their numbers, and the texts that a profile lists for them (HL7 v2.5.1 chapter 2, 2.12: table, length).
-use Rattle.std.specs.Prelude.{ℕ, Bool, true, ◌==◌, ◌&&◌, not, nat_le, List, length, [], ◌∷◌, map, find, Option, Some, None, option_map, is_some, unwrap_or}
+use Rattle.std.specs.Prelude.{ℕ, Bool, true, ◌==◌, ◌&&◌, not, nat_le, List, [], ◌∷◌, map, find, Option, Some, None, option_map, is_some, unwrap_or}
 use Rattle.std.specs.Global.{Vec}
 use denote.Ref.{Bor}
+use Rattle.gw_profile.specs.declared.shape.Count.{Count}
+use Rattle.gw_profile.specs.Lengths.{measure}
 use Rattle.gw_profile.specs.Fault.{is_among}
 use Rattle.gw_profile.specs.Shapes.{SubValue, CompValue, FieldValue, Forest, TableValue}
 use Rattle.gw_profile.specs.Seen.{field, comp, sub}
@@ -57,20 +59,20 @@ listed tables s = go s.table
     go None = []
     go (Some name) = values_of tables name
 
-abbrev pub is_short : Option ℕ → List ℕ → Bool
-is_short None text = true
-is_short (Some most) text = nat_le (length text) most
+abbrev pub is_short : Count → Option ℕ → List ℕ → Bool
+is_short count None text = true
+is_short count (Some most) text = nat_le (measure count text) most
 
 -- the first that is no longer than the subcomponent may be, and no value of the table
-abbrev pub unlisted : List TableValue → SubValue → List (List ℕ) → Option (List ℕ)
-unlisted tables s table = find (λ text. is_short s.len text && not (is_among text table)) (listed tables s)
+abbrev pub unlisted : Count → List TableValue → SubValue → List (List ℕ) → Option (List ℕ)
+unlisted count tables s table = find (λ text. is_short count s.len text && not (is_among text table)) (listed tables s)
 
 abbrev pub has_row : Rows → List ℕ → Bool
 has_row rows text = is_some (second_of text rows.rows)
 
 -- the first that is no longer than the subcomponent may be, and for which there is no row
-abbrev pub unrowed : List TableValue → SubValue → Rows → Option (List ℕ)
-unrowed tables s rows = find (λ text. is_short s.len text && not (has_row rows text)) (listed tables s)
+abbrev pub unrowed : Count → List TableValue → SubValue → Rows → Option (List ℕ)
+unrowed count tables s rows = find (λ text. is_short count s.len text && not (has_row rows text)) (listed tables s)
 
 -- ---- as the program holds them
 

@@ -7,14 +7,14 @@ ghost use Rattle.gw_subjects.specs.Elements as spec;
 ghost use Rattle.gw_subjects.specs.Elements.{items_all};
 
 use gw_maplang::Table as Rows;
-use gw_profile::{Profile, SubShape, Table};
+use gw_profile::{Count, Profile, SubShape, Table, measure};
 
-fn is_short(len: Option<u32>, text: &[u8]) -> bool
-    ensures { result ≡ spec.is_short len text.now }
+fn is_short(count: Count, len: Option<u32>, text: &[u8]) -> bool
+    ensures { result ≡ spec.is_short count len text.now }
 {
     match len {
         None => true,
-        Some(most) => text.len() as u64 <= u64::from(most),
+        Some(most) => measure(count, text) <= u64::from(most),
     }
 }
 
@@ -39,11 +39,16 @@ fn listed<'a>(profile: &'a Profile, sub: &SubShape) -> &'a [Vec<u8>]
 }
 
 // The first of these that is no longer, and no value of the table.
-fn first_unlisted<'a>(len: Option<u32>, all: &'a [Vec<u8>], table: &Table) -> Option<&'a [u8]>
-    ensures { now result ≡ find (λ text. spec.is_short len text && not (is_among text table.now)) (items_all all.now) }
+fn first_unlisted<'a>(
+    count: Count,
+    len: Option<u32>,
+    all: &'a [Vec<u8>],
+    table: &Table,
+) -> Option<&'a [u8]>
+    ensures { now result ≡ find (λ text. spec.is_short count len text && not (is_among text table.now)) (items_all all.now) }
 {
     for text in all {
-        if is_short(len, text) && !table.contains(text) {
+        if is_short(count, len, text) && !table.contains(text) {
             return Some(text.as_slice());
         }
     }
@@ -60,11 +65,16 @@ fn has_row(rows: &Rows, text: &[u8]) -> bool
 }
 
 // The first of these that is no longer, and for which there is no row.
-fn first_unrowed<'a>(len: Option<u32>, all: &'a [Vec<u8>], rows: &Rows) -> Option<&'a [u8]>
-    ensures { now result ≡ find (λ text. spec.is_short len text && not (spec.has_row rows.now text)) (items_all all.now) }
+fn first_unrowed<'a>(
+    count: Count,
+    len: Option<u32>,
+    all: &'a [Vec<u8>],
+    rows: &Rows,
+) -> Option<&'a [u8]>
+    ensures { now result ≡ find (λ text. spec.is_short count len text && not (spec.has_row rows.now text)) (items_all all.now) }
 {
     for text in all {
-        if is_short(len, text) && !has_row(rows, text) {
+        if is_short(count, len, text) && !has_row(rows, text) {
             return Some(text.as_slice());
         }
     }
@@ -73,14 +83,14 @@ fn first_unrowed<'a>(len: Option<u32>, all: &'a [Vec<u8>], rows: &Rows) -> Optio
 
 /// The first text that a source's profile lists for its subcomponent and that the table of a target lacks. It takes no memory.
 pub fn unlisted<'a>(source: &'a Profile, from: &SubShape, table: &Table) -> Option<&'a [u8]>
-    ensures { now result ≡ spec.unlisted (profile_value source.now).tables (seen_sub from.now) table.now }
+    ensures { now result ≡ spec.unlisted source.now.count (profile_value source.now).tables (seen_sub from.now) table.now }
 {
-    first_unlisted(from.len, listed(source, from), table)
+    first_unlisted(source.count(), from.len, listed(source, from), table)
 }
 
 /// The first text that a source's profile lists for its subcomponent and for which a table of the map has no row. It takes no memory.
 pub fn unrowed<'a>(source: &'a Profile, from: &SubShape, rows: &Rows) -> Option<&'a [u8]>
-    ensures { now result ≡ spec.unrowed (profile_value source.now).tables (seen_sub from.now) rows.now }
+    ensures { now result ≡ spec.unrowed source.now.count (profile_value source.now).tables (seen_sub from.now) rows.now }
 {
-    first_unrowed(from.len, listed(source, from), rows)
+    first_unrowed(source.count(), from.len, listed(source, from), rows)
 }

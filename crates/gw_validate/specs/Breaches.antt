@@ -5,7 +5,8 @@ use Rattle.gw_er7.specs.Presence.{CompAt, RepAt, FieldAt, IsLast}
 use Rattle.gw_profile.specs.declared.shape.Usage.{Usage}
 use Rattle.gw_profile.specs.declared.shape.Usage.TheVariants.{R, X}
 use Rattle.gw_profile.specs.Shapes.{SubValue, CompValue, FieldValue, TableValue, ProfileValue}
-use Rattle.gw_profile.specs.Lengths.{Count, measure, len_count}
+use Rattle.gw_profile.specs.declared.shape.Count.{Count}
+use Rattle.gw_profile.specs.Lengths.{measure, len_count}
 use Rattle.gw_profile.specs.Fault.{is_among}
 use Rattle.gw_profile.specs.Value.{table_of}
 

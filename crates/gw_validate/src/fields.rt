@@ -4,7 +4,6 @@ ghost use Rattle.std.specs.List.{AllByRecursion};
 ghost use Rattle.std.specs.FinMap as texts;
 ghost use Rattle.gw_er7.specs.Message.{text_of};
 ghost use Rattle.gw_er7.specs.Presence.{RepAt, CompAt, IsLast, IsStart};
-ghost use Rattle.gw_profile.specs.Lengths.{octets};
 ghost use Rattle.gw_profile.specs.Seen.{sub, comp as comp_value, field as field_value, items_of, profile_value};
 ghost use Rattle.gw_validate.specs.declared.breach.Kind.TheVariants.{MissingValue};
 ghost use Rattle.gw_validate.specs.Kinds.{number_of};
@@ -13,7 +12,7 @@ ghost use Rattle.gw_validate.specs.own.Least.{Least, CompRises, FieldRises, Shap
 
 use crate::breach::Kind;
 use gw_er7::{Place, Segment};
-use gw_profile::{CompShape, FieldShape, Profile, SubShape, Usage};
+use gw_profile::{CompShape, Count, FieldShape, Profile, SubShape, Usage, measure};
 
 /// Where a breach stands, with 0 for a number that is not said, and its kind.
 #[derive(Clone, Copy, Drop)]
@@ -62,12 +61,12 @@ fn is_null(text: &[u8]) -> bool
     text == b"\"\"".as_slice()
 }
 
-fn is_long(len: Option<u32>, text: &[u8]) -> bool
-    ensures { result ≡ is_long octets len text.now }
+fn is_long(count: Count, len: Option<u32>, text: &[u8]) -> bool
+    ensures { result ≡ is_long count len text.now }
 {
     match len {
         None => false,
-        Some(most) => u64::from(most) < text.len() as u64,
+        Some(most) => u64::from(most) < measure(count, text),
     }
 }
 
@@ -96,7 +95,7 @@ fn sub_breach(profile: &Profile, shape: &SubShape, text: &[u8]) -> Option<Kind>
     if is_null(text) {
         return None;
     }
-    if is_long(shape.len, text) {
+    if is_long(profile.count(), shape.len, text) {
         return Some(Kind::TooLong);
     }
     if is_unlisted(profile, &shape.table, text) {

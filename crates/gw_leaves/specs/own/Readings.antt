@@ -4,7 +4,8 @@ use Rattle.std.specs.List.{list_any}
 use Rattle.std.specs.List.Sorted.{IsPermutation, IsNonDecreasingBy}
 use denote.Ref.{Bor}
 use Rattle.gw_profile.specs.Shapes.{SubValue, TableValue, ProfileValue}
-use Rattle.gw_profile.specs.Lengths.{octets}
+use Rattle.gw_profile.specs.declared.shape.Count.{Count}
+use Rattle.gw_profile.specs.Lengths.{measure, len_count}
 use Rattle.gw_profile.specs.Fault.{is_among}
 use Rattle.gw_profile.specs.Value.{table_of as table_in}
 use Rattle.gw_maplang.specs.Seen.{now}
@@ -24,8 +25,8 @@ values_named tables name = unwrap_or (table_in name tables) []
 
 -- the values of the table of this name that aren't longer, or any texts that aren't
 abbrev pub table_texts : ProfileValue → Option (List ℕ) → Option ℕ → Values
-table_texts profile None len = any octets len
-table_texts profile (Some name) len = listed (filter (is_short octets len) (values_named profile.tables name))
+table_texts profile None len = any (len_count profile) len
+table_texts profile (Some name) len = listed (filter (is_short (len_count profile) len) (values_named profile.tables name))
 
 -- the rows of the table of this name
 abbrev pub rows_named : List maps.TableValue → List ℕ → Rows
@@ -58,33 +59,33 @@ is_any None None = true
 is_any None (Some table) = false
 is_any (Some rows) table = false
 
--- the octets of a text, and what is given for it
+-- the length of a text by the count of the source, and what is given for it
 abbrev pub Reading : Type 0
 Reading = ℕ × Option (List ℕ)
 
-abbrev pub itself : List ℕ → Reading
-itself text = (length text, Some text)
+abbrev pub itself : Count → List ℕ → Reading
+itself count text = (measure count text, Some text)
 
-abbrev pub looked_up : Rows → List ℕ → Reading
-looked_up rows text = (length text, given rows text)
+abbrev pub looked_up : Count → Rows → List ℕ → Reading
+looked_up count rows text = (measure count text, given rows text)
 
 -- for any texts: each can be as short as it likes
 abbrev pub all_given : Rows → List Reading
 all_given rows = map (λ (r : Row). (0, Some r.second)) rows.rows ++ (0, rows.other) ∷ []
 
--- by the tables of the source and those of the map
-abbrev pub all_read : List TableValue → List maps.TableValue → Option (List ℕ) → Option (List ℕ) → List Reading
-all_read source tables None None = []
-all_read source tables None (Some name) = map itself (values_named source name)
-all_read source tables (Some rows) None = all_given (rows_named tables rows)
-all_read source tables (Some rows) (Some name) = map (looked_up (rows_named tables rows)) (values_named source name)
+-- by the count and the tables of the source and the tables of the map
+abbrev pub all_read : Count → List TableValue → List maps.TableValue → Option (List ℕ) → Option (List ℕ) → List Reading
+all_read count source tables None None = []
+all_read count source tables None (Some name) = map (itself count) (values_named source name)
+all_read count source tables (Some rows) None = all_given (rows_named tables rows)
+all_read count source tables (Some rows) (Some name) = map (looked_up count (rows_named tables rows)) (values_named source name)
 
-abbrev pub read_of : List TableValue → List maps.TableValue → Origin → List Reading
-read_of source tables origin = all_read source tables (now origin.0) (now origin.1)
+abbrev pub read_of : Count → List TableValue → List maps.TableValue → Origin → List Reading
+read_of count source tables origin = all_read count source tables (now origin.0) (now origin.1)
 
 -- ---- what is asked of it
 
--- a text of so many octets isn't longer
+-- a text of this length isn't longer
 abbrev pub fits : Option ℕ → ℕ → Bool
 fits None n = true
 fits (Some most) n = nat_le n most
@@ -101,9 +102,9 @@ holds_of test (Some text) = test text
 abbrev pub is_unlisted : List (List ℕ) → Option (List ℕ) → Bool
 is_unlisted values = holds_of (λ text. not (is_among text values))
 
--- it is longer
-abbrev pub is_longer : ℕ → Option (List ℕ) → Bool
-is_longer most = holds_of (λ text. nat_lt most (length text))
+-- it is longer, by the count of the target
+abbrev pub is_longer : Count → ℕ → Option (List ℕ) → Bool
+is_longer to most = holds_of (λ text. nat_lt most (measure to text))
 
 -- nothing is given
 abbrev pub is_nothing : Option (List ℕ) → Bool
@@ -116,7 +117,7 @@ some_read len test readings = list_any (λ r. fits len r.0 && test r.1) readings
 -- ---- as the program holds it
 
 abbrev pub reading_value : declared.Reading → Reading
-reading_value r = (r.octets, now r.text)
+reading_value r = (r.size, now r.text)
 
 abbrev pub readings_value : List declared.Reading → List Reading
 readings_value readings = map reading_value readings
@@ -127,13 +128,13 @@ test_value tests.TheVariants.Nothing = is_nothing
 
 -- the shorter first
 abbrev pub AreRising : List declared.Reading → Type 0
-AreRising readings = IsNonDecreasingBy (λ (r : declared.Reading). r.octets) readings
+AreRising readings = IsNonDecreasingBy (λ (r : declared.Reading). r.size) readings
 
 -- these are all
 abbrev pub AreAll : List Reading → List declared.Reading → Type 0
 AreAll all readings = IsPermutation all (readings_value readings)
 
--- so many octets has the shortest of which this holds
+-- the length of the shortest of which this holds
 abbrev pub IsShortest : (Option (List ℕ) → Bool) → List Reading → Option ℕ → Type 0
 IsShortest test readings shortest = (len : Option ℕ) → fits_some len shortest ≡ some_read len test readings
 
@@ -146,8 +147,8 @@ abbrev pub IsWithin : Step → List Step → Type 0
 IsWithin step steps = (len : Option ℕ) (most : ℕ) → (fits len step.from && nat_lt most step.most) ≡ true → some_step len most steps ≡ true
 
 -- what is read of a text was added
-abbrev pub AddsStep : List Step → List Step → Reading → Type 0
-AddsStep old new r = (len : Option ℕ) (most : ℕ) → some_step len most new ≡ (some_step len most old || (fits len r.0 && is_longer most r.1))
+abbrev pub AddsStep : Count → List Step → List Step → Reading → Type 0
+AddsStep to old new r = (len : Option ℕ) (most : ℕ) → some_step len most new ≡ (some_step len most old || (fits len r.0 && is_longer to most r.1))
 
-abbrev pub AreSteps : List Reading → List Step → Type 0
-AreSteps readings steps = (len : Option ℕ) (most : ℕ) → some_step len most steps ≡ some_read len (is_longer most) readings
+abbrev pub AreSteps : Count → List Reading → List Step → Type 0
+AreSteps to readings steps = (len : Option ℕ) (most : ℕ) → some_step len most steps ≡ some_read len (is_longer to most) readings

@@ -5,7 +5,6 @@ use Rattle.gw_profile.specs.declared.shape.SubShape.{SubShape}
 use Rattle.gw_profile.specs.declared.shape.CompShape.{CompShape}
 use Rattle.gw_profile.specs.declared.shape.FieldShape.{FieldShape}
 use Rattle.gw_profile.specs.Shapes.{SubValue, CompValue}
-use Rattle.gw_profile.specs.Lengths.{octets}
 use Rattle.gw_profile.specs.Seen as profiles
 use Rattle.gw_profile.specs.Seen.{sub as sub_value, field as field_value, profile_value}
 use Rattle.gw_maplang.specs.Seen.{now}
@@ -37,7 +36,7 @@ value_failures sides at presence given sub =
 
 -- a value may be missing from the table, or be too long
 abbrev pub may_break : profiles.Contents → Values → SubShape → Bool
-may_break to values sub = may_be_unlisted values (spec.table_values to.tables (sub_value sub)) || may_be_long octets values sub.len
+may_break to values sub = may_be_unlisted values (spec.table_values to.tables (sub_value sub)) || may_be_long to.count values sub.len
 
 -- ---- copied fields
 

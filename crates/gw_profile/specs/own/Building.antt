@@ -10,6 +10,7 @@ use Rattle.gw_profile.specs.Shapes.{Forest, group, TableValue, ProfileValue}
 use Rattle.gw_profile.specs.declared.shape.Usage.{Usage}
 use Rattle.gw_profile.specs.declared.shape.Usage.TheVariants.{O}
 use Rattle.gw_profile.specs.declared.shape.Card.{Card}
+use Rattle.gw_profile.specs.declared.shape.Count.{Count}
 use Rattle.gw_profile.specs.Line.{Line}
 use Rattle.gw_profile.specs.Seen.{sub, comp, field, forest, node_forest}
 use Rattle.gw_profile.specs.Whole.{empty_group, is_headed, filled}
@@ -40,12 +41,12 @@ Grows old new line = (lines : List Line) → Stands old lines → Stands new (li
 abbrev pub IsGroup : Node → List ℕ → Option Usage → Card → List Node → Type 0
 IsGroup node label usage card nodes = (rest : Forest) → node_forest node rest ≡ group (record { label = label; usage = unwrap_or usage O; card = card }) (forest nodes) rest
 
-abbrev pub built : Built → List ℕ × Forest
-built b = (b.name.items, forest b.nodes.items)
+abbrev pub built : Built → List ℕ × Count × Forest
+built b = (b.name.items, b.count, forest b.nodes.items)
 
 -- the same with its tables
 abbrev pub built_value : Built → List TableValue → ProfileValue
-built_value b tables = record { name = b.name.items; tables = tables; nodes = forest b.nodes.items }
+built_value b tables = record { name = b.name.items; count = b.count; tables = tables; nodes = forest b.nodes.items }
 
 -- whatever its tables are, it keeps the rules of the whole for these lines, or this is their fault
 abbrev pub KeepsRules : {A : Type 0} → List Line → Built → Result A ProfileFault → Type 0

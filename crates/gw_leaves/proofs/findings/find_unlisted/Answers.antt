@@ -9,7 +9,7 @@ pub loop-name-preserved : goal.loop-name-preserved
 loop-name-preserved c =
     let target = c.args.target.now.tables in
     let readings = readings_value c.args.readings.now in
-    let n = c.shortest-octets.result in
+    let n = c.shortest-size.result in
     subst (AreUnlisted target readings) (sym c.in_ok-insert.ensures.entries)
     (kept names_eq (λ b. b.now) same_name (λ name m. IsShortest (is_missing target name) readings m) c.in-Some.name c.loop-name.unlisted.entries n
-    (subst (λ t. IsShortest (is_unlisted (unwrap_or t [])) readings n) c.table.ensures c.shortest-octets.ensures) c.loop-name.invariant)
+    (subst (λ t. IsShortest (is_unlisted (unwrap_or t [])) readings n) c.table.ensures c.shortest-size.ensures) c.loop-name.invariant)

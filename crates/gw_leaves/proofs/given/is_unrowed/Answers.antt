@@ -17,8 +17,8 @@ returns c =
     let len = c.len_of.result in
     c.fits.ensures
     ∙ c.in_ok-nothing.ensures len
-    ∙ ap (λ r. some_read len is_nothing (all_read s.source.tables s.map.tables r (now origin.1))) c.origin_of.ensures.rows
-    ∙ ap (λ t. some_read len is_nothing (all_read s.source.tables s.map.tables (Some name) t)) c.origin_of.ensures.table
+    ∙ ap (λ r. some_read len is_nothing (all_read s.source.count s.source.tables s.map.tables r (now origin.1))) c.origin_of.ensures.rows
+    ∙ ap (λ t. some_read len is_nothing (all_read s.source.count s.source.tables s.map.tables (Some name) t)) c.origin_of.ensures.table
     ∙ unrowed_read profile s.map.tables name (table_of sub) len
     ∙ ap (λ l. is_unrowed rows (table_texts profile (table_of sub) l)) c.len_of.ensures
     ∙ ap (is_unrowed rows) (sym (sub_texts profile sub))

@@ -1,5 +1,4 @@
 use Rattle.std.proofs.Common.{◌≡◌, Some, IfOk, sym, ap, subst, ◌∙◌}
-use Rattle.gw_profile.specs.Lengths.{octets}
 use Rattle.gw_profile.specs.Seen.{profile_value}
 use Rattle.gw_maplang.specs.Seen.{now}
 use Rattle.gw_leaves.specs.Leaves.{may_be_long}
@@ -15,7 +14,7 @@ returns c =
     let len = c.len_of-len.result in
     let most = c.in-Some.most in
     subst (λ x. IfOk c.goes_beyond.result (λ b. b ≡ x))
-    (sym (long_read (profile_value s.source) s.map.tables (now origin.0) (now origin.1) len most (sym c.is_any.ensures ∙ c.if-is_any.false))
-    ∙ ap (λ v. may_be_long octets v (Some most)) (place_texts s c.args.given origin len c.origin_of-origin.ensures.rows c.origin_of-origin.ensures.table c.len_of-len.ensures)
-    ∙ ap (may_be_long octets (given_texts s c.args.given)) (sym c.in-Some.is))
+    (sym (long_read (profile_value s.source) s.map.tables s.target.count (now origin.0) (now origin.1) len most (sym c.is_any.ensures ∙ c.if-is_any.false))
+    ∙ ap (λ v. may_be_long s.target.count v (Some most)) (place_texts s c.args.given origin len c.origin_of-origin.ensures.rows c.origin_of-origin.ensures.table c.len_of-len.ensures)
+    ∙ ap (may_be_long s.target.count (given_texts s c.args.given)) (sym c.in-Some.is))
     c.goes_beyond.ensures

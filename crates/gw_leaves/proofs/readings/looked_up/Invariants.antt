@@ -4,4 +4,4 @@ use Rattle.gw_leaves.specs.own.Readings.{looked_up, readings_value}
 use Rattle.gw_leaves.proofs.readings.looked_up.Given as goal
 
 abbrev pub invariant-loop-value : goal.invariant-loop-value
-invariant-loop-value l = readings_value l.made.items ++ map (looked_up (rows_value l.rows)) (items_all (drop l.value-index l.values)) ≡ map (looked_up (rows_value l.rows)) (items_all l.values)
+invariant-loop-value l = readings_value l.made.items ++ map (looked_up l.count (rows_value l.rows)) (items_all (drop l.value-index l.values)) ≡ map (looked_up l.count (rows_value l.rows)) (items_all l.values)
