@@ -181,10 +181,13 @@ between profiles m = do
 abbrev pub check_fault : Inner → Option Broken → Option PlanFault
 check_fault p least = option_map (λ b. Check (p.at + b.line) b.rule) least
 
--- a map with its profiles, where they stand above; the faults beside it are those of its lines and of its head
+-- A map with its profiles, where they stand above; the faults beside it are those of its lines and of its head. Where no `stop` follows, what stands there
+-- is no whole map, and no rule of the checker speaks of it.
 abbrev pub map_checked : Option PlanFault → Inner → MapValue → Option MapBetween → Result MapBetween PlanFault
 map_checked beside p m None = Err (earlier beside (UnknownName (p.at + m.line)))
-map_checked beside p m (Some b) = unless (earliest beside (check_fault p (option_map checked.broken (least (all_failures b.source b.target m))))) b
+map_checked beside p m (Some b) =
+    if p.stopped then unless (earliest beside (check_fault p (option_map checked.broken (least (all_failures b.source b.target m))))) b
+    else Err (earlier beside (Syntax (p.at + length p.lines + 1)))
 
 abbrev pub checked_between : List ProfileValue → Option PlanFault → Inner → MapValue → Result MapBetween PlanFault
 checked_between profiles beside p m = map_checked beside p m (between profiles m)

@@ -14,7 +14,7 @@ ghost use Rattle.gw_plan.specs.own.Made.{broken_rule, inner, map_head, shared_ma
 use crate::above::Above;
 use crate::fault::PlanFault;
 use crate::heads::{MapHead, map_head};
-use crate::inner::{Inner, common, joined};
+use crate::inner::{Inner, common, joined, line_after};
 use crate::order::{earlier, earliest};
 use gw_check::{CheckFault, CheckedMap, check};
 use gw_maplang::{Map, MapFault, parse};
@@ -157,7 +157,8 @@ fn checked(
     }
 }
 
-// The map, checked between the profiles that it names, or the first of its fault and the one beside it.
+// The map, checked between the profiles that it names, or the first of its fault and the one beside it. Where no `stop`
+// follows, what stands there is no whole map, and isn't checked.
 fn with_sides(
     alloc: Global,
     above: &Above,
@@ -174,6 +175,9 @@ fn with_sides(
         let line = part.at + u64::from(map.line());
         return Err(earlier(beside, PlanFault::UnknownName(line)));
     };
+    if !part.stopped {
+        return Err(earlier(beside, PlanFault::Syntax(line_after(part))));
+    }
     match checked(alloc, source, target, map)? {
         Err(broken) => Err(earlier(beside, rule_fault(part, broken))),
         Ok(checked) => match beside {
