@@ -11,7 +11,7 @@ use Rattle.gw_profile.specs.WellFormed as formed
 use Rattle.gw_maplang.specs.Shapes as raw
 use Rattle.gw_maplang.specs.Shapes.{TableValue}
 use Rattle.gw_maplang.specs.Identity.{field_rules, copy_rule, same_items}
-use Rattle.gw_resolve.specs.Failures.{Mark, at_line, Failure, fails, or_later}
+use Rattle.gw_resolve.specs.Failures.{Mark, at_line, Failure, fails, where_so, or_later}
 use Rattle.gw_resolve.specs.Places.{Element, a_segment, a_group, Found, nodes_of, child, nodes_of_child, found, element_of, within}
 use Rattle.gw_resolve.specs.Intervals.{once, product}
 use Rattle.gw_resolve.specs.Order.{is_segment, is_group}
@@ -29,6 +29,10 @@ no_more a b e f = ap₂ (λ s t. s ++ t) e f
 
 no_later : (a b : List Failure) → a ≡ [] → b ≡ [] → or_later a b ≡ []
 no_later a b e f = ap₂ or_later e f
+
+none_there : (holds : Bool) (those : List Failure) → those ≡ [] → where_so holds those ≡ []
+none_there true those e = e
+none_there false those e = refl
 
 pub holds : (rule : ℕ) (mark : Mark) (broken : Bool) → broken ≡ false → fails rule mark broken ≡ []
 holds rule mark true e = absurd (cc)
@@ -195,11 +199,11 @@ paths_hold e scope j (segment s rest) h d g = by (is_forbidden (Some s.usage)) (
 
     by : (b : Bool) → path_failures (e ∷ scope) (same_items rest) ≡ [] → path_failures (e ∷ scope) (if b then same_items rest else raw.segment (segment_of s) (same_items rest)) ≡ []
     by true later = later
-    by false later = no_more _ _ (no_later _ _ (segments_hold e scope j s.label (a_segment s) here refl) rules) later
+    by false later = no_more _ _ (no_more _ _ (segments_hold e scope j s.label (a_segment s) here refl) (none_there _ _ rules)) later
 paths_hold e scope j (group x nodes rest) h d g =
     let here = group_stands (nodes_of e) j x nodes rest h in
     let inner = ap (λ w. path_failures w (same_items nodes)) (walked_there e scope j x.label (a_group x nodes) here) ∙ paths_hold (a_group x nodes) (e ∷ scope) 0 nodes (from_the_first nodes) g.0.distinct g.1 in
-    no_more _ _ (no_later _ _ (walk_holds e scope j x.label (a_group x nodes) here) inner) (paths_hold e scope (suc j) rest (behind_group (nodes_of e) j x nodes rest h d) d.1 g.2)
+    no_more _ _ (no_more _ _ (walk_holds e scope j x.label (a_group x nodes) here) (none_there _ _ inner)) (paths_hold e scope (suc j) rest (behind_group (nodes_of e) j x nodes rest h d) d.1 g.2)
 
 -- ---- no target label fails
 

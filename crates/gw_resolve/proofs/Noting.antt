@@ -16,9 +16,9 @@ use Rattle.gw_maplang.proofs.Rows.{group_items, flat_items}
 use Rattle.gw_maplang.specs.Shapes.{Items, nothing}
 use Rattle.gw_maplang.specs.Seen.{path, items_all, with_item, row_items, all_items, rule}
 use Rattle.gw_resolve.specs.Places.{Element, within}
-use Rattle.gw_resolve.specs.Failures.{Failure, at_line, fails, or_later}
+use Rattle.gw_resolve.specs.Failures.{Failure, at_line, fails, where_so, or_later}
 use Rattle.gw_resolve.specs.own.Looking.{each_within}
-use Rattle.gw_resolve.specs.Naming.{but_last, place_of, place_or, walk_failures, ends_at_segment, is_single_place, walked_if, source_failures, rule_failures, path_failures}
+use Rattle.gw_resolve.specs.Naming.{but_last, place_of, place_or, walk_failures, has_place, ends_at_segment, is_single_place, walked_if, source_leads, source_failures, rule_failures, path_failures}
 
 -- one more, and those behind it
 pub added_one : {A : Type 0} (old new a b whole : List A) → whole ≡ a ++ b → new ≡ old ++ a → old ++ whole ≡ new ++ b
@@ -48,7 +48,7 @@ joined a c = ap (λ l. l ++ c) (sym (append-nil a))
 
 -- an item, and those behind it
 pub one_item : (scope : List Element) (x : Item) (rest : Items) → path_failures scope (with_item x rest) ≡ path_failures scope (with_item x nothing) ++ path_failures scope rest
-one_item scope (SegFrom s) rest = joined (or_later (source_failures scope s.line (Some (path s.path))) (flat_map (rule_failures (walked_if scope (Some (path s.path)))) (map rule s.rules.items))) (path_failures scope rest)
+one_item scope (SegFrom s) rest = joined (source_failures scope s.line (Some (path s.path)) ++ where_so (source_leads scope (Some (path s.path))) (flat_map (rule_failures (walked_if scope (Some (path s.path)))) (map rule s.rules.items))) (path_failures scope rest)
 one_item scope (SegAlways s) rest = joined (flat_map (rule_failures scope) (map rule s.rules.items)) (path_failures scope rest)
 one_item scope (EachAs' line label from shape row) rest = joined (each_within scope line (path from) (row_items row)) (path_failures scope rest)
 one_item scope (EachFlat' line from shape row) rest = joined (each_within scope line (path from) (row_items row)) (path_failures scope rest)
@@ -94,6 +94,16 @@ later_shown first (o ∷ own) later f all before kept less a b is =
     let more : length (first ++ o ∷ own) ≡ length first + length (o ∷ own) = length-append first (o ∷ own) in
     absurd (omega (arith, less, a, b, more))
 
+-- the path before them leads nowhere
+pub unled_hidden : {A : Type 0} (own later : List Failure) (f : A → Failure) (all new : List A) (leads : Bool) (kept : ℕ) → leads ≡ false → length own ≡ kept → new ≡ take kept all → map f all ≡ own ++ later → map f new ≡ own ++ where_so leads later
+unled_hidden own later f all new leads kept unled b made is =
+    ap (map f) made ∙ sym (take-map f kept all) ∙ ap (take kept) is ∙ ap (λ n. take n (own ++ later)) (sym b) ∙ take-append_seam own later
+    ∙ sym (append-nil own) ∙ ap (λ (h : Bool). own ++ where_so h later) (sym unled)
+
+-- it leads somewhere
+pub led_shown : {A : Type 0} (own later : List Failure) (f : A → Failure) (all : List A) (leads : Bool) → leads ≡ true → map f all ≡ own ++ later → map f all ≡ own ++ where_so leads later
+led_shown own later f all leads led is = is ∙ ap (λ (h : Bool). own ++ where_so h later) (sym led)
+
 -- two lists found one after the other
 pub found_both : {A : Type 0} (f : A → Failure) (old : List Failure) (more new : List A) (own later : List Failure) → map f more ≡ old ++ own → map f new ≡ map f more ++ later → map f new ≡ (old ++ own) ++ later
 found_both f old more new own later a b = b ∙ ap (λ l. l ++ later) a
@@ -123,10 +133,10 @@ led line leads once = fails 1 (at_line line) (not leads) ++ fails 2 (at_line lin
 -- of a segment for each that is walked
 pub from_paths : (scope inner : List Element) (s : FromItem) (leads once : Bool) (p : List (Vec ℕ)) (rules : List Rule) → p ≡ s.path.items → rules ≡ s.rules.items
     → leads ≡ ends_at_segment scope (place_of scope (items_all p)) → once ≡ is_single_place scope but_last (place_of scope (items_all p)) → inner ≡ within scope (place_or scope (items_all p))
-    → or_later (led s.line leads once) (flat_map (rule_failures inner) (map rule rules)) ≡ path_failures scope (with_item (SegFrom s) nothing)
+    → led s.line leads once ++ where_so leads (flat_map (rule_failures inner) (map rule rules)) ≡ path_failures scope (with_item (SegFrom s) nothing)
 from_paths scope inner s leads once p rules a b c d e =
-    (λ i. or_later (led s.line (leads' i) (once' i)) (flat_map (rule_failures (inner' i)) (map rule (b i))))
-    ∙ sym (append-nil (or_later (source_failures scope s.line (Some (path s.path))) (flat_map (rule_failures (walked_if scope (Some (path s.path)))) (map rule s.rules.items))))
+    (λ i. led s.line (leads' i) (once' i) ++ where_so (leads' i) (flat_map (rule_failures (inner' i)) (map rule (b i))))
+    ∙ sym (append-nil (source_failures scope s.line (Some (path s.path)) ++ where_so (source_leads scope (Some (path s.path))) (flat_map (rule_failures (walked_if scope (Some (path s.path)))) (map rule s.rules.items))))
   where
     leads' : leads ≡ ends_at_segment scope (place_of scope (path s.path))
     leads' = c ∙ ap (λ x. ends_at_segment scope (place_of scope (items_all x))) a
@@ -138,14 +148,14 @@ from_paths scope inner s leads once p rules a b c d e =
     inner' = e ∙ ap (λ x. within scope (place_or scope (items_all x))) a
 
 -- of what is walked, and of the items within
-walked : (scope inner : List Element) (line : ℕ) (p : List (Vec ℕ)) (items : List Item) → inner ≡ within scope (place_or scope (items_all p))
-    → or_later (walk_failures scope line (items_all p)) (path_failures inner (all_items items)) ≡ each scope line p items
-walked scope inner line p items e = ap (λ x. or_later (walk_failures scope line (items_all p)) (path_failures x (all_items items))) e
+walked : (scope inner : List Element) (line : ℕ) (leads : Bool) (p : List (Vec ℕ)) (items : List Item) → leads ≡ has_place (place_of scope (items_all p)) → inner ≡ within scope (place_or scope (items_all p))
+    → walk_failures scope line (items_all p) ++ where_so leads (path_failures inner (all_items items)) ≡ each scope line p items
+walked scope inner line leads p items d e = λ i. walk_failures scope line (items_all p) ++ where_so (d i) (path_failures (e i) (all_items items))
 
-pub group_paths : (scope inner : List Element) (g : GroupItem) (p : List (Vec ℕ)) (items : List Item) → p ≡ g.path.items → items ≡ g.items.items → inner ≡ within scope (place_or scope (items_all p))
-    → or_later (walk_failures scope g.line (items_all p)) (path_failures inner (all_items items)) ≡ path_failures scope (with_item (EachAs g) nothing)
-group_paths scope inner g p items a b e = walked scope inner g.line p items e ∙ group_failures scope (EachAs g) g p items refl a b
+pub group_paths : (scope inner : List Element) (g : GroupItem) (leads : Bool) (p : List (Vec ℕ)) (items : List Item) → p ≡ g.path.items → items ≡ g.items.items → leads ≡ has_place (place_of scope (items_all p)) → inner ≡ within scope (place_or scope (items_all p))
+    → walk_failures scope g.line (items_all p) ++ where_so leads (path_failures inner (all_items items)) ≡ path_failures scope (with_item (EachAs g) nothing)
+group_paths scope inner g leads p items a b d e = walked scope inner g.line leads p items d e ∙ group_failures scope (EachAs g) g p items refl a b
 
-pub flat_paths : (scope inner : List Element) (g : FlatItem) (p : List (Vec ℕ)) (items : List Item) → p ≡ g.path.items → items ≡ g.items.items → inner ≡ within scope (place_or scope (items_all p))
-    → or_later (walk_failures scope g.line (items_all p)) (path_failures inner (all_items items)) ≡ path_failures scope (with_item (EachFlat g) nothing)
-flat_paths scope inner g p items a b e = walked scope inner g.line p items e ∙ flat_failures scope (EachFlat g) g p items refl a b
+pub flat_paths : (scope inner : List Element) (g : FlatItem) (leads : Bool) (p : List (Vec ℕ)) (items : List Item) → p ≡ g.path.items → items ≡ g.items.items → leads ≡ has_place (place_of scope (items_all p)) → inner ≡ within scope (place_or scope (items_all p))
+    → walk_failures scope g.line (items_all p) ++ where_so leads (path_failures inner (all_items items)) ≡ path_failures scope (with_item (EachFlat g) nothing)
+flat_paths scope inner g leads p items a b d e = walked scope inner g.line leads p items d e ∙ flat_failures scope (EachFlat g) g p items refl a b

@@ -24,6 +24,10 @@ at_line line = record { line = line; child = None; field = 0; comp = 0; sub = 0;
 abbrev pub fails : ℕ → Mark → Bool → List Failure
 fails rule mark broken = if broken then record { rule = rule; mark = mark } ∷ [] else []
 
+-- these, only where this holds
+abbrev pub where_so : Bool → List Failure → List Failure
+where_so holds those = if holds then those else []
+
 -- the later ones only where there are no earlier ones
 abbrev pub or_later : List Failure → List Failure → List Failure
 or_later [] later = later

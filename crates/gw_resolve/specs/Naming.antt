@@ -9,7 +9,7 @@ use Rattle.gw_maplang.specs.Shapes.{MapValue, TableValue, Rows, table_of}
 use Rattle.gw_resolve.specs.Places.{Element, a_segment, a_group, the_whole, nodes_of, child, nodes_of_child, Place, found, element_of, within}
 use Rattle.gw_resolve.specs.Resolved.{Reference, Source, of_field, of_current, Leaf, const, copied, looked_up, At, Making, copy, first, repeat, build, Rule, Items, no_items, segment_item, group_item, flat_item, Drop, Resolved}
 use Rattle.gw_resolve.specs.Order.{is_segment, is_group}
-use Rattle.gw_resolve.specs.Failures.{Failure, at_line, fails, or_later}
+use Rattle.gw_resolve.specs.Failures.{Failure, at_line, fails, where_so, or_later}
 
 -- ---- labels
 
@@ -125,19 +125,25 @@ abbrev pub source_failures : List Element → ℕ → Option raw.Path → List F
 source_failures scope line None = []
 source_failures scope line (Some path) = segments_failures scope line path
 
+-- it leads to a segment, or none is said
+abbrev pub source_leads : List Element → Option raw.Path → Bool
+source_leads scope None = true
+source_leads scope (Some path) = ends_at_segment scope (place_of scope path)
+
 abbrev pub walked_if : List Element → Option raw.Path → List Element
 walked_if scope None = scope
 walked_if scope (Some path) = within scope (place_or scope path)
 
--- an item whose own path fails hides what is within it
+-- An item whose own path leads nowhere, or not to a segment where it must (rule 1), hides the paths within it: where they lead isn't known.
+-- One whose path has a step that comes more than once (rule 2) hides nothing.
 abbrev pub path_failures : List Element → raw.Items → List Failure
 path_failures scope raw.nothing = []
 path_failures scope (raw.segment s rest) =
-    or_later (source_failures scope s.line s.source) (flat_map (rule_failures (walked_if scope s.source)) s.rules) ++ path_failures scope rest
+    source_failures scope s.line s.source ++ where_so (source_leads scope s.source) (flat_map (rule_failures (walked_if scope s.source)) s.rules) ++ path_failures scope rest
 path_failures scope (raw.group g items rest) =
-    or_later (walk_failures scope g.line g.path) (path_failures (within scope (place_or scope g.path)) items) ++ path_failures scope rest
+    walk_failures scope g.line g.path ++ where_so (has_place (place_of scope g.path)) (path_failures (within scope (place_or scope g.path)) items) ++ path_failures scope rest
 path_failures scope (raw.flat f items rest) =
-    or_later (walk_failures scope f.line f.path) (path_failures (within scope (place_or scope f.path)) items) ++ path_failures scope rest
+    walk_failures scope f.line f.path ++ where_so (has_place (place_of scope f.path)) (path_failures (within scope (place_or scope f.path)) items) ++ path_failures scope rest
 
 -- a drop leads to something, and to a segment where it names a field
 abbrev pub drop_failures : Element → raw.DropValue → List Failure

@@ -1,5 +1,5 @@
 -- What looking up the labels of a map gives.
-use Rattle.std.specs.Prelude.{◌≡◌, ℕ, List, [], ◌++◌, length, map}
+use Rattle.std.specs.Prelude.{◌≡◌, ℕ, Bool, List, [], ◌++◌, length, map}
 use Rattle.gw_profile.specs.Shapes.{Forest, ProfileValue}
 use Rattle.gw_maplang.specs.Seen as raw
 use Rattle.gw_maplang.specs.Shapes.{MapValue, TableValue, Items, nothing}
@@ -13,7 +13,7 @@ use Rattle.gw_resolve.specs.declared.resolved.At.{At}
 use Rattle.gw_resolve.specs.declared.resolved.Item.{Item}
 use Rattle.gw_resolve.specs.declared.resolved.Making.{Making}
 use Rattle.gw_resolve.specs.declared.resolved.Rule.{Rule}
-use Rattle.gw_resolve.specs.Failures.{Failure as Told, or_later}
+use Rattle.gw_resolve.specs.Failures.{Failure as Told, where_so, or_later}
 use Rattle.gw_resolve.specs.Places.{Element}
 use Rattle.gw_resolve.specs.Naming as spec
 use Rattle.gw_resolve.specs.Naming.{naming_failures, resolved}
@@ -64,6 +64,10 @@ reached nodes j from = spec.node_or j nodes (spec.first_or (spec.labels (raw.wit
 abbrev pub Hides : List Failure → List Failure → ℕ → ℕ → Type 0
 Hides old new before kept =
     (first own later : List Told) → length first ≡ before → length (first ++ own) ≡ kept → failures old ≡ (first ++ own) ++ later → failures new ≡ first ++ or_later own later
+
+-- those behind the first ones are taken back, where the path before them leads nowhere
+abbrev pub HidesUnled : List Failure → List Failure → Bool → ℕ → Type 0
+HidesUnled old new leads kept = (own later : List Told) → length own ≡ kept → failures old ≡ own ++ later → failures new ≡ own ++ where_so leads later
 
 -- ---- the whole
 

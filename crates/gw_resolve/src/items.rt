@@ -12,7 +12,7 @@ ghost use Rattle.gw_resolve.specs.Seen.{scope as walked, place as seen_place};
 use crate::element::{Element, nodes_of_child, within};
 use crate::failure::Failure;
 use crate::led::{note_led, segments_led, walk_led};
-use crate::lost::{Lost, hide, hide_both, mark};
+use crate::lost::{Lost, hide_both, hide_unled, mark};
 use crate::resolved::{FlatItem, GroupItem, Item, Place, Rule, SegmentItem};
 use crate::rules::rules;
 use crate::targets::{Aimed, flat_target, group_target, segment_target};
@@ -33,10 +33,11 @@ struct Ruled {
     rules: Vec<Rule>,
 }
 
-/// The place that a group or a flat walks, and the scope there.
+/// The place that a group or a flat walks, whether its path leads there, and the scope there.
 #[derive(Drop)]
 struct Entered<'a, 'p> {
     place: Place,
+    leads: bool,
     inner: Vec<Element<'a, 'p>>,
 }
 
@@ -49,6 +50,7 @@ fn enter<'a, 'p>(
     path: &[Vec<u8>],
 ) -> Result<Entered<'a, 'p>, AllocError>
     ensures place { IfOk result (λ e. seen_place e.place ≡ spec.place_or (walked scope.now) (raw.items_all path.now)) }
+    ensures leads { IfOk result (λ e. e.leads ≡ spec.has_place (spec.place_of (walked scope.now) (raw.items_all path.now))) }
     ensures inner { IfOk result (λ e. walked e.inner.items ≡ scope_within (walked scope.now) (spec.place_or (walked scope.now) (raw.items_all path.now))) }
     ensures failures { OnOk result (Notes found.old found.new (spec.walk_failures (walked scope.now) line (raw.items_all path.now))) }
 {
@@ -57,6 +59,7 @@ fn enter<'a, 'p>(
     let inner = within(alloc, scope, &led.place)?;
     Ok(Entered {
         place: led.place,
+        leads: led.leads,
         inner,
     })
 }
@@ -72,13 +75,12 @@ fn rules_walked(
     ensures rules { IfOk result (λ r. MakesRules (spec.walked_if (walked scope.now) (Some (raw.path made.now.path))) made.now.rules.items r.rules.items) }
     ensures failures { OnOk result (Notes paths.old paths.new (path_failures (walked scope.now) (SegFrom made.now))) }
 {
-    let before = paths.len();
     let led = segments_led(alloc, scope, &made.path)?;
     note_led(paths, made.line, &led)?;
     let kept = paths.len();
     let inner = within(alloc, scope, &led.place)?;
     let rules = rules(alloc, paths, &inner, &made.rules)?;
-    hide(paths, before, kept);
+    hide_unled(paths, led.leads, kept);
     Ok(Ruled {
         place: led.place,
         rules,
@@ -139,7 +141,8 @@ fn segment_always(
     Ok(segment(made.line, aimed, None, rules))
 }
 
-// A group for each that is walked. What it names wrongly hides what is within it.
+// A group for each that is walked. A path that leads nowhere hides the failures of the paths within, and a label that fails
+// those of the labels.
 #[cycle(items)]
 fn group(
     alloc: Global,
@@ -154,13 +157,13 @@ fn group(
     ensures paths { OnOk result (Notes lost.old.paths lost.new.paths (path_failures (walked scope.now) (EachAs made.now))) }
     ensures targets { OnOk result (Notes lost.old.targets lost.new.targets (target_failures (nodes_in level.entry) j (EachAs made.now))) }
 {
-    let before = mark(lost);
+    let before = lost.targets.len();
     let entered = enter(alloc, &mut lost.paths, scope, made.line, &made.path)?;
     let aimed = group_target(&mut lost.targets, level, j, made.line, &made.label)?;
     let kept = mark(lost);
     let below = nodes_of_child(level, aimed.child);
     let items = resolve_items(alloc, lost, &entered.inner, below, &made.items)?;
-    hide_both(lost, before, kept);
+    hide_both(lost, entered.leads, before, kept);
     Ok(Looked {
         item: Item::Group(GroupItem {
             line: made.line,
@@ -172,7 +175,8 @@ fn group(
     })
 }
 
-// What is walked, without a group. What it names wrongly hides what is within it.
+// What is walked, without a group. A path that leads nowhere hides the failures of the paths within, and labels that fail
+// those of the labels.
 #[cycle(items)]
 fn flat(
     alloc: Global,
@@ -187,12 +191,12 @@ fn flat(
     ensures paths { OnOk result (Notes lost.old.paths lost.new.paths (path_failures (walked scope.now) (EachFlat made.now))) }
     ensures targets { OnOk result (Notes lost.old.targets lost.new.targets (target_failures (nodes_in level.entry) j (EachFlat made.now))) }
 {
-    let before = mark(lost);
+    let before = lost.targets.len();
     let entered = enter(alloc, &mut lost.paths, scope, made.line, &made.path)?;
     let node = flat_target(&mut lost.targets, level, j, made.line, &made.items)?;
     let kept = mark(lost);
     let items = resolve_items(alloc, lost, &entered.inner, level, &made.items)?;
-    hide_both(lost, before, kept);
+    hide_both(lost, entered.leads, before, kept);
     Ok(Looked {
         item: Item::Flat(FlatItem {
             line: made.line,

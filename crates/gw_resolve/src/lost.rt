@@ -1,6 +1,6 @@
 //! The failures of labels, while a map is walked.
 ghost use Rattle.std.specs.Prelude.{◌≡◌, length};
-ghost use Rattle.gw_resolve.specs.Outcome.{Hides};
+ghost use Rattle.gw_resolve.specs.Outcome.{Hides, HidesUnled};
 
 use crate::failure::Failure;
 
@@ -39,11 +39,22 @@ pub(crate) fn hide(found: &mut Vec<Failure>, before: usize, kept: usize)
     found.truncate(kept);
 }
 
-/// The same for each.
-pub(crate) fn hide_both(lost: &mut Lost, before: Marks, kept: Marks)
-    ensures paths { Hides lost.old.paths.items lost.new.paths.items before.paths kept.paths }
-    ensures targets { Hides lost.old.targets.items lost.new.targets.items before.targets kept.targets }
+/// Takes back those behind the kept ones, where the path that goes before them leads nowhere.
+pub(crate) fn hide_unled(found: &mut Vec<Failure>, leads: bool, kept: usize)
+    ensures { HidesUnled found.old.items found.new.items leads kept }
 {
-    hide(&mut lost.paths, before.paths, kept.paths);
-    hide(&mut lost.targets, before.targets, kept.targets);
+    if leads {
+        return;
+    }
+    found.truncate(kept);
+}
+
+/// Takes back those behind the kept ones: of paths where the path before them leads nowhere, of targets where one of the
+/// kept ones is new.
+pub(crate) fn hide_both(lost: &mut Lost, leads: bool, before: usize, kept: Marks)
+    ensures paths { HidesUnled lost.old.paths.items lost.new.paths.items leads kept.paths }
+    ensures targets { Hides lost.old.targets.items lost.new.targets.items before kept.targets }
+{
+    hide_unled(&mut lost.paths, leads, kept.paths);
+    hide(&mut lost.targets, before, kept.targets);
 }

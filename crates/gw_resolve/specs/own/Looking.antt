@@ -11,8 +11,8 @@ use Rattle.gw_resolve.specs.declared.element.Found.{Found as TheFound}
 use Rattle.gw_resolve.specs.declared.resolved.Place as places
 use Rattle.gw_resolve.specs.Seen.{place}
 use Rattle.gw_profile.specs.Labels.{labelled}
-use Rattle.gw_resolve.specs.Failures.{Failure, or_later}
-use Rattle.gw_resolve.specs.Naming.{has_label, itself, or_else, steps_of, place_or, walk_failures, path_failures}
+use Rattle.gw_resolve.specs.Failures.{Failure, where_so}
+use Rattle.gw_resolve.specs.Naming.{has_label, itself, or_else, steps_of, place_of, place_or, has_place, walk_failures, path_failures}
 
 -- the node of this number of the innermost element
 abbrev pub inwards : ℕ → Place
@@ -41,7 +41,7 @@ place_there p = option_map (λ (b : Bor places.Place). place b.now) p
 
 -- the failures of a path that is walked, and of the items within
 abbrev pub each_within : List Element → ℕ → Path → Items → List Failure
-each_within scope line path items = or_later (walk_failures scope line path) (path_failures (within scope (place_or scope path)) items)
+each_within scope line path items = walk_failures scope line path ++ where_so (has_place (place_of scope path)) (path_failures (within scope (place_or scope path)) items)
 
 -- no step is left out
 abbrev pub all_steps : List ℕ → List ℕ

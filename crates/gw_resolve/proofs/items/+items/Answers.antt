@@ -1,8 +1,10 @@
 use Rattle.std.proofs.Common.{◌≡◌, IfOk, OnOk, ap, ◌∙◌, ◌++◌, refl, sym, subst}
+use Rattle.std.proofs.lemmas.List.{append_assoc}
 use Rattle.gw_maplang.specs.Seen as raw
 use Rattle.gw_profile.specs.Labels.{nodes_in}
 use Rattle.gw_resolve.specs.Naming as spec
 use Rattle.gw_resolve.specs.Order.{is_group}
+use Rattle.gw_resolve.specs.Failures.{where_so}
 use Rattle.gw_resolve.specs.Noted.{Notes}
 use Rattle.gw_resolve.specs.Outcome.{MakesItem, path_failures, target_failures, reached}
 use Rattle.gw_resolve.specs.Seen.{scope as walked, failure, failures}
@@ -26,13 +28,13 @@ group-returns-clause-paths t c =
     let first = failures c.args.lost.now.paths.items in
     let own = spec.walk_failures (walked c.args.scope.now) c.args.made.now.line (raw.items_all c.deref.result.now) in
     let later = spec.path_failures (walked c.deref-3.result.now) (raw.all_items c.deref-4.result.now) in
-    c.hide_both.ensures.paths first own later
-    (as_many failure c.args.lost.now.paths.items first _ c.mark-before.ensures.paths refl)
+    c.hide_both.ensures.paths (first ++ own) later
     (as_many failure c.enter.new.found.items (first ++ own) _ c.mark-kept.ensures.paths c.in_ok-entered.ensures.failures)
     (found_both failure first c.enter.new.found.items c.resolve_items.new.lost.paths.items own later c.in_ok-entered.ensures.failures c.in_ok-items.ensures.paths)
+    ∙ append_assoc first own (where_so c.in_ok-entered.entered.leads later)
     ∙ ap (λ l. first ++ l)
-    (group_paths (walked c.args.scope.now) (walked c.deref-3.result.now) c.args.made.now c.deref.result.now c.deref-4.result.now
-    c.deref.ensures.value c.deref-4.ensures.value
+    (group_paths (walked c.args.scope.now) (walked c.deref-3.result.now) c.args.made.now c.in_ok-entered.entered.leads c.deref.result.now c.deref-4.result.now
+    c.deref.ensures.value c.deref-4.ensures.value c.in_ok-entered.ensures.leads
     (ap walked c.deref-3.ensures.value ∙ c.in_ok-entered.ensures.inner))
 
 pub group-returns-clause-targets : goal.group-returns-clause-targets
@@ -41,7 +43,7 @@ group-returns-clause-targets t c =
     let own = spec.label_failures (nodes_in c.args.level) is_group c.args.j c.args.made.now.line c.deref-2.result.now in
     let later = spec.target_failures (nodes_in c.nodes_of_child-below.result) 0 (raw.all_items c.deref-4.result.now) in
     c.hide_both.ensures.targets first own later
-    (as_many failure c.args.lost.now.targets.items first _ c.mark-before.ensures.targets refl)
+    (as_many failure c.args.lost.now.targets.items first _ (c.len-before.ensures ∙ c.args.lost.now.targets.ok.0) refl)
     (as_many failure c.group_target.new.found.items (first ++ own) _ c.mark-kept.ensures.targets c.in_ok-aimed.ensures.failures)
     (found_both failure first c.group_target.new.found.items c.resolve_items.new.lost.targets.items own later c.in_ok-aimed.ensures.failures c.in_ok-items.ensures.targets)
     ∙ ap (λ l. first ++ l)
@@ -68,13 +70,13 @@ flat-returns-clause-paths t c =
     let first = failures c.args.lost.now.paths.items in
     let own = spec.walk_failures (walked c.args.scope.now) c.args.made.now.line (raw.items_all c.deref.result.now) in
     let later = spec.path_failures (walked c.deref-3.result.now) (raw.all_items c.deref-4.result.now) in
-    c.hide_both.ensures.paths first own later
-    (as_many failure c.args.lost.now.paths.items first _ c.mark-before.ensures.paths refl)
+    c.hide_both.ensures.paths (first ++ own) later
     (as_many failure c.enter.new.found.items (first ++ own) _ c.mark-kept.ensures.paths c.in_ok-entered.ensures.failures)
     (found_both failure first c.enter.new.found.items c.resolve_items.new.lost.paths.items own later c.in_ok-entered.ensures.failures c.in_ok-items.ensures.paths)
+    ∙ append_assoc first own (where_so c.in_ok-entered.entered.leads later)
     ∙ ap (λ l. first ++ l)
-    (flat_paths (walked c.args.scope.now) (walked c.deref-3.result.now) c.args.made.now c.deref.result.now c.deref-4.result.now
-    c.deref.ensures.value c.deref-4.ensures.value
+    (flat_paths (walked c.args.scope.now) (walked c.deref-3.result.now) c.args.made.now c.in_ok-entered.entered.leads c.deref.result.now c.deref-4.result.now
+    c.deref.ensures.value c.deref-4.ensures.value c.in_ok-entered.ensures.leads
     (ap walked c.deref-3.ensures.value ∙ c.in_ok-entered.ensures.inner))
 
 pub flat-returns-clause-targets : goal.flat-returns-clause-targets
@@ -83,7 +85,7 @@ flat-returns-clause-targets t c =
     let own = spec.flat_failures (nodes_in c.args.level) c.args.j c.args.made.now.line (spec.labels (raw.all_items c.deref-2.result.now)) in
     let later = spec.target_failures (nodes_in c.args.level) 0 (raw.all_items c.deref-4.result.now) in
     c.hide_both.ensures.targets first own later
-    (as_many failure c.args.lost.now.targets.items first _ c.mark-before.ensures.targets refl)
+    (as_many failure c.args.lost.now.targets.items first _ (c.len-before.ensures ∙ c.args.lost.now.targets.ok.0) refl)
     (as_many failure c.flat_target.new.found.items (first ++ own) _ c.mark-kept.ensures.targets c.in_ok-node.ensures.failures)
     (found_both failure first c.flat_target.new.found.items c.resolve_items.new.lost.targets.items own later c.in_ok-node.ensures.failures c.in_ok-items.ensures.targets)
     ∙ ap (λ l. first ++ l)

@@ -1,6 +1,7 @@
-use Rattle.std.proofs.Common.{ap, ◌∙◌, ◌++◌, map, flat_map, not, refl}
+use Rattle.std.proofs.Common.{ap, ◌∙◌, ◌++◌, map, flat_map, not}
+use Rattle.std.proofs.lemmas.List.{append_assoc}
 use Rattle.gw_maplang.specs.Seen as raw
-use Rattle.gw_resolve.specs.Failures.{at_line, fails}
+use Rattle.gw_resolve.specs.Failures.{at_line, fails, where_so}
 use Rattle.gw_resolve.specs.Naming as spec
 use Rattle.gw_resolve.specs.Places.{within}
 use Rattle.gw_resolve.specs.Seen.{scope as walked, failure, failures}
@@ -21,10 +22,10 @@ returns-clause-failures c =
     let first = failures c.args.paths.now.items in
     let own = fails 1 (at_line c.args.made.now.line) (not c.in_ok-led.led.leads) ++ fails 2 (at_line c.args.made.now.line) (not c.in_ok-led.led.once) in
     let later = flat_map (spec.rule_failures (walked c.deref-2.result.now)) (map raw.rule c.deref-3.result.now) in
-    c.hide.ensures first own later
-    (as_many failure c.args.paths.now.items first _ (c.len-before.ensures ∙ c.args.paths.now.ok.0) refl)
+    c.hide_unled.ensures (first ++ own) later
     (as_many failure c.note_led.new.found.items (first ++ own) _ (c.len-kept.ensures ∙ c.note_led.new.found.ok.0) c.in_ok-note_led.ensures)
     (found_both failure first c.note_led.new.found.items c.rules.new.found.items own later c.in_ok-note_led.ensures c.in_ok-rules.ensures.failures)
+    ∙ append_assoc first own (where_so c.in_ok-led.led.leads later)
     ∙ ap (λ l. first ++ l)
     (from_paths (walked c.args.scope.now) (walked c.deref-2.result.now) c.args.made.now c.in_ok-led.led.leads c.in_ok-led.led.once c.deref.result.now c.deref-3.result.now
     c.deref.ensures.value c.deref-3.ensures.value c.in_ok-led.ensures.leads c.in_ok-led.ensures.once
