@@ -5,7 +5,14 @@ use Rattle.gw_er7.specs.Reading.{Reads}
 use Rattle.gw_ack.specs.declared.receipt.Ack.{Ack}
 use Rattle.gw_ack.specs.declared.receipt.Ack.TheVariants.{AA, AE, AR}
 use Rattle.gw_ack.specs.declared.receipt.AckFault.{AckFault}
-use Rattle.gw_ack.specs.declared.receipt.AckFault.TheVariants.{Memory, NotAnAck, OtherMessage}
+use Rattle.gw_ack.specs.declared.receipt.AckFault.TheVariants.{Memory, Unreadable, NotAnAck, OtherMessage}
+
+-- the number of a fault
+abbrev pub number_of : AckFault → ℕ
+number_of Memory = 1
+number_of Unreadable = 2
+number_of NotAnAck = 3
+number_of OtherMessage = 4
 
 -- the first segment of this name
 abbrev pub first_named : List ℕ → List SegmentValue → Option SegmentValue

@@ -5,7 +5,7 @@ ghost use Rattle.gw_er7.specs.Faults.{Faulty};
 ghost use Rattle.gw_er7.specs.Message.{SegmentValue, IsMessage, text_of};
 ghost use Rattle.gw_er7.specs.Reading.{Reads};
 ghost use Rattle.gw_ack.specs.declared.receipt.Ack.{Ack};
-ghost use Rattle.gw_ack.specs.Acknowledged.{Acknowledges, IsRead, acknowledgment, code_in, in_msa};
+ghost use Rattle.gw_ack.specs.Acknowledged.{Acknowledges, IsRead, acknowledgment, code_in, in_msa, number_of};
 
 use gw_er7::{Message, Place, ReadFault, Segment, read, reads_once};
 use std::alloc::Global;
@@ -37,6 +37,20 @@ pub enum AckFault {
     /// It acknowledges another message.
     #[error("the acknowledgment of another message")]
     OtherMessage,
+}
+
+impl AckFault {
+    /// The number of the fault. It takes no memory.
+    pub fn number(&self) -> u8
+        ensures { result ≡ number_of self.now }
+    {
+        match self {
+            AckFault::Memory => 1,
+            AckFault::Unreadable => 2,
+            AckFault::NotAnAck => 3,
+            AckFault::OtherMessage => 4,
+        }
+    }
 }
 
 /// The first subcomponent of a field. It takes no memory.
