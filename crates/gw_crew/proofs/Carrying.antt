@@ -20,9 +20,10 @@ use Rattle.gw_stream.specs.Reading.{ReadTimes}
 use Rattle.gw_stream.specs.Sent.{BeginsWith, SendsPart}
 use Rattle.gw_stream.specs.Streams.{HasFirst}
 use Rattle.gw_crew.specs.Notes.{NoteSeen, WasFull, WasNothing, Added}
-use Rattle.gw_crew.specs.Streams.{Reading, Feeds}
+use Rattle.gw_stream.proofs.Walking.{has_few, long_enough}
+use Rattle.gw_crew.specs.Streams.{Reading, Spot, Feeds}
 use Rattle.gw_crew.specs.own.Turns.{Adds, Waits, never, again, ComesOut, ComesNone}
-use Rattle.gw_crew.specs.Carries.{Rounds, no_round, sent_one, waited, none_left, full, Carried, Carries, write, read, ended, denied, LineFails}
+use Rattle.gw_crew.specs.Carries.{Rounds, no_round, sent_one, waited, none_left, full, Carried, Carries, write, read, ended, denied, LineFails, ReadInVain}
 use Rattle.gw_crew.specs.Carries.{memory, turns, line, Breaks, empty_handed, in_hand, GivesNext, GivesNone, Sent, Unsent, Unwritten, WriteFails}
 use Rattle.gw_crew.specs.Carries.{write_memory, write_line, Denies, no_memory, not_acknowledged, Progress, control_of, with_sent}
 
@@ -103,8 +104,22 @@ carried_one r n w w1 w2 old mid new blocks c at t message content ack was is see
 
 -- ---- the stream
 
-pub reading_begins : (s : Option (List ℕ)) (h : Held) → Stands [] [] h → Reading s s [] h
-reading_begins s h stands = record { taken = []; takes = Consumes-nil s; stands = stands }
+-- a decoder gave a block
+abbrev pub Gives : List ℕ → Held → Held → Type 0
+Gives content h h' = (stream : List ℕ) (given : List (List ℕ)) → Stands stream given h → Stands stream (given ++ content ∷ []) h'
+
+pub reading_begins : (s : Spot) (h : Held) → Stands [] [] h → Reading 0 s s [] h
+reading_begins s h stands = record {
+  taken = [];
+  takes = Consumes-nil s.left;
+  stands = stands;
+  earlier = 0;
+  least = omega arith;
+  most = omega arith;
+  many = omega arith;
+  few = omega arith;
+  counted = λ small. omega arith;
+}
 
 first_of : (stream more : List ℕ) (blocks others : List (List ℕ)) (tail : Tail) → Has stream (blocks ++ others) tail → HasFirst (stream ++ more) blocks
 first_of stream more blocks others Between p = record { front = stream; more = more; whole = refl; others = others; left = None; cut = p.0 }
@@ -118,50 +133,81 @@ first_of stream more blocks others Overlong p = record {
   cut = p.cut;
 }
 
+first_whole : (s left : Option (List ℕ)) (taken : List ℕ) (blocks : List (List ℕ)) (h : Held) → Consumes s left taken → Stands taken blocks h
+    → IfSome s (λ bytes. HasFirst bytes blocks)
+first_whole None left taken blocks h takes stands = tt
+first_whole (Some bytes) None taken blocks h takes stands = absurd takes
+first_whole (Some bytes) (Some rest) taken blocks h takes stands =
+    subst (λ l. HasFirst l blocks) (sym takes) (first_of taken rest blocks h.waiting h.tail stands)
+
 -- what a decoder gave are the first blocks of the stream
-pub first_blocks : (s left : Option (List ℕ)) (blocks : List (List ℕ)) (h : Held) → Reading s left blocks h → IfSome s (λ bytes. HasFirst bytes blocks)
-first_blocks None left blocks h was = tt
-first_blocks (Some bytes) None blocks h was = absurd was.takes
-first_blocks (Some bytes) (Some rest) blocks h was = subst (λ l. HasFirst l blocks) (sym was.takes) (first_of was.taken rest blocks h.waiting h.tail was.stands)
+pub first_blocks : (s left : Spot) (blocks : List (List ℕ)) (h : Held) → Reading 0 s left blocks h → IfSome s.left (λ bytes. HasFirst bytes blocks)
+first_blocks s left blocks h was = first_whole s.left left.left was.taken blocks h was.takes was.stands
 
 -- a piece was read and fed
-pub reading_more : (s left left' : Option (List ℕ)) (blocks : List (List ℕ)) (h h' : Held) (piece : List ℕ) → Reading s left blocks h
-    → Consumes left left' piece
-    → ((stream : List ℕ) (given : List (List ℕ)) → Stands stream given h → Stands (stream ++ piece) given h') → Reading s left' blocks h'
-reading_more s left left' blocks h h' piece was takes feeds = record {
-  taken = was.taken ++ piece;
-  takes = Consumes-trans s left left' was.taken piece was.takes takes;
-  stands = feeds was.taken blocks was.stands;
-}
+pub reading_more : (k : ℕ) (s left left' : Spot) (blocks : List (List ℕ)) (h h' : Held) (piece : List ℕ) → Reading k s left blocks h
+    → Consumes left.left left'.left piece → 0 < length piece → length piece ≤ 4096 → ReadTimes 1 left.reads left'.reads → Feeds piece h h'
+    → Reading (k + 1) s left' blocks h'
+reading_more k s left left' blocks h h' piece was takes some short once feeds =
+    let long : length (was.taken ++ piece) ≡ length was.taken + length piece = length-append was.taken piece in
+    let many = was.many in
+    let few = was.few in
+    record {
+      taken = was.taken ++ piece;
+      takes = Consumes-trans s.left left.left left'.left was.taken piece was.takes takes;
+      stands = feeds was.taken blocks was.stands;
+      earlier = was.earlier;
+      least = was.least;
+      most = was.most;
+      many = omega arith;
+      few = omega arith;
+      counted = λ small. let there = was.counted (omega arith) in let more = once (omega arith) in omega arith;
+    }
 
 -- the decoder gave a block
-pub reading_gives : (s left : Option (List ℕ)) (blocks : List (List ℕ)) (h h' : Held) (content : List ℕ) → Reading s left blocks h
-    → ((stream : List ℕ) (given : List (List ℕ)) → Stands stream given h → Stands stream (given ++ content ∷ []) h') → Reading s left (blocks ++ content ∷ [])
-    h'
-reading_gives s left blocks h h' content was gives = record { taken = was.taken; takes = was.takes; stands = gives was.taken blocks was.stands }
+pub reading_gives : (k : ℕ) (s left : Spot) (blocks : List (List ℕ)) (h h' : Held) (content : List ℕ) → k ≤ 1000000 → Reading k s left blocks h
+    → Gives content h h' → Reading 0 s left (blocks ++ content ∷ []) h'
+reading_gives k s left blocks h h' content limit was gives =
+    let stands = gives was.taken blocks was.stands in
+    let one : length (blocks ++ content ∷ []) ≡ length blocks + 1 = length-append blocks (content ∷ []) in
+    let both : length ((blocks ++ content ∷ []) ++ h'.waiting) ≡ length (blocks ++ content ∷ []) + length h'.waiting =
+    length-append (blocks ++ content ∷ []) h'.waiting in
+    let held = has_few was.taken ((blocks ++ content ∷ []) ++ h'.waiting) h'.tail stands in
+    let most = was.most in
+    let many = was.many in
+    let few = was.few in
+    record {
+      taken = was.taken;
+      takes = was.takes;
+      stands = stands;
+      earlier = was.earlier + k;
+      least = omega arith;
+      most = omega arith;
+      many = omega arith;
+      few = omega arith;
+      counted = λ small. let there = was.counted (omega arith) in omega arith;
+    }
 
 stands_all : (stream : List ℕ) (blocks : List (List ℕ)) (h : Held) → Stands stream blocks h → h.waiting ≡ [] → Has stream blocks h.tail
 stands_all stream blocks h stands none = subst (λ l. Has stream l h.tail) (ap (λ l. blocks ++ l) none ∙ append-nil blocks) stands
 
 -- the source is at its end, and no block waits
-pub reading_ends : (s left left' : Option (List ℕ)) (blocks : List (List ℕ)) (h : Held) → Reading s left blocks h → Consumes left left' [] → IsAtEnd left'
-    → h.waiting ≡ []
-    → (tail : Tail) × IfSome s (λ bytes. Has bytes blocks tail)
-reading_ends s left left' blocks h was none end empty = (
+pub reading_ends : (k : ℕ) (s left : Spot) (left' : Option (List ℕ)) (blocks : List (List ℕ)) (h : Held) → Reading k s left blocks h
+    → Consumes left.left left' [] → IsAtEnd left' → h.waiting ≡ []
+    → (tail : Tail) × IfSome s.left (λ bytes. Has bytes blocks tail)
+reading_ends k s left left' blocks h was none end empty = (
   h.tail,
-  Consumes-whole s left' was.taken (λ bytes. Has bytes blocks h.tail)
-      (subst (Consumes s left') (append-nil was.taken) (Consumes-trans s left left' was.taken [] was.takes none)) end
+  Consumes-whole s.left left' was.taken (λ bytes. Has bytes blocks h.tail)
+      (subst (Consumes s.left left') (append-nil was.taken) (Consumes-trans s.left left.left left' was.taken [] was.takes none)) end
       (stands_all was.taken blocks h was.stands empty),
 )
 
--- a block is too long, and none waits
-pub reading_long : (s left : Option (List ℕ)) (blocks : List (List ℕ)) (h : Held) → Reading s left blocks h → h.waiting ≡ [] → h.tail ≡ Overlong
-    → IfSome s (λ bytes. Has bytes blocks Overlong)
-reading_long None left blocks h was empty long = tt
-reading_long (Some bytes) None blocks h was empty long = absurd was.takes
-reading_long (Some bytes) (Some rest) blocks h was empty long =
-    let p = subst (Has was.taken blocks) long (stands_all was.taken blocks h was.stands empty) in
-    subst (λ l. LongAfter l blocks) (sym was.takes) (record {
+long_whole : (s left : Option (List ℕ)) (taken : List ℕ) (blocks : List (List ℕ)) → Consumes s left taken → LongAfter taken blocks
+    → IfSome s (λ bytes. LongAfter bytes blocks)
+long_whole None left taken blocks takes p = tt
+long_whole (Some bytes) None taken blocks takes p = absurd takes
+long_whole (Some bytes) (Some rest) taken blocks takes p =
+    subst (λ l. LongAfter l blocks) (sym takes) (record {
       front = p.front;
       more = p.more ++ rest;
       whole = ap (λ l. l ++ rest) p.whole ∙ append_assoc p.front p.more rest;
@@ -169,6 +215,25 @@ reading_long (Some bytes) (Some rest) blocks h was empty long =
       cut = p.cut;
       long = p.long;
     })
+
+-- a block is too long, and none waits
+pub reading_long : (k : ℕ) (s left : Spot) (blocks : List (List ℕ)) (h : Held) → Reading k s left blocks h → h.waiting ≡ [] → h.tail ≡ Overlong
+    → IfSome s.left (λ bytes. Has bytes blocks Overlong)
+reading_long k s left blocks h was empty long =
+    long_whole s.left left.left was.taken blocks was.takes (subst (Has was.taken blocks) long (stands_all was.taken blocks h was.stands empty))
+
+-- after 1,000,000 reads for one block
+in_vain : (k : ℕ) (s left : Spot) (blocks : List (List ℕ)) (h : Held) → Reading k s left blocks h → 1000000 ≤ k → k ≤ 1000000
+    → ReadInVain s.reads left.reads s.left blocks
+in_vain k s left blocks h was least greatest =
+    let many = was.many in
+    record {
+      earlier = was.earlier;
+      least = was.least;
+      most = was.most;
+      counted = λ small. let there = was.counted (omega arith) in omega arith;
+      many = long_enough s.left left.left was.taken (was.earlier + 1000000) was.takes (omega arith);
+    }
 
 -- ---- waits
 
@@ -180,7 +245,7 @@ none_so r old mid asked new was is same = record { mid = mid; waits = was; last 
 
 -- ---- rounds
 
-pub progress_none : (r : ℕ) (s w : Option (List ℕ)) (h : Held) (old : List NoteSeen) (c : Counts) → Stands [] [] h → c ≡ nothing
+pub progress_none : (r : ℕ) (s : Spot) (w : Option (List ℕ)) (h : Held) (old : List NoteSeen) (c : Counts) → Stands [] [] h → c ≡ nothing
     → Progress r s s w w h old old c
 progress_none r s w h old c stands is = record {
   blocks = [];
@@ -188,8 +253,8 @@ progress_none r s w h old c stands is = record {
   reading = reading_begins s h stands;
 }
 
-pub carries_so : (r : ℕ) (s left w w' : Option (List ℕ)) (h : Held) (old mid new : List NoteSeen) (c : Counts) → Progress r s left w w' h old mid c
-    → ComesNone r mid new → Carries r s w w' old new c
+pub carries_so : (r : ℕ) (s left : Spot) (w w' : Option (List ℕ)) (h : Held) (old mid new : List NoteSeen) (c : Counts) → Progress r s left w w' h old mid c
+    → ComesNone r mid new → Carries r s.left w w' old new c
 carries_so r s left w w' h old mid new c was comes = record {
   mid = comes.mid;
   blocks = was.blocks;
@@ -200,18 +265,18 @@ carries_so r s left w w' h old mid new c was comes = record {
   first = first_blocks s left was.blocks h was.reading;
 }
 
-pub empty_so : (r : ℕ) (writer reader : Bool) (reads : ℕ) (s left w w' : Option (List ℕ)) (h : Held) (old mid new : List NoteSeen) (c : Counts)
+pub empty_so : (r : ℕ) (writer reader : Bool) (reads : ℕ) (s left : Spot) (w w' : Option (List ℕ)) (h : Held) (old mid new : List NoteSeen) (c : Counts)
     (fault : RunFault)
     → fault ≡ Memory → writer ≡ false → reader ≡ false
-    → Progress r s left w w' h old mid c → Adds (Waits r) mid new → Breaks r writer reader reads s w w' old new fault
+    → Progress r s left w w' h old mid c → Adds (Waits r) mid new → Breaks r writer reader s.reads reads s.left w w' old new fault
 empty_so r writer reader reads s left w w' h old mid new c fault is writes works was waits =
-    subst (Breaks r writer reader reads s w w' old new) (sym is)
+    subst (Breaks r writer reader s.reads reads s.left w w' old new) (sym is)
     (empty_handed was.blocks c writes works (carried_waits r w w' old mid new was.blocks c was.carried waits))
 
-pub hand_so : (r n : ℕ) (writer reader : Bool) (reads : ℕ) (s left w w1 w2 : Option (List ℕ)) (h : Held) (old mid new : List NoteSeen) (c : Counts)
+pub hand_so : (r n : ℕ) (writer reader : Bool) (reads : ℕ) (s left : Spot) (w w1 w2 : Option (List ℕ)) (h : Held) (old mid new : List NoteSeen) (c : Counts)
     (t : TranslatedSeen) (message : List SegmentValue) (fault : RunFault)
     → t.message ≡ message_seen message → Progress r s left w w1 h old mid c → ComesOut r n t mid new → Unsent n writer reader reads message w1 w2 left h fault →
-    Breaks r writer reader reads s w w2 old new fault
+    Breaks r writer reader s.reads reads s.left w w2 old new fault
 hand_so r n writer reader reads s left w w1 w2 h old mid new c t message fault seen was comes unsent =
     in_hand n (control_of message) was.blocks fault
     (record {
@@ -231,7 +296,7 @@ hand_so r n writer reader reads s left w w1 w2 h old mid new c t message fault s
     })
     (unsent.fails s was.blocks was.reading)
 
-pub progress_more : (r n : ℕ) (s left left' w w1 w2 : Option (List ℕ)) (h h' : Held) (old mid new : List NoteSeen) (c c' : Counts) (t : TranslatedSeen)
+pub progress_more : (r n : ℕ) (s left left' : Spot) (w w1 w2 : Option (List ℕ)) (h h' : Held) (old mid new : List NoteSeen) (c c' : Counts) (t : TranslatedSeen)
     (message : List SegmentValue) (ack : Ack)
     → t.message ≡ message_seen message → Progress r s left w w1 h old mid c → ComesOut r n t mid new → Sent message w1 w2 left left' h h' ack → c' ≡ with_sent
     ack c → Progress r s left' w w2 h' old new c'
@@ -243,11 +308,11 @@ progress_more r n s left left' w w1 w2 h h' old mid new c c' t message ack seen 
   reading = sent.acked.next s was.blocks was.reading;
 }
 
-pub progress_total : (r : ℕ) (s left w w' : Option (List ℕ)) (h : Held) (old mid : List NoteSeen) (c : Counts) → Progress r s left w w' h old mid c
+pub progress_total : (r : ℕ) (s left : Spot) (w w' : Option (List ℕ)) (h : Held) (old mid : List NoteSeen) (c : Counts) → Progress r s left w w' h old mid c
     → c.aa + c.ae + c.ar ≡ c.sent
 progress_total r s left w w' h old mid c was = (counted r was.carried.notes was.carried.sent was.blocks c was.carried.rounds).total
 
-pub progress_few : (r : ℕ) (s left w w' : Option (List ℕ)) (h : Held) (old mid : List NoteSeen) (c : Counts) → Progress r s left w w' h old mid c
+pub progress_few : (r : ℕ) (s left : Spot) (w w' : Option (List ℕ)) (h : Held) (old mid : List NoteSeen) (c : Counts) → Progress r s left w w' h old mid c
     → c.sent ≤ length mid
 progress_few r s left w w' h old mid c was =
     let few = (counted r was.carried.notes was.carried.sent was.blocks c was.carried.rounds).few in
@@ -283,12 +348,12 @@ line_unwritten n writer m w w' bytes is same part = record {
   why = subst (λ b. WriteFails n b (Line n)) (sym is) write_line;
 }
 
-write_fails : (n : ℕ) (writer reader : Bool) (reads : ℕ) (s : Option (List ℕ)) (blocks : List (List ℕ)) (control : List ℕ) (fault : RunFault) → reader ≡ false
-    → WriteFails n writer fault → LineFails n writer reader reads s blocks control fault
+write_fails : (n : ℕ) (writer reader : Bool) (reads : ℕ) (s : Spot) (blocks : List (List ℕ)) (control : List ℕ) (fault : RunFault) → reader ≡ false
+    → WriteFails n writer fault → LineFails n writer reader s.reads reads s.left blocks control fault
 write_fails n writer reader reads s blocks control fault works write_memory = memory refl works
 write_fails n writer reader reads s blocks control fault works write_line = line (write refl)
 
-pub unsent_so : (n : ℕ) (writer reader : Bool) (reads : ℕ) (m : List SegmentValue) (w w' unread : Option (List ℕ)) (h : Held) (fault : RunFault)
+pub unsent_so : (n : ℕ) (writer reader : Bool) (reads : ℕ) (m : List SegmentValue) (w w' : Option (List ℕ)) (unread : Spot) (h : Held) (fault : RunFault)
     → reader ≡ false → Unwritten n writer m w w' fault
     → Unsent n writer reader reads m w w' unread h fault
 unsent_so n writer reader reads m w w' unread h fault works un = record {
@@ -300,65 +365,62 @@ unsent_so n writer reader reads m w w' unread h fault works un = record {
 
 -- ---- the next block
 
-pub denied_none : (n : ℕ) (reader : Bool) (reads : ℕ) (unread left : Option (List ℕ)) (h h' : Held) (content control : List ℕ) (r : Result Ack RunFault)
+pub denied_none : (n : ℕ) (reader : Bool) (reads : ℕ) (unread left : Spot) (h h' : Held) (content control : List ℕ) (r : Result Ack RunFault)
     → reader ≡ false → GivesNext unread left h h' content
     → IfErr r (Denies n content control) → IfErr r (GivesNone n false reader reads unread h control)
 denied_none n reader reads unread left h h' content control (Ok ack) works next says = tt
 denied_none n reader reads unread left h h' content control (Err fault) works next says = λ s blocks was. by s blocks was fault says
   where
-    by : (s : Option (List ℕ)) (blocks : List (List ℕ)) → Reading s unread blocks h → (fault : RunFault) → Denies n content control fault
-        → LineFails n false reader reads s blocks control fault
+    by : (s : Spot) (blocks : List (List ℕ)) → Reading 0 s unread blocks h → (fault : RunFault) → Denies n content control fault
+        → LineFails n false reader s.reads reads s.left blocks control fault
     by s blocks was fault no_memory = memory refl works
     by s blocks was fault (not_acknowledged others) = line (denied content (first_blocks s left (blocks ++ content ∷ []) h' (next s blocks was)) others)
 
--- a run of reads from here to there
-abbrev pub Reads : Option (List ℕ) → Held → Option (List ℕ) → Held → Type 0
-Reads unread h left h' = (s : Option (List ℕ)) (blocks : List (List ℕ)) → Reading s unread blocks h → Reading s left blocks h'
+-- so many reads from here to there
+abbrev pub Reads : ℕ → Spot → Held → Spot → Held → Type 0
+Reads k unread h left h' = (s : Spot) (blocks : List (List ℕ)) → Reading 0 s unread blocks h → Reading k s left blocks h'
 
-abbrev pub Gives : List ℕ → Held → Held → Type 0
-Gives content h h' = (stream : List ℕ) (given : List (List ℕ)) → Stands stream given h → Stands stream (given ++ content ∷ []) h'
-
-pub read_none : (n : ℕ) (reader : Bool) (reads : ℕ) (unread : Option (List ℕ)) (h : Held) (control : List ℕ) → reader ≡ true
+pub read_none : (n : ℕ) (reader : Bool) (reads : ℕ) (unread : Spot) (h : Held) (control : List ℕ) → reader ≡ true
     → GivesNone n false reader reads unread h control (Line n)
 read_none n reader reads unread h control is = λ s blocks was. line (read is)
 
-pub memory_none : (n : ℕ) (reader : Bool) (reads : ℕ) (unread : Option (List ℕ)) (h : Held) (control : List ℕ) → reader ≡ false
+pub memory_none : (n : ℕ) (reader : Bool) (reads : ℕ) (unread : Spot) (h : Held) (control : List ℕ) → reader ≡ false
     → GivesNone n false reader reads unread h control Memory
 memory_none n reader reads unread h control is = λ s blocks was. memory refl is
 
-pub turns_none : (n : ℕ) (reader : Bool) (first reads : ℕ) (unread : Option (List ℕ)) (h : Held) (control : List ℕ) → reader ≡ false
-    → ReadTimes 1000000 first reads → GivesNone n false reader reads unread h control Turns
-turns_none n reader first reads unread h control is times = λ s blocks was. turns first refl is times
+pub turns_none : (n : ℕ) (reader : Bool) (k : ℕ) (unread left : Spot) (h h' : Held) (control : List ℕ) → reader ≡ false → Reads k unread h left h'
+    → 1000000 ≤ k → k ≤ 1000000 → GivesNone n false reader left.reads unread h control Turns
+turns_none n reader k unread left h h' control is run least greatest =
+    λ s blocks was. turns refl is (in_vain k s left blocks h' (run s blocks was) least greatest)
 
-pub ended_none : (n : ℕ) (reader : Bool) (reads : ℕ) (unread left left' : Option (List ℕ)) (h h' : Held) (control : List ℕ) → Reads unread h left h'
-    → Consumes left left' [] → IsAtEnd left' → h'.waiting ≡ []
+pub ended_none : (n : ℕ) (reader : Bool) (reads k : ℕ) (unread left : Spot) (left' : Option (List ℕ)) (h h' : Held) (control : List ℕ)
+    → Reads k unread h left h' → Consumes left.left left' [] → IsAtEnd left' → h'.waiting ≡ []
     → GivesNone n false reader reads unread h control (Line n)
-ended_none n reader reads unread left left' h h' control run none end empty =
-    λ s blocks was. let at_end = reading_ends s left left' blocks h' (run s blocks was) none end empty in line (ended at_end.0 at_end.1)
+ended_none n reader reads k unread left left' h h' control run none end empty =
+    λ s blocks was. let at_end = reading_ends k s left left' blocks h' (run s blocks was) none end empty in line (ended at_end.0 at_end.1)
 
-pub reads_more : (unread left left' : Option (List ℕ)) (h h1 h2 h3 : Held) (piece : List ℕ) → Reads unread h left h1 → Consumes left left' piece
-    → Feeds piece h1 h2 → h3 ≡ h2 → Reads unread h left' h3
-reads_more unread left left' h h1 h2 h3 piece run takes feeds same =
-    λ s blocks was. subst (Reading s left' blocks) (sym same) (reading_more s left left' blocks h1 h2 piece (run s blocks was) takes feeds)
+pub reads_more : (k : ℕ) (unread left left' : Spot) (h h1 h2 h3 : Held) (piece : List ℕ) → Reads k unread h left h1 → Consumes left.left left'.left piece
+    → 0 < length piece → length piece ≤ 4096 → ReadTimes 1 left.reads left'.reads → Feeds piece h1 h2 → h3 ≡ h2 → Reads (k + 1) unread h left' h3
+reads_more k unread left left' h h1 h2 h3 piece run takes some short once feeds same =
+    λ s blocks was. subst (Reading (k + 1) s left' blocks) (sym same)
+    (reading_more k s left left' blocks h1 h2 piece (run s blocks was) takes some short once feeds)
 
-pub long_none : (n : ℕ) (reader : Bool) (reads : ℕ) (unread left : Option (List ℕ)) (h h' : Held) (control : List ℕ) → Reads unread h left h' → h'.waiting ≡ []
+pub long_none : (n : ℕ) (reader : Bool) (reads k : ℕ) (unread left : Spot) (h h' : Held) (control : List ℕ) → Reads k unread h left h' → h'.waiting ≡ []
     → h'.tail ≡ Overlong
     → GivesNone n false reader reads unread h control (Line n)
-long_none n reader reads unread left h h' control run empty long =
-    λ s blocks was. line (ended Overlong (reading_long s left blocks h' (run s blocks was) empty long))
+long_none n reader reads k unread left h h' control run empty long =
+    λ s blocks was. line (ended Overlong (reading_long k s left blocks h' (run s blocks was) empty long))
 
-pub next_so : (unread left left' : Option (List ℕ)) (h h1 h2 h3 : Held) (piece content : List ℕ) → Reads unread h left h1 → Consumes left left' piece
-    → Feeds piece h1 h2 → Gives content h2 h3 → GivesNext unread left' h h3 content
-next_so unread left left' h h1 h2 h3 piece content run takes feeds gives =
-    λ s blocks was. reading_gives s left' blocks h2 h3 content (reading_more s left left' blocks h1 h2 piece (run s blocks was) takes feeds) gives
+-- a block was at hand
+pub first_so : (unread : Spot) (h h' : Held) (content : List ℕ) → Gives content h h' → GivesNext unread unread h h' content
+first_so unread h h' content gives = λ s blocks was. reading_gives 0 s unread blocks h h' content (omega arith) was gives
 
--- ---- how often the source was read
-
-pub reads_once : (times before between after : ℕ) → ReadTimes times before between → ReadTimes 1 between after → ReadTimes (times + 1) before after
-reads_once times before between after many one small = let there = many (omega arith) in let more = one (omega arith) in omega arith
-
-pub reads_all : (times most before after : ℕ) → ReadTimes times before after → most ≤ times → times ≤ most → ReadTimes most before after
-reads_all times most before after many least greatest small = let there = many (omega arith) in omega arith
+pub next_so : (k : ℕ) (unread left left' : Spot) (h h1 h2 h3 : Held) (piece content : List ℕ) → Reads k unread h left h1 → Consumes left.left left'.left piece
+    → 0 < length piece → length piece ≤ 4096 → ReadTimes 1 left.reads left'.reads → k < 1000000 → Feeds piece h1 h2 → Gives content h2 h3
+    → GivesNext unread left' h h3 content
+next_so k unread left left' h h1 h2 h3 piece content run takes some short once limit feeds gives =
+    λ s blocks was. reading_gives (k + 1) s left' blocks h2 h3 content (omega arith)
+    (reading_more k s left left' blocks h1 h2 piece (run s blocks was) takes some short once feeds) gives
 
 pub waits_again : (r : ℕ) (old mid asked new : List NoteSeen) → Adds (Waits r) old mid → asked ≡ mid ++ WasNothing r ∷ [] → new ≡ asked → Adds (Waits r) old new
 waits_again r old mid asked new was is same = waits_once r old mid new was (same ∙ is)

@@ -1,5 +1,5 @@
 -- What couriers note, write and read.
-use Rattle.std.specs.Prelude.{◌≡◌, ℕ, ◌+◌, Bool, true, false, List, [], ◌∷◌, ◌++◌, Option, IfSome}
+use Rattle.std.specs.Prelude.{◌≡◌, ℕ, ◌+◌, ◌*◌, ◌≤◌, Bool, true, false, List, [], ◌∷◌, ◌++◌, length, Option, IfSome}
 use Rattle.std.specs.Io.KnownBytes.{Appends}
 use Rattle.gw_ack.specs.declared.receipt.Ack.{Ack}
 use Rattle.gw_ack.specs.declared.receipt.Ack.TheVariants.{AA, AE, AR}
@@ -18,7 +18,7 @@ use Rattle.gw_stream.specs.Reading.{ReadTimes}
 use Rattle.gw_stream.specs.Sent.{BeginsWith}
 use Rattle.gw_stream.specs.Streams.{HasFirst}
 use Rattle.gw_crew.specs.Notes.{NoteSeen, WasFull, WasNothing, Added}
-use Rattle.gw_crew.specs.Streams.{Reading}
+use Rattle.gw_crew.specs.Streams.{Reading, Spot}
 
 -- MSH-10 of a message: its control id, by its first subcomponent
 abbrev pub control_of : List SegmentValue → List ℕ
@@ -81,11 +81,22 @@ pub data Fails (writer reader : Bool) (stream : Option (List ℕ)) (blocks : Lis
   denied : (content : List ℕ) → IfSome stream (λ bytes. HasFirst bytes (blocks ++ content ∷ [])) → ((ack : Ack) → Acknowledges content control ack → ⊥)
       → Fails writer reader stream blocks control
 
--- why there is no acknowledgment of the message of this number: want of memory, too many reads, or a fault of its line; the reader was read so often in all
-pub data LineFails (n : ℕ) (writer reader : Bool) (reads : ℕ) (stream : Option (List ℕ)) (blocks : List (List ℕ)) (control : List ℕ) : RunFault → Type 0 where
-  memory : writer ≡ false → reader ≡ false → LineFails n writer reader reads stream blocks control Memory
-  turns : (first : ℕ) → writer ≡ false → reader ≡ false → ReadTimes 1000000 first reads → LineFails n writer reader reads stream blocks control Turns
-  line : Fails writer reader stream blocks control → LineFails n writer reader reads stream blocks control (Line n)
+-- Between two counts a source was read `earlier` times for these blocks, at most 1,000,000 times for each.
+-- Then it was read 1,000,000 times for the next one in vain. Each read gave a byte, and 4,096 bytes at most.
+pub record ReadInVain (first reads : ℕ) (stream : Option (List ℕ)) (blocks : List (List ℕ)) : Type 0 where
+  pub earlier : ℕ
+  pub least : length blocks ≤ earlier * 4096
+  pub most : earlier ≤ length blocks * 1000000
+  pub counted : ReadTimes (earlier + 1000000) first reads
+  pub many : IfSome stream (λ bytes. earlier + 1000000 ≤ length bytes)
+
+-- Why there is no acknowledgment of the message of this number: allocation failure, too many reads, or a fault of its line.
+-- The reader's reads are counted from `first` to `reads`.
+pub data LineFails (n : ℕ) (writer reader : Bool) (first reads : ℕ) (stream : Option (List ℕ)) (blocks : List (List ℕ)) (control : List ℕ)
+    : RunFault → Type 0 where
+  memory : writer ≡ false → reader ≡ false → LineFails n writer reader first reads stream blocks control Memory
+  turns : writer ≡ false → reader ≡ false → ReadInVain first reads stream blocks → LineFails n writer reader first reads stream blocks control Turns
+  line : Fails writer reader stream blocks control → LineFails n writer reader first reads stream blocks control (Line n)
 
 -- What a courier had in hand behind these blocks: the message of this number was given out, and a beginning of its block written.
 pub record Hand (r n : ℕ) (control : List ℕ) (blocks : List (List ℕ)) (before after : Option (List ℕ)) (old new : List NoteSeen) : Type 0 where
@@ -104,53 +115,53 @@ pub record Hand (r n : ℕ) (control : List ℕ) (blocks : List (List ℕ)) (bef
   pub wrote : Appends between after part
 
 -- A courier's rounds were noted, and what it had in hand when the fault came; or no message could be given out for want of memory.
-pub data Breaks (r : ℕ) (writer reader : Bool) (reads : ℕ) (stream before after : Option (List ℕ)) (old new : List NoteSeen) : RunFault → Type 0 where
+pub data Breaks (r : ℕ) (writer reader : Bool) (first reads : ℕ) (stream before after : Option (List ℕ)) (old new : List NoteSeen) : RunFault → Type 0 where
   empty_handed : (blocks : List (List ℕ)) (counts : Counts) → writer ≡ false → reader ≡ false → Carried r before after old new blocks counts
-      → Breaks r writer reader reads stream before after old new Memory
+      → Breaks r writer reader first reads stream before after old new Memory
   in_hand : (n : ℕ) (control : List ℕ) (blocks : List (List ℕ)) (fault : RunFault) → Hand r n control blocks before after old new
-      → LineFails n writer reader reads stream blocks control fault
-      → Breaks r writer reader reads stream before after old new fault
+      → LineFails n writer reader first reads stream blocks control fault
+      → Breaks r writer reader first reads stream before after old new fault
 
 -- ---- how a courier comes there
 
 -- the next block of a source that a decoder gave
-abbrev pub GivesNext : Option (List ℕ) → Option (List ℕ) → Held → Held → List ℕ → Type 0
+abbrev pub GivesNext : Spot → Spot → Held → Held → List ℕ → Type 0
 GivesNext unread left old new content =
-    (stream : Option (List ℕ)) (blocks : List (List ℕ)) → Reading stream unread blocks old → Reading stream left (blocks ++ content ∷ []) new
+    (from : Spot) (blocks : List (List ℕ)) → Reading 0 from unread blocks old → Reading 0 from left (blocks ++ content ∷ []) new
 
 -- it acknowledges the message of this control id
-pub record Acked (unread left : Option (List ℕ)) (old new : Held) (control : List ℕ) (ack : Ack) : Type 0 where
+pub record Acked (unread left : Spot) (old new : Held) (control : List ℕ) (ack : Ack) : Type 0 where
   pub content : List ℕ
   pub next : GivesNext unread left old new content
   pub says : Acknowledges content control ack
 
 -- why it gave none
-abbrev pub GivesNone : ℕ → Bool → Bool → ℕ → Option (List ℕ) → Held → List ℕ → RunFault → Type 0
+abbrev pub GivesNone : ℕ → Bool → Bool → ℕ → Spot → Held → List ℕ → RunFault → Type 0
 GivesNone n writer reader reads unread old control fault =
-    (stream : Option (List ℕ)) (blocks : List (List ℕ)) → Reading stream unread blocks old → LineFails n writer reader reads stream blocks control fault
+    (from : Spot) (blocks : List (List ℕ)) → Reading 0 from unread blocks old → LineFails n writer reader from.reads reads from.left blocks control fault
 
 -- the same whatever is to be acknowledged, where nothing was written
-abbrev pub GivesNoBlock : ℕ → Bool → ℕ → Option (List ℕ) → Held → RunFault → Type 0
+abbrev pub GivesNoBlock : ℕ → Bool → ℕ → Spot → Held → RunFault → Type 0
 GivesNoBlock n reader reads unread old fault = (control : List ℕ) → GivesNone n false reader reads unread old control fault
 
 -- a message's block was written, and acknowledged
-pub record Sent (message : List SegmentValue) (before after unread left : Option (List ℕ)) (old new : Held) (ack : Ack) : Type 0 where
+pub record Sent (message : List SegmentValue) (before after : Option (List ℕ)) (unread left : Spot) (old new : Held) (ack : Ack) : Type 0 where
   pub wrote : Appends before after (block (written message))
   pub acked : Acked unread left old new (control_of message) ack
 
 -- a message's block was written in part or whole, and not acknowledged
-pub record Unsent (n : ℕ) (writer reader : Bool) (reads : ℕ) (message : List SegmentValue) (before after unread : Option (List ℕ)) (old : Held)
-    (fault : RunFault) : Type 0 where
+pub record Unsent (n : ℕ) (writer reader : Bool) (reads : ℕ) (message : List SegmentValue) (before after : Option (List ℕ))
+    (unread : Spot) (old : Held) (fault : RunFault) : Type 0 where
   pub part : List ℕ
   pub begins : BeginsWith (block (written message)) part
   pub wrote : Appends before after part
   pub fails : GivesNone n writer reader reads unread old (control_of message) fault
 
 -- so far only rounds were noted, and the decoder has given the blocks that acknowledge them
-pub record Progress (r : ℕ) (stream left before after : Option (List ℕ)) (held : Held) (old new : List NoteSeen) (counts : Counts) : Type 0 where
+pub record Progress (r : ℕ) (from left : Spot) (before after : Option (List ℕ)) (held : Held) (old new : List NoteSeen) (counts : Counts) : Type 0 where
   pub blocks : List (List ℕ)
   pub carried : Carried r before after old new blocks counts
-  pub reading : Reading stream left blocks held
+  pub reading : Reading 0 from left blocks held
 
 -- why a block can't be written for the message of this number
 pub data WriteFails (n : ℕ) : Bool → RunFault → Type 0 where

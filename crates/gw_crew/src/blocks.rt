@@ -2,7 +2,7 @@
 ghost use Rattle.std.specs.Prelude.{◌≡◌, OnOk, OnErr, IfOk, IfErr, false, Ok};
 ghost use Rattle.gw_mllp.specs.Stream.{Overlong};
 ghost use Rattle.gw_crew.specs.Carries.{Acked, Denies, GivesNext, GivesNoBlock, GivesNone};
-ghost use Rattle.gw_crew.specs.Streams.{Feeds};
+ghost use Rattle.gw_crew.specs.Streams.{Feeds, spot};
 ghost use Rattle.gw_ack.specs.Acknowledged.{Acknowledges};
 
 use gw_ack::{Ack, AckFault, read_ack};
@@ -33,8 +33,9 @@ fn take_piece(decoder: &mut Decoder, piece: &[u8]) -> Result<bool, AllocError>
 // The next block, which comes back for the message of this number.
 fn next_block<R: Source>(decoder: &mut Decoder, reader: &mut R, n: u64) -> Result<Vec<u8>, RunFault>
     requires { R.has_failed reader.old ≡ false }
-    ensures next { IfOk result (λ content. GivesNext (R.remaining reader.old) (R.remaining reader.new) decoder.old decoder.new content.items) }
-    ensures none { IfErr result (GivesNoBlock n (R.has_failed reader.new) (R.reads reader.new) (R.remaining reader.old) decoder.old) }
+    ensures next { IfOk result (λ content. GivesNext (spot R.remaining R.reads reader.old) (spot R.remaining R.reads reader.new)
+        decoder.old decoder.new content.items) }
+    ensures none { IfErr result (GivesNoBlock n (R.has_failed reader.new) (R.reads reader.new) (spot R.remaining R.reads reader.old) decoder.old) }
     ensures works { OnOk result (R.has_failed reader.new ≡ false) }
 {
     if let Some(content) = decoder.next_block() {
@@ -84,8 +85,10 @@ pub(crate) fn answered<R: Source>(
     n: u64,
 ) -> Result<Ack, RunFault>
     requires { R.has_failed reader.old ≡ false }
-    ensures acked { IfOk result (Acked (R.remaining reader.old) (R.remaining reader.new) decoder.old decoder.new control.now) }
-    ensures none { IfErr result (GivesNone n false (R.has_failed reader.new) (R.reads reader.new) (R.remaining reader.old) decoder.old control.now) }
+    ensures acked { IfOk result (Acked (spot R.remaining R.reads reader.old) (spot R.remaining R.reads reader.new)
+        decoder.old decoder.new control.now) }
+    ensures none { IfErr result (GivesNone n false (R.has_failed reader.new) (R.reads reader.new) (spot R.remaining R.reads reader.old)
+        decoder.old control.now) }
     ensures works { OnOk result (R.has_failed reader.new ≡ false) }
 {
     match next_block(decoder, reader, n) {

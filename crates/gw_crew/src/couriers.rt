@@ -6,6 +6,7 @@ ghost use Rattle.gw_gate.specs.Values.{reply_seen};
 ghost use Rattle.gw_mllp.specs.Stream.{block};
 ghost use Rattle.gw_stream.specs.declared.fault.RunFault.TheVariants.{Memory};
 ghost use Rattle.gw_crew.specs.Carries.{Breaks, Carries, Sent, Unsent, Unwritten, control_of, with_sent};
+ghost use Rattle.gw_crew.specs.Streams.{spot};
 ghost use Rattle.gw_crew.specs.own.Turns.{Adds, Comes, GaveOut, Waits, given_of, given_seen, out_seen};
 ghost use Rattle.std.specs.Option.{option_map};
 
@@ -105,9 +106,9 @@ fn carry<R: Source, W: Sink>(
     requires reads { R.has_failed reader.old ≡ false }
     requires writes { W.has_failed writer.old ≡ false }
     ensures sent { IfOk result (Sent message.now (W.contents writer.old) (W.contents writer.new)
-        (R.remaining reader.old) (R.remaining reader.new) decoder.old decoder.new) }
+        (spot R.remaining R.reads reader.old) (spot R.remaining R.reads reader.new) decoder.old decoder.new) }
     ensures unsent { IfErr result (Unsent n (W.has_failed writer.new) (R.has_failed reader.new) (R.reads reader.new)
-        message.now (W.contents writer.old) (W.contents writer.new) (R.remaining reader.old) decoder.old) }
+        message.now (W.contents writer.old) (W.contents writer.new) (spot R.remaining R.reads reader.old) decoder.old) }
     ensures reader { OnOk result (R.has_failed reader.new ≡ false) }
     ensures writer { OnOk result (W.has_failed writer.new ≡ false) }
 {
@@ -168,7 +169,7 @@ pub fn courier<D: Door, R: Source, W: Sink>(
     requires writes { W.has_failed writer.old ≡ false }
     ensures carries { IfOk result (Carries receiver (R.remaining reader.old) (W.contents writer.old) (W.contents writer.new)
         (D.noted door.old) (D.noted door.new)) }
-    ensures breaks { IfErr result (Breaks receiver (W.has_failed writer.new) (R.has_failed reader.new) (R.reads reader.new)
+    ensures breaks { IfErr result (Breaks receiver (W.has_failed writer.new) (R.has_failed reader.new) (R.reads reader.old) (R.reads reader.new)
         (R.remaining reader.old) (W.contents writer.old) (W.contents writer.new) (D.noted door.old) (D.noted door.new)) }
     ensures reader { OnOk result (R.has_failed reader.new ≡ false) }
     ensures writer { OnOk result (W.has_failed writer.new ≡ false) }

@@ -4,7 +4,7 @@ ghost use Rattle.std.specs.Io.KnownBytes.{Appends};
 ghost use Rattle.gw_mllp.specs.Stream.{Between, HasNoEnd, block};
 ghost use Rattle.gw_stream.specs.Counted.{IsTotal, with_answer};
 ghost use Rattle.gw_stream.specs.Faults.{OfStream};
-ghost use Rattle.gw_stream.specs.Reading.{ReadTimes};
+ghost use Rattle.gw_stream.specs.Reading.{ReadTimes, ReadUpTo};
 ghost use Rattle.gw_stream.specs.Sent.{SendsPart};
 ghost use Rattle.gw_session.specs.Sessions.{SessionAll, SessionPart, SessionTooLong, SessionTruncated};
 
@@ -71,6 +71,7 @@ pub fn session<D: Door, C: Clock, R: Source, W: Sink>(
     ensures write { IsErrOf result RunFault.Write ↔ IsTrue (W.has_failed writer.new) }
     ensures turns { IsErrOf result RunFault.Turns → IfSome (R.remaining reader.old) (λ stream. 1000000 ≤ length stream) }
     ensures counted { IsErrOf result RunFault.Turns → ReadTimes 1000000 (R.reads reader.old) (R.reads reader.new) }
+    ensures most { ReadUpTo 1000000 (R.reads reader.old) (R.reads reader.new) }
     ensures kinds { IfErr result OfStream }
 {
     let mut blocks = BlockReader::new(alloc);

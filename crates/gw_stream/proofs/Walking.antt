@@ -10,7 +10,7 @@ use Rattle.gw_stream.specs.declared.fault.RunFault.TheVariants.{Frame}
 use Rattle.gw_stream.specs.Faults.{OfReading, truncated}
 use Rattle.gw_stream.specs.Reading.{ReadTimes}
 use Rattle.gw_stream.specs.Streams.{HasFirst}
-use Rattle.gw_stream.specs.Walked.{Place, Walks, Goes, EndsAt}
+use Rattle.gw_stream.specs.Walked.{Place, Walks, Goes, EndsAt, WithinReads}
 
 -- a piece takes a decoder from here to there
 abbrev pub Feeds : List ℕ → Held → Held → Type 0
@@ -36,7 +36,8 @@ blocks_few stream blocks left p =
     let g = parts_few p.parts in
     omega arith
 
-has_few : (stream : List ℕ) (blocks : List (List ℕ)) (tail : Tail) → Has stream blocks tail → length blocks ≤ length stream
+-- a stream that has these blocks has as many bytes
+pub has_few : (stream : List ℕ) (blocks : List (List ℕ)) (tail : Tail) → Has stream blocks tail → length blocks ≤ length stream
 has_few stream blocks Between p = blocks_few stream blocks None p.0
 has_few stream blocks (Within t) p = blocks_few stream blocks (Some t) p.0
 has_few stream blocks Overlong p =
@@ -149,7 +150,7 @@ walk_first left reads here given done others w is =
     (subst (λ l. Has w.taken l here.blocks.decoder.tail)
     (ap (λ l. l ++ here.blocks.decoder.waiting) is ∙ append_assoc done others here.blocks.decoder.waiting) w.stands)
 
-long_enough : (left rest : Option (List ℕ)) (taken : List ℕ) (most : ℕ) → Consumes left rest taken → most ≤ length taken
+pub long_enough : (left rest : Option (List ℕ)) (taken : List ℕ) (most : ℕ) → Consumes left rest taken → most ≤ length taken
     → IfSome left (λ stream. most ≤ length stream)
 long_enough None rest taken most takes many = tt
 long_enough (Some stream) None taken most takes many = absurd takes
@@ -167,6 +168,22 @@ walk_counted left reads here given w all =
     let most = w.most in
     let is : here.blocks.turns ≡ 1000000 = omega arith in
     subst (λ n. ReadTimes n reads here.reads) is w.counted
+
+-- ---- how often a run reads at most
+
+-- nothing was read since
+pub within_here : (here : Place) (after : ℕ) → after ≡ here.reads → WithinReads here after
+within_here here after same left reads given w small =
+    let most = w.most in let there : here.reads ≡ reads + here.blocks.turns = w.counted (omega arith) in omega arith
+
+-- one read was made since
+pub within_once : (here : Place) (after : ℕ) → here.blocks.turns < 1000000 → ReadTimes 1 here.reads after → WithinReads here after
+within_once here after early one left reads given w small =
+    let there : here.reads ≡ reads + here.blocks.turns = w.counted (omega arith) in let more = one (omega arith) in omega arith
+
+pub within_from : (here there : Place) (after : ℕ) → Goes here there [] → WithinReads there after → WithinReads here after
+within_from here there after goes within left reads given w =
+    within left reads given (subst (Walks left reads there) (append-nil given) (goes left reads given w))
 
 pub if_some_map : {P Q : List ℕ → Type 0} (left : Option (List ℕ)) → ((stream : List ℕ) → P stream → Q stream) → IfSome left P → IfSome left Q
 if_some_map None f p = tt

@@ -4,7 +4,7 @@ use Rattle.std.specs.Io.KnownBytes.{Consumes}
 use Rattle.std.specs.Option.{IfSome}
 use Rattle.gw_mllp.specs.Stream.{Has, Stands, Tail}
 use Rattle.gw_stream.specs.declared.block_reader.BlockReader.{BlockReader}
-use Rattle.gw_stream.specs.Reading.{ReadTimes}
+use Rattle.gw_stream.specs.Reading.{ReadTimes, ReadUpTo}
 
 -- what a source has left, where that is known, how often it was read, and what reads its blocks
 pub record Place : Type 0 where
@@ -33,3 +33,7 @@ Goes here there more = (left : Option (List ℕ)) (reads : ℕ) (given : List (L
 -- a run that had come here has all blocks of its stream, and the stream ends so
 abbrev pub EndsAt : Place → Tail → Type 0
 EndsAt here tail = (left : Option (List ℕ)) (reads : ℕ) (given : List (List ℕ)) → Walks left reads here given → IfSome left (λ stream. Has stream given tail)
+
+-- a run that had come here has read no more than a run may, once its source was read this often
+abbrev pub WithinReads : Place → ℕ → Type 0
+WithinReads here after = (left : Option (List ℕ)) (reads : ℕ) (given : List (List ℕ)) → Walks left reads here given → ReadUpTo 1000000 reads after

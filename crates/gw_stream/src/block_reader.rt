@@ -2,7 +2,7 @@
 ghost use Rattle.std.specs.Prelude.{◌≡◌, ◌≢◌, ◌↔◌, ◌≤◌, ◌<◌, ◌+◌, ◌∷◌, ◌++◌, [], ℕ, List, Option, OnOk, OnErr, IfOk, IfErr, IfSome, IfNone, IsTrue, IsErrOf, false, true, Ok};
 ghost use Rattle.gw_mllp.specs.Stream.{Between, Within, Overlong, Stands};
 ghost use Rattle.gw_stream.specs.Faults.{OfReading};
-ghost use Rattle.gw_stream.specs.Walked.{EndsAt, Goes, Walks, place};
+ghost use Rattle.gw_stream.specs.Walked.{EndsAt, Goes, Walks, WithinReads, place};
 
 use crate::fault::RunFault;
 use crate::source::Source;
@@ -73,6 +73,7 @@ impl BlockReader {
         ensures turns { IsErrOf result RunFault.Turns → 1000000 ≤ self.new.turns }
         ensures turned { IsErrOf result RunFault.Turns
             → Goes (place R.remaining R.reads reader.old self.old) (place R.remaining R.reads reader.new self.new) [] }
+        ensures most { WithinReads (place R.remaining R.reads reader.old self.old) (R.reads reader.new) }
         ensures read { IsErrOf result RunFault.Read ↔ IsTrue (R.has_failed reader.new) }
         ensures kinds { IfErr result OfReading }
     {
@@ -105,6 +106,7 @@ impl BlockReader {
         ensures turns { IsErrOf result RunFault.Turns → 1000000 ≤ self.new.turns }
         ensures turned { IsErrOf result RunFault.Turns
             → Goes (place R.remaining R.reads reader.old self.old) (place R.remaining R.reads reader.new self.new) [] }
+        ensures most { WithinReads (place R.remaining R.reads reader.old self.old) (R.reads reader.new) }
         ensures read { IsErrOf result RunFault.Read ↔ IsTrue (R.has_failed reader.new) }
         ensures kinds { IfErr result OfReading }
     {

@@ -9,7 +9,7 @@ ghost use Rattle.gw_stream.specs.own.Bundled.{AreWithin, posts};
 ghost use Rattle.gw_stream.specs.Counted.{IsTotal, with_one};
 ghost use Rattle.gw_stream.specs.Faults.{OfStream};
 ghost use Rattle.gw_stream.specs.Posts.{Sends, SendsSome, known, some_failed};
-ghost use Rattle.gw_stream.specs.Reading.{ReadTimes};
+ghost use Rattle.gw_stream.specs.Reading.{ReadTimes, ReadUpTo};
 ghost use Rattle.gw_stream.specs.Served.{ServesAll, ServesFirst, ServesPart};
 ghost use Rattle.gw_stream.specs.Streams.{Answers, AnswersAll, AnswersPart, Breaks};
 
@@ -82,6 +82,7 @@ pub fn answer_stream<R: Source, W: Sink>(
     ensures write { IsErrOf result RunFault.Write ↔ IsTrue (W.has_failed writer.new) }
     ensures turns { IsErrOf result RunFault.Turns → IfSome (R.remaining reader.old) (λ stream. 1000000 ≤ length stream) }
     ensures counted { IsErrOf result RunFault.Turns → ReadTimes 1000000 (R.reads reader.old) (R.reads reader.new) }
+    ensures most { ReadUpTo 1000000 (R.reads reader.old) (R.reads reader.new) }
     ensures kinds { IfErr result OfStream }
 {
     let mut blocks = BlockReader::new(alloc);
@@ -160,6 +161,7 @@ pub fn serve_once<R: Source, A: Sink, W: Sink>(
     ensures write { IsErrOf result RunFault.Write ↔ IsTrue (some_failed A.has_failed W.has_failed answers.new outs.new.items) }
     ensures turns { IsErrOf result RunFault.Turns → IfSome (R.remaining reader.old) (λ stream. 1000000 ≤ length stream) }
     ensures counted { IsErrOf result RunFault.Turns → ReadTimes 1000000 (R.reads reader.old) (R.reads reader.new) }
+    ensures most { ReadUpTo 1000000 (R.reads reader.old) (R.reads reader.new) }
     ensures writers { length outs.new.items ≡ length outs.old.items }
     ensures kinds { IfErr result OfStream }
 {

@@ -3,8 +3,8 @@ use crate::gates::begun;
 use crate::locked::replies;
 use crate::streams::Device;
 use crate::worked::{admitted, archive, plan_text};
-use gw_crew::{Door, Note, Pause, Solo, SwapFault, courier, swap, worker};
-use gw_gate::{Event, MOST};
+use gw_crew::{Door, Note, Pause, Phase, Solo, SwapFault, courier, swap, worker};
+use gw_gate::{Event, MOST, Reply};
 use gw_plan::Plan;
 use gw_stream::{Counts, Reads, RunFault, Writes};
 use std::alloc::Global;
@@ -65,6 +65,31 @@ fn arrived(alloc: Global, count: u64) -> Result<Solo, Fail> {
         }
     }
     Ok(door)
+}
+
+/// A door to a gate that refuses each result for want of memory.
+#[derive(Drop)]
+struct WithoutPut {
+    door: Solo,
+}
+
+impl Door for WithoutPut {
+    ghost noted = { λ d. d.door.notes };
+
+    fn call(&mut self, event: Event) -> Result<Reply, Event> {
+        match event {
+            Event::Put { n, translated } => Err(Event::Put { n, translated }),
+            event => self.door.call(event),
+        }
+    }
+
+    fn wait(&mut self, phase: Phase) -> bool {
+        self.door.wait(phase)
+    }
+
+    fn notes(&self) -> &[Note] {
+        self.door.notes()
+    }
 }
 
 /// A pause that ends its worker after so many jobs.
@@ -141,6 +166,28 @@ fn a_pause_ends_a_worker(rt: HostRuntime) -> Result<(), Fail> {
         Some(Note::Idle) => Ok(()),
         _ => Err("another end".into()),
     }
+}
+
+/// A worker that can't put its result tells its job, which another one does when it is issued again.
+#[test]
+fn a_worker_tells_its_job(rt: HostRuntime) -> Result<(), Fail> {
+    let alloc = rt.alloc();
+    let mut refuses = WithoutPut {
+        door: arrived(alloc, 1)?,
+    };
+    let mut pause = After {
+        left: 9,
+        stopped: false,
+    };
+    match worker(alloc, &mut refuses, &mut pause) {
+        Ok(_) => return Err("it put its result".into()),
+        Err(ended) => assert_eq!(rt; ended, (RunFault::Memory, Some((0, 0)))),
+    }
+    assert_eq!(rt; work(alloc, &mut refuses.door, 9)?, NOTHING);
+    let event = Event::Reissue { n: 0, receiver: 0 };
+    assert!(rt; replies(&mut refuses.door, event, ("Issued", 0)));
+    assert_eq!(rt; work(alloc, &mut refuses.door, 9)?.put, 1);
+    Ok(())
 }
 
 // Whether a courier over such a line ends with its fault, and has written a beginning of the message's block.

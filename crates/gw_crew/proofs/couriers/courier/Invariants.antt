@@ -1,13 +1,14 @@
 use Rattle.std.proofs.Common.{◌≡◌, ◌-◌, ◌^◌, false, length}
 use Rattle.gw_crew.specs.Carries.{Progress}
+use Rattle.gw_crew.specs.Streams.{spot}
 use Rattle.gw_crew.proofs.couriers.courier.Given as goal
 
 abbrev pub invariant-rounds : goal.invariant-rounds
 invariant-rounds g l = record {
   reads : g.R.Source.has_failed l.reader ≡ false;
   writes : g.W.Sink.has_failed l.writer ≡ false;
-  progress : Progress l.receiver (g.R.Source.remaining l.fn.reader) (g.R.Source.remaining l.reader) (g.W.Sink.contents l.fn.writer) (g.W.Sink.contents l.writer)
-      l.decoder (g.D.Door.noted l.fn.door) (g.D.Door.noted l.door) l.counts;
+  progress : Progress l.receiver (spot g.R.Source.remaining g.R.Source.reads l.fn.reader) (spot g.R.Source.remaining g.R.Source.reads l.reader)
+      (g.W.Sink.contents l.fn.writer) (g.W.Sink.contents l.writer) l.decoder (g.D.Door.noted l.fn.door) (g.D.Door.noted l.door) l.counts;
 }
 
 abbrev pub decreases-rounds : goal.decreases-rounds

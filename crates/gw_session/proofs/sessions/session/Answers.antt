@@ -87,3 +87,15 @@ pub returns-clause-all : goal.returns-clause-all
 returns-clause-all g c =
     let ends = rw c.in_default.is at c.in_ok-content.ensures.end in
     deals_end _ _ _ _ _ _ _ _ _ c.each.invariant.deals Between ends
+
+pub returns-in_err-content-clause-most : goal.returns-in_err-content-clause-most
+returns-in_err-content-clause-most g c = c.next.ensures.most _ _ _ c.each.invariant.deals.walks
+
+pub returns-in_err-answer-clause-most : goal.returns-in_err-answer-clause-most
+returns-in_err-answer-clause-most g c = c.next.ensures.most _ _ _ c.each.invariant.deals.walks
+
+pub returns-in_err-send-clause-most : goal.returns-in_err-send-clause-most
+returns-in_err-send-clause-most g c = c.next.ensures.most _ _ _ c.each.invariant.deals.walks
+
+pub returns-clause-most : goal.returns-clause-most
+returns-clause-most g c = c.next.ensures.most _ _ _ c.each.invariant.deals.walks

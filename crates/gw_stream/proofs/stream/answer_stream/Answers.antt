@@ -75,3 +75,12 @@ pub returns-clause-all : goal.returns-clause-all
 returns-clause-all g c =
     let ends = rw c.in_default.is at c.in_ok-content.ensures.end in
     progress_ends _ _ _ _ _ _ _ _ Between c.each.invariant.progress ends
+
+pub returns-in_err-content-clause-most : goal.returns-in_err-content-clause-most
+returns-in_err-content-clause-most g c = c.next.ensures.most _ _ _ c.each.invariant.progress.walks
+
+pub returns-in_err-answer_content-clause-most : goal.returns-in_err-answer_content-clause-most
+returns-in_err-answer_content-clause-most g c = c.next.ensures.most _ _ _ c.each.invariant.progress.walks
+
+pub returns-clause-most : goal.returns-clause-most
+returns-clause-most g c = c.next.ensures.most _ _ _ c.each.invariant.progress.walks

@@ -134,3 +134,15 @@ pub returns-clause-all : goal.returns-clause-all
 returns-clause-all g c =
     let ends = rw c.in_default.is at c.in_ok-content.ensures.end in
     serves_ends _ _ _ _ _ _ _ _ Between c.each.invariant.serves ends
+
+pub returns-in_err-content-clause-most : goal.returns-in_err-content-clause-most
+returns-in_err-content-clause-most g c = c.next.ensures.most _ _ _ c.each.invariant.serves.walks
+
+pub returns-in_err-bundle-clause-most : goal.returns-in_err-bundle-clause-most
+returns-in_err-bundle-clause-most g c = c.next.ensures.most _ _ _ c.each.invariant.serves.walks
+
+pub returns-in_err-send_counted-clause-most : goal.returns-in_err-send_counted-clause-most
+returns-in_err-send_counted-clause-most g c = c.next.ensures.most _ _ _ c.each.invariant.serves.walks
+
+pub returns-clause-most : goal.returns-clause-most
+returns-clause-most g c = c.next.ensures.most _ _ _ c.each.invariant.serves.walks

@@ -1,6 +1,6 @@
-use Rattle.std.proofs.Common.{rules, arith}
+use Rattle.std.proofs.Common.{rules, refl, arith}
 use Rattle.gw_mllp.specs.Stream.{Between, Within, Overlong}
-use Rattle.gw_stream.proofs.Walking.{ends_from}
+use Rattle.gw_stream.proofs.Walking.{ends_from, within_here, within_from}
 use Rattle.gw_stream.proofs.block_reader.BlockReader.next.Goals as goal
 
 pub returns-in_err-fill-clause-truncated : goal.returns-in_err-fill-clause-truncated
@@ -26,3 +26,14 @@ pieces-smaller g c =
     let early = c.in_ok-fill.ensures.early (search rules) in
     let turn = c.in_ok-fill.ensures.turn (search rules) in
     omega arith
+
+pub returns-in-Some-clause-most : goal.returns-in-Some-clause-most
+returns-in-Some-clause-most g c = within_from _ _ _ c.pieces.invariant.goes (within_here _ _ refl)
+
+pub returns-in_err-fill-clause-most : goal.returns-in_err-fill-clause-most
+returns-in_err-fill-clause-most g c =
+    let within = rw c.in_default.ensures.none.1 at c.in_err-fill.ensures.most in within_from _ _ _ c.pieces.invariant.goes within
+
+pub returns-then-not-branch-clause-most : goal.returns-then-not-branch-clause-most
+returns-then-not-branch-clause-most g c =
+    let within = rw c.in_default.ensures.none.1 at c.in_ok-fill.ensures.most in within_from _ _ _ c.pieces.invariant.goes within
