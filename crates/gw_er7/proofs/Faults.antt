@@ -6,7 +6,8 @@ use Rattle.gw_er7.specs.declared.fault.ReadFault.{ReadFault}
 use Rattle.gw_er7.specs.declared.fault.ReadFault.TheVariants.{Memory, Empty, Control, NoHeader, BadDelimiters, BadSegment, TooManySegments}
 use Rattle.gw_er7.specs.Content.{Line, lines, is_allowed, is_delimited, delimiters_of, first_bad, header_line}
 use Rattle.gw_er7.specs.Names.{is_header}
-use Rattle.gw_er7.specs.Faults.{Applies, number, Faulty, IsReadable}
+use Rattle.gw_er7.specs.Faults.{Applies, Faulty, IsReadable}
+use Rattle.gw_er7.specs.Numbers.{number}
 
 -- no fault below a number applies, where each of them was tested
 passed : (content : List ℕ) (n : ℕ) → (2 < n → ¬ (Applies content Empty)) → (3 < n → (at : ℕ) → ¬ (Applies content (Control at))) → (4 < n → ¬ (Applies content NoHeader)) → (5 < n → ¬ (Applies content BadDelimiters))

@@ -5,7 +5,8 @@ use Rattle.gw_er7.specs.declared.place.Place.{Place}
 use Rattle.gw_er7.specs.declared.fault.ReadFault.{ReadFault}
 use Rattle.gw_er7.specs.Text.{standard}
 use Rattle.gw_er7.specs.Content.{Line, lines, delimiters_of, header_line}
-use Rattle.gw_er7.specs.Faults.{Applies, number}
+use Rattle.gw_er7.specs.Faults.{Applies}
+use Rattle.gw_er7.specs.Numbers.{number}
 use Rattle.gw_er7.specs.Message.{SegmentValue, text_at, IsPlace}
 use Rattle.gw_er7.specs.Reading.{raw_at, ReadsLines}
 

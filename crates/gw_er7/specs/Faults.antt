@@ -5,6 +5,7 @@ use Rattle.gw_er7.specs.declared.fault.ReadFault.{ReadFault}
 use Rattle.gw_er7.specs.declared.lines.Checked.{Checked}
 use Rattle.gw_er7.specs.declared.fault.ReadFault.TheVariants.{Memory, Empty, Control, NoHeader, BadDelimiters, BadSegment, TooManySegments}
 use Rattle.gw_er7.specs.Names.{is_header}
+use Rattle.gw_er7.specs.Numbers.{number}
 use Rattle.gw_er7.specs.Content.{Line, Begins, lines, header_line, is_allowed, is_delimited, delimiters_of, first_bad}
 
 -- what a fault says of a content, whatever else is wrong with it
@@ -16,16 +17,6 @@ Applies content NoHeader = is_header (header_line (lines content)) ≡ false
 Applies content BadDelimiters = is_delimited (header_line (lines content)) ≡ false
 Applies content (BadSegment at) = first_bad (delimiters_of (header_line (lines content))).field (drop 1 (lines content)) ≡ Some at
 Applies content TooManySegments = 10000 < length (lines content)
-
--- the number of a fault
-abbrev pub number : ReadFault → ℕ
-number Memory = 1
-number Empty = 2
-number (Control at) = 3
-number NoHeader = 4
-number BadDelimiters = 5
-number (BadSegment at) = 6
-number TooManySegments = 7
 
 -- the first of the faults that apply
 pub record Faulty (content : List ℕ) (fault : ReadFault) : Type 0 where
