@@ -19,5 +19,7 @@ mod rules;
 pub use accounted::FieldAt;
 pub use checked::CheckedMap;
 pub use gap::{Gap, gaps};
+pub use gw_leaves::{Presence, Shape, Values, included};
+pub use gw_resolve::{Failure, Interval, Mark};
 pub use overlooked::unread;
 pub use rules::{CheckFault, Refusal, check, examine, failures};

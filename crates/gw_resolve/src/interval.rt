@@ -5,7 +5,7 @@ ghost use Rattle.gw_resolve.specs.Seen.{cap, interval, saturated};
 
 use gw_profile::Card;
 
-/// Above every number that a cardinality can name.
+/// Above every number that a cardinality can name. A count of it stands for every number from it on.
 pub const CAP: u64 = 4_294_967_296;
 
 /// At least so often, and at most so often or without limit.
