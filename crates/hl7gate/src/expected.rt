@@ -143,29 +143,40 @@ fn inner_text(text: &[u8], begin: u32) -> &[u8] {
     whole
 }
 
+/// The fault of an ambiguous profile, which has a name; `begin` is the line before its text.
+fn ambiguous(alloc: Global, text: &[u8], begin: u32) -> Result<ProfileFault, AllocError> {
+    match gw_profile::parse(alloc, inner_text(text, begin)) {
+        Err(ProfileFault::Memory) => Err(AllocError),
+        Err(fault) => Ok(fault),
+        // (what was refused is refused again)
+        Ok(_) => Err(AllocError),
+    }
+}
+
 /// The fault of this number of a profile in a plan, told by the plan's line.
-fn profile_fault(alloc: Global, text: &[u8], line: u32, number: u8) -> ProfileFault {
+fn profile_fault(
+    alloc: Global,
+    text: &[u8],
+    line: u32,
+    number: u8,
+) -> Result<ProfileFault, AllocError> {
     match number {
-        1 => ProfileFault::Memory,
-        2 => ProfileFault::Syntax(line),
-        3 => ProfileFault::Usage(line),
-        4 => ProfileFault::Duplicate(line),
-        5 => ProfileFault::UnknownTable(line),
-        6 => ProfileFault::EmptyGroup(line),
-        8 => ProfileFault::Header,
-        9 => ProfileFault::TooDeep(line),
-        10 => ProfileFault::TooLarge,
-        // (it has a name, and its line is the `begin`)
-        _ => match gw_profile::parse(alloc, inner_text(text, line)) {
-            Err(fault) => fault,
-            Ok(_) => ProfileFault::Memory,
-        },
+        2 => Ok(ProfileFault::Syntax(line)),
+        3 => Ok(ProfileFault::Usage(line)),
+        4 => Ok(ProfileFault::Duplicate(line)),
+        5 => Ok(ProfileFault::UnknownTable(line)),
+        6 => Ok(ProfileFault::EmptyGroup(line)),
+        7 => ambiguous(alloc, text, line),
+        8 => Ok(ProfileFault::Header),
+        9 => Ok(ProfileFault::TooDeep(line)),
+        10 => Ok(ProfileFault::TooLarge),
+        _ => Err(AllocError),
     }
 }
 
 /// What is wrong with a profile of a plan.
 fn of_profile(alloc: Global, text: &[u8], line: u32, number: u8) -> Result<String, AllocError> {
-    let fault = profile_fault(alloc, text, line, number);
+    let fault = profile_fault(alloc, text, line, number)?;
     match fault {
         ProfileFault::Syntax(_) => {
             let expected = gw_profile::expected(alloc, text, line)?;
