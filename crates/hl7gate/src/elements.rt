@@ -1,7 +1,7 @@
 //! Elements of a profile in the field's words: their names, how often they come, and what stands in them.
 use crate::report::say;
 use gw_profile::{Card, Node, Profile, Usage};
-use gw_resolve::Interval;
+use gw_resolve::{CAP, Interval};
 use gw_subjects::{Spot, comp_at, field_at, sub_at};
 use std::io::Write;
 
@@ -102,13 +102,26 @@ fn tell_usage<E: Write>(errors: &mut E, usage: Usage, card: Option<Card>) {
     };
 }
 
+/// A number at the cap, of which no more is known.
+const AT_THE_CAP: &[u8] = b"more than 4,294,967,295";
+
 /// Tells how often something comes.
 pub(crate) fn tell_interval<E: Write>(errors: &mut E, count: Interval) {
-    let least = count.least;
-    let _ = match count.greatest {
-        None => write!(errors, "{least}..*"),
-        Some(most) => write!(errors, "{least}..{most}"),
+    let Interval { least, greatest } = count;
+    if least >= CAP {
+        say(errors, AT_THE_CAP);
+        return;
+    }
+    let Some(most) = greatest else {
+        let _ = write!(errors, "{least}..*");
+        return;
     };
+    if most < CAP {
+        let _ = write!(errors, "{least}..{most}");
+        return;
+    }
+    let _ = write!(errors, "{least} to ");
+    say(errors, AT_THE_CAP);
 }
 
 /// Tells the name of a profile.
