@@ -3,7 +3,7 @@ use crate::worked::{ORU, P1, map, profile};
 use gw_check::{CheckFault, check};
 use gw_leaves::{Presence, Shape, Values, included};
 use gw_maplang::Map;
-use gw_profile::{Profile, SubShape, Usage};
+use gw_profile::{Count, Profile, SubShape, Usage};
 use std::alloc::Global;
 use std::sync::Arc;
 use std::test::Fail;
@@ -57,7 +57,7 @@ fn identities(rt: HostRuntime) -> Result<(), Fail> {
     Ok(())
 }
 
-/// Whether a text of at most so many octets always meets a subcomponent that takes twenty.
+/// Whether a text of at most so many octets or characters always meets a subcomponent that takes twenty of these.
 #[test]
 fn shapes(rt: HostRuntime) -> Result<(), Fail> {
     let sub = SubShape {
@@ -66,12 +66,20 @@ fn shapes(rt: HostRuntime) -> Result<(), Fail> {
         len: Some(20),
         table: None,
     };
-    for (len, expected) in [(Some(20), true), (Some(21), false), (None, false)] {
+    let rows = [
+        (Some(20), Count::Octets, Count::Octets, true),
+        (Some(21), Count::Octets, Count::Octets, false),
+        (None, Count::Octets, Count::Octets, false),
+        (Some(20), Count::Octets, Count::Characters, true),
+        (Some(20), Count::Characters, Count::Characters, true),
+        (Some(5), Count::Characters, Count::Octets, false),
+    ];
+    for (len, from, to, expected) in rows {
         let shape = Shape {
             presence: Presence::Always,
-            values: Values::Any(len),
+            values: Values::Any(len, from),
         };
-        assert_eq!(rt; included(&shape, &sub, None), expected);
+        assert_eq!(rt; included(&shape, &sub, None, to), expected);
     }
     Ok(())
 }

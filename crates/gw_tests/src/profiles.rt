@@ -3,7 +3,7 @@ use gw_profile::parse;
 use std::test::Fail;
 
 /// Profiles, and whether they are the first of them.
-const TEXTS: [(&[u8], bool); 4] = [
+const TEXTS: [(&[u8], bool); 5] = [
     (
         b"profile A\ntable T a\nsegment MSH R 1..1\nfield 3 R 1..1 len 4 table T\n",
         true,
@@ -18,6 +18,10 @@ const TEXTS: [(&[u8], bool); 4] = [
     ),
     (
         b"profile A\ntable T a b\nsegment MSH R 1..1\nfield 3 R 1..1 len 4 table T\n",
+        false,
+    ),
+    (
+        b"profile A\ncount characters\ntable T a\nsegment MSH R 1..1\nfield 3 R 1..1 len 4 table T\n",
         false,
     ),
 ];

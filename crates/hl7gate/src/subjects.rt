@@ -6,7 +6,7 @@ use crate::elements::{
 use crate::maps::Sides;
 use crate::report::say;
 use gw_maplang::Map;
-use gw_profile::{Profile, SubShape, Usage};
+use gw_profile::{Count, Profile, SubShape, Usage, measure};
 use gw_resolve::{Failure, Mark};
 use gw_subjects::{Origin, Site, Spot, comp_at, sub_at, unlisted, unrowed};
 use std::alloc::{AllocError, Global};
@@ -176,10 +176,19 @@ impl Told<'_> {
 
 // ---- lengths
 
-fn tell_most<E: Write>(errors: &mut E, len: Option<u32>) {
+/// What lengths of a profile count.
+fn unit(count: Count) -> &'static str {
+    match count {
+        Count::Octets => "octets",
+        Count::Characters => "characters",
+    }
+}
+
+fn tell_most<E: Write>(errors: &mut E, len: Option<u32>, count: Count) {
+    let unit = unit(count);
     let _ = match len {
-        None => write!(errors, "any number of octets"),
-        Some(most) => write!(errors, "at most {most} octets"),
+        None => write!(errors, "any number of {unit}"),
+        Some(most) => write!(errors, "at most {most} {unit}"),
     };
 }
 
@@ -187,11 +196,11 @@ fn len_of(sub: Option<&SubShape>) -> Option<u32> {
     sub?.len
 }
 
-/// Tells how long a text of an element may be.
+/// Tells how long a text of an element may be, by the count of its profile.
 fn tell_length<E: Write>(errors: &mut E, profile: &Profile, spot: &Spot) {
     tell_name(errors, profile, element_of(spot));
     say(errors, b" has ");
-    tell_most(errors, len_of(sub_at(profile, spot)));
+    tell_most(errors, len_of(sub_at(profile, spot)), profile.count());
     tell_profile(errors, profile);
 }
 
@@ -219,18 +228,22 @@ fn tell_table<E: Write>(errors: &mut E, profile: &Profile, spot: &Spot) {
     tell_profile(errors, profile);
 }
 
-fn is_at_most(text: &[u8], len: Option<u32>) -> bool {
+/// Whether a text is no longer, by this count.
+fn is_at_most(count: Count, text: &[u8], len: Option<u32>) -> bool {
     match len {
         None => true,
-        Some(len) => text.len() as u64 <= u64::from(len),
+        Some(len) => measure(count, text) <= u64::from(len),
     }
 }
 
-/// The first listed text of a source that is longer than the most.
-fn first_long<'a>(profile: &'a Profile, from: &SubShape, most: u32) -> Option<&'a [u8]> {
-    let table = profile.table(table_of(Some(from))?)?;
+/// The first listed text of a source that its own length allows and that is longer than the target's most, each by the count of its profile.
+fn first_long<'a>(sides: &'a Sides, from: &SubShape, most: u32) -> Option<&'a [u8]> {
+    let Sides { source, target } = sides;
+    let table = source.table(table_of(Some(from))?)?;
     for text in table.values() {
-        if is_at_most(text, from.len) && !is_at_most(text, Some(most)) {
+        if is_at_most(source.count(), text, from.len)
+            && !is_at_most(target.count(), text, Some(most))
+        {
             return Some(text.as_slice());
         }
     }
@@ -293,7 +306,7 @@ impl Told<'_> {
         let most = len_of(sub_at(target, to));
         let from = sub_at(source, from);
         if let (Some(most), Some(from)) = (most, from)
-            && let Some(text) = first_long(source, from, most)
+            && let Some(text) = first_long(self.sides, from, most)
         {
             tell_text(errors, text, " is longer");
         }
@@ -324,11 +337,11 @@ impl Told<'_> {
         };
         let target = &self.sides.target;
         let len = len_of(sub_at(target, to));
-        let count = text.len();
+        let size = measure(target.count(), text);
         match len {
-            Some(most) if count as u64 > u64::from(most) => {
+            Some(most) if size > u64::from(most) => {
                 tell_length(errors, target, to);
-                let _ = write!(errors, ", and this has {count}");
+                let _ = write!(errors, ", and this has {size}");
             }
             _ => tell_table(errors, target, to),
         }
