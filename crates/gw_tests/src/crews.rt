@@ -1,10 +1,10 @@
-//! A worker, a courier and a swap over one gate.
+//! A worker and a courier over one gate.
 use crate::gates::begun;
 use crate::locked::replies;
 use crate::streams::Device;
-use crate::worked::{admitted, archive, plan_text};
-use gw_crew::{Door, Note, Pause, Phase, Solo, SwapFault, courier, swap, worker};
-use gw_gate::{Event, MOST, Reply};
+use crate::worked::{admitted, archive};
+use gw_crew::{Door, Note, Pause, Phase, Solo, courier, worker};
+use gw_gate::{Event, Reply};
 use gw_plan::Plan;
 use gw_stream::{Counts, Reads, RunFault, Writes};
 use std::alloc::Global;
@@ -24,7 +24,7 @@ const ACKED: &[u8] =
 const OTHER: &[u8] =
     b"\x0bMSH|^~\\&|GW|H2|LAB|H1|20240102030406||ACK^A01^ACK|G1|P|2.5.1\rMSA|AA|8\r\x1c\r";
 
-pub(crate) const NOTHING: Counts = Counts {
+const NOTHING: Counts = Counts {
     answered: 0,
     put: 0,
     sent: 0,
@@ -211,25 +211,5 @@ fn a_line_fails(rt: HostRuntime) -> Result<(), Fail> {
     for answers in [b"\x0bMSH".as_slice(), b"\x0bMSH\x1c\r", OTHER] {
         assert!(rt; fails(alloc, answers, 1_000, 1_000)?);
     }
-    Ok(())
-}
-
-#[test]
-fn a_plan_is_swapped_in(rt: HostRuntime) -> Result<(), Fail> {
-    let alloc = rt.alloc();
-    let mut door = door(alloc)?;
-    let (like, other) = (plan_text(alloc, "ARCHIVE")?, plan_text(alloc, "OTHER")?);
-    assert_eq!(rt; swap(alloc, &mut door, like.as_bytes()), Ok(1));
-    assert_eq!(rt;
-        swap(alloc, &mut door, other.as_bytes()),
-        Err(SwapFault::Unlike)
-    );
-    for _entry in 0..MOST {
-        let _ = door.call(Event::Refuse(207));
-    }
-    assert_eq!(rt;
-        swap(alloc, &mut door, like.as_bytes()),
-        Err(SwapFault::Full)
-    );
     Ok(())
 }

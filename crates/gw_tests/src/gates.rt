@@ -1,7 +1,7 @@
 //! What a gate replies, and what its receivers are sent.
 use crate::worked;
 use gw_er7::write;
-use gw_gate::{Event, Gate, MOST, Reply, replay};
+use gw_gate::{Event, Gate, Reply, replay};
 use gw_plan::{Conforming, Plan, Translated, translate_for};
 use std::alloc::Global;
 use std::sync::Arc;
@@ -226,18 +226,5 @@ fn a_message_stays_under_its_plan(rt: HostRuntime) -> Result<(), Fail> {
     assert_eq!(rt; (gate.journal().len(), replies.len()), (5, 8));
     let text = sent(alloc, replies.last())?;
     assert_eq!(rt; text.as_slice(), b"MSH|^~\\&|||ONE|||||7\r".as_slice());
-    Ok(())
-}
-
-#[test]
-fn a_full_journal_takes_no_entry(rt: HostRuntime) -> Result<(), Fail> {
-    let plan = plan(rt.alloc(), "ONE")?;
-    let mut gate = begun(rt.alloc(), &plan)?;
-    for _entry in 0..MOST {
-        let _ = gate.step(Event::Refuse(207));
-    }
-    assert_eq!(rt; gate.journal().len(), 262_144);
-    assert_eq!(rt; replied(&mut gate, Event::Refuse(207))?, ("Full", 0));
-    assert_eq!(rt; replied(&mut gate, Event::Look)?, ("Current", 0));
     Ok(())
 }
