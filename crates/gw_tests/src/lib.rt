@@ -22,8 +22,6 @@ mod maps;
 #[cfg(test)]
 mod messages;
 #[cfg(test)]
-mod plans;
-#[cfg(test)]
 mod profiles;
 #[cfg(test)]
 mod served;
