@@ -1,8 +1,5 @@
-//! Acknowledgments that are read, and those that routes will need.
-use gw_ack::{Ack, AckFault, Header, Stamp, read_ack, reject_ack};
-use gw_civil::FromCivil;
-use gw_er7::read;
-use jiff::civil::date;
+//! Acknowledgments that are read.
+use gw_ack::{Ack, AckFault, read_ack};
 use std::test::Fail;
 
 const H: &[u8] = b"MSH|^~\\&|LAB|H1|GW|H2|20240102030405||ADT^A01^ADT_A01|7|P|2.5.1\r";
@@ -22,40 +19,6 @@ fn read_back(rt: HostRuntime) -> Result<(), Fail> {
     ];
     for (content, control, wanted) in rows {
         assert_eq!(rt; read_ack(rt.alloc(), content, control), wanted);
-    }
-    Ok(())
-}
-
-/// Each reason of a rejection has its place in the header.
-#[test]
-fn rejected(rt: HostRuntime) -> Result<(), Fail> {
-    let alloc = rt.alloc();
-    let header = Header::of(alloc, &read(alloc, H)?)?;
-    let at = date(2024, 1, 2).at(3, 4, 6, 0);
-    let stamp = Stamp::from_civil(&at).ok_or("a year from 0 on")?;
-    let rows: [(u16, &[u8]); 4] = [
-        (
-            200,
-            b"ERR||MSH^1^9^1^1|200^Unsupported message type^HL70357|E\r",
-        ),
-        (
-            201,
-            b"ERR||MSH^1^9^1^2|201^Unsupported event code^HL70357|E\r",
-        ),
-        (
-            202,
-            b"ERR||MSH^1^11^1^1|202^Unsupported processing id^HL70357|E\r",
-        ),
-        (
-            203,
-            b"ERR||MSH^1^12^1^1|203^Unsupported version id^HL70357|E\r",
-        ),
-    ];
-    for (code, err) in rows {
-        if code == 200 || code == 201 || code == 202 || code == 203 {
-            let content = reject_ack(alloc, &header, stamp, 1, code)?;
-            assert!(rt; content.ends_with(err));
-        }
     }
     Ok(())
 }
