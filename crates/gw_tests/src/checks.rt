@@ -57,7 +57,7 @@ fn identities(rt: HostRuntime) -> Result<(), Fail> {
     Ok(())
 }
 
-/// Whether a text of at most so many octets or characters always meets a subcomponent that takes twenty of these.
+/// Whether a text up to a length always fits a subcomponent that takes twenty octets or characters.
 #[test]
 fn shapes(rt: HostRuntime) -> Result<(), Fail> {
     let sub = SubShape {
