@@ -1,10 +1,7 @@
 //! Messages looked at and built.
 ghost use Rattle.std.specs.Prelude.{◌≡◌};
 
-use gw_er7::{
-    Builder, Message, Place, ReadFault, Segment, is_canonical, is_segment_name, read, read_block,
-    write,
-};
+use gw_er7::{Builder, Message, Place, ReadFault, Segment, read, read_block, write};
 use std::alloc::{AllocError, Global};
 use std::test::Fail;
 
@@ -80,13 +77,6 @@ fn is_pid(segment: &Segment<'_>) -> bool {
 fn a_segment_is_looked_at(rt: HostRuntime) -> Result<(), Fail> {
     let message = read(rt.alloc(), CONTENT)?;
     assert!(rt; message.segment_count() == 2 && is_pid(&message.segment(1)));
-    Ok(())
-}
-
-#[test]
-fn texts_and_names_are_told(rt: HostRuntime) -> Result<(), Fail> {
-    assert!(rt; is_canonical(b"x\\.br\\y") && !is_canonical(b"C:\\a"));
-    assert!(rt; is_segment_name(b"Z01") && !is_segment_name(b"1ID"));
     Ok(())
 }
 
