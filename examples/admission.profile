@@ -16,6 +16,7 @@ segment MSH R 1..1
     comp 1 R len 1
   field 12 R 1..1
     comp 1 R len 5
+  field 18 RE 0..* len 16
 segment EVN R 1..1
   field 2 R 1..1 len 26
 segment PID R 1..1

@@ -11,6 +11,7 @@ segment MSH R 1..1
   field 11 R 1..1
     comp 1 R len 1
   field 12 R 1..1 len 5
+  field 18 RE 0..* len 16
 group REPORT R 1..*
   segment PID R 1..1
     # One identifier is enough, with who gave it.

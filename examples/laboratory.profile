@@ -16,6 +16,7 @@ segment MSH R 1..1
     comp 1 R len 1
   field 12 R 1..1
     comp 1 R len 5
+  field 18 RE 0..* len 16
 group PATIENT_RESULT R 1..*
   group PATIENT R 1..1
     segment PID R 1..1
