@@ -67,7 +67,7 @@ fn arrived(alloc: Global, count: u64) -> Result<Solo, Fail> {
     Ok(door)
 }
 
-/// A door to a gate that refuses each result for want of memory.
+/// A door to a gate that refuses each result by an allocation failure.
 #[derive(Drop)]
 struct WithoutPut {
     door: Solo,
