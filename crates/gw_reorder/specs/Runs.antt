@@ -4,12 +4,13 @@ use Rattle.std.specs.Option.{option_to_list}
 use Rattle.gw_reorder.specs.State.{DeskState, nothing_due, with_due}
 use Rattle.gw_reorder.specs.Calls.{after_holding, next_of, after_giving}
 
--- A call that changes a desk: a number is due; a value is brought for a number; what is next is given out; the room changes
+-- A call that changes a desk: a number is due; a value is brought for a number; what is next is given out; the room changes; nothing is due from here on
 pub data Call (T : Type 0) : Type 0 where
   due : ℕ → Call T
   hold : ℕ → T → Call T
   release : Call T
   room : ℕ → Call T
+  restart : Call T
 
 -- what the call leaves, by the contracts of the calls
 abbrev pub after : {T : Type 0} → DeskState T → Call T → DeskState T
@@ -17,8 +18,9 @@ after s (due n) = with_due s n
 after s (hold n x) = after_holding s n x
 after s release = after_giving s (next_of s)
 after s (room n) = record s { room = n }
+after s restart = record nothing_due { room = s.room }
 
--- What follows is said of the calls made so far on a new desk, the last call first
+-- What follows is said of the calls made so far on a new desk, the last call first; what was due, brought and given out before a restart counts no more
 
 -- the desk that they leave
 abbrev pub desk_after : {T : Type 0} → List (Call T) → DeskState T
@@ -32,6 +34,7 @@ due_in (due n ∷ before) = due_in before ++ n ∷ []
 due_in (hold n x ∷ before) = due_in before
 due_in (release ∷ before) = due_in before
 due_in (room n ∷ before) = due_in before
+due_in (restart ∷ before) = []
 
 -- the numbers that were given out with their values, in the order in which they were
 abbrev pub given_in : {T : Type 0} → List (Call T) → List (ℕ × T)
@@ -40,6 +43,7 @@ given_in (due n ∷ before) = given_in before
 given_in (hold n x ∷ before) = given_in before
 given_in (release ∷ before) = given_in before ++ option_to_list (next_of (desk_after before))
 given_in (room n ∷ before) = given_in before
+given_in (restart ∷ before) = []
 
 -- the first of two values that is there
 abbrev pub earlier : {T : Type 0} → Option T → Option T → Option T
@@ -57,6 +61,7 @@ kept_for (due m ∷ before) n = kept_for before n
 kept_for (hold m x ∷ before) n = earlier (kept_for before n) (brought_for (due_in before) m x n)
 kept_for (release ∷ before) n = kept_for before n
 kept_for (room m ∷ before) n = kept_for before n
+kept_for (restart ∷ before) n = None
 
 -- the number, where there is one, with its value, where there is one
 abbrev pub with_its_value : {T : Type 0} → (ℕ → Option T) → Option ℕ → Option (ℕ × T)

@@ -52,7 +52,7 @@ impl<T: Drop> Model for Desk<T> {
 }
 
 impl<T: Drop> Desk<T> {
-    ghost use Rattle.std.specs.Prelude.{◌≡◌, ◌<◌, ◌≤◌, ◌↔◌, OnOk, OnErr, All, IsTrue, option_map};
+    ghost use Rattle.std.specs.Prelude.{◌≡◌, ◌<◌, ◌≤◌, ◌↔◌, OnOk, OnErr, All, IsTrue, option_map, length, nat_lt};
     ghost use Rattle.gw_reorder.specs.State.{SameButRoom, nothing_due, with_due};
     ghost use Rattle.gw_reorder.specs.Calls.{status_of, held_as, after_holding, next_of, after_giving};
 
@@ -143,6 +143,23 @@ impl<T: Drop> Desk<T> {
             return None;
         };
         Some((self.due[self.released], value))
+    }
+
+    /// Whether something that is due wasn't given out. It takes no memory.
+    pub fn waits(&self) -> bool
+        ensures { result ≡ nat_lt self.now.released (length self.now.due) }
+    {
+        self.released < self.due.len()
+    }
+
+    /// From here on nothing is due, as at a new desk, and the room stays. It takes no memory.
+    pub fn restart(&mut self)
+        ensures same { SameButRoom nothing_due self.new }
+        ensures room { self.old.room ≤ self.new.room }
+    {
+        self.due.clear();
+        self.waiting.clear();
+        self.released = 0;
     }
 
     /// Gives out the least due number that was not released, with the value that was kept for it. The value leaves the desk.
