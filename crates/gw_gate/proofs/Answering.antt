@@ -2,11 +2,13 @@
 use Rattle.std.proofs.Common.{◌≡◌, ◌<◌, ◌&&◌, ◌∙◌, ℕ, Bool, true, false, if◌then◌else◌, List, [], ◌∷◌, ◌++◌, Option, None, Some, is_some, length, refl, sym, ap, subst, arith}
 use Rattle.std.specs.Prelude.{nat_le, IsTrue}
 use Rattle.std.proofs.lemmas.Grind.{common_steps}
+use Rattle.std.proofs.lemmas.Option.{none-some}
 use Rattle.gw_gate.specs.declared.event.Entry.{Entry}
 use Rattle.gw_gate.specs.Parts.{PlanSeen}
-use Rattle.gw_gate.specs.Journal.{EntrySeen, Journal, with_entry}
-use Rattle.gw_gate.specs.Replies.{EventSeen, ReplySeen, IsCurrent, IsFull, reply_to, added, most, limited, reply, with_added, takes_memory, Refused, noted, Noted}
-use Rattle.gw_gate.specs.Values.{entry_seen, entries_seen}
+use Rattle.gw_gate.specs.Journal.{EntrySeen, Journal, with_entry, Start, from, start_after}
+use Rattle.gw_gate.specs.Chapters.{is_pending}
+use Rattle.gw_gate.specs.Replies.{EventSeen, Looks, Arrives, Refuses, Swaps, Takes, Puts, Reissues, Releases, Cuts, ReplySeen, IsCurrent, IsPending, IsClosed, IsFull, reply_to, added, most, limited, reply, with_added, closed_by, or_next, takes_memory, Refused, noted, Noted}
+use Rattle.gw_gate.specs.Entries.{entry_seen, entries_seen}
 use Rattle.gw_gate.specs.own.Books.{journal_of}
 use Rattle.gw_gate.proofs.Entering.{entered, as_long}
 use Rattle.gw_gate.proofs.Releasing.{added_full}
@@ -41,16 +43,55 @@ some_memory event given e one = by given one
   where
     by : (g : ReplySeen) → added event g ≡ Some e → IsTrue (takes_memory event g)
     by (IsCurrent version plan) one = refl
+    by (IsClosed chapter) one = refl
     by g one = ap is_some one
 
 -- the row adds nothing
-pub plain : (takes : Bool) (j : Journal) (event : EventSeen) (given : ReplySeen) → reply_to j event ≡ given → added event given ≡ None → Noted takes j event given None j
-plain takes j event given row none =
+pub plain : (takes : Bool) (j : Journal) (event : EventSeen) (given : ReplySeen) → reply_to j event ≡ given → added event given ≡ None → closed_by given ≡ None → Noted takes j event given None j
+plain takes j event given row none stays =
     let r = open_reply j event given row none in
     let o : added event (reply j event) ≡ None = ap (added event) r ∙ none in
-    record { replied = record { reply_is = sym r; new_is = sym (ap (with_added j) o) }; note_is = note_none takes ∙ ap (noted takes) (sym o) }
+    record { replied = record { reply_is = sym r; new_is = sym (ap (or_next (with_added j (added event (reply j event)))) (ap closed_by r ∙ stays) ∙ ap (with_added j) o) }; note_is = note_none takes ∙ ap (noted takes) (sym o) }
 
-module _ (p : PlanSeen) (items : List Entry) (old : Journal) (view : journal_of p (entries_seen items) ≡ old) where
+-- a cut where something is pending
+pub cut_pending : (takes : Bool) (j : Journal) → is_pending j ≡ true → Noted takes j Cuts IsPending None j
+cut_pending takes j e = plain takes j Cuts IsPending (ap (λ b. if b then IsPending else IsClosed j) e) refl refl
+
+closed_reply : (j : Journal) → is_pending j ≡ false → reply j Cuts ≡ IsClosed j
+closed_reply j e = open_reply j Cuts (IsClosed j) (ap (λ b. if b then IsPending else IsClosed j) e) refl
+
+-- a cut where nothing is
+pub cut_closed : (takes : Bool) (j chapter new : Journal) → is_pending j ≡ false → chapter ≡ j → new ≡ from (start_after j) → Noted takes j Cuts (IsClosed chapter) None new
+cut_closed takes j chapter new e same is =
+    let r = closed_reply j e in
+    let o : added Cuts (reply j Cuts) ≡ None = ap (added Cuts) r in
+    subst (λ x. Noted takes j Cuts (IsClosed x) None new) (sym same)
+    (record {
+      replied = record { reply_is = sym r; new_is = is ∙ sym (ap (or_next (with_added j (added Cuts (reply j Cuts)))) (ap closed_by r) ∙ ap (λ x. or_next x (Some j)) (ap (with_added j) o)) };
+      note_is = note_none takes ∙ ap (noted takes) (sym o);
+    })
+
+-- the same, where memory is wanting
+pub cut_back : (j new : Journal) → is_pending j ≡ false → new ≡ j → Refused j Cuts Cuts new
+cut_back j new e is = record { back_is = refl; new_is = is; short = subst (λ g. IsTrue (takes_memory Cuts g)) (sym (closed_reply j e)) refl }
+
+no_entry : (event : EventSeen) (chapter : Journal) → added event (IsClosed chapter) ≡ None
+no_entry Looks chapter = refl
+no_entry (Arrives c) chapter = refl
+no_entry (Refuses code) chapter = refl
+no_entry (Swaps plan) chapter = refl
+no_entry Takes chapter = refl
+no_entry (Puts n t) chapter = refl
+no_entry (Reissues n r) chapter = refl
+no_entry (Releases r) chapter = refl
+no_entry Cuts chapter = refl
+
+-- what adds an entry closes nothing
+stays_open : (event : EventSeen) (given : ReplySeen) (e : EntrySeen) → added event given ≡ Some e → closed_by given ≡ None
+stays_open event (IsClosed chapter) e one = absurd (none-some e (sym (no_entry event chapter) ∙ one))
+stays_open event given e one = refl
+
+module _ (p : Start) (items : List Entry) (old : Journal) (view : journal_of p (entries_seen items) ≡ old) where
   long : length old.entries ≡ length items
   long = ap (λ j. length j.entries) (sym view) ∙ as_long items
 
@@ -59,7 +100,7 @@ module _ (p : PlanSeen) (items : List Entry) (old : Journal) (view : journal_of 
   full takes event given e row one is =
       let r = full_reply old event given e row one (long ∙ is) in
       let o : added event (reply old event) ≡ None = ap (added event) r ∙ added_full event in
-      record { replied = record { reply_is = sym r; new_is = sym (ap (with_added old) o) }; note_is = note_none takes ∙ ap (noted takes) (sym o) }
+      record { replied = record { reply_is = sym r; new_is = sym (ap (or_next (with_added old (added event (reply old event)))) (ap closed_by r) ∙ ap (with_added old) o) }; note_is = note_none takes ∙ ap (noted takes) (sym o) }
 
   -- it would add an entry, and memory is wanting
   pub short : (mid : List Entry) (event : EventSeen) (given : ReplySeen) (e : EntrySeen) → reply_to old event ≡ given → added event given ≡ Some e → length items < most → mid ≡ items → Refused old event event (journal_of p (entries_seen mid))
@@ -80,7 +121,7 @@ module _ (p : PlanSeen) (items : List Entry) (old : Journal) (view : journal_of 
       record {
         replied = record {
           reply_is = sym r;
-          new_is = ap (journal_of p) (entered items more e (is ∙ ap (λ l. l ++ e ∷ []) same)) ∙ ap (λ j. with_entry j (entry_seen e)) view ∙ sym (ap (with_added old) o);
+          new_is = ap (journal_of p) (entered items more e (is ∙ ap (λ l. l ++ e ∷ []) same)) ∙ ap (λ j. with_entry j (entry_seen e)) view ∙ sym (ap (or_next (with_added old (added event (reply old event)))) (ap closed_by r ∙ stays_open event given (entry_seen e) one) ∙ ap (with_added old) o);
         };
         note_is = told ∙ ap (noted takes) (sym o);
       }

@@ -1,5 +1,5 @@
 -- What the calls of plans, messages and translations answer, in the gate's words.
-use Rattle.std.proofs.Common.{◌≡◌, ◌↔◌, ◌&&◌, ◌==◌, ◌∙◌, ℕ, Bool, true, false, IsTrue, List, [], ◌∷◌, map, length, slice_get, Some, refl, sym, ap, arith}
+use Rattle.std.proofs.Common.{◌≡◌, ◌↔◌, ◌&&◌, ◌==◌, ◌∙◌, ℕ, Bool, true, false, IsTrue, List, [], ◌∷◌, map, length, slice_get, Some, refl, sym, ap, arith, subst}
 use Rattle.std.specs.Prelude.{Result, Ok, Err, bytes_eq, nat_eq, ◌||◌}
 use Rattle.std.specs.List.{list_any}
 use Rattle.std.specs.FinMap.{same_entries_map}
@@ -7,17 +7,20 @@ use Rattle.std.proofs.lemmas.Grind.{common_steps}
 use Rattle.std.proofs.lemmas.List.{length-map}
 use Rattle.std.proofs.lemmas.Bool.{false≢true}
 use Rattle.std.proofs.lemmas.Slice.Eq.{bytes_eq-Decides}
-use Rattle.gw_er7.specs.Message.{SegmentValue}
-use Rattle.gw_plan.specs.Shapes.{Leg, RouteValue}
+use Rattle.gw_er7.specs.Message.{SegmentValue, IsMessage}
+use Rattle.gw_validate.specs.Conforming.{Conforms}
+use Rattle.gw_plan.specs.Shapes.{Leg, RouteValue, PlanValue}
 use Rattle.gw_check.specs.Kept.{CheckedValue}
 use Rattle.gw_plan.specs.Held.{PlanHeld, RouteHeld, plan_value, route_value, leg}
 use Rattle.gw_plan.specs.Routing.{routed}
 use Rattle.gw_plan.specs.Whole.{spelled}
 use Rattle.gw_plan.specs.Admitted.{ConformingHeld, IsOf, IsUnder, IsSameSource}
-use Rattle.gw_plan.specs.Translating.{TranslatedHeld, IsSameTranslated, Translates}
+use Rattle.gw_plan.specs.Translating.{TranslatedHeld, IsSameTranslated, MakesFor, Translates}
 use Rattle.gw_gate.specs.Parts.{MessageSeen, delivers, is_under, same_message, same_receivers, same_source, same_translated}
 use Rattle.gw_gate.specs.Seen.{segment_seen, message_seen, plan_seen, receivers_by, conforming_seen, translated_seen}
-use Rattle.gw_gate.specs.Meaning.{Makes}
+use Rattle.gw_gate.specs.Meaning.{Admits, Makes}
+use Rattle.gw_plan.proofs.Once.{made_once}
+use Rattle.gw_plan.proofs.Routes.{ok_same}
 use Rattle.gw_gate.proofs.Sames.{and_both, and_true, message_decides, receivers_decide}
 
 -- two answers that say the same
@@ -149,12 +152,30 @@ makes t is spells = record {
   result_is = refl;
   plan = plan_value t.source.plan;
   spells = spells;
-  route = is.route;
-  routed_so = is.routed_so;
-  by = is.by;
-  leg = is.leg;
-  tree = is.tree;
-  is_tree = is.is_tree;
-  means = is.means;
-  conforms = is.conforms;
+  makes = is;
+}
+
+-- of one message, for one receiver, one message
+pub makes_once : (text : List ℕ) (message : MessageSeen) (r : ℕ) (made other : MessageSeen) → Makes text message r made → Makes text message r other → made ≡ other
+makes_once text message r made other x y =
+    let source : y.source ≡ x.source = same_messages y.source x.source (y.source_is ∙ sym x.source_is) in
+    let plan : y.plan ≡ x.plan = ok_same (spelled text) y.spells x.spells in
+    let again : MakesFor x.plan x.source r y.result =
+    subst (λ (m : List SegmentValue). MakesFor x.plan m r y.result) source (subst (λ (p : PlanValue). MakesFor p y.source r y.result) plan y.makes) in
+    sym x.result_is ∙ ap message_seen (made_once x.plan x.source r x.result y.result x.makes again) ∙ y.result_is
+
+-- ---- what a plan admits
+
+pub admits : (c : ConformingHeld) (route : RouteValue) → routed (plan_value c.plan) c.tree.message ≡ Ok route → spelled c.plan.text ≡ Ok (plan_value c.plan)
+    → IsMessage c.tree.message → Conforms route.profile c.tree.message → Admits (conforming_seen c)
+admits c route routed_so spells is_message conforms = record {
+  message = c.tree.message;
+  message_is = refl;
+  is_message = is_message;
+  plan = plan_value c.plan;
+  spells = spells;
+  route = route;
+  routed_so = routed_so;
+  receivers = sym (ap receivers_by routed_so);
+  conforms = conforms;
 }

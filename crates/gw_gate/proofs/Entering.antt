@@ -3,7 +3,7 @@ use Rattle.std.proofs.Common.{◌≡◌, ◌+◌, List, [], ◌∷◌, ◌++◌,
 use Rattle.std.proofs.lemmas.List.{map-append, length-map}
 use Rattle.gw_gate.specs.declared.event.Entry.{Entry}
 use Rattle.gw_gate.specs.Journal.{EntrySeen, WasAccepted, WasRefused, WasTaken, WasIssued, pair, arrivals, issued, jobs}
-use Rattle.gw_gate.specs.Values.{entry_seen, entries_seen}
+use Rattle.gw_gate.specs.Entries.{entry_seen, entries_seen}
 
 pub arrivals-append : (g h : List EntrySeen) → arrivals (g ++ h) ≡ arrivals g + arrivals h
 arrivals-append [] h = sym (zero-add (arrivals h))

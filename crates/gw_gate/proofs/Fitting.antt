@@ -5,7 +5,7 @@ use Rattle.gw_reorder.specs.State.{DeskState, SameButRoom}
 use Rattle.gw_reorder.specs.Calls.{after_holding, next_of, after_giving}
 use Rattle.std.proofs.lemmas.Bool.{cases_eq}
 use Rattle.gw_gate.specs.Parts.{PlanSeen, ConformingSeen, TranslatedSeen}
-use Rattle.gw_gate.specs.Journal.{EntrySeen, WasAccepted, WasRefused, WasSwapped, WasTaken, WasKept, WasIssued, WasOut, Pair, pair, Acceptance, Version, opening, swapped, accepted, arrivals, issued, jobs, due, is_due, kept, released, current, last_of}
+use Rattle.gw_gate.specs.Journal.{EntrySeen, WasAccepted, WasRefused, WasSwapped, WasTaken, WasKept, WasIssued, WasOut, Pair, pair, Acceptance, Version, swapped, accepted, arrivals, issued, jobs, due, is_due, kept, released, current, last_of, Start}
 use Rattle.gw_gate.specs.Replies.{most}
 use Rattle.gw_gate.specs.Headline.{CountFrom}
 use Rattle.gw_gate.specs.own.Desks.{due_to}
@@ -13,7 +13,7 @@ use Rattle.gw_gate.specs.own.Books.{given, BooksSeen, journal_of, StandsAt, Fits
 use Rattle.gw_gate.proofs.Journals.{accepted-append, current-append}
 use Rattle.gw_gate.proofs.Numbering.{n_of, count_last}
 use Rattle.gw_gate.specs.declared.event.Entry.{Entry}
-use Rattle.gw_gate.specs.Values.{entry_seen, entries_seen}
+use Rattle.gw_gate.specs.Entries.{entry_seen, entries_seen}
 use Rattle.gw_gate.proofs.Entering.{entered, as_long, arrivals-append, jobs-append, issued-append}
 use Rattle.gw_gate.proofs.Standing.{desk_same, desk_accepted, desk_kept, desk_kept_other, desk_out, desk_out_other, stands_same}
 
@@ -22,46 +22,46 @@ use Rattle.gw_gate.proofs.Standing.{desk_same, desk_accepted, desk_kept, desk_ke
 one_more : (h : List EntrySeen) (e : EntrySeen) → length (h ++ e ∷ []) ≡ length h + 1
 one_more h e = length-append h (e ∷ [])
 
-plans_same : (p : PlanSeen) (h : List EntrySeen) (e : EntrySeen) (v : ℕ) (now : PlanSeen) → swapped (e ∷ []) ≡ [] → FitsPlan p h v now → FitsPlan p (h ++ e ∷ []) v now
+plans_same : (p : Start) (h : List EntrySeen) (e : EntrySeen) (v : ℕ) (now : PlanSeen) → swapped (e ∷ []) ≡ [] → FitsPlan p h v now → FitsPlan p (h ++ e ∷ []) v now
 plans_same p h e v now none was =
-    let same : current (journal_of p (h ++ e ∷ [])) ≡ current (journal_of p h) = current-append (opening p) h (e ∷ []) ∙ ap (last_of (current (journal_of p h))) none in
+    let same : current (journal_of p (h ++ e ∷ [])) ≡ current (journal_of p h) = current-append p h (e ∷ []) ∙ ap (last_of (current (journal_of p h))) none in
     record {
       version_is = was.version_is ∙ ap (λ x. x.number) (sym same);
       plan_is = was.plan_is ∙ ap (λ x. x.plan) (sym same);
       few = let f = was.few in omega (arith, one_more h e);
     }
 
-arrivals_same : (h : List EntrySeen) (e : EntrySeen) (count : ℕ) → arrivals (e ∷ []) ≡ 0 → FitsArrivals h count → FitsArrivals (h ++ e ∷ []) count
-arrivals_same h e count none was = let c = was.count_is in let f = was.few in record { count_is = omega (arith, arrivals-append h (e ∷ [])); few = omega (arith, one_more h e) }
+arrivals_same : (p : Start) (h : List EntrySeen) (e : EntrySeen) (count : ℕ) → arrivals (e ∷ []) ≡ 0 → FitsArrivals p h count → FitsArrivals p (h ++ e ∷ []) count
+arrivals_same p h e count none was = let c = was.count_is in let f = was.few in record { count_is = omega (arith, arrivals-append h (e ∷ [])); few = omega (arith, one_more h e) }
 
-arrivals_more : (h : List EntrySeen) (e : EntrySeen) (count : ℕ) → arrivals (e ∷ []) ≡ 1 → FitsArrivals h count → FitsArrivals (h ++ e ∷ []) (count + 1)
-arrivals_more h e count one was = let c = was.count_is in let f = was.few in record { count_is = omega (arith, arrivals-append h (e ∷ [])); few = omega (arith, one_more h e) }
+arrivals_more : (p : Start) (h : List EntrySeen) (e : EntrySeen) (count : ℕ) → arrivals (e ∷ []) ≡ 1 → FitsArrivals p h count → FitsArrivals p (h ++ e ∷ []) (count + 1)
+arrivals_more p h e count one was = let c = was.count_is in let f = was.few in record { count_is = omega (arith, arrivals-append h (e ∷ [])); few = omega (arith, one_more h e) }
 
 -- the pairs that an entry issues and the jobs that it takes
-queue_more : (h : List EntrySeen) (e : EntrySeen) (all : List ConformingSeen) (pairs more : List Pair) (taken k : ℕ) → accepted (e ∷ []) ≡ [] → issued (e ∷ []) ≡ more → jobs (e ∷ []) ≡ k → k ≤ 1 → FitsQueue h all pairs taken
-    → FitsQueue (h ++ e ∷ []) all (pairs ++ more) (taken + k)
-queue_more h e all pairs more taken k none is jobs under was =
+queue_more : (p : Start) (h : List EntrySeen) (e : EntrySeen) (all : List ConformingSeen) (pairs more : List Pair) (taken k : ℕ) → accepted (e ∷ []) ≡ [] → issued (e ∷ []) ≡ more → jobs (e ∷ []) ≡ k → k ≤ 1 → FitsQueue p h all pairs taken
+    → FitsQueue p (h ++ e ∷ []) all (pairs ++ more) (taken + k)
+queue_more p h e all pairs more taken k none is jobs under was =
     let a : accepted (h ++ e ∷ []) ≡ accepted h = accepted-append h (e ∷ []) ∙ ap (λ l. accepted h ++ l) none ∙ append-nil (accepted h) in
     let t = was.taken_is in
     record {
       accepted_are = was.accepted_are ∙ ap (map (λ x. x.conforming)) (sym a);
-      numbered = subst (λ l. CountFrom 0 (map n_of l)) (sym a) was.numbered;
+      numbered = subst (λ l. CountFrom p.acceptances (map n_of l)) (sym a) was.numbered;
       issued_are = ap (λ l. l ++ more) was.issued_are ∙ ap (λ l. issued h ++ l) (sym is) ∙ sym (issued-append h (e ∷ []));
       taken_is = omega (arith, jobs-append h (e ∷ []), jobs);
       few = let f = was.few in omega (arith, one_more h e, under);
     }
 
-queue_same : (h : List EntrySeen) (e : EntrySeen) (all : List ConformingSeen) (pairs : List Pair) (taken : ℕ) → accepted (e ∷ []) ≡ [] → issued (e ∷ []) ≡ [] → jobs (e ∷ []) ≡ 0 → FitsQueue h all pairs taken
-    → FitsQueue (h ++ e ∷ []) all pairs taken
-queue_same h e all pairs taken none is zero was =
+queue_same : (p : Start) (h : List EntrySeen) (e : EntrySeen) (all : List ConformingSeen) (pairs : List Pair) (taken : ℕ) → accepted (e ∷ []) ≡ [] → issued (e ∷ []) ≡ [] → jobs (e ∷ []) ≡ 0 → FitsQueue p h all pairs taken
+    → FitsQueue p (h ++ e ∷ []) all pairs taken
+queue_same p h e all pairs taken none is zero was =
     let same : taken + 0 ≡ taken = omega arith in
-    subst (λ l. FitsQueue (h ++ e ∷ []) all l taken) (append-nil pairs) (subst (FitsQueue (h ++ e ∷ []) all (pairs ++ [])) same (queue_more h e all pairs [] taken 0 none is zero (omega arith) was))
+    subst (λ l. FitsQueue p (h ++ e ∷ []) all l taken) (append-nil pairs) (subst (FitsQueue p (h ++ e ∷ []) all (pairs ++ [])) same (queue_more p h e all pairs [] taken 0 none is zero (omega arith) was))
 
 within_more : (h : List EntrySeen) (e : EntrySeen) → length h < most → length (h ++ e ∷ []) ≤ most
 within_more h e room = omega (arith, one_more h e)
 
 -- the program's journal has one entry more
-pub fits_more : (p : PlanSeen) (items mid more : List Entry) (e : Entry) (b next : BooksSeen) → mid ≡ items → more ≡ mid ++ e ∷ [] → length items ≢ most → Fits p (entries_seen items) b
+pub fits_more : (p : Start) (items mid more : List Entry) (e : Entry) (b next : BooksSeen) → mid ≡ items → more ≡ mid ++ e ∷ [] → length items ≢ most → Fits p (entries_seen items) b
     → (length (entries_seen items) < most → Fits p (entries_seen items ++ entry_seen e ∷ []) next) → Fits p (entries_seen more) next
 fits_more p items mid more e b next same is room was then =
     let w = was.within in
@@ -69,55 +69,59 @@ fits_more p items mid more e b next same is room was then =
 
 -- ---- each entry
 
-pub fits_refused : (p : PlanSeen) (h : List EntrySeen) (b : BooksSeen) (arrival code : ℕ) → length h < most → Fits p h b → Fits p (h ++ WasRefused arrival code ∷ []) (record b { arrivals = b.arrivals + 1 })
+pub fits_refused : (p : Start) (h : List EntrySeen) (b : BooksSeen) (arrival code : ℕ) → length h < most → Fits p h b → Fits p (h ++ WasRefused arrival code ∷ []) (record b { arrivals = b.arrivals + 1 })
 fits_refused p h b arrival code room was =
     let e = WasRefused arrival code in
     record {
+      starts = was.starts;
       plans = plans_same p h e b.version b.plan refl was.plans;
-      arrivals = arrivals_more h e b.arrivals refl was.arrivals;
-      queue = queue_same h e b.accepted b.issued b.jobs refl refl refl was.queue;
+      arrivals = arrivals_more p h e b.arrivals refl was.arrivals;
+      queue = queue_same p h e b.accepted b.issued b.jobs refl refl refl was.queue;
       desks = λ r. desk_same h (e ∷ []) r (b.desk r) refl refl (λ n. refl) (was.desks r);
       within = within_more h e room;
     }
 
-pub fits_swapped : (p : PlanSeen) (h : List EntrySeen) (b : BooksSeen) (v : ℕ) (q : PlanSeen) → v ≡ b.version + 1 → length h < most → Fits p h b → Fits p (h ++ WasSwapped v q ∷ []) (record b { version = v; plan = q })
+pub fits_swapped : (p : Start) (h : List EntrySeen) (b : BooksSeen) (v : ℕ) (q : PlanSeen) → v ≡ b.version + 1 → length h < most → Fits p h b → Fits p (h ++ WasSwapped v q ∷ []) (record b { version = v; plan = q })
 fits_swapped p h b v q next room was =
     let e = WasSwapped v q in
     let new : Version = record { number = v; plan = q } in
-    let last : current (journal_of p (h ++ e ∷ [])) ≡ new = current-append (opening p) h (e ∷ []) in
+    let last : current (journal_of p (h ++ e ∷ [])) ≡ new = current-append p h (e ∷ []) in
     let f = was.plans.few in
     record {
+      starts = was.starts;
       plans = record { version_is = ap (λ x. x.number) (sym last); plan_is = ap (λ x. x.plan) (sym last); few = omega (arith, one_more h e) };
-      arrivals = arrivals_same h e b.arrivals refl was.arrivals;
-      queue = queue_same h e b.accepted b.issued b.jobs refl refl refl was.queue;
+      arrivals = arrivals_same p h e b.arrivals refl was.arrivals;
+      queue = queue_same p h e b.accepted b.issued b.jobs refl refl refl was.queue;
       desks = λ r. desk_same h (e ∷ []) r (b.desk r) refl refl (λ n. refl) (was.desks r);
       within = within_more h e room;
     }
 
-pub fits_taken : (p : PlanSeen) (h : List EntrySeen) (b : BooksSeen) (n r : ℕ) → length h < most → Fits p h b → Fits p (h ++ WasTaken n r ∷ []) (record b { jobs = b.jobs + 1 })
+pub fits_taken : (p : Start) (h : List EntrySeen) (b : BooksSeen) (n r : ℕ) → length h < most → Fits p h b → Fits p (h ++ WasTaken n r ∷ []) (record b { jobs = b.jobs + 1 })
 fits_taken p h b n to room was =
     let e = WasTaken n to in
     record {
+      starts = was.starts;
       plans = plans_same p h e b.version b.plan refl was.plans;
-      arrivals = arrivals_same h e b.arrivals refl was.arrivals;
-      queue = subst (λ l. FitsQueue (h ++ e ∷ []) b.accepted l (b.jobs + 1)) (append-nil b.issued) (queue_more h e b.accepted b.issued [] b.jobs 1 refl refl refl (omega arith) was.queue);
+      arrivals = arrivals_same p h e b.arrivals refl was.arrivals;
+      queue = subst (λ l. FitsQueue p (h ++ e ∷ []) b.accepted l (b.jobs + 1)) (append-nil b.issued) (queue_more p h e b.accepted b.issued [] b.jobs 1 refl refl refl (omega arith) was.queue);
       desks = λ r. desk_same h (e ∷ []) r (b.desk r) refl refl (λ n. refl) (was.desks r);
       within = within_more h e room;
     }
 
-pub fits_issued : (p : PlanSeen) (h : List EntrySeen) (b : BooksSeen) (n r : ℕ) → length h < most → Fits p h b → Fits p (h ++ WasIssued n r ∷ []) (record b { issued = b.issued ++ pair n r ∷ [] })
+pub fits_issued : (p : Start) (h : List EntrySeen) (b : BooksSeen) (n r : ℕ) → length h < most → Fits p h b → Fits p (h ++ WasIssued n r ∷ []) (record b { issued = b.issued ++ pair n r ∷ [] })
 fits_issued p h b n to room was =
     let e = WasIssued n to in
     let same : b.jobs + 0 ≡ b.jobs = omega arith in
     record {
+      starts = was.starts;
       plans = plans_same p h e b.version b.plan refl was.plans;
-      arrivals = arrivals_same h e b.arrivals refl was.arrivals;
-      queue = subst (FitsQueue (h ++ e ∷ []) b.accepted (b.issued ++ pair n to ∷ [])) same (queue_more h e b.accepted b.issued (pair n to ∷ []) b.jobs 0 refl refl refl (omega arith) was.queue);
+      arrivals = arrivals_same p h e b.arrivals refl was.arrivals;
+      queue = subst (FitsQueue p (h ++ e ∷ []) b.accepted (b.issued ++ pair n to ∷ [])) same (queue_more p h e b.accepted b.issued (pair n to ∷ []) b.jobs 0 refl refl refl (omega arith) was.queue);
       desks = λ r. desk_same h (e ∷ []) r (b.desk r) refl refl (λ n. refl) (was.desks r);
       within = within_more h e room;
     }
 
-pub fits_accepted : (p : PlanSeen) (h : List EntrySeen) (b : BooksSeen) (n arrival : ℕ) (c : ConformingSeen) (desk : ℕ → DeskState TranslatedSeen) → n ≡ length (accepted h) → ((r : ℕ) → desk r ≡ due_to c n r (b.desk r)) → length h < most
+pub fits_accepted : (p : Start) (h : List EntrySeen) (b : BooksSeen) (n arrival : ℕ) (c : ConformingSeen) (desk : ℕ → DeskState TranslatedSeen) → n ≡ p.acceptances + length (accepted h) → ((r : ℕ) → desk r ≡ due_to c n r (b.desk r)) → length h < most
     → Fits p h b → Fits p (h ++ WasAccepted n arrival c ∷ []) (record b { arrivals = b.arrivals + 1; accepted = b.accepted ++ c ∷ []; issued = b.issued ++ map (pair n) c.receivers; desk = desk })
 fits_accepted p h b n arrival c desk is due room was =
     let e = WasAccepted n arrival c in
@@ -126,43 +130,46 @@ fits_accepted p h b n arrival c desk is due room was =
     let m : map n_of (accepted (h ++ e ∷ [])) ≡ map n_of (accepted h) ++ n ∷ [] = ap (map n_of) a ∙ map-append n_of (accepted h) (new ∷ []) in
     let t = was.queue.taken_is in
     record {
+      starts = was.starts;
       plans = plans_same p h e b.version b.plan refl was.plans;
-      arrivals = arrivals_more h e b.arrivals refl was.arrivals;
+      arrivals = arrivals_more p h e b.arrivals refl was.arrivals;
       queue = record {
         accepted_are = ap (λ l. l ++ c ∷ []) was.queue.accepted_are ∙ sym (ap (map (λ x. x.conforming)) a ∙ map-append (λ x. x.conforming) (accepted h) (new ∷ []));
-        numbered = subst (CountFrom 0) (sym m) (count_last 0 (map n_of (accepted h)) n (let l = length-map (accepted h) n_of in omega (arith, is, l)) was.queue.numbered);
+        numbered = subst (CountFrom p.acceptances) (sym m) (count_last p.acceptances (map n_of (accepted h)) n (let l = length-map (accepted h) n_of in omega (arith, is, l)) was.queue.numbered);
         issued_are = ap (λ l. l ++ map (pair n) c.receivers) was.queue.issued_are ∙ ap (λ l. issued h ++ l) (sym (append-nil (map (pair n) c.receivers))) ∙ sym (issued-append h (e ∷ []));
         taken_is = omega (arith, jobs-append h (e ∷ []));
         few = let f = was.queue.few in omega (arith, one_more h e);
       };
-      desks = λ r. desk_accepted h n arrival r c (b.desk r) (desk r) was.queue.numbered is (due r) (was.desks r);
+      desks = λ r. desk_accepted h p.acceptances n arrival r c (b.desk r) (desk r) was.queue.numbered is (due r) (was.desks r);
       within = within_more h e room;
     }
 
-pub fits_kept : (p : PlanSeen) (h : List EntrySeen) (b : BooksSeen) (m r : ℕ) (t : TranslatedSeen) (desk : ℕ → DeskState TranslatedSeen) → t.receiver ≡ r → is_due h m r ≡ true → desk r ≡ after_holding (b.desk r) m t → ((q : ℕ) → q ≢ r → desk q ≡ b.desk q) → length h < most
+pub fits_kept : (p : Start) (h : List EntrySeen) (b : BooksSeen) (m r : ℕ) (t : TranslatedSeen) (desk : ℕ → DeskState TranslatedSeen) → t.receiver ≡ r → is_due h m r ≡ true → desk r ≡ after_holding (b.desk r) m t → ((q : ℕ) → q ≢ r → desk q ≡ b.desk q) → length h < most
     → Fits p h b → Fits p (h ++ WasKept m t ∷ []) (record b { desk = desk })
 fits_kept p h b m r t desk to due this others room was =
     let e = WasKept m t in
     record {
+      starts = was.starts;
       plans = plans_same p h e b.version b.plan refl was.plans;
-      arrivals = arrivals_same h e b.arrivals refl was.arrivals;
-      queue = queue_same h e b.accepted b.issued b.jobs refl refl refl was.queue;
+      arrivals = arrivals_same p h e b.arrivals refl was.arrivals;
+      queue = queue_same p h e b.accepted b.issued b.jobs refl refl refl was.queue;
       desks = λ q. by q (cases_eq q r);
       within = within_more h e room;
     }
   where
     by : (q : ℕ) → (q ≡ r) ⊎ (q ≢ r) → StandsAt (h ++ WasKept m t ∷ []) q (desk q)
-    by q (inl same) = subst (λ z. StandsAt (h ++ WasKept m t ∷ []) z (desk z)) (sym same) (desk_kept h m r t (b.desk r) (desk r) was.queue.numbered to due this (was.desks r))
+    by q (inl same) = subst (λ z. StandsAt (h ++ WasKept m t ∷ []) z (desk z)) (sym same) (desk_kept h p.acceptances m r t (b.desk r) (desk r) was.queue.numbered to due this (was.desks r))
     by q (inr other) = desk_kept_other h m q t (b.desk q) (desk q) (λ e. other (sym e ∙ to)) (others q other) (was.desks q)
 
-pub fits_out : (p : PlanSeen) (h : List EntrySeen) (b : BooksSeen) (n r : ℕ) (t : TranslatedSeen) (desk : ℕ → DeskState TranslatedSeen) → next_of (b.desk r) ≡ Some (n, t) → SameButRoom (after_giving (b.desk r) (next_of (b.desk r))) (desk r) → ((q : ℕ) → q ≢ r → desk q ≡ b.desk q) → length h < most
+pub fits_out : (p : Start) (h : List EntrySeen) (b : BooksSeen) (n r : ℕ) (t : TranslatedSeen) (desk : ℕ → DeskState TranslatedSeen) → next_of (b.desk r) ≡ Some (n, t) → SameButRoom (after_giving (b.desk r) (next_of (b.desk r))) (desk r) → ((q : ℕ) → q ≢ r → desk q ≡ b.desk q) → length h < most
     → Fits p h b → Fits p (h ++ WasOut n r t ∷ []) (record b { desk = desk })
 fits_out p h b n r t desk next this others room was =
     let e = WasOut n r t in
     record {
+      starts = was.starts;
       plans = plans_same p h e b.version b.plan refl was.plans;
-      arrivals = arrivals_same h e b.arrivals refl was.arrivals;
-      queue = queue_same h e b.accepted b.issued b.jobs refl refl refl was.queue;
+      arrivals = arrivals_same p h e b.arrivals refl was.arrivals;
+      queue = queue_same p h e b.accepted b.issued b.jobs refl refl refl was.queue;
       desks = λ q. by q (cases_eq q r);
       within = within_more h e room;
     }
@@ -172,8 +179,9 @@ fits_out p h b n r t desk next this others room was =
     by q (inr other) = desk_out_other h n r q t (b.desk q) (desk q) (λ e. other (sym e)) (others q other) (was.desks q)
 
 -- more room changes nothing
-pub fits_roomier : (p : PlanSeen) (h : List EntrySeen) (b : BooksSeen) (desk : ℕ → DeskState TranslatedSeen) → ((r : ℕ) → SameButRoom (b.desk r) (desk r)) → Fits p h b → Fits p h (record b { desk = desk })
+pub fits_roomier : (p : Start) (h : List EntrySeen) (b : BooksSeen) (desk : ℕ → DeskState TranslatedSeen) → ((r : ℕ) → SameButRoom (b.desk r) (desk r)) → Fits p h b → Fits p h (record b { desk = desk })
 fits_roomier p h b desk same was = record {
+  starts = was.starts;
   plans = was.plans;
   arrivals = was.arrivals;
   queue = was.queue;

@@ -3,8 +3,8 @@ use Rattle.std.proofs.Common.{◌≡◌, Bool, List, [], ◌∷◌, Option, None
 use Rattle.std.specs.Prelude.{Result, Ok, Err}
 use Rattle.gw_gate.specs.Parts.{TranslatedSeen}
 use Rattle.gw_gate.specs.Journal.{EntrySeen, Journal}
-use Rattle.gw_gate.specs.Replies.{EventSeen, ReplySeen, added, most, reply, with_added, after, run, Steps, StepsNoted}
-use Rattle.gw_gate.specs.Lawful.{IsEvent, AreEvents, more, IsLawful}
+use Rattle.gw_gate.specs.Replies.{EventSeen, ReplySeen, added, most, reply, with_added, closed_by, or_next, after, run, Steps, StepsNoted}
+use Rattle.gw_gate.specs.Lawful.{IsEvent, AreEvents, empty, more, IsLawful}
 
 module _ (IsTranslated : TranslatedSeen → Type 0) where
   pub lawful_with : (j : Journal) (event : EventSeen) (o : Option EntrySeen) → o ≡ added event (reply j event) → IsEvent IsTranslated event
@@ -12,8 +12,13 @@ module _ (IsTranslated : TranslatedSeen → Type 0) where
   lawful_with j event None is fact lawful = lawful
   lawful_with j event (Some e) is fact lawful = more j.entries event e lawful fact (sym is)
 
+  -- an empty journal is lawful, wherever it starts
+  lawful_or : (j : Journal) (o : Option Journal) → IsLawful IsTranslated j → IsLawful IsTranslated (or_next j o)
+  lawful_or j None lawful = lawful
+  lawful_or j (Some chapter) lawful = empty
+
   pub lawful_after : (j : Journal) (event : EventSeen) → IsEvent IsTranslated event → IsLawful IsTranslated j → IsLawful IsTranslated (after most j event)
-  lawful_after j event fact lawful = lawful_with j event (added event (reply j event)) refl fact lawful
+  lawful_after j event fact lawful = lawful_or (with_added j (added event (reply j event))) (closed_by (reply j event)) (lawful_with j event (added event (reply j event)) refl fact lawful)
 
   pub lawful_run : (j : Journal) (events : List EventSeen) → AreEvents IsTranslated events → IsLawful IsTranslated j → IsLawful IsTranslated (run most j events)
   lawful_run j [] facts lawful = lawful

@@ -35,10 +35,10 @@ rise_among test first (x ∷ xs) all =
       | false ↦ rise_lower first (first + 1) (map n_of (filter test xs)) (omega arith) later
     ]
 
-record Counted (start : Start) (h : List EntrySeen) : Type 0 where
-  acceptances : CountFrom start.acceptances (map n_of (accepted h))
-  versions : CountFrom (start.version + 1) (map number_of (swapped h))
-  latest : (current (journal start h)).number ≡ start.version + length (swapped h)
+pub record Counted (start : Start) (h : List EntrySeen) : Type 0 where
+  pub acceptances : CountFrom start.acceptances (map n_of (accepted h))
+  pub versions : CountFrom (start.version + 1) (map number_of (swapped h))
+  pub latest : (current (journal start h)).number ≡ start.version + length (swapped h)
 
 -- an entry that accepts nothing and swaps nothing
 count_plain : (start : Start) (h : List EntrySeen) (e : EntrySeen) → accepted (e ∷ []) ≡ [] → swapped (e ∷ []) ≡ [] → Counted start h → Counted start (h ++ e ∷ [])
@@ -84,7 +84,7 @@ count_swapped start h v p is was =
     }
 
 module _ (Means : List ℕ → MessageSeen → ℕ → MessageSeen → Type 0) where
-  count_step : (start : Start) (h : List EntrySeen) (e : EntrySeen) → Next Means (journal start h) e → Counted start h → Counted start (h ++ e ∷ [])
+  pub count_step : (start : Start) (h : List EntrySeen) (e : EntrySeen) → Next Means (journal start h) e → Counted start h → Counted start (h ++ e ∷ [])
   count_step start h (WasAccepted n arrival c) is was = count_accepted start h n arrival c is.counts was
   count_step start h (WasSwapped v p) is was = count_swapped start h v p is was
   count_step start h (WasKept n t) is was = count_plain start h (WasKept n t) refl refl was
@@ -93,7 +93,7 @@ module _ (Means : List ℕ → MessageSeen → ℕ → MessageSeen → Type 0) w
   count_step start h (WasTaken n r) is was = count_plain start h (WasTaken n r) refl refl was
   count_step start h (WasIssued n r) is was = count_plain start h (WasIssued n r) refl refl was
 
-  counted : (start : Start) (h : List EntrySeen) → Lawful (IsTranslated Means) start h → Counted start h
+  pub counted : (start : Start) (h : List EntrySeen) → Lawful (IsTranslated Means) start h → Counted start h
   counted start h empty = record { acceptances = tt; versions = tt; latest = omega arith }
   counted start h (more g event e lawful fact adds) =
       count_step start g e

@@ -9,9 +9,10 @@ use Rattle.std.proofs.lemmas.Bool.{false≢true}
 use Rattle.std.proofs.lemmas.Slice.Eq.{bytes_eq-Decides}
 use Rattle.gw_gate.specs.Parts.{MessageSeen, PlanSeen, ConformingSeen, TranslatedSeen, is_under, same_message, same_receivers}
 use Rattle.gw_gate.specs.Journal.{EntrySeen, WasAccepted, WasRefused, WasSwapped, WasTaken, WasKept, WasIssued, WasOut, Start, Journal, Version, Acceptance, Pair, Release, swapped, accepted, due, is_due, acceptance, issued, jobs, kept, released, plans, last_of, current, next_number, next_arrival}
-use Rattle.gw_gate.specs.Replies.{EventSeen, Looks, Arrives, Refuses, Swaps, Takes, Puts, Reissues, Releases, ReplySeen, IsAccepted, IsStale, IsSwapped, IsUnlike, IsKept, IsRepeat, IsStranger, IsIssued, IsDone, IsFull, job_with, job_of, is_of, is_stranger, is_kept, out_with, out_of, reply_to, added, most, limited}
+use Rattle.gw_gate.specs.Replies.{EventSeen, Looks, Arrives, Refuses, Swaps, Takes, Puts, Reissues, Releases, Cuts, ReplySeen, IsAccepted, IsStale, IsSwapped, IsUnlike, IsKept, IsRepeat, IsStranger, IsIssued, IsDone, IsFull, job_with, job_of, is_of, is_stranger, is_kept, out_with, out_of, reply_to, added, most, limited}
 use Rattle.gw_gate.specs.Lawful.{IsEvent, Lawful, empty, more, IsLawful}
 use Rattle.gw_gate.specs.Headline.{NeverFall, VersionsRise, IsTranslated, IsSent, InOrder}
+use Rattle.gw_gate.specs.Meaning.{Admits}
 use Rattle.gw_gate.proofs.Sames.{and_both, message_decides}
 use Rattle.gw_gate.proofs.Journals.{either, accepted-append, released-append, due-append, kept-append, acceptance-append, acceptance_stays, plan_stays, last_stands, current-append}
 
@@ -26,7 +27,7 @@ all_last P [] x all p = (p, tt)
 all_last P (y ∷ xs) x all p = (all.0, all_last P xs x all.1 p)
 
 -- numbers that never fall from low, and end at high at most
-abbrev rise_to : ℕ → List ℕ → ℕ → Type 0
+abbrev pub rise_to : ℕ → List ℕ → ℕ → Type 0
 rise_to low [] high = low ≤ high
 rise_to low (n ∷ ns) high = (low ≤ n) × rise_to n ns high
 
@@ -38,7 +39,7 @@ rise_further : (low : ℕ) (ns : List ℕ) (high : ℕ) → rise_to low ns high 
 rise_further low [] high is = omega arith
 rise_further low (n ∷ ns) high is = (is.0, rise_further n ns high is.1)
 
-never_falls : (low : ℕ) (ns : List ℕ) (high : ℕ) → rise_to low ns high → NeverFall low ns
+pub never_falls : (low : ℕ) (ns : List ℕ) (high : ℕ) → rise_to low ns high → NeverFall low ns
 never_falls low [] high is = tt
 never_falls low (n ∷ ns) high is = (is.0, never_falls n ns high is.1)
 
@@ -88,13 +89,14 @@ order_out h n r t is was =
 abbrev pub journal : Start → List EntrySeen → Journal
 journal start h = record { start = start; entries = h }
 
-abbrev version_of : Acceptance → ℕ
+abbrev pub version_of : Acceptance → ℕ
 version_of a = a.conforming.version
 
 pub record NextAccepted (j : Journal) (n : ℕ) (c : ConformingSeen) : Type 0 where
   pub counts : n ≡ next_number j
   pub number : c.version ≡ (current j).number
   pub text : c.text ≡ (current j).plan.text
+  pub admitted : Admits c
 
 pub record NextOut (h : List EntrySeen) (n r : ℕ) (t : TranslatedSeen) : Type 0 where
   pub due : slice_get (due h r) (length (released h r)) ≡ Some n
@@ -125,6 +127,7 @@ module _ (Means : List ℕ → MessageSeen → ℕ → MessageSeen → Type 0) w
     pub among : slice_get (plans j) place ≡ Some version
     pub number : a.conforming.version ≡ version.number
     pub text : a.conforming.text ≡ version.plan.text
+    pub admitted : Admits a.conforming
 
   abbrev pub Next : Journal → EntrySeen → Type 0
   Next j (WasAccepted n arrival c) = NextAccepted j n c
@@ -149,6 +152,7 @@ module _ (Means : List ℕ → MessageSeen → ℕ → MessageSeen → Type 0) w
     among = plan_stays start g h is.place is.version is.among;
     number = is.number;
     text = is.text;
+    admitted = is.admitted;
     means = is.means;
   }
 
@@ -159,6 +163,7 @@ module _ (Means : List ℕ → MessageSeen → ℕ → MessageSeen → Type 0) w
     among = plan_stays start g h is.place is.version is.among;
     number = is.number;
     text = is.text;
+    admitted = is.admitted;
   }
 
   sent_none : (start : Start) (h g : List EntrySeen) (r : ℕ) → released g r ≡ [] → AllByRecursion (IsSent Means (journal start h) r) (released h r)
@@ -251,6 +256,7 @@ module _ (Means : List ℕ → MessageSeen → ℕ → MessageSeen → Type 0) w
         among = last_stands first (swapped h);
         number = is.number;
         text = is.text;
+        admitted = is.admitted;
       } in
       let a : accepted (h ++ g) ≡ accepted h ++ new ∷ [] = accepted-append h g in
       let same : current (journal start (h ++ g)) ≡ current (journal start h) = current-append start h g in
@@ -316,6 +322,7 @@ module _ (Means : List ℕ → MessageSeen → ℕ → MessageSeen → Type 0) w
         among = plan.among;
         number = plan.number;
         text = plan.text;
+        admitted = plan.admitted;
         means = subst (λ x. Means x is.by.conforming.message u.receiver u.message) (is.text ∙ plan.text) (subst (λ x. Means u.source.text x u.receiver u.message) is.message is.means);
       } in
       record {
@@ -337,7 +344,7 @@ module _ (Means : List ℕ → MessageSeen → ℕ → MessageSeen → Type 0) w
         rise = rise_none start h g refl refl was;
       }
 
-  step_case : (start : Start) (h : List EntrySeen) (e : EntrySeen) → Next (journal start h) e → Sound start h → Sound start (h ++ e ∷ [])
+  pub step_case : (start : Start) (h : List EntrySeen) (e : EntrySeen) → Next (journal start h) e → Sound start h → Sound start (h ++ e ∷ [])
   step_case start h (WasAccepted n arrival c) is was = accept_case start h n arrival c is was
   step_case start h (WasSwapped v p) is was = swap_case start h v p is was
   step_case start h (WasKept n t) is was = keep_case start h n t is was
@@ -357,6 +364,11 @@ added_full Takes = refl
 added_full (Puts n t) = refl
 added_full (Reissues n r) = refl
 added_full (Releases r) = refl
+added_full Cuts = refl
+
+-- no reply to a cut adds an entry
+pub added_cut : (given : ReplySeen) → added Cuts given ≡ None
+added_cut given = refl
 
 -- an entry is added only where there is room for it
 pub unlimited : (limit : ℕ) (j : Journal) (event : EventSeen) (given : ReplySeen) (e : EntrySeen) → added event (limited limit j event given) ≡ Some e → added event given ≡ Some e
@@ -364,11 +376,11 @@ unlimited limit j event given e is =
     (elim (is_some (added event given) && nat_le limit (length j.entries)) as (λ b. added event (if b then IsFull event else given) ≡ Some e → added event given ≡ Some e)
     [ true ↦ λ x. absurd (none-some e (sym (added_full event) ∙ x)) | false ↦ λ x. x ]) is
 
-under_is : (j : Journal) (c : ConformingSeen) → is_under c (current j).number (current j).plan ≡ true → NextAccepted j (next_number j) c
-under_is j c is =
+under_is : (j : Journal) (c : ConformingSeen) → is_under c (current j).number (current j).plan ≡ true → Admits c → NextAccepted j (next_number j) c
+under_is j c is admitted =
     let both = and_both (c.version == (current j).number) (bytes_eq c.text (current j).plan.text) is in
     let number = both.0 in
-    record { counts = refl; number = grind (arith, common_steps, number); text = (bytes_eq-Decides c.text (current j).plan.text).0 both.1 }
+    record { counts = refl; number = grind (arith, common_steps, number); text = (bytes_eq-Decides c.text (current j).plan.text).0 both.1; admitted = admitted }
 
 out_is : (h : List EntrySeen) (n r : ℕ) (o : Option TranslatedSeen) (e : EntrySeen) → o ≡ kept h n r → added (Releases r) (out_with n o) ≡ Some e
     → (t : TranslatedSeen) × (e ≡ WasOut n r t) × (kept h n r ≡ Some t)
@@ -424,7 +436,7 @@ module _ (Means : List ℕ → MessageSeen → ℕ → MessageSeen → Type 0) w
       let v = (current j).number in
       let p = (current j).plan in
       (elim (is_under c v p) as (λ b. is_under c v p ≡ b → added (Arrives c) (if b then IsAccepted (next_number j) (next_arrival j) else IsStale v c) ≡ Some e → Next Means j e) [
-        | true ↦ λ under x. subst (Next Means j) (some_is (WasAccepted (next_number j) (next_arrival j) c) e x) (under_is j c under)
+        | true ↦ λ under x. subst (Next Means j) (some_is (WasAccepted (next_number j) (next_arrival j) c) e x) (under_is j c under fact)
         | false ↦ λ under x. absurd (none-some e x)
       ]) refl is
   next j (Refuses code) e fact is = subst (Next Means j) (some_is (WasRefused (next_arrival j) code) e is) tt
@@ -448,9 +460,10 @@ module _ (Means : List ℕ → MessageSeen → ℕ → MessageSeen → Type 0) w
           | false ↦ λ x. subst (Next Means j) (some_is (WasIssued n r) e x) tt
         ]
       ]) is
+  next j Cuts e fact is = absurd (none-some e (sym (added_cut (reply_to j Cuts)) ∙ is))
   next j (Releases r) e fact is = released_is j r (slice_get (due j.entries r) (length (released j.entries r))) e refl is
 
-  sound : (start : Start) (h : List EntrySeen) → Lawful (IsTranslated Means) start h → Sound Means start h
+  pub sound : (start : Start) (h : List EntrySeen) → Lawful (IsTranslated Means) start h → Sound Means start h
   sound start h empty = record {
     order = λ r. record { within = omega arith; first = refl };
     sent = λ r. tt;

@@ -41,8 +41,8 @@ rise_strict low (n ∷ m ∷ ns) all (suc k) lt =
     let next : suc (k + 1) ≡ suc k + 1 = omega arith in
     subst (λ j. get_or (n ∷ m ∷ ns) (suc k) 0 < get_or (n ∷ m ∷ ns) j 0) next (rise_strict (n + 1) (m ∷ ns) all.1 k (omega arith))
 
-pub due_rises : (h : List EntrySeen) (r : ℕ) → CountFrom 0 (map n_of (accepted h)) → IsStrictlyIncreasing (due h r)
-due_rises h r counted = rise_strict 0 (due h r) (rise_among (λ a. delivers a.conforming r) 0 (accepted h) counted)
+pub due_rises : (h : List EntrySeen) (first r : ℕ) → CountFrom first (map n_of (accepted h)) → IsStrictlyIncreasing (due h r)
+due_rises h first r counted = rise_strict first (due h r) (rise_among (λ a. delivers a.conforming r) first (accepted h) counted)
 
 count_below : (test : Acceptance → Bool) (first : ℕ) (xs : List Acceptance) → CountFrom first (map n_of xs) → All (λ m. m < first + length xs) (map n_of (filter test xs))
 count_below test first [] all = All-nil (λ m. m < first + 0)
@@ -55,9 +55,9 @@ count_below test first (x ∷ xs) all =
       | false ↦ later
     ]
 
-pub due_below : (h : List EntrySeen) (r n : ℕ) → CountFrom 0 (map n_of (accepted h)) → n ≡ length (accepted h) → All (λ m. m < n) (due h r)
-due_below h r n counted is =
-    All-weaker (λ m. m < 0 + length (accepted h)) (λ m. m < n) (λ m lt. omega (arith, lt, is)) (due h r) (count_below (λ a. delivers a.conforming r) 0 (accepted h) counted)
+pub due_below : (h : List EntrySeen) (first r n : ℕ) → CountFrom first (map n_of (accepted h)) → n ≡ first + length (accepted h) → All (λ m. m < n) (due h r)
+due_below h first r n counted is =
+    All-weaker (λ m. m < first + length (accepted h)) (λ m. m < n) (λ m lt. omega (arith, lt, is)) (due h r) (count_below (λ a. delivers a.conforming r) first (accepted h) counted)
 
 -- ---- desks
 
@@ -84,8 +84,8 @@ desk_same h g r s a o k old =
     old
 
 -- a message was accepted
-pub desk_accepted : (h : List EntrySeen) (n arrival r : ℕ) (c : ConformingSeen) (s t : Desk) → CountFrom 0 (map n_of (accepted h)) → n ≡ length (accepted h) → t ≡ due_to c n r s → StandsAt h r s → StandsAt (h ++ WasAccepted n arrival c ∷ []) r t
-desk_accepted h n arrival r c s t counted is same old = by (delivers c r) refl
+pub desk_accepted : (h : List EntrySeen) (first n arrival r : ℕ) (c : ConformingSeen) (s t : Desk) → CountFrom first (map n_of (accepted h)) → n ≡ first + length (accepted h) → t ≡ due_to c n r s → StandsAt h r s → StandsAt (h ++ WasAccepted n arrival c ∷ []) r t
+desk_accepted h first n arrival r c s t counted is same old = by (delivers c r) refl
   where
     e : List EntrySeen
     e = WasAccepted n arrival c ∷ []
@@ -94,7 +94,7 @@ desk_accepted h n arrival r c s t counted is same old = by (delivers c r) refl
     new = record { n = n; conforming = c }
 
     stands : (b : Bool) → delivers c r ≡ b → Stands (if b then with_due s n else s) (due h r ++ map n_of (cond b (new ∷ []) [])) (map given (released h r)) (λ m. kept h m r)
-    stands true e = more_due s (due h r) (map given (released h r)) (λ m. kept h m r) n old (rising_more (due h r) n (due_rises h r counted) (due_below h r n counted is))
+    stands true e = more_due s (due h r) (map given (released h r)) (λ m. kept h m r) n old (rising_more (due h r) n (due_rises h first r counted) (due_below h first r n counted is))
     stands false e = subst (λ l. Stands s l (map given (released h r)) (λ m. kept h m r)) (sym (append-nil (due h r))) old
 
     by : (b : Bool) → delivers c r ≡ b → StandsAt (h ++ WasAccepted n arrival c ∷ []) r t
@@ -186,15 +186,15 @@ either_earlier : {X : Type 0} (o p : Option X) → either o p ≡ earlier o p
 either_earlier None p = refl
 either_earlier (Some x) p = refl
 
-pub desk_kept : (h : List EntrySeen) (m r : ℕ) (t : TranslatedSeen) (s u : Desk) → CountFrom 0 (map n_of (accepted h)) → t.receiver ≡ r → list_any (λ k. k == m) (due h r) ≡ true → u ≡ after_holding s m t → StandsAt h r s → StandsAt (h ++ WasKept m t ∷ []) r u
-desk_kept h m r t s u counted to wanted is old =
+pub desk_kept : (h : List EntrySeen) (first m r : ℕ) (t : TranslatedSeen) (s u : Desk) → CountFrom first (map n_of (accepted h)) → t.receiver ≡ r → list_any (λ k. k == m) (due h r) ≡ true → u ≡ after_holding s m t → StandsAt h r s → StandsAt (h ++ WasKept m t ∷ []) r u
+desk_kept h first m r t s u counted to wanted is old =
     let e : List EntrySeen = WasKept m t ∷ [] in
     subst (StandsAt (h ++ e) r) (sym is)
     (restand (after_holding s m t) (due h r) (due (h ++ e) r) (map given (released h r)) (map given (released (h ++ e) r)) (λ n. earlier (kept h n r) (brought_for (due h r) m t n)) (λ n. kept (h ++ e) n r)
     (due-append h e r ∙ append-nil (due h r))
     (ap (map given) (released-append h e r ∙ append-nil (released h r)))
     (λ n. kept-append h e n r ∙ ap (λ b. either (kept h n r) (if b then Some t else None)) (same_pair t m n r to) ∙ ap (either (kept h n r)) (sym (brought (due h r) m t n wanted)) ∙ either_earlier (kept h n r) (brought_for (due h r) m t n))
-    (after_hold s (due h r) (map given (released h r)) (λ n. kept h n r) m t old (due_rises h r counted)))
+    (after_hold s (due h r) (map given (released h r)) (λ n. kept h n r) m t old (due_rises h first r counted)))
 
 -- what is put for another receiver
 pub desk_kept_other : (h : List EntrySeen) (m r : ℕ) (t : TranslatedSeen) (s u : Desk) → t.receiver ≢ r → u ≡ s → StandsAt h r s → StandsAt (h ++ WasKept m t ∷ []) r u

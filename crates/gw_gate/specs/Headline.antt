@@ -3,6 +3,7 @@ use Rattle.std.specs.Prelude.{◌≡◌, ℕ, ◌+◌, ◌≤◌, List, [], ◌�
 use Rattle.std.specs.List.{AllByRecursion}
 use Rattle.gw_gate.specs.Parts.{MessageSeen, TranslatedSeen}
 use Rattle.gw_gate.specs.Journal.{Journal, Version, Acceptance, Release, plans, accepted, acceptance, due, released}
+use Rattle.gw_gate.specs.Meaning.{Admits}
 
 -- numbers that never fall
 abbrev pub NeverFall : ℕ → List ℕ → Type 0
@@ -35,7 +36,7 @@ module _ (Means : List ℕ → MessageSeen → ℕ → MessageSeen → Type 0) w
   abbrev pub IsTranslated : TranslatedSeen → Type 0
   IsTranslated t = Means t.source.text t.source.message t.receiver t.message
 
-  -- What was released is what the plan of the version makes under which its message was accepted.
+  -- What was released is what the plan of the version makes under which its message was accepted; and by that plan's text the message conforms to the profile of its route.
   pub record IsSent (j : Journal) (r : ℕ) (out : Release) : Type 0 where
     pub by : Acceptance
     pub accepted : acceptance j.entries out.n ≡ Some by
@@ -44,6 +45,7 @@ module _ (Means : List ℕ → MessageSeen → ℕ → MessageSeen → Type 0) w
     pub among : slice_get (plans j) place ≡ Some version
     pub number : by.conforming.version ≡ version.number
     pub text : by.conforming.text ≡ version.plan.text
+    pub admitted : Admits by.conforming
     pub means : Means version.plan.text by.conforming.message r out.translated.message
 
   -- What was released to a receiver is a beginning of what was due to it, in order and each once; and each is such a translation.

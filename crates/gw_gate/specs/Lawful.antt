@@ -3,12 +3,14 @@ use Rattle.std.specs.Prelude.{◌≡◌, List, [], ◌∷◌, ◌++◌, Some, �
 use Rattle.std.specs.List.{AllByRecursion}
 use Rattle.gw_gate.specs.Parts.{TranslatedSeen}
 use Rattle.gw_gate.specs.Journal.{EntrySeen, Start, Journal}
-use Rattle.gw_gate.specs.Replies.{EventSeen, ReplySeen, Puts, reply, added, most, run, Steps}
+use Rattle.gw_gate.specs.Meaning.{Admits}
+use Rattle.gw_gate.specs.Replies.{EventSeen, Arrives, ReplySeen, Puts, reply, added, most, run, Steps}
 
 -- Given: what holds of a translation by its type.
 module _ (IsTranslated : TranslatedSeen → Type 0) where
-  -- what is put is a translation
+  -- what arrives was admitted by its plan, and what is put is a translation
   abbrev pub IsEvent : EventSeen → Type 0
+  IsEvent (Arrives c) = Admits c
   IsEvent (Puts n t) = IsTranslated t
   IsEvent event = ⊤
 

@@ -1,12 +1,15 @@
 pub mod Parts
 pub mod Seen
 pub mod Journal
+pub mod Chapters
 pub mod Replies
+pub mod Entries
 pub mod Values
 pub mod Same
 pub mod Replay
 pub mod Lawful
 pub mod Meaning
+pub mod Closing
 pub mod Headline
 pub mod Toy
 pub mod Rows

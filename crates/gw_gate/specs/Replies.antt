@@ -1,7 +1,8 @@
 -- What a gate replies to an event, as a function of the journal before it.
 use Rattle.std.specs.Prelude.{◌≡◌, ℕ, ◌+◌, nat_le, Bool, true, false, not, ◌&&◌, IsTrue, if◌then◌else◌, List, [], ◌∷◌, length, slice_get, Option, None, Some, is_some, Result, MatchResult}
 use Rattle.gw_gate.specs.Parts.{PlanSeen, ConformingSeen, TranslatedSeen, is_under, same_receivers, same_source}
-use Rattle.gw_gate.specs.Journal.{EntrySeen, WasAccepted, WasRefused, WasSwapped, WasTaken, WasKept, WasIssued, WasOut, Journal, Acceptance, Pair, with_entry, current, next_number, next_arrival, due, is_due, acceptance, issued, jobs, kept, released}
+use Rattle.gw_gate.specs.Journal.{EntrySeen, WasAccepted, WasRefused, WasSwapped, WasTaken, WasKept, WasIssued, WasOut, Journal, Acceptance, Pair, from, start_after, with_entry, current, next_number, next_arrival, due, is_due, acceptance, issued, jobs, kept, released}
+use Rattle.gw_gate.specs.Chapters.{is_pending}
 
 -- an event
 pub data EventSeen : Type 0 where
@@ -13,6 +14,7 @@ pub data EventSeen : Type 0 where
   Puts : (n : ℕ) → (translated : TranslatedSeen) → EventSeen
   Reissues : (n receiver : ℕ) → EventSeen
   Releases : (receiver : ℕ) → EventSeen
+  Cuts : EventSeen
 
 -- a reply
 pub data ReplySeen : Type 0 where
@@ -31,6 +33,8 @@ pub data ReplySeen : Type 0 where
   IsDone : ReplySeen
   IsOut : (n : ℕ) → (translated : TranslatedSeen) → ReplySeen
   IsNothing : ReplySeen
+  IsPending : ReplySeen
+  IsClosed : (chapter : Journal) → ReplySeen
   IsFull : (event : EventSeen) → ReplySeen
 
 -- ---- the rows of the table
@@ -76,6 +80,7 @@ reply_to j (Swaps plan) = if same_receivers plan j.start.plan then IsSwapped ((c
 reply_to j Takes = job_of j.entries (slice_get (issued j.entries) (jobs j.entries))
 reply_to j (Puts n t) = if is_stranger j.entries n t then IsStranger (Some t) else if is_kept j.entries n t.receiver then IsRepeat t else IsKept
 reply_to j (Reissues n r) = if not (is_due j.entries n r) then IsStranger None else if is_kept j.entries n r then IsDone else IsIssued
+reply_to j Cuts = if is_pending j then IsPending else IsClosed j
 reply_to j (Releases r) = out_of j.entries r (slice_get (due j.entries r) (length (released j.entries r)))
 
 -- the entry that a reply to an event adds, if it adds one
@@ -93,7 +98,7 @@ added event reply = None
 abbrev pub most : ℕ
 most = 262144
 
--- Full stands in place of a reply that would add an entry to a journal which has as many as it may have
+-- Full is given in place of a reply that would add an entry to a journal which has as many as it may have
 abbrev pub limited : ℕ → Journal → EventSeen → ReplySeen → ReplySeen
 limited limit j event reply = if is_some (added event reply) && nat_le limit (length j.entries) then IsFull event else reply
 
@@ -112,13 +117,28 @@ abbrev pub with_added : Journal → Option EntrySeen → Journal
 with_added j None = j
 with_added j (Some e) = with_entry j e
 
+-- the journal that a reply closes, if it closes one
+abbrev pub closed_by : ReplySeen → Option Journal
+closed_by (IsClosed chapter) = Some chapter
+closed_by given = None
+
+-- where a journal was closed, an empty one takes its place whose numbers go on
+abbrev pub or_next : Journal → Option Journal → Journal
+or_next j None = j
+or_next j (Some chapter) = from (start_after chapter)
+
+-- the journal that a reply leaves
+abbrev pub left_by : Journal → EventSeen → ReplySeen → Journal
+left_by j event given = or_next (with_added j (added event given)) (closed_by given)
+
 -- the journal after an event
 abbrev pub after : ℕ → Journal → EventSeen → Journal
-after limit j event = with_added j (added event (reply_within limit j event))
+after limit j event = left_by j event (reply_within limit j event)
 
--- whether a reply may be refused for want of memory
+-- whether a reply may be refused after an allocation failure
 abbrev pub takes_memory : EventSeen → ReplySeen → Bool
 takes_memory event (IsCurrent version plan) = true
+takes_memory event (IsClosed chapter) = true
 takes_memory event given = is_some (added event given)
 
 -- the stated reply was given, and its entry added
@@ -126,7 +146,7 @@ pub record Replied (old : Journal) (event : EventSeen) (given : ReplySeen) (new 
   pub reply_is : given ≡ reply old event
   pub new_is : new ≡ after most old event
 
--- for want of memory the event came back, and nothing changed; only a reply that adds an entry, and Current, can be refused so
+-- after an allocation failure the event came back, and nothing changed; only a reply that adds an entry, Current and Closed can be refused so
 pub record Refused (old : Journal) (event back : EventSeen) (new : Journal) : Type 0 where
   pub back_is : back ≡ event
   pub new_is : new ≡ old

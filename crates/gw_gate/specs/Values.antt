@@ -12,8 +12,9 @@ use denote.Ref.{Bor}
 use Rattle.std.specs.declared.sync.Arc.{Arc}
 use Rattle.gw_gate.specs.Parts.{ConformingSeen}
 use Rattle.gw_gate.specs.Seen.{Conforming, plan_seen, conforming_seen, translated_seen}
-use Rattle.gw_gate.specs.Journal.{Journal, Pair, pair, EntrySeen, WasAccepted, WasRefused, WasSwapped, WasTaken, WasKept, WasIssued, WasOut}
-use Rattle.gw_gate.specs.Replies.{EventSeen, Looks, Arrives, Refuses, Swaps, Takes, Puts, Reissues, Releases, ReplySeen, IsCurrent, IsAccepted, IsStale, IsRefused, IsSwapped, IsUnlike, IsJob, IsIdle, IsKept, IsRepeat, IsStranger, IsIssued, IsDone, IsOut, IsNothing, IsFull}
+use Rattle.gw_gate.specs.Entries.{entry_seen}
+use Rattle.gw_gate.specs.Journal.{Journal, Pair, pair, EntrySeen}
+use Rattle.gw_gate.specs.Replies.{EventSeen, Looks, Arrives, Refuses, Swaps, Takes, Puts, Reissues, Releases, Cuts, ReplySeen, IsCurrent, IsAccepted, IsStale, IsRefused, IsSwapped, IsUnlike, IsJob, IsIdle, IsKept, IsRepeat, IsStranger, IsIssued, IsDone, IsOut, IsNothing, IsPending, IsClosed, IsFull}
 
 abbrev pub event_seen : event.Event → EventSeen
 event_seen event.TheVariants.Look = Looks
@@ -24,6 +25,7 @@ event_seen event.TheVariants.Take = Takes
 event_seen (event.TheVariants.Put n t) = Puts n (translated_seen (arc_value t))
 event_seen (event.TheVariants.Reissue n r) = Reissues n r
 event_seen (event.TheVariants.Release r) = Releases r
+event_seen event.TheVariants.Cut = Cuts
 
 abbrev pub reply_seen : reply.Reply → ReplySeen
 reply_seen (reply.TheVariants.Current v p) = IsCurrent v (plan_seen (arc_value p))
@@ -41,19 +43,9 @@ reply_seen reply.TheVariants.Issued = IsIssued
 reply_seen reply.TheVariants.Done = IsDone
 reply_seen (reply.TheVariants.Out n t) = IsOut n (translated_seen (arc_value t))
 reply_seen reply.TheVariants.Nothing = IsNothing
+reply_seen reply.TheVariants.Pending = IsPending
+reply_seen (reply.TheVariants.Closed chapter) = IsClosed chapter
 reply_seen (reply.TheVariants.Full e) = IsFull (event_seen e)
-
-abbrev pub entry_seen : entry.Entry → EntrySeen
-entry_seen (entry.TheVariants.Accepted n arrival c) = WasAccepted n arrival (conforming_seen (arc_value c))
-entry_seen (entry.TheVariants.Refused arrival code) = WasRefused arrival code
-entry_seen (entry.TheVariants.Swapped v p) = WasSwapped v (plan_seen (arc_value p))
-entry_seen (entry.TheVariants.Job n r) = WasTaken n r
-entry_seen (entry.TheVariants.Kept n t) = WasKept n (translated_seen (arc_value t))
-entry_seen (entry.TheVariants.Issued n r) = WasIssued n r
-entry_seen (entry.TheVariants.Out n r t) = WasOut n r (translated_seen (arc_value t))
-
-abbrev pub entries_seen : List entry.Entry → List EntrySeen
-entries_seen entries = map entry_seen entries
 
 abbrev pub note_seen : Option entry.Entry → Option EntrySeen
 note_seen o = option_map entry_seen o
@@ -65,7 +57,7 @@ conforming_at c = conforming_seen (arc_value c)
 abbrev pub pair_seen : books.Pair → Pair
 pair_seen p = pair p.n p.receiver
 
--- a pair that is lent with what was accepted under its number
+-- a pair that is borrowed with what was accepted under its number
 abbrev pub job_seen : books.Pair × Bor (Arc Conforming Global) → Pair × ConformingSeen
 job_seen job = (pair_seen job.0, conforming_at job.1.now)
 

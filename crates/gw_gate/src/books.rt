@@ -1,27 +1,40 @@
 //! A journal with the books that are kept of it, so that a step needs no look at what is behind it.
-ghost use Rattle.std.specs.Prelude.{◌≡◌, ◌+◌, ◌++◌, ◌≤◌, OnOk, vec_len, vec_capacity, ◌<◌, ◌≢◌, ℕ, true, false, length, map, slice_get, Ok, Err, Some, None, []};
+ghost use Rattle.std.specs.Prelude.{◌≡◌, ◌+◌, ◌++◌, ◌≤◌, OnOk, vec_len, vec_capacity, ◌<◌, ◌≢◌, ℕ, Bool, true, false, nat_lt, length, map, slice_get, Ok, Err, Some, None, []};
 ghost use Rattle.std.specs.Option.{option_map};
 ghost use Rattle.std.specs.Arc.{arc_value};
 ghost use Rattle.gw_gate.specs.Parts.{is_under};
 ghost use Rattle.gw_gate.specs.Seen.{plan_seen, conforming_seen, translated_seen};
-ghost use Rattle.gw_gate.specs.Journal.{Journal, current, opening, pair};
+ghost use Rattle.gw_gate.specs.Journal.{Journal, current, end, issued, jobs, opening, pair};
+ghost use Rattle.gw_gate.specs.Chapters.{is_pending, most_in_all, some_await};
+ghost use Rattle.gw_gate.specs.own.Cutting.{Closes};
+ghost use Rattle.gw_gate.specs.Headline.{IsTranslated};
+ghost use Rattle.gw_gate.specs.Lawful.{IsLawful};
+ghost use Rattle.gw_gate.specs.Meaning.{Makes};
 ghost use Rattle.gw_gate.specs.own.Desks.{AreRoomier, HasRoomFor};
-ghost use Rattle.gw_gate.specs.Replies.{Looks, Arrives, Refuses, Swaps, Takes, Puts, Reissues, Releases, IsKept, IsIssued, Steps, StepsNoted, most, reply_to};
-ghost use Rattle.gw_gate.specs.own.Books.{issue_reply, job_reply, next_job, put_reply, release_reply};
-ghost use Rattle.gw_gate.specs.Values.{entries_seen, event_seen, answer_seen, conforming_at, job_seen, noted_seen, pair_seen};
+ghost use Rattle.gw_gate.specs.Replies.{Looks, Arrives, Refuses, Swaps, Takes, Puts, Reissues, Releases, Cuts, IsKept, IsIssued, Steps, StepsNoted, most, reply_to};
+ghost use Rattle.gw_gate.specs.own.Books.{issue_reply, job_reply, next_job, numbered_at, put_reply, release_reply};
+ghost use Rattle.gw_gate.specs.Entries.{entries_seen, start_seen};
+ghost use Rattle.gw_gate.specs.Values.{event_seen, answer_seen, conforming_at, job_seen, noted_seen, pair_seen};
 
+use crate::chapter::{Chapter, Start};
 use crate::copies::prepared;
-use crate::desks::{hold_at, make_due, make_room, next_at, release_at, status_at};
+use crate::desks::{
+    hold_at, make_due, make_room, next_at, release_at, restart_all, some_wait, status_at,
+};
 use crate::event::{Entry, Event, Reply};
 use crate::plans::{are_alike, is_of, is_under, receiver_at, receiver_count};
 use gw_plan::{Conforming, Plan, Translated};
 use gw_reorder::{Desk, Status};
 use std::alloc::{AllocError, Global};
 use std::marker::Model;
+use std::mem;
 use std::sync::Arc;
 
 /// The most entries of a journal.
 pub const MOST: usize = 262_144;
+
+// The most entries that were made in all when a journal is closed.
+const MOST_IN_ALL: u64 = 9_000_000_000_000_000_000;
 
 // A number with a receiver.
 #[derive(Clone, Copy)]
@@ -30,28 +43,32 @@ pub(crate) struct Pair {
     receiver: usize,
 }
 
-// A reply, with the note of its entry; or the event, for want of memory.
+// A reply, with the note of its entry; or the event, after an allocation failure.
 pub(crate) type Answer = Result<(Reply, Option<Entry>), Event>;
 
 // What was accepted under this number.
-fn accepted_at(accepted: &[Arc<Conforming>], n: u64) -> Option<&Arc<Conforming>>
-    ensures { option_map (λ c. conforming_at c.now) result ≡ slice_get (map conforming_at accepted.now) n }
+fn accepted_at(accepted: &[Arc<Conforming>], first: u64, n: u64) -> Option<&Arc<Conforming>>
+    ensures { option_map (λ c. conforming_at c.now) result ≡ numbered_at first (map conforming_at accepted.now) n }
 {
-    accepted.get(n as usize)
+    if n < first {
+        return None;
+    }
+    accepted.get((n - first) as usize)
 }
 
 // The next pair, with what was accepted under its number.
 fn next_job<'a>(
     accepted: &'a [Arc<Conforming>],
+    first: u64,
     issued: &[Pair],
     jobs: usize,
 ) -> Option<(Pair, &'a Arc<Conforming>)>
-    ensures { option_map job_seen result ≡ next_job (map conforming_at accepted.now) (map pair_seen issued.now) jobs }
+    ensures { option_map job_seen result ≡ next_job first (map conforming_at accepted.now) (map pair_seen issued.now) jobs }
 {
     let Some(pair) = issued.get(jobs) else {
         return None;
     };
-    let Some(conforming) = accepted_at(accepted, pair.n) else {
+    let Some(conforming) = accepted_at(accepted, first, pair.n) else {
         return None;
     };
     Some((*pair, conforming))
@@ -91,7 +108,7 @@ fn issue_all(issued: &mut Vec<Pair>, conforming: &Conforming, n: u64)
 #[derive(Drop)]
 pub(crate) struct Books {
     alloc: Global,
-    opening: Arc<Plan>,
+    start: Start,
     journal: Vec<Entry>,
     version: u64,
     plan: Arc<Plan>,
@@ -107,15 +124,16 @@ impl Model for Books {
     ghost use Rattle.std.specs.Arc.{arc_value};
     ghost use Rattle.gw_gate.specs.Journal.{Journal};
     ghost use Rattle.gw_gate.specs.Seen.{plan_seen, conforming_seen};
-    ghost use Rattle.gw_gate.specs.Values.{entries_seen, pair_seen};
+    ghost use Rattle.gw_gate.specs.Entries.{entries_seen, start_seen};
+    ghost use Rattle.gw_gate.specs.Values.{pair_seen};
     ghost use Rattle.gw_gate.specs.own.Desks.{desk_at};
     ghost use Rattle.gw_gate.specs.own.Books.{Fits, journal_of};
 
     ghost Value = { Journal };
 
-    ghost view = { λ b. journal_of (plan_seen (arc_value b.opening)) (entries_seen b.journal.items) };
+    ghost view = { λ b. journal_of (start_seen b.start) (entries_seen b.journal.items) };
 
-    ghost invariant = { λ b. Fits (plan_seen (arc_value b.opening)) (entries_seen b.journal.items) (record {
+    ghost invariant = { λ b. Fits (start_seen b.start) (entries_seen b.journal.items) (record {
       version = b.version;
       plan = plan_seen (arc_value b.plan);
       arrivals = b.arrivals;
@@ -134,7 +152,13 @@ impl Books {
     {
         Books {
             alloc,
-            opening: first,
+            start: Start {
+                version: 0,
+                plan: first,
+                acceptances: 0,
+                arrivals: 0,
+                entries: 0,
+            },
             journal: Vec::new(alloc),
             version: 0,
             plan,
@@ -153,11 +177,19 @@ impl Books {
         self.journal.as_slice()
     }
 
-    // The opening plan.
-    pub(crate) fn opening(&self) -> &Arc<Plan>
-        ensures { opening (plan_seen (arc_value result.now)) ≡ self.now.start }
+    // Where the journal starts.
+    pub(crate) fn start(&self) -> &Start
+        ensures { start_seen result.now ≡ self.now.start }
     {
-        &self.opening
+        &self.start
+    }
+
+    // How many entries there were in all.
+    pub(crate) fn end(&self) -> u64
+        ensures value { result ≡ end self.now }
+        ensures few { end self.now ≤ most_in_all + most }
+    {
+        self.start.entries + self.journal.len() as u64
     }
 
     // The plan in force.
@@ -194,7 +226,7 @@ impl Books {
     fn swap(&mut self, plan: Arc<Plan>, takes: bool) -> Answer
         ensures { StepsNoted takes self.old (Swaps (plan_seen (arc_value plan))) (noted_seen result) self.new }
     {
-        if !are_alike(&plan, &self.opening) {
+        if !are_alike(&plan, &self.start.plan) {
             return Ok((Reply::Unlike(plan), None));
         }
         if self.journal.len() == MOST {
@@ -221,7 +253,12 @@ impl Books {
     fn next(&self) -> Option<(Pair, &Arc<Conforming>)>
         ensures { reply_to self.now Takes ≡ job_reply (option_map job_seen result) }
     {
-        next_job(&self.accepted, &self.issued, self.jobs)
+        next_job(
+            &self.accepted,
+            self.start.acceptances,
+            &self.issued,
+            self.jobs,
+        )
     }
 
     // The next pair is taken.
@@ -257,7 +294,7 @@ impl Books {
         ensures { reply_to self.now (Puts n (translated_seen translated.now)) ≡ put_reply result (translated_seen translated.now) }
     {
         let receiver = translated.receiver();
-        let Some(conforming) = accepted_at(&self.accepted, n) else {
+        let Some(conforming) = accepted_at(&self.accepted, self.start.acceptances, n) else {
             return Status::Stranger;
         };
         if !is_of(translated, conforming) {
@@ -404,7 +441,7 @@ impl Books {
         let Ok(copy) = Arc::try_clone(&conforming) else {
             return Err(Event::Arrive(conforming));
         };
-        let n = self.accepted.len() as u64;
+        let n = self.start.acceptances + self.accepted.len() as u64;
         let arrival = self.arrivals + 1;
         let entry = Entry::Accepted {
             n,
@@ -432,8 +469,77 @@ impl Books {
         Ok((Reply::Accepted { n, arrival }, note))
     }
 
+    // Whether a pair wasn't taken.
+    fn is_left(&self) -> bool
+        ensures { result ≡ nat_lt (jobs self.now.entries) (length (issued self.now.entries)) }
+    {
+        self.jobs < self.issued.len()
+    }
+
+    // Whether something that is due wasn't released.
+    fn some_awaits(&self) -> bool
+        ensures { result ≡ some_await self.now.entries }
+    {
+        some_wait(&self.desks)
+    }
+
+    // Whether too many entries were made in all.
+    fn is_long(&self) -> bool
+        ensures { result ≡ nat_lt most_in_all (end self.now) }
+    {
+        MOST_IN_ALL < self.end()
+    }
+
+    // Whether the journal can't be closed yet.
+    fn is_pending(&self) -> bool
+        ensures { result ≡ is_pending self.now }
+    {
+        self.is_left() || self.some_awaits() || self.is_long()
+    }
+
+    // The journal is closed, unless something is pending, and an empty one opened whose numbers go on. An error is an allocation failure, and nothing changed.
+    fn close(&mut self) -> Result<Option<(Start, Vec<Entry>)>, AllocError>
+        ensures { Closes self.old result self.new }
+    {
+        if self.is_pending() {
+            return Ok(None);
+        }
+        let entries = self.end();
+        let plan = Arc::try_clone(&self.plan)?;
+        let next = Start {
+            version: self.version,
+            plan,
+            acceptances: self.start.acceptances + self.accepted.len() as u64,
+            arrivals: self.arrivals,
+            entries,
+        };
+        self.accepted.clear();
+        self.issued.clear();
+        self.jobs = 0;
+        restart_all(&mut self.desks);
+        let start = mem::replace(&mut self.start, next);
+        let entries = mem::replace(&mut self.journal, Vec::new(self.alloc));
+        Ok(Some((start, entries)))
+    }
+
+    // The journal is to be closed.
+    fn cut(&mut self) -> Answer
+        requires { IsLawful (IsTranslated Makes) self.old }
+        ensures { (takes : Bool) → StepsNoted takes self.old Cuts (noted_seen result) self.new }
+    {
+        match self.close() {
+            Ok(Some((start, entries))) => {
+                let chapter = Chapter::of(start, entries);
+                Ok((Reply::Closed(chapter), None))
+            }
+            Ok(None) => Ok((Reply::Pending, None)),
+            Err(_) => Err(Event::Cut),
+        }
+    }
+
     // One step, of whose entry a note may be taken.
     pub(crate) fn step(&mut self, event: Event, takes: bool) -> Answer
+        requires { IsLawful (IsTranslated Makes) self.old }
         ensures { StepsNoted takes self.old (event_seen event) (noted_seen result) self.new }
     {
         match event {
@@ -448,6 +554,7 @@ impl Books {
             Event::Put { n, translated } => self.put(n, translated, takes),
             Event::Reissue { n, receiver } => self.reissue(n, receiver, takes),
             Event::Release(receiver) => self.release(receiver, takes),
+            Event::Cut => self.cut(),
         }
     }
 }

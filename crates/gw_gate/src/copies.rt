@@ -1,7 +1,8 @@
 //! Copies of entries.
 ghost use Rattle.std.specs.Prelude.{◌≡◌, ◌≤◌, ◌+◌, IfOk, OnOk, Some, vec_len, vec_capacity};
 ghost use Rattle.gw_gate.specs.Replies.{noted};
-ghost use Rattle.gw_gate.specs.Values.{entry_seen, note_seen};
+ghost use Rattle.gw_gate.specs.Entries.{entry_seen};
+ghost use Rattle.gw_gate.specs.Values.{note_seen};
 
 use crate::event::Entry;
 use std::alloc::AllocError;

@@ -1,10 +1,10 @@
 //! The desks of a gate, by the receivers' numbers.
-ghost use Rattle.std.specs.Prelude.{◌≡◌, ◌≢◌, ℕ, ◌<◌, ◌≤◌, length, option_map, OnOk, All};
-ghost use Rattle.gw_reorder.specs.State.{SameButRoom, with_due};
+ghost use Rattle.std.specs.Prelude.{◌≡◌, ◌≢◌, ℕ, ◌<◌, ◌≤◌, nat_lt, length, option_map, OnOk, All};
+ghost use Rattle.gw_reorder.specs.State.{SameButRoom, nothing_due, with_due};
 ghost use Rattle.gw_reorder.specs.Calls.{status_of, after_holding, next_of};
 ghost use Rattle.gw_reorder.specs.declared.desk.Status.TheVariants as status;
 ghost use Rattle.gw_gate.specs.Seen.{conforming_seen};
-ghost use Rattle.gw_gate.specs.own.Desks.{desk_at, given_out, value_seen, AreRoomier, HasRoomFor, due_to};
+ghost use Rattle.gw_gate.specs.own.Desks.{desk_at, given_out, value_seen, AreRoomier, HasRoomFor, Waits, due_to};
 
 use crate::plans::{goes_to, receiver_at, receiver_count};
 use gw_plan::{Conforming, Translated};
@@ -19,6 +19,47 @@ pub(crate) fn status_at(desks: &[Desk<Arc<Translated>>], receiver: usize, n: u64
     match desks.get(receiver) {
         Some(desk) => desk.status(n),
         None => Status::Stranger,
+    }
+}
+
+// Whether something that is due at this desk wasn't given out.
+fn waits_at(desks: &[Desk<Arc<Translated>>], receiver: usize) -> bool
+    ensures { result ≡ nat_lt (desk_at desks.now receiver).released (length (desk_at desks.now receiver).due) }
+{
+    match desks.get(receiver) {
+        Some(desk) => desk.waits(),
+        None => false,
+    }
+}
+
+// Whether something that is due at one of the desks wasn't given out.
+pub(crate) fn some_wait(desks: &[Desk<Arc<Translated>>]) -> bool
+    ensures { Waits (desk_at desks.now) result }
+{
+    for receiver in 0..desks.len() {
+        if waits_at(desks, receiver) {
+            return true;
+        }
+    }
+    false
+}
+
+// Nothing is due at this desk from here on.
+fn restart_at(desks: &mut Vec<Desk<Arc<Translated>>>, receiver: usize)
+    requires { receiver < length desks.old.items }
+    ensures this { SameButRoom nothing_due (desk_at desks.new.items receiver) }
+    ensures others { (r : ℕ) → r ≢ receiver → desk_at desks.new.items r ≡ desk_at desks.old.items r }
+    ensures long { length desks.new.items ≡ length desks.old.items }
+{
+    desks[receiver].restart();
+}
+
+// Nothing is due at any desk from here on.
+pub(crate) fn restart_all(desks: &mut Vec<Desk<Arc<Translated>>>)
+    ensures { (r : ℕ) → SameButRoom nothing_due (desk_at desks.new.items r) }
+{
+    for receiver in 0..desks.len() {
+        restart_at(desks, receiver);
     }
 }
 

@@ -1,4 +1,5 @@
 //! What comes to a gate, what it replies, and what it enters in its journal.
+use crate::chapter::Chapter;
 use gw_plan::{Conforming, Plan, Translated};
 use std::mem::size_of;
 use std::sync::Arc;
@@ -22,6 +23,8 @@ pub enum Event {
     Reissue { n: u64, receiver: usize },
     /// Asks for the next translation for this receiver.
     Release(usize),
+    /// The journal is to be closed, and an empty one opened.
+    Cut,
 }
 
 /// What a gate replies.
@@ -77,6 +80,10 @@ pub enum Reply {
     },
     /// To Release: none was kept for the next number.
     Nothing,
+    /// To Cut: something is still to be taken or given out.
+    Pending,
+    /// To Cut: the journal that was closed.
+    Closed(Chapter),
     /// To an event whose entry the journal has no room for.
     Full(Event),
 }
@@ -122,7 +129,7 @@ pub enum Entry {
     },
 }
 
-// (by hand: so no crate above proves again how what lies in it is let go)
+// (by hand: so no crate above proves again how its parts are dropped)
 impl Drop for Entry {
     fn drop(self) {
         match self {

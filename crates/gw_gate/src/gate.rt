@@ -1,17 +1,19 @@
 //! The gate: a journal, and the one step by which it grows.
-ghost use Rattle.std.specs.Prelude.{◌≡◌, [], ◌∷◌, map, true, IfOk, IfErr};
+ghost use Rattle.std.specs.Prelude.{◌≡◌, ℕ, [], ◌∷◌, map, true, IfOk, IfErr};
 ghost use Rattle.std.specs.Arc.{arc_value};
 ghost use Rattle.gw_gate.specs.Seen.{plan_seen};
-ghost use Rattle.gw_gate.specs.Journal.{opening, from};
+ghost use Rattle.gw_gate.specs.Journal.{opening, from, end};
 ghost use Rattle.gw_gate.specs.Replies.{Steps, StepsNoted};
 ghost use Rattle.gw_gate.specs.Lawful.{IsLawful, IsEvent};
-ghost use Rattle.gw_gate.specs.Headline.{IsTranslated};
+ghost use Rattle.gw_gate.specs.Headline.{InOrder, IsTranslated, Numbered, VersionsRise};
 ghost use Rattle.gw_gate.specs.Meaning.{Makes};
-ghost use Rattle.gw_gate.specs.Values.{entries_seen, event_seen, answer_seen, noted_seen};
+ghost use Rattle.gw_gate.specs.Entries.{entries_seen, start_seen};
+ghost use Rattle.gw_gate.specs.Values.{event_seen, answer_seen, noted_seen};
 
 use crate::books::Books;
+use crate::chapter::Start;
 use crate::event::{Entry, Event, Reply};
-use crate::plans::made_by_plan;
+use crate::plans::{admitted_by_plan, made_by_plan};
 use gw_plan::Plan;
 use std::alloc::Global;
 use std::marker::Model;
@@ -22,7 +24,7 @@ pub struct Gate {
     books: Books,
 }
 
-// (by hand: so no crate above proves again how what lies in it is let go)
+// (by hand: so no crate above proves again how its parts are dropped)
 impl Drop for Gate {
     fn drop(self) {
         let Gate { books: _ } = self;
@@ -42,17 +44,19 @@ impl Model for Gate {
     ghost invariant = { λ g. IsLawful (IsTranslated Makes) g.books };
 }
 
-// What is put is what a plan makes, by its type.
+// What arrives was admitted by a plan, and what is put is what a plan makes, by their types.
 fn known(event: &Event)
     ensures { IsEvent (IsTranslated Makes) (event_seen event.now) }
 {
-    if let Event::Put { translated, .. } = event {
-        made_by_plan(translated);
+    match event {
+        Event::Arrive(conforming) => admitted_by_plan(conforming),
+        Event::Put { translated, .. } => made_by_plan(translated),
+        _ => {}
     }
 }
 
 impl Gate {
-    /// A gate that opens with this plan, as version 0. The one error is want of memory, and hands the plan back.
+    /// A gate that opens with this plan, as version 0. The one error is an allocation failure, and hands the plan back.
     pub fn begin(alloc: Global, plan: Arc<Plan>) -> Result<Self, Arc<Plan>>
         ensures gate { IfOk result (λ g. g ≡ from (opening (plan_seen (arc_value plan)))) }
         ensures back { IfErr result (λ p. p ≡ plan) }
@@ -65,23 +69,41 @@ impl Gate {
         }
     }
 
-    /// The entries so far. The journal is lawful. It takes no memory.
+    /// The entries so far. The journal is lawful: each receiver was sent the first of what is due to it, in order and each once, each made by the plan of the version under which its message was accepted.
+    /// It takes no memory.
     pub fn journal(&self) -> &[Entry]
         ensures entries { entries_seen result.now ≡ self.now.entries }
         ensures lawful { IsLawful (IsTranslated Makes) self.now }
+        ensures in_order { (r : ℕ) → InOrder Makes self.now r }
+        ensures versions { VersionsRise self.now }
+        ensures numbered { Numbered self.now }
     {
         self.books.journal()
     }
 
-    /// The plan that the gate opened with. It takes no memory.
-    pub fn opening(&self) -> &Arc<Plan>
-        ensures { opening (plan_seen (arc_value result.now)) ≡ self.now.start }
+    /// Where the open journal starts. It takes no memory.
+    pub fn start(&self) -> &Start
+        ensures { start_seen result.now ≡ self.now.start }
     {
-        self.books.opening()
+        self.books.start()
     }
 
-    /// One step: the reply to the event, whose entry is added. An error is want of memory: the event comes back, and nothing changed.
-    /// Only a reply that adds an entry, and Current, is refused so. It takes no more time where the journal is longer, but for finding a number among those due.
+    /// The plan that the open journal starts with. It takes no memory.
+    pub fn opening(&self) -> &Arc<Plan>
+        ensures { plan_seen (arc_value result.now) ≡ self.now.start.plan }
+    {
+        &self.books.start().plan
+    }
+
+    /// How many entries there were in all, with those of the journals that were closed. It takes no memory.
+    pub fn end(&self) -> u64
+        ensures { result ≡ end self.now }
+    {
+        self.books.end()
+    }
+
+    /// One step: the reply to the event, whose entry is added. An error is an allocation failure: the event comes back, and nothing changed.
+    /// Only a reply that adds an entry, Current and Closed are refused so. It takes no more time where the journal is longer, but for finding a number among those due.
     pub fn step(&mut self, event: Event) -> Result<Reply, Event>
         ensures { Steps self.old (event_seen event) (answer_seen result) self.new }
     {

@@ -1,12 +1,15 @@
 //! What holds of every lawful journal, and rows of the definitions.
-ghost use Rattle.std.specs.Prelude.{◌≡◌, ℕ, Some};
+ghost use Rattle.std.specs.Prelude.{◌≡◌, ℕ, List, ◌∷◌, ◌++◌, length, Some};
+ghost use Rattle.std.specs.List.{AllByRecursion};
 ghost use Rattle.gw_gate.specs.Replies.{Puts, Swaps, IsStranger, IsUnlike, reply, replies, most};
 ghost use Rattle.gw_gate.specs.Journal.{Journal};
+ghost use Rattle.gw_gate.specs.Parts.{MessageSeen};
 ghost use Rattle.gw_gate.specs.Lawful.{IsLawful, RunsKeepLawful, StepsKeepLawful};
 ghost use Rattle.gw_gate.specs.Headline.{InOrder, IsTranslated, Numbered, VersionsRise};
 ghost use Rattle.gw_gate.specs.Meaning.{Makes};
 ghost use Rattle.gw_gate.specs.Toy.{other_plan, made, made_later, opened, worked, taken};
-ghost use Rattle.gw_gate.specs.Rows.{out_of_order, in_order, swapping, swapped_over, issuing_again, issued_again, filling, filled};
+ghost use Rattle.gw_gate.specs.Rows.{out_of_order, in_order, swapping, swapped_over, issuing_again, issued_again, filling, filled, cutting, cut, closed, filling_on, filled_on, cutting_swapped, cut_swapped};
+ghost use Rattle.gw_gate.specs.Chapters.{Follow, joined};
 
 /// Results in any order are released in the order of acceptance, each once.
 pub fn released_in_order()
@@ -37,6 +40,11 @@ pub fn sent_in_order()
     ensures { (j : Journal) (r : ℕ) → IsLawful (IsTranslated Makes) j → InOrder Makes j r }
 {}
 
+/// Two translations of one plan text, message and receiver are one message.
+pub fn one_translation()
+    ensures { (text : List ℕ) (message : MessageSeen) (r : ℕ) (made other : MessageSeen) → Makes text message r made → Makes text message r other → made ≡ other }
+{}
+
 /// In a lawful journal the versions under which messages were accepted never fall.
 pub fn versions_rise()
     ensures { (j : Journal) → IsLawful (IsTranslated Makes) j → VersionsRise j }
@@ -51,4 +59,19 @@ pub fn each_once()
 pub fn lawful_stays()
     ensures run { RunsKeepLawful (IsTranslated Makes) }
     ensures step { StepsKeepLawful (IsTranslated Makes) }
+{}
+
+/// A journal is closed only where nothing waits; the next one goes on with the numbers, and what was due before isn't due any more.
+pub fn chapters()
+    ensures replies { replies most opened (out_of_order ++ cutting) ≡ in_order ++ cut }
+    ensures entries { length closed.entries ≡ 12 }
+    ensures full { replies 2 opened filling_on ≡ filled_on }
+    ensures swapped { replies most opened cutting_swapped ≡ cut_swapped }
+{}
+
+/// The same over chapters that follow one another, read as one journal.
+pub fn sent_over_chapters()
+    ensures order { (first : Journal) (more : List Journal) (r : ℕ) → AllByRecursion (IsLawful (IsTranslated Makes)) (first ∷ more) → Follow first more → InOrder Makes (joined first more) r }
+    ensures versions { (first : Journal) (more : List Journal) → AllByRecursion (IsLawful (IsTranslated Makes)) (first ∷ more) → Follow first more → VersionsRise (joined first more) }
+    ensures numbers { (first : Journal) (more : List Journal) → AllByRecursion (IsLawful (IsTranslated Makes)) (first ∷ more) → Follow first more → Numbered (joined first more) }
 {}

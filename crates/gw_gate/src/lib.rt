@@ -2,6 +2,7 @@
 #![tactic(auto)]
 
 mod books;
+mod chapter;
 mod copies;
 mod desks;
 mod event;
@@ -12,6 +13,7 @@ mod replays;
 mod same;
 
 pub use books::MOST;
+pub use chapter::{Chapter, Start};
 pub use event::{Entry, Event, Reply};
 pub use gate::Gate;
 pub use replays::{ReplayFault, replay};

@@ -3,7 +3,7 @@ ghost use Rattle.std.specs.Prelude.{◌≡◌, ◌<◌, length, slice_get, Some,
 ghost use Rattle.gw_gate.specs.Parts.{delivers, is_under, same_receivers, same_source, same_translated};
 ghost use Rattle.gw_gate.specs.Seen.{plan_seen, conforming_seen, translated_seen};
 ghost use Rattle.gw_gate.specs.Headline.{IsTranslated};
-ghost use Rattle.gw_gate.specs.Meaning.{Makes};
+ghost use Rattle.gw_gate.specs.Meaning.{Admits, Makes};
 
 use gw_plan::{Conforming, Plan, Translated};
 
@@ -69,6 +69,13 @@ pub(crate) fn receiver_at(conforming: &Conforming, place: usize) -> usize
     ensures { slice_get (conforming_seen conforming.now).receivers place ≡ Some result }
 {
     conforming.route().receiver(place)
+}
+
+// An admitted message has a route by the plan of its text, and conforms to the route's profile, by its type.
+pub(crate) fn admitted_by_plan(conforming: &Conforming)
+    ensures { Admits (conforming_seen conforming.now) }
+{
+    let _ = conforming.route();
 }
 
 // A translation is what the plan of its source's text makes of it, by its type.

@@ -60,7 +60,7 @@ fn follow(
 }
 
 /// The replies to these events, and the gate that they lead to: the first event is a Swap, whose plan opens the gate, and it has no reply.
-/// For any other list the fault is NoPlan. Want of memory is the only other fault. The events aren't handed back.
+/// For any other list the fault is NoPlan. An allocation failure is the only other fault. The events aren't handed back.
 pub fn replay(alloc: Global, events: Vec<Event>) -> Result<(Gate, Vec<Reply>), ReplayFault>
     ensures replies { Replays (map event_seen events.items) (replay_seen result) }
     ensures lawful { IfOk result (λ r. IsLawful (IsTranslated Makes) r.0) }

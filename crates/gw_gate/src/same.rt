@@ -3,7 +3,7 @@ ghost use Rattle.std.specs.Prelude.{◌≡◌};
 ghost use Rattle.std.specs.Arc.{arc_value};
 ghost use Rattle.gw_gate.specs.Seen.{plan_seen, conforming_seen, translated_seen};
 ghost use Rattle.gw_gate.specs.Same.{is_accepted, is_refused, is_swapped, is_taken, is_kept, is_issued, is_out, same_entry};
-ghost use Rattle.gw_gate.specs.Values.{entry_seen};
+ghost use Rattle.gw_gate.specs.Entries.{entry_seen};
 
 use crate::event::Entry;
 use crate::plans::{are_same, are_same_translated, have_same_text};

@@ -13,3 +13,4 @@ pub mod Listing
 pub mod Receiving
 pub mod Stopping
 pub mod Reachable
+pub mod Once

@@ -1,28 +1,37 @@
 -- What a receiver is sent of an admitted message.
 use Rattle.std.specs.Prelude.{◌≡◌, ℕ, List, Some, Ok, nat_eq}
 use Rattle.std.specs.Map.{lookup}
-use Rattle.gw_er7.specs.Message.{SegmentValue}
+use Rattle.gw_er7.specs.Message.{SegmentValue, IsMessage}
+use Rattle.gw_profile.specs.WellFormed.{WellFormed}
 use Rattle.gw_validate.specs.Conforming.{Conforms}
 use Rattle.gw_validate.specs.Broken.{IsTreeOf}
 use Rattle.gw_validate.specs.Trees.{Tree}
 use Rattle.gw_resolve.specs.Naming.{resolved}
 use Rattle.gw_interp.specs.Meaning.{Means}
-use Rattle.gw_plan.specs.Shapes.{MapBetween, RouteValue}
+use Rattle.gw_plan.specs.Shapes.{MapBetween, RouteValue, PlanValue}
 use Rattle.gw_plan.specs.Held.{plan_value}
 use Rattle.gw_plan.specs.Routing.{routed}
 use Rattle.gw_plan.specs.Admitted.{ConformingHeld, IsSameSource}
 
--- It is what the map of the message's route for this receiver makes of the message and its tree, and it conforms to that map's target.
-pub record Translates (c : ConformingHeld) (receiver : ℕ) (made : List SegmentValue) : Type 0 where
+-- By this plan the message conforms to the profile of its route, and what is made is the message that the map of the route for the receiver makes of it and its tree. It conforms to that map's target.
+pub record MakesFor (plan : PlanValue) (m : List SegmentValue) (receiver : ℕ) (made : List SegmentValue) : Type 0 where
   pub route : RouteValue
-  pub routed_so : routed (plan_value c.plan) c.tree.message ≡ Ok route
+  pub routed_so : routed plan m ≡ Ok route
+  pub formed : WellFormed route.profile
+  pub source_is_message : IsMessage m
+  pub source_conforms : Conforms route.profile m
   pub by : MapBetween
   pub leg : lookup (nat_eq receiver) route.legs ≡ Some by
   pub source : by.source ≡ route.profile
   pub tree : Tree
-  pub is_tree : IsTreeOf route.profile c.tree.message tree
-  pub means : Means by.target (resolved by.source by.target by.map) c.tree.message tree made
+  pub is_tree : IsTreeOf route.profile m tree
+  pub is_message : IsMessage made
+  pub means : Means by.target (resolved by.source by.target by.map) m tree made
   pub conforms : Conforms by.target made
+
+-- it is what the plan of an admitted message makes of it for this receiver
+abbrev pub Translates : ConformingHeld → ℕ → List SegmentValue → Type 0
+Translates c receiver made = MakesFor (plan_value c.plan) c.tree.message receiver made
 
 -- what was made of an admitted message for a receiver
 pub record TranslatedHeld : Type 0 where

@@ -1,7 +1,10 @@
 //! Messages that a plan admits.
 ghost use Rattle.std.specs.Prelude.{◌≡◌, ◌<◌, ◌↔◌, map, length, IsTrue, IfOk, IfErr, Ok};
 ghost use Rattle.std.specs.Arc.{arc_value};
+ghost use Rattle.gw_er7.specs.Message.{IsMessage};
 ghost use Rattle.gw_profile.specs.Seen.{profile_value};
+ghost use Rattle.gw_profile.specs.WellFormed.{WellFormed};
+ghost use Rattle.gw_validate.specs.Conforming.{Conforms};
 ghost use Rattle.gw_plan.specs.Held.{plan_value, route_value};
 ghost use Rattle.gw_plan.specs.Routing.{routed};
 ghost use Rattle.gw_plan.specs.Seen.{receiver_value};
@@ -70,12 +73,21 @@ pub enum Refusal {
 }
 
 impl Conforming {
-    /// The route. It takes no memory.
+    /// The route, by the plan that its plan's text spells. The message conforms to the route's profile, by its type. It takes no memory.
     pub fn route(&self) -> &Route
         ensures route { routed (plan_value self.now.plan) self.now.tree.message ≡ Ok (route_value result.now) }
         ensures profile { profile_value self.now.tree.profile ≡ profile_value result.now.profile }
+        ensures plan { spelled self.now.plan.text ≡ Ok (plan_value self.now.plan) }
+        ensures formed { WellFormed (profile_value result.now.profile) }
+        ensures message { IsMessage self.now.tree.message }
+        ensures conforms { Conforms (profile_value result.now.profile) self.now.tree.message }
     {
-        self.plan.route_at(self.number)
+        // (their clauses tell what the message, the plan and the profile keep)
+        let _count = self.tree.message().segment_count();
+        self.plan.is_spelled();
+        let route = self.plan.route_at(self.number);
+        let _nodes = route.profile().nodes();
+        route
     }
 
     /// The receivers of its plan. It takes no memory.
@@ -96,7 +108,7 @@ impl Conforming {
         self.route().goes_to(receiver)
     }
 
-    /// The message. It takes no memory.
+    /// The message, which conforms to the profile of its route, as `route` says. It takes no memory.
     pub fn message(&self) -> &Message
         ensures { result.now ≡ self.now.tree.message }
     {
@@ -155,7 +167,11 @@ impl Conforming {
             None => Err(AllocError),
             Some(map) => match translate(alloc, map, tree) {
                 Err(error) => Err(error),
-                Ok(made) => Ok(made),
+                Ok(made) => {
+                    // (its clause tells what every message keeps)
+                    let _count = made.segment_count();
+                    Ok(made)
+                }
             },
         }
     }

@@ -1,8 +1,11 @@
 //! What holds of the definitions.
-ghost use Rattle.std.specs.Prelude.{◌≡◌, Ok, Err, [], codes};
+ghost use Rattle.std.specs.Prelude.{◌≡◌, ℕ, List, Ok, Err, [], codes};
+ghost use Rattle.gw_er7.specs.Message.{SegmentValue};
 ghost use Rattle.gw_plan.specs.declared.fault.PlanFault.TheVariants as fault;
 ghost use Rattle.gw_plan.specs.Held.{plan_value};
 ghost use Rattle.gw_plan.specs.Routing.{routed_by};
+ghost use Rattle.gw_plan.specs.Shapes.{PlanValue};
+ghost use Rattle.gw_plan.specs.Translating.{MakesFor};
 ghost use Rattle.gw_plan.specs.Whole.{spelled};
 ghost use Rattle.gw_plan.specs.Worked as worked;
 
@@ -16,6 +19,11 @@ pub fn one_text_is_one_plan(one: &Plan, other: &Plan)
     let _ = &one.text;
     let _ = &other.text;
 }
+
+/// By one plan, what is made of a message for a receiver is one message.
+pub fn one_translation()
+    ensures { (plan : PlanValue) (m : List SegmentValue) (receiver : ℕ) (made other : List SegmentValue) → MakesFor plan m receiver made → MakesFor plan m receiver other → made ≡ other }
+{}
 
 /// The route of a message, or the code of the first test that fails: type, event, version, processing id.
 pub fn rows_of_routes()

@@ -1,12 +1,13 @@
 -- What the books of a gate are of its journal.
-use Rattle.std.specs.Prelude.{◌≡◌, ℕ, ◌≤◌, List, map, length, slice_get, Option, None, Some, option_map}
+use Rattle.std.specs.Prelude.{◌≡◌, ℕ, ◌+◌, ◌-◌, ◌≤◌, nat_lt, if◌then◌else◌, List, map, length, slice_get, Option, None, Some, option_map}
 use Rattle.gw_reorder.specs.State.{DeskState}
 use Rattle.gw_reorder.specs.declared.desk.Status.{Status}
 use Rattle.gw_reorder.specs.declared.desk.Status.TheVariants.{Waiting, Repeat, Stranger}
 use Rattle.gw_reorder.specs.own.Standing.{Stands}
 use Rattle.gw_gate.specs.Parts.{PlanSeen, ConformingSeen, TranslatedSeen}
-use Rattle.gw_gate.specs.Journal.{EntrySeen, Journal, Pair, Release, opening, current, accepted, arrivals, due, issued, jobs, kept, released}
+use Rattle.gw_gate.specs.Journal.{EntrySeen, Start, Journal, Pair, Release, current, accepted, arrivals, due, issued, jobs, kept, released}
 use Rattle.gw_gate.specs.Replies.{ReplySeen, IsJob, IsIdle, IsKept, IsRepeat, IsStranger, IsIssued, IsDone, IsOut, IsNothing, most}
+use Rattle.gw_gate.specs.Chapters.{most_in_all}
 use Rattle.gw_gate.specs.Headline.{CountFrom}
 
 -- the version in force with its plan, the number of arrivals, what was accepted in order, the pairs to be worked on in order, how many of them were taken, and the desks
@@ -19,8 +20,15 @@ pub record BooksSeen : Type 0 where
   pub jobs : ℕ
   pub desk : ℕ → DeskState TranslatedSeen
 
-abbrev pub journal_of : PlanSeen → List EntrySeen → Journal
-journal_of plan h = record { start = opening plan; entries = h }
+abbrev pub journal_of : Start → List EntrySeen → Journal
+journal_of start h = record { start = start; entries = h }
+
+-- what a start counts came of its entries, and these are few enough
+pub record FitsStart (s : Start) : Type 0 where
+  pub versions : s.version ≤ s.entries
+  pub acceptances : s.acceptances ≤ s.entries
+  pub arrivals : s.arrivals ≤ s.entries
+  pub few : s.entries ≤ most_in_all
 
 -- a released translation with its number
 abbrev pub given : Release → ℕ × TranslatedSeen
@@ -31,31 +39,35 @@ abbrev pub StandsAt : List EntrySeen → ℕ → DeskState TranslatedSeen → Ty
 StandsAt h r s = Stands s (due h r) (map given (released h r)) (λ n. kept h n r)
 
 -- the version and the plan in force
-pub record FitsPlan (plan : PlanSeen) (h : List EntrySeen) (version : ℕ) (now : PlanSeen) : Type 0 where
-  pub version_is : version ≡ (current (journal_of plan h)).number
-  pub plan_is : now ≡ (current (journal_of plan h)).plan
-  pub few : version ≤ length h
+pub record FitsPlan (start : Start) (h : List EntrySeen) (version : ℕ) (now : PlanSeen) : Type 0 where
+  pub version_is : version ≡ (current (journal_of start h)).number
+  pub plan_is : now ≡ (current (journal_of start h)).plan
+  pub few : version ≤ start.entries + length h
 
 -- the number of arrivals
-pub record FitsArrivals (h : List EntrySeen) (count : ℕ) : Type 0 where
-  pub count_is : count ≡ arrivals h
-  pub few : count ≤ length h
+pub record FitsArrivals (start : Start) (h : List EntrySeen) (count : ℕ) : Type 0 where
+  pub count_is : count ≡ start.arrivals + arrivals h
+  pub few : count ≤ start.entries + length h
 
--- what was accepted, under numbers from 0, and the pairs to be worked on
-pub record FitsQueue (h : List EntrySeen) (all : List ConformingSeen) (pairs : List Pair) (taken : ℕ) : Type 0 where
+-- what was accepted, under numbers that go on from the start, and the pairs to be worked on
+pub record FitsQueue (start : Start) (h : List EntrySeen) (all : List ConformingSeen) (pairs : List Pair) (taken : ℕ) : Type 0 where
   pub accepted_are : all ≡ map (λ a. a.conforming) (accepted h)
-  pub numbered : CountFrom 0 (map (λ a. a.n) (accepted h))
+  pub numbered : CountFrom start.acceptances (map (λ a. a.n) (accepted h))
   pub issued_are : pairs ≡ issued h
   pub taken_is : taken ≡ jobs h
   pub few : taken ≤ length h
 
--- the next pair to be worked on, with what was accepted under its number
-abbrev pub job_by : List ConformingSeen → Option Pair → Option (Pair × ConformingSeen)
-job_by all None = None
-job_by all (Some next) = option_map (λ c. (next, c)) (slice_get all next.n)
+-- what was accepted under a number, where the first has this one
+abbrev pub numbered_at : ℕ → List ConformingSeen → ℕ → Option ConformingSeen
+numbered_at first all n = if nat_lt n first then None else slice_get all (n - first)
 
-abbrev pub next_job : List ConformingSeen → List Pair → ℕ → Option (Pair × ConformingSeen)
-next_job all pairs taken = job_by all (slice_get pairs taken)
+-- the next pair to be worked on, with what was accepted under its number
+abbrev pub job_by : ℕ → List ConformingSeen → Option Pair → Option (Pair × ConformingSeen)
+job_by first all None = None
+job_by first all (Some next) = option_map (λ c. (next, c)) (numbered_at first all next.n)
+
+abbrev pub next_job : ℕ → List ConformingSeen → List Pair → ℕ → Option (Pair × ConformingSeen)
+next_job first all pairs taken = job_by first all (slice_get pairs taken)
 
 -- the reply that gives it
 abbrev pub job_reply : Option (Pair × ConformingSeen) → ReplySeen
@@ -79,10 +91,11 @@ abbrev pub release_reply : Option (ℕ × TranslatedSeen) → ReplySeen
 release_reply None = IsNothing
 release_reply (Some next) = IsOut next.0 next.1
 
--- the books of a gate that opened with this plan and has these entries
-pub record Fits (plan : PlanSeen) (h : List EntrySeen) (b : BooksSeen) : Type 0 where
-  pub plans : FitsPlan plan h b.version b.plan
-  pub arrivals : FitsArrivals h b.arrivals
-  pub queue : FitsQueue h b.accepted b.issued b.jobs
+-- the books of a gate whose journal starts so and has these entries
+pub record Fits (start : Start) (h : List EntrySeen) (b : BooksSeen) : Type 0 where
+  pub starts : FitsStart start
+  pub plans : FitsPlan start h b.version b.plan
+  pub arrivals : FitsArrivals start h b.arrivals
+  pub queue : FitsQueue start h b.accepted b.issued b.jobs
   pub desks : (r : ℕ) → StandsAt h r (b.desk r)
   pub within : length h ≤ most

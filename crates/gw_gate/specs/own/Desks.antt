@@ -1,5 +1,5 @@
 -- What the desks of a gate hold, by the receivers' numbers.
-use Rattle.std.specs.Prelude.{◌≡◌, ℕ, ◌<◌, ◌≤◌, true, if◌then◌else◌, List, map, slice_index_or, Option, option_map}
+use Rattle.std.specs.Prelude.{◌≡◌, ℕ, ◌<◌, ◌≤◌, Bool, true, false, length, if◌then◌else◌, List, map, slice_index_or, Option, option_map}
 use Rattle.std.specs.Arc.{arc_value}
 use Rattle.std.specs.declared.alloc.Global.{Global}
 use Rattle.std.specs.declared.sync.Arc.{Arc}
@@ -38,6 +38,11 @@ HasRoomFor desks c = (r : ℕ) → delivers c r ≡ true → 0 < (desk_at desks 
 -- the number is due at the desks to which the message goes
 abbrev pub due_to : ConformingSeen → ℕ → ℕ → DeskState TranslatedSeen → DeskState TranslatedSeen
 due_to c n r s = if delivers c r then with_due s n else s
+
+-- what is said of desks: something that is due at one of them wasn't given out, or nothing waits at any
+abbrev pub Waits : (ℕ → DeskState TranslatedSeen) → Bool → Type 0
+Waits desk true = (r : ℕ) × ((desk r).released < length (desk r).due)
+Waits desk false = (r : ℕ) → length (desk r).due ≤ (desk r).released
 
 -- what is next was given out
 abbrev pub given_out : DeskState TranslatedSeen → DeskState TranslatedSeen

@@ -1,4 +1,5 @@
 use Rattle.std.proofs.Common.{refl}
+use Rattle.std.specs.Arc.{arc_value}
 use Rattle.gw_stream.proofs.Bundling.{is_parcel}
 use Rattle.gw_stream.proofs.Enclosing.{written_has_no_end}
 use Rattle.gw_stream.proofs.parcel.pack.Goals as goal
@@ -9,4 +10,4 @@ framed-requires c = rw (c.deref-2.ensures.value, c.in_ok-content.ensures.value) 
 pub returns : goal.returns
 returns c route is =
     let content = rw (c.deref-2.ensures.value, c.in_ok-content.ensures.value, c.message-message.ensures.message, c.deref.ensures) at c.in_ok-block.ensures in
-    is_parcel _ _ _ route _ c.in_ok-translated.ensures.translates is refl content
+    is_parcel (arc_value c.args.conforming.now) _ _ route _ c.in_ok-translated.ensures.translates is refl content

@@ -2,7 +2,7 @@ use Rattle.std.proofs.Common.{ap, sym, ◌∙◌}
 use Rattle.std.specs.Arc.{arc_value}
 use Rattle.gw_reorder.specs.Calls.{status_of}
 use Rattle.gw_gate.specs.Seen.{plan_seen}
-use Rattle.gw_gate.specs.Values.{entries_seen}
+use Rattle.gw_gate.specs.Entries.{entries_seen, start_seen}
 use Rattle.gw_gate.specs.Replies.{Reissues, reply_to}
 use Rattle.gw_gate.specs.own.Desks.{desk_at}
 use Rattle.gw_gate.proofs.Accounts.{reissue_is}
@@ -14,5 +14,5 @@ returns c =
     let n = c.args.n in
     let r = c.args.receiver in
     ap (λ j. reply_to j (Reissues n r)) (sym c.self.view_is)
-    ∙ reissue_is (plan_seen (arc_value s.opening)) (entries_seen s.journal.items) n r (desk_at s.desks.items r) c.status_at.result (c.self.invariant.desks r)
+    ∙ reissue_is (start_seen s.start) (entries_seen s.journal.items) n r (desk_at s.desks.items r) c.status_at.result (c.self.invariant.desks r)
     (c.status_at.ensures ∙ ap (λ ds. status_of (desk_at ds r) n) c.deref.ensures.value)

@@ -3,7 +3,7 @@ use Rattle.std.specs.Arc.{arc_value}
 use Rattle.gw_gate.specs.declared.event.Entry as entry
 use Rattle.gw_gate.specs.Seen.{plan_seen, translated_seen}
 use Rattle.gw_gate.specs.Replies.{Releases, reply_to, IsOut, IsNothing}
-use Rattle.gw_gate.specs.Values.{entries_seen}
+use Rattle.gw_gate.specs.Entries.{entries_seen, start_seen}
 use Rattle.gw_gate.specs.own.Desks.{desk_at}
 use Rattle.gw_gate.proofs.Fitting.{fits_more, fits_out}
 use Rattle.gw_gate.proofs.Accounts.{out_next}
@@ -15,7 +15,7 @@ use Rattle.gw_gate.proofs.books.Books.release.Goals as goal
 pub invariant_of-self-2 : goal.invariant_of-self-2
 invariant_of-self-2 c =
     let s = c.self.inside in
-    let p = plan_seen (arc_value s.opening) in
+    let p = start_seen s.start in
     let h = entries_seen s.journal.items in
     let n = c.in-Some.n in
     let r = c.args.receiver in
@@ -26,26 +26,26 @@ invariant_of-self-2 c =
     (λ room. rw c.in-Ok-Ok.ensures' (fits_out p h _ n r t (desk_at c.release_at.new.desks.items) next c.release_at.ensures.this c.release_at.ensures.others room c.self.invariant))
 
 pub returns-in_default : goal.returns-in_default
-returns-in_default c = plain c.args.takes c.args.self.now (Releases c.args.receiver) IsNothing c.in_default.ensures refl
+returns-in_default c = plain c.args.takes c.args.self.now (Releases c.args.receiver) IsNothing c.in_default.ensures refl refl
 
 pub returns-then-len-eq-MOST : goal.returns-then-len-eq-MOST
 returns-then-len-eq-MOST c =
     let s = c.self.inside in
-    full (plan_seen (arc_value s.opening)) s.journal.items c.args.self.now c.self.view_is c.args.takes (Releases c.args.receiver) _ _ c.in-Some.ensures refl (sym (c.len.ensures ∙ s.journal.ok.0) ∙ c.if-len-eq-MOST.true)
+    full (start_seen s.start) s.journal.items c.args.self.now c.self.view_is c.args.takes (Releases c.args.receiver) _ _ c.in-Some.ensures refl (sym (c.len.ensures ∙ s.journal.ok.0) ∙ c.if-len-eq-MOST.true)
 
 pub returns-in_default-2 : goal.returns-in_default-2
 returns-in_default-2 c =
     let s = c.self.inside in
-    left_back (plan_seen (arc_value s.opening)) s.journal.items _ c.args.self.now (Releases c.args.receiver) _ _ c.self.invariant c.self.view_is
+    left_back (start_seen s.start) s.journal.items _ c.args.self.now (Releases c.args.receiver) _ _ c.self.invariant c.self.view_is
     (λ e. c.if-len-eq-MOST.false (c.len.ensures ∙ s.journal.ok.0 ∙ e)) c.in-Some.ensures refl
 
 pub invariant_of-self : goal.invariant_of-self
-invariant_of-self c = fits_again (plan_seen (arc_value c.self.inside.opening)) c.self.inside.journal.items _ _ c.prepared.ensures.same c.self.invariant
+invariant_of-self c = fits_again (start_seen c.self.inside.start) c.self.inside.journal.items _ _ c.prepared.ensures.same c.self.invariant
 
 pub returns-in_default-prepared : goal.returns-in_default-prepared
 returns-in_default-prepared c =
     let s = c.self.inside in
-    left_short (plan_seen (arc_value s.opening)) s.journal.items c.prepared.new.journal.items _ c.args.self.now (Releases c.args.receiver) _ _ c.self.invariant c.self.view_is
+    left_short (start_seen s.start) s.journal.items c.prepared.new.journal.items _ c.args.self.now (Releases c.args.receiver) _ _ c.self.invariant c.self.view_is
     (λ e. c.if-len-eq-MOST.false (c.len.ensures ∙ s.journal.ok.0 ∙ e)) c.prepared.ensures.same c.in-Some.ensures refl
 
 pub push_reserved-requires : goal.push_reserved-requires
@@ -54,6 +54,6 @@ push_reserved-requires c = omega (arith, c.in-Ok.ensures.room)
 pub returns : goal.returns
 returns c =
     let s = c.self.inside in
-    left_done (plan_seen (arc_value s.opening)) s.journal.items c.prepared.new.journal.items c.push_reserved.new.self.items _ c.args.self.now c.args.takes (Releases c.args.receiver) _ (entry.TheVariants.Out c.in-Some.n c.args.receiver c.in-Ok-Ok.copy) _ c.self.invariant c.self.view_is
+    left_done (start_seen s.start) s.journal.items c.prepared.new.journal.items c.push_reserved.new.self.items _ c.args.self.now c.args.takes (Releases c.args.receiver) _ (entry.TheVariants.Out c.in-Some.n c.args.receiver c.in-Ok-Ok.copy) _ c.self.invariant c.self.view_is
     (λ e. c.if-len-eq-MOST.false (c.len.ensures ∙ s.journal.ok.0 ∙ e)) c.prepared.ensures.same c.push_reserved.ensures.items c.in-Ok.ensures.note
     (c.in-Some.ensures ∙ ap (λ x. IsOut c.in-Some.n (translated_seen x)) (sym c.in-Ok-Ok.ensures)) (ap (λ x. Some (WasOut c.in-Some.n c.args.receiver (translated_seen x))) (c.in-Ok-Ok.ensures ∙ sym c.in-Ok-Ok.ensures'))

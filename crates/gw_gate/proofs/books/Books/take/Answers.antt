@@ -2,7 +2,7 @@ use Rattle.std.proofs.Common.{arith, ap, sym, refl, ◌∙◌}
 use Rattle.std.specs.Arc.{arc_value}
 use Rattle.gw_gate.specs.declared.event.Entry as entry
 use Rattle.gw_gate.specs.Seen.{plan_seen, conforming_seen}
-use Rattle.gw_gate.specs.Values.{entries_seen}
+use Rattle.gw_gate.specs.Entries.{entries_seen, start_seen}
 use Rattle.gw_gate.proofs.Fitting.{fits_more, fits_taken}
 use Rattle.gw_gate.proofs.Answering.{full, plain}
 use Rattle.gw_gate.specs.Replies.{Takes, IsJob, IsIdle}
@@ -12,7 +12,7 @@ use Rattle.gw_gate.proofs.books.Books.take.Goals as goal
 pub invariant_of-self-2 : goal.invariant_of-self-2
 invariant_of-self-2 c =
     let s = c.self.inside in
-    let p = plan_seen (arc_value s.opening) in
+    let p = start_seen s.start in
     let pair = c.in-Some.pair in
     fits_more p s.journal.items c.prepared.new.journal.items c.push_reserved.new.self.items (entry.TheVariants.Job pair.n pair.receiver) _ _
     c.prepared.ensures.same c.push_reserved.ensures.items (λ e. c.if-len-eq-MOST.false (c.len.ensures ∙ s.journal.ok.0 ∙ e)) c.self.invariant
@@ -22,26 +22,26 @@ pub overflow_add-self : goal.overflow_add-self
 overflow_add-self c = let k = c.self.invariant.queue.few in let w = c.self.invariant.within in omega (arith, k, w)
 
 pub returns-in_default : goal.returns-in_default
-returns-in_default c = plain c.args.takes c.args.self.now Takes IsIdle c.in_default.ensures refl
+returns-in_default c = plain c.args.takes c.args.self.now Takes IsIdle c.in_default.ensures refl refl
 
 pub returns-then-len-eq-MOST : goal.returns-then-len-eq-MOST
 returns-then-len-eq-MOST c =
     let s = c.self.inside in
-    full (plan_seen (arc_value s.opening)) s.journal.items c.args.self.now c.self.view_is c.args.takes Takes _ _ c.in-Some.ensures refl (sym (c.len.ensures ∙ s.journal.ok.0) ∙ c.if-len-eq-MOST.true)
+    full (start_seen s.start) s.journal.items c.args.self.now c.self.view_is c.args.takes Takes _ _ c.in-Some.ensures refl (sym (c.len.ensures ∙ s.journal.ok.0) ∙ c.if-len-eq-MOST.true)
 
 pub returns-in_default-try_clone : goal.returns-in_default-try_clone
 returns-in_default-try_clone c =
     let s = c.self.inside in
-    left_back (plan_seen (arc_value s.opening)) s.journal.items _ c.args.self.now Takes _ _ c.self.invariant c.self.view_is
+    left_back (start_seen s.start) s.journal.items _ c.args.self.now Takes _ _ c.self.invariant c.self.view_is
     (λ e. c.if-len-eq-MOST.false (c.len.ensures ∙ s.journal.ok.0 ∙ e)) c.in-Some.ensures refl
 
 pub invariant_of-self : goal.invariant_of-self
-invariant_of-self c = fits_again (plan_seen (arc_value c.self.inside.opening)) c.self.inside.journal.items _ _ c.prepared.ensures.same c.self.invariant
+invariant_of-self c = fits_again (start_seen c.self.inside.start) c.self.inside.journal.items _ _ c.prepared.ensures.same c.self.invariant
 
 pub returns-in_default-prepared : goal.returns-in_default-prepared
 returns-in_default-prepared c =
     let s = c.self.inside in
-    left_short (plan_seen (arc_value s.opening)) s.journal.items c.prepared.new.journal.items _ c.args.self.now Takes _ _ c.self.invariant c.self.view_is
+    left_short (start_seen s.start) s.journal.items c.prepared.new.journal.items _ c.args.self.now Takes _ _ c.self.invariant c.self.view_is
     (λ e. c.if-len-eq-MOST.false (c.len.ensures ∙ s.journal.ok.0 ∙ e)) c.prepared.ensures.same c.in-Some.ensures refl
 
 pub push_reserved-requires : goal.push_reserved-requires
@@ -50,6 +50,6 @@ push_reserved-requires c = omega (arith, c.in-Ok-prepared.ensures.room)
 pub returns : goal.returns
 returns c =
     let s = c.self.inside in
-    left_done (plan_seen (arc_value s.opening)) s.journal.items c.prepared.new.journal.items c.push_reserved.new.self.items _ c.args.self.now c.args.takes Takes _ (entry.TheVariants.Job c.in-Some.pair.n c.in-Some.pair.receiver) _ c.self.invariant c.self.view_is
+    left_done (start_seen s.start) s.journal.items c.prepared.new.journal.items c.push_reserved.new.self.items _ c.args.self.now c.args.takes Takes _ (entry.TheVariants.Job c.in-Some.pair.n c.in-Some.pair.receiver) _ c.self.invariant c.self.view_is
     (λ e. c.if-len-eq-MOST.false (c.len.ensures ∙ s.journal.ok.0 ∙ e)) c.prepared.ensures.same c.push_reserved.ensures.items c.in-Ok-prepared.ensures.note
     (c.in-Some.ensures ∙ ap (λ x. IsJob c.in-Some.pair.n c.in-Some.pair.receiver (conforming_seen x)) (sym c.in-Ok.ensures)) refl

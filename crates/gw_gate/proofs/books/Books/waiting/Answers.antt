@@ -2,7 +2,7 @@ use Rattle.std.proofs.Common.{ap, sym, ◌∙◌}
 use Rattle.std.specs.Arc.{arc_value}
 use Rattle.gw_reorder.specs.Calls.{next_of}
 use Rattle.gw_gate.specs.Seen.{plan_seen}
-use Rattle.gw_gate.specs.Values.{entries_seen}
+use Rattle.gw_gate.specs.Entries.{entries_seen, start_seen}
 use Rattle.gw_gate.specs.Replies.{Releases, reply_to}
 use Rattle.gw_gate.specs.own.Desks.{desk_at}
 use Rattle.gw_gate.proofs.Accounts.{release_is}
@@ -13,5 +13,5 @@ returns c =
     let s = c.self.inside in
     let r = c.args.receiver in
     ap (λ j. reply_to j (Releases r)) (sym c.self.view_is)
-    ∙ release_is (plan_seen (arc_value s.opening)) (entries_seen s.journal.items) r (desk_at s.desks.items r) _ (c.self.invariant.desks r)
+    ∙ release_is (start_seen s.start) (entries_seen s.journal.items) r (desk_at s.desks.items r) _ (c.self.invariant.desks r)
     (c.next_at.ensures ∙ ap (λ ds. next_of (desk_at ds r)) c.deref.ensures.value)

@@ -8,3 +8,6 @@ use Rattle.gw_gate.proofs.gate.Gate.step.Goals as goal
 pub invariant_of-self : goal.invariant_of-self
 invariant_of-self c =
     lawful_noted (IsTranslated Makes) false c.self.inside.books c.step.new.self (event_seen c.args.event) (noted_seen c.step.result) c.known.ensures c.step.ensures c.self.invariant
+
+pub step-requires : goal.step-requires
+step-requires c = c.self.invariant

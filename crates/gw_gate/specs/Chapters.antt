@@ -1,0 +1,37 @@
+-- Journals that follow one another.
+use Rattle.std.specs.Prelude.{◌≡◌, ℕ, nat_lt, Bool, false, ◌||◌, List, [], ◌∷◌, ◌++◌, length, flat_map, ⊤}
+use Rattle.std.specs.List.{list_any}
+use Rattle.gw_gate.specs.Journal.{EntrySeen, Journal, accepted, due, issued, jobs, released, end, start_after}
+
+-- ---- when a journal may be closed
+
+-- the most entries that were made in all when a journal is closed
+abbrev pub most_in_all : ℕ
+most_in_all = 9000000000000000000
+
+-- whether something that is due to this receiver wasn't released
+abbrev pub awaits : List EntrySeen → ℕ → Bool
+awaits h r = nat_lt (length (released h r)) (length (due h r))
+
+-- whether something that is due wasn't released: only receivers of messages that were accepted have anything due
+abbrev pub some_await : List EntrySeen → Bool
+some_await h = list_any (λ a. list_any (awaits h) a.conforming.receivers) (accepted h)
+
+-- whether the journal can't be closed: a pair wasn't taken, something due wasn't released, or too many entries were made in all
+abbrev pub is_pending : Journal → Bool
+is_pending j = nat_lt (jobs j.entries) (length (issued j.entries)) || some_await j.entries || nat_lt most_in_all (end j)
+
+-- ---- chapters
+
+-- each journal was closed when it could be, and the next one starts where it ended
+abbrev pub Follow : Journal → List Journal → Type 0
+Follow j [] = ⊤
+Follow j (next ∷ more) = (is_pending j ≡ false) × (next.start ≡ start_after j) × Follow next more
+
+-- the entries of all, in order
+abbrev pub all_entries : List Journal → List EntrySeen
+all_entries journals = flat_map (λ j. j.entries) journals
+
+-- Journals that follow one another, read as one: what was due and what was released, and under which versions, is said of this one.
+abbrev pub joined : Journal → List Journal → Journal
+joined first more = record { start = first.start; entries = first.entries ++ all_entries more }
