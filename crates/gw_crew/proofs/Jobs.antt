@@ -8,9 +8,10 @@ use Rattle.std.proofs.lemmas.Grind.{common_steps}
 use Rattle.gw_gate.specs.Parts.{MessageSeen, ConformingSeen, TranslatedSeen, delivers, is_under, same_receivers}
 use Rattle.gw_gate.specs.Journal.{EntrySeen, WasAccepted, WasRefused, WasSwapped, WasTaken, WasKept, WasIssued, WasOut, Start, Journal, Acceptance, Pair, pair}
 use Rattle.gw_gate.specs.Journal.{accepted, acceptance, due, is_due, issued, jobs, released, current, next_number, next_arrival, kept}
-use Rattle.gw_gate.specs.Replies.{EventSeen, Looks, Arrives, Refuses, Swaps, Takes, Puts, Reissues, Releases, IsAccepted, IsStale, IsSwapped}
-use Rattle.gw_gate.specs.Replies.{IsUnlike, IsStranger, IsRepeat, IsKept, IsDone, IsIssued, job_with, job_of, is_stranger, is_kept, out_with, out_of, reply_to}
+use Rattle.gw_gate.specs.Replies.{EventSeen, Looks, Arrives, Refuses, Swaps, Takes, Puts, Reissues, Releases, Cuts, IsAccepted, IsStale, IsSwapped}
+use Rattle.gw_gate.specs.Replies.{IsUnlike, IsStranger, IsRepeat, IsKept, IsDone, IsIssued, IsPending, IsClosed, job_with, job_of, is_stranger, is_kept, out_with, out_of, reply_to}
 use Rattle.gw_gate.specs.Replies.{added, most}
+use Rattle.gw_gate.specs.Chapters.{is_pending}
 use Rattle.gw_gate.specs.Lawful.{Lawful, empty, more, IsLawful}
 use Rattle.gw_gate.specs.Headline.{CountFrom, IsTranslated}
 use Rattle.gw_gate.proofs.Journals.{due-append}
@@ -148,6 +149,11 @@ issues j (Reissues n r) e is =
       ]
     ]) refl is
 issues j (Releases r) e is = gave j.entries r (slice_get (due j.entries r) (length (released j.entries r))) e is
+issues j Cuts e is =
+    (elim (is_pending j) as (λ b. added Cuts (if b then IsPending else IsClosed j) ≡ Some e → Issues j.entries e) [
+      | true ↦ λ x. absurd (none-some e x)
+      | false ↦ λ x. absurd (none-some e x)
+    ]) is
 
 -- ---- all entries
 

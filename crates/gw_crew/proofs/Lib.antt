@@ -8,4 +8,5 @@ pub mod Carrying
 pub mod Soloing
 pub mod Answering
 pub mod Swapped
+pub mod Cutting
 pub mod Bounds

@@ -4,9 +4,10 @@ use Rattle.std.specs.Prelude.{not, is_some, nat_le, ◌&&◌}
 use Rattle.gw_gate.specs.Parts.{MessageSeen, TranslatedSeen, is_under, same_receivers}
 use Rattle.gw_gate.specs.Journal.{EntrySeen, Journal, Acceptance, Pair, acceptance, due, is_due, issued, jobs, kept, released, current, next_number}
 use Rattle.gw_gate.specs.Journal.{next_arrival}
-use Rattle.gw_gate.specs.Replies.{EventSeen, Looks, Arrives, Refuses, Swaps, Takes, Puts, Reissues, Releases, ReplySeen, IsAccepted, IsStale, IsSwapped}
-use Rattle.gw_gate.specs.Replies.{IsUnlike, IsStranger, IsRepeat, IsKept, IsDone, IsIssued, IsFull, job_with, job_of, is_stranger, is_kept, out_with, out_of}
+use Rattle.gw_gate.specs.Replies.{EventSeen, Looks, Arrives, Refuses, Swaps, Takes, Puts, Reissues, Releases, Cuts, ReplySeen, IsAccepted, IsStale, IsSwapped}
+use Rattle.gw_gate.specs.Replies.{IsUnlike, IsStranger, IsRepeat, IsKept, IsDone, IsIssued, IsPending, IsClosed, IsFull, job_with, job_of, is_stranger, is_kept, out_with, out_of}
 use Rattle.gw_gate.specs.Replies.{reply_to, reply, limited, added, most}
+use Rattle.gw_gate.specs.Chapters.{is_pending}
 use Rattle.gw_gate.specs.Lawful.{IsLawful}
 use Rattle.gw_gate.specs.Headline.{IsTranslated}
 use Rattle.gw_crew.specs.Notes.{Answers}
@@ -22,6 +23,7 @@ full_answers Takes given is = refl
 full_answers (Puts n t) given is = refl
 full_answers (Reissues n r) given is = refl
 full_answers (Releases r) given is = refl
+full_answers Cuts given is = absurd (let no : false ≡ true = is in cc)
 
 first_true : (a b : Bool) → (a && b) ≡ true → a ≡ true
 first_true true b is = refl
@@ -75,6 +77,7 @@ module _ (Means : List ℕ → MessageSeen → ℕ → MessageSeen → Type 0) w
         | false ↦ elim (is_kept j.entries n r) as (λ b. Answers (Reissues n r) (if b then IsDone else IsIssued)) [ true ↦ tt | false ↦ tt ]
       ]
   row j (Releases r) lawful = gives_out j.entries r (slice_get (due j.entries r) (length (released j.entries r)))
+  row j Cuts lawful = elim (is_pending j) as (λ b. Answers Cuts (if b then IsPending else IsClosed j)) [ true ↦ tt | false ↦ tt ]
 
   -- the reply of a lawful journal
   pub answers : (j : Journal) (event : EventSeen) → IsLawful (IsTranslated Means) j → Answers event (reply j event)

@@ -4,7 +4,7 @@ use Rattle.gw_gate.specs.Parts.{PlanSeen}
 use Rattle.gw_gate.specs.Journal.{WasSwapped}
 use Rattle.gw_gate.specs.Replies as event
 use Rattle.gw_gate.specs.Replies.{ReplySeen, IsCurrent, IsAccepted, IsStale, IsRefused, IsSwapped, IsUnlike, IsJob, IsIdle, IsKept, IsRepeat, IsStranger}
-use Rattle.gw_gate.specs.Replies.{IsIssued, IsDone, IsOut, IsNothing, IsFull}
+use Rattle.gw_gate.specs.Replies.{IsIssued, IsDone, IsOut, IsNothing, IsPending, IsClosed, IsFull}
 use Rattle.gw_gate.specs.Seen.{plan_seen}
 use Rattle.gw_plan.specs.Held.{PlanHeld, plan_value}
 use Rattle.gw_plan.specs.Shapes.{PlanValue}
@@ -43,6 +43,8 @@ swaps_so text plan seen given r old new spells is tells noted = subst (λ x. Swa
     by IsDone noted = absurd noted.answers
     by (IsOut n t) noted = absurd noted.answers
     by IsNothing noted = absurd noted.answers
+    by IsPending noted = absurd noted.answers
+    by (IsClosed chapter) noted = absurd noted.answers
     by (IsFull e) noted = subst (Swaps text old (Err fault.Full)) (sym noted.notes) (full plan spells)
 
 pub short_so : (text : List ℕ) (old new : List NoteSeen) → new ≡ old → Swaps text old (Err fault.Memory) new

@@ -5,7 +5,7 @@ use Rattle.std.specs.Prelude.{not}
 use Rattle.gw_gate.specs.Journal.{WasTaken, WasKept}
 use Rattle.gw_gate.specs.Parts.{TranslatedSeen}
 use Rattle.gw_gate.specs.Replies.{Puts, ReplySeen, IsCurrent, IsAccepted, IsStale, IsRefused, IsSwapped, IsUnlike, IsJob, IsIdle, IsKept, IsRepeat, IsStranger}
-use Rattle.gw_gate.specs.Replies.{IsIssued, IsDone, IsOut, IsNothing, IsFull}
+use Rattle.gw_gate.specs.Replies.{IsIssued, IsDone, IsOut, IsNothing, IsPending, IsClosed, IsFull}
 use Rattle.gw_crew.specs.declared.workers.Became.{Became}
 use Rattle.gw_crew.specs.declared.workers.Became.TheVariants as became
 use Rattle.gw_crew.specs.Notes.{NoteSeen, WasFull, WasIdle, Added, Notes}
@@ -141,6 +141,8 @@ put_so n r t given b old new to is noted = subst (λ x. Put n r x old new) (sym 
     by IsDone noted = absurd noted.answers
     by (IsOut m u) noted = absurd noted.answers
     by IsNothing noted = absurd noted.answers
+    by IsPending noted = absurd noted.answers
+    by (IsClosed chapter) noted = absurd noted.answers
     by (IsFull e) noted = record { t = t; receiver = to; at = noted.at; noted = noted.notes }
 
 pub stops_so : (n r : ℕ) (s : Bool) (old : List NoteSeen) → s ≡ true → Adds (Finishes n r None s) old old

@@ -3,6 +3,7 @@ pub mod Seen
 pub mod Solos
 pub mod Works
 pub mod Swapping
+pub mod Cutting
 pub mod Streams
 pub mod Carries
 pub mod own

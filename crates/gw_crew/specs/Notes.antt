@@ -3,11 +3,11 @@ use Rattle.std.specs.Prelude.{◌≡◌, ℕ, List, ◌++◌, ⊤, IsTrue, Optio
 use Rattle.std.specs.Option.{option_to_list}
 use Rattle.gw_gate.specs.Parts.{PlanSeen, ConformingSeen, delivers}
 use Rattle.gw_gate.specs.Journal.{EntrySeen, Journal, end}
-use Rattle.gw_gate.specs.Replies.{EventSeen, Looks, Arrives, Refuses, Swaps, Takes, Puts, Reissues, Releases, added}
+use Rattle.gw_gate.specs.Replies.{EventSeen, Looks, Arrives, Refuses, Swaps, Takes, Puts, Reissues, Releases, Cuts, added}
 use Rattle.gw_gate.specs.Replies.{ReplySeen, IsCurrent, IsAccepted, IsStale, IsRefused, IsSwapped, IsUnlike, IsJob, IsIdle, IsKept, IsRepeat, IsStranger}
-use Rattle.gw_gate.specs.Replies.{IsIssued, IsDone, IsOut, IsNothing, IsFull}
+use Rattle.gw_gate.specs.Replies.{IsIssued, IsDone, IsOut, IsNothing, IsPending, IsClosed, IsFull}
 
--- what is noted of a reply: what it said, or the entry that it added, with its number in the journal
+-- what is noted of a reply: what it said, or the entry that it added, with its number over all chapters
 pub data NoteSeen : Type 0 where
   Looked : (version : ℕ) → (plan : PlanSeen) → NoteSeen
   WasStale : (version : ℕ) → (conforming : ConformingSeen) → NoteSeen
@@ -61,6 +61,8 @@ Answers (Reissues n r) (IsFull back) = back ≡ Reissues n r
 Answers (Releases r) (IsOut n t) = ⊤
 Answers (Releases r) IsNothing = ⊤
 Answers (Releases r) (IsFull back) = back ≡ Releases r
+Answers Cuts IsPending = ⊤
+Answers Cuts (IsClosed chapter) = ⊤
 Answers event given = ⊥
 
 -- a reply was given and noted
@@ -69,7 +71,7 @@ pub record Notes (event : EventSeen) (given : ReplySeen) (old new : List NoteSee
   pub at : ℕ
   pub notes : new ≡ old ++ option_to_list (note_of at event given)
 
--- for want of memory the event came back, and nothing was noted
+-- after an allocation failure the event came back, and nothing was noted
 pub record ComesBack (event back : EventSeen) (old new : List NoteSeen) : Type 0 where
   pub back_is : back ≡ event
   pub notes : new ≡ old
@@ -86,7 +88,7 @@ NotesAt before event result old new = MatchResult result (λ given. new ≡ old 
 
 -- ---- what notes hold
 
--- an entry with its number in the journal
+-- an entry with its number over all chapters
 pub record ReceiptSeen : Type 0 where
   pub at : ℕ
   pub entry : EntrySeen

@@ -2,7 +2,7 @@
 use Rattle.std.specs.Prelude.{List, map}
 use Rattle.std.specs.Arc.{arc_value}
 use Rattle.gw_gate.specs.Seen.{plan_seen, conforming_seen}
-use Rattle.gw_gate.specs.Values.{entry_seen}
+use Rattle.gw_gate.specs.Entries.{entry_seen}
 use Rattle.gw_crew.specs.declared.note.Note as note
 use Rattle.gw_crew.specs.Notes.{NoteSeen, Looked, WasStale, WasFull, WasIdle, WasNothing, Added}
 

@@ -34,7 +34,7 @@ told (IsSwapped v) = Ok v
 told (IsUnlike plan) = Err fault.Unlike
 told given = Err fault.Full
 
--- why there is no plan to swap in: want of memory, or the text's fault
+-- why there is no plan to swap in: an allocation failure, or the text's fault
 abbrev pub IsRefused : List ℕ → SwapFault → Type 0
 IsRefused text fault.Memory = ⊤
 IsRefused text (fault.Plan refusal) = spelled text ≡ Err refusal

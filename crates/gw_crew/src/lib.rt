@@ -1,4 +1,4 @@
-//! Who works at a gate: doors through which it is asked and which note what it replied, workers, couriers, and swaps of plans.
+//! Who works at a gate: doors through which it is asked and which note what it replied, workers, couriers, swaps of plans, and chapters that are closed.
 //!
 //! All of them rest on the law of [`Door`] alone.
 #![tactic(auto)]
@@ -6,6 +6,7 @@
 mod blocks;
 mod clock;
 mod couriers;
+mod cuts;
 mod door;
 mod note;
 mod pause;
@@ -15,9 +16,10 @@ mod workers;
 
 pub use clock::Clock;
 pub use couriers::courier;
+pub use cuts::cut;
 pub use door::{Door, Phase};
 pub use note::{Note, Receipt};
 pub use pause::Pause;
-pub use solo::{Solo, step};
+pub use solo::{Solo, room_for, step};
 pub use swaps::{SwapFault, swap};
 pub use workers::worker;

@@ -3,14 +3,14 @@ use gw_gate::Entry;
 use gw_plan::{Conforming, Plan};
 use std::sync::Arc;
 
-/// An entry, with its number in the journal, from 0.
+/// An entry, with its number over all chapters, from 0.
 #[derive(Drop)]
 pub struct Receipt {
     pub at: usize,
     pub entry: Entry,
 }
 
-/// What is noted of a reply. Swaps of unlike receivers and results that aren't kept leave no note.
+/// What is noted of a reply. A Cut, a swap of unlike receivers and a result that isn't kept leave no note.
 #[derive(Drop)]
 pub enum Note {
     /// Current: the version and plan in force.

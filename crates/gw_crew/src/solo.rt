@@ -1,6 +1,7 @@
 //! A gate for one thread.
-ghost use Rattle.std.specs.Prelude.{◌≡◌, IsTrue, IfOk, IfErr, OnErr, map};
+ghost use Rattle.std.specs.Prelude.{◌≡◌, ◌≢◌, ◌≤◌, ◌+◌, IsTrue, IfOk, IfErr, OnErr, map, vec_len, vec_capacity};
 ghost use Rattle.std.specs.Option.{option_map};
+ghost use Rattle.gw_gate.specs.Replies.{Cuts};
 ghost use Rattle.gw_gate.specs.Values.{event_seen, reply_seen};
 ghost use Rattle.gw_crew.specs.Seen.{note_seen, notes_seen};
 ghost use Rattle.gw_crew.specs.Solos.{StepsOnce, asked_for, event_of, is_copied, plain_by};
@@ -18,7 +19,7 @@ pub struct Solo {
     notes: Vec<Note>,
 }
 
-// (by hand: so no crate above proves again how what lies in it is let go)
+// (by hand: so no crate above proves again how its parts are dropped)
 impl Drop for Solo {
     fn drop(self) {
         let Solo { gate: _, notes: _ } = self;
@@ -78,13 +79,24 @@ fn event_of(reply: Reply) -> Event
     }
 }
 
-/// One step of a gate, with its note. An error is want of memory: the event comes back, and nothing changed.
+/// Whether there is room for the note of the reply to an event, after it was made. A Cut leaves no note, and needs none.
+pub fn room_for(notes: &mut Vec<Note>, event: &Event) -> bool
+    ensures same { notes.new.items ≡ notes.old.items }
+    ensures room { IsTrue result → event_seen event.now ≢ Cuts → vec_len notes.new + 1 ≤ vec_capacity notes.new }
+{
+    match event {
+        Event::Cut => true,
+        _ => notes.reserve(1).is_ok(),
+    }
+}
+
+/// One step of a gate, with its note. An error is an allocation failure: the event comes back, and nothing changed.
 pub fn step(gate: &mut Gate, event: Event) -> Result<(Reply, Option<Note>), Event>
     ensures { StepsOnce gate.old (event_seen event) result gate.new }
 {
-    // (their clauses tell that the journal starts at 0 and is lawful)
-    let _opening = gate.opening();
-    let at = gate.journal().len();
+    // (for the clause that the journal is lawful)
+    gate.journal();
+    let at = gate.end() as usize;
     let receiver = asked_for(&event);
     match gate.step_noted(event) {
         Err(event) => Err(event),
@@ -135,14 +147,14 @@ impl Door for Solo {
 
     ghost noted = { λ s. s.notes };
 
-    /// One step of the gate, noted with the number of its entry. An error is want of memory: the event comes back, and nothing changed.
+    /// One step of the gate, noted with the number of its entry. An error is an allocation failure: the event comes back, and nothing changed.
     fn call(&mut self, event: Event) -> Result<Reply, Event>
         ensures calls { Calls self.old.notes (event_seen event) (answer_seen result) self.new.notes }
         ensures step { IfOk result (λ given. Replied self.old.gate (event_seen event) (reply_seen given) self.new.gate) }
         ensures noted { NotesAt self.old.gate (event_seen event) (answer_seen result) self.old.notes self.new.notes }
         ensures err { OnErr result (self.new.gate ≡ self.old.gate) }
     {
-        if self.notes.reserve(1).is_err() {
+        if !room_for(&mut self.notes, &event) {
             return Err(event);
         }
         match step(&mut self.gate, event) {

@@ -53,23 +53,8 @@ plain takes j event given row none stays =
     let o : added event (reply j event) ≡ None = ap (added event) r ∙ none in
     record { replied = record { reply_is = sym r; new_is = sym (ap (or_next (with_added j (added event (reply j event)))) (ap closed_by r ∙ stays) ∙ ap (with_added j) o) }; note_is = note_none takes ∙ ap (noted takes) (sym o) }
 
--- a cut where something is pending
-pub cut_pending : (takes : Bool) (j : Journal) → is_pending j ≡ true → Noted takes j Cuts IsPending None j
-cut_pending takes j e = plain takes j Cuts IsPending (ap (λ b. if b then IsPending else IsClosed j) e) refl refl
-
 closed_reply : (j : Journal) → is_pending j ≡ false → reply j Cuts ≡ IsClosed j
 closed_reply j e = open_reply j Cuts (IsClosed j) (ap (λ b. if b then IsPending else IsClosed j) e) refl
-
--- a cut where nothing is
-pub cut_closed : (takes : Bool) (j chapter new : Journal) → is_pending j ≡ false → chapter ≡ j → new ≡ from (start_after j) → Noted takes j Cuts (IsClosed chapter) None new
-cut_closed takes j chapter new e same is =
-    let r = closed_reply j e in
-    let o : added Cuts (reply j Cuts) ≡ None = ap (added Cuts) r in
-    subst (λ x. Noted takes j Cuts (IsClosed x) None new) (sym same)
-    (record {
-      replied = record { reply_is = sym r; new_is = is ∙ sym (ap (or_next (with_added j (added Cuts (reply j Cuts)))) (ap closed_by r) ∙ ap (λ x. or_next x (Some j)) (ap (with_added j) o)) };
-      note_is = note_none takes ∙ ap (noted takes) (sym o);
-    })
 
 -- the same, where memory is wanting
 pub cut_back : (j new : Journal) → is_pending j ≡ false → new ≡ j → Refused j Cuts Cuts new

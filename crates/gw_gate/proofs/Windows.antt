@@ -40,9 +40,6 @@ next_pair (Some n) None = refl
 next_pair (Some n) (Some None) = refl
 next_pair (Some n) (Some (Some x)) = refl
 
-pub next_seen : (s : Held) → next_of (desk_seen s) ≡ given_seen (next_of s)
-next_seen s = ap (kept_pair (slice_get s.due s.released)) (slice_get-map slot_seen s.kept 0) ∙ next_pair (slice_get s.due s.released) (slice_get s.kept 0)
-
 map_set : {A B : Type 0} (f : A → B) (xs : List A) (i : ℕ) (x : A) → map f (slice_set xs i x) ≡ slice_set (map f xs) i (f x)
 map_set f [] i x = refl
 map_set f (y ∷ xs) zero x = refl
@@ -63,10 +60,6 @@ bring_seen s Stranger n x = refl
 
 pub hold_seen : (s : Held) (n : ℕ) (x : Arc Translated Global) → desk_seen (after_holding s n x) ≡ after_holding (desk_seen s) n (value_seen x)
 hold_seen s n x = bring_seen s (status_of s n) n x ∙ ap (λ told. after_bringing (desk_seen s) told n (value_seen x)) (sym (status_seen s n))
-
-giving_seen : (s : Held) (o : Option (ℕ × Arc Translated Global)) → desk_seen (after_giving s o) ≡ after_giving (desk_seen s) (given_seen o)
-giving_seen s None = refl
-giving_seen s (Some given) = ap (λ l. record (desk_seen s) { released = s.released + 1; kept = l }) (map_drop slot_seen s.kept)
 
 -- ---- among the others
 

@@ -1,14 +1,14 @@
 -- A call of a pass, by the step that it made.
-use Rattle.std.proofs.Common.{◌≡◌, List, [], ◌∷◌, ◌++◌, Option, None, Some, subst, ap, ◌∙◌}
+use Rattle.std.proofs.Common.{◌≡◌, ◌≢◌, List, [], ◌∷◌, ◌++◌, Option, None, Some, subst, ap, ◌∙◌}
 use Rattle.std.specs.Prelude.{Result, Ok}
-use Rattle.gw_gate.specs.Replies.{EventSeen}
+use Rattle.gw_gate.specs.Replies.{EventSeen, Cuts}
 use Rattle.gw_gate.specs.Values.{reply_seen}
 use Rattle.gw_gate.specs.declared.event.Event.{Event}
 use Rattle.gw_gate.specs.declared.event.Reply.{Reply}
 use Rattle.gw_crew.specs.declared.note.Note.{Note}
 use Rattle.gw_crew.specs.Notes.{NoteSeen, Notes}
 use Rattle.gw_crew.specs.Seen.{note_seen, notes_seen}
-use Rattle.gw_crew.proofs.Soloing.{quiet, told, pushed}
+use Rattle.gw_crew.proofs.Soloing.{quiet, told, pushed, not_cut}
 use Rattle.gw_run.specs.Passes.{IsReplyTo}
 use Rattle.gw_run.specs.own.Steps.{StepsSomewhere}
 
@@ -34,3 +34,10 @@ pub told_call : (event : EventSeen) (answer : Result (Reply × Option Note) Even
 told_call event answer reply left n old items same more steps is some seen kept added =
     let s : StepsSomewhere event (Ok (reply, Some n)) = subst (StepsSomewhere event) (is ∙ ap (λ l. Ok (reply, l)) some) steps in
     told s.before s.after event (reply_seen reply) (note_seen n) old (notes_seen more) s.step (pushed same more n old added (ap notes_seen kept ∙ seen))
+
+-- so it wasn't that of a Cut
+pub no_cut : (event : EventSeen) (answer : Result (Reply × Option Note) Event) (reply : Reply) (left : Option Note) (n : Note)
+    → StepsSomewhere event answer → answer ≡ Ok (reply, left) → left ≡ Some n → event ≢ Cuts
+no_cut event answer reply left n steps is some =
+    let s : StepsSomewhere event (Ok (reply, Some n)) = subst (StepsSomewhere event) (is ∙ ap (λ l. Ok (reply, l)) some) steps in
+    not_cut s.before s.after event (reply_seen reply) (note_seen n) s.step

@@ -1,20 +1,23 @@
 -- Entries are counted as they are noted.
-use Rattle.std.proofs.Common.{◌≡◌, ◌+◌, ℕ, List, [], ◌∷◌, ◌++◌, Option, None, Some, length, refl, sym, ap, ◌∙◌, arith, length-append}
+use Rattle.std.proofs.Common.{◌≡◌, ◌+◌, ℕ, Bool, true, false, if◌then◌else◌, List, [], ◌∷◌, ◌++◌, Option, None, Some, length, refl, sym, ap, ◌∙◌, arith, length-append}
 use Rattle.std.specs.Prelude.{Result, Ok, Err}
 use Rattle.std.specs.Option.{option_map}
 use Rattle.std.proofs.lemmas.List.{map-append}
+use Rattle.std.proofs.lemmas.Option.{none-some}
+use Rattle.gw_gate.specs.Chapters.{is_pending}
 use Rattle.gw_gate.specs.Journal.{EntrySeen, Journal, end}
-use Rattle.gw_gate.specs.Replies.{EventSeen, Looks, Arrives, Refuses, Swaps, Takes, Puts, Reissues, Releases, added, with_added, reply}
+use Rattle.gw_gate.specs.Replies.{EventSeen, Looks, Arrives, Refuses, Swaps, Takes, Puts, Reissues, Releases, Cuts, added, with_added, left_by, closed_by, limited, most, reply}
 use Rattle.gw_gate.specs.Replies.{ReplySeen, IsCurrent, IsAccepted, IsStale, IsRefused, IsSwapped, IsUnlike, IsJob, IsIdle, IsKept, IsRepeat, IsStranger}
-use Rattle.gw_gate.specs.Replies.{IsIssued, IsDone, IsOut, IsNothing, IsFull}
+use Rattle.gw_gate.specs.Replies.{IsIssued, IsDone, IsOut, IsNothing, IsPending, IsClosed, IsFull}
 use Rattle.gw_gate.specs.declared.event.Event.{Event}
 use Rattle.gw_gate.specs.declared.event.Reply.{Reply}
 use Rattle.gw_crew.specs.declared.note.Note.{Note}
-use Rattle.gw_crew.specs.Notes.{NoteSeen, Looked, WasStale, WasFull, WasIdle, WasNothing, Added, plain_note, note_or}
+use Rattle.gw_crew.specs.Notes.{NoteSeen, Looked, WasStale, WasFull, WasIdle, WasNothing, Added, Answers, plain_note, note_or}
 use Rattle.gw_crew.specs.Seen.{note_seen, notes_seen}
 use Rattle.gw_crew.specs.Solos.{StepsOnce, Stepped}
 use Rattle.gw_run.specs.Passes.{receipts}
 use Rattle.gw_run.specs.own.Steps.{added_by, counted_by}
+use Rattle.gw_run.proofs.Fitting.{some_is}
 
 -- ---- notes
 
@@ -42,6 +45,8 @@ plain_adds_none event (IsStranger t) = refl
 plain_adds_none event IsIssued = refl
 plain_adds_none event IsDone = refl
 plain_adds_none event (IsOut n t) = refl
+plain_adds_none event IsPending = refl
+plain_adds_none event (IsClosed chapter) = refl
 plain_adds_none event (IsFull back) = refl
 plain_adds_none Looks IsNothing = refl
 plain_adds_none (Arrives c) IsNothing = refl
@@ -51,27 +56,66 @@ plain_adds_none Takes IsNothing = refl
 plain_adds_none (Puts n t) IsNothing = refl
 plain_adds_none (Reissues n r) IsNothing = refl
 plain_adds_none (Releases r) IsNothing = refl
+plain_adds_none Cuts IsNothing = refl
 
 -- ---- a step
 
-grows : (j : Journal) (o : Option EntrySeen) (k : ℕ) (plain : Option NoteSeen) → added_by plain ≡ 0
-    → length (with_added j o).entries ≡ length j.entries + added_by (note_or k plain o)
+-- the journal that a Cut closes is the one that it found
+closes_this : (j c : Journal) → IsClosed c ≡ reply j Cuts → c ≡ j
+closes_this j c is = by (is_pending j) (ap closed_by is)
+  where
+    by : (b : Bool) → Some c ≡ closed_by (limited most j Cuts (if b then IsPending else IsClosed j)) → c ≡ j
+    by true e = absurd (none-some c (sym e))
+    by false e = some_is c j e
+
+-- a journal that was closed takes its entries with it, and all are counted on
+ends_with : (j : Journal) (event : EventSeen) (given : ReplySeen) → Answers event given → given ≡ reply j event → end (left_by j event given) ≡ end (with_added j (added event given))
+ends_with j event (IsCurrent v p) row is = refl
+ends_with j event (IsAccepted n arrival) row is = refl
+ends_with j event (IsStale v c) row is = refl
+ends_with j event (IsRefused arrival) row is = refl
+ends_with j event (IsSwapped v) row is = refl
+ends_with j event (IsUnlike p) row is = refl
+ends_with j event (IsJob n r c) row is = refl
+ends_with j event IsIdle row is = refl
+ends_with j event IsKept row is = refl
+ends_with j event (IsRepeat t) row is = refl
+ends_with j event (IsStranger t) row is = refl
+ends_with j event IsIssued row is = refl
+ends_with j event IsDone row is = refl
+ends_with j event (IsOut n t) row is = refl
+ends_with j event IsNothing row is = refl
+ends_with j event IsPending row is = refl
+ends_with j event (IsFull back) row is = refl
+ends_with j Cuts (IsClosed chapter) row is =
+    let same : end chapter ≡ end j = ap end (closes_this j chapter is) in
+    omega (arith, same)
+ends_with j Looks (IsClosed chapter) row is = absurd row
+ends_with j (Arrives c) (IsClosed chapter) row is = absurd row
+ends_with j (Refuses code) (IsClosed chapter) row is = absurd row
+ends_with j (Swaps p) (IsClosed chapter) row is = absurd row
+ends_with j Takes (IsClosed chapter) row is = absurd row
+ends_with j (Puts n t) (IsClosed chapter) row is = absurd row
+ends_with j (Reissues n r) (IsClosed chapter) row is = absurd row
+ends_with j (Releases r) (IsClosed chapter) row is = absurd row
+
+grows : (j : Journal) (o : Option EntrySeen) (k : ℕ) (plain : Option NoteSeen) → added_by plain ≡ 0 → end (with_added j o) ≡ end j + added_by (note_or k plain o)
 grows j None k plain none = omega (arith, none)
-grows j (Some e) k plain none = length-append j.entries (e ∷ [])
+grows j (Some e) k plain none = let long = length-append j.entries (e ∷ []) in omega (arith, long)
 
 stepped_grows : (before after : Journal) (event : EventSeen) (given : ReplySeen) (left : Option NoteSeen) → Stepped before event given left after
-    → length after.entries ≡ length before.entries + added_by left
+    → end after ≡ end before + added_by left
 stepped_grows before after event given left step =
-    let added_is : added event (reply before event) ≡ added event given = ap (added event) (sym step.replied.reply_is) in
-    ap (λ (j : Journal). length j.entries) (step.replied.new_is ∙ ap (with_added before) added_is)
+    ap end (step.replied.new_is ∙ ap (left_by before event) (sym step.replied.reply_is))
+    ∙ ends_with before event given step.answers step.replied.reply_is
     ∙ grows before (added event given) (end before) (plain_note event given) (plain_adds_none event given)
-    ∙ ap (λ o. length before.entries + added_by o) (sym step.note_is)
+    ∙ ap (λ o. end before + added_by o) (sym step.note_is)
 
--- the journal has as many entries more as the step's note tells of
+-- there are as many entries more in all as the step's note tells of
 pub step_grows : (before after : Journal) (event : EventSeen) (result : Result (Reply × Option Note) Event) → StepsOnce before event result after
-    → length after.entries ≡ length before.entries + counted_by result
+    → end after ≡ end before + counted_by result
 step_grows before after event (Ok answer) step = stepped_grows before after event _ _ step
-step_grows before after event (Err back) step = let same = ap (λ (j : Journal). length j.entries) step.after_is in omega (arith, same)
+step_grows before after event (Err back) step = let same = ap end step.after_is in omega (arith, same)
 
 -- ---- a pass
 

@@ -32,6 +32,7 @@ use Rattle.gw_plan.specs.contracts.translated.Translated as Translated
 use Rattle.gw_reorder.proofs.desk.Desk.TheSendSync as desk
 use Rattle.gw_gate.proofs.books.Pair.TheSendSync as pair
 use Rattle.gw_gate.specs.contracts.event.Entry as Entry
+use Rattle.gw_gate.specs.contracts.chapter.Start as Start
 use Rattle.gw_gate.specs.contracts.books.Books as Books
 use Rattle.gw_gate.specs.contracts.gate.Gate as Gate
 use Rattle.gw_crew.proofs.door.Phase.TheSendSync as phase
@@ -129,8 +130,11 @@ ruleset held = (Plan-send, Plan-sync, Conforming-send, Conforming-sync, Translat
 Entry-send : IsSend (Entry.the_field).row
 Entry-send = search held depth 60 fits 50000
 
+Start-send : IsSend (Start.the_field).row
+Start-send = search held depth 60 fits 50000
+
 Books-send : IsSend (Books.the_field).row
-Books-send = search (Entry-send, desk.the_send, pair.the_field_send, held) depth 60 fits 50000
+Books-send = search (Entry-send, Start-send, desk.the_send, pair.the_field_send, held) depth 60 fits 50000
 
 pub Gate-send : IsSend (Gate.the_field).row
 Gate-send = search (Books-send, sendable) depth 60 fits 50000

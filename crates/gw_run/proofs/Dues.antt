@@ -128,18 +128,18 @@ count_end : (first : ℕ) (ns : List ℕ) (n : ℕ) → CountFrom first (ns ++ n
 count_end first [] n all = let a = all.0 in omega (arith, a)
 count_end first (m ∷ ns) n all = let a = count_end (first + 1) ns n all.1 in omega (arith, a)
 
--- acceptances of the first entries count from 0 too
-pub counted_until : (h : List EntrySeen) → CountFrom 0 (map n_of (accepted h)) → (k : ℕ) → CountFrom 0 (map n_of (accepted (take k h)))
-counted_until h all k =
+-- acceptances of the first entries count on from the same number
+pub counted_until : (first : ℕ) (h : List EntrySeen) → CountFrom first (map n_of (accepted h)) → (k : ℕ) → CountFrom first (map n_of (accepted (take k h)))
+counted_until first h all k =
     let whole : map n_of (accepted h) ≡ map n_of (accepted (take k h)) ++ map n_of (accepted (drop k h)) =
     ap (λ l. map n_of (accepted l)) (sym (take-append-drop k h)) ∙ ap (map n_of) (accepted-append (take k h) (drop k h)) ∙ map-append n_of (accepted (take k h)) (accepted (drop k h)) in
-    count_front 0 (map n_of (accepted (take k h))) (map n_of (accepted (drop k h))) (subst (CountFrom 0) whole all)
+    count_front first (map n_of (accepted (take k h))) (map n_of (accepted (drop k h))) (subst (CountFrom first) whole all)
 
-number_is : (h : List EntrySeen) (n arrival : ℕ) (c : ConformingSeen) → CountFrom 0 (map n_of (accepted (h ++ WasAccepted n arrival c ∷ []))) → n ≡ length (accepted h)
-number_is h n arrival c all =
+number_is : (first : ℕ) (h : List EntrySeen) (n arrival : ℕ) (c : ConformingSeen) → CountFrom first (map n_of (accepted (h ++ WasAccepted n arrival c ∷ []))) → n ≡ first + length (accepted h)
+number_is first h n arrival c all =
     let new : Acceptance = record { n = n; conforming = c } in
     let m : map n_of (accepted (h ++ WasAccepted n arrival c ∷ [])) ≡ map n_of (accepted h) ++ n ∷ [] = ap (map n_of) (accepted-append h (WasAccepted n arrival c ∷ [])) ∙ map-append n_of (accepted h) (new ∷ []) in
-    let last = count_end 0 (map n_of (accepted h)) n (subst (CountFrom 0) m all) in
+    let last = count_end first (map n_of (accepted h)) n (subst (CountFrom first) m all) in
     let l = length-map (accepted h) n_of in omega (arith, last, l)
 
 -- ---- entries that change nothing of what is owed
@@ -171,8 +171,8 @@ not_last ns n all = by (cases_lt 0 (length ns))
         ap (λ o. is_last_by o n) (slice_get-get_or ns k 0 (omega arith)) ∙ differs (get_or ns k 0) n (omega arith)
     by (inr none) = ap (λ o. is_last_by o n) (slice_get_past ns (length ns - 1) (omega arith))
 
-owes_accepted : (h : List EntrySeen) (n arrival r : ℕ) (c : ConformingSeen) (s : OwedSeen) → CountFrom 0 (map n_of (accepted h)) → n ≡ length (accepted h) → kept h n r ≡ None → Owes h r s → Owes (h ++ WasAccepted n arrival c ∷ []) r (due_to c n r s)
-owes_accepted h n arrival r c s counted is fresh was = by (delivers c r) refl
+owes_accepted : (first : ℕ) (h : List EntrySeen) (n arrival r : ℕ) (c : ConformingSeen) (s : OwedSeen) → CountFrom first (map n_of (accepted h)) → n ≡ first + length (accepted h) → kept h n r ≡ None → Owes h r s → Owes (h ++ WasAccepted n arrival c ∷ []) r (due_to c n r s)
+owes_accepted first h n arrival r c s counted is fresh was = by (delivers c r) refl
   where
     e : List EntrySeen
     e = WasAccepted n arrival c ∷ []
@@ -186,8 +186,8 @@ owes_accepted h n arrival r c s counted is fresh was = by (delivers c r) refl
     by : (b : Bool) → delivers c r ≡ b → Owes (h ++ WasAccepted n arrival c ∷ []) r (due_to c n r s)
     by true goes =
         let d : due (h ++ e) r ≡ due h r ++ n ∷ [] = due-append h e r ∙ ap (λ x. due h r ++ map n_of (cond x (new ∷ []) [])) goes in
-        let first : is_last s.due n ≡ false = ap (λ l. is_last l n) was.due_is ∙ not_last (due h r) n (due_below h r n counted is) in
-        let changed : due_to c n r s ≡ due_new s n = ap (λ b. if b then with_due s n else s) goes ∙ ap (λ b. if b then s else due_new s n) first in
+        let new_there : is_last s.due n ≡ false = ap (λ l. is_last l n) was.due_is ∙ not_last (due h r) n (due_below h first r n counted is) in
+        let changed : due_to c n r s ≡ due_new s n = ap (λ b. if b then with_due s n else s) goes ∙ ap (λ b. if b then s else due_new s n) new_there in
         subst (Owes (h ++ e) r) (sym changed) (record {
           due_is = ap (λ l. l ++ n ∷ []) was.due_is ∙ sym d;
           kept_is =
@@ -278,8 +278,8 @@ and_false : (b : Bool) → (b && false) ≡ false
 and_false true = refl
 and_false false = refl
 
-owes_kept : (h : List EntrySeen) (m r : ℕ) (t : TranslatedSeen) (s : OwedSeen) → CountFrom 0 (map n_of (accepted h)) → Owes h r s → Owes (h ++ WasKept m t ∷ []) r (if t.receiver == r then with_kept s m else s)
-owes_kept h m r t s counted was = by (cases_eq t.receiver r)
+owes_kept : (first : ℕ) (h : List EntrySeen) (m r : ℕ) (t : TranslatedSeen) (s : OwedSeen) → CountFrom first (map n_of (accepted h)) → Owes h r s → Owes (h ++ WasKept m t ∷ []) r (if t.receiver == r then with_kept s m else s)
+owes_kept first h m r t s counted was = by (cases_eq t.receiver r)
   where
     e : List EntrySeen
     e = WasKept m t ∷ []
@@ -294,7 +294,7 @@ owes_kept h m r t s counted was = by (cases_eq t.receiver r)
           due_is = was.due_is ∙ sym d;
           kept_is =
               ap (λ l. kept_at (position (λ k. k == m) l) s.kept) was.due_is ∙ ap (kept_at (position (λ k. k == m) (due h r))) was.kept_is
-              ∙ sym (ap (map (λ n. is_kept (h ++ e) n r)) d ∙ marked ∙ marks_place (λ n. is_kept h n r) m 0 (due h r) (rise_among (λ a. delivers a.conforming r) 0 (accepted h) counted));
+              ∙ sym (ap (map (λ n. is_kept (h ++ e) n r)) d ∙ marked ∙ marks_place (λ n. is_kept h n r) m first (due h r) (rise_among (λ a. delivers a.conforming r) first (accepted h) counted));
           given_is = was.given_is ∙ sym (ap length (released-append h e r ∙ append-nil (released h r)));
         })
     by (inr other) =
@@ -327,16 +327,16 @@ owes_out h n to r t s was = by (to == r) refl
 
 -- ---- one entry more
 
-entered : (h : List EntrySeen) (e : EntrySeen) (r : ℕ) (s : OwedSeen) → CountFrom 0 (map n_of (accepted h)) → CountFrom 0 (map n_of (accepted (h ++ e ∷ []))) → ((n : ℕ) → length (accepted h) ≤ n → kept h n r ≡ None) → Owes h r s → Owes (h ++ e ∷ []) r (after_entry e r s)
-entered h (WasAccepted n arrival c) r s counted next fresh was =
-    let is = number_is h n arrival c next in
-    owes_accepted h n arrival r c s counted is (fresh n (omega (arith, is))) was
-entered h (WasKept n t) r s counted next fresh was = owes_kept h n r t s counted was
-entered h (WasOut n to t) r s counted next fresh was = owes_out h n to r t s was
-entered h (WasRefused arrival code) r s counted next fresh was = owes_same h (WasRefused arrival code ∷ []) r s refl (λ n. refl) refl was
-entered h (WasSwapped v p) r s counted next fresh was = owes_same h (WasSwapped v p ∷ []) r s refl (λ n. refl) refl was
-entered h (WasTaken n to) r s counted next fresh was = owes_same h (WasTaken n to ∷ []) r s refl (λ n. refl) refl was
-entered h (WasIssued n to) r s counted next fresh was = owes_same h (WasIssued n to ∷ []) r s refl (λ n. refl) refl was
+entered : (first : ℕ) (h : List EntrySeen) (e : EntrySeen) (r : ℕ) (s : OwedSeen) → CountFrom first (map n_of (accepted h)) → CountFrom first (map n_of (accepted (h ++ e ∷ []))) → ((n : ℕ) → first + length (accepted h) ≤ n → kept h n r ≡ None) → Owes h r s → Owes (h ++ e ∷ []) r (after_entry e r s)
+entered first h (WasAccepted n arrival c) r s counted next fresh was =
+    let is = number_is first h n arrival c next in
+    owes_accepted first h n arrival r c s counted is (fresh n (omega (arith, is))) was
+entered first h (WasKept n t) r s counted next fresh was = owes_kept first h n r t s counted was
+entered first h (WasOut n to t) r s counted next fresh was = owes_out h n to r t s was
+entered first h (WasRefused arrival code) r s counted next fresh was = owes_same h (WasRefused arrival code ∷ []) r s refl (λ n. refl) refl was
+entered first h (WasSwapped v p) r s counted next fresh was = owes_same h (WasSwapped v p ∷ []) r s refl (λ n. refl) refl was
+entered first h (WasTaken n to) r s counted next fresh was = owes_same h (WasTaken n to ∷ []) r s refl (λ n. refl) refl was
+entered first h (WasIssued n to) r s counted next fresh was = owes_same h (WasIssued n to ∷ []) r s refl (λ n. refl) refl was
 
 more_nothing : (l : List Bool) (k : ℕ) → is_nothing_by (slice_get (l ++ false ∷ []) k) ≡ is_nothing_by (slice_get l k)
 more_nothing [] zero = refl
@@ -373,7 +373,7 @@ pub owes_next : (h : List EntrySeen) (k : ℕ) (e : EntrySeen) → Ordered h →
 owes_next h k e ordered next r s u is was =
     subst (λ l. Owes l r u) (sym next)
     (subst (Owes (take k h ++ e ∷ []) r) (sym is)
-    (entered (take k h) e r s (counted_until h ordered.counted k) (subst (λ l. CountFrom 0 (map n_of (accepted l))) next (counted_until h ordered.counted (k + 1))) (λ n past. ordered.fresh k n r past) was))
+    (entered ordered.first (take k h) e r s (counted_until ordered.first h ordered.counted k) (subst (λ l. CountFrom ordered.first (map n_of (accepted l))) next (counted_until ordered.first h ordered.counted (k + 1))) (λ n past. ordered.fresh k n r past) was))
 
 pub turns_next : (h : List EntrySeen) (k : ℕ) (e : EntrySeen) (r : ℕ) (s u : OwedSeen) (old new : List ℕ) → u ≡ after_entry e r s → Owes (take k h) r s → Owes (take (k + 1) h) r u → TurnsFor (may_turn e) (k + 1) r (has_nothing u) old new
     → TurnsTo (is_nothing_after h r) k old → TurnsTo (is_nothing_after h r) (k + 1) new
@@ -401,4 +401,4 @@ pub few_given : (h : List EntrySeen) (k r : ℕ) (s : OwedSeen) → Owes (take k
 few_given h k r s owes = let a = few_released (take k h) r in let b = owes.given_is in let l = length-take k h in omega (arith, a, b, l)
 
 pub rising : (h : List EntrySeen) (k r : ℕ) (s : OwedSeen) → Ordered h → Owes (take k h) r s → IsStrictlyIncreasing s.due
-rising h k r s ordered owes = subst (λ (l : List ℕ). IsStrictlyIncreasing l) (sym owes.due_is) (due_rises (take k h) r (counted_until h ordered.counted k))
+rising h k r s ordered owes = subst (λ (l : List ℕ). IsStrictlyIncreasing l) (sym owes.due_is) (due_rises (take k h) ordered.first r (counted_until ordered.first h ordered.counted k))

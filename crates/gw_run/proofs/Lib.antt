@@ -10,3 +10,4 @@ pub mod Telling
 pub mod Joining
 pub mod Dues
 pub mod Ordering
+pub mod Chaining

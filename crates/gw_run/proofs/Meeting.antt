@@ -1,11 +1,12 @@
 -- How notes agree with a journal, one after another.
-use Rattle.std.proofs.Common.{◌≡◌, ℕ, ◌+◌, ◌-◌, ◌<◌, ◌≤◌, ◌&&◌, ◌⊎◌, inl, inr, Bool, true, false, List, ◌∷◌, Option, slice_get, refl, sym, ap, ◌∙◌, arith}
+use Rattle.std.proofs.Common.{◌≡◌, ℕ, ◌+◌, ◌-◌, ◌<◌, ◌≤◌, ◌&&◌, ◌⊎◌, inl, inr, Bool, true, false, List, [], ◌∷◌, Option, Some, slice_get, refl, sym, ap, ◌∙◌, arith, append-nil}
 use Rattle.std.specs.Prelude.{nat_le, IsTrue, not, max}
 use Rattle.std.proofs.lemmas.Grind.{common_steps}
 use Rattle.std.proofs.lemmas.Bool.{cases_lt}
+use Rattle.std.proofs.lemmas.Option.{slice_get_past}
 use Rattle.gw_gate.specs.Journal.{EntrySeen, Journal, end}
 use Rattle.gw_crew.specs.Notes.{NoteSeen, Looked, WasStale, WasFull, WasIdle, WasNothing, Added}
-use Rattle.gw_run.specs.Settled.{agrees, fits_between, is_same, next_at, stands}
+use Rattle.gw_run.specs.Settled.{agrees, fits_between, is_same, last_end, next_at, stands}
 use Rattle.gw_run.specs.own.Joins.{IsFirst, is_receipt, meets}
 use Rattle.gw_run.specs.Turns.{is_within}
 
@@ -19,30 +20,54 @@ and_true false = refl
 
 -- ---- receipts
 
-pub receipt_stands : (j : Journal) (low need at : ℕ) (e : EntrySeen) (notes : List NoteSeen) → low ≤ at → need ≤ at → stands j at e ≡ true → meets j low need (Added at e ∷ notes) ≡ meets j (at + 1) 0 notes
-receipt_stands j low need at e notes above enough is =
+pub receipt_fails : (js : List Journal) (low need at : ℕ) (e : EntrySeen) (notes : List NoteSeen) → stands js at e ≡ false → meets js low need (Added at e ∷ notes) ≡ false
+receipt_fails js low need at e notes fails =
+    ap (λ b. ((nat_le low at && b) && agrees js (at + 1) notes) && nat_le need at) fails
+    ∙ ap (λ b. (b && agrees js (at + 1) notes) && nat_le need at) (and_false (nat_le low at))
+
+pub receipt_low : (js : List Journal) (low need at : ℕ) (e : EntrySeen) (notes : List NoteSeen) → at < low → meets js low need (Added at e ∷ notes) ≡ false
+receipt_low js low need at e notes below =
+    let less : nat_le low at ≡ false = grind (arith, common_steps) in
+    ap (λ b. ((b && stands js at e) && agrees js (at + 1) notes) && nat_le need at) less
+
+pub receipt_early : (js : List Journal) (low need at : ℕ) (e : EntrySeen) (notes : List NoteSeen) → at < need → meets js low need (Added at e ∷ notes) ≡ false
+receipt_early js low need at e notes below =
+    let less : nat_le need at ≡ false = grind (arith, common_steps) in
+    ap (λ b. agrees js low (Added at e ∷ notes) && b) less ∙ and_false (agrees js low (Added at e ∷ notes))
+
+pub receipt_stands : (js : List Journal) (low need at : ℕ) (e : EntrySeen) (notes : List NoteSeen) → low ≤ at → need ≤ at → stands js at e ≡ true → meets js low need (Added at e ∷ notes) ≡ meets js (at + 1) 0 notes
+receipt_stands js low need at e notes above enough is =
     let first : nat_le low at ≡ true = grind (arith, common_steps) in
     let second : nat_le need at ≡ true = grind (arith, common_steps) in
-    let none : nat_le 0 (next_at (end j) notes) ≡ true = grind (arith, common_steps) in
-    ap (λ b. ((b && stands j at e) && agrees j (at + 1) notes) && nat_le need at) first
-    ∙ ap (λ b. (b && agrees j (at + 1) notes) && nat_le need at) is
-    ∙ ap (λ b. agrees j (at + 1) notes && b) (second ∙ sym none)
+    let none : nat_le 0 (next_at (last_end 0 js) notes) ≡ true = grind (arith, common_steps) in
+    ap (λ b. ((b && stands js at e) && agrees js (at + 1) notes) && nat_le need at) first
+    ∙ ap (λ b. (b && agrees js (at + 1) notes) && nat_le need at) is
+    ∙ ap (λ b. agrees js (at + 1) notes && b) (second ∙ sym none)
 
-pub stands_is : (j : Journal) (h : List EntrySeen) (at : ℕ) (e : EntrySeen) → j.start.entries ≡ 0 → j.entries ≡ h → is_same e (slice_get h at) ≡ true → stands j at e ≡ true
-stands_is j h at e start is same =
-    let place : at - j.start.entries ≡ at = omega (arith, start) in
-    ap (λ l. is_same e (slice_get l (at - j.start.entries))) is ∙ ap (λ k. is_same e (slice_get h k)) place ∙ same
+-- the same of one chapter, by where it starts and what its entries are
+pub stands_is : (j : Journal) (h : List EntrySeen) (start at : ℕ) (e : EntrySeen) → start ≡ j.start.entries → j.entries ≡ h
+    → stands (j ∷ []) at e ≡ (nat_le start at && is_same e (slice_get h (at - start)))
+stands_is j h start at e first are =
+    ap (λ l. nat_le j.start.entries at && is_same e (slice_get l (at - j.start.entries))) (append-nil j.entries ∙ are)
+    ∙ ap (λ n. nat_le n at && is_same e (slice_get h (at - n))) (sym first)
+
+-- no entry stands behind the last one
+pub none_behind : (j : Journal) (last at : ℕ) (e : EntrySeen) → last ≡ end j → last ≤ at → stands (j ∷ []) at e ≡ false
+none_behind j last at e lasts past =
+    stands_is j j.entries j.start.entries at e refl refl
+    ∙ ap (λ o. nat_le j.start.entries at && is_same e o) (slice_get_past j.entries (at - j.start.entries) (omega (arith, lasts, past)))
+    ∙ and_false (nat_le j.start.entries at)
 
 -- ---- other notes
 
-other_is : (j : Journal) (low need : ℕ) (note : NoteSeen) (notes : List NoteSeen) → IsTrue (not (is_receipt note))
-    → meets j low need (note ∷ notes) ≡ ((fits_between j low (next_at (end j) notes) note && agrees j low notes) && nat_le need (next_at (end j) notes))
-other_is j low need (Looked v p) notes other = refl
-other_is j low need (WasStale v c) notes other = refl
-other_is j low need WasFull notes other = refl
-other_is j low need WasIdle notes other = refl
-other_is j low need (WasNothing r) notes other = refl
-other_is j low need (Added at e) notes other = absurd (cc)
+other_is : (js : List Journal) (low need : ℕ) (note : NoteSeen) (notes : List NoteSeen) → IsTrue (not (is_receipt note))
+    → meets js low need (note ∷ notes) ≡ ((fits_between js low (next_at (last_end 0 js) notes) note && agrees js low notes) && nat_le need (next_at (last_end 0 js) notes))
+other_is js low need (Looked v p) notes other = refl
+other_is js low need (WasStale v c) notes other = refl
+other_is js low need WasFull notes other = refl
+other_is js low need WasIdle notes other = refl
+other_is js low need (WasNothing r) notes other = refl
+other_is js low need (Added at e) notes other = absurd (cc)
 
 both_max : (a b h : ℕ) → (nat_le a h && nat_le b h) ≡ nat_le (max a b) h
 both_max a b h = by (cases_lt h a) (cases_lt h b)
@@ -62,8 +87,8 @@ swap_and false true false = refl
 swap_and false false true = refl
 swap_and false false false = refl
 
-pub other_after : (j : Journal) (low need : ℕ) (note : NoteSeen) (notes : List NoteSeen) (first : Option ℕ) → IsFirst j low note first → IsTrue (not (is_receipt note))
-    → meets j low need (note ∷ notes) ≡ ((is_within (next_at (end j) notes) first && agrees j low notes) && nat_le need (next_at (end j) notes))
-other_after j low need note notes first is other = other_is j low need note notes other ∙ ap (λ b. (b && agrees j low notes) && nat_le need (next_at (end j) notes)) (is (next_at (end j) notes))
+pub other_after : (js : List Journal) (low need : ℕ) (note : NoteSeen) (notes : List NoteSeen) (first : Option ℕ) → IsFirst js low note first → IsTrue (not (is_receipt note))
+    → meets js low need (note ∷ notes) ≡ ((is_within (next_at (last_end 0 js) notes) first && agrees js low notes) && nat_le need (next_at (last_end 0 js) notes))
+other_after js low need note notes first is other = other_is js low need note notes other ∙ ap (λ b. (b && agrees js low notes) && nat_le need (next_at (last_end 0 js) notes)) (is (next_at (last_end 0 js) notes))
 
 -- ---- the end

@@ -1,13 +1,15 @@
 -- What was accepted and kept in a lawful journal, at any time.
-use Rattle.std.proofs.Common.{◌≡◌, ℕ, ◌+◌, ◌<◌, ◌≤◌, ◌==◌, ◌&&◌, ◌⊎◌, inl, inr, Bool, true, false, if◌then◌else◌, List, [], ◌∷◌, ◌++◌, length, map, take, Option, None, Some, option_map, slice_get, refl, sym, ap, subst, ◌∙◌, arith, length-append}
+use Rattle.std.proofs.Common.{◌≡◌, ℕ, ◌+◌, ◌-◌, ◌<◌, ◌≤◌, ◌==◌, ◌&&◌, ◌⊎◌, inl, inr, Bool, true, false, if◌then◌else◌, List, [], ◌∷◌, ◌++◌, length, map, take, Option, None, Some, option_map, slice_get, refl, sym, ap, subst, ◌∙◌, arith, length-append}
+use Rattle.std.specs.Prelude.{nat_lt}
 use Rattle.std.proofs.lemmas.Bool.{cases_lt}
+use Rattle.std.proofs.lemmas.Grind.{common_steps}
 use Rattle.std.proofs.lemmas.List.{length-map, take-append-le}
 use Rattle.std.proofs.lemmas.Option.{none-some, slice_get_past}
 use Rattle.gw_reorder.proofs.Places.{equal_numbers}
-use Rattle.gw_gate.specs.Parts.{MessageSeen, PlanSeen, TranslatedSeen}
+use Rattle.gw_gate.specs.Parts.{MessageSeen, ConformingSeen, TranslatedSeen}
 use Rattle.gw_gate.specs.own.Books.{journal_of}
 use Rattle.gw_gate.specs.Headline.{CountFrom, IsTranslated}
-use Rattle.gw_gate.specs.Journal.{EntrySeen, WasAccepted, WasRefused, WasSwapped, WasTaken, WasKept, WasIssued, WasOut, Start, Acceptance, acceptance, accepted, kept, opening}
+use Rattle.gw_gate.specs.Journal.{EntrySeen, WasAccepted, WasRefused, WasSwapped, WasTaken, WasKept, WasIssued, WasOut, Start, Acceptance, acceptance, accepted, kept}
 use Rattle.gw_gate.specs.Lawful.{Lawful, empty, more, IsLawful}
 use Rattle.gw_gate.specs.Meaning.{Makes}
 use Rattle.gw_gate.specs.Replies.{most, reply_to}
@@ -62,22 +64,31 @@ module _ (Means : List ℕ → MessageSeen → ℕ → MessageSeen → Type 0) w
       by before last None was found = stays (last t found)
 
   -- so nothing is kept under a number that is still to come
-  fresh : (start : Start) (h : List EntrySeen) → Lawful (IsTranslated Means) start h → CountFrom 0 (map n_of (accepted h)) → (n r : ℕ) → length (accepted h) ≤ n → kept h n r ≡ None
+  fresh : (start : Start) (h : List EntrySeen) → Lawful (IsTranslated Means) start h → CountFrom start.acceptances (map n_of (accepted h)) → (n r : ℕ)
+      → start.acceptances + length (accepted h) ≤ n → kept h n r ≡ None
   fresh start h lawful counted n r past = by (kept h n r) refl
     where
+      all : List ConformingSeen
+      all = map (λ a. a.conforming) (accepted h)
+
+      not_before : nat_lt n start.acceptances ≡ false
+      not_before = grind (arith, common_steps)
+
       none : acceptance h n ≡ None
       none =
-          acceptance_is h n counted
-          ∙ ap (option_map (under n)) (slice_get_past (map (λ a. a.conforming) (accepted h)) n (let l = length-map (accepted h) (λ a. a.conforming) in omega (arith, l, past)))
+          acceptance_is h start.acceptances n counted
+          ∙ ap (λ b. option_map (under n) (if b then None else slice_get all (n - start.acceptances))) not_before
+          ∙ ap (option_map (under n)) (slice_get_past all (n - start.acceptances) (let l = length-map (accepted h) (λ a. a.conforming) in omega (arith, l, past)))
 
       by : (o : Option TranslatedSeen) → kept h n r ≡ o → kept h n r ≡ None
       by None is = is
       by (Some t) is = let k = known start h lawful n r t is in absurd (none-some k.0 (sym none ∙ k.1))
 
-pub ordered : (p : PlanSeen) (h : List EntrySeen) → IsLawful (IsTranslated Makes) (journal_of p h) → Ordered h
-ordered p h lawful =
-    let numbers = lawful_numbers Makes (journal_of p h) lawful in
+pub ordered : (s : Start) (h : List EntrySeen) → IsLawful (IsTranslated Makes) (journal_of s h) → Ordered h
+ordered s h lawful =
+    let numbers = lawful_numbers Makes (journal_of s h) lawful in
     record {
+      first = s.acceptances;
       counted = numbers.accepted;
-      fresh = λ k n r past. fresh Makes (opening p) (take k h) (lawful_until (IsTranslated Makes) (opening p) h lawful k) (counted_until h numbers.accepted k) n r past;
+      fresh = λ k n r past. fresh Makes s (take k h) (lawful_until (IsTranslated Makes) s h lawful k) (counted_until s.acceptances h numbers.accepted k) n r past;
     }

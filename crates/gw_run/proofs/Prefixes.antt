@@ -5,8 +5,8 @@ use Rattle.std.proofs.lemmas.List.{map-append}
 use Rattle.gw_gate.specs.declared.event.Entry.{Entry}
 use Rattle.gw_gate.specs.Parts.{PlanSeen}
 use Rattle.gw_gate.specs.own.Books.{journal_of}
-use Rattle.gw_gate.specs.Journal.{EntrySeen, WasAccepted, WasRefused, WasSwapped, WasTaken, WasKept, WasIssued, WasOut, Pair, pair, Version, accepted, issued, jobs, plans, swapped}
-use Rattle.gw_gate.specs.Values.{entry_seen, entries_seen}
+use Rattle.gw_gate.specs.Journal.{EntrySeen, WasAccepted, WasRefused, WasSwapped, WasTaken, WasKept, WasIssued, WasOut, Pair, pair, Start, Version, accepted, issued, jobs, plans, swapped}
+use Rattle.gw_gate.specs.Entries.{entry_seen, entries_seen}
 use Rattle.gw_gate.proofs.Journals.{swapped-append, accepted-append}
 use Rattle.gw_gate.proofs.Entering.{jobs-append, issued-append}
 use Rattle.gw_run.specs.Gathers.{is_idle_after, is_idle_by, is_swap, numbers_issued, swaps_in}
@@ -47,11 +47,11 @@ swaps_next entries k e b lt is by =
     ∙ length-append (swapped (take k h)) (swapped (entry_seen e ∷ []))
     ∙ ap (λ n. swaps_in h k + n) (swap_counts (entry_seen e) ∙ ap (λ x. if x then 1 else 0) (sym by))
 
-pub plans_next : (p : PlanSeen) (entries : List Entry) (k : ℕ) (e : Entry) (old new : List PlanSeen) → k < length entries → e ≡ get_or entries k e
-    → new ≡ old ++ map (λ v. v.plan) (swapped (entry_seen e ∷ [])) → old ≡ map (λ v. v.plan) (plans (journal_of p (entries_seen (take k entries))))
-    → new ≡ map (λ v. v.plan) (plans (journal_of p (entries_seen (take (k + 1) entries))))
-plans_next p entries k e old new lt is added was =
-    let first : Version = record { number = 0; plan = p } in
+pub plans_next : (s : Start) (entries : List Entry) (k : ℕ) (e : Entry) (old new : List PlanSeen) → k < length entries → e ≡ get_or entries k e
+    → new ≡ old ++ map (λ v. v.plan) (swapped (entry_seen e ∷ [])) → old ≡ map (λ v. v.plan) (plans (journal_of s (entries_seen (take k entries))))
+    → new ≡ map (λ v. v.plan) (plans (journal_of s (entries_seen (take (k + 1) entries))))
+plans_next s entries k e old new lt is added was =
+    let first : Version = record { number = s.version; plan = s.plan } in
     let plan : Version → PlanSeen = λ v. v.plan in
     added ∙ ap (λ l. l ++ map plan (swapped (entry_seen e ∷ []))) was
     ∙ sym (ap (λ l. map plan (first ∷ swapped l)) (seen_next entries k e lt is)
@@ -99,8 +99,8 @@ one_accepted (WasKept n t) = omega arith
 one_accepted (WasIssued n r) = omega arith
 one_accepted (WasOut n r t) = omega arith
 
-pub idle_is : (h : List EntrySeen) (k : ℕ) (queue : Queue) → Queues (take k h) queue → is_idle_after h k ≡ is_idle_by (slice_get queue.pairs.items queue.taken) queue.accepted
-idle_is h k queue is =
-    sym (ap (λ l. is_idle_by (slice_get l queue.taken) queue.accepted) is.pairs
-    ∙ ap (λ n. is_idle_by (slice_get (numbers_issued (take k h)) n) queue.accepted) is.taken
-    ∙ ap (λ n. is_idle_by (slice_get (numbers_issued (take k h)) (jobs (take k h))) n) is.accepted)
+pub idle_is : (first : ℕ) (h : List EntrySeen) (k : ℕ) (queue : Queue) → Queues (take k h) queue → is_idle_after first h k ≡ is_idle_by first (slice_get queue.pairs.items queue.taken) queue.accepted
+idle_is first h k queue is =
+    sym (ap (λ l. is_idle_by first (slice_get l queue.taken) queue.accepted) is.pairs
+    ∙ ap (λ n. is_idle_by first (slice_get (numbers_issued (take k h)) n) queue.accepted) is.taken
+    ∙ ap (λ n. is_idle_by first (slice_get (numbers_issued (take k h)) (jobs (take k h))) n) is.accepted)

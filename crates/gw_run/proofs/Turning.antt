@@ -237,15 +237,6 @@ module _ (Told : ℕ → ℕ → Type 0) where
           subst (λ x. Told x i) here (subst (Told at) count now)
       by (inr within) = was k i within (pushed_below ats at k i (omega arith) there)
 
-even_or : (b : Bool) (n : ℕ) → b ≢ is_even n → b ≡ is_even (n + 1)
-even_or b n other = by b (is_even n) refl other
-  where
-    by : (a e : Bool) → is_even n ≡ e → a ≢ e → a ≡ is_even (n + 1)
-    by true true is ne = absurd (ne refl)
-    by false false is ne = absurd (ne refl)
-    by true false is ne = sym (even_next n is)
-    by false true is ne = sym (is_odd (n + 1) (let e : n % 2 ≡ 0 = equal_numbers (n % 2) 0 is in λ z. omega (arith, e, z)))
-
 pub turns_stay : (test : ℕ → Bool) (m at : ℕ) (ats : List ℕ) → at ≡ m + 1 → test at ≡ is_even (length ats) → TurnsTo test m ats → TurnsTo test at ats
 turns_stay test m at ats is same was = record { rise = rise_stay m at ats is was.rise; tells = told_stay (λ k i. test k ≡ is_even i) m at ats is was.rise was.tells same }
 

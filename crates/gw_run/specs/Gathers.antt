@@ -1,5 +1,5 @@
 -- What is gathered of the entries of a journal.
-use Rattle.std.specs.Prelude.{ℕ, nat_le, Bool, true, false, not, List, map, length, take, slice_get, Option, None, Some}
+use Rattle.std.specs.Prelude.{ℕ, ◌-◌, nat_le, nat_lt, ◌||◌, Bool, true, false, not, List, map, length, take, slice_get, Option, None, Some}
 use Rattle.gw_gate.specs.Journal.{EntrySeen, WasSwapped, accepted, due, issued, jobs, released, swapped}
 use Rattle.gw_gate.specs.Replies.{is_kept}
 
@@ -12,18 +12,18 @@ is_swap e = false
 abbrev pub swaps_in : List EntrySeen → ℕ → ℕ
 swaps_in h k = length (swapped (take k h))
 
--- whether there is no pair to be taken, by the next pair's number and how many messages were accepted
-abbrev pub is_idle_by : Option ℕ → ℕ → Bool
-is_idle_by None count = true
-is_idle_by (Some n) count = nat_le count n
+-- whether there is no pair to be taken, by the first acceptance's number, the next pair's, and how many messages were accepted
+abbrev pub is_idle_by : ℕ → Option ℕ → ℕ → Bool
+is_idle_by first None count = true
+is_idle_by first (Some n) count = nat_lt n first || nat_le count (n - first)
 
 -- the numbers of the pairs that were issued, in order
 abbrev pub numbers_issued : List EntrySeen → List ℕ
 numbers_issued h = map (λ p. p.n) (issued h)
 
 -- the same, of the first k entries
-abbrev pub is_idle_after : List EntrySeen → ℕ → Bool
-is_idle_after h k = is_idle_by (slice_get (numbers_issued (take k h)) (jobs (take k h))) (length (accepted (take k h)))
+abbrev pub is_idle_after : ℕ → List EntrySeen → ℕ → Bool
+is_idle_after first h k = is_idle_by first (slice_get (numbers_issued (take k h)) (jobs (take k h))) (length (accepted (take k h)))
 
 -- whether there is nothing to be given out, by whether the next due number's translation is kept
 abbrev pub is_nothing_by : Option Bool → Bool

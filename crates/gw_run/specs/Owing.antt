@@ -87,7 +87,8 @@ pub record Owes (h : List EntrySeen) (r : ℕ) (s : OwedSeen) : Type 0 where
   pub kept_is : s.kept ≡ kept_of h r
   pub given_is : s.given ≡ length (released h r)
 
--- acceptances count from 0, and at no time is anything kept under a number that is still to come
+-- acceptances count on from a first number, and at no time is anything kept under a number that is still to come
 pub record Ordered (h : List EntrySeen) : Type 0 where
-  pub counted : CountFrom 0 (map (λ a. a.n) (accepted h))
-  pub fresh : (k n r : ℕ) → length (accepted (take k h)) ≤ n → kept (take k h) n r ≡ None
+  pub first : ℕ
+  pub counted : CountFrom first (map (λ a. a.n) (accepted h))
+  pub fresh : (k n r : ℕ) → first + length (accepted (take k h)) ≤ n → kept (take k h) n r ≡ None

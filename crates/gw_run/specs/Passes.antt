@@ -1,7 +1,7 @@
 -- What the passes of a locked gate hold, and what is counted under its lock.
 use Rattle.std.specs.Prelude.{◌≡◌, ℕ, ◌+◌, ◌<◌, List, filter_map, length, sum_by}
 use Rattle.gw_gate.specs.Headline.{IsTranslated}
-use Rattle.gw_gate.specs.Journal.{Journal}
+use Rattle.gw_gate.specs.Journal.{Journal, end}
 use Rattle.gw_gate.specs.Lawful.{IsLawful}
 use Rattle.gw_gate.specs.Meaning.{Makes}
 use Rattle.gw_gate.specs.Replies.{EventSeen, ReplySeen, reply}
@@ -38,7 +38,7 @@ pub record HaveAll (parts : ℕ) (passes : List PassSeen) : Type 0 where
   pub some : 0 < length passes
   pub every : part_count passes ≡ parts
 
--- a gate whose passes have ended, with how many entries it had when they began, and how many the book of the ledger has in all
+-- a gate whose passes have ended, with how many entries were made in all when they began, and how many the book of the ledger has
 pub record CountedSeen : Type 0 where
   pub gate : Journal
   pub since : ℕ
@@ -46,7 +46,7 @@ pub record CountedSeen : Type 0 where
 
 -- since then it got as many entries as the passes have receipts
 abbrev pub AreCounted : CountedSeen → List PassSeen → Type 0
-AreCounted counted passes = counted.since + receipt_count passes ≡ length counted.gate.entries
+AreCounted counted passes = counted.since + receipt_count passes ≡ end counted.gate
 
 -- ---- a step under the lock
 

@@ -1,4 +1,4 @@
--- What is told of a journal.
+-- What is reported of a journal.
 use Rattle.std.specs.Prelude.{Bool, true, false, List, count_by, length}
 use Rattle.gw_gate.specs.Journal.{EntrySeen, WasAccepted, WasRefused, WasKept, WasOut}
 use Rattle.gw_run.specs.declared.report.Report.{Report}

@@ -1,5 +1,5 @@
 //! A gate whose passes have ended.
-ghost use Rattle.std.specs.Prelude.{◌≡◌, ◌≤◌, length};
+ghost use Rattle.std.specs.Prelude.{◌≡◌};
 
 use crate::report::Report;
 use gw_gate::Gate;
@@ -15,22 +15,24 @@ pub struct Counted<L: Ledger> {
 }
 
 impl<L: Ledger> Model for Counted<L> {
-    ghost use Rattle.std.specs.Prelude.{◌≡◌, ◌+◌, length};
+    ghost use Rattle.std.specs.Prelude.{◌≡◌, ◌+◌};
+    ghost use Rattle.gw_gate.specs.Journal.{end};
     ghost use Rattle.gw_run.specs.Passes.{CountedSeen};
 
     ghost Value = { CountedSeen };
 
     ghost view = { λ c. record { gate = c.gate; since = c.since; total = c.book.total } };
 
-    ghost invariant = { λ c. c.since + c.book.total ≡ length c.gate.entries };
+    ghost invariant = { λ c. c.since + c.book.total ≡ end c.gate };
 }
 
 impl<L: Ledger> Counted<L> {
-    ghost use Rattle.std.specs.Prelude.{◌≡◌, ◌+◌, length};
+    ghost use Rattle.std.specs.Prelude.{◌≡◌, ◌+◌};
+    ghost use Rattle.gw_gate.specs.Journal.{end};
     ghost use Rattle.gw_run.specs.Report.{report_of};
 
     pub(crate) fn of(gate: Gate, since: usize, book: Book<L>) -> Self
-        requires { since + book.total ≡ length gate.entries }
+        requires { since + book.total ≡ end gate }
         ensures { result ≡ record { gate = gate; since = since; total = book.total } }
     {
         Counted { gate, since, book }
@@ -46,7 +48,7 @@ impl<L: Ledger> Counted<L> {
     // Where the share has every part of the ledger, it counts each entry that was added.
     pub(crate) fn audit(&mut self, share: &mut Share<L>)
         ensures same { self.new ≡ self.old }
-        ensures whole { share.old.parts ≡ L.parts → self.old.since + share.old.amount ≡ length self.old.gate.entries }
+        ensures whole { share.old.parts ≡ L.parts → self.old.since + share.old.amount ≡ end self.old.gate }
     {
         self.book.audit(share);
     }
@@ -58,10 +60,10 @@ impl<L: Ledger> Counted<L> {
         Report::of(self.gate.journal())
     }
 
-    /// How many entries its journal had before the passes; the book has the others. It takes no memory.
+    /// How many entries were made before the passes, over all chapters; the book has the others. It takes no memory.
     pub fn since(&self) -> usize
         ensures since { result ≡ self.now.since }
-        ensures counted { result + self.now.total ≡ length self.now.gate.entries }
+        ensures counted { result + self.now.total ≡ end self.now.gate }
     {
         self.since
     }

@@ -1,16 +1,14 @@
-//! What is gathered of a journal, entry by entry.
+//! What is gathered of a chapter, entry by entry.
 ghost use Rattle.std.specs.Prelude.{◌≡◌, ◌∷◌, ◌++◌, [], IfOk, OnOk, map, length};
-ghost use Rattle.std.specs.Arc.{arc_value};
 ghost use Rattle.gw_gate.specs.own.Books.{journal_of};
 ghost use Rattle.gw_gate.specs.Journal.{plans, swapped};
-ghost use Rattle.gw_gate.specs.Seen.{plan_seen};
-ghost use Rattle.gw_gate.specs.Values.{entry_seen, entries_seen};
+ghost use Rattle.gw_gate.specs.Entries.{entry_seen, entries_seen, start_seen};
 ghost use Rattle.gw_run.specs.Gathers.{is_swap, swaps_in};
 ghost use Rattle.gw_run.specs.own.Joins.{plans_at};
 ghost use Rattle.gw_run.specs.Turns.{CountsTo};
 
 use crate::turns::count_to;
-use gw_gate::Entry;
+use gw_gate::{Entry, Start};
 use gw_plan::Plan;
 use std::alloc::{AllocError, Global};
 use std::sync::Arc;
@@ -48,13 +46,13 @@ fn add_plan(all: &mut Vec<Arc<Plan>>, entry: &Entry) -> Result<(), AllocError>
 // The plans, in order.
 pub(crate) fn plans_in(
     alloc: Global,
-    opening: &Arc<Plan>,
+    start: &Start,
     entries: &[Entry],
 ) -> Result<Vec<Arc<Plan>>, AllocError>
-    ensures { IfOk result (λ all. plans_at all.items ≡ map (λ v. v.plan) (plans (journal_of (plan_seen (arc_value opening.now)) (entries_seen entries.now)))) }
+    ensures { IfOk result (λ all. plans_at all.items ≡ map (λ v. v.plan) (plans (journal_of (start_seen start.now) (entries_seen entries.now)))) }
 {
     let mut all = Vec::new(alloc);
-    let first = Arc::try_clone(opening)?;
+    let first = Arc::try_clone(&start.plan)?;
     all.push(first)?;
     for entry in entries {
         add_plan(&mut all, entry)?;

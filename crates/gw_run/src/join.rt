@@ -25,13 +25,9 @@ fn settled<L: Ledger>(
     ensures fault { IfErr result (λ f. (f ≡ run.Memory) ⊎ (f ≡ run.Unsettled)) }
 {
     let gate = counted.gate();
-    if !is_settled(
-        alloc,
-        gate.opening(),
-        gate.journal(),
-        counted.since(),
-        passes,
-    )? {
+    // (its clause bounds the number of its entries)
+    let _end = gate.end();
+    if !is_settled(alloc, gate.start(), gate.journal(), counted.since(), passes)? {
         return Err(RunFault::Unsettled);
     }
     Ok(counted.report())
@@ -64,7 +60,7 @@ fn audit<L: Ledger>(counted: &mut Counted<L>, passes: Vec<Receipts<L>>)
 }
 
 /// What is reported of a gate whose passes have ended, where what they leave is settled: each entry since the gate was locked is that
-/// of just one receipt, and all notes agree with the journal. Else the fault is `Unsettled`; the one other fault is want of memory.
+/// of just one receipt, and all notes agree with the journal. Else the fault is `Unsettled`; the one other fault is an allocation failure.
 pub fn join_all<L: Ledger>(
     alloc: Global,
     counted: &mut Counted<L>,

@@ -22,7 +22,7 @@ mod turns;
 
 pub use counted::Counted;
 pub use gw_crew::{
-    Clock, Door, Note, Pause, Phase, Receipt, Solo, SwapFault, courier, swap, worker,
+    Clock, Door, Note, Pause, Phase, Receipt, Solo, SwapFault, courier, cut, swap, worker,
 };
 pub use gw_stream::{
     Counts, Failed, Reads, RunFault, Sink, Source, Writes, answer_stream, serve_once,

@@ -1,6 +1,7 @@
 //! A gate that several threads step, one event at a time.
-ghost use Rattle.std.specs.Prelude.{◌≡◌, ◌<◌, ◌+◌, length, IsTrue};
+ghost use Rattle.std.specs.Prelude.{◌≡◌, ◌+◌};
 ghost use Rattle.std.specs.Option.{option_map};
+ghost use Rattle.gw_gate.specs.Journal.{end};
 ghost use Rattle.gw_crew.specs.Seen.{note_seen};
 ghost use Rattle.gw_run.specs.own.Steps.{added_by};
 
@@ -20,7 +21,7 @@ struct Locked<L: Ledger> {
     since: usize,
     book: Book<L>,
     phase: Phase,
-    ghost counted: { since + book.total ≡ length gate.entries },
+    ghost counted: { since + book.total ≡ end gate },
 }
 
 /// A gate that several threads step, one event at a time, each through a pass of its own.
@@ -50,7 +51,7 @@ fn pairs_of(event: &Event) -> usize {
 }
 
 impl<L: Ledger> Locked<L> {
-    ghost use Rattle.std.specs.Prelude.{◌≡◌, ◌<◌, ◌+◌, length};
+    ghost use Rattle.std.specs.Prelude.{◌≡◌, ◌<◌, ◌+◌};
     ghost use Rattle.gw_gate.specs.Headline.{IsTranslated};
     ghost use Rattle.gw_gate.specs.Lawful.{IsLawful};
     ghost use Rattle.gw_gate.specs.Meaning.{Makes};
@@ -85,7 +86,7 @@ impl<L: Ledger> LockedGate<L> {
     pub fn new(gate: Gate, book: Book<L>) -> Self
         requires { book.total ≡ 0 }
     {
-        let since = gate.journal().len();
+        let since = gate.end() as usize;
         LockedGate {
             inner: Mutex::new(Locked {
                 gate,
@@ -107,7 +108,7 @@ impl<L: Ledger> LockedGate<L> {
         Pass::new(alloc, self, rt, share)
     }
 
-    /// From here on nothing comes any more that may not come in this phase; who waits for it is told. It takes no memory.
+    /// From here on nothing comes any more that may not come in this phase; who waits for it is woken. It takes no memory.
     pub fn close<R: Wait>(&self, rt: &R, phase: Phase) {
         let mut locked = self.inner.lock(rt);
         if locked.phase < phase {
@@ -130,13 +131,13 @@ impl<L: Ledger> LockedGate<L> {
         Counted::of(gate, since, book)
     }
 
-    // One step under the lock, with its note, and how many entries there are then. An entry is counted in the share.
+    // One step under the lock, with its note, and how many entries were made in all then. An entry is counted in the share.
     pub(crate) fn step<R: Wait>(
         &self,
         rt: &R,
         event: Event,
         share: &mut Share<L>,
-    ) -> (Result<(Reply, Option<Note>), Event>, usize)
+    ) -> (Result<(Reply, Option<Note>), Event>, u64)
         requires { 0 < share.old.parts }
         ensures step { StepsSomewhere (event_seen event) result.0 }
         ensures parts { share.new.parts ≡ share.old.parts }
@@ -145,7 +146,7 @@ impl<L: Ledger> LockedGate<L> {
         let pairs = pairs_of(&event);
         let mut locked = self.inner.lock(rt);
         let answer = locked.step(event, share);
-        let entries = locked.gate.journal().len();
+        let entries = locked.gate.end();
         drop(locked);
         self.tell(&answer, pairs);
         (answer, entries)
@@ -171,10 +172,10 @@ impl<L: Ledger> LockedGate<L> {
         }
     }
 
-    // Waits for what may come before the phase, unless there are other entries than were seen, or the phase was reached.
-    pub(crate) fn wait<R: Wait>(&self, rt: &R, seen: usize, phase: Phase) -> bool {
+    // Waits for what may come before the phase, unless more entries were made in all than were seen, or the phase was reached.
+    pub(crate) fn wait<R: Wait>(&self, rt: &R, seen: u64, phase: Phase) -> bool {
         let locked = self.inner.lock(rt);
-        if locked.gate.journal().len() > seen {
+        if locked.gate.end() > seen {
             return true;
         }
         if locked.phase >= phase {

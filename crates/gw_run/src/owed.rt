@@ -2,7 +2,7 @@
 ghost use Rattle.std.specs.Prelude.{◌≡◌, ◌≢◌, ◌+◌, ◌<◌, ◌^◌, ℕ, Bool, IfOk, OnOk, length};
 ghost use Rattle.std.specs.List.Sorted.{IsStrictlyIncreasing};
 ghost use Rattle.gw_gate.specs.Seen.{conforming_seen, translated_seen};
-ghost use Rattle.gw_gate.specs.Values.{entry_seen, entries_seen};
+ghost use Rattle.gw_gate.specs.Entries.{entry_seen, entries_seen};
 ghost use Rattle.gw_run.specs.Gathers.{is_nothing_after};
 ghost use Rattle.gw_run.specs.own.Joins.{AllTurn, of_receiver};
 ghost use Rattle.gw_run.specs.Owing.{ChangedAt, Ordered, after_entry, due_to, has_nothing, is_last, may_turn, owed_at, with_due, with_given, with_kept};

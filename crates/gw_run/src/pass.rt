@@ -4,7 +4,7 @@ ghost use Rattle.gw_run.specs.Passes.{IsCounted};
 ghost use Rattle.gw_crew.specs.Seen.{notes_seen};
 
 use crate::locked::LockedGate;
-use gw_crew::{Door, Note, Phase};
+use gw_crew::{Door, Note, Phase, room_for};
 use gw_gate::{Event, Reply};
 use std::alloc::Global;
 use std::marker::Model;
@@ -18,7 +18,7 @@ pub struct Pass<'a, L: Ledger, R: Wait> {
     rt: &'a R,
     share: Share<L>,
     notes: Vec<Note>,
-    seen: usize,
+    seen: u64,
 }
 
 impl<'a, L: Ledger, R: Wait> Model for Pass<'a, L, R> {
@@ -113,14 +113,14 @@ impl<'a, L: Ledger, R: Wait> Door for Pass<'a, L, R> {
 
     ghost noted = { λ p. p.notes };
 
-    /// One step of the gate under the lock. The reply is the one that a lawful journal gives; that it is this gate's, as it was then, no clause can say. An entry is noted with its receipt, and counted by the share. An error is want of memory: the event comes back.
+    /// One step of the gate under the lock. The reply is the one that a lawful journal gives; that it is this gate's, as it was then, no clause can say. An entry is noted with its receipt, and counted by the share. An error is an allocation failure: the event comes back.
     fn call(&mut self, event: Event) -> Result<Reply, Event>
         ensures reply { IfOk result (λ reply. IsReplyTo (event_seen event) (reply_seen reply)) }
         ensures calls { Calls self.old.notes (event_seen event) (answer_seen result) self.new.notes }
         ensures counted { IsCounted self.new }
         ensures parts { self.new.parts ≡ self.old.parts }
     {
-        if self.notes.reserve(1).is_err() {
+        if !room_for(&mut self.notes, &event) {
             return Err(event);
         }
         let (answer, entries) = self.gate.step(self.rt, event, &mut self.share);

@@ -1,4 +1,4 @@
-//! From which number of entries on a note fits a journal.
+//! From which number of its own entries on a note fits a chapter.
 ghost use Rattle.std.specs.Prelude.{◌≡◌, ℕ, length, slice_get, bytes_eq};
 ghost use Rattle.std.specs.Option.{option_map};
 ghost use Rattle.std.specs.Arc.{arc_value};
@@ -8,21 +8,25 @@ ghost use Rattle.gw_gate.specs.Parts.{is_under};
 ghost use Rattle.gw_gate.specs.Seen.{plan_seen, conforming_seen};
 ghost use Rattle.gw_crew.specs.Notes.{Looked, WasStale, WasFull, WasIdle, WasNothing};
 ghost use Rattle.gw_crew.specs.Seen.{note_seen};
-ghost use Rattle.gw_run.specs.own.Joins.{IsFirst, of_receiver, plans_at};
+ghost use Rattle.gw_run.specs.own.Joins.{IsFirstIn, of_receiver, plans_at};
 ghost use Rattle.gw_run.specs.own.Tellings.{Tells};
 
 use crate::gathering::{plans_in, swaps_in};
 use crate::owed::nothing_in;
 use crate::queue::idle_in;
 use crate::turns::{first_even, first_with};
-use gw_gate::{Entry, MOST};
+use gw_gate::{Entry, MOST, Start};
 use gw_plan::{Conforming, Plan};
 use std::alloc::{AllocError, Global};
 use std::sync::Arc;
 
-// At which numbers of entries a journal changed what a note may say.
+// A chapter: how many entries were made in all before it and with it, its first version, how many entries it has,
+// and at which numbers of these it changed what a note may say.
 #[derive(Drop)]
 pub(crate) struct Past {
+    pub(crate) start: usize,
+    pub(crate) last: usize,
+    pub(crate) version: u64,
     pub(crate) entries: usize,
     pub(crate) swaps: Vec<usize>,
     pub(crate) plans: Vec<Arc<Plan>>,
@@ -30,11 +34,11 @@ pub(crate) struct Past {
     pub(crate) nothing: Vec<Vec<usize>>,
 }
 
-// The plan of a version.
-fn plan_at(plans: &[Arc<Plan>], version: u64) -> Option<&Arc<Plan>>
-    ensures { option_map (λ p. plan_seen (arc_value p.now)) result ≡ slice_get (plans_at plans.now) version }
+// The plan at this place.
+fn plan_at(plans: &[Arc<Plan>], place: u64) -> Option<&Arc<Plan>>
+    ensures { option_map (λ p. plan_seen (arc_value p.now)) result ≡ slice_get (plans_at plans.now) place }
 {
-    plans.get(version as usize)
+    plans.get(place as usize)
 }
 
 // The numbers for this receiver.
@@ -62,34 +66,34 @@ fn have_same_text(plan: &Plan, other: &Plan) -> bool
 }
 
 impl Past {
-    ghost use Rattle.std.specs.Prelude.{◌≡◌, IfOk, length};
+    ghost use Rattle.std.specs.Prelude.{◌≡◌, ◌<◌, ◌^◌, IfOk, length};
     ghost use Rattle.gw_gate.specs.own.Books.{journal_of};
     ghost use Rattle.gw_gate.specs.Headline.{IsTranslated};
     ghost use Rattle.gw_gate.specs.Lawful.{IsLawful};
     ghost use Rattle.gw_gate.specs.Meaning.{Makes};
-    ghost use Rattle.gw_gate.specs.Values.{entries_seen};
+    ghost use Rattle.gw_gate.specs.Entries.{entries_seen, start_seen};
     ghost use Rattle.std.specs.Arc.{arc_value};
-    ghost use Rattle.gw_gate.specs.Journal.{Journal};
+    ghost use Rattle.gw_gate.specs.Journal.{Journal, end};
     ghost use Rattle.gw_gate.specs.Seen.{plan_seen, conforming_seen};
     ghost use Rattle.gw_crew.specs.Notes.{Looked, WasStale, WasFull, WasIdle, WasNothing, NoteSeen};
     ghost use Rattle.gw_crew.specs.Seen.{note_seen};
-    ghost use Rattle.gw_run.specs.own.Joins.{IsFirst};
+    ghost use Rattle.gw_run.specs.own.Joins.{IsFirstIn};
     ghost use Rattle.gw_run.specs.own.Tellings.{Tells};
 
-    // What a journal changed.
-    pub(crate) fn of(
-        alloc: Global,
-        opening: &Arc<Plan>,
-        entries: &[Entry],
-    ) -> Result<Self, AllocError>
-        requires { IsLawful (IsTranslated Makes) (journal_of (plan_seen (arc_value opening.now)) (entries_seen entries.now)) }
-        ensures { IfOk result (λ past. Tells (journal_of (plan_seen (arc_value opening.now)) (entries_seen entries.now)) past) }
+    // What a chapter changed.
+    pub(crate) fn of(alloc: Global, start: &Start, entries: &[Entry]) -> Result<Self, AllocError>
+        requires lawful { IsLawful (IsTranslated Makes) (journal_of (start_seen start.now) (entries_seen entries.now)) }
+        requires few { end (journal_of (start_seen start.now) (entries_seen entries.now)) < 2 ^ 64 }
+        ensures { IfOk result (λ past. Tells (journal_of (start_seen start.now) (entries_seen entries.now)) past) }
     {
         let swaps = swaps_in(alloc, entries)?;
-        let plans = plans_in(alloc, opening, entries)?;
-        let idle = idle_in(alloc, entries)?;
+        let plans = plans_in(alloc, start, entries)?;
+        let idle = idle_in(alloc, start.acceptances, entries)?;
         let nothing = nothing_in(alloc, entries)?;
         Ok(Past {
+            start: start.entries as usize,
+            last: start.entries as usize + entries.len(),
+            version: start.version,
             entries: entries.len(),
             swaps,
             plans,
@@ -100,15 +104,19 @@ impl Past {
 
     // The first number of entries, from low on, at which the plan was in force as this version.
     pub(crate) fn first_look(&self, low: usize, version: u64, plan: &Plan) -> Option<usize>
-        ensures { (j : Journal) → Tells j self.now → IsFirst j low (Looked version (plan_seen plan.now)) result }
+        ensures { (j : Journal) → Tells j self.now → IsFirstIn j low (Looked version (plan_seen plan.now)) result }
     {
-        let Some(there) = plan_at(&self.plans, version) else {
+        if version < self.version {
+            return None;
+        }
+        let place = version - self.version;
+        let Some(there) = plan_at(&self.plans, place) else {
             return None;
         };
         if !have_same_text(there, plan) {
             return None;
         }
-        first_with(&self.swaps, low, version)
+        first_with(&self.swaps, low, place)
     }
 
     // The first at which the version was in force, and the message wasn't admitted under it.
@@ -118,20 +126,24 @@ impl Past {
         version: u64,
         conforming: &Conforming,
     ) -> Option<usize>
-        ensures { (j : Journal) → Tells j self.now → IsFirst j low (WasStale version (conforming_seen conforming.now)) result }
+        ensures { (j : Journal) → Tells j self.now → IsFirstIn j low (WasStale version (conforming_seen conforming.now)) result }
     {
-        let Some(there) = plan_at(&self.plans, version) else {
+        if version < self.version {
+            return None;
+        }
+        let place = version - self.version;
+        let Some(there) = plan_at(&self.plans, place) else {
             return None;
         };
         if is_under(conforming, version, there) {
             return None;
         }
-        first_with(&self.swaps, low, version)
+        first_with(&self.swaps, low, place)
     }
 
-    // The first at which the journal was full.
+    // The first at which the chapter was full.
     pub(crate) fn first_full(&self, low: usize) -> Option<usize>
-        ensures { (j : Journal) → Tells j self.now → IsFirst j low WasFull result }
+        ensures { (j : Journal) → Tells j self.now → IsFirstIn j low WasFull result }
     {
         if self.entries < MOST {
             return None;
@@ -147,14 +159,14 @@ impl Past {
 
     // The first at which there was no pair to be taken.
     pub(crate) fn first_idle(&self, low: usize) -> Option<usize>
-        ensures { (j : Journal) → Tells j self.now → IsFirst j low WasIdle result }
+        ensures { (j : Journal) → Tells j self.now → IsFirstIn j low WasIdle result }
     {
         first_even(&self.idle, low)
     }
 
     // The first at which there was nothing to be given out for the receiver.
     pub(crate) fn first_nothing(&self, low: usize, receiver: usize) -> Option<usize>
-        ensures { (j : Journal) → Tells j self.now → IsFirst j low (WasNothing receiver) result }
+        ensures { (j : Journal) → Tells j self.now → IsFirstIn j low (WasNothing receiver) result }
     {
         first_even(of_receiver(&self.nothing, receiver), low)
     }

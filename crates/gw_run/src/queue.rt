@@ -2,7 +2,7 @@
 ghost use Rattle.std.specs.Prelude.{◌≡◌, ◌∷◌, ◌++◌, ◌≤◌, [], IfOk, OnOk, ℕ, map, length, slice_get, take};
 ghost use Rattle.gw_gate.specs.Journal.{accepted, issued, jobs, pair};
 ghost use Rattle.gw_gate.specs.Seen.{conforming_seen};
-ghost use Rattle.gw_gate.specs.Values.{entry_seen, entries_seen};
+ghost use Rattle.gw_gate.specs.Entries.{entry_seen, entries_seen};
 ghost use Rattle.gw_run.specs.Gathers.{is_idle_after, is_idle_by, numbers_issued};
 ghost use Rattle.gw_run.specs.own.Queues.{Queues, Grows};
 ghost use Rattle.gw_run.specs.Turns.{TurnsTo};
@@ -33,7 +33,7 @@ fn issue_all(pairs: &mut Vec<u64>, conforming: &Conforming, n: u64) -> Result<()
 
 impl Queue {
     ghost use Rattle.std.specs.Prelude.{◌≡◌, ◌+◌, ◌<◌, ◌^◌, OnOk, slice_get};
-    ghost use Rattle.gw_gate.specs.Values.{entry_seen};
+    ghost use Rattle.gw_gate.specs.Entries.{entry_seen};
     ghost use Rattle.gw_run.specs.Gathers.{is_idle_by};
     ghost use Rattle.gw_run.specs.own.Queues.{Grows};
 
@@ -61,20 +61,24 @@ impl Queue {
         }
     }
 
-    // Whether no pair is to be taken.
-    fn is_idle(&self) -> bool
-        ensures { result ≡ is_idle_by (slice_get self.now.pairs.items self.now.taken) self.now.accepted }
+    // Whether no pair is to be taken, where the first acceptance has this number.
+    fn is_idle(&self, first: u64) -> bool
+        ensures { result ≡ is_idle_by first (slice_get self.now.pairs.items self.now.taken) self.now.accepted }
     {
         match self.pairs.get(self.taken) {
             None => true,
-            Some(n) => *n >= self.accepted as u64,
+            Some(n) => *n < first || *n - first >= self.accepted as u64,
         }
     }
 }
 
-// At which numbers of entries there begins or ceases to be no pair to be taken.
-pub(crate) fn idle_in(alloc: Global, entries: &[Entry]) -> Result<Vec<usize>, AllocError>
-    ensures { IfOk result (λ ats. TurnsTo (is_idle_after (entries_seen entries.now)) (length entries.now) ats.items) }
+// At which numbers of entries there begins or ceases to be no pair to be taken, where the first acceptance has this number.
+pub(crate) fn idle_in(
+    alloc: Global,
+    first: u64,
+    entries: &[Entry],
+) -> Result<Vec<usize>, AllocError>
+    ensures { IfOk result (λ ats. TurnsTo (is_idle_after first (entries_seen entries.now)) (length entries.now) ats.items) }
 {
     let mut ats = Vec::new(alloc);
     let mut queue = Queue {
@@ -84,7 +88,7 @@ pub(crate) fn idle_in(alloc: Global, entries: &[Entry]) -> Result<Vec<usize>, Al
     };
     for place in 0..entries.len() {
         queue.enter(&entries[place])?;
-        turn_to(&mut ats, place + 1, queue.is_idle())?;
+        turn_to(&mut ats, place + 1, queue.is_idle(first))?;
     }
     Ok(ats)
 }

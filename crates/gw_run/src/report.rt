@@ -1,6 +1,6 @@
-//! What is told of a journal.
+//! What is reported of a journal.
 ghost use Rattle.std.specs.Prelude.{◌≡◌, count_by};
-ghost use Rattle.gw_gate.specs.Values.{entry_seen, entries_seen};
+ghost use Rattle.gw_gate.specs.Entries.{entry_seen, entries_seen};
 ghost use Rattle.gw_run.specs.Report.{is_of, report_of};
 
 use gw_gate::Entry;
@@ -55,7 +55,7 @@ fn count(kind: Kind, entries: &[Entry]) -> u64
 }
 
 impl Report {
-    // What is told of these entries.
+    // What is reported of these entries.
     pub(crate) fn of(entries: &[Entry]) -> Self
         ensures { result ≡ report_of (entries_seen entries.now) }
     {

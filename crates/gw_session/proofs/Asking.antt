@@ -3,7 +3,7 @@ use Rattle.std.proofs.Common.{◌≡◌, ℕ, List, [], ◌∷◌, Option, None,
 use Rattle.gw_gate.specs.Journal.{WasAccepted, WasRefused}
 use Rattle.gw_gate.specs.Parts.{ConformingSeen}
 use Rattle.gw_gate.specs.Replies.{Arrives, Refuses, ReplySeen, IsCurrent, IsAccepted, IsStale, IsRefused, IsSwapped, IsUnlike, IsJob, IsIdle, IsKept}
-use Rattle.gw_gate.specs.Replies.{IsRepeat, IsStranger, IsIssued, IsDone, IsOut, IsNothing, IsFull}
+use Rattle.gw_gate.specs.Replies.{IsRepeat, IsStranger, IsIssued, IsDone, IsOut, IsNothing, IsPending, IsClosed, IsFull}
 use Rattle.gw_stream.specs.Answers.{Reply, reject}
 use Rattle.gw_crew.specs.Notes.{NoteSeen, WasStale, WasFull, Added, Notes}
 use Rattle.gw_crew.specs.own.Turns.{Adds}
@@ -33,6 +33,8 @@ came_noted c IsIssued old new noted = absurd noted.answers
 came_noted c IsDone old new noted = absurd noted.answers
 came_noted c (IsOut n t) old new noted = absurd noted.answers
 came_noted c IsNothing old new noted = absurd noted.answers
+came_noted c IsPending old new noted = absurd noted.answers
+came_noted c (IsClosed chapter) old new noted = absurd noted.answers
 
 pub came_so : (c : ConformingSeen) (given : ReplySeen) (came : CameSeen) (old new : List NoteSeen) → came ≡ came_of given → Notes (Arrives c) given old new
     → Adds (ComesTo c came) old new
@@ -62,6 +64,8 @@ ended asked code IsIssued old new has noted = absurd noted.answers
 ended asked code IsDone old new has noted = absurd noted.answers
 ended asked code (IsOut n t) old new has noted = absurd noted.answers
 ended asked code IsNothing old new has noted = absurd noted.answers
+ended asked code IsPending old new has noted = absurd noted.answers
+ended asked code (IsClosed chapter) old new has noted = absurd noted.answers
 
 pub refused_so : (asked : Reply) (code number : ℕ) (given : ReplySeen) (old new : List NoteSeen) → HasCode asked code → Some number ≡ arrival_of given
     → Notes (Refuses code) given old new → Adds (EndsIn asked number asked) old new

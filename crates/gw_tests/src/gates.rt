@@ -69,6 +69,8 @@ pub(crate) fn said(reply: &Reply) -> (&'static str, u64) {
         Reply::Done => ("Done", 0),
         Reply::Out { n, .. } => ("Out", *n),
         Reply::Nothing => ("Nothing", 0),
+        Reply::Pending => ("Pending", 0),
+        Reply::Closed(chapter) => ("Closed", chapter.entries().len() as u64),
         Reply::Full(_) => ("Full", 0),
     }
 }

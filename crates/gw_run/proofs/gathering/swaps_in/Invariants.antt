@@ -1,4 +1,4 @@
-use Rattle.gw_gate.specs.Values.{entries_seen}
+use Rattle.gw_gate.specs.Entries.{entries_seen}
 use Rattle.gw_run.specs.Gathers.{swaps_in}
 use Rattle.gw_run.specs.Turns.{CountsTo}
 use Rattle.gw_run.proofs.gathering.swaps_in.Given as goal

@@ -1,5 +1,5 @@
 use Rattle.std.proofs.Common.{◌≡◌, ◌+◌, ℕ, arith, subst, length, take}
-use Rattle.gw_gate.specs.Values.{entry_seen, entries_seen}
+use Rattle.gw_gate.specs.Entries.{entry_seen, entries_seen}
 use Rattle.gw_run.specs.Gathers.{is_nothing_after}
 use Rattle.gw_run.specs.own.Joins.{of_receiver}
 use Rattle.gw_run.specs.Owing.{Owes, TurnsFor, has_nothing, may_turn, owed_at}

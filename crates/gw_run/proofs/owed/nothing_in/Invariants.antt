@@ -1,5 +1,5 @@
 use Rattle.std.proofs.Common.{ℕ, take}
-use Rattle.gw_gate.specs.Values.{entries_seen}
+use Rattle.gw_gate.specs.Entries.{entries_seen}
 use Rattle.gw_run.specs.Gathers.{is_nothing_after}
 use Rattle.gw_run.specs.own.Joins.{of_receiver}
 use Rattle.gw_run.specs.Owing.{Owes, owed_at}

@@ -1,5 +1,5 @@
 use Rattle.std.proofs.Common.{◌∙◌, sym, subst}
-use Rattle.gw_gate.specs.Values.{entry_seen}
+use Rattle.gw_gate.specs.Entries.{entry_seen}
 use Rattle.gw_run.specs.own.Joins.{of_receiver}
 use Rattle.gw_run.specs.Owing.{has_nothing, may_turn, owed_at}
 use Rattle.gw_run.specs.Turns.{TurnsOn}

@@ -1,6 +1,6 @@
 use Rattle.std.proofs.Common.{◌≡◌, ◌≤◌, take}
 use Rattle.std.specs.Prelude.{count_by}
-use Rattle.gw_gate.specs.Values.{entry_seen}
+use Rattle.gw_gate.specs.Entries.{entry_seen}
 use Rattle.gw_run.specs.Report.{is_of}
 use Rattle.gw_run.proofs.report.count.Given as goal
 

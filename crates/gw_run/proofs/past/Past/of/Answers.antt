@@ -1,7 +1,5 @@
 use Rattle.std.proofs.Common.{sym, length, refl}
-use Rattle.std.specs.Arc.{arc_value}
-use Rattle.gw_gate.specs.Seen.{plan_seen}
-use Rattle.gw_gate.specs.Values.{entries_seen}
+use Rattle.gw_gate.specs.Entries.{entries_seen, start_seen}
 use Rattle.gw_gate.proofs.Entering.{as_long}
 use Rattle.gw_run.proofs.Ordering.{ordered}
 use Rattle.gw_run.proofs.Telling.{tells_all}
@@ -9,8 +7,8 @@ use Rattle.gw_run.proofs.past.Past.of.Goals as goal
 
 pub returns : goal.returns
 returns c =
-    tells_all (plan_seen (arc_value c.args.opening.now)) (entries_seen c.args.entries.now) c.requires (length c.args.entries.now) (sym (as_long c.args.entries.now)) _ refl
+    tells_all (start_seen c.args.start.now) (entries_seen c.args.entries.now) c.requires.lawful (length c.args.entries.now) (sym (as_long c.args.entries.now)) _ refl refl refl refl
     c.in_ok-swaps.ensures c.in_ok-plans.ensures c.in_ok-idle.ensures c.in_ok-nothing.ensures
 
 pub nothing_in-requires : goal.nothing_in-requires
-nothing_in-requires c = ordered (plan_seen (arc_value c.args.opening.now)) (entries_seen c.args.entries.now) c.requires
+nothing_in-requires c = ordered (start_seen c.args.start.now) (entries_seen c.args.entries.now) c.requires.lawful
