@@ -106,7 +106,7 @@ class Receiver:
 
     def __init__(self, until, last=0, free=True, codes=(b"AA",), control=None):
         self.until, self.last, self.codes, self.control, self.blocks, self.rest = until, last, codes, control, [], b""
-        self.news, self.free, self.gone = threading.Condition(), threading.Event(), threading.Event()
+        self.news, self.here, self.free, self.gone = threading.Condition(), threading.Event(), threading.Event(), threading.Event()
         if free:
             self.free.set()
         self.listener = socket.create_server(("127.0.0.1", 0))
@@ -116,6 +116,7 @@ class Receiver:
     def take(self):
         with contextlib.suppress(OSError):
             line = Line(self.listener.accept()[0], self.until)
+            self.here.set()
             while (block := line.block()) and len(self.blocks) + 1 != self.last:
                 with self.news:
                     self.blocks.append(block)
@@ -175,9 +176,11 @@ class Trial:
         speaks = os.open(fifo, os.O_RDWR)
         return os.open(fifo, os.O_RDONLY), speaks
 
-    def start(self, *words, source=subprocess.DEVNULL):
-        pipe, self.told = subprocess.PIPE, {"out": [], "err": []}
-        self.process = subprocess.Popen([self.program, "serve", *words], cwd=self.room, stdin=source, stdout=pipe, stderr=pipe, text=True, errors="replace")
+    def start(self, *words, source=subprocess.DEVNULL, before=None):
+        """Starts the service; `before` is called in its process, before the program is."""
+        self.told, how = {"out": [], "err": []}, {"cwd": self.room, "text": True, "errors": "replace", "preexec_fn": before}
+        streams = {"stdin": source, "stdout": subprocess.PIPE, "stderr": subprocess.PIPE}
+        self.process = subprocess.Popen([self.program, "serve", *words], **streams, **how)
         self.readers = [threading.Thread(target=self.listen, args=it, daemon=True) for it in (("out", self.process.stdout), ("err", self.process.stderr))]
         for reader in self.readers:
             reader.start()
@@ -204,9 +207,12 @@ class Trial:
         for name, it in self.receivers.items():
             self.wait("err", f"receiver {name} at {it.address} connected")
 
+    def connect(self):
+        return Line(socket.create_connection(("127.0.0.1", self.port), max(0.01, self.until - time.monotonic())), self.until)
+
     def client(self, number):
         """A client, when it has become the session of this number."""
-        line = Line(socket.create_connection(("127.0.0.1", self.port), max(0.01, self.until - time.monotonic())), self.until)
+        line = self.connect()
         self.wait("err", rf"session {number} from 127\.0\.0\.1:{line.socket.getsockname()[1]}")
         return line
 

@@ -19,6 +19,7 @@ mod refusals;
 mod report;
 mod serve;
 mod stamps;
+mod streams;
 mod subjects;
 mod swaps;
 mod threads;
@@ -29,8 +30,10 @@ use program::command;
 use report::tell_unread_words;
 use serve::serving;
 use std::process::ExitCode;
+use streams::open_closed;
 
 fn main(rt: HostRuntime) -> ExitCode {
+    open_closed(&rt);
     let status = match process_words(&rt) {
         Ok(words) if is_serve(&words) => serving(
             &rt,
