@@ -35,6 +35,7 @@ fn swap_file<'a, L: Ledger, R: Wait + Files + AllocGlobal>(
 ) -> Result<u64, Unswapped<'a>> {
     let text = match read_text(rt, path) {
         Ok(text) => text,
+        Err(Ended::Run(_)) => return Err(Unswapped::Gate(SwapFault::Memory)),
         Err(ended) => return Err(Unswapped::Text(ended)),
     };
     match swap(rt.alloc(), pass, &text) {
@@ -105,6 +106,7 @@ fn swap_with<L: Ledger, R: Wait + Files + Print + Eprint + AllocGlobal, I: Read 
             Err(error) if error.kind() == ErrorKind::InvalidData => {
                 let _ = eprintln!(rt; "plan unread\na line of standard input isn't text");
             }
+            Err(error) if error.kind() == ErrorKind::OutOfMemory => return Err(RunFault::Memory),
             Err(_) => return Err(RunFault::Read),
         }
     }
