@@ -1,10 +1,11 @@
 //! Plans that are swapped in while a service runs.
+use crate::doors::{Reporter, Who};
 use crate::ended::Ended;
 use crate::files::read_text;
 use crate::plans::refused;
 use crate::report::tell;
 use crate::threads::Service;
-use gw_run::{Pass, SwapFault, swap};
+use gw_run::{SwapFault, swap};
 use gw_stream::RunFault;
 use std::alloc::AllocError;
 use std::io::{BufRead, BufReader, Eprint, ErrorKind, Print, Read};
@@ -28,8 +29,8 @@ impl From<AllocError> for Unswapped<'_> {
 }
 
 /// Swaps in the plan of a file, and gives its version.
-fn swap_file<'a, L: Ledger, R: Wait + Files + AllocGlobal>(
-    pass: &mut Pass<'_, L, R>,
+fn swap_file<'a, L: Ledger, R: Wait + Files + Eprint + AllocGlobal>(
+    door: &mut Reporter<'_, '_, L, R>,
     rt: &R,
     path: &'a str,
 ) -> Result<u64, Unswapped<'a>> {
@@ -38,7 +39,7 @@ fn swap_file<'a, L: Ledger, R: Wait + Files + AllocGlobal>(
         Err(Ended::Run(_)) => return Err(Unswapped::Gate(SwapFault::Memory)),
         Err(ended) => return Err(Unswapped::Text(ended)),
     };
-    match swap(rt.alloc(), pass, &text) {
+    match swap(rt.alloc(), door, &text) {
         Ok(version) => Ok(version),
         Err(SwapFault::Plan(fault)) => {
             Err(Unswapped::Text(refused(rt.alloc(), path, &text, fault)?))
@@ -82,17 +83,17 @@ fn swap_lines<L: Ledger, R: Wait + Files + Print + Eprint + AllocGlobal, I: Read
     service: &Service<'_, L, R>,
     paths: I,
 ) -> Result<(), RunFault> {
-    let Some(mut pass) = service.pass() else {
+    let Some(mut door) = service.door(Who::Swaps) else {
         return Err(RunFault::Memory);
     };
-    let read = swap_with(service.rt, &mut pass, paths);
-    service.hand_in(pass);
+    let read = swap_with(service.rt, &mut door, paths);
+    service.hand_in(door);
     read
 }
 
 fn swap_with<L: Ledger, R: Wait + Files + Print + Eprint + AllocGlobal, I: Read + Drop>(
     rt: &R,
-    pass: &mut Pass<'_, L, R>,
+    door: &mut Reporter<'_, '_, L, R>,
     paths: I,
 ) -> Result<(), RunFault> {
     let Ok(mut lines) = BufReader::new(rt.alloc(), paths) else {
@@ -102,7 +103,7 @@ fn swap_with<L: Ledger, R: Wait + Files + Print + Eprint + AllocGlobal, I: Read 
         let mut line = String::new(rt.alloc());
         match lines.read_line(&mut line) {
             Ok(0) => return Ok(()),
-            Ok(_) => swap_one(pass, rt, line.trim_end_matches('\n')),
+            Ok(_) => swap_one(door, rt, line.trim_end_matches('\n')),
             Err(error) if error.kind() == ErrorKind::InvalidData => {
                 let _ = eprintln!(rt; "plan unread\na line of standard input isn't text");
             }
@@ -115,11 +116,11 @@ fn swap_with<L: Ledger, R: Wait + Files + Print + Eprint + AllocGlobal, I: Read 
 
 /// Swaps in the plan of a file, and tells what became of it.
 fn swap_one<L: Ledger, R: Wait + Files + Print + Eprint + AllocGlobal>(
-    pass: &mut Pass<'_, L, R>,
+    door: &mut Reporter<'_, '_, L, R>,
     rt: &R,
     path: &str,
 ) {
-    match swap_file(pass, rt, path) {
+    match swap_file(door, rt, path) {
         Ok(version) => {
             let _ = println!(rt; "swapped {version}");
         }

@@ -1,12 +1,13 @@
 //! A service: what its threads share, and what each of them does.
 ghost use Rattle.std.specs.Prelude.{◌≡◌, ◌<◌, ◌^◌};
 
+use crate::doors::{Reporter, Who};
 use crate::outcome::Outcome;
 use crate::stamps::Utc;
 use crate::tickets::Tickets;
 use gw_ack::Stamp;
 use gw_gate::{Event, Gate};
-use gw_run::{Door, LockedGate, Pass, Pause, Phase, Receipts, Report, courier, join_all, worker};
+use gw_run::{Door, LockedGate, Pause, Phase, Receipts, Report, courier, join_all, worker};
 use gw_session::session;
 use gw_stream::{Counts, Reads, RunFault, Writes};
 use std::io::Eprint;
@@ -63,7 +64,7 @@ impl Pause for Onward {
     }
 }
 
-impl<'a, L: Ledger, R: Wait + AllocGlobal> Service<'a, L, R> {
+impl<'a, L: Ledger, R: Wait + Eprint + AllocGlobal> Service<'a, L, R> {
     ghost use Rattle.std.specs.Prelude.{◌≡◌, ◌<◌, IfSome};
 
     /// A service at this gate, whose ledger has these parts.
@@ -83,14 +84,15 @@ impl<'a, L: Ledger, R: Wait + AllocGlobal> Service<'a, L, R> {
     }
 
     /// A way to the gate, unless all parts of the ledger were given away.
-    pub(crate) fn pass(&self) -> Option<Pass<'_, L, R>> {
+    pub(crate) fn door<'s, 'n>(&'s self, who: Who<'n>) -> Option<Reporter<'s, 'n, L, R>> {
         let share = self.tickets.lock(self.rt).take()?;
-        Some(self.gate.pass(self.rt.alloc(), self.rt, share))
+        let pass = self.gate.pass(self.rt.alloc(), self.rt, share);
+        Some(Reporter::new(pass, self.rt, who))
     }
 
     /// A thread steps the gate no more: what its pass leaves is kept for the end.
-    pub(crate) fn hand_in(&self, pass: Pass<'_, L, R>) {
-        let receipts = pass.end();
+    pub(crate) fn hand_in(&self, door: Reporter<'_, '_, L, R>) {
+        let receipts = door.into_pass().end();
         let kept = self.receipts.lock(self.rt).push(receipts);
         if kept.is_err() {
             self.fail(RunFault::Memory);
@@ -116,27 +118,27 @@ impl<'a, L: Ledger, R: Wait + AllocGlobal> Service<'a, L, R> {
 
     /// Does what so many workers left: each job that one of them had is issued again, once.
     pub(crate) fn finish(&self, workers: u64) {
-        let Some(mut pass) = self.pass() else {
+        let Some(mut door) = self.door(Who::Main) else {
             self.fail(RunFault::Memory);
             return;
         };
-        let done = self.do_left(&mut pass, workers);
-        self.hand_in(pass);
+        let done = self.do_left(&mut door, workers);
+        self.hand_in(door);
         if let Err(fault) = done {
             self.fail(fault);
         }
     }
 
-    fn do_left(&self, pass: &mut Pass<'_, L, R>, workers: u64) -> Result<(), RunFault> {
+    fn do_left(&self, door: &mut Reporter<'_, '_, L, R>, workers: u64) -> Result<(), RunFault> {
         for _job in 0..workers {
             let left = self.outcome.lock(self.rt).next_left();
             if let Some((n, receiver)) = left
-                && pass.call(Event::Reissue { n, receiver }).is_err()
+                && door.call(Event::Reissue { n, receiver }).is_err()
             {
                 return Err(RunFault::Memory);
             }
         }
-        match worker(self.rt.alloc(), pass, &mut Onward) {
+        match worker(self.rt.alloc(), door, &mut Onward) {
             Ok(_) => Ok(()),
             Err((fault, _)) => Err(fault),
         }
@@ -173,7 +175,7 @@ impl<L: Ledger, R: Wait + AllocGlobal + Clock + Eprint> Service<'_, L, R> {
             peer,
         } = connection;
         let _ = eprintln!(self.rt; "session {number} from {peer}");
-        match self.answer(&stream) {
+        match self.answer(number, &stream) {
             Ok(counts) => {
                 let Counts {
                     answered,
@@ -196,9 +198,9 @@ impl<L: Ledger, R: Wait + AllocGlobal + Clock + Eprint> Service<'_, L, R> {
         self.outcome.lock(self.rt).of_session(number, fault);
     }
 
-    fn answer(&self, stream: &TcpStream) -> Result<Counts, RunFault> {
+    fn answer(&self, number: u64, stream: &TcpStream) -> Result<Counts, RunFault> {
         let _ = stream.set_nodelay(true);
-        let Some(mut pass) = self.pass() else {
+        let Some(mut door) = self.door(Who::Session(number)) else {
             return Err(RunFault::Memory);
         };
         let mut clock = Utc::new(self.rt, self.start);
@@ -206,22 +208,22 @@ impl<L: Ledger, R: Wait + AllocGlobal + Clock + Eprint> Service<'_, L, R> {
         let mut writer = Writes::new(stream);
         let answered = session(
             self.rt.alloc(),
-            &mut pass,
+            &mut door,
             &mut clock,
             &mut reader,
             &mut writer,
         );
-        self.hand_in(pass);
+        self.hand_in(door);
         answered
     }
 
     /// Works on jobs, until no message will arrive any more.
     pub(crate) fn work(&self, number: u64) {
-        let Some(mut pass) = self.pass() else {
+        let Some(mut door) = self.door(Who::Worker(number)) else {
             return;
         };
-        let worked = worker(self.rt.alloc(), &mut pass, &mut Onward);
-        self.hand_in(pass);
+        let worked = worker(self.rt.alloc(), &mut door, &mut Onward);
+        self.hand_in(door);
         if let Err((fault, job)) = worked {
             let _ = eprintln!(self.rt; "worker {number} ended: fault {}: {fault}", fault.number());
             if let Some(job) = job {
@@ -237,7 +239,7 @@ impl<L: Ledger, R: Wait + AllocGlobal + Clock + Eprint> Service<'_, L, R> {
             name,
             stream,
         } = line;
-        match self.send(receiver, &stream) {
+        match self.send(receiver, name, &stream) {
             Ok(counts) => {
                 let Counts {
                     sent,
@@ -262,20 +264,20 @@ impl<L: Ledger, R: Wait + AllocGlobal + Clock + Eprint> Service<'_, L, R> {
         }
     }
 
-    fn send(&self, receiver: usize, stream: &TcpStream) -> Result<Counts, RunFault> {
-        let Some(mut pass) = self.pass() else {
+    fn send(&self, receiver: usize, name: &[u8], stream: &TcpStream) -> Result<Counts, RunFault> {
+        let Some(mut door) = self.door(Who::Receiver(name)) else {
             return Err(RunFault::Memory);
         };
         let mut reader = Reads::new(stream);
         let mut writer = Writes::new(stream);
         let carried = courier(
             self.rt.alloc(),
-            &mut pass,
+            &mut door,
             receiver,
             &mut reader,
             &mut writer,
         );
-        self.hand_in(pass);
+        self.hand_in(door);
         carried
     }
 }

@@ -1,0 +1,118 @@
+//! Ways to the gate that report where its journal fills up.
+use gw_gate::{Event, MOST, Reply};
+use gw_run::{Door, Note, Pass, Phase};
+use std::io::Eprint;
+use std::sync::Wait;
+use std::sync::ledger::Ledger;
+
+/// The last entry of three quarters of a journal, by its number from 0.
+const WARNING: usize = MOST / 4 * 3 - 1;
+
+/// Who steps the gate.
+#[derive(Clone, Copy)]
+pub(crate) enum Who<'n> {
+    Session(u64),
+    Worker(u64),
+    Receiver(&'n [u8]),
+    Main,
+    Swaps,
+}
+
+/// A pass that reports on standard error, at once, that whoever has it meets a full journal, and that three quarters of the journal are used.
+#[derive(Drop)]
+pub(crate) struct Reporter<'a, 'n, L: Ledger, R: Wait + Eprint> {
+    pass: Pass<'a, L, R>,
+    rt: &'a R,
+    who: Who<'n>,
+    met_full: bool,
+}
+
+impl<'a, 'n, L: Ledger, R: Wait + Eprint> Reporter<'a, 'n, L, R> {
+    pub(crate) fn new(pass: Pass<'a, L, R>, rt: &'a R, who: Who<'n>) -> Self {
+        Reporter {
+            pass,
+            rt,
+            who,
+            met_full: false,
+        }
+    }
+
+    /// The pass alone.
+    pub(crate) fn into_pass(self) -> Pass<'a, L, R> {
+        let Reporter { pass, .. } = self;
+        pass
+    }
+}
+
+impl<'a, 'n, L: Ledger, R: Wait + Eprint> Door for Reporter<'a, 'n, L, R> {
+    ghost noted = { λ r. r.pass.notes };
+
+    fn call(&mut self, event: Event) -> Result<Reply, Event> {
+        let earlier = self.pass.notes().len();
+        let answer = self.pass.call(event);
+        if is_warning(self.pass.notes(), earlier) {
+            tell_warning(self.rt);
+        }
+        if is_full(&answer) && !self.met_full {
+            self.met_full = true;
+            tell_full(self.rt, self.who);
+        }
+        answer
+    }
+
+    fn wait(&mut self, phase: Phase) -> bool {
+        self.pass.wait(phase)
+    }
+
+    fn notes(&self) -> &[Note] {
+        self.pass.notes()
+    }
+}
+
+/// Whether the journal had no room for the entry.
+fn is_full(answer: &Result<Reply, Event>) -> bool {
+    matches!(answer, Ok(Reply::Full(_)))
+}
+
+/// Whether the note behind the earlier ones is that of the entry that ends three quarters of a journal.
+fn is_warning(notes: &[Note], earlier: usize) -> bool {
+    match notes.get(earlier) {
+        Some(Note::Added(receipt)) => receipt.at == WARNING,
+        _ => false,
+    }
+}
+
+/// Tells that three quarters of the journal are used.
+fn tell_warning<R: Eprint>(rt: &R) {
+    let used = WARNING + 1;
+    let _ = eprintln!(rt;
+        "the journal has {used} of {MOST} entries: end the service before it is full"
+    );
+}
+
+/// Tells who meets a full journal, and what comes of it.
+fn tell_full<R: Eprint>(rt: &R, who: Who<'_>) {
+    let _ = match who {
+        Who::Session(number) => {
+            eprintln!(rt; "session {number} meets a full journal: its messages are refused")
+        }
+        Who::Worker(number) => {
+            eprintln!(rt;
+                "worker {number} meets a full journal: what isn't translated yet is not sent"
+            )
+        }
+        Who::Receiver(name) => {
+            eprintln!(rt;
+                "receiver {} meets a full journal: what isn't sent yet is not sent",
+                name.escape_ascii()
+            )
+        }
+        Who::Main => {
+            eprintln!(rt;
+                "the main thread meets a full journal: what isn't translated yet is not sent"
+            )
+        }
+        // (the line of the swap that is refused tells it)
+        Who::Swaps => Ok(()),
+    };
+}
