@@ -13,13 +13,36 @@ use std::sync::Wait;
 use std::sync::ledger::Ledger;
 use std::thread;
 use std::thread::Threads;
-use std::time::Clock;
+use std::time::{Clock, Duration};
+
+/// How many milliseconds nothing is accepted behind a connection that can't be taken: no descriptor may be free.
+const PAUSE: u64 = 100;
 
 /// How many connections are taken, and how many threads work on jobs.
 #[derive(Clone, Copy)]
 pub(crate) struct Sizes {
     pub(crate) sessions: u64,
     pub(crate) workers: u64,
+}
+
+/// The connection of this number. One that can't be taken is a session that ended, and the next isn't tried at once.
+fn take<L: Ledger, R: Wait + Clock + Eprint + AllocGlobal>(
+    service: &Service<'_, L, R>,
+    listener: &TcpListener,
+    number: u64,
+) -> Option<Connection> {
+    match listener.accept() {
+        Ok((stream, peer)) => Some(Connection {
+            number,
+            stream,
+            peer,
+        }),
+        Err(_) => {
+            service.end_session(number, RunFault::Read);
+            thread::sleep(service.rt, Duration::from_millis(PAUSE));
+            None
+        }
+    }
 }
 
 /// Takes so many connections, a thread each, and waits for their end. One whose thread can't be started is attended to here.
@@ -35,26 +58,18 @@ fn take_sessions<L: Ledger + Send, R: Threads + Wait + Clock + Eprint + AllocGlo
             requires { IsSend L.row × IsSync R.row }
         {
             for taken in 0..sessions {
-                let number = taken + 1;
-                match listener.accept() {
-                    Ok((stream, peer)) => {
-                        let connection = Connection {
-                            number,
-                            stream,
-                            peer,
-                        };
-                        let attend = move ||
-                            requires { IsSend L.row × IsSync R.row }
-                        { service.attend(connection) };
-                        if let Err(refused) = scope.spawn(attend) {
-                            (refused.value)()
-                        }
+                if let Some(connection) = take(service, &listener, taken + 1) {
+                    let attend = move ||
+                        requires { IsSend L.row × IsSync R.row }
+                    { service.attend(connection) };
+                    if let Err(refused) = scope.spawn(attend) {
+                        (refused.value)()
                     }
-                    Err(_) => service.end_session(number, RunFault::Read),
                 }
             }
             // (who connects from here on is refused)
             drop(listener);
+            let _ = eprintln!(service.rt; "not listening any more: all sessions were taken");
         },
     );
 }
