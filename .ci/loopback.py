@@ -101,11 +101,11 @@ class Line:
 
 
 class Receiver:
-    """A receiver: it takes one connection, and answers each block with the next of its codes, and with `control`, where there is one, for the control id.
-    It answers none before `free` is set, and closes at the block of number `last`."""
+    """A receiver: it takes one connection, and answers each block with the next of its codes, and with `control`, where there is one, for the control id,
+    or each by `reply`. It answers none before `free` is set, and closes at the block of number `last`."""
 
-    def __init__(self, until, last=0, free=True, codes=(b"AA",), control=None):
-        self.until, self.last, self.codes, self.control, self.blocks, self.rest = until, last, codes, control, [], b""
+    def __init__(self, until, last=0, free=True, codes=(b"AA",), control=None, reply=None):
+        self.until, self.last, self.codes, self.control, self.reply, self.blocks, self.rest = until, last, codes, control, reply, [], b""
         self.news, self.here, self.free, self.gone = threading.Condition(), threading.Event(), threading.Event(), threading.Event()
         if free:
             self.free.set()
@@ -125,7 +125,7 @@ class Receiver:
                 line.look()
                 if line.came:
                     break
-                line.send(self.acknowledgment(block))
+                line.send(self.reply or self.acknowledgment(block))
             self.rest = line.came
             line.socket.close()
         self.gone.set()

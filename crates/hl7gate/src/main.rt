@@ -11,6 +11,7 @@ mod ended;
 mod expected;
 mod files;
 mod hands;
+mod heard;
 mod maps;
 mod outcome;
 mod plans;

@@ -59,7 +59,11 @@ fn connect_all<'p, R: Net<Stream = TcpStream, Listener = TcpListener> + Eprint +
     for (number, receiver) in plan.receivers().iter().enumerate() {
         let name = receiver.name.as_slice();
         let Some(stream) = connect(rt, receiver) else {
-            let _ = eprintln!(rt; "receiver {} unreachable", name.escape_ascii());
+            let _ = eprintln!(rt;
+                "receiver {} unreachable\n{}: can't be connected",
+                name.escape_ascii(),
+                receiver.address.escape_ascii()
+            );
             return Err(RunFault::Write);
         };
         let _ = eprintln!(rt;

@@ -103,7 +103,7 @@ fn swap_with<L: Ledger, R: Wait + Files + Print + Eprint + AllocGlobal, I: Read 
         let mut line = String::new(rt.alloc());
         match lines.read_line(&mut line) {
             Ok(0) => return Ok(()),
-            Ok(_) => swap_one(door, rt, line.trim_end_matches('\n')),
+            Ok(_) => swap_one(door, rt, path_of(&line)),
             Err(error) if error.kind() == ErrorKind::InvalidData => {
                 let _ = eprintln!(rt; "plan unread\na line of standard input isn't text");
             }
@@ -112,6 +112,12 @@ fn swap_with<L: Ledger, R: Wait + Files + Print + Eprint + AllocGlobal, I: Read 
         }
     }
     unreachable!()
+}
+
+/// The path of a line, without its end: LF, or CR LF.
+fn path_of(line: &str) -> &str {
+    let path = line.strip_suffix('\n').unwrap_or(line);
+    path.strip_suffix('\r').unwrap_or(path)
 }
 
 /// Swaps in the plan of a file, and tells what became of it.

@@ -2,6 +2,7 @@
 ghost use Rattle.std.specs.Prelude.{◌≡◌, ◌<◌, ◌^◌};
 
 use crate::doors::{Reporter, Who};
+use crate::heard::{Heard, Unacknowledged, sent_in};
 use crate::outcome::Outcome;
 use crate::stamps::Utc;
 use crate::tickets::Tickets;
@@ -9,7 +10,7 @@ use gw_ack::Stamp;
 use gw_gate::{Event, Gate};
 use gw_run::{Door, LockedGate, Pause, Phase, Receipts, Report, courier, join_all, worker};
 use gw_session::session;
-use gw_stream::{Counts, Reads, RunFault, Writes};
+use gw_stream::{Counts, Reads, RunFault, Sink, Writes};
 use std::io::Eprint;
 use std::net::{SocketAddr, TcpStream};
 use std::sync::ledger::{Book, Ledger, Share};
@@ -253,31 +254,53 @@ impl<L: Ledger, R: Wait + AllocGlobal + Clock + Eprint> Service<'_, L, R> {
                     name.escape_ascii()
                 );
             }
-            Err(fault) => {
-                let _ = eprintln!(self.rt;
-                    "receiver {} ended: fault {}: {fault}",
-                    name.escape_ascii(),
-                    fault.number()
-                );
+            Err((fault, why)) => {
+                self.tell_courier(name, fault, why);
                 self.outcome.lock(self.rt).of_courier(receiver, fault);
             }
         }
     }
 
-    fn send(&self, receiver: usize, name: &[u8], stream: &TcpStream) -> Result<Counts, RunFault> {
-        let Some(mut door) = self.door(Who::Receiver(name)) else {
-            return Err(RunFault::Memory);
+    /// The courier of a receiver ended by a fault: of a line, this one.
+    fn tell_courier(&self, name: &[u8], fault: RunFault, why: Unacknowledged) {
+        let name = name.escape_ascii();
+        let number = fault.number();
+        let _ = match fault {
+            RunFault::Line { n } if why == Unacknowledged::Ended => {
+                eprintln!(self.rt;
+                    "receiver {name} ended: fault {number}: it ended its line at message {n}"
+                )
+            }
+            RunFault::Line { n } => {
+                let words = why.words();
+                eprintln!(self.rt;
+                    "receiver {name} ended: fault {number}: it did not acknowledge message {n}: {words}"
+                )
+            }
+            _ => eprintln!(self.rt; "receiver {name} ended: fault {number}: {fault}"),
         };
-        let mut reader = Reads::new(stream);
+    }
+
+    fn send(
+        &self,
+        receiver: usize,
+        name: &[u8],
+        stream: &TcpStream,
+    ) -> Result<Counts, (RunFault, Unacknowledged)> {
+        let alloc = self.rt.alloc();
+        let Some(mut door) = self.door(Who::Receiver(name)) else {
+            return Err((RunFault::Memory, Unacknowledged::Unknown));
+        };
+        let mut heard = Heard::new(alloc, stream);
         let mut writer = Writes::new(stream);
-        let carried = courier(
-            self.rt.alloc(),
-            &mut door,
-            receiver,
-            &mut reader,
-            &mut writer,
-        );
+        let mut reader = Reads::new(&mut heard);
+        let carried = courier(alloc, &mut door, receiver, &mut reader, &mut writer);
+        let sent = sent_in(door.notes());
         self.hand_in(door);
-        carried
+        match carried {
+            Ok(counts) => Ok(counts),
+            Err(fault) if writer.failed() => Err((fault, Unacknowledged::Ended)),
+            Err(fault) => Err((fault, heard.why(alloc, sent))),
+        }
     }
 }
