@@ -38,7 +38,8 @@ def same_blocks(what, stated, got):
 
 
 def stamp():
-    return time.strftime("%Y%m%d%H%M%S", time.gmtime()).encode()
+    # (gmtime alone asks a coarser clock than the program does, which may be a tick behind)
+    return time.strftime("%Y%m%d%H%M%S", time.gmtime(time.time())).encode()
 
 
 def told_once(since, answer, numbered=True):
