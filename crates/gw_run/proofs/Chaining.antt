@@ -1,12 +1,12 @@
 -- The first number of entries over all chapters at which a note fits.
-use Rattle.std.proofs.Common.{◌≡◌, ℕ, ◌+◌, ◌-◌, ◌<◌, ◌≤◌, ◌&&◌, ◌⊎◌, inl, inr, Bool, true, false, if◌then◌else◌, [], ◌∷◌, length, Option, None, Some, refl, sym, ap, subst, ◌∙◌, arith}
+use Rattle.std.proofs.Common.{◌≡◌, ℕ, ◌+◌, ◌-◌, ◌<◌, ◌≤◌, ◌&&◌, ◌⊎◌, inl, inr, Bool, true, false, if◌then◌else◌, List, [], ◌∷◌, length, Option, None, Some, refl, sym, ap, subst, ◌∙◌, arith}
 use Rattle.std.specs.Prelude.{nat_le, nat_lt, ◌||◌}
 use Rattle.std.specs.List.{list_any, range_with_len}
 use Rattle.std.proofs.lemmas.Grind.{common_steps}
 use Rattle.std.proofs.lemmas.Bool.{cases_lt, false≢true}
 use Rattle.gw_gate.specs.Journal.{Journal, end}
 use Rattle.gw_crew.specs.Notes.{NoteSeen}
-use Rattle.gw_run.specs.Settled.{fits, fits_at, reaches, until}
+use Rattle.gw_run.specs.Settled.{GoOn, first_of, fits, fits_at, reaches, until}
 use Rattle.gw_run.specs.Turns.{IsFirstFrom}
 use Rattle.gw_run.specs.own.Joins.{IsFirst, IsFirstIn, begun, first_in}
 use Rattle.gw_run.proofs.Turning.{first_between, none_between, some_between}
@@ -128,3 +128,68 @@ first_fits j from last count low own note o r froms lasts counts is first so =
     let owned : own ≡ low - j.start.entries = is ∙ ap (λ n. low - n) froms in
     let same : r ≡ first_in (end j) (length j.entries) o = so ∙ ap (λ n. first_in n count o) lasts ∙ ap (λ n. first_in (end j) n o) counts in
     subst (IsFirst (j ∷ []) low note) (sym same) (first_over j low note o (subst (λ n. IsFirstIn j n note o) owned first))
+
+-- ---- all chapters
+
+-- the first number at which one of two tests holds, where the second doesn't hold before the first does
+module _ (a b test : ℕ → Bool) (low : ℕ) (either : (k : ℕ) → test k ≡ (a k || b k)) where
+  pub first_found : (first : ℕ) → IsFirstFrom low a (Some first) → ((k : ℕ) → low ≤ k → k < first → b k ≡ false) → IsFirstFrom low test (Some first)
+  first_found first is none high =
+      let here = there a low first is in
+      first_between test low high first here.0 (either first ∙ ap (λ x. x || b first) here.1)
+      (λ k above below. either k ∙ ap (λ x. x || b k) (earlier a low first k is above below) ∙ none k above below)
+
+  same_later : (o : Option ℕ) → IsFirstFrom low b o → ((k : ℕ) → low ≤ k → test k ≡ b k) → IsFirstFrom low test o
+  same_later None is same = λ high. none_between test low high (λ k above below. same k above ∙ never b low k is above)
+  same_later (Some first) is same =
+      let here = there b low first is in
+      λ high. first_between test low high first here.0 (same first here.0 ∙ here.1) (λ k above below. same k above ∙ earlier b low first k is above below)
+
+  pub first_later : (o : Option ℕ) → IsFirstFrom low a None → IsFirstFrom low b o → IsFirstFrom low test o
+  first_later o none is = same_later o is (λ k above. either k ∙ ap (λ x. x || b k) (never a low k none above))
+
+-- no chapter is reached before the first one starts
+none_before : (js : List Journal) (note : NoteSeen) (k : ℕ) → GoOn js → k < first_of js → fits_at js k note ≡ false
+none_before [] note k go lt = refl
+none_before (j ∷ []) note k go lt = out (reaches j k) (fits (until j k) note) (not_before j 0 note k lt)
+none_before (j ∷ next ∷ js) note k go lt =
+    let starts : next.start.entries ≡ end j = ap (λ s. s.entries) go.0 in
+    ap (λ r. (r && fits (until j k) note) || fits_at (next ∷ js) k note) (not_before j 0 note k lt) ∙ none_before (next ∷ js) note k go.1 (omega (arith, lt, starts))
+
+either_chapter : (j : Journal) (js : List Journal) (note : NoteSeen) (k : ℕ) → fits_at (j ∷ js) k note ≡ (fits_at (j ∷ []) k note || fits_at js k note)
+either_chapter j js note k = by (reaches j k && fits (until j k) note)
+  where
+    by : (b : Bool) → (b || fits_at js k note) ≡ ((b || false) || fits_at js k note)
+    by true = refl
+    by false = refl
+
+-- a note that fits the first chapter fits it up to its end
+reached_only : (j : Journal) (note : NoteSeen) (k : ℕ) → fits_at (j ∷ []) k note ≡ true → k ≤ end j
+reached_only j note k fits = by (cases_lt (end j) k) (cases_lt k j.start.entries)
+  where
+    by : (end j < k) ⊎ (k ≤ end j) → (k < j.start.entries) ⊎ (j.start.entries ≤ k) → k ≤ end j
+    by (inr within) from = within
+    by (inl past) (inl before) = absurd (omega (arith, past, before))
+    by (inl past) (inr above) = absurd (false≢true (sym (out (reaches j k) _ (not_behind j 0 note k above past)) ∙ fits))
+
+-- the first number in the first chapter, where there is one, is the first of all
+pub first_here : (j : Journal) (js : List Journal) (low : ℕ) (note : NoteSeen) (first : ℕ) → GoOn (j ∷ js) → IsFirst (j ∷ []) low note (Some first) → IsFirst (j ∷ js) low note (Some first)
+first_here j js low note first go is =
+    first_found (λ k. fits_at (j ∷ []) k note) (λ k. fits_at js k note) (λ k. fits_at (j ∷ js) k note) low (either_chapter j js note) first is (λ k above below. by js go k below)
+  where
+    within : first ≤ end j
+    within = reached_only j note first (there (λ k. fits_at (j ∷ []) k note) low first is).1
+
+    by : (ks : List Journal) → GoOn (j ∷ ks) → (k : ℕ) → k < first → fits_at ks k note ≡ false
+    by [] on k below = refl
+    by (next ∷ ks) on k below =
+        let starts : next.start.entries ≡ end j = ap (λ s. s.entries) on.0 in
+        none_before (next ∷ ks) note k on.1 (omega (arith, below, within, starts))
+
+-- else it is that of the others
+pub first_beyond : (j : Journal) (js : List Journal) (low : ℕ) (note : NoteSeen) (o : Option ℕ) → IsFirst (j ∷ []) low note None → IsFirst js low note o → IsFirst (j ∷ js) low note o
+first_beyond j js low note o none is =
+    first_later (λ k. fits_at (j ∷ []) k note) (λ k. fits_at js k note) (λ k. fits_at (j ∷ js) k note) low (either_chapter j js note) o none is
+
+pub first_nowhere : (low : ℕ) (note : NoteSeen) → IsFirst [] low note None
+first_nowhere low note = λ high. none_between (λ k. fits_at [] k note) low high (λ k above below. refl)

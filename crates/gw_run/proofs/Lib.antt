@@ -11,3 +11,5 @@ pub mod Joining
 pub mod Dues
 pub mod Ordering
 pub mod Chaining
+pub mod Following
+pub mod Giving

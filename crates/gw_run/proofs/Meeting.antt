@@ -1,14 +1,15 @@
 -- How notes agree with a journal, one after another.
-use Rattle.std.proofs.Common.{◌≡◌, ℕ, ◌+◌, ◌-◌, ◌<◌, ◌≤◌, ◌&&◌, ◌⊎◌, inl, inr, Bool, true, false, List, [], ◌∷◌, Option, Some, slice_get, refl, sym, ap, ◌∙◌, arith, append-nil}
+use Rattle.std.proofs.Common.{◌≡◌, ℕ, ◌+◌, ◌-◌, ◌<◌, ◌≤◌, ◌&&◌, ◌⊎◌, inl, inr, Bool, true, false, List, [], ◌∷◌, Option, None, Some, slice_get, refl, sym, ap, ◌∙◌, arith, append-nil}
 use Rattle.std.specs.Prelude.{nat_le, IsTrue, not, max}
 use Rattle.std.proofs.lemmas.Grind.{common_steps}
 use Rattle.std.proofs.lemmas.Bool.{cases_lt}
-use Rattle.std.proofs.lemmas.Option.{slice_get_past}
-use Rattle.gw_gate.specs.Journal.{EntrySeen, Journal, end}
+use Rattle.std.proofs.lemmas.Option.{none-some}
+use Rattle.gw_gate.specs.Journal.{EntrySeen, Journal}
 use Rattle.gw_crew.specs.Notes.{NoteSeen, Looked, WasStale, WasFull, WasIdle, WasNothing, Added}
 use Rattle.gw_run.specs.Settled.{agrees, fits_between, is_same, last_end, next_at, stands}
-use Rattle.gw_run.specs.own.Joins.{IsFirst, is_receipt, meets}
+use Rattle.gw_run.specs.own.Joins.{IsFirst, is_receipt, meets, next_by}
 use Rattle.gw_run.specs.Turns.{is_within}
+use Rattle.gw_run.proofs.Fitting.{some_is}
 
 and_false : (b : Bool) → (b && false) ≡ false
 and_false true = refl
@@ -51,12 +52,21 @@ stands_is j h start at e first are =
     ap (λ l. nat_le j.start.entries at && is_same e (slice_get l (at - j.start.entries))) (append-nil j.entries ∙ are)
     ∙ ap (λ n. nat_le n at && is_same e (slice_get h (at - n))) (sym first)
 
--- no entry stands behind the last one
-pub none_behind : (j : Journal) (last at : ℕ) (e : EntrySeen) → last ≡ end j → last ≤ at → stands (j ∷ []) at e ≡ false
-none_behind j last at e lasts past =
-    stands_is j j.entries j.start.entries at e refl refl
-    ∙ ap (λ o. nat_le j.start.entries at && is_same e o) (slice_get_past j.entries (at - j.start.entries) (omega (arith, lasts, past)))
-    ∙ and_false (nat_le j.start.entries at)
+-- by the number after a receipt, where it stands
+pub receipt_after : (js : List Journal) (low need at next : ℕ) (e : EntrySeen) (notes : List NoteSeen) → low ≤ at → need ≤ at → Some next ≡ next_by (at + 1) (stands js at e)
+    → meets js low need (Added at e ∷ notes) ≡ meets js next 0 notes
+receipt_after js low need at next e notes above enough is = by (stands js at e) refl is
+  where
+    by : (b : Bool) → stands js at e ≡ b → Some next ≡ next_by (at + 1) b → meets js low need (Added at e ∷ notes) ≡ meets js next 0 notes
+    by true here so = receipt_stands js low need at e notes above enough here ∙ ap (λ n. meets js n 0 notes) (sym (some_is next (at + 1) so))
+    by false here so = absurd (none-some next (sym so))
+
+pub receipt_none : (js : List Journal) (low need at : ℕ) (e : EntrySeen) (notes : List NoteSeen) → None ≡ next_by (at + 1) (stands js at e) → meets js low need (Added at e ∷ notes) ≡ false
+receipt_none js low need at e notes is = by (stands js at e) refl is
+  where
+    by : (b : Bool) → stands js at e ≡ b → None ≡ next_by (at + 1) b → meets js low need (Added at e ∷ notes) ≡ false
+    by true here so = absurd (none-some (at + 1) so)
+    by false here so = receipt_fails js low need at e notes here
 
 -- ---- other notes
 

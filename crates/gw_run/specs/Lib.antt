@@ -1,5 +1,6 @@
 pub mod Passes
 pub mod Settled
+pub mod Given
 pub mod Rows
 pub mod Report
 pub mod Turns

@@ -1,10 +1,10 @@
 -- Notes about a toy's journals, and what is owed by them.
 use Rattle.std.specs.Prelude.{ℕ, Bool, List, [], ◌∷◌, fold}
-use Rattle.gw_gate.specs.Journal.{EntrySeen, Journal, WasAccepted, WasSwapped, WasTaken, WasKept, WasOut}
+use Rattle.gw_gate.specs.Journal.{EntrySeen, Journal, WasAccepted, WasSwapped, WasTaken, WasKept, WasOut, opening, start_after}
 use Rattle.gw_gate.specs.Replies.{Arrives, Swaps, Takes, Puts, Releases, run, most}
 use Rattle.gw_gate.specs.Toy.{first_plan, second_plan, message, made, opened}
 use Rattle.gw_run.specs.Owing.{OwedSeen, after_entry, nothing_owed}
-use Rattle.gw_crew.specs.Notes.{NoteSeen, Looked, WasStale, WasIdle, WasNothing, Added}
+use Rattle.gw_crew.specs.Notes.{NoteSeen, Looked, WasStale, WasFull, WasIdle, WasNothing, Added}
 
 -- ---- two workers, beside the session that brought two messages
 
@@ -50,6 +50,33 @@ late_nothing = Added 3 (WasKept 0 (made 10)) ∷ WasNothing 0 ∷ Added 4 (WasOu
 -- a message was stale though its plan was in force
 abbrev pub false_stale : List NoteSeen
 false_stale = WasStale 0 (message 10) ∷ Added 0 (WasAccepted 0 1 (message 10)) ∷ []
+
+-- ---- notes that cross a cut
+
+-- one message is worked on and given out, and the journal closed; then a second one arrives
+abbrev pub first_chapter : Journal
+first_chapter = record { start = opening first_plan; entries = WasAccepted 0 1 (message 10) ∷ WasTaken 0 0 ∷ WasKept 0 (made 10) ∷ WasOut 0 0 (made 10) ∷ [] }
+
+abbrev pub open_chapter : Journal
+open_chapter = record { start = start_after first_chapter; entries = WasAccepted 1 2 (message 11) ∷ WasTaken 1 0 ∷ [] }
+
+abbrev pub long_session : List NoteSeen
+long_session = Looked 0 first_plan ∷ Added 0 (WasAccepted 0 1 (message 10)) ∷ Looked 0 first_plan ∷ Added 4 (WasAccepted 1 2 (message 11)) ∷ []
+
+-- it found nothing to do after its job, and a job again in the next chapter
+abbrev pub long_worker : List NoteSeen
+long_worker = Added 1 (WasTaken 0 0) ∷ Added 2 (WasKept 0 (made 10)) ∷ WasIdle ∷ Added 5 (WasTaken 1 0) ∷ []
+
+abbrev pub courier : List NoteSeen
+courier = Added 3 (WasOut 0 0 (made 10)) ∷ WasNothing 0 ∷ []
+
+-- the number counts from the chapter's start, as if no entry had been made before it
+abbrev pub counting_anew : List NoteSeen
+counting_anew = Looked 0 first_plan ∷ Added 0 (WasAccepted 0 1 (message 10)) ∷ Looked 0 first_plan ∷ Added 0 (WasAccepted 1 2 (message 11)) ∷ []
+
+-- the open chapter was full, though it had room
+abbrev pub denying : List NoteSeen
+denying = Added 5 (WasTaken 1 0) ∷ WasFull ∷ []
 
 -- ---- what is owed
 

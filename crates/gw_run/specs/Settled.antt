@@ -1,5 +1,5 @@
 -- Whether the notes of finished passes agree with the chapters of a gate's journal.
-use Rattle.std.specs.Prelude.{◌≡◌, ⊤, ℕ, ◌+◌, ◌-◌, ◌==◌, nat_le, Bool, true, false, not, ◌&&◌, IsTrue, List, [], ◌∷◌, flat_map, count_by, length, map, take, slice_get}
+use Rattle.std.specs.Prelude.{◌≡◌, ⊤, ℕ, ◌+◌, ◌-◌, ◌==◌, nat_le, Bool, true, false, not, ◌&&◌, IsTrue, List, [], ◌∷◌, ◌++◌, flat_map, count_by, length, map, take, slice_get}
 use Rattle.std.specs.Prelude.{Option, None, Some, bytes_eq}
 use Rattle.std.specs.List.{list_any, list_all, range_with_len}
 use Rattle.gw_gate.specs.Parts.{is_under}
@@ -112,6 +112,6 @@ pub record Settled (js : List Journal) (since : ℕ) (passes : List (List NoteSe
   pub all : IsTrue (are_all since (last_end 0 js) (flat_map receipts passes))
   pub each : IsTrue (list_all (agrees js since) passes)
 
--- the same of passes that have ended, and of the gate that is left
-abbrev pub AreSettled : CountedSeen → List PassSeen → Type 0
-AreSettled counted passes = Settled (counted.gate ∷ []) counted.since (map (λ pass. pass.notes) passes)
+-- the same of passes that have ended, and of the chapters that were closed with the gate that is left
+abbrev pub AreSettled : List Journal → CountedSeen → List PassSeen → Type 0
+AreSettled chapters counted passes = Settled (chapters ++ counted.gate ∷ []) counted.since (map (λ pass. pass.notes) passes)

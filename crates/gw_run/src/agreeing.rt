@@ -1,28 +1,51 @@
 //! Whether the notes of a pass agree with the chapters.
-ghost use Rattle.std.specs.Prelude.{◌≡◌, ◌∷◌, ◌-◌, ◌&&◌, [], nat_le, slice_get};
+ghost use Rattle.std.specs.Prelude.{◌≡◌, ◌∷◌, ◌+◌, ◌-◌, ◌&&◌, [], List, nat_le, slice_get};
 ghost use Rattle.gw_gate.specs.Journal.{Journal};
 ghost use Rattle.gw_gate.specs.Entries.{entry_seen, entries_seen};
 ghost use Rattle.gw_crew.specs.Notes.{Added};
 ghost use Rattle.gw_crew.specs.Seen.{note_seen, notes_seen};
-ghost use Rattle.gw_run.specs.own.Joins.{FollowsBy, IsFirst, IsFirstIn, number_in};
-ghost use Rattle.gw_run.specs.Settled.{agrees, is_same};
-ghost use Rattle.gw_run.specs.own.Tellings.{Follows, Tells, TellsBoth};
+ghost use Rattle.gw_run.specs.own.Joins.{FollowsBy, IsFirst, IsFirstIn, next_by, number_in};
+ghost use Rattle.gw_run.specs.Settled.{GoOn, agrees, is_same, stands};
+ghost use Rattle.gw_run.specs.own.Tellings.{Follows, Tells, TellsAll};
 
+use crate::parts::{Part, last_of};
 use crate::past::Past;
 use gw_crew::{Note, Receipt};
 use gw_gate::Entry;
 
 // Whether a chapter with this start has this entry under this number over all chapters.
-fn stands(entries: &[Entry], start: usize, at: usize, entry: &Entry) -> bool
-    ensures { result ≡ (nat_le start at && is_same (entry_seen entry.now) (slice_get (entries_seen entries.now) (at - start))) }
+fn stands_in(part: &Part, at: usize, entry: &Entry) -> bool
+    ensures { result ≡ (nat_le part.now.past.start at && is_same (entry_seen entry.now) (slice_get (entries_seen part.now.entries.now) (at - part.now.past.start))) }
 {
-    if at < start {
+    if at < part.past.start {
         return false;
     }
-    match entries.get(at - start) {
+    match part.entries.get(at - part.past.start) {
         Some(there) => entry.same(there),
         None => false,
     }
+}
+
+// The number, where an entry stands before it.
+fn next_by(next: usize, stands: bool) -> Option<usize>
+    ensures { result ≡ next_by next stands }
+{
+    if stands {
+        return Some(next);
+    }
+    None
+}
+
+// The number after this one, where the chapters have this entry under it.
+fn next_after(parts: &[Part], at: usize, entry: &Entry) -> Option<usize>
+    ensures { (js : List Journal) → TellsAll js parts.now → GoOn js → result ≡ next_by (at + 1) (stands js at (entry_seen entry.now)) }
+{
+    for part in parts {
+        if at < part.past.last {
+            return next_by(at + 1, stands_in(part, at, entry));
+        }
+    }
+    None
 }
 
 // The first number of the chapter's own entries, from low on, at which the note fits it.
@@ -50,7 +73,7 @@ fn within(past: &Past, first: usize) -> Option<usize>
 }
 
 // The first number of entries over all chapters, from low on, at which the note fits this one.
-fn first_fit(past: &Past, low: usize, note: &Note) -> Option<usize>
+fn fit_in(past: &Past, low: usize, note: &Note) -> Option<usize>
     ensures { (j : Journal) → Tells j past.now → IsFirst (j ∷ []) low (note_seen note.now) result }
 {
     let from = low.saturating_sub(past.start);
@@ -60,26 +83,35 @@ fn first_fit(past: &Past, low: usize, note: &Note) -> Option<usize>
     }
 }
 
-// From low and need, those after a receipt, unless notes don't agree with the journal.
+// The first number of entries over all chapters, from low on, at which the note fits one of them.
+fn first_fit(parts: &[Part], low: usize, note: &Note) -> Option<usize>
+    ensures { (js : List Journal) → TellsAll js parts.now → GoOn js → IsFirst js low (note_seen note.now) result }
+{
+    for part in parts {
+        match fit_in(&part.past, low, note) {
+            Some(first) => return Some(first),
+            None => {}
+        }
+    }
+    None
+}
+
+// From low and need, those after a receipt, unless notes don't agree with the chapters.
 fn after_receipt(
-    entries: &[Entry],
-    past: &Past,
+    parts: &[Part],
     low: usize,
     need: usize,
     receipt: &Receipt,
 ) -> Option<(usize, usize)>
-    ensures { Follows entries.now past.now low need (Added receipt.now.at (entry_seen receipt.now.entry)) result }
+    ensures { Follows parts.now low need (Added receipt.now.at (entry_seen receipt.now.entry)) result }
 {
     if receipt.at < low || receipt.at < need {
         return None;
     }
-    if receipt.at >= past.last {
-        return None;
+    match next_after(parts, receipt.at, &receipt.entry) {
+        Some(next) => Some((next, 0)),
+        None => None,
     }
-    if !stands(entries, past.start, receipt.at, &receipt.entry) {
-        return None;
-    }
-    Some((receipt.at + 1, 0))
 }
 
 // Those after any other note, by the first number at which it fits.
@@ -93,33 +125,27 @@ fn after_other(low: usize, need: usize, first: Option<usize>) -> Option<(usize, 
 }
 
 // Those after a note.
-fn after_note(
-    entries: &[Entry],
-    past: &Past,
-    low: usize,
-    need: usize,
-    note: &Note,
-) -> Option<(usize, usize)>
-    ensures { Follows entries.now past.now low need (note_seen note.now) result }
+fn after_note(parts: &[Part], low: usize, need: usize, note: &Note) -> Option<(usize, usize)>
+    ensures { Follows parts.now low need (note_seen note.now) result }
 {
     match note {
-        Note::Added(receipt) => after_receipt(entries, past, low, need, receipt),
-        _ => after_other(low, need, first_fit(past, low, note)),
+        Note::Added(receipt) => after_receipt(parts, low, need, receipt),
+        _ => after_other(low, need, first_fit(parts, low, note)),
     }
 }
 
-// Whether the notes agree with the chapter, where there were since entries before them.
-pub(crate) fn agrees(entries: &[Entry], past: &Past, since: usize, notes: &[Note]) -> bool
-    ensures { (j : Journal) → TellsBoth j past.now entries.now → result ≡ agrees (j ∷ []) since (notes_seen notes.now) }
+// Whether the notes agree with the chapters, where there were since entries before them.
+pub(crate) fn agrees(parts: &[Part], since: usize, notes: &[Note]) -> bool
+    ensures { (js : List Journal) → TellsAll js parts.now → GoOn js → result ≡ agrees js since (notes_seen notes.now) }
 {
     let mut low = since;
     let mut need = 0;
     for note in notes {
-        let Some(next) = after_note(entries, past, low, need, note) else {
+        let Some(next) = after_note(parts, low, need, note) else {
             return false;
         };
         low = next.0;
         need = next.1;
     }
-    need <= past.last
+    need <= last_of(parts)
 }

@@ -1,7 +1,6 @@
 //! A gate whose passes have ended.
 ghost use Rattle.std.specs.Prelude.{◌≡◌};
 
-use crate::report::Report;
 use gw_gate::Gate;
 use std::marker::Model;
 use std::sync::ledger::{Book, Ledger, Share};
@@ -29,7 +28,6 @@ impl<L: Ledger> Model for Counted<L> {
 impl<L: Ledger> Counted<L> {
     ghost use Rattle.std.specs.Prelude.{◌≡◌, ◌+◌};
     ghost use Rattle.gw_gate.specs.Journal.{end};
-    ghost use Rattle.gw_run.specs.Report.{report_of};
 
     pub(crate) fn of(gate: Gate, since: usize, book: Book<L>) -> Self
         requires { since + book.total ≡ end gate }
@@ -51,13 +49,6 @@ impl<L: Ledger> Counted<L> {
         ensures whole { share.old.parts ≡ L.parts → self.old.since + share.old.amount ≡ end self.old.gate }
     {
         self.book.audit(share);
-    }
-
-    /// How many entries of each kind its journal has, and how many in all. It takes no memory.
-    pub fn report(&self) -> Report
-        ensures { result ≡ report_of self.now.gate.entries }
-    {
-        Report::of(self.gate.journal())
     }
 
     /// How many entries were made before the passes, over all chapters; the book has the others. It takes no memory.

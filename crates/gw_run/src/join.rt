@@ -1,36 +1,41 @@
-//! Whether what finished passes leave agrees with the journal of their gate.
-ghost use Rattle.std.specs.Prelude.{◌≡◌, ◌+◌, ◌⊎◌, IfErr, IfOk};
+//! Whether what finished passes leave agrees with the chapters of their gate.
+ghost use Rattle.std.specs.Prelude.{◌≡◌, ◌+◌, ◌++◌, ◌∷◌, ◌⊎◌, [], IfErr, IfOk};
+ghost use Rattle.gw_gate.specs.Chapters.{all_entries};
 ghost use Rattle.gw_stream.specs.declared.fault.RunFault.TheVariants as run;
 ghost use Rattle.gw_run.specs.Passes.{AreCounted, HaveAll, part_count, receipt_count};
 ghost use Rattle.gw_run.specs.Report.{report_of};
 ghost use Rattle.gw_run.specs.Settled.{AreSettled};
 
 use crate::counted::Counted;
+use crate::parts::parts_of;
 use crate::pass::Receipts;
 use crate::report::Report;
 use crate::settling::is_settled;
+use gw_gate::Chapter;
 use gw_stream::RunFault;
 use std::alloc::Global;
 use std::sync::ledger::{Ledger, Share};
 
-// What is reported of the gate, where the notes of the passes are settled.
+// What is reported of the chapters, where the notes of the passes are settled.
 fn settled<L: Ledger>(
     alloc: Global,
     counted: &Counted<L>,
     passes: &[Receipts<L>],
+    chapters: &[Chapter],
 ) -> Result<Report, RunFault>
-    ensures settled { IfOk result (λ report. AreSettled counted.now passes.now) }
-    ensures report { IfOk result (λ report. report ≡ report_of counted.now.gate.entries) }
-    ensures unsettled { IfErr result (λ f. f ≡ run.Unsettled → AreSettled counted.now passes.now → ⊥) }
+    ensures settled { IfOk result (λ report. AreSettled chapters.now counted.now passes.now) }
+    ensures report { IfOk result (λ report. report ≡ report_of (all_entries (chapters.now ++ counted.now.gate ∷ []))) }
+    ensures unsettled { IfErr result (λ f. f ≡ run.Unsettled → AreSettled chapters.now counted.now passes.now → ⊥) }
     ensures fault { IfErr result (λ f. (f ≡ run.Memory) ⊎ (f ≡ run.Unsettled)) }
 {
     let gate = counted.gate();
-    // (its clause bounds the number of its entries)
+    // (its clause bounds the number of all entries)
     let _end = gate.end();
-    if !is_settled(alloc, gate.start(), gate.journal(), counted.since(), passes)? {
+    let parts = parts_of(alloc, chapters, gate)?;
+    if !is_settled(alloc, &parts, counted.since(), passes)? {
         return Err(RunFault::Unsettled);
     }
-    Ok(counted.report())
+    Ok(Report::of(&parts))
 }
 
 // The shares of the passes, put together with a first one.
@@ -60,20 +65,22 @@ fn audit<L: Ledger>(counted: &mut Counted<L>, passes: Vec<Receipts<L>>)
 }
 
 /// What is reported of a gate whose passes have ended, where what they leave is settled: each entry since the gate was locked is that
-/// of just one receipt, and all notes agree with the journal. Else the fault is `Unsettled`; the one other fault is an allocation failure.
+/// of just one receipt, and all notes agree with the chapters. These are those that were closed since the gate was locked, in order.
+/// The report counts them and the open one. Else the fault is `Unsettled`; the one other fault is an allocation failure.
 pub fn join_all<L: Ledger>(
     alloc: Global,
     counted: &mut Counted<L>,
     passes: Vec<Receipts<L>>,
+    chapters: Vec<Chapter>,
 ) -> Result<Report, RunFault>
     ensures same { counted.new ≡ counted.old }
-    ensures settled { IfOk result (λ report. AreSettled counted.old passes.items) }
-    ensures report { IfOk result (λ report. report ≡ report_of counted.old.gate.entries) }
-    ensures unsettled { IfErr result (λ f. f ≡ run.Unsettled → AreSettled counted.old passes.items → ⊥) }
+    ensures settled { IfOk result (λ report. AreSettled chapters.items counted.old passes.items) }
+    ensures report { IfOk result (λ report. report ≡ report_of (all_entries (chapters.items ++ counted.old.gate ∷ []))) }
+    ensures unsettled { IfErr result (λ f. f ≡ run.Unsettled → AreSettled chapters.items counted.old passes.items → ⊥) }
     ensures fault { IfErr result (λ f. (f ≡ run.Memory) ⊎ (f ≡ run.Unsettled)) }
     ensures whole { HaveAll L.parts passes.items → AreCounted counted.old passes.items }
 {
-    let answer = settled(alloc, counted, &passes);
+    let answer = settled(alloc, counted, &passes, &chapters);
     audit(counted, passes);
     answer
 }

@@ -1,14 +1,17 @@
 //! Rows of the definitions of settled notes, and of what is owed.
-ghost use Rattle.std.specs.Prelude.{◌≡◌, [], ◌∷◌, ◌++◌, true, false, flat_map, map, length, replicate};
+ghost use Rattle.std.specs.Prelude.{◌≡◌, ◌-◌, ℕ, List, drop, [], ◌∷◌, ◌++◌, true, false, flat_map, map, length, nat_le, replicate};
 ghost use Rattle.std.specs.List.{range_with_len};
-ghost use Rattle.gw_gate.specs.Journal.{end};
-ghost use Rattle.gw_gate.specs.Toy.{worked};
-ghost use Rattle.gw_crew.specs.Notes.{WasFull};
+ghost use Rattle.gw_gate.specs.Chapters.{all_entries};
+ghost use Rattle.gw_gate.specs.Journal.{Journal, end, from, released, start_after};
+ghost use Rattle.gw_gate.specs.Replies.{Arrives, Puts, Releases, Takes, most, run};
+ghost use Rattle.gw_gate.specs.Toy.{made, message, opened, worked};
+ghost use Rattle.gw_crew.specs.Notes.{NoteSeen, WasFull};
+ghost use Rattle.gw_run.specs.Given.{NoneGiven, are_same, given_out};
 ghost use Rattle.gw_run.specs.Gathers.{is_nothing_after, kept_of};
 ghost use Rattle.gw_run.specs.Owing.{nothing_owed, with_due, with_kept};
 ghost use Rattle.gw_run.specs.Passes.{receipts};
-ghost use Rattle.gw_run.specs.Settled.{Settled, agrees, are_all};
-ghost use Rattle.gw_run.specs.Rows.{owed_by, owing, session, one_worker, other_worker, idle_worker, boasting_worker, lying_worker, swapped, through_swap, late_look, late_nothing, false_stale};
+ghost use Rattle.gw_run.specs.Settled.{GoOn, Settled, agrees, are_all, first_of};
+ghost use Rattle.gw_run.specs.Rows.{owed_by, owing, session, one_worker, other_worker, idle_worker, boasting_worker, first_chapter, open_chapter, long_session, long_worker, courier, counting_anew, denying, lying_worker, swapped, through_swap, late_look, late_nothing, false_stale};
 
 /// The notes of a session and two workers agree with their journal, also where only the workers' entries are asked for.
 pub fn workers_settle()
@@ -34,6 +37,18 @@ pub fn swap_settles()
     ensures full { agrees (swapped ∷ []) 0 (WasFull ∷ []) ≡ false }
 {}
 
+/// Notes that cross a cut agree with both chapters, and not where numbers count anew, a chapter wasn't full, or chapters are exchanged, left out or twice.
+pub fn chapters_settle()
+    ensures settled { Settled (first_chapter ∷ open_chapter ∷ []) 0 (long_session ∷ long_worker ∷ courier ∷ []) }
+    ensures first { run most opened (Arrives (message 10) ∷ Takes ∷ Puts 0 (made 10) ∷ Releases 0 ∷ []) ≡ first_chapter }
+    ensures second { run most (from (start_after first_chapter)) (Arrives (message 11) ∷ Takes ∷ []) ≡ open_chapter }
+    ensures anew { agrees (first_chapter ∷ open_chapter ∷ []) 0 counting_anew ≡ false }
+    ensures denying { agrees (first_chapter ∷ open_chapter ∷ []) 0 denying ≡ false }
+    ensures exchanged { GoOn (open_chapter ∷ first_chapter ∷ []) → ⊥ }
+    ensures left_out { nat_le (first_of (open_chapter ∷ [])) 0 ≡ false }
+    ensures twice { GoOn (first_chapter ∷ first_chapter ∷ open_chapter ∷ []) → ⊥ }
+{}
+
 /// What is owed to a receiver entry by entry: there is something to be given out from the time when its next translation is kept until that is given out.
 pub fn owed_rows()
     ensures kept { kept_of worked.entries 0 ≡ true ∷ true ∷ [] }
@@ -49,4 +64,11 @@ pub fn owed_walks()
     ensures elsewhere { owed_by worked.entries 1 ≡ nothing_owed }
     ensures twice { with_due (with_due nothing_owed 3) 3 ≡ owing (3 ∷ []) (false ∷ []) 0 }
     ensures unasked { with_kept (with_due nothing_owed 3) 4 ≡ with_due nothing_owed 3 }
+{}
+
+/// Where notes are settled, and one pass alone has receipts of what was given out for a receiver, it has them of all that was given out since, in order.
+pub fn what_one_courier_gave()
+    ensures { (js : List Journal) (since r : ℕ) (before after : List (List NoteSeen)) (notes : List NoteSeen)
+        → Settled js since (before ++ notes ∷ after) → NoneGiven r before → NoneGiven r after
+        → are_same (given_out notes r) (released (drop (since - first_of js) (all_entries js)) r) ≡ true }
 {}

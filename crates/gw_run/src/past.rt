@@ -35,7 +35,7 @@ pub(crate) struct Past {
 }
 
 // The plan at this place.
-fn plan_at(plans: &[Arc<Plan>], place: u64) -> Option<&Arc<Plan>>
+pub(crate) fn plan_at(plans: &[Arc<Plan>], place: u64) -> Option<&Arc<Plan>>
     ensures { option_map (λ p. plan_seen (arc_value p.now)) result ≡ slice_get (plans_at plans.now) place }
 {
     plans.get(place as usize)
@@ -59,7 +59,7 @@ fn is_under(conforming: &Conforming, version: u64, plan: &Plan) -> bool
 }
 
 // Whether the plans have the same text.
-fn have_same_text(plan: &Plan, other: &Plan) -> bool
+pub(crate) fn have_same_text(plan: &Plan, other: &Plan) -> bool
     ensures { result ≡ bytes_eq (plan_seen plan.now).text (plan_seen other.now).text }
 {
     plan.text() == other.text()

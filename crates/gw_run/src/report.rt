@@ -1,11 +1,13 @@
-//! What is reported of a journal.
-ghost use Rattle.std.specs.Prelude.{◌≡◌, count_by};
+//! What is reported of the chapters of a journal.
+ghost use Rattle.std.specs.Prelude.{◌≡◌, ◌<◌, ◌^◌, count_by, length};
 ghost use Rattle.gw_gate.specs.Entries.{entry_seen, entries_seen};
 ghost use Rattle.gw_run.specs.Report.{is_of, report_of};
+ghost use Rattle.gw_run.specs.own.Tellings.{entries_of};
 
+use crate::parts::Part;
 use gw_gate::Entry;
 
-/// How many entries of each kind a journal has, and how many in all.
+/// How many entries of each kind the chapters have, and how many in all.
 #[derive(Clone, Copy, Debug, PartialEq, Eq)]
 pub struct Report {
     /// Messages that were accepted.
@@ -25,6 +27,7 @@ pub struct Report {
 pub(crate) enum Kind {
     Accepted,
     Refused,
+    Arrived,
     Kept,
     Released,
 }
@@ -36,13 +39,14 @@ fn is_of(kind: Kind, entry: &Entry) -> bool
     match kind {
         Kind::Accepted => matches!(entry, Entry::Accepted { .. }),
         Kind::Refused => matches!(entry, Entry::Refused { .. }),
+        Kind::Arrived => matches!(entry, Entry::Accepted { .. } | Entry::Refused { .. }),
         Kind::Kept => matches!(entry, Entry::Kept { .. }),
         Kind::Released => matches!(entry, Entry::Out { .. }),
     }
 }
 
 // How many entries are of this kind.
-fn count(kind: Kind, entries: &[Entry]) -> u64
+pub(crate) fn count(kind: Kind, entries: &[Entry]) -> u64
     ensures { result ≡ count_by (is_of kind) (entries_seen entries.now) }
 {
     let mut count = 0;
@@ -54,17 +58,42 @@ fn count(kind: Kind, entries: &[Entry]) -> u64
     count
 }
 
+// How many entries of the parts are of this kind.
+fn count_all(kind: Kind, parts: &[Part]) -> u64
+    requires { length (entries_of parts.now) < 2 ^ 64 }
+    ensures { result ≡ count_by (is_of kind) (entries_of parts.now) }
+{
+    let mut all = 0;
+    for part in parts {
+        all += count(kind, part.entries);
+    }
+    all
+}
+
+// How many entries the parts have.
+fn length_all(parts: &[Part]) -> u64
+    requires { length (entries_of parts.now) < 2 ^ 64 }
+    ensures { result ≡ length (entries_of parts.now) }
+{
+    let mut all = 0;
+    for part in parts {
+        all += part.entries.len() as u64;
+    }
+    all
+}
+
 impl Report {
-    // What is reported of these entries.
-    pub(crate) fn of(entries: &[Entry]) -> Self
-        ensures { result ≡ report_of (entries_seen entries.now) }
+    // What is reported of the entries of the parts.
+    pub(crate) fn of(parts: &[Part]) -> Self
+        requires { length (entries_of parts.now) < 2 ^ 64 }
+        ensures { result ≡ report_of (entries_of parts.now) }
     {
         Report {
-            accepted: count(Kind::Accepted, entries),
-            refused: count(Kind::Refused, entries),
-            kept: count(Kind::Kept, entries),
-            released: count(Kind::Released, entries),
-            entries: entries.len() as u64,
+            accepted: count_all(Kind::Accepted, parts),
+            refused: count_all(Kind::Refused, parts),
+            kept: count_all(Kind::Kept, parts),
+            released: count_all(Kind::Released, parts),
+            entries: length_all(parts),
         }
     }
 }

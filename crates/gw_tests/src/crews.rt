@@ -1,9 +1,9 @@
-//! A worker and a courier over one gate.
-use crate::gates::begun;
+//! A worker, a courier and a cut over one gate.
+use crate::gates::{OUT_OF_ORDER, begun, event, plan};
 use crate::locked::replies;
 use crate::streams::Device;
 use crate::worked::{admitted, archive};
-use gw_crew::{Door, Note, Pause, Phase, Solo, courier, worker};
+use gw_crew::{Door, Note, Pause, Phase, Solo, courier, cut, worker};
 use gw_gate::{Event, Reply};
 use gw_plan::Plan;
 use gw_stream::{Counts, Reads, RunFault, Writes};
@@ -154,6 +154,27 @@ fn a_message_is_worked_on_and_carried(rt: HostRuntime) -> Result<(), Fail> {
     assert!(rt; result == Ok(NOTHING) && held == Some(0));
     assert_eq!(rt; (door.notes().len(), door.gate().journal().len()), (8, 4));
     Ok(())
+}
+
+#[test]
+fn a_cut_waits_for_each_job(rt: HostRuntime) -> Result<(), Fail> {
+    let alloc = rt.alloc();
+    let plan = plan(alloc, "ONE")?;
+    let mut door = door_of(alloc, &plan)?;
+    for (step, reply) in OUT_OF_ORDER.steps {
+        assert!(rt; replies(&mut door, event(alloc, &plan, &plan, *step)?, *reply));
+    }
+    assert!(rt; cut(&mut door)?.is_none());
+    for n in 0..3 {
+        assert!(rt; replies(&mut door, Event::Take, ("Job", n)));
+    }
+    match cut(&mut door)? {
+        Some(chapter) => {
+            assert_eq!(rt; (chapter.entries().len(), door.gate().end()), (12, 12));
+            Ok(())
+        }
+        None => Err("it is pending".into()),
+    }
 }
 
 #[test]

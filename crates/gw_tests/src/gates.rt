@@ -1,7 +1,7 @@
 //! What a gate replies, and what its receivers are sent.
 use crate::worked;
 use gw_er7::write;
-use gw_gate::{Event, Gate, Reply, replay};
+use gw_gate::{Event, Gate, MOST, Reply, replay};
 use gw_plan::{Conforming, Plan, Translated, translate_for};
 use std::alloc::Global;
 use std::sync::Arc;
@@ -91,6 +91,7 @@ pub(crate) enum Step {
     /// The pair of this number.
     Reissue(u64),
     Release,
+    Cut,
 }
 
 /// What comes to a gate, what it replies to each, and how many messages it accepted, results it kept, results it gave out and entries it made.
@@ -150,8 +151,36 @@ const SWAPPED: History = History {
     counts: [1, 1, 1, 5],
 };
 
+/// The journal is cut before the jobs of these messages are taken, and after it; then nothing of them is due, and numbers go on.
+pub(crate) const CUT: History = History {
+    steps: &[
+        (Step::Arrive(0), ("Accepted", 0)),
+        (Step::Arrive(1), ("Accepted", 1)),
+        (Step::Arrive(2), ("Accepted", 2)),
+        (Step::Put { n: 2, control: 2 }, ("Kept", 0)),
+        (Step::Put { n: 0, control: 0 }, ("Kept", 0)),
+        (Step::Put { n: 0, control: 0 }, ("Repeat", 0)),
+        (Step::Put { n: 1, control: 1 }, ("Kept", 0)),
+        (Step::Release, ("Out", 0)),
+        (Step::Release, ("Out", 1)),
+        (Step::Release, ("Out", 2)),
+        (Step::Release, ("Nothing", 0)),
+        (Step::Cut, ("Pending", 0)),
+        (Step::Take, ("Job", 0)),
+        (Step::Take, ("Job", 1)),
+        (Step::Take, ("Job", 2)),
+        (Step::Cut, ("Closed", 12)),
+        (Step::Arrive(3), ("Accepted", 3)),
+        (Step::Put { n: 0, control: 0 }, ("Stranger", 0)),
+        (Step::Reissue(0), ("Stranger", 0)),
+        (Step::Release, ("Nothing", 0)),
+        (Step::Take, ("Job", 3)),
+    ],
+    counts: [4, 3, 3, 14],
+};
+
 /// What may happen at a gate.
-pub(crate) const HISTORIES: [History; 3] = [OUT_OF_ORDER, ISSUED_AGAIN, SWAPPED];
+pub(crate) const HISTORIES: [History; 4] = [OUT_OF_ORDER, ISSUED_AGAIN, SWAPPED, CUT];
 
 // The event of a step at a gate that opens with the first plan.
 pub(crate) fn event(
@@ -172,6 +201,7 @@ pub(crate) fn event(
         }
         Step::Reissue(n) => Ok(Event::Reissue { n, receiver: 0 }),
         Step::Release => Ok(Event::Release(0)),
+        Step::Cut => Ok(Event::Cut),
     }
 }
 
@@ -228,5 +258,23 @@ fn a_message_stays_under_its_plan(rt: HostRuntime) -> Result<(), Fail> {
     assert_eq!(rt; (gate.journal().len(), replies.len()), (5, 8));
     let text = sent(alloc, replies.last())?;
     assert_eq!(rt; text.as_slice(), b"MSH|^~\\&|||ONE|||||7\r".as_slice());
+    Ok(())
+}
+
+#[test]
+fn a_full_journal_takes_no_entry(rt: HostRuntime) -> Result<(), Fail> {
+    let plan = plan(rt.alloc(), "ONE")?;
+    let mut gate = begun(rt.alloc(), &plan)?;
+    for _entry in 0..MOST {
+        let _ = gate.step(Event::Refuse(207));
+    }
+    assert_eq!(rt; gate.journal().len(), 262_144);
+    assert_eq!(rt; replied(&mut gate, Event::Refuse(207))?, ("Full", 0));
+    assert_eq!(rt; replied(&mut gate, Event::Look)?, ("Current", 0));
+    assert_eq!(rt; replied(&mut gate, Event::Cut)?, ("Closed", 262_144));
+    assert_eq!(rt;
+        replied(&mut gate, Event::Refuse(207))?,
+        ("Refused", 262_145)
+    );
     Ok(())
 }

@@ -1,8 +1,8 @@
 //! A gate that threads step behind its lock.
 ghost use Rattle.std.specs.Prelude.{◌≡◌};
 
-use crate::gates::{HISTORIES, History, OUT_OF_ORDER, Step, begun, event, plan, said};
-use gw_gate::{Event, Gate};
+use crate::gates::{CUT, HISTORIES, History, Step, begun, event, plan, said};
+use gw_gate::{Chapter, Event, Gate, Reply};
 use gw_plan::Plan;
 use gw_run::{Door, LockedGate, Pass, Report, RunFault, join_all};
 use std::alloc::Global;
@@ -19,31 +19,66 @@ pub(crate) fn replies<D: Door>(door: &mut D, event: Event, reply: (&'static str,
     }
 }
 
-// Whether the pass replies so to all steps, in order.
+// The chapter that a reply gives.
+fn closed_in(reply: Reply) -> Option<Chapter> {
+    match reply {
+        Reply::Closed(chapter) => Some(chapter),
+        _ => None,
+    }
+}
+
+// What a step closes, where the pass replies so.
+fn stepped<L: Ledger, R: Wait>(
+    pass: &mut Pass<'_, L, R>,
+    event: Event,
+    reply: (&'static str, u64),
+) -> Result<Option<Chapter>, Fail> {
+    match pass.call(event) {
+        Ok(found) => {
+            if said(&found) == reply {
+                Ok(closed_in(found))
+            } else {
+                Err("another reply".into())
+            }
+        }
+        Err(_event) => Err("no memory".into()),
+    }
+}
+
+// The chapters that were closed, where the pass replies so to all steps, in order.
 fn replies_to_all<L: Ledger, R: Wait>(
     alloc: Global,
     pass: &mut Pass<'_, L, R>,
     plans: (&Arc<Plan>, &Arc<Plan>),
     steps: &[(Step, (&'static str, u64))],
-) -> Result<bool, Fail> {
+) -> Result<Vec<Chapter>, Fail> {
+    let mut chapters = Vec::new(alloc);
     for (step, reply) in steps {
         let event = event(alloc, plans.0, plans.1, *step)?;
-        if !replies(pass, event, *reply) {
-            return Ok(false);
+        if let Some(chapter) = stepped(pass, event, *reply)? {
+            chapters.push(chapter)?;
         }
     }
-    Ok(true)
+    Ok(chapters)
 }
 
-// Whether one pass to a gate replies as is said, and what is reported in the end, unless its receipts are lost.
+/// What is lost of what a pass leaves.
+#[derive(Clone, Copy, PartialEq, Eq)]
+enum Lost {
+    Nothing,
+    Receipts,
+    Chapters,
+}
+
+// What is reported of a gate to which one pass replies as is said, where this is lost in the end.
 fn through_one<L: Ledger, R: Wait + AllocGlobal>(
     rt: &R,
     gate: Gate,
     blank: Blank,
     plans: (&Arc<Plan>, &Arc<Plan>),
     history: &History,
-    is_lost: bool,
-) -> Result<(bool, Result<Report, RunFault>), Fail>
+    lost: Lost,
+) -> Result<Result<Report, RunFault>, Fail>
     requires name { blank.name ≡ L.name }
     requires parts { blank.parts ≡ L.parts }
     requires one { blank.parts ≡ 1 }
@@ -52,14 +87,16 @@ fn through_one<L: Ledger, R: Wait + AllocGlobal>(
     let (book, all) = blank.open::<L>();
     let gate = LockedGate::new(gate, book);
     let mut pass = gate.pass(alloc, rt, all);
-    let is_told = replies_to_all(alloc, &mut pass, plans, history.steps)?;
+    let mut chapters = replies_to_all(alloc, &mut pass, plans, history.steps)?;
     let mut passes = Vec::new(alloc);
-    let receipts = pass.end();
-    if !is_lost {
-        passes.push(receipts)?;
+    passes.push(pass.end())?;
+    match lost {
+        Lost::Nothing => {}
+        Lost::Receipts => passes.clear(),
+        Lost::Chapters => chapters.clear(),
     }
     let mut counted = gate.into_counted();
-    Ok((is_told, join_all(alloc, &mut counted, passes)))
+    Ok(join_all(alloc, &mut counted, passes, chapters))
 }
 
 #[test]
@@ -78,26 +115,28 @@ fn one_pass_replies_as_its_gate(rt: HostRuntime) -> Result<(), Fail> {
         };
         let gate = begun(alloc, &first)?;
         let plans = (&first, &later);
-        let run = through_one::<Brand, _>(&rt, gate, Blank::new(1), plans, history, false)?;
-        assert_eq!(rt; run, (true, Ok(report)));
+        let joined = through_one::<Brand, _>(
+            &rt,
+            gate,
+            Blank::new(1),
+            plans,
+            history,
+            Lost::Nothing,
+        )?;
+        assert_eq!(rt; joined, Ok(report));
     }
     Ok(())
 }
 
 #[test]
-fn a_lost_receipt_is_missed(rt: HostRuntime) -> Result<(), Fail> {
+fn what_is_lost_is_missed(rt: HostRuntime) -> Result<(), Fail> {
     let alloc = rt.alloc();
     let plan = plan(alloc, "ONE")?;
-    let gate = begun(alloc, &plan)?;
-    let plans = (&plan, &plan);
-    let (_, joined) = through_one::<Brand, _>(
-        &rt,
-        gate,
-        Blank::new(1),
-        plans,
-        &OUT_OF_ORDER,
-        true,
-    )?;
-    assert_eq!(rt; joined, Err(RunFault::Unsettled));
+    for lost in [Lost::Receipts, Lost::Chapters] {
+        let gate = begun(alloc, &plan)?;
+        let plans = (&plan, &plan);
+        let joined = through_one::<Brand, _>(&rt, gate, Blank::new(1), plans, &CUT, lost)?;
+        assert_eq!(rt; joined, Err(RunFault::Unsettled));
+    }
     Ok(())
 }

@@ -82,21 +82,20 @@ fn work<L: Ledger, R: Wait>(rt: &R, hand: Hand<'_, L>) -> (Option<u64>, Receipts
     (put, pass.end())
 }
 
-// What a pass leaves through which so many messages arrived.
+// This many messages arrive through a pass.
 fn arrive<L: Ledger, R: Wait>(
     alloc: Global,
     plan: &Arc<Plan>,
-    pass: Pass<'_, L, R>,
+    pass: &mut Pass<'_, L, R>,
     count: u64,
-) -> Result<Receipts<L>, Fail> {
-    let mut pass = pass;
+) -> Result<(), Fail> {
     for n in 0..count {
         let event = Event::Arrive(admitted(alloc, plan, n)?);
-        if !replies(&mut pass, event, ("Accepted", n)) {
+        if !replies(pass, event, ("Accepted", n)) {
             return Err("it isn't accepted".into());
         }
     }
-    Ok(pass.end())
+    Ok(())
 }
 
 // What two workers make of two messages: what each puts, and what is reported in the end.
@@ -114,7 +113,8 @@ fn meet<L: Ledger + Send, R: Threads + Wait + Sync>(
     let gate = LockedGate::new(begun(alloc, plan)?, book);
     let first = rest.split_off(1, 0);
     let second = rest.split_off(1, 0);
-    let arrived = arrive(alloc, plan, gate.pass(alloc, rt, rest), 2)?;
+    let mut own = gate.pass(alloc, rt, rest);
+    arrive(alloc, plan, &mut own, 2)?;
     gate.close(rt, Phase::NoArrivals);
     let (left, right) = (AtomicBool::new(false), AtomicBool::new(false));
     let first = Hand {
@@ -141,12 +141,19 @@ fn meet<L: Ledger + Send, R: Threads + Wait + Sync>(
         { work(rt, second) },
     );
     let ((left, first), (right, second)) = (one, two);
+    // (nothing was given out, so the journal can't be closed)
+    if !replies(&mut own, Event::Cut, ("Pending", 0)) {
+        return Err("it is closed".into());
+    }
     let mut passes = Vec::new(alloc);
-    for receipts in [arrived, first, second] {
+    for receipts in [own.end(), first, second] {
         passes.push(receipts)?;
     }
     let mut counted = gate.into_counted();
-    Ok(([left, right], join_all(alloc, &mut counted, passes)))
+    Ok((
+        [left, right],
+        join_all(alloc, &mut counted, passes, Vec::new(alloc)),
+    ))
 }
 
 #[test]

@@ -1,9 +1,9 @@
 //! Ways to the gate that report where its journal fills up.
-use gw_gate::{Event, MOST, Reply};
+use gw_gate::{Chapter, Event, MOST, Reply};
 use gw_run::{Door, Note, Pass, Phase};
 use std::io::Eprint;
-use std::sync::Wait;
 use std::sync::ledger::Ledger;
+use std::sync::{Mutex, Wait};
 
 /// The last entry of three quarters of a journal, by its number from 0.
 const WARNING: usize = MOST / 4 * 3 - 1;
@@ -23,15 +23,22 @@ pub(crate) enum Who<'n> {
 pub(crate) struct Reporter<'a, 'n, L: Ledger, R: Wait + Eprint> {
     pass: Pass<'a, L, R>,
     rt: &'a R,
+    chapters: &'a Mutex<Vec<Chapter>>,
     who: Who<'n>,
     met_full: bool,
 }
 
 impl<'a, 'n, L: Ledger, R: Wait + Eprint> Reporter<'a, 'n, L, R> {
-    pub(crate) fn new(pass: Pass<'a, L, R>, rt: &'a R, who: Who<'n>) -> Self {
+    pub(crate) fn new(
+        pass: Pass<'a, L, R>,
+        rt: &'a R,
+        chapters: &'a Mutex<Vec<Chapter>>,
+        who: Who<'n>,
+    ) -> Self {
         Reporter {
             pass,
             rt,
+            chapters,
             who,
             met_full: false,
         }
@@ -42,6 +49,11 @@ impl<'a, 'n, L: Ledger, R: Wait + Eprint> Reporter<'a, 'n, L, R> {
         let Reporter { pass, .. } = self;
         pass
     }
+
+    /// Whether the entry of this number ends three quarters of the open journal. It is counted over all chapters, so those that were closed are taken off.
+    fn is_warning(&self, at: usize) -> bool {
+        at >= WARNING && at.checked_sub(closed_in(&self.chapters.lock(self.rt))) == Some(WARNING)
+    }
 }
 
 impl<'a, 'n, L: Ledger, R: Wait + Eprint> Door for Reporter<'a, 'n, L, R> {
@@ -50,7 +62,9 @@ impl<'a, 'n, L: Ledger, R: Wait + Eprint> Door for Reporter<'a, 'n, L, R> {
     fn call(&mut self, event: Event) -> Result<Reply, Event> {
         let earlier = self.pass.notes().len();
         let answer = self.pass.call(event);
-        if is_warning(self.pass.notes(), earlier) {
+        if let Some(at) = entry_at(self.pass.notes(), earlier)
+            && self.is_warning(at)
+        {
             tell_warning(self.rt);
         }
         if is_full(&answer) && !self.met_full {
@@ -74,11 +88,19 @@ fn is_full(answer: &Result<Reply, Event>) -> bool {
     matches!(answer, Ok(Reply::Full(_)))
 }
 
-/// Whether the note behind the earlier ones is that of the entry that ends three quarters of a journal.
-fn is_warning(notes: &[Note], earlier: usize) -> bool {
+/// The number of the entry whose note stands behind the earlier ones, if one does.
+fn entry_at(notes: &[Note], earlier: usize) -> Option<usize> {
     match notes.get(earlier) {
-        Some(Note::Added(receipt)) => receipt.at == WARNING,
-        _ => false,
+        Some(Note::Added(receipt)) => Some(receipt.at),
+        _ => None,
+    }
+}
+
+/// How many entries the chapters have in all.
+fn closed_in(chapters: &[Chapter]) -> usize {
+    match chapters.last() {
+        Some(chapter) => (chapter.start().entries as usize).saturating_add(chapter.entries().len()),
+        None => 0,
     }
 }
 

@@ -3,7 +3,6 @@ use crate::ended::Ended;
 use crate::refusals::{tell_breach, tell_map, tell_message, tell_plan, tell_profile};
 use clap::Error;
 use clap::error::ErrorKind;
-use gw_gate::MOST;
 use gw_run::Report;
 use gw_stream::{Counts, RunFault};
 use std::io;
@@ -34,9 +33,9 @@ pub(crate) fn tell_if_none<E: Write>(errors: &mut E, counts: Counts) {
     }
 }
 
-/// Tells that the journal is full, where it is.
-pub(crate) fn tell_if_full<E: Write>(errors: &mut E, report: Report) {
-    if report.entries >= MOST as u64 {
+/// Says that the open journal is full, where it is.
+pub(crate) fn tell_if_full<E: Write>(errors: &mut E, is_full: bool) {
+    if is_full {
         let _ = writeln!(
             errors,
             "the journal is full: what was accepted and isn't released was not sent; end a service earlier"

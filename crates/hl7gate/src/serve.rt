@@ -7,12 +7,11 @@ use crate::hands::{Sizes, with_couriers};
 use crate::plans::read_plan;
 use crate::report::{DONE, USAGE, tell, tell_fault, tell_if_full, tell_report, tell_words};
 use crate::stamps::stamp_of;
-use crate::threads::{Line, PARTS, Service};
+use crate::threads::{Line, PARTS, Served, Service};
 use clap::ArgMatches;
 use gw_ack::Stamp;
 use gw_gate::Gate;
 use gw_plan::{Plan, Receiver};
-use gw_run::Report;
 use gw_stream::RunFault;
 use std::alloc::AllocError;
 use std::fs::File;
@@ -102,7 +101,7 @@ fn serve_with<
     paths: I,
     listener: TcpListener,
     sizes: Sizes,
-) -> Result<Report, RunFault>
+) -> Result<Served, RunFault>
     requires name { blank.name ≡ L.name }
     requires parts { blank.parts ≡ L.parts }
     requires many { blank.parts ≡ 1000000 }
@@ -146,7 +145,7 @@ fn serve<
         + Sync,
     D: Read + Drop + Send + Sync,
     I: Read + Drop + Send,
->(rt: &R, words: &ArgMatches<'a>, paths: I) -> Result<Report, Ended<'a>> {
+>(rt: &R, words: &ArgMatches<'a>, paths: I) -> Result<Served, Ended<'a>> {
     let sizes = Sizes {
         sessions: count(words, "SESSIONS")?,
         workers: count(words, "WORKERS")?,
@@ -157,8 +156,8 @@ fn serve<
     let plan = Arc::new(rt.alloc(), read_plan(rt, words)?)?;
     let listener = listen(rt, words)?;
     let blank = Blank::new(PARTS);
-    let report = serve_with::<Brand, _, _, _>(rt, blank, &plan, start, paths, listener, sizes)?;
-    Ok(report)
+    let served = serve_with::<Brand, _, _, _>(rt, blank, &plan, start, paths, listener, sizes)?;
+    Ok(served)
 }
 
 /// Serves as the words say, and answers the status.
@@ -185,8 +184,8 @@ pub(crate) fn serving<
         return USAGE;
     };
     match serve(rt, words, paths) {
-        Ok(report) => {
-            tell_if_full(errors, report);
+        Ok(Served { report, is_full }) => {
+            tell_if_full(errors, is_full);
             tell_report(output, errors, report)
         }
         Err(ended) => tell(errors, &ended),

@@ -1,4 +1,4 @@
-//! Plans that are swapped in while a service runs.
+//! Plans that are swapped in while a service runs, and chapters that are closed.
 use crate::doors::{Reporter, Who};
 use crate::ended::Ended;
 use crate::files::read_text;
@@ -68,7 +68,7 @@ fn tell_unswapped<R: Eprint + AllocGlobal>(rt: &R, path: &str, why: &Unswapped<'
     }
 }
 
-/// Swaps in the plan of each file whose path is a line of these, in order, up to their end. Where they can't be read on it is told.
+/// Takes each of these lines in order, up to their end: `cut` closes the journal, and any other is the path of a plan to be swapped in. Where they can't be read on, standard error says so.
 pub(crate) fn swap_all<L: Ledger, R: Wait + Files + Print + Eprint + AllocGlobal, I: Read + Drop>(
     service: &Service<'_, L, R>,
     paths: I,
@@ -86,16 +86,17 @@ fn swap_lines<L: Ledger, R: Wait + Files + Print + Eprint + AllocGlobal, I: Read
     let Some(mut door) = service.door(Who::Swaps) else {
         return Err(RunFault::Memory);
     };
-    let read = swap_with(service.rt, &mut door, paths);
+    let read = swap_with(service, &mut door, paths);
     service.hand_in(door);
     read
 }
 
 fn swap_with<L: Ledger, R: Wait + Files + Print + Eprint + AllocGlobal, I: Read + Drop>(
-    rt: &R,
+    service: &Service<'_, L, R>,
     door: &mut Reporter<'_, '_, L, R>,
     paths: I,
 ) -> Result<(), RunFault> {
+    let rt = service.rt;
     let Ok(mut lines) = BufReader::new(rt.alloc(), paths) else {
         return Err(RunFault::Memory);
     };
@@ -103,7 +104,10 @@ fn swap_with<L: Ledger, R: Wait + Files + Print + Eprint + AllocGlobal, I: Read 
         let mut line = String::new(rt.alloc());
         match lines.read_line(&mut line) {
             Ok(0) => return Ok(()),
-            Ok(_) => swap_one(door, rt, path_of(&line)),
+            Ok(_) => match path_of(&line) {
+                "cut" => cut_one(service, door),
+                path => swap_one(door, rt, path),
+            },
             Err(error) if error.kind() == ErrorKind::InvalidData => {
                 let _ = eprintln!(rt; "plan unread\na line of standard input isn't text");
             }
@@ -131,5 +135,24 @@ fn swap_one<L: Ledger, R: Wait + Files + Print + Eprint + AllocGlobal>(
             let _ = println!(rt; "swapped {version}");
         }
         Err(why) => tell_unswapped(rt, path, &why),
+    }
+}
+
+/// Closes the gate's journal, and prints how many entries the chapter has, or why it isn't closed.
+fn cut_one<L: Ledger, R: Wait + Print + Eprint + AllocGlobal>(
+    service: &Service<'_, L, R>,
+    door: &mut Reporter<'_, '_, L, R>,
+) {
+    let rt = service.rt;
+    match service.cut(door) {
+        Ok(Some(entries)) => {
+            let _ = println!(rt; "cut {entries}");
+        }
+        Ok(None) => {
+            let _ = println!(rt; "cut pending");
+        }
+        Err(_) => {
+            let _ = println!(rt; "cut refused 1");
+        }
     }
 }

@@ -7,10 +7,11 @@ use crate::outcome::Outcome;
 use crate::stamps::Utc;
 use crate::tickets::Tickets;
 use gw_ack::Stamp;
-use gw_gate::{Event, Gate};
-use gw_run::{Door, LockedGate, Pause, Phase, Receipts, Report, courier, join_all, worker};
+use gw_gate::{Chapter, Event, Gate, MOST};
+use gw_run::{Door, LockedGate, Pause, Phase, Receipts, Report, courier, cut, join_all, worker};
 use gw_session::session;
 use gw_stream::{Counts, Reads, RunFault, Sink, Writes};
+use std::alloc::AllocError;
 use std::io::Eprint;
 use std::net::{SocketAddr, TcpStream};
 use std::sync::ledger::{Book, Ledger, Share};
@@ -20,7 +21,7 @@ use std::time::Clock;
 /// How many threads may step the gate of a service: more than 1,000 sessions, 1,000 workers and the receivers of any plan.
 pub(crate) const PARTS: u64 = 1_000_000;
 
-/// What the threads of a service share: its gate behind the lock, the parts of the ledger, what ended passes leave, and what went wrong.
+/// What the threads of a service share: its gate behind the lock, the parts of the ledger, what ended passes leave, the chapters that were closed, and what went wrong.
 #[derive(Drop)]
 pub(crate) struct Service<'a, L: Ledger, R: Wait> {
     pub(crate) rt: &'a R,
@@ -28,7 +29,15 @@ pub(crate) struct Service<'a, L: Ledger, R: Wait> {
     gate: LockedGate<L>,
     tickets: Mutex<Tickets<L>>,
     receipts: Mutex<Vec<Receipts<L>>>,
+    chapters: Mutex<Vec<Chapter>>,
     outcome: Mutex<Outcome>,
+}
+
+/// What a service did, and whether its open journal is full.
+#[derive(Clone, Copy)]
+pub(crate) struct Served {
+    pub(crate) report: Report,
+    pub(crate) is_full: bool,
 }
 
 /// A connection that was taken: its number, from 1, the stream, and who is at its other end.
@@ -80,6 +89,7 @@ impl<'a, L: Ledger, R: Wait + Eprint + AllocGlobal> Service<'a, L, R> {
             gate: LockedGate::new(gate, book),
             tickets: Mutex::new(Tickets::new(share, PARTS)),
             receipts: Mutex::new(Vec::new(rt.alloc())),
+            chapters: Mutex::new(Vec::new(rt.alloc())),
             outcome: Mutex::new(Outcome::new(rt.alloc())),
         }
     }
@@ -88,7 +98,7 @@ impl<'a, L: Ledger, R: Wait + Eprint + AllocGlobal> Service<'a, L, R> {
     pub(crate) fn door<'s, 'n>(&'s self, who: Who<'n>) -> Option<Reporter<'s, 'n, L, R>> {
         let share = self.tickets.lock(self.rt).take()?;
         let pass = self.gate.pass(self.rt.alloc(), self.rt, share);
-        Some(Reporter::new(pass, self.rt, who))
+        Some(Reporter::new(pass, self.rt, &self.chapters, who))
     }
 
     /// A thread steps the gate no more: what its pass leaves is kept for the end.
@@ -98,6 +108,24 @@ impl<'a, L: Ledger, R: Wait + Eprint + AllocGlobal> Service<'a, L, R> {
         if kept.is_err() {
             self.fail(RunFault::Memory);
         }
+    }
+
+    /// Closes the gate's journal, and keeps the chapter for the end. Says how many entries it has, or None where something is pending.
+    /// Room to keep it is made before; an error is an allocation failure, and nothing changed.
+    pub(crate) fn cut(
+        &self,
+        door: &mut Reporter<'_, '_, L, R>,
+    ) -> Result<Option<usize>, AllocError> {
+        let mut chapters = self.chapters.lock(self.rt);
+        chapters.reserve(1)?;
+        let Some(chapter) = cut(door)? else {
+            return Ok(None);
+        };
+        let entries = chapter.entries().len();
+        if chapters.push(chapter).is_err() {
+            self.fail(RunFault::Memory);
+        }
+        Ok(Some(entries))
     }
 
     /// From here on nothing comes any more that may not come in this phase.
@@ -145,13 +173,14 @@ impl<'a, L: Ledger, R: Wait + Eprint + AllocGlobal> Service<'a, L, R> {
         }
     }
 
-    /// What the gate did, unless something went wrong, or the notes of its passes and its journal don't agree. No thread works at the gate any more.
-    pub(crate) fn end(self) -> Result<Report, RunFault> {
+    /// What the gate did, unless something went wrong, or the notes of its passes and its chapters don't agree. No thread works at the gate any more.
+    pub(crate) fn end(self) -> Result<Served, RunFault> {
         let Service {
             rt,
             gate,
             tickets,
             receipts,
+            chapters,
             outcome,
             ..
         } = self;
@@ -163,7 +192,9 @@ impl<'a, L: Ledger, R: Wait + Eprint + AllocGlobal> Service<'a, L, R> {
         let unused = gate.pass(rt.alloc(), rt, tickets.into_inner().rest());
         receipts.push(unused.end())?;
         let mut counted = gate.into_counted();
-        join_all(rt.alloc(), &mut counted, receipts)
+        let report = join_all(rt.alloc(), &mut counted, receipts, chapters.into_inner())?;
+        let is_full = counted.gate().journal().len() == MOST;
+        Ok(Served { report, is_full })
     }
 }
 

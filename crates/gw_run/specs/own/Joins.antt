@@ -47,6 +47,11 @@ abbrev pub first_in : ℕ → ℕ → Option ℕ → Option ℕ
 first_in last count None = None
 first_in last count (Some k) = number_in last count k
 
+-- the number, where an entry stands before it
+abbrev pub next_by : ℕ → Bool → Option ℕ
+next_by next true = Some next
+next_by next false = None
+
 -- whether a note is a receipt
 abbrev pub is_receipt : NoteSeen → Bool
 is_receipt (Added at e) = true

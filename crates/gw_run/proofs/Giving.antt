@@ -1,0 +1,385 @@
+-- What one pass has receipts of is what was given out.
+use Rattle.std.proofs.Common.{◌≡◌, ◌≢◌, ℕ, zero, suc, ◌+◌, ◌-◌, ◌<◌, ◌≤◌, ◌==◌, ◌&&◌, ◌⊎◌, inl, inr, Bool, true, false, if◌then◌else◌, List, [], ◌∷◌, ◌++◌, length, map, drop, Option, None, Some, slice_get, refl, sym, ap, subst, ◌∙◌, arith}
+use Rattle.std.specs.Prelude.{cond, nat_le, flat_map}
+use Rattle.std.specs.List.{list_all, range_with_len}
+use Rattle.std.proofs.lemmas.Grind.{common_steps}
+use Rattle.std.proofs.lemmas.Bool.{cases_eq, cases_lt, false≢true, false_from_ne_true}
+use Rattle.std.proofs.lemmas.List.Sums.{sum_by-cons, sum_by-append}
+use Rattle.std.proofs.lemmas.Option.{none-some, slice_get_within}
+use Rattle.gw_reorder.proofs.Places.{equals, differs, equal_numbers}
+use Rattle.gw_gate.specs.Parts.{same_translated}
+use Rattle.gw_gate.specs.Chapters.{all_entries}
+use Rattle.gw_gate.specs.Journal.{EntrySeen, WasAccepted, WasRefused, WasSwapped, WasTaken, WasKept, WasIssued, WasOut, Journal, Release, released}
+use Rattle.gw_gate.specs.Same.{same_entry}
+use Rattle.gw_crew.specs.Notes.{NoteSeen, Looked, WasStale, WasFull, WasIdle, WasNothing, Added, ReceiptSeen}
+use Rattle.gw_run.specs.Passes.{receipts}
+use Rattle.gw_run.specs.Settled.{Settled, agrees, are_all, first_of, fits_between, having, is_same, last_end, next_at, stands}
+use Rattle.gw_run.proofs.Following.{ends_all}
+use Rattle.gw_run.specs.Given.{NoneGiven, are_same, entry_of, given_by, given_out, same_release}
+
+-- ---- tests
+
+and_first : (a b : Bool) → (a && b) ≡ true → a ≡ true
+and_first true b is = refl
+and_first false b is = is
+
+and_second : (a b : Bool) → (a && b) ≡ true → b ≡ true
+and_second true b is = is
+and_second false b is = absurd (false≢true is)
+
+and_both : (a b : Bool) → a ≡ true → b ≡ true → (a && b) ≡ true
+and_both true b one two = two
+and_both false b one two = one
+
+outer_two : (a b c : Bool) → (a && b && c) ≡ true → (a && c) ≡ true
+outer_two true true c is = is
+outer_two true false c is = absurd (false≢true is)
+outer_two false b c is = is
+
+middle : (a b c : Bool) → (a && b && c) ≡ true → b ≡ true
+middle true true c is = refl
+middle true false c is = is
+middle false b c is = absurd (false≢true is)
+
+le_of : (a b : ℕ) → nat_le a b ≡ true → a ≤ b
+le_of a b is = by (cases_lt b a)
+  where
+    by : (b < a) ⊎ (a ≤ b) → a ≤ b
+    by (inl less) = let no : nat_le a b ≡ false = grind (arith, common_steps) in absurd (false≢true (sym no ∙ is))
+    by (inr le) = le
+
+-- ---- entries that give something out
+
+abbrev is_out : EntrySeen → ℕ → Bool
+is_out (WasOut n to t) r = to == r
+is_out e r = false
+
+calm : (e : EntrySeen) (h : List EntrySeen) (r : ℕ) → is_out e r ≡ false → released (e ∷ h) r ≡ released h r
+calm (WasAccepted n arrival c) h r is = refl
+calm (WasRefused arrival code) h r is = refl
+calm (WasSwapped v p) h r is = refl
+calm (WasTaken n to) h r is = refl
+calm (WasKept n t) h r is = refl
+calm (WasIssued n to) h r is = refl
+calm (WasOut n to t) h r is = ap (λ b. if b then record { n = n; translated = t } ∷ released h r else released h r) is
+
+out_some : (e : EntrySeen) (h : List EntrySeen) (r : ℕ) → is_out e r ≡ true → released (e ∷ h) r ≡ [] → ⊥
+out_some (WasAccepted n arrival c) h r is none = absurd (false≢true is)
+out_some (WasRefused arrival code) h r is none = absurd (false≢true is)
+out_some (WasSwapped v p) h r is none = absurd (false≢true is)
+out_some (WasTaken n to) h r is none = absurd (false≢true is)
+out_some (WasKept n t) h r is none = absurd (false≢true is)
+out_some (WasIssued n to) h r is none = absurd (false≢true is)
+out_some (WasOut n to t) h r is none = let out : released (WasOut n to t ∷ h) r ≡ record { n = n; translated = t } ∷ released h r = ap (λ b. if b then record { n = n; translated = t } ∷ released h r else released h r) is in absurd (let long = ap length (sym out ∙ none) in omega (arith, long))
+
+same_kind : (e f : EntrySeen) (r : ℕ) → same_entry e f ≡ true → is_out e r ≡ is_out f r
+same_kind (WasAccepted n1 arrival1 c1) (WasAccepted n arrival c) r is = refl
+same_kind (WasAccepted n1 arrival1 c1) (WasRefused arrival code) r is = refl
+same_kind (WasAccepted n1 arrival1 c1) (WasSwapped v p) r is = refl
+same_kind (WasAccepted n1 arrival1 c1) (WasTaken n to) r is = refl
+same_kind (WasAccepted n1 arrival1 c1) (WasKept n t) r is = refl
+same_kind (WasAccepted n1 arrival1 c1) (WasIssued n to) r is = refl
+same_kind (WasAccepted n1 arrival1 c1) (WasOut n to t) r is = absurd (false≢true is)
+same_kind (WasRefused arrival1 code1) (WasAccepted n arrival c) r is = refl
+same_kind (WasRefused arrival1 code1) (WasRefused arrival code) r is = refl
+same_kind (WasRefused arrival1 code1) (WasSwapped v p) r is = refl
+same_kind (WasRefused arrival1 code1) (WasTaken n to) r is = refl
+same_kind (WasRefused arrival1 code1) (WasKept n t) r is = refl
+same_kind (WasRefused arrival1 code1) (WasIssued n to) r is = refl
+same_kind (WasRefused arrival1 code1) (WasOut n to t) r is = absurd (false≢true is)
+same_kind (WasSwapped v1 p1) (WasAccepted n arrival c) r is = refl
+same_kind (WasSwapped v1 p1) (WasRefused arrival code) r is = refl
+same_kind (WasSwapped v1 p1) (WasSwapped v p) r is = refl
+same_kind (WasSwapped v1 p1) (WasTaken n to) r is = refl
+same_kind (WasSwapped v1 p1) (WasKept n t) r is = refl
+same_kind (WasSwapped v1 p1) (WasIssued n to) r is = refl
+same_kind (WasSwapped v1 p1) (WasOut n to t) r is = absurd (false≢true is)
+same_kind (WasTaken n1 to1) (WasAccepted n arrival c) r is = refl
+same_kind (WasTaken n1 to1) (WasRefused arrival code) r is = refl
+same_kind (WasTaken n1 to1) (WasSwapped v p) r is = refl
+same_kind (WasTaken n1 to1) (WasTaken n to) r is = refl
+same_kind (WasTaken n1 to1) (WasKept n t) r is = refl
+same_kind (WasTaken n1 to1) (WasIssued n to) r is = refl
+same_kind (WasTaken n1 to1) (WasOut n to t) r is = absurd (false≢true is)
+same_kind (WasKept n1 t1) (WasAccepted n arrival c) r is = refl
+same_kind (WasKept n1 t1) (WasRefused arrival code) r is = refl
+same_kind (WasKept n1 t1) (WasSwapped v p) r is = refl
+same_kind (WasKept n1 t1) (WasTaken n to) r is = refl
+same_kind (WasKept n1 t1) (WasKept n t) r is = refl
+same_kind (WasKept n1 t1) (WasIssued n to) r is = refl
+same_kind (WasKept n1 t1) (WasOut n to t) r is = absurd (false≢true is)
+same_kind (WasIssued n1 to1) (WasAccepted n arrival c) r is = refl
+same_kind (WasIssued n1 to1) (WasRefused arrival code) r is = refl
+same_kind (WasIssued n1 to1) (WasSwapped v p) r is = refl
+same_kind (WasIssued n1 to1) (WasTaken n to) r is = refl
+same_kind (WasIssued n1 to1) (WasKept n t) r is = refl
+same_kind (WasIssued n1 to1) (WasIssued n to) r is = refl
+same_kind (WasIssued n1 to1) (WasOut n to t) r is = absurd (false≢true is)
+same_kind (WasOut n1 to1 t1) (WasAccepted n arrival c) r is = absurd (false≢true is)
+same_kind (WasOut n1 to1 t1) (WasRefused arrival code) r is = absurd (false≢true is)
+same_kind (WasOut n1 to1 t1) (WasSwapped v p) r is = absurd (false≢true is)
+same_kind (WasOut n1 to1 t1) (WasTaken n to) r is = absurd (false≢true is)
+same_kind (WasOut n1 to1 t1) (WasKept n t) r is = absurd (false≢true is)
+same_kind (WasOut n1 to1 t1) (WasIssued n to) r is = absurd (false≢true is)
+same_kind (WasOut m at u) (WasOut n to t) r is = ap (λ q. q == r) (equal_numbers at to (middle (m == n) (at == to) (same_translated u t) is))
+
+out_both : (m n : ℕ) (b d : Bool) (fs hs : List Release) (x y : Release) → b ≡ d → same_release x y ≡ true → are_same fs hs ≡ true
+    → are_same (if b then x ∷ fs else fs) (if d then y ∷ hs else hs) ≡ true
+out_both m n true true fs hs x y e same rest = and_both (same_release x y) (are_same fs hs) same rest
+out_both m n true false fs hs x y e same rest = absurd (false≢true (sym e))
+out_both m n false true fs hs x y e same rest = absurd (false≢true e)
+out_both m n false false fs hs x y e same rest = rest
+
+heads : (e f : EntrySeen) (g h : List EntrySeen) (r : ℕ) → same_entry e f ≡ true → are_same (released g r) (released h r) ≡ true → are_same (released (e ∷ g) r) (released (f ∷ h) r) ≡ true
+heads (WasAccepted n1 arrival1 c1) (WasAccepted n arrival c) g h r is rest = rest
+heads (WasAccepted n1 arrival1 c1) (WasRefused arrival code) g h r is rest = rest
+heads (WasAccepted n1 arrival1 c1) (WasSwapped v p) g h r is rest = rest
+heads (WasAccepted n1 arrival1 c1) (WasTaken n to) g h r is rest = rest
+heads (WasAccepted n1 arrival1 c1) (WasKept n t) g h r is rest = rest
+heads (WasAccepted n1 arrival1 c1) (WasIssued n to) g h r is rest = rest
+heads (WasAccepted n1 arrival1 c1) (WasOut n to t) g h r is rest = absurd (false≢true is)
+heads (WasRefused arrival1 code1) (WasAccepted n arrival c) g h r is rest = rest
+heads (WasRefused arrival1 code1) (WasRefused arrival code) g h r is rest = rest
+heads (WasRefused arrival1 code1) (WasSwapped v p) g h r is rest = rest
+heads (WasRefused arrival1 code1) (WasTaken n to) g h r is rest = rest
+heads (WasRefused arrival1 code1) (WasKept n t) g h r is rest = rest
+heads (WasRefused arrival1 code1) (WasIssued n to) g h r is rest = rest
+heads (WasRefused arrival1 code1) (WasOut n to t) g h r is rest = absurd (false≢true is)
+heads (WasSwapped v1 p1) (WasAccepted n arrival c) g h r is rest = rest
+heads (WasSwapped v1 p1) (WasRefused arrival code) g h r is rest = rest
+heads (WasSwapped v1 p1) (WasSwapped v p) g h r is rest = rest
+heads (WasSwapped v1 p1) (WasTaken n to) g h r is rest = rest
+heads (WasSwapped v1 p1) (WasKept n t) g h r is rest = rest
+heads (WasSwapped v1 p1) (WasIssued n to) g h r is rest = rest
+heads (WasSwapped v1 p1) (WasOut n to t) g h r is rest = absurd (false≢true is)
+heads (WasTaken n1 to1) (WasAccepted n arrival c) g h r is rest = rest
+heads (WasTaken n1 to1) (WasRefused arrival code) g h r is rest = rest
+heads (WasTaken n1 to1) (WasSwapped v p) g h r is rest = rest
+heads (WasTaken n1 to1) (WasTaken n to) g h r is rest = rest
+heads (WasTaken n1 to1) (WasKept n t) g h r is rest = rest
+heads (WasTaken n1 to1) (WasIssued n to) g h r is rest = rest
+heads (WasTaken n1 to1) (WasOut n to t) g h r is rest = absurd (false≢true is)
+heads (WasKept n1 t1) (WasAccepted n arrival c) g h r is rest = rest
+heads (WasKept n1 t1) (WasRefused arrival code) g h r is rest = rest
+heads (WasKept n1 t1) (WasSwapped v p) g h r is rest = rest
+heads (WasKept n1 t1) (WasTaken n to) g h r is rest = rest
+heads (WasKept n1 t1) (WasKept n t) g h r is rest = rest
+heads (WasKept n1 t1) (WasIssued n to) g h r is rest = rest
+heads (WasKept n1 t1) (WasOut n to t) g h r is rest = absurd (false≢true is)
+heads (WasIssued n1 to1) (WasAccepted n arrival c) g h r is rest = rest
+heads (WasIssued n1 to1) (WasRefused arrival code) g h r is rest = rest
+heads (WasIssued n1 to1) (WasSwapped v p) g h r is rest = rest
+heads (WasIssued n1 to1) (WasTaken n to) g h r is rest = rest
+heads (WasIssued n1 to1) (WasKept n t) g h r is rest = rest
+heads (WasIssued n1 to1) (WasIssued n to) g h r is rest = rest
+heads (WasIssued n1 to1) (WasOut n to t) g h r is rest = absurd (false≢true is)
+heads (WasOut n1 to1 t1) (WasAccepted n arrival c) g h r is rest = absurd (false≢true is)
+heads (WasOut n1 to1 t1) (WasRefused arrival code) g h r is rest = absurd (false≢true is)
+heads (WasOut n1 to1 t1) (WasSwapped v p) g h r is rest = absurd (false≢true is)
+heads (WasOut n1 to1 t1) (WasTaken n to) g h r is rest = absurd (false≢true is)
+heads (WasOut n1 to1 t1) (WasKept n t) g h r is rest = absurd (false≢true is)
+heads (WasOut n1 to1 t1) (WasIssued n to) g h r is rest = absurd (false≢true is)
+heads (WasOut m at u) (WasOut n to t) g h r is rest = out_both m n (at == r) (to == r) (released g r) (released h r) (record { n = m; translated = u }) (record { n = n; translated = t }) (same_kind (WasOut m at u) (WasOut n to t) r is) (outer_two (m == n) (at == to) (same_translated u t) is) rest
+
+-- ---- receipts of one pass
+
+-- their numbers rise from this one on
+abbrev Rising : ℕ → List ReceiptSeen → Type 0
+Rising low [] = Unit {0}
+Rising low (x ∷ all) = (low ≤ x.at) × Rising (x.at + 1) all
+
+-- the entries from this number on have theirs
+abbrev StandIn : List EntrySeen → ℕ → List ReceiptSeen → Type 0
+StandIn h low [] = Unit {0}
+StandIn h low (x ∷ all) = (is_same x.entry (slice_get h (x.at - low)) ≡ true) × StandIn h low all
+
+rising : (js : List Journal) (low : ℕ) (notes : List NoteSeen) → agrees js low notes ≡ true → Rising low (receipts notes)
+rising js low [] is = tt
+rising js low (Added at e ∷ notes) is =
+    let here = and_first (nat_le low at && stands js at e) (agrees js (at + 1) notes) is in
+    (le_of low at (and_first (nat_le low at) (stands js at e) here), rising js (at + 1) notes (and_second (nat_le low at && stands js at e) (agrees js (at + 1) notes) is))
+rising js low (Looked v p ∷ notes) is = rising js low notes (and_second (fits_between js low (next_at (last_end 0 js) notes) (Looked v p)) (agrees js low notes) is)
+rising js low (WasStale v c ∷ notes) is = rising js low notes (and_second (fits_between js low (next_at (last_end 0 js) notes) (WasStale v c)) (agrees js low notes) is)
+rising js low (WasFull ∷ notes) is = rising js low notes (and_second (fits_between js low (next_at (last_end 0 js) notes) WasFull) (agrees js low notes) is)
+rising js low (WasIdle ∷ notes) is = rising js low notes (and_second (fits_between js low (next_at (last_end 0 js) notes) WasIdle) (agrees js low notes) is)
+rising js low (WasNothing r ∷ notes) is = rising js low notes (and_second (fits_between js low (next_at (last_end 0 js) notes) (WasNothing r)) (agrees js low notes) is)
+
+standing : (js : List Journal) (low : ℕ) (notes : List NoteSeen) → agrees js low notes ≡ true → StandIn (all_entries js) (first_of js) (receipts notes)
+standing js low [] is = tt
+standing js low (Added at e ∷ notes) is =
+    let here = and_first (nat_le low at && stands js at e) (agrees js (at + 1) notes) is in
+    (and_second (nat_le (first_of js) at) (is_same e (slice_get (all_entries js) (at - first_of js))) (and_second (nat_le low at) (stands js at e) here), standing js (at + 1) notes (and_second (nat_le low at && stands js at e) (agrees js (at + 1) notes) is))
+standing js low (Looked v p ∷ notes) is = standing js low notes (and_second (fits_between js low (next_at (last_end 0 js) notes) (Looked v p)) (agrees js low notes) is)
+standing js low (WasStale v c ∷ notes) is = standing js low notes (and_second (fits_between js low (next_at (last_end 0 js) notes) (WasStale v c)) (agrees js low notes) is)
+standing js low (WasFull ∷ notes) is = standing js low notes (and_second (fits_between js low (next_at (last_end 0 js) notes) WasFull) (agrees js low notes) is)
+standing js low (WasIdle ∷ notes) is = standing js low notes (and_second (fits_between js low (next_at (last_end 0 js) notes) WasIdle) (agrees js low notes) is)
+standing js low (WasNothing r ∷ notes) is = standing js low notes (and_second (fits_between js low (next_at (last_end 0 js) notes) (WasNothing r)) (agrees js low notes) is)
+
+lower : (m n : ℕ) (all : List ReceiptSeen) → m ≤ n → Rising n all → Rising m all
+lower m n [] le up = tt
+lower m n (x ∷ all) le up = (let first = up.0 in omega (arith, le, first), up.1)
+
+at_next : (e : EntrySeen) (h : List EntrySeen) (low at : ℕ) → low + 1 ≤ at → slice_get (e ∷ h) (at - low) ≡ slice_get h (at - (low + 1))
+at_next e h low at le = let next : at - low ≡ suc (at - (low + 1)) = omega arith in ap (slice_get (e ∷ h)) next
+
+shift : (e : EntrySeen) (h : List EntrySeen) (low : ℕ) (all : List ReceiptSeen) → Rising (low + 1) all → StandIn (e ∷ h) low all → StandIn h (low + 1) all
+shift e h low [] up is = tt
+shift e h low (x ∷ all) up is = (
+  subst (λ o. is_same x.entry o ≡ true) (at_next e h low x.at up.0) is.0,
+  shift e h low all (lower (low + 1) (x.at + 1) all (let first = up.0 in omega (arith, first)) up.1) is.1,
+)
+
+none_stand : (low m : ℕ) (all : List ReceiptSeen) → StandIn [] low all → StandIn [] m all
+none_stand low m [] is = tt
+none_stand low m (x ∷ all) is = absurd (false≢true is.0)
+
+-- past some entries
+window : (n base : ℕ) (h : List EntrySeen) (all : List ReceiptSeen) → Rising (base + n) all → StandIn h base all → StandIn (drop n h) (base + n) all
+window zero base h all up is = subst (λ m. StandIn h m all) (let same : base ≡ base + 0 = omega arith in same) is
+window (suc n) base [] all up is = none_stand base (base + suc n) all is
+window (suc n) base (e ∷ h) all up is =
+    let next : base + 1 + n ≡ base + suc n = omega arith in
+    subst (λ m. StandIn (drop n h) m all) next
+    (window n (base + 1) h all (subst (λ m. Rising m all) (sym next) up) (shift e h base all (lower (base + 1) (base + suc n) all (omega arith) up) is))
+
+having_cons : (x : ReceiptSeen) (all : List ReceiptSeen) (k : ℕ) → having (x ∷ all) k ≡ cond (x.at == k) 1 0 + having all k
+having_cons x all k = sum_by-cons (λ (y : ReceiptSeen). cond (y.at == k) 1 0) x all
+
+having_other : (x : ReceiptSeen) (all : List ReceiptSeen) (k : ℕ) → x.at ≢ k → having all k ≡ 0 → having (x ∷ all) k ≡ 0
+having_other x all k other none = having_cons x all k ∙ ap (λ b. cond b 1 0 + having all k) (differs x.at k other) ∙ (let same : 0 + having all k ≡ having all k = omega arith in same) ∙ none
+
+having_before : (m : ℕ) (all : List ReceiptSeen) (k : ℕ) → Rising m all → k < m → having all k ≡ 0
+having_before m [] k up lt = refl
+having_before m (x ∷ all) k up lt =
+    let first = up.0 in
+    having_other x all k (λ e. omega (arith, first, lt, e)) (having_before (x.at + 1) all k up.1 (omega (arith, first, lt)))
+
+-- each entry that gives something out has a receipt
+abbrev Told : ℕ → List EntrySeen → ℕ → List ReceiptSeen → Type 0
+Told r h low all = (k : ℕ) (e : EntrySeen) → slice_get h k ≡ Some e → is_out e r ≡ true → having all (low + k) ≢ 0
+
+told_next : (r : ℕ) (e : EntrySeen) (h : List EntrySeen) (low : ℕ) (all : List ReceiptSeen) → Told r (e ∷ h) low all → Told r h (low + 1) all
+told_next r e h low all told k f at out none = told (suc k) f at out (let next : low + suc k ≡ low + 1 + k = omega arith in ap (having all) next ∙ none)
+
+told_past : (r : ℕ) (e : EntrySeen) (h : List EntrySeen) (low : ℕ) (x : ReceiptSeen) (all : List ReceiptSeen) → x.at ≡ low → Told r (e ∷ h) low (x ∷ all) → Told r h (low + 1) all
+told_past r e h low x all here told k f at out none =
+    told (suc k) f at out (having_other x all (low + suc k) (λ same. omega (arith, here, same)) (let next : low + suc k ≡ low + 1 + k = omega arith in ap (having all) next ∙ none))
+
+not_out : (r : ℕ) (e : EntrySeen) (h : List EntrySeen) (low : ℕ) (all : List ReceiptSeen) → Told r (e ∷ h) low all → having all low ≡ 0 → is_out e r ≡ false
+not_out r e h low all told none = false_from_ne_true (is_out e r) (λ out. told 0 e refl out (let here : low + 0 ≡ low = omega arith in ap (having all) here ∙ none))
+
+-- its receipts tell of the same releases as the entries do
+one_tells : (r : ℕ) (h : List EntrySeen) (low : ℕ) (all : List ReceiptSeen) → Rising low all → StandIn h low all → Told r h low all → are_same (given_by all r) (released h r) ≡ true
+one_tells r [] low [] up is told = refl
+one_tells r [] low (x ∷ all) up is told = absurd (false≢true is.0)
+one_tells r (e ∷ h) low [] up is told =
+    subst (λ l. are_same [] l ≡ true) (sym (calm e h r (not_out r e h low [] told refl))) (one_tells r h (low + 1) [] tt tt (told_next r e h low [] told))
+one_tells r (e ∷ h) low (x ∷ all) up is told = by (λ on s t. one_tells r h (low + 1) all on s t) (λ on s t. one_tells r h (low + 1) (x ∷ all) on s t) (cases_eq x.at low)
+  where
+    by : (Rising (low + 1) all → StandIn h (low + 1) all → Told r h (low + 1) all → are_same (given_by all r) (released h r) ≡ true)
+        → (Rising (low + 1) (x ∷ all) → StandIn h (low + 1) (x ∷ all) → Told r h (low + 1) (x ∷ all) → are_same (given_by (x ∷ all) r) (released h r) ≡ true)
+        → (x.at ≡ low) ⊎ (x.at ≢ low) → are_same (given_by (x ∷ all) r) (released (e ∷ h) r) ≡ true
+    by past stays (inl here) =
+        let first : x.at - low ≡ 0 = omega (arith, here) in
+        let same : same_entry x.entry e ≡ true = subst (λ k. is_same x.entry (slice_get (e ∷ h) k) ≡ true) first is.0 in
+        let on : Rising (low + 1) all = subst (λ m. Rising (m + 1) all) here up.1 in
+        heads x.entry e (map entry_of all) h r same (past on (shift e h low all on is.1) (told_past r e h low x all here told))
+    by past stays (inr other) =
+        let above = up.0 in
+        let later : low + 1 ≤ x.at = omega (arith, above, other) in
+        let none = having_before (low + 1) (x ∷ all) low (later, up.1) (omega arith) in
+        subst (λ l. are_same (given_by (x ∷ all) r) l ≡ true) (sym (calm e h r (not_out r e h low (x ∷ all) told none)))
+        (stays (later, up.1) (shift e h low (x ∷ all) (later, up.1) is) (told_next r e h low (x ∷ all) told))
+
+-- ---- the other passes
+
+none_told : (r base k : ℕ) (h : List EntrySeen) (e : EntrySeen) (all : List ReceiptSeen) → slice_get h k ≡ Some e → is_out e r ≡ true → StandIn h base all
+    → given_by all r ≡ [] → having all (base + k) ≡ 0
+none_told r base k h e [] at out is none = refl
+none_told r base k h e (x ∷ all) at out is none = by (λ n. none_told r base k h e all at out is.1 n) (is_out x.entry r) refl
+  where
+    kind : x.at ≡ base + k → is_out x.entry r ≡ is_out e r
+    kind same =
+        let place : x.at - base ≡ k = omega (arith, same) in
+        same_kind x.entry e r (subst (λ o. is_same x.entry o ≡ true) (ap (slice_get h) place ∙ at) is.0)
+
+    by : (given_by all r ≡ [] → having all (base + k) ≡ 0) → (b : Bool) → is_out x.entry r ≡ b → having (x ∷ all) (base + k) ≡ 0
+    by rest true told = absurd (out_some x.entry (map entry_of all) r told none)
+    by rest false quiet = having_other x all (base + k) (λ same. false≢true (sym quiet ∙ kind same ∙ out)) (rest (sym (calm x.entry (map entry_of all) r quiet) ∙ none))
+
+having-append : (xs ys : List ReceiptSeen) (k : ℕ) → having (xs ++ ys) k ≡ having xs k + having ys k
+having-append xs ys k = sum_by-append (λ (y : ReceiptSeen). cond (y.at == k) 1 0) xs ys
+
+others_quiet : (js : List Journal) (since r k : ℕ) (e : EntrySeen) (passes : List (List NoteSeen)) → slice_get (all_entries js) k ≡ Some e → is_out e r ≡ true
+    → list_all (agrees js since) passes ≡ true → NoneGiven r passes → having (flat_map receipts passes) (first_of js + k) ≡ 0
+others_quiet js since r k e [] at out each none = refl
+others_quiet js since r k e (notes ∷ passes) at out each none =
+    let here = none_told r (first_of js) k (all_entries js) e (receipts notes) at out (standing js since notes (and_first (agrees js since notes) (list_all (agrees js since) passes) each)) none.0 in
+    let rest = others_quiet js since r k e passes at out (and_second (agrees js since notes) (list_all (agrees js since) passes) each) none.1 in
+    having-append (receipts notes) (flat_map receipts passes) (first_of js + k) ∙ (let sum : having (receipts notes) (first_of js + k) + having (flat_map receipts passes) (first_of js + k) ≡ 0 = omega (arith, here, rest) in sum)
+
+-- ---- all passes
+
+having_all : (before after : List (List NoteSeen)) (notes : List NoteSeen) (k : ℕ)
+    → having (flat_map receipts (before ++ notes ∷ after)) k ≡ having (flat_map receipts before) k + (having (receipts notes) k + having (flat_map receipts after) k)
+having_all [] after notes k = having-append (receipts notes) (flat_map receipts after) k ∙ (let same : having (receipts notes) k + having (flat_map receipts after) k ≡ 0 + (having (receipts notes) k + having (flat_map receipts after) k) = omega arith in same)
+having_all (x ∷ before) after notes k =
+    let rest = having_all before after notes k in
+    let one = having-append (receipts x) (flat_map receipts (before ++ notes ∷ after)) k in
+    let two = having-append (receipts x) (flat_map receipts before) k in
+    omega (arith, rest, one, two)
+
+all_first : (test : List NoteSeen → Bool) (before after : List (List NoteSeen)) (notes : List NoteSeen) → list_all test (before ++ notes ∷ after) ≡ true → list_all test before ≡ true
+all_first test [] after notes is = refl
+all_first test (x ∷ before) after notes is =
+    and_both (test x) (list_all test before) (and_first (test x) (list_all test (before ++ notes ∷ after)) is)
+    (all_first test before after notes (and_second (test x) (list_all test (before ++ notes ∷ after)) is))
+
+all_rest : (test : List NoteSeen → Bool) (before after : List (List NoteSeen)) (notes : List NoteSeen) → list_all test (before ++ notes ∷ after) ≡ true → list_all test (notes ∷ after) ≡ true
+all_rest test [] after notes is = is
+all_rest test (x ∷ before) after notes is = all_rest test before after notes (and_second (test x) (list_all test (before ++ notes ∷ after)) is)
+
+all_at : (test : ℕ → Bool) (since n p : ℕ) → p < n → list_all test (range_with_len since n) ≡ true → test (since + p) ≡ true
+all_at test since zero p lt is = absurd (omega arith)
+all_at test since (suc n) zero lt is =
+    let here : since ≡ since + 0 = omega arith in
+    ap test (sym here) ∙ and_first (test since) (list_all test (range_with_len (since + 1) n)) is
+all_at test since (suc n) (suc p) lt is =
+    let next : since + suc p ≡ since + 1 + p = omega arith in
+    ap test next ∙ all_at test (since + 1) n p (omega arith) (and_second (test since) (list_all test (range_with_len (since + 1) n)) is)
+
+get_drop : (d k : ℕ) (h : List EntrySeen) → slice_get (drop d h) k ≡ slice_get h (d + k)
+get_drop zero k h = let same : k ≡ 0 + k = omega arith in ap (slice_get h) same
+get_drop (suc d) k [] = refl
+get_drop (suc d) k (e ∷ h) = let next : suc (d + k) ≡ suc d + k = omega arith in get_drop d k h ∙ ap (slice_get (e ∷ h)) next
+
+-- where one pass alone has receipts of what was given out for a receiver, it has them of all of it, in order
+pub one_courier : (js : List Journal) (since r : ℕ) (before after : List (List NoteSeen)) (notes : List NoteSeen) → Settled js since (before ++ notes ∷ after) → NoneGiven r before → NoneGiven r after
+    → are_same (given_out notes r) (released (drop (since - first_of js) (all_entries js)) r) ≡ true
+one_courier js since r before after notes settled first last =
+    let d = since - first_of js in
+    let le = le_of (first_of js) since settled.from in
+    let here : first_of js + d ≡ since = omega (arith, le) in
+    let rest = all_rest (agrees js since) before after notes settled.each in
+    let mine = and_first (agrees js since notes) (list_all (agrees js since) after) rest in
+    let theirs = and_second (agrees js since notes) (list_all (agrees js since) after) rest in
+    let up = rising js since notes mine in
+    let in_window = window d (first_of js) (all_entries js) (receipts notes) (subst (λ m. Rising m (receipts notes)) (sym here) up) (standing js since notes mine) in
+    one_tells r (drop d (all_entries js)) since (receipts notes) up (subst (λ m. StandIn (drop d (all_entries js)) m (receipts notes)) here in_window) told
+  where
+    told : Told r (drop (since - first_of js) (all_entries js)) since (receipts notes)
+    told k e at out none =
+        let d = since - first_of js in
+        let at_all : slice_get (all_entries js) (d + k) ≡ Some e = sym (get_drop d k (all_entries js)) ∙ at in
+        let within = slice_get_within (all_entries js) (d + k) e at_all in
+        let le = le_of (first_of js) since settled.from in
+        let sum = ends_all js settled.follow in
+        let number : first_of js + (d + k) ≡ since + k = omega (arith, le) in
+        let b = others_quiet js since r (d + k) e before at_all out (all_first (agrees js since) before after notes settled.each) first in
+        let a = others_quiet js since r (d + k) e after at_all out (and_second (agrees js since notes) (list_all (agrees js since) after) (all_rest (agrees js since) before after notes settled.each)) last in
+        let b_here : having (flat_map receipts before) (since + k) ≡ 0 = ap (having (flat_map receipts before)) (sym number) ∙ b in
+        let a_here : having (flat_map receipts after) (since + k) ≡ 0 = ap (having (flat_map receipts after)) (sym number) ∙ a in
+        let all = having_all before after notes (since + k) in
+        let one = equal_numbers (having (flat_map receipts (before ++ notes ∷ after)) (since + k)) 1
+        (all_at (λ q. having (flat_map receipts (before ++ notes ∷ after)) q == 1) since (last_end 0 js - since) k (omega (arith, within, sum, le)) settled.all) in
+        omega (arith, all, one, b_here, a_here, none)

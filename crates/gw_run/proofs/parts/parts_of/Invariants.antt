@@ -1,0 +1,6 @@
+use Rattle.std.proofs.Common.{take}
+use Rattle.gw_run.specs.own.Tellings.{TellsAll}
+use Rattle.gw_run.proofs.parts.parts_of.Given as goal
+
+abbrev pub invariant-loop-chapter : goal.invariant-loop-chapter
+invariant-loop-chapter l = TellsAll (take l.chapter-index l.chapters) l.parts.items
