@@ -71,7 +71,8 @@ fn told(reply: &Reply) -> Result<u64, SwapFault>
     }
 }
 
-/// Swaps in the plan that the text spells, in one event, and gives its version; else says why the text is no plan, that its receivers aren't the gate's, that the journal is full, or that an allocation failed.
+/// Swaps in the plan that the text spells, in one event, and gives its version.
+/// Else it says why the text is no plan, that its receivers aren't the gate's, that the journal is full, or that an allocation failed.
 pub fn swap<D: Door>(alloc: Global, door: &mut D, text: &[u8]) -> Result<u64, SwapFault>
     ensures { Swaps text.now (D.noted door.old) result (D.noted door.new) }
 {

@@ -69,7 +69,8 @@ impl Gate {
         }
     }
 
-    /// The entries so far. The journal is lawful: each receiver was sent the first of what is due to it, in order and each once, each made by the plan of the version under which its message was accepted.
+    /// The entries so far. The journal is lawful: each receiver was sent the first of what is due to it, in order and each once.
+    /// Each was made by the plan of the version under which its message was accepted.
     /// It takes no memory.
     pub fn journal(&self) -> &[Entry]
         ensures entries { entries_seen result.now ≡ self.now.entries }

@@ -113,7 +113,8 @@ impl<'a, L: Ledger, R: Wait> Door for Pass<'a, L, R> {
 
     ghost noted = { λ p. p.notes };
 
-    /// One step of the gate under the lock. The reply is the one that a lawful journal gives; that it is this gate's, as it was then, no clause can say. An entry is noted with its receipt, and counted by the share. An error is an allocation failure: the event comes back.
+    /// One step of the gate under the lock. The reply is the one that a lawful journal gives; that it is this gate's, as it was then, no clause can say.
+    /// An entry is noted with its receipt, and counted by the share. An error is an allocation failure: the event comes back.
     fn call(&mut self, event: Event) -> Result<Reply, Event>
         ensures reply { IfOk result (λ reply. IsReplyTo (event_seen event) (reply_seen reply)) }
         ensures calls { Calls self.old.notes (event_seen event) (answer_seen result) self.new.notes }

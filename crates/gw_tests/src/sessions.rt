@@ -15,7 +15,7 @@ const STREAM: &[u8] =
 const ACCEPTED: &[u8] =
     b"\x0bMSH|^~\\&|GW|H2|LAB|H1|20240102030406||ACK^A01^ACK|G1|P|2.5.1\rMSA|AA|7\r\x1c\r";
 
-// What a session over the stream does whose devices fail after so many calls, and how many bytes of the answer it wrote.
+// What a session over the stream does whose devices fail after this many calls, and how many bytes of the answer it wrote.
 fn run(
     alloc: Global,
     door: &mut Solo,

@@ -78,7 +78,7 @@ impl<'s> Heard<'s> {
         }
     }
 
-    /// Why the last of so many messages that were sent wasn't acknowledged.
+    /// Why the last of the messages that were sent wasn't acknowledged.
     pub(crate) fn why(mut self, alloc: Global, sent: usize) -> Unacknowledged {
         if self.has_ended {
             return Unacknowledged::Ended;
