@@ -8,7 +8,8 @@ ghost use Rattle.gw_gate.specs.Lawful.{IsLawful, RunsKeepLawful, StepsKeepLawful
 ghost use Rattle.gw_gate.specs.Headline.{InOrder, IsTranslated, Numbered, VersionsRise};
 ghost use Rattle.gw_gate.specs.Meaning.{Makes};
 ghost use Rattle.gw_gate.specs.Toy.{other_plan, made, made_later, opened, worked, taken};
-ghost use Rattle.gw_gate.specs.Rows.{out_of_order, in_order, swapping, swapped_over, issuing_again, issued_again, filling, filled, cutting, cut, closed, filling_on, filled_on, cutting_swapped, cut_swapped};
+ghost use Rattle.gw_gate.specs.Rows.{out_of_order, in_order, swapping, swapped_over, issuing_again, issued_again, filling, filled};
+ghost use Rattle.gw_gate.specs.Rows.{cutting, cut, closed, filling_on, filled_on, cutting_swapped, cut_swapped};
 ghost use Rattle.gw_gate.specs.Chapters.{Follow, joined};
 
 /// Results in any order are released in the order of acceptance, each once.
@@ -42,7 +43,8 @@ pub fn sent_in_order()
 
 /// Two translations of one plan text, message and receiver are one message.
 pub fn one_translation()
-    ensures { (text : List ℕ) (message : MessageSeen) (r : ℕ) (made other : MessageSeen) → Makes text message r made → Makes text message r other → made ≡ other }
+    ensures { (text : List ℕ) (message : MessageSeen) (r : ℕ) (made other : MessageSeen)
+        → Makes text message r made → Makes text message r other → made ≡ other }
 {}
 
 /// In a lawful journal the versions under which messages were accepted never fall.
@@ -71,7 +73,10 @@ pub fn chapters()
 
 /// The same over chapters that follow one another, read as one journal.
 pub fn sent_over_chapters()
-    ensures order { (first : Journal) (more : List Journal) (r : ℕ) → AllByRecursion (IsLawful (IsTranslated Makes)) (first ∷ more) → Follow first more → InOrder Makes (joined first more) r }
-    ensures versions { (first : Journal) (more : List Journal) → AllByRecursion (IsLawful (IsTranslated Makes)) (first ∷ more) → Follow first more → VersionsRise (joined first more) }
-    ensures numbers { (first : Journal) (more : List Journal) → AllByRecursion (IsLawful (IsTranslated Makes)) (first ∷ more) → Follow first more → Numbered (joined first more) }
+    ensures order { (first : Journal) (more : List Journal) (r : ℕ)
+        → AllByRecursion (IsLawful (IsTranslated Makes)) (first ∷ more) → Follow first more → InOrder Makes (joined first more) r }
+    ensures versions { (first : Journal) (more : List Journal)
+        → AllByRecursion (IsLawful (IsTranslated Makes)) (first ∷ more) → Follow first more → VersionsRise (joined first more) }
+    ensures numbers { (first : Journal) (more : List Journal)
+        → AllByRecursion (IsLawful (IsTranslated Makes)) (first ∷ more) → Follow first more → Numbered (joined first more) }
 {}

@@ -11,7 +11,9 @@ ghost use Rattle.gw_run.specs.Gathers.{is_nothing_after, kept_of};
 ghost use Rattle.gw_run.specs.Owing.{nothing_owed, with_due, with_kept};
 ghost use Rattle.gw_run.specs.Passes.{receipts};
 ghost use Rattle.gw_run.specs.Settled.{GoOn, Settled, agrees, are_all, first_of};
-ghost use Rattle.gw_run.specs.Rows.{owed_by, owing, session, one_worker, other_worker, idle_worker, boasting_worker, first_chapter, open_chapter, long_session, long_worker, courier, counting_anew, denying, lying_worker, swapped, through_swap, late_look, late_nothing, false_stale};
+ghost use Rattle.gw_run.specs.Rows.{owed_by, owing, session, one_worker, other_worker, idle_worker, boasting_worker, lying_worker};
+ghost use Rattle.gw_run.specs.Rows.{first_chapter, open_chapter, long_session, long_worker, courier, counting_anew, denying};
+ghost use Rattle.gw_run.specs.Rows.{swapped, through_swap, late_look, late_nothing, false_stale};
 
 /// The notes of a session and two workers agree with their journal, also where only the workers' entries are asked for.
 pub fn workers_settle()
