@@ -23,18 +23,18 @@ struct Below {
 
 /// What the first line says.
 #[derive(Drop)]
-pub struct Head {
-    pub line: u32,
-    pub name: Vec<u8>,
-    pub source: Vec<u8>,
-    pub target: Vec<u8>,
+pub(crate) struct Head {
+    pub(crate) line: u32,
+    pub(crate) name: Vec<u8>,
+    pub(crate) source: Vec<u8>,
+    pub(crate) target: Vec<u8>,
 }
 
 /// The items of a map, and what it leaves out.
 #[derive(Drop)]
-pub struct Built {
-    pub items: Vec<Item>,
-    pub drops: Vec<Dropped>,
+pub(crate) struct Built {
+    pub(crate) items: Vec<Item>,
+    pub(crate) drops: Vec<Dropped>,
 }
 
 fn copy_of(alloc: Global, bytes: &[u8]) -> Result<Vec<u8>, AllocError>
@@ -54,7 +54,7 @@ fn close_parts(alloc: Global, below: &mut Below)
 }
 
 /// A segment with these rules.
-pub fn segment_item(
+pub(crate) fn segment_item(
     line: u32,
     label: Vec<u8>,
     source: Option<Vec<Vec<u8>>>,
@@ -175,7 +175,7 @@ fn flat_item(line: u32, from: Vec<Vec<u8>>, items: Vec<Item>) -> Item
 }
 
 /// A group of these items.
-pub fn group_item(line: u32, label: Vec<u8>, from: Vec<Vec<u8>>, items: Vec<Item>) -> Item
+pub(crate) fn group_item(line: u32, label: Vec<u8>, from: Vec<Vec<u8>>, items: Vec<Item>) -> Item
     ensures { IsEach result line (Some label.items) (path from) items.items }
 {
     Item::EachAs(GroupItem {
@@ -315,7 +315,7 @@ fn said_by(alloc: Global, first: &Line) -> Result<Head, AllocError>
 }
 
 /// What the first line says.
-pub fn head_of(alloc: Global, lines: &[Line]) -> Result<Head, AllocError>
+pub(crate) fn head_of(alloc: Global, lines: &[Line]) -> Result<Head, AllocError>
     ensures { IfOk result (λ h. head_value h ≡ spec.head (map line lines.now)) }
 {
     match lines {
@@ -325,7 +325,7 @@ pub fn head_of(alloc: Global, lines: &[Line]) -> Result<Head, AllocError>
 }
 
 /// What these lines spell.
-pub fn build(alloc: Global, lines: Vec<Line>) -> Result<Built, AllocError>
+pub(crate) fn build(alloc: Global, lines: Vec<Line>) -> Result<Built, AllocError>
     ensures items { IfOk result (λ b. all_items b.items.items ≡ (spec.levels (map line lines.entry.items)).here) }
     ensures drops { IfOk result (λ b. map dropped b.drops.items ≡ spec.drops (map line lines.entry.items)) }
 {

@@ -14,14 +14,14 @@ use std::alloc::{AllocError, Global};
 
 /// Whether a row would belong to a table, whether some item stands, how many groups and flats are open, and whether a flat is open that has no item so far.
 #[derive(Clone, Copy, Drop)]
-pub struct Standing {
-    pub in_table: bool,
-    pub has_item: bool,
-    pub depth: u32,
-    pub hollow: bool,
+pub(crate) struct Standing {
+    pub(crate) in_table: bool,
+    pub(crate) has_item: bool,
+    pub(crate) depth: u32,
+    pub(crate) hollow: bool,
 }
 
-pub const NOTHING_STANDS: Standing = Standing {
+pub(crate) const NOTHING_STANDS: Standing = Standing {
     in_table: false,
     has_item: false,
     depth: 0,
@@ -30,20 +30,20 @@ pub const NOTHING_STANDS: Standing = Standing {
 
 /// A segment that may have rules below it: the least number of a field, and the fields that have one.
 #[derive(Drop)]
-pub struct OpenSegment {
-    pub least: u32,
-    pub fields: IndexSet<u32>,
+pub(crate) struct OpenSegment {
+    pub(crate) least: u32,
+    pub(crate) fields: IndexSet<u32>,
 }
 
 /// A rule that may have leaves below it: whether it is one for each repetition, and the places that have one.
 #[derive(Drop)]
-pub struct OpenRule {
-    pub repeated: bool,
-    pub places: IndexSet<LeafPlace>,
+pub(crate) struct OpenRule {
+    pub(crate) repeated: bool,
+    pub(crate) places: IndexSet<LeafPlace>,
 }
 
 /// What stands below a line.
-pub fn standing_below(held: Standing, whole: &Line) -> Standing
+pub(crate) fn standing_below(held: Standing, whole: &Line) -> Standing
     requires { HasRoom held.depth (line whole.now) }
     ensures { StandingFollows held result (line whole.now) }
 {
@@ -99,7 +99,7 @@ fn with_field(field: u32, held: &mut Option<OpenSegment>) -> Result<(), AllocErr
 }
 
 /// The segment to which a rule below this line would belong.
-pub fn segment_below(
+pub(crate) fn segment_below(
     alloc: Global,
     held: &mut Option<OpenSegment>,
     whole: &Line,
@@ -160,7 +160,7 @@ fn with_place(place: LeafPlace, held: &mut Option<OpenRule>) -> Result<(), Alloc
 }
 
 /// The rule to which a leaf below this line would belong.
-pub fn rule_below(
+pub(crate) fn rule_below(
     alloc: Global,
     held: &mut Option<OpenRule>,
     whole: &Line,
@@ -182,14 +182,14 @@ pub fn rule_below(
 }
 
 /// Whether there is a table of this name.
-pub fn knows(tables: &IndexMap<Vec<u8>, Table>, name: &[u8]) -> bool
+pub(crate) fn knows(tables: &IndexMap<Vec<u8>, Table>, name: &[u8]) -> bool
     ensures { result ≡ spec.is_among name.now (table_names (map table tables.now.entries)) }
 {
     tables.contains_key(name)
 }
 
 /// Whether the last table has a row of this value.
-pub fn has_row(tables: &IndexMap<Vec<u8>, Table>, first: &[u8]) -> bool
+pub(crate) fn has_row(tables: &IndexMap<Vec<u8>, Table>, first: &[u8]) -> bool
     ensures { result ≡ spec.is_among first.now (firsts (spec.last_table (map table tables.now.entries)).rows) }
 {
     match tables.last() {
@@ -199,7 +199,7 @@ pub fn has_row(tables: &IndexMap<Vec<u8>, Table>, first: &[u8]) -> bool
 }
 
 /// Whether the last table says what stands for a value without a row.
-pub fn has_other(tables: &IndexMap<Vec<u8>, Table>) -> bool
+pub(crate) fn has_other(tables: &IndexMap<Vec<u8>, Table>) -> bool
     ensures { result ≡ spec.is_said (spec.last_table (map table tables.now.entries)).other }
 {
     match tables.last() {
@@ -253,7 +253,7 @@ fn put_other(
 }
 
 /// Takes the tables below a line.
-pub fn tables_below(
+pub(crate) fn tables_below(
     alloc: Global,
     tables: &mut IndexMap<Vec<u8>, Table>,
     whole: &Line,

@@ -15,7 +15,7 @@ use std::alloc::{AllocError, Global};
 
 /// A line of a map. A rule has the leaf of its own line alone. No label stands for `flat`.
 #[derive(Drop)]
-pub enum Line<'a> {
+pub(crate) enum Line<'a> {
     Begins(u32, &'a [u8], &'a [u8], &'a [u8]),
     Table(&'a [u8]),
     Rows(&'a [u8], &'a [u8]),
@@ -495,7 +495,11 @@ fn keyword_form<'a>(
 }
 
 /// The line that these words are; `at` is its number.
-pub fn form<'a>(alloc: Global, at: u32, words: &[Word<'a>]) -> Result<Option<Line<'a>>, AllocError>
+pub(crate) fn form<'a>(
+    alloc: Global,
+    at: u32,
+    words: &[Word<'a>],
+) -> Result<Option<Line<'a>>, AllocError>
     ensures { IfOk result (λ found. option_map line found ≡ spec.form at (map word words.now)) }
 {
     match words {

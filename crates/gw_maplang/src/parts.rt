@@ -69,7 +69,7 @@ fn copies(alloc: Global, labels: &[&[u8]]) -> Result<Vec<Vec<u8>>, AllocError>
 }
 
 /// Labels joined by slashes.
-pub fn path_of(alloc: Global, bytes: &[u8]) -> Result<Option<Vec<Vec<u8>>>, AllocError>
+pub(crate) fn path_of(alloc: Global, bytes: &[u8]) -> Result<Option<Vec<Vec<u8>>>, AllocError>
     ensures { IfOk result (λ p. path_some p ≡ spec.path_of bytes.now) }
 {
     let labels = cut_labels(alloc, bytes)?;
@@ -87,7 +87,7 @@ fn is_msh(label: &[u8]) -> bool
 }
 
 /// The least number of a field of a segment with this label.
-pub fn least_field(label: &[u8]) -> u32
+pub(crate) fn least_field(label: &[u8]) -> u32
     ensures value { result ≡ lawful.least_field label.now }
     ensures bound { result ≤ 3 }
 {
@@ -111,7 +111,7 @@ fn field_of(path: &[Vec<u8>], bytes: &[u8]) -> Option<u32>
 }
 
 /// A field, by the path to its segment.
-pub fn field_path(alloc: Global, bytes: &[u8]) -> Result<Option<FieldPath>, AllocError>
+pub(crate) fn field_path(alloc: Global, bytes: &[u8]) -> Result<Option<FieldPath>, AllocError>
     ensures { IfOk result (λ f. option_map field_path f ≡ spec.field_path bytes.now) }
 {
     let Some(path) = path_of(alloc, up_to(b'-', bytes))? else {
@@ -136,7 +136,7 @@ fn sub_of(said: Option<&[u8]>) -> Option<u32>
 }
 
 /// A component, and a subcomponent where one is said.
-pub fn place_of(bytes: &[u8]) -> Option<LeafPlace>
+pub(crate) fn place_of(bytes: &[u8]) -> Option<LeafPlace>
     ensures { result ≡ spec.place_of bytes.now }
 {
     let comp = number(1, 99, up_to(b'.', bytes))?;
@@ -175,7 +175,7 @@ fn current(place: Option<LeafPlace>) -> Option<Ref>
 }
 
 /// Where a text is taken from.
-pub fn ref_of(alloc: Global, bytes: &[u8]) -> Result<Option<Ref>, AllocError>
+pub(crate) fn ref_of(alloc: Global, bytes: &[u8]) -> Result<Option<Ref>, AllocError>
     ensures { IfOk result (λ r. ref_some r ≡ spec.ref_of bytes.now) }
 {
     match bytes {
@@ -202,7 +202,7 @@ fn dropped_field(path: &[Vec<u8>], said: Option<&[u8]>) -> Option<Option<u32>>
 }
 
 /// What is left out on purpose.
-pub fn drop_of(alloc: Global, line: u32, bytes: &[u8]) -> Result<Option<Dropped>, AllocError>
+pub(crate) fn drop_of(alloc: Global, line: u32, bytes: &[u8]) -> Result<Option<Dropped>, AllocError>
     ensures { IfOk result (λ d. option_map dropped d ≡ spec.drop_of line bytes.now) }
 {
     let Some(path) = path_of(alloc, up_to(b'-', bytes))? else {

@@ -33,7 +33,7 @@ const MOST_NESTED: u32 = 16;
 
 /// The lines of a map so far.
 #[derive(Drop)]
-pub struct Reader<'a> {
+pub(crate) struct Reader<'a> {
     alloc: Global,
     lines: Vec<Line<'a>>,
     standing: Standing,
@@ -174,7 +174,7 @@ fn is_placed(place: LeafPlace, held: &Option<OpenRule>) -> bool
 
 impl<'a> Reader<'a> {
     /// A reader with no line.
-    pub fn new(alloc: Global) -> Reader<'a>
+    pub(crate) fn new(alloc: Global) -> Reader<'a>
         ensures { result ≡ [] }
     {
         Reader {

@@ -14,7 +14,7 @@ use indexmap::IndexMap;
 use std::alloc::{AllocError, Global};
 
 /// The map that these lines spell, where no part is open.
-pub fn map_of(
+pub(crate) fn map_of(
     alloc: Global,
     lines: Vec<Line>,
     tables: IndexMap<Vec<u8>, Table>,

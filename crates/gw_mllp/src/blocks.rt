@@ -37,7 +37,7 @@ fn behind_start(bytes: &[u8]) -> Option<&[u8]>
 }
 
 /// Ends a content with a run up to the CR behind it, and leaves the FS and the CR out.
-pub fn end_content(content: &mut Vec<u8>, run: &[u8]) -> Result<(), AllocError>
+pub(crate) fn end_content(content: &mut Vec<u8>, run: &[u8]) -> Result<(), AllocError>
     requires { EndsAt content.old.items run.now }
     ensures ok { OnOk result (content.new.items ++ 28 ∷ 13 ∷ [] ≡ content.old.items ++ run.now) }
     ensures err { OnErr result (content.new.items ≡ content.old.items) }
@@ -75,7 +75,7 @@ fn take_block<'a>(
 }
 
 /// Takes a piece that follows a block or a gap: makes the blocks that end in it, and says where the stream has come to.
-pub fn take_blocks(
+pub(crate) fn take_blocks(
     alloc: Global,
     made: &mut VecDeque<Vec<u8>>,
     piece: &[u8],

@@ -2,19 +2,19 @@
 ghost use Rattle.std.specs.Prelude.{◌≡◌, ◌<◌, ◌-◌, ◌↔◌, length, slice_index, IsTrue};
 
 /// Begins a block.
-pub const VT: u8 = 11;
+pub(crate) const VT: u8 = 11;
 
 /// Ends a block where CR follows.
-pub const FS: u8 = 28;
+pub(crate) const FS: u8 = 28;
 
 /// Follows the FS that ends a block.
-pub const CR: u8 = 13;
+pub(crate) const CR: u8 = 13;
 
 /// The most bytes that a content may have.
-pub const LIMIT: usize = 1_048_576;
+pub(crate) const LIMIT: usize = 1_048_576;
 
 /// Whether FS is the last byte.
-pub fn ends_in_fs(bytes: &[u8]) -> bool
+pub(crate) fn ends_in_fs(bytes: &[u8]) -> bool
     ensures some { IsTrue result → 0 < length bytes.now }
     ensures last { IsTrue result ↔ (slice_index bytes.now (length bytes.now - 1) ≡ 28) }
 {

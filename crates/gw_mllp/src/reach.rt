@@ -8,7 +8,7 @@ use crate::bytes::{CR, FS, LIMIT, ends_in_fs};
 use memchr::{memchr, memmem};
 
 /// How far an open block reaches into the bytes that come next.
-pub enum Reach<'a> {
+pub(crate) enum Reach<'a> {
     /// It is still open behind all of them.
     Open,
     /// It is longer than allowed.
@@ -18,7 +18,7 @@ pub enum Reach<'a> {
 }
 
 /// Where FS CR stands first. Most short pieces have no CR, and that is told at once.
-pub fn find_end(bytes: &[u8]) -> Option<usize>
+pub(crate) fn find_end(bytes: &[u8]) -> Option<usize>
     ensures { FindsNeedle bytes.now (28 ∷ 13 ∷ []) 0 result }
 {
     memchr(CR, bytes)?;
@@ -60,7 +60,7 @@ fn content_len(content: &[u8], bytes: &[u8]) -> usize
 }
 
 /// The byte that is the whole piece, as a slow line gives it, where it neither ends the block nor makes it too long.
-pub fn lone_byte(content: &[u8], piece: &[u8]) -> Option<u8>
+pub(crate) fn lone_byte(content: &[u8], piece: &[u8]) -> Option<u8>
     ensures { IfSome result (λ byte. IsLone content.now piece.now byte) }
 {
     match piece {
@@ -70,7 +70,7 @@ pub fn lone_byte(content: &[u8], piece: &[u8]) -> Option<u8>
 }
 
 /// How far the block that begins with this content reaches into the bytes.
-pub fn reach_into<'a>(content: &[u8], bytes: &'a [u8]) -> Reach<'a>
+pub(crate) fn reach_into<'a>(content: &[u8], bytes: &'a [u8]) -> Reach<'a>
     ensures { Reaches content.now bytes.now result }
 {
     let Some(n) = end_of(content, bytes) else {

@@ -2,7 +2,7 @@
 
 /// Where a stream has come to.
 #[derive(Drop)]
-pub enum Tail {
+pub(crate) enum Tail {
     /// Between two blocks.
     Between,
     /// In a block, after these bytes of it.

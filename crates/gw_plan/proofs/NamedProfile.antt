@@ -14,7 +14,7 @@ use Rattle.gw_profile.specs.Line.{label_at, usage_at, card_at, options, leaf_opt
 use Rattle.gw_profile.specs.Fault.{grammar, tests, takes}
 use Rattle.gw_profile.specs.Value.{name_of}
 use Rattle.gw_profile.specs.Whole.{is_unclosed, spelled}
-use Rattle.gw_profile.proofs.Plain.{spelled_read}
+use Rattle.gw_profile.proofs.Spelling.{spelled_read}
 use Rattle.gw_profile.proofs.Shaped.{any, gives, either_gives, with_all_is}
 use Rattle.gw_plan.specs.declared.fault.PlanFault.TheVariants.{Duplicate}
 use Rattle.gw_plan.specs.Above.{named_profile}

@@ -8,8 +8,7 @@ use Rattle.std.proofs.lemmas.List.{append-nil, get_or-append-add}
 use Rattle.std.proofs.lemmas.Bool.Decides.{Decides-eqb}
 use Rattle.std.proofs.Math.Seq.{take-append_seam}
 use Rattle.gw_lines.specs.Words.{without_last, is_line_end, lines, is_lawful, is_comment, words_from, words}
-use Rattle.gw_profile.proofs.Facts.{both, and_of, not_is, true_not, if_true}
-use Rattle.gw_profile.proofs.Numerals.{all_map}
+use Rattle.gw_profile.proofs.Facts.{both, and_of, not_is, true_not, if_true, all_map}
 use Rattle.gw_plan.specs.declared.fault.PlanFault.TheVariants.{Syntax}
 use Rattle.gw_plan.specs.Joined.{joined}
 use Rattle.gw_plan.specs.Inner.{broken}

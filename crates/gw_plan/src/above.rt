@@ -14,7 +14,7 @@ use std::marker::Model;
 use std::sync::Arc;
 
 /// The profiles and maps that stand above in a plan, in their order. Each map begins at a profile that stands above.
-pub struct Above {
+pub(crate) struct Above {
     profiles: IndexMap<Vec<u8>, Arc<Profile>>,
     maps: IndexMap<Vec<u8>, Arc<CheckedMap>>,
 }
@@ -49,7 +49,7 @@ impl Model for Above {
 
 impl Above {
     /// Nothing.
-    pub fn new(alloc: Global) -> Above
+    pub(crate) fn new(alloc: Global) -> Above
         ensures { result ≡ empty }
     {
         Above {
@@ -59,14 +59,14 @@ impl Above {
     }
 
     /// The profile of this name. It takes no memory, and looks the name up by its hash.
-    pub fn profile(&self, name: &[u8]) -> Option<&Arc<Profile>>
+    pub(crate) fn profile(&self, name: &[u8]) -> Option<&Arc<Profile>>
         ensures { option_map (λ p. profile_value (arc_value p.now)) result ≡ named_profile name.now (profiles_of self.now) }
     {
         self.profiles.get(name)
     }
 
     /// The map of this name. It takes no memory, and looks the name up by its hash.
-    pub fn map(&self, name: &[u8]) -> Option<&Arc<CheckedMap>>
+    pub(crate) fn map(&self, name: &[u8]) -> Option<&Arc<CheckedMap>>
         ensures named { option_map (λ m. map_between (arc_value m.now)) result ≡ named_map name.now (maps_of self.now) }
         ensures source { IfSome result (λ m. BeginsAt (profiles_of self.now) (arc_value m.now)) }
     {
@@ -74,7 +74,11 @@ impl Above {
     }
 
     /// Adds a profile behind the others. Where memory runs out nothing changes.
-    pub fn add_profile(&mut self, alloc: Global, profile: Arc<Profile>) -> Result<(), AllocError>
+    pub(crate) fn add_profile(
+        &mut self,
+        alloc: Global,
+        profile: Arc<Profile>,
+    ) -> Result<(), AllocError>
         requires { IsNewProfile self.old (arc_value profile) }
         ensures added { OnOk result (self.new ≡ with_profile self.old (arc_value profile)) }
         ensures kept { OnErr result (self.new ≡ self.old) }
@@ -85,7 +89,7 @@ impl Above {
     }
 
     /// Adds a map behind the others. Where memory runs out nothing changes.
-    pub fn add_map(&mut self, alloc: Global, map: Arc<CheckedMap>) -> Result<(), AllocError>
+    pub(crate) fn add_map(&mut self, alloc: Global, map: Arc<CheckedMap>) -> Result<(), AllocError>
         requires { IsNewMap self.old (arc_value map) }
         ensures added { OnOk result (self.new ≡ with_map self.old (arc_value map)) }
         ensures kept { OnErr result (self.new ≡ self.old) }

@@ -5,7 +5,11 @@ ghost use Rattle.gw_plan.specs.Seen.{now_all, bytes_all};
 use std::alloc::{AllocError, Global};
 
 /// Puts copies of these words behind the others.
-pub fn accept(alloc: Global, accepted: &mut Vec<Vec<u8>>, words: &[&[u8]]) -> Result<(), AllocError>
+pub(crate) fn accept(
+    alloc: Global,
+    accepted: &mut Vec<Vec<u8>>,
+    words: &[&[u8]],
+) -> Result<(), AllocError>
     ensures { OnOk result (bytes_all accepted.new.items ≡ bytes_all accepted.old.items ++ now_all words.now) }
 {
     for word in words {

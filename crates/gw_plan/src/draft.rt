@@ -22,18 +22,18 @@ use std::sync::Arc;
 
 /// A plan so far: what the lines above say together.
 #[derive(Drop)]
-pub struct Draft {
-    pub begun: bool,
-    pub receivers: Receivers,
-    pub versions: Vec<Vec<u8>>,
-    pub processing: Vec<Vec<u8>>,
-    pub above: Above,
-    pub routes: RouteList,
+pub(crate) struct Draft {
+    pub(crate) begun: bool,
+    pub(crate) receivers: Receivers,
+    pub(crate) versions: Vec<Vec<u8>>,
+    pub(crate) processing: Vec<Vec<u8>>,
+    pub(crate) above: Above,
+    pub(crate) routes: RouteList,
 }
 
 impl Draft {
     /// The plan of no lines.
-    pub fn new(alloc: Global) -> Draft
+    pub(crate) fn new(alloc: Global) -> Draft
         ensures value { draft_value result ≡ spec.nothing }
         ensures kept { IsKept result }
     {
@@ -48,7 +48,7 @@ impl Draft {
     }
 
     /// Closes the current route.
-    pub fn close(&mut self) -> Result<(), AllocError>
+    pub(crate) fn close(&mut self) -> Result<(), AllocError>
         requires { IsKept self.old }
         ensures value { OnOk result (draft_value self.new ≡ spec.closed (draft_value self.old)) }
         ensures current { OnOk result (self.new.routes.current ≡ None) }
@@ -194,7 +194,7 @@ impl Draft {
     }
 
     /// Takes a line of the plan's own; `at` is its number.
-    pub fn take(&mut self, alloc: Global, at: u64, whole: &Line<'_>) -> Result<(), PlanFault>
+    pub(crate) fn take(&mut self, alloc: Global, at: u64, whole: &Line<'_>) -> Result<(), PlanFault>
         requires { IsKept self.old }
         ensures value { Makes self.new result (spec.takes (draft_value self.old) at (line whole.now)) }
         ensures kept { OnOk result (IsKept self.new) }
@@ -233,7 +233,12 @@ impl Draft {
     }
 
     /// Takes a profile or a map of the plan.
-    pub fn add(&mut self, alloc: Global, kind: &Kind, part: &Inner<'_, '_>) -> Result<(), PlanFault>
+    pub(crate) fn add(
+        &mut self,
+        alloc: Global,
+        kind: &Kind,
+        part: &Inner<'_, '_>,
+    ) -> Result<(), PlanFault>
         requires kept { IsKept self.old }
         requires numbered { IsNumbered (inner part.now) }
         ensures value { Makes self.new result (takes_part (draft_value self.old) kind.now (inner part.now)) }

@@ -10,14 +10,14 @@ use std::alloc::{AllocError, Global};
 
 /// What stands between `begin` and `stop`.
 #[derive(Drop)]
-pub enum Kind {
+pub(crate) enum Kind {
     Profile,
     Map,
 }
 
 /// A line of the plan's own. The empty event stands for an event that is absent.
 #[derive(Drop)]
-pub enum Line<'a> {
+pub(crate) enum Line<'a> {
     Begins(&'a [u8]),
     Receives(&'a [u8], &'a [u8]),
     Versions(Vec<&'a [u8]>),
@@ -172,7 +172,7 @@ fn fixed_form<'a>(keyword: Word<'a>, more: &[Word<'a>]) -> Option<Line<'a>>
 }
 
 /// The line that these words are.
-pub fn form<'a>(alloc: Global, words: &[Word<'a>]) -> Result<Option<Line<'a>>, AllocError>
+pub(crate) fn form<'a>(alloc: Global, words: &[Word<'a>]) -> Result<Option<Line<'a>>, AllocError>
     ensures { IfOk result (λ found. option_map line found ≡ spec.form (map word words.now)) }
 {
     let Some((keyword, more)) = first_word(words) else {
@@ -185,7 +185,7 @@ pub fn form<'a>(alloc: Global, words: &[Word<'a>]) -> Result<Option<Line<'a>>, A
 }
 
 /// Whether these words are the one word `stop`.
-pub fn is_stop(words: &Option<Vec<Word<'_>>>) -> bool
+pub(crate) fn is_stop(words: &Option<Vec<Word<'_>>>) -> bool
     ensures { result ≡ spec.is_stop_line (option_map (λ v. map word v.items) words.now) }
 {
     match words {

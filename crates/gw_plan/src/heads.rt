@@ -11,11 +11,11 @@ use std::alloc::{AllocError, Global};
 
 /// What the first line of a map says, with its number.
 #[derive(Clone, Copy, Drop)]
-pub struct MapHead<'a> {
-    pub line: u64,
-    pub name: &'a [u8],
-    pub source: &'a [u8],
-    pub target: &'a [u8],
+pub(crate) struct MapHead<'a> {
+    pub(crate) line: u64,
+    pub(crate) name: &'a [u8],
+    pub(crate) source: &'a [u8],
+    pub(crate) target: &'a [u8],
 }
 
 // The name behind a keyword.

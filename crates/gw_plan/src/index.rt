@@ -7,7 +7,7 @@ use indexmap::IndexSet;
 use std::alloc::{AllocError, Global};
 
 /// The codes and events of routes, and for each route the numbers of its own.
-pub struct Index {
+pub(crate) struct Index {
     codes: IndexSet<Vec<u8>>,
     events: IndexSet<Vec<u8>>,
     pairs: IndexSet<(usize, usize)>,
@@ -26,7 +26,7 @@ impl Drop for Index {
 
 impl Index {
     /// The index of no routes.
-    pub fn new(alloc: Global) -> Index
+    pub(crate) fn new(alloc: Global) -> Index
         ensures { Indexes result [] }
     {
         Index {
@@ -37,7 +37,7 @@ impl Index {
     }
 
     /// The number of the route for this code and event, or the code of the condition that there is none. It takes no memory.
-    pub fn find(&self, code: &[u8], event: &[u8]) -> Result<usize, u16>
+    pub(crate) fn find(&self, code: &[u8], event: &[u8]) -> Result<usize, u16>
         ensures { (keys : List Key) → Indexes self.now keys → result ≡ number_for code.now event.now keys }
     {
         let Some(code) = self.codes.get_index_of(code) else {
@@ -53,14 +53,19 @@ impl Index {
     }
 
     /// Whether a route is for this code and event. It takes no memory.
-    pub fn has(&self, code: &[u8], event: &[u8]) -> bool
+    pub(crate) fn has(&self, code: &[u8], event: &[u8]) -> bool
         ensures { (keys : List Key) → Indexes self.now keys → result ≡ list_any (is_key code.now event.now) keys }
     {
         self.find(code, event).is_ok()
     }
 
     /// Adds a route behind the others.
-    pub fn push(&mut self, alloc: Global, code: &[u8], event: &[u8]) -> Result<(), AllocError>
+    pub(crate) fn push(
+        &mut self,
+        alloc: Global,
+        code: &[u8],
+        event: &[u8],
+    ) -> Result<(), AllocError>
         ensures { OnOk result (Adds code.now event.now self.old self.new) }
     {
         let (code, _) = self.codes.insert_full(Vec::from_slice(alloc, code)?)?;

@@ -14,14 +14,14 @@ use std::alloc::{AllocError, Global};
 
 /// The lines from behind a `begin` line, of this number, up to the `stop` line; or up to the text's end, where none follows.
 #[derive(Clone, Copy, Drop)]
-pub struct Inner<'x, 'a> {
-    pub at: u64,
-    pub lines: &'x [&'a [u8]],
-    pub stopped: bool,
+pub(crate) struct Inner<'x, 'a> {
+    pub(crate) at: u64,
+    pub(crate) lines: &'x [&'a [u8]],
+    pub(crate) stopped: bool,
 }
 
 /// Lines as one text again, each with its end.
-pub fn joined(alloc: Global, lines: &[&[u8]]) -> Result<Vec<u8>, AllocError>
+pub(crate) fn joined(alloc: Global, lines: &[&[u8]]) -> Result<Vec<u8>, AllocError>
     ensures { IfOk result (λ text. text.items ≡ joined (map (λ line. line.now) lines.now)) }
 {
     let mut text = Vec::new(alloc);

@@ -9,7 +9,7 @@ use std::alloc::{AllocError, Global};
 use std::marker::Model;
 
 /// Receivers in the order of their lines, each name once. A receiver is looked up by the hash of its name.
-pub struct Receivers {
+pub(crate) struct Receivers {
     addresses: IndexMap<Vec<u8>, Vec<u8>>,
 }
 
@@ -32,7 +32,7 @@ impl Model for Receivers {
 
 impl Receivers {
     /// No receivers.
-    pub fn new(alloc: Global) -> Receivers
+    pub(crate) fn new(alloc: Global) -> Receivers
         ensures { result ≡ [] }
     {
         Receivers {
@@ -41,14 +41,19 @@ impl Receivers {
     }
 
     /// The number of the receiver of this name, from 0. It takes no memory.
-    pub fn number(&self, name: &[u8]) -> Option<usize>
+    pub(crate) fn number(&self, name: &[u8]) -> Option<usize>
         ensures { result ≡ position (is_receiver name.now) self.now }
     {
         self.addresses.get_index_of(name)
     }
 
     /// Puts a receiver of a new name behind the others.
-    pub fn put(&mut self, alloc: Global, name: &[u8], address: &[u8]) -> Result<(), AllocError>
+    pub(crate) fn put(
+        &mut self,
+        alloc: Global,
+        name: &[u8],
+        address: &[u8],
+    ) -> Result<(), AllocError>
         requires { is_none (position (is_receiver name.now) self.old) ≡ true }
         ensures { OnOk result (self.new ≡ self.old ++ record { name = name.now; address = address.now } ∷ []) }
     {
@@ -59,7 +64,7 @@ impl Receivers {
     }
 
     /// All of them, in order.
-    pub fn into_all(self, alloc: Global) -> Result<Vec<Receiver>, AllocError>
+    pub(crate) fn into_all(self, alloc: Global) -> Result<Vec<Receiver>, AllocError>
         ensures { IfOk result (λ all. map receiver_value all.items ≡ self) }
     {
         let Receivers { addresses } = self;

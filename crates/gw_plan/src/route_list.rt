@@ -16,15 +16,15 @@ use std::sync::Arc;
 
 /// Routes in the order of their lines, of which the current one may go to more receivers.
 #[derive(Drop)]
-pub struct RouteList {
-    pub closed: Vec<Route>,
-    pub current: Option<Route>,
-    pub index: Index,
+pub(crate) struct RouteList {
+    pub(crate) closed: Vec<Route>,
+    pub(crate) current: Option<Route>,
+    pub(crate) index: Index,
 }
 
 impl RouteList {
     /// No routes.
-    pub fn new(alloc: Global) -> RouteList
+    pub(crate) fn new(alloc: Global) -> RouteList
         ensures closed { result.closed.items ≡ [] }
         ensures current { result.current ≡ None }
         ensures listed { IsListed result }
@@ -37,7 +37,7 @@ impl RouteList {
     }
 
     /// Closes the current route.
-    pub fn close(&mut self) -> Result<(), AllocError>
+    pub(crate) fn close(&mut self) -> Result<(), AllocError>
         requires { IsListed self.old }
         ensures closed { OnOk result (self.new.closed.items ≡ all_routes self.old) }
         ensures current { OnOk result (self.new.current ≡ None) }
@@ -50,7 +50,7 @@ impl RouteList {
     }
 
     /// Whether a route is for this code and event, where none is current. It takes no memory.
-    pub fn has(&self, code: &[u8], event: &[u8]) -> bool
+    pub(crate) fn has(&self, code: &[u8], event: &[u8]) -> bool
         requires closed { self.now.current ≡ None }
         requires listed { IsListed self.now }
         ensures { result ≡ list_any (is_for code.now event.now) (map route_value self.now.closed.items) }
@@ -59,7 +59,7 @@ impl RouteList {
     }
 
     /// Makes a route current that goes to no receiver yet.
-    pub fn open(
+    pub(crate) fn open(
         &mut self,
         alloc: Global,
         code: &[u8],
@@ -80,7 +80,11 @@ impl RouteList {
     }
 
     /// The current route goes to a receiver more.
-    pub fn add_leg(&mut self, receiver: usize, map: Arc<CheckedMap>) -> Result<(), AllocError>
+    pub(crate) fn add_leg(
+        &mut self,
+        receiver: usize,
+        map: Arc<CheckedMap>,
+    ) -> Result<(), AllocError>
         requires leg { IfSome self.old.current (IsNewLeg receiver (arc_value map)) }
         requires listed { IsListed self.old }
         ensures closed { OnOk result (self.new.closed.items ≡ self.old.closed.items) }

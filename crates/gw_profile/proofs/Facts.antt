@@ -1,6 +1,7 @@
 -- Tests as facts.
-use Rattle.std.proofs.Common.{◌≡◌, ℕ, ◌<◌, ◌≤◌, ◌⊎◌, inl, inr, Bool, true, false, Option, Some, None, refl, arith}
+use Rattle.std.proofs.Common.{◌≡◌, ℕ, ◌<◌, ◌≤◌, ◌⊎◌, inl, inr, Bool, true, false, Option, Some, None, List, [], ◌∷◌, refl, arith}
 use Rattle.std.specs.Prelude.{◌&&◌, ◌||◌, not, nat_le, if◌then◌else◌}
+use Rattle.std.specs.List.{list_all}
 use Rattle.std.proofs.lemmas.Grind.{common_steps}
 use Rattle.std.proofs.lemmas.Bool.Decides.{nat_tests}
 
@@ -63,10 +64,6 @@ pub not_is : (b : Bool) → not b ≡ true → b ≡ false
 not_is true e = absurd (cc)
 not_is false e = refl
 
-pub is_not : (b : Bool) → b ≡ false → not b ≡ true
-is_not true e = absurd (cc)
-is_not false e = refl
-
 -- ---- choices
 
 pub if_true : {A : Type 0} (b : Bool) (x y : A) → b ≡ true → (if b then x else y) ≡ x
@@ -93,5 +90,6 @@ lt_is a b e = grind (arith, nat_tests)
 pub le_test : (a b : ℕ) → a ≤ b → nat_le a b ≡ true
 le_test a b h = grind (arith, nat_tests)
 
-pub gt_test : (a b : ℕ) → b < a → nat_le a b ≡ false
-gt_test a b h = grind (arith, nat_tests)
+pub all_map : {A : Type 0} (p q : A → Bool) → ((x : A) → p x ≡ true → q x ≡ true) → (xs : List A) → list_all p xs ≡ true → list_all q xs ≡ true
+all_map p q h [] e = refl
+all_map p q h (x ∷ xs) e = let r = both (p x) _ e in and_of _ _ (h x r.0) (all_map p q h xs r.1)

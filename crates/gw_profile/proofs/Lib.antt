@@ -6,15 +6,7 @@ pub mod Passed
 pub mod Parts
 pub mod Levels
 pub mod WellFormed
-pub mod Plain
-pub mod Folded
-pub mod Standing
-pub mod Numerals
-pub mod Formed
-pub mod Worded
-pub mod RoundTrip
-pub mod Quotes
-pub mod Meanings
+pub mod Spelling
 pub mod Rows
 pub mod Gathered
 pub mod Inner

@@ -15,7 +15,6 @@ pub mod Heights
 pub mod Kept
 pub mod Value
 pub mod Whole
-pub mod Written
 pub mod Worked
 pub mod Patterns
 pub mod own

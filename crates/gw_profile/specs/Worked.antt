@@ -1,4 +1,4 @@
--- A worked profile and its text.
+-- Worked profiles and their texts.
 use Rattle.std.specs.Prelude.{ℕ, List, [], ◌∷◌, ◌++◌, Some, None, codes}
 use Rattle.gw_profile.specs.declared.shape.Usage.TheVariants.{R, RE, O}
 use Rattle.gw_profile.specs.declared.shape.Card.{Card}
@@ -41,9 +41,9 @@ worked =
 abbrev line : List ℕ → List ℕ
 line bytes = bytes ++ 10 ∷ []
 
--- written out
-abbrev pub worked_written : List ℕ
-worked_written =
+-- with one line for each part, and values in quotes
+abbrev pub worked_out : List ℕ
+worked_out =
     line (codes "profile P1") ++ line (codes "table SEX \"M\" \"F\"") ++ line (codes "segment MSH R 1..1") ++ line (codes "field 10 R 1..1")
     ++ line (codes "group PATIENT R 1..*") ++ line (codes "segment PID R 1..1") ++ line (codes "field 8 RE 0..1") ++ line (codes "comp 1 R") ++ line (codes "sub 1 R len 1 table SEX")
     ++ line (codes "segment NK1 as KIN O 0..12") ++ line (codes "end")

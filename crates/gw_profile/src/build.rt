@@ -29,11 +29,11 @@ struct Below {
 
 /// The name, the count and the nodes of a profile, with the line of its first group that may be empty.
 #[derive(Drop)]
-pub struct Built {
-    pub name: Vec<u8>,
-    pub count: Count,
-    pub nodes: Vec<Node>,
-    pub empty: Option<u32>,
+pub(crate) struct Built {
+    pub(crate) name: Vec<u8>,
+    pub(crate) count: Count,
+    pub(crate) nodes: Vec<Node>,
+    pub(crate) empty: Option<u32>,
 }
 
 fn copy_of(alloc: Global, bytes: &[u8]) -> Result<Vec<u8>, AllocError>
@@ -359,7 +359,7 @@ fn count_of(lines: &[Line]) -> Count
 }
 
 /// What these lines spell.
-pub fn build(alloc: Global, lines: &[Line]) -> Result<Built, AllocError>
+pub(crate) fn build(alloc: Global, lines: &[Line]) -> Result<Built, AllocError>
     ensures value { IfOk result (λ b. built b ≡ (spec.name_of (map line lines.now), spec.count_of (map line lines.now), (spec.nodes (map line lines.now)).here)) }
     ensures empty { IfOk result (λ b. b.empty ≡ empty_group (map line lines.now)) }
 {

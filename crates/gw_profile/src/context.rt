@@ -14,21 +14,21 @@ use std::mem;
 
 /// A line that may have lines below it.
 #[derive(Clone, Copy, Drop)]
-pub struct Parent {
-    pub shut: bool,
-    pub least: u32,
-    pub last: u32,
+pub(crate) struct Parent {
+    pub(crate) shut: bool,
+    pub(crate) least: u32,
+    pub(crate) last: u32,
 }
 
 /// The lines to which a field, a component and a subcomponent line would belong.
 #[derive(Clone, Copy, Drop)]
-pub struct Parents {
-    pub segment: Option<Parent>,
-    pub field: Option<Parent>,
-    pub comp: Option<Parent>,
+pub(crate) struct Parents {
+    pub(crate) segment: Option<Parent>,
+    pub(crate) field: Option<Parent>,
+    pub(crate) comp: Option<Parent>,
 }
 
-pub const NO_PARENTS: Parents = Parents {
+pub(crate) const NO_PARENTS: Parents = Parents {
     segment: None,
     field: None,
     comp: None,
@@ -57,7 +57,7 @@ fn with_part(number: u32, held: Option<Parent>) -> Option<Parent>
 }
 
 /// The parents below a line.
-pub fn parents_below(held: Parents, whole: &Line) -> Parents
+pub(crate) fn parents_below(held: Parents, whole: &Line) -> Parents
     ensures { ParentsFollow held result (line whole.now) }
 {
     match whole {
@@ -98,7 +98,7 @@ pub fn parents_below(held: Parents, whole: &Line) -> Parents
 }
 
 /// The table of a table line, where no value stands twice.
-pub fn made(alloc: Global, whole: &Line) -> Result<Option<Table>, AllocError>
+pub(crate) fn made(alloc: Global, whole: &Line) -> Result<Option<Table>, AllocError>
     ensures { IfOk result (λ found. found ≡ made (line whole.now)) }
 {
     match whole {
@@ -108,7 +108,7 @@ pub fn made(alloc: Global, whole: &Line) -> Result<Option<Table>, AllocError>
 }
 
 /// Whether there is a table of this name.
-pub fn knows(tables: &IndexMap<Vec<u8>, Table>, name: &[u8]) -> bool
+pub(crate) fn knows(tables: &IndexMap<Vec<u8>, Table>, name: &[u8]) -> bool
     ensures { result ≡ spec.is_among name.now (table_names (map table tables.now.entries)) }
 {
     tables.contains_key(name)
@@ -130,7 +130,7 @@ fn put_table(
 }
 
 /// Puts the table of this line behind the others.
-pub fn tables_below(
+pub(crate) fn tables_below(
     alloc: Global,
     tables: &mut IndexMap<Vec<u8>, Table>,
     whole: &Line,
@@ -152,13 +152,13 @@ pub fn tables_below(
 
 /// The labels of the nodes so far in the innermost open group, and in each level around it, the nearest last.
 #[derive(Drop)]
-pub struct Levels<'a> {
-    pub labels: IndexSet<&'a [u8]>,
-    pub outer: Vec<IndexSet<&'a [u8]>>,
+pub(crate) struct Levels<'a> {
+    pub(crate) labels: IndexSet<&'a [u8]>,
+    pub(crate) outer: Vec<IndexSet<&'a [u8]>>,
 }
 
 /// Whether this is one of the labels.
-pub fn has_label(labels: &IndexSet<&[u8]>, label: &[u8]) -> bool
+pub(crate) fn has_label(labels: &IndexSet<&[u8]>, label: &[u8]) -> bool
     ensures { result ≡ spec.is_among label.now (now_all labels.now.keys) }
 {
     labels.contains(label)
@@ -203,7 +203,7 @@ fn close_group<'a>(alloc: Global, held: &mut Levels<'a>)
 }
 
 /// Brings the levels below a line.
-pub fn levels_below<'a>(
+pub(crate) fn levels_below<'a>(
     alloc: Global,
     held: &mut Levels<'a>,
     whole: &Line<'a>,
@@ -259,7 +259,7 @@ fn names_unknown(leaf: Option<Leaf>, tables: &IndexMap<Vec<u8>, Table>) -> bool
 }
 
 /// The fault of a field, component or subcomponent.
-pub fn part_fault(
+pub(crate) fn part_fault(
     at: u32,
     number: u32,
     lawful: bool,

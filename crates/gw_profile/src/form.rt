@@ -12,14 +12,14 @@ use std::alloc::{AllocError, Global};
 
 /// What a line says of a leaf.
 #[derive(Clone, Copy, Drop)]
-pub struct Leaf<'a> {
-    pub len: Option<u32>,
-    pub table: Option<&'a [u8]>,
+pub(crate) struct Leaf<'a> {
+    pub(crate) len: Option<u32>,
+    pub(crate) table: Option<&'a [u8]>,
 }
 
 /// A line of a profile. No usage stands for C and CE.
 #[derive(Drop)]
-pub enum Line<'a> {
+pub(crate) enum Line<'a> {
     Begins(&'a [u8]),
     Table(&'a [u8], Vec<&'a [u8]>),
     Segment([u8; 3], &'a [u8], bool, Option<Usage>, Card),
@@ -68,7 +68,7 @@ fn card_word(from: Word) -> Option<Card>
 }
 
 /// Whether at most `max` allows this many.
-pub fn allows(max: Option<u32>, count: u32) -> bool
+pub(crate) fn allows(max: Option<u32>, count: u32) -> bool
     ensures { result ≡ spec.allows max count }
 {
     match max {
@@ -78,7 +78,7 @@ pub fn allows(max: Option<u32>, count: u32) -> bool
 }
 
 /// Whether usage and cardinality agree.
-pub fn agrees(usage: Option<Usage>, card: Card) -> bool
+pub(crate) fn agrees(usage: Option<Usage>, card: Card) -> bool
     ensures { result ≡ spec.agrees usage card }
 {
     match usage {
@@ -91,7 +91,7 @@ pub fn agrees(usage: Option<Usage>, card: Card) -> bool
 }
 
 /// Whether the usage is X.
-pub fn is_forbidden(usage: Option<Usage>) -> bool
+pub(crate) fn is_forbidden(usage: Option<Usage>) -> bool
     ensures { result ≡ spec.is_forbidden usage }
 {
     matches!(usage, Some(Usage::X))
@@ -336,7 +336,11 @@ fn keyword_form<'a>(
 }
 
 /// The line that these words are; `at` is its number.
-pub fn form<'a>(alloc: Global, at: u32, words: &[Word<'a>]) -> Result<Option<Line<'a>>, AllocError>
+pub(crate) fn form<'a>(
+    alloc: Global,
+    at: u32,
+    words: &[Word<'a>],
+) -> Result<Option<Line<'a>>, AllocError>
     ensures { IfOk result (λ found. option_map line found ≡ spec.form at (map word words.now)) }
 {
     match words {

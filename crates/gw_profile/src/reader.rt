@@ -31,7 +31,7 @@ const MOST_NESTED: usize = 8;
 
 /// The lines of a profile so far.
 #[derive(Drop)]
-pub struct Reader<'a> {
+pub(crate) struct Reader<'a> {
     above: Above<'a>,
 }
 
@@ -66,7 +66,7 @@ impl<'a> Model for Reader<'a> {
 
 impl<'a> Reader<'a> {
     /// A reader with no line.
-    pub fn new(alloc: Global) -> Reader<'a>
+    pub(crate) fn new(alloc: Global) -> Reader<'a>
         ensures { result ≡ [] }
     {
         Reader {

@@ -30,7 +30,7 @@ impl Node {
 }
 
 /// Whether no node has a min of at least 1.
-pub fn is_optional(nodes: &[Node]) -> bool
+pub(crate) fn is_optional(nodes: &[Node]) -> bool
     ensures { result ≡ spec.is_optional (forest nodes.now) }
 {
     for node in nodes {
@@ -240,7 +240,7 @@ fn passed(min: u32, start: usize, far: &[IndexSet<[u8; 3]>]) -> usize
 /// The least name of the first node that one name of look-ahead does not determine, where a name of `follow`, or of the sets of `far` from this number on, can come behind these nodes.
 /// The nodes are gone through from the last to the first, and `follow` takes the names of the later siblings; those of the levels around stay in their sets.
 #[cycle(ambiguous)]
-pub fn ambiguous(
+pub(crate) fn ambiguous(
     alloc: Global,
     nodes: &[Node],
     follow: &mut IndexSet<[u8; 3]>,

@@ -18,7 +18,7 @@ fn same_usage(one: Usage, other: Usage) -> bool
 }
 
 /// Whether these are the same count.
-pub fn same_count(one: Count, other: Count) -> bool
+pub(crate) fn same_count(one: Count, other: Count) -> bool
     ensures { IsTrue result ↔ (one ≡ other) }
 {
     one == other
@@ -145,7 +145,7 @@ fn same_node(one: &Node, other: &Node) -> bool
 
 /// Whether these are the same nodes.
 #[cycle(same)]
-pub fn same_nodes(nodes: &[Node], others: &[Node]) -> bool
+pub(crate) fn same_nodes(nodes: &[Node], others: &[Node]) -> bool
     ensures { IsTrue result ↔ (forest nodes.now ≡ forest others.now) }
 {
     if nodes.len() != others.len() {
@@ -191,7 +191,10 @@ fn same_some(one: Option<(&[u8], &[Vec<u8>])>, other: Option<(&[u8], &[Vec<u8>])
 }
 
 /// Whether these are the same tables in the same order.
-pub fn same_tables(tables: &IndexMap<Vec<u8>, Table>, others: &IndexMap<Vec<u8>, Table>) -> bool
+pub(crate) fn same_tables(
+    tables: &IndexMap<Vec<u8>, Table>,
+    others: &IndexMap<Vec<u8>, Table>,
+) -> bool
     ensures { IsTrue result ↔ (map table tables.now.entries ≡ map table others.now.entries) }
 {
     if tables.len() != others.len() {

@@ -111,7 +111,7 @@ fn keep_rules(alloc: Global, lines: &[Line], spelled: &Built) -> Result<(), Prof
 }
 
 /// What these lines spell, from the first on, or the fault of the whole.
-pub fn ruled(alloc: Global, lines: &[Line]) -> Result<Built, ProfileFault>
+pub(crate) fn ruled(alloc: Global, lines: &[Line]) -> Result<Built, ProfileFault>
     ensures { Gives fault.Memory (λ b. built_value b (tables_of (map line lines.now))) result (spec.ruled (map line lines.now)) }
 {
     let spelled = build(alloc, lines)?;
