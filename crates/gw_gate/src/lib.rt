@@ -16,4 +16,5 @@ pub use books::MOST;
 pub use chapter::{Chapter, Start};
 pub use event::{Entry, Event, Reply};
 pub use gate::Gate;
+pub use plans::{is_under, receiver_at, receiver_count};
 pub use replays::{ReplayFault, replay};

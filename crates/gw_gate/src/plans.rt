@@ -7,8 +7,8 @@ ghost use Rattle.gw_gate.specs.Meaning.{Admits, Makes};
 
 use gw_plan::{Conforming, Plan, Translated};
 
-// Whether the message was admitted under this version, by a plan of this one's text.
-pub(crate) fn is_under(conforming: &Conforming, version: u64, plan: &Plan) -> bool
+/// Whether the message was admitted under this version, by a plan of this one's text. It takes no memory.
+pub fn is_under(conforming: &Conforming, version: u64, plan: &Plan) -> bool
     ensures { result ≡ is_under (conforming_seen conforming.now) version (plan_seen plan.now) }
 {
     conforming.under(version, plan)
@@ -56,15 +56,15 @@ pub(crate) fn goes_to(conforming: &Conforming, receiver: usize) -> bool
     conforming.goes_to(receiver)
 }
 
-// How many receivers the message's route has.
-pub(crate) fn receiver_count(conforming: &Conforming) -> usize
+/// How many receivers the message's route has. It takes no memory.
+pub fn receiver_count(conforming: &Conforming) -> usize
     ensures { result ≡ length (conforming_seen conforming.now).receivers }
 {
     conforming.route().len()
 }
 
-// The receiver at this place of the message's route.
-pub(crate) fn receiver_at(conforming: &Conforming, place: usize) -> usize
+/// The receiver at this place of the message's route, from 0. It takes no memory.
+pub fn receiver_at(conforming: &Conforming, place: usize) -> usize
     requires { place < length (conforming_seen conforming.now).receivers }
     ensures { slice_get (conforming_seen conforming.now).receivers place ≡ Some result }
 {
