@@ -1,77 +1,22 @@
 -- What the books tell of the replies.
-use Rattle.std.proofs.Common.{◌≡◌, ◌≢◌, ◌==◌, ℕ, zero, suc, ◌+◌, ◌-◌, ◌<◌, ◌≤◌, ◌⊎◌, inl, inr, Bool, true, false, if◌then◌else◌, List, [], ◌∷◌, Option, None, Some, option_map, slice_get, length, map, refl, sym, ap, subst, ◌∙◌, arith}
-use Rattle.std.specs.Prelude.{find, cond, not, nat_lt, ◌&&◌}
+use Rattle.std.proofs.Common.{◌≡◌, ◌≢◌, ℕ, ◌+◌, ◌<◌, Bool, true, false, if◌then◌else◌, List, Option, None, Some, option_map, slice_get, length, map, refl, sym, ap, ◌∙◌, arith}
+use Rattle.std.specs.Prelude.{not, ◌&&◌}
 use Rattle.std.proofs.lemmas.List.{length-map}
-use Rattle.std.proofs.lemmas.Bool.{cases_lt, false≢true}
-use Rattle.std.proofs.lemmas.Bool.Decides.{nat_tests}
+use Rattle.std.proofs.lemmas.Bool.{false≢true}
 use Rattle.gw_reorder.specs.State.{DeskState}
 use Rattle.gw_reorder.specs.Calls.{status_of, next_of}
 use Rattle.gw_reorder.specs.Runs.{with_its_value}
 use Rattle.gw_reorder.specs.declared.desk.Status.{Status}
 use Rattle.gw_reorder.specs.declared.desk.Status.TheVariants.{Waiting}
 use Rattle.gw_reorder.proofs.Steps.{more_given}
-use Rattle.gw_reorder.proofs.Places.{equals, differs}
-use Rattle.gw_gate.specs.Parts.{PlanSeen, ConformingSeen, TranslatedSeen, is_under, same_source}
-use Rattle.gw_gate.specs.Journal.{EntrySeen, Pair, Acceptance, accepted, acceptance, issued, due, is_due, kept, released, current, next_number, next_arrival, Start}
-use Rattle.gw_gate.specs.Replies.{ReplySeen, Arrives, IsAccepted, IsStale, most, Takes, Puts, Reissues, Releases, IsStranger, IsRepeat, IsKept, IsDone, IsIssued, IsOut, IsNothing, job_with, job_of, is_of, is_kept, out_with, out_of, reply_to}
-use Rattle.gw_gate.specs.Headline.{CountFrom}
-use Rattle.gw_gate.specs.own.Books.{given, StandsAt, BooksSeen, Fits, journal_of, FitsQueue, job_by, numbered_at, next_job, job_reply, put_reply, issue_reply, release_reply}
+use Rattle.gw_gate.specs.Parts.{ConformingSeen, TranslatedSeen, is_under, same_source}
+use Rattle.gw_gate.specs.Journal.{EntrySeen, Journal, Acceptance, accepted, acceptance, due, is_due, kept, released, current, next_number, next_arrival, Start}
+use Rattle.gw_gate.specs.Replies.{ReplySeen, Arrives, IsAccepted, IsStale, most, Puts, Reissues, Releases, IsStranger, IsRepeat, IsKept, IsDone, IsIssued, IsOut, IsNothing, is_of, is_kept, out_with, out_of, reply_to}
+use Rattle.gw_gate.specs.own.Books.{given, StandsAt, BooksSeen, Fits, journal_of, put_reply, issue_reply, release_reply, under}
 use Rattle.gw_gate.specs.declared.event.Entry.{Entry}
 use Rattle.gw_gate.specs.Entries.{entries_seen}
 use Rattle.gw_gate.proofs.Entering.{as_long}
-use Rattle.gw_gate.proofs.Numbering.{n_of}
 use Rattle.gw_gate.proofs.Standing.{status_by, status_stands}
-
-abbrev pub under : ℕ → ConformingSeen → Acceptance
-under n c = record { n = n; conforming = c }
-
--- what was accepted under a number stands at its place
-found_from : (first k : ℕ) (xs : List Acceptance) → CountFrom first (map n_of xs) → find (λ a. a.n == (first + k)) xs ≡ option_map (under (first + k)) (slice_get (map (λ a. a.conforming) xs) k)
-found_from first k [] all = refl
-found_from first zero (x ∷ xs) all =
-    let is : x.n ≡ first + 0 = omega (arith, all.0) in
-    ap (λ b. cond b (Some x) (find (λ a. a.n == (first + 0)) xs)) (equals x.n (first + 0) is) ∙ ap (λ n. Some (under n x.conforming)) is
-found_from first (suc k) (x ∷ xs) all =
-    let other : x.n ≢ first + suc k = λ e. omega (arith, all.0, e) in
-    let next : first + 1 + k ≡ first + suc k = omega arith in
-    ap (λ b. cond b (Some x) (find (λ a. a.n == (first + suc k)) xs)) (differs x.n (first + suc k) other)
-    ∙ subst (λ m. find (λ a. a.n == m) xs ≡ option_map (under m) (slice_get (map (λ a. a.conforming) xs) k)) next (found_from (first + 1) k xs all.1)
-
--- nothing was accepted under a number below the first
-none_below : (first n : ℕ) (xs : List Acceptance) → CountFrom first (map n_of xs) → n < first → find (λ a. a.n == n) xs ≡ None
-none_below first n [] all low = refl
-none_below first n (x ∷ xs) all low =
-    let other : x.n ≢ n = λ e. omega (arith, all.0, e, low) in
-    ap (λ b. cond b (Some x) (find (λ a. a.n == n) xs)) (differs x.n n other) ∙ none_below (first + 1) n xs all.1 (omega (arith, low))
-
-pub acceptance_is : (h : List EntrySeen) (first n : ℕ) → CountFrom first (map n_of (accepted h)) → acceptance h n ≡ option_map (under n) (numbered_at first (map (λ a. a.conforming) (accepted h)) n)
-acceptance_is h first n all = by (cases_lt n first)
-  where
-    confs : List ConformingSeen
-    confs = map (λ a. a.conforming) (accepted h)
-
-    by : (n < first) ⊎ (first ≤ n) → acceptance h n ≡ option_map (under n) (numbered_at first (map (λ a. a.conforming) (accepted h)) n)
-    by (inl low) =
-        let is : nat_lt n first ≡ true = grind (arith, nat_tests) in
-        none_below first n (accepted h) all low ∙ sym (ap (λ b. option_map (under n) (if b then None else slice_get (map (λ a. a.conforming) (accepted h)) (n - first))) is)
-    by (inr high) =
-        let is : nat_lt n first ≡ false = grind (arith, nat_tests) in
-        let same : first + (n - first) ≡ n = omega (arith, high) in
-        subst (λ m. find (λ a. a.n == m) (accepted h) ≡ option_map (under m) (slice_get (map (λ a. a.conforming) (accepted h)) (n - first))) same (found_from first (n - first) (accepted h) all)
-        ∙ sym (ap (λ b. option_map (under n) (if b then None else slice_get (map (λ a. a.conforming) (accepted h)) (n - first))) is)
-
-job_there : (p : Start) (h : List EntrySeen) (all : List ConformingSeen) (pairs : List Pair) (taken : ℕ) → FitsQueue p h all pairs taken → (o : Option Pair) → job_of h o ≡ job_reply (job_by p.acceptances all o)
-job_there p h all pairs taken fits None = refl
-job_there p h all pairs taken fits (Some next) =
-    ap (job_with next) (acceptance_is h p.acceptances next.n fits.numbered ∙ ap (λ l. option_map (under next.n) (numbered_at p.acceptances l next.n)) (sym fits.accepted_are)) ∙ by (numbered_at p.acceptances all next.n)
-  where
-    by : (o : Option ConformingSeen) → job_with next (option_map (under next.n) o) ≡ job_reply (option_map (λ c. (next, c)) o)
-    by None = refl
-    by (Some c) = refl
-
-pub job_is : (p : Start) (h : List EntrySeen) (all : List ConformingSeen) (pairs : List Pair) (taken : ℕ) → FitsQueue p h all pairs taken → reply_to (journal_of p h) Takes ≡ job_reply (next_job p.acceptances all pairs taken)
-job_is p h all pairs taken fits =
-    ap (λ k. job_of h (slice_get (issued h) k)) (sym fits.taken_is) ∙ ap (λ l. job_of h (slice_get l taken)) (sym fits.issued_are) ∙ job_there p h all pairs taken fits (slice_get pairs taken)
 
 -- what a pair is to the books
 status_pair : (h : List EntrySeen) (n r : ℕ) (s : DeskState TranslatedSeen) → StandsAt h r s → status_of s n ≡ status_by (is_due h n r) (is_kept h n r)
@@ -96,21 +41,17 @@ stranger_by t false of other is = refl
 stranger_by t true false other is = refl
 stranger_by t true true other is = absurd (false≢true (sym is))
 
-of_accepted : (p : Start) (h : List EntrySeen) (b : BooksSeen) (n : ℕ) (t : TranslatedSeen) (o : Option ConformingSeen) → Fits p h b → o ≡ numbered_at p.acceptances b.accepted n → acceptance h n ≡ option_map (under n) o
-of_accepted p h b n t o was is = acceptance_is h p.acceptances n was.queue.numbered ∙ ap (λ l. option_map (under n) (numbered_at p.acceptances l n)) (sym was.queue.accepted_are) ∙ ap (option_map (under n)) (sym is)
-
 -- a translation of what was accepted under the number
-pub put_is : (p : Start) (h : List EntrySeen) (b : BooksSeen) (n : ℕ) (t : TranslatedSeen) (c : ConformingSeen) (told : Status) → Fits p h b → Some c ≡ numbered_at p.acceptances b.accepted n → same_source t.source c ≡ true → told ≡ status_of (b.desk t.receiver) n
+pub put_is : (p : Start) (h : List EntrySeen) (n : ℕ) (t : TranslatedSeen) (c : ConformingSeen) (s : DeskState TranslatedSeen) (told : Status) → StandsAt h t.receiver s → acceptance h n ≡ Some (under n c) → same_source t.source c ≡ true → told ≡ status_of s n
     → reply_to (journal_of p h) (Puts n t) ≡ put_reply told t
-put_is p h b n t c told was is same told_is =
-    let of : is_of t (acceptance h n) ≡ true = ap (is_of t) (of_accepted p h b n t (Some c) was is) ∙ same in
-    put_by t (is_due h n t.receiver) (is_of t (acceptance h n)) (is_kept h n t.receiver) of
-    ∙ ap (λ s. put_reply s t) (sym (told_is ∙ status_pair h n t.receiver (b.desk t.receiver) (was.desks t.receiver)))
+put_is p h n t c s told stands is same told_is =
+    put_by t (is_due h n t.receiver) (is_of t (acceptance h n)) (is_kept h n t.receiver) (ap (is_of t) is ∙ same)
+    ∙ ap (λ s. put_reply s t) (sym (told_is ∙ status_pair h n t.receiver s stands))
 
 -- a translation of something else, or under a number that nothing was accepted under
-pub put_other : (p : Start) (h : List EntrySeen) (b : BooksSeen) (n : ℕ) (t : TranslatedSeen) (o : Option ConformingSeen) → Fits p h b → o ≡ numbered_at p.acceptances b.accepted n → is_of t (option_map (under n) o) ≡ false → reply_to (journal_of p h) (Puts n t) ≡ IsStranger (Some t)
-put_other p h b n t o was is other =
-    stranger_by t (is_due h n t.receiver) (is_of t (acceptance h n)) (if is_kept h n t.receiver then IsRepeat t else IsKept) (ap (is_of t) (of_accepted p h b n t o was is) ∙ other)
+pub put_other : (j : Journal) (n : ℕ) (t : TranslatedSeen) (o : Option Acceptance) → acceptance j.entries n ≡ o → is_of t o ≡ false → reply_to j (Puts n t) ≡ IsStranger (Some t)
+put_other j n t o is other =
+    stranger_by t (is_due j.entries n t.receiver) (is_of t (acceptance j.entries n)) (if is_kept j.entries n t.receiver then IsRepeat t else IsKept) (ap (is_of t) is ∙ other)
 
 -- what is kept waited for it
 pub kept_waits : (p : Start) (h : List EntrySeen) (n : ℕ) (t : TranslatedSeen) (s : DeskState TranslatedSeen) → StandsAt h t.receiver s → reply_to (journal_of p h) (Puts n t) ≡ IsKept → (is_due h n t.receiver ≡ true) × (status_of s n ≡ Waiting)
@@ -161,9 +102,6 @@ out_next p h n r t s stands row = by (next_of s) (sym (release_is p h r s (next_
     by (Some next) e = let a : next.0 ≡ n = ap (out_number n) e in let b : next.1 ≡ t = ap (out_value t) e in λ i. Some (a i, b i)
 
 -- ---- what is accepted
-
-pub number_is : (p : Start) (h : List EntrySeen) (all : List ConformingSeen) (pairs : List Pair) (taken n : ℕ) → FitsQueue p h all pairs taken → n ≡ p.acceptances + length all → n ≡ p.acceptances + length (accepted h)
-number_is p h all pairs taken n fits is = is ∙ ap (λ k. p.acceptances + k) (ap length fits.accepted_are ∙ length-map (accepted h) (λ a. a.conforming))
 
 pub accept_is : (p : Start) (h : List EntrySeen) (b : BooksSeen) (n arrival : ℕ) (c : ConformingSeen) → Fits p h b → n ≡ p.acceptances + length (accepted h) → arrival ≡ b.arrivals + 1 → is_under c (current (journal_of p h)).number (current (journal_of p h)).plan ≡ true
     → reply_to (journal_of p h) (Arrives c) ≡ IsAccepted n arrival

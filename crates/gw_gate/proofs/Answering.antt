@@ -4,8 +4,7 @@ use Rattle.std.specs.Prelude.{nat_le, IsTrue}
 use Rattle.std.proofs.lemmas.Grind.{common_steps}
 use Rattle.std.proofs.lemmas.Option.{none-some}
 use Rattle.gw_gate.specs.declared.event.Entry.{Entry}
-use Rattle.gw_gate.specs.Parts.{PlanSeen}
-use Rattle.gw_gate.specs.Journal.{EntrySeen, Journal, with_entry, Start, from, start_after}
+use Rattle.gw_gate.specs.Journal.{EntrySeen, Journal, with_entry, Start}
 use Rattle.gw_gate.specs.Chapters.{is_pending}
 use Rattle.gw_gate.specs.Replies.{EventSeen, Looks, Arrives, Refuses, Swaps, Takes, Puts, Reissues, Releases, Cuts, ReplySeen, IsCurrent, IsPending, IsClosed, IsFull, reply_to, added, most, limited, reply, with_added, closed_by, or_next, takes_memory, Refused, noted, Noted}
 use Rattle.gw_gate.specs.Entries.{entry_seen, entries_seen}

@@ -1,20 +1,20 @@
 -- Chapters that follow one another, read as one journal.
 use Rattle.std.proofs.Common.{◌≡◌, ◌≤◌, ◌<◌, ◌+◌, ℕ, zero, suc, List, [], ◌∷◌, ◌++◌, ◌==◌, Bool, true, false, Option, None, Some, length, map, slice_get, arith, ap, sym, subst, ◌∙◌, refl, append-nil, append_assoc, length-append}
-use Rattle.std.specs.Prelude.{filter, find, cond, flat_map, nat_lt, ◌||◌}
+use Rattle.std.specs.Prelude.{filter, find, cond, ◌||◌}
 use Rattle.std.specs.List.{AllByRecursion, list_any}
 use Rattle.std.proofs.lemmas.Grind.{common_steps}
 use Rattle.std.proofs.lemmas.Option.{none-some}
 use Rattle.std.proofs.lemmas.Bool.{false≢true}
 use Rattle.std.proofs.lemmas.Bool.Decides.{nat_tests}
-use Rattle.gw_gate.specs.Parts.{MessageSeen, ConformingSeen, TranslatedSeen, delivers}
-use Rattle.gw_gate.specs.Journal.{EntrySeen, WasAccepted, WasRefused, WasSwapped, WasTaken, WasKept, WasIssued, WasOut, Start, Journal, Version, Acceptance, swapped, accepted, arrivals, due, acceptance, kept, released, current, last_of, next_number, start_after}
+use Rattle.gw_gate.specs.Parts.{MessageSeen, TranslatedSeen, delivers}
+use Rattle.gw_gate.specs.Journal.{EntrySeen, WasAccepted, WasRefused, WasSwapped, WasTaken, WasKept, WasIssued, WasOut, Start, Journal, Version, Acceptance, accepted, arrivals, due, acceptance, kept, released, current, next_number, start_after}
 use Rattle.gw_gate.specs.Replies.{most, reply_to}
 use Rattle.gw_gate.specs.Lawful.{Lawful, empty, more, IsLawful}
 use Rattle.gw_gate.specs.Headline.{CountFrom, RiseFrom, VersionsRise, Numbered, InOrder, IsTranslated}
 use Rattle.gw_gate.specs.Chapters.{awaits, some_await, is_pending, Follow, all_entries, joined}
-use Rattle.gw_gate.proofs.Journals.{either, swapped-append, accepted-append, released-append, due-append, kept-append, acceptance-append, current-append}
+use Rattle.gw_gate.proofs.Journals.{either, accepted-append, released-append, due-append, kept-append, acceptance-append, current-append}
 use Rattle.gw_gate.proofs.Numbering.{n_of, rise_among, Counted, counted, count_step}
-use Rattle.gw_gate.proofs.Releasing.{journal, Next, next, unlimited, NextAccepted, NextKept, NextOut, Sound, sound, step_case, never_falls, version_of}
+use Rattle.gw_gate.proofs.Releasing.{journal, Next, next, unlimited, Sound, sound, step_case, never_falls, version_of}
 
 -- ---- numbers
 

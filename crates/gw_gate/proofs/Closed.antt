@@ -1,16 +1,16 @@
 -- The books of an empty journal that goes on where another was closed.
-use Rattle.std.proofs.Common.{◌≡◌, ◌+◌, ◌≤◌, ◌<◌, ◌||◌, ℕ, Bool, true, false, All, List, [], ◌∷◌, Option, None, Some, length, map, refl, sym, ap, subst, ◌∙◌, arith}
+use Rattle.std.proofs.Common.{◌≡◌, ◌+◌, ◌≤◌, ◌||◌, ℕ, Bool, true, false, List, [], ◌∷◌, None, Some, length, refl, sym, ap, subst, ◌∙◌, arith}
 use Rattle.std.specs.Prelude.{nat_lt}
-use Rattle.std.proofs.lemmas.List.{length-map}
 use Rattle.std.proofs.lemmas.List.Elements.{All-nil}
 use Rattle.std.proofs.lemmas.Bool.{false≢true}
 use Rattle.std.proofs.lemmas.Bool.Decides.{nat_tests}
 use Rattle.gw_reorder.specs.State.{DeskState, SameButRoom, nothing_due}
 use Rattle.gw_reorder.specs.own.Standing.{Stands}
-use Rattle.gw_gate.specs.Parts.{PlanSeen, ConformingSeen, TranslatedSeen}
-use Rattle.gw_gate.specs.Journal.{EntrySeen, WasAccepted, WasRefused, WasSwapped, WasTaken, WasKept, WasIssued, WasOut, Start, Journal, Pair, accepted, current, end, issued, jobs, start_after}
+use Rattle.gw_gate.specs.Parts.{TranslatedSeen}
+use Rattle.gw_gate.specs.Journal.{EntrySeen, WasAccepted, WasRefused, WasSwapped, WasTaken, WasKept, WasIssued, WasOut, Start, Journal, Pair, accepted, issued, jobs, start_after}
 use Rattle.gw_gate.specs.Chapters.{is_pending, most_in_all, some_await}
-use Rattle.gw_gate.specs.own.Books.{given, BooksSeen, Fits, FitsStart, StandsAt, journal_of}
+use Rattle.gw_gate.specs.own.Books.{BooksSeen, Fits, journal_of}
+use Rattle.gw_gate.proofs.Queue.{as_many}
 use Rattle.gw_gate.proofs.Standing.{stands_same}
 
 -- there are no more acceptances than entries
@@ -25,8 +25,8 @@ accepted_few (WasIssued n r ∷ h) = omega (arith, accepted_few h)
 accepted_few (WasOut n r t ∷ h) = omega (arith, accepted_few h)
 
 -- how many acceptances the books have
-pub accepted_long : (p : Start) (h : List EntrySeen) (b : BooksSeen) → Fits p h b → length b.accepted ≡ length (accepted h)
-accepted_long p h b was = ap length was.queue.accepted_are ∙ length-map (accepted h) (λ a. a.conforming)
+pub accepted_long : (p : Start) (h : List EntrySeen) (b : BooksSeen) → Fits p h b → length b.places ≡ length (accepted h)
+accepted_long p h b was = as_many p h b.places b.queue was.queue
 
 nothing_stands : Stands (nothing_due {T = TranslatedSeen}) [] [] (λ n. None)
 nothing_stands = record {
@@ -42,15 +42,15 @@ nothing_stands = record {
 
 -- where the next journal starts, by the books of the one that was closed
 abbrev pub next_start : Start → List EntrySeen → BooksSeen → Start
-next_start p h b = record { version = b.version; plan = b.plan; acceptances = p.acceptances + length b.accepted; arrivals = b.arrivals; entries = p.entries + length h }
+next_start p h b = record { version = b.version; plan = b.plan; acceptances = p.acceptances + length b.places; arrivals = b.arrivals; entries = p.entries + length h }
 
 pub next_is : (p : Start) (h : List EntrySeen) (b : BooksSeen) → Fits p h b → next_start p h b ≡ start_after (journal_of p h)
 next_is p h b was =
-    let accepted : p.acceptances + length b.accepted ≡ p.acceptances + length (accepted h) = ap (λ k. p.acceptances + k) (accepted_long p h b was) in
+    let accepted : p.acceptances + length b.places ≡ p.acceptances + length (accepted h) = ap (λ k. p.acceptances + k) (accepted_long p h b was) in
     λ i. record { version = was.plans.version_is i; plan = was.plans.plan_is i; acceptances = accepted i; arrivals = was.arrivals.count_is i; entries = p.entries + length h }
 
 pub cut_fits : (p : Start) (h : List EntrySeen) (b : BooksSeen) (desk : ℕ → DeskState TranslatedSeen) → Fits p h b → p.entries + length h ≤ most_in_all → ((r : ℕ) → SameButRoom nothing_due (desk r))
-    → Fits (next_start p h b) [] (record b { accepted = []; issued = []; jobs = 0; desk = desk })
+    → Fits (next_start p h b) [] (record b { places = []; queue = []; desk = desk })
 cut_fits p h b desk was few same =
     let v = was.plans.few in
     let a = was.arrivals.few in
@@ -61,7 +61,7 @@ cut_fits p h b desk was few same =
       starts = record { versions = v; acceptances = omega (arith, long, less, before); arrivals = a; few = few };
       plans = record { version_is = refl; plan_is = refl; few = omega (arith, v) };
       arrivals = record { count_is = omega arith; few = omega (arith, a) };
-      queue = record { accepted_are = refl; numbered = record {}; issued_are = refl; taken_is = refl; few = omega arith };
+      queue = record { lead = refl; numbered = record {}; queue_is = refl; taken = omega arith };
       desks = λ r. stands_same nothing_due (desk r) [] [] (λ n. None) (same r) nothing_stands;
       within = omega arith;
     }
@@ -81,11 +81,11 @@ few_is p h j view free =
     few_enough (p.entries + length h) (last_false (nat_lt (jobs h) (length (issued h))) (some_await h) (nat_lt most_in_all (p.entries + length h)) (ap is_pending view ∙ free))
 
 -- the same books, as they lie in memory
-pub closed_fits : (p : Start) (h : List EntrySeen) (b : BooksSeen) (desk : ℕ → DeskState TranslatedSeen) (s : Start) (g : List EntrySeen) (all : List ConformingSeen) (pairs : List Pair) → s ≡ next_start p h b → g ≡ [] → all ≡ [] → pairs ≡ []
-    → Fits p h b → p.entries + length h ≤ most_in_all → ((r : ℕ) → SameButRoom nothing_due (desk r)) → Fits s g (record b { accepted = all; issued = pairs; jobs = 0; desk = desk })
-closed_fits p h b desk s g all pairs start none accepted issued was few same =
-    subst (λ x. Fits x g (record b { accepted = all; issued = pairs; jobs = 0; desk = desk })) (sym start)
-    (subst (λ l. Fits (next_start p h b) l (record b { accepted = all; issued = pairs; jobs = 0; desk = desk })) (sym none)
-    (subst (λ l. Fits (next_start p h b) [] (record b { accepted = l; issued = pairs; jobs = 0; desk = desk })) (sym accepted)
-    (subst (λ l. Fits (next_start p h b) [] (record b { accepted = []; issued = l; jobs = 0; desk = desk })) (sym issued)
+pub closed_fits : (p : Start) (h : List EntrySeen) (b : BooksSeen) (desk : ℕ → DeskState TranslatedSeen) (s : Start) (g : List EntrySeen) (places : List ℕ) (queue : List Pair) → s ≡ next_start p h b → g ≡ [] → places ≡ [] → queue ≡ []
+    → Fits p h b → p.entries + length h ≤ most_in_all → ((r : ℕ) → SameButRoom nothing_due (desk r)) → Fits s g (record b { places = places; queue = queue; desk = desk })
+closed_fits p h b desk s g places queue start none no_places no_pairs was few same =
+    subst (λ x. Fits x g (record b { places = places; queue = queue; desk = desk })) (sym start)
+    (subst (λ l. Fits (next_start p h b) l (record b { places = places; queue = queue; desk = desk })) (sym none)
+    (subst (λ l. Fits (next_start p h b) [] (record b { places = l; queue = queue; desk = desk })) (sym no_places)
+    (subst (λ l. Fits (next_start p h b) [] (record b { places = []; queue = l; desk = desk })) (sym no_pairs)
     (cut_fits p h b desk was few same))))

@@ -1,20 +1,18 @@
 -- Books that fit their journal.
-use Rattle.std.proofs.Common.{◌≡◌, ◌≢◌, ℕ, ◌+◌, ◌<◌, ◌≤◌, true, List, [], ◌∷◌, ◌++◌, Some, ◌⊎◌, inl, inr, length, map, refl, sym, ap, subst, ◌∙◌, arith, append-nil, length-append}
-use Rattle.std.proofs.lemmas.List.{map-append, length-map}
+use Rattle.std.proofs.Common.{◌≡◌, ◌≢◌, ℕ, ◌+◌, ◌<◌, ◌≤◌, true, List, [], ◌∷◌, ◌++◌, Some, ◌⊎◌, inl, inr, length, map, drop, refl, sym, ap, subst, ◌∙◌, arith, length-append}
 use Rattle.gw_reorder.specs.State.{DeskState, SameButRoom}
 use Rattle.gw_reorder.specs.Calls.{after_holding, next_of, after_giving}
 use Rattle.std.proofs.lemmas.Bool.{cases_eq}
 use Rattle.gw_gate.specs.Parts.{PlanSeen, ConformingSeen, TranslatedSeen}
-use Rattle.gw_gate.specs.Journal.{EntrySeen, WasAccepted, WasRefused, WasSwapped, WasTaken, WasKept, WasIssued, WasOut, Pair, pair, Acceptance, Version, swapped, accepted, arrivals, issued, jobs, due, is_due, kept, released, current, last_of, Start}
+use Rattle.gw_gate.specs.Journal.{EntrySeen, WasAccepted, WasRefused, WasSwapped, WasTaken, WasKept, WasIssued, WasOut, Pair, pair, Version, swapped, accepted, arrivals, issued, jobs, due, is_due, kept, released, current, last_of, Start}
 use Rattle.gw_gate.specs.Replies.{most}
-use Rattle.gw_gate.specs.Headline.{CountFrom}
 use Rattle.gw_gate.specs.own.Desks.{due_to}
 use Rattle.gw_gate.specs.own.Books.{given, BooksSeen, journal_of, StandsAt, FitsPlan, FitsArrivals, FitsQueue, Fits}
-use Rattle.gw_gate.proofs.Journals.{accepted-append, current-append}
-use Rattle.gw_gate.proofs.Numbering.{n_of, count_last}
+use Rattle.gw_gate.proofs.Journals.{current-append}
+use Rattle.gw_gate.proofs.Queue.{queue_more, queue_same, queue_accepted, queue_taken}
 use Rattle.gw_gate.specs.declared.event.Entry.{Entry}
 use Rattle.gw_gate.specs.Entries.{entry_seen, entries_seen}
-use Rattle.gw_gate.proofs.Entering.{entered, as_long, arrivals-append, jobs-append, issued-append}
+use Rattle.gw_gate.proofs.Entering.{entered, as_long, arrivals-append}
 use Rattle.gw_gate.proofs.Standing.{desk_same, desk_accepted, desk_kept, desk_kept_other, desk_out, desk_out_other, stands_same}
 
 -- ---- what an entry leaves as it was
@@ -37,26 +35,6 @@ arrivals_same p h e count none was = let c = was.count_is in let f = was.few in 
 arrivals_more : (p : Start) (h : List EntrySeen) (e : EntrySeen) (count : ℕ) → arrivals (e ∷ []) ≡ 1 → FitsArrivals p h count → FitsArrivals p (h ++ e ∷ []) (count + 1)
 arrivals_more p h e count one was = let c = was.count_is in let f = was.few in record { count_is = omega (arith, arrivals-append h (e ∷ [])); few = omega (arith, one_more h e) }
 
--- the pairs that an entry issues and the jobs that it takes
-queue_more : (p : Start) (h : List EntrySeen) (e : EntrySeen) (all : List ConformingSeen) (pairs more : List Pair) (taken k : ℕ) → accepted (e ∷ []) ≡ [] → issued (e ∷ []) ≡ more → jobs (e ∷ []) ≡ k → k ≤ 1 → FitsQueue p h all pairs taken
-    → FitsQueue p (h ++ e ∷ []) all (pairs ++ more) (taken + k)
-queue_more p h e all pairs more taken k none is jobs under was =
-    let a : accepted (h ++ e ∷ []) ≡ accepted h = accepted-append h (e ∷ []) ∙ ap (λ l. accepted h ++ l) none ∙ append-nil (accepted h) in
-    let t = was.taken_is in
-    record {
-      accepted_are = was.accepted_are ∙ ap (map (λ x. x.conforming)) (sym a);
-      numbered = subst (λ l. CountFrom p.acceptances (map n_of l)) (sym a) was.numbered;
-      issued_are = ap (λ l. l ++ more) was.issued_are ∙ ap (λ l. issued h ++ l) (sym is) ∙ sym (issued-append h (e ∷ []));
-      taken_is = omega (arith, jobs-append h (e ∷ []), jobs);
-      few = let f = was.few in omega (arith, one_more h e, under);
-    }
-
-queue_same : (p : Start) (h : List EntrySeen) (e : EntrySeen) (all : List ConformingSeen) (pairs : List Pair) (taken : ℕ) → accepted (e ∷ []) ≡ [] → issued (e ∷ []) ≡ [] → jobs (e ∷ []) ≡ 0 → FitsQueue p h all pairs taken
-    → FitsQueue p (h ++ e ∷ []) all pairs taken
-queue_same p h e all pairs taken none is zero was =
-    let same : taken + 0 ≡ taken = omega arith in
-    subst (λ l. FitsQueue p (h ++ e ∷ []) all l taken) (append-nil pairs) (subst (FitsQueue p (h ++ e ∷ []) all (pairs ++ [])) same (queue_more p h e all pairs [] taken 0 none is zero (omega arith) was))
-
 within_more : (h : List EntrySeen) (e : EntrySeen) → length h < most → length (h ++ e ∷ []) ≤ most
 within_more h e room = omega (arith, one_more h e)
 
@@ -76,7 +54,7 @@ fits_refused p h b arrival code room was =
       starts = was.starts;
       plans = plans_same p h e b.version b.plan refl was.plans;
       arrivals = arrivals_more p h e b.arrivals refl was.arrivals;
-      queue = queue_same p h e b.accepted b.issued b.jobs refl refl refl was.queue;
+      queue = queue_same p h e b.places b.queue refl refl refl was.queue;
       desks = λ r. desk_same h (e ∷ []) r (b.desk r) refl refl (λ n. refl) (was.desks r);
       within = within_more h e room;
     }
@@ -91,55 +69,44 @@ fits_swapped p h b v q next room was =
       starts = was.starts;
       plans = record { version_is = ap (λ x. x.number) (sym last); plan_is = ap (λ x. x.plan) (sym last); few = omega (arith, one_more h e) };
       arrivals = arrivals_same p h e b.arrivals refl was.arrivals;
-      queue = queue_same p h e b.accepted b.issued b.jobs refl refl refl was.queue;
+      queue = queue_same p h e b.places b.queue refl refl refl was.queue;
       desks = λ r. desk_same h (e ∷ []) r (b.desk r) refl refl (λ n. refl) (was.desks r);
       within = within_more h e room;
     }
 
-pub fits_taken : (p : Start) (h : List EntrySeen) (b : BooksSeen) (n r : ℕ) → length h < most → Fits p h b → Fits p (h ++ WasTaken n r ∷ []) (record b { jobs = b.jobs + 1 })
-fits_taken p h b n to room was =
+pub fits_taken : (p : Start) (h : List EntrySeen) (b : BooksSeen) (n r : ℕ) (queue : List Pair) → jobs h < length (issued h) → queue ≡ drop 1 b.queue → length h < most → Fits p h b → Fits p (h ++ WasTaken n r ∷ []) (record b { queue = queue })
+fits_taken p h b n to queue left rest room was =
     let e = WasTaken n to in
     record {
       starts = was.starts;
       plans = plans_same p h e b.version b.plan refl was.plans;
       arrivals = arrivals_same p h e b.arrivals refl was.arrivals;
-      queue = subst (λ l. FitsQueue p (h ++ e ∷ []) b.accepted l (b.jobs + 1)) (append-nil b.issued) (queue_more p h e b.accepted b.issued [] b.jobs 1 refl refl refl (omega arith) was.queue);
+      queue = subst (FitsQueue p (h ++ e ∷ []) b.places) (sym rest) (queue_taken p h n to b.places b.queue left was.queue);
       desks = λ r. desk_same h (e ∷ []) r (b.desk r) refl refl (λ n. refl) (was.desks r);
       within = within_more h e room;
     }
 
-pub fits_issued : (p : Start) (h : List EntrySeen) (b : BooksSeen) (n r : ℕ) → length h < most → Fits p h b → Fits p (h ++ WasIssued n r ∷ []) (record b { issued = b.issued ++ pair n r ∷ [] })
+pub fits_issued : (p : Start) (h : List EntrySeen) (b : BooksSeen) (n r : ℕ) → length h < most → Fits p h b → Fits p (h ++ WasIssued n r ∷ []) (record b { queue = b.queue ++ pair n r ∷ [] })
 fits_issued p h b n to room was =
     let e = WasIssued n to in
-    let same : b.jobs + 0 ≡ b.jobs = omega arith in
     record {
       starts = was.starts;
       plans = plans_same p h e b.version b.plan refl was.plans;
       arrivals = arrivals_same p h e b.arrivals refl was.arrivals;
-      queue = subst (FitsQueue p (h ++ e ∷ []) b.accepted (b.issued ++ pair n to ∷ [])) same (queue_more p h e b.accepted b.issued (pair n to ∷ []) b.jobs 0 refl refl refl (omega arith) was.queue);
+      queue = queue_more p h e b.places b.queue (pair n to ∷ []) refl refl refl was.queue;
       desks = λ r. desk_same h (e ∷ []) r (b.desk r) refl refl (λ n. refl) (was.desks r);
       within = within_more h e room;
     }
 
 pub fits_accepted : (p : Start) (h : List EntrySeen) (b : BooksSeen) (n arrival : ℕ) (c : ConformingSeen) (desk : ℕ → DeskState TranslatedSeen) → n ≡ p.acceptances + length (accepted h) → ((r : ℕ) → desk r ≡ due_to c n r (b.desk r)) → length h < most
-    → Fits p h b → Fits p (h ++ WasAccepted n arrival c ∷ []) (record b { arrivals = b.arrivals + 1; accepted = b.accepted ++ c ∷ []; issued = b.issued ++ map (pair n) c.receivers; desk = desk })
+    → Fits p h b → Fits p (h ++ WasAccepted n arrival c ∷ []) (record b { arrivals = b.arrivals + 1; places = b.places ++ length h ∷ []; queue = b.queue ++ map (pair n) c.receivers; desk = desk })
 fits_accepted p h b n arrival c desk is due room was =
     let e = WasAccepted n arrival c in
-    let new : Acceptance = record { n = n; conforming = c } in
-    let a : accepted (h ++ e ∷ []) ≡ accepted h ++ new ∷ [] = accepted-append h (e ∷ []) in
-    let m : map n_of (accepted (h ++ e ∷ [])) ≡ map n_of (accepted h) ++ n ∷ [] = ap (map n_of) a ∙ map-append n_of (accepted h) (new ∷ []) in
-    let t = was.queue.taken_is in
     record {
       starts = was.starts;
       plans = plans_same p h e b.version b.plan refl was.plans;
       arrivals = arrivals_more p h e b.arrivals refl was.arrivals;
-      queue = record {
-        accepted_are = ap (λ l. l ++ c ∷ []) was.queue.accepted_are ∙ sym (ap (map (λ x. x.conforming)) a ∙ map-append (λ x. x.conforming) (accepted h) (new ∷ []));
-        numbered = subst (CountFrom p.acceptances) (sym m) (count_last p.acceptances (map n_of (accepted h)) n (let l = length-map (accepted h) n_of in omega (arith, is, l)) was.queue.numbered);
-        issued_are = ap (λ l. l ++ map (pair n) c.receivers) was.queue.issued_are ∙ ap (λ l. issued h ++ l) (sym (append-nil (map (pair n) c.receivers))) ∙ sym (issued-append h (e ∷ []));
-        taken_is = omega (arith, jobs-append h (e ∷ []));
-        few = let f = was.queue.few in omega (arith, one_more h e);
-      };
+      queue = queue_accepted p h n arrival c b.places b.queue is was.queue;
       desks = λ r. desk_accepted h p.acceptances n arrival r c (b.desk r) (desk r) was.queue.numbered is (due r) (was.desks r);
       within = within_more h e room;
     }
@@ -152,7 +119,7 @@ fits_kept p h b m r t desk to due this others room was =
       starts = was.starts;
       plans = plans_same p h e b.version b.plan refl was.plans;
       arrivals = arrivals_same p h e b.arrivals refl was.arrivals;
-      queue = queue_same p h e b.accepted b.issued b.jobs refl refl refl was.queue;
+      queue = queue_same p h e b.places b.queue refl refl refl was.queue;
       desks = λ q. by q (cases_eq q r);
       within = within_more h e room;
     }
@@ -169,7 +136,7 @@ fits_out p h b n r t desk next this others room was =
       starts = was.starts;
       plans = plans_same p h e b.version b.plan refl was.plans;
       arrivals = arrivals_same p h e b.arrivals refl was.arrivals;
-      queue = queue_same p h e b.accepted b.issued b.jobs refl refl refl was.queue;
+      queue = queue_same p h e b.places b.queue refl refl refl was.queue;
       desks = λ q. by q (cases_eq q r);
       within = within_more h e room;
     }

@@ -1,7 +1,7 @@
 -- What a slice lends at a place.
-use Rattle.std.proofs.Common.{◌≡◌, ℕ, zero, suc, ◌<◌, List, [], ◌∷◌, length, get_or, Bor, Option, None, Some, refl, sym, ap, arith}
+use Rattle.std.proofs.Common.{◌≡◌, ℕ, zero, suc, ◌<◌, List, [], ◌∷◌, length, get_or, Bor, Option, None, Some, sym, ap, arith}
 use Rattle.std.specs.Prelude.{slice_get}
-use Rattle.std.specs.Option.{option_copied, option_map}
+use Rattle.std.specs.Option.{option_copied}
 use Rattle.std.specs.Slice.{IsItemAt}
 use Rattle.std.proofs.lemmas.Option.{slice_get_past}
 
@@ -13,8 +13,3 @@ inside (y ∷ xs) (suc i) x low e = inside xs i x (omega arith) e
 pub lent_at : {X : Type 0} (xs : List X) (i : ℕ) (lent : Option (Bor X)) → IsItemAt xs i lent → option_copied lent ≡ slice_get xs i
 lent_at xs i None is = sym (slice_get_past xs i is.3)
 lent_at xs i (Some x) is = sym (inside xs i x.now is.3.0 is.1)
-
--- the same, seen by a view
-pub lent_seen : {A B : Type 0} (view : A → B) (lent : Option (Bor A)) → option_map (λ (x : Bor A). view x.now) lent ≡ option_map view (option_copied lent)
-lent_seen view None = refl
-lent_seen view (Some x) = refl

@@ -57,6 +57,10 @@ conforming_at c = conforming_seen (arc_value c)
 abbrev pub pair_seen : books.Pair → Pair
 pair_seen p = pair p.n p.receiver
 
+-- one that is borrowed, if there is one
+abbrev pub conforming_in : Option (Bor (Arc Conforming Global)) → Option ConformingSeen
+conforming_in lent = option_map (λ c. conforming_at c.now) lent
+
 -- a pair that is borrowed with what was accepted under its number
 abbrev pub job_seen : books.Pair × Bor (Arc Conforming Global) → Pair × ConformingSeen
 job_seen job = (pair_seen job.0, conforming_at job.1.now)

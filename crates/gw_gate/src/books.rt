@@ -2,9 +2,10 @@
 ghost use Rattle.std.specs.Prelude.{◌≡◌, ◌+◌, ◌++◌, ◌≤◌, OnOk, vec_len, vec_capacity, ◌<◌, ◌≢◌, ℕ, Bool, true, false, nat_lt, length, map, slice_get, Ok, Err, Some, None, []};
 ghost use Rattle.std.specs.Option.{option_map};
 ghost use Rattle.std.specs.Arc.{arc_value};
+ghost use Rattle.std.specs.VecDeque.{deque_len, deque_capacity};
 ghost use Rattle.gw_gate.specs.Parts.{is_under};
 ghost use Rattle.gw_gate.specs.Seen.{plan_seen, conforming_seen, translated_seen};
-ghost use Rattle.gw_gate.specs.Journal.{Journal, current, end, issued, jobs, opening, pair};
+ghost use Rattle.gw_gate.specs.Journal.{Journal, acceptance, current, end, issued, jobs, opening, pair};
 ghost use Rattle.gw_gate.specs.Chapters.{is_pending, most_in_all, some_await};
 ghost use Rattle.gw_gate.specs.own.Cutting.{Closes};
 ghost use Rattle.gw_gate.specs.Headline.{IsTranslated};
@@ -12,9 +13,9 @@ ghost use Rattle.gw_gate.specs.Lawful.{IsLawful};
 ghost use Rattle.gw_gate.specs.Meaning.{Makes};
 ghost use Rattle.gw_gate.specs.own.Desks.{AreRoomier, HasRoomFor};
 ghost use Rattle.gw_gate.specs.Replies.{Looks, Arrives, Refuses, Swaps, Takes, Puts, Reissues, Releases, Cuts, IsKept, IsIssued, Steps, StepsNoted, most, reply_to};
-ghost use Rattle.gw_gate.specs.own.Books.{issue_reply, job_reply, next_job, numbered_at, put_reply, release_reply};
+ghost use Rattle.gw_gate.specs.own.Books.{issue_reply, job_reply, put_reply, release_reply, under};
 ghost use Rattle.gw_gate.specs.Entries.{entries_seen, start_seen};
-ghost use Rattle.gw_gate.specs.Values.{event_seen, answer_seen, conforming_at, job_seen, noted_seen, pair_seen};
+ghost use Rattle.gw_gate.specs.Values.{event_seen, answer_seen, conforming_in, job_seen, noted_seen, pair_seen};
 
 use crate::chapter::{Chapter, Start};
 use crate::copies::prepared;
@@ -26,6 +27,7 @@ use crate::plans::{are_alike, is_of, is_under, receiver_at, receiver_count};
 use gw_plan::{Conforming, Plan, Translated};
 use gw_reorder::{Desk, Status};
 use std::alloc::{AllocError, Global};
+use std::collections::VecDeque;
 use std::marker::Model;
 use std::mem;
 use std::sync::Arc;
@@ -46,62 +48,34 @@ pub(crate) struct Pair {
 // A reply, with the note of its entry; or the event, after an allocation failure.
 pub(crate) type Answer = Result<(Reply, Option<Entry>), Event>;
 
-// What was accepted under this number.
-fn accepted_at(accepted: &[Arc<Conforming>], first: u64, n: u64) -> Option<&Arc<Conforming>>
-    ensures { option_map (λ c. conforming_at c.now) result ≡ numbered_at first (map conforming_at accepted.now) n }
-{
-    if n < first {
-        return None;
-    }
-    accepted.get((n - first) as usize)
-}
-
-// The next pair, with what was accepted under its number.
-fn next_job<'a>(
-    accepted: &'a [Arc<Conforming>],
-    first: u64,
-    issued: &[Pair],
-    jobs: usize,
-) -> Option<(Pair, &'a Arc<Conforming>)>
-    ensures { option_map job_seen result ≡ next_job first (map conforming_at accepted.now) (map pair_seen issued.now) jobs }
-{
-    let Some(pair) = issued.get(jobs) else {
-        return None;
-    };
-    let Some(conforming) = accepted_at(accepted, first, pair.n) else {
-        return None;
-    };
-    Some((*pair, conforming))
-}
-
-// Room for an acceptance: the message, its pairs, and its number at each desk to which it goes.
+// Room for an acceptance: its place, its pairs, and its number at each desk to which it goes.
 fn make_rooms(
-    accepted: &mut Vec<Arc<Conforming>>,
-    issued: &mut Vec<Pair>,
+    places: &mut Vec<usize>,
+    queue: &mut VecDeque<Pair>,
     desks: &mut Vec<Desk<Arc<Translated>>>,
     alloc: Global,
     conforming: &Conforming,
 ) -> Result<(), AllocError>
-    ensures accepted { accepted.new.items ≡ accepted.old.items }
-    ensures issued { issued.new.items ≡ issued.old.items }
+    ensures places { places.new.items ≡ places.old.items }
+    ensures queue { queue.new.items ≡ queue.old.items }
     ensures desks { AreRoomier desks.old.items desks.new.items }
-    ensures message { OnOk result (vec_len accepted.new < vec_capacity accepted.new) }
-    ensures pairs { OnOk result (vec_len issued.new + length (conforming_seen conforming.now).receivers ≤ vec_capacity issued.new) }
+    ensures place { OnOk result (vec_len places.new < vec_capacity places.new) }
+    ensures pairs { OnOk result (deque_len queue.new + length (conforming_seen conforming.now).receivers ≤ deque_capacity queue.new) }
     ensures numbers { OnOk result (HasRoomFor desks.new.items (conforming_seen conforming.now)) }
 {
-    accepted.reserve(1)?;
-    issued.reserve(receiver_count(conforming))?;
+    places.reserve(1)?;
+    queue.reserve(receiver_count(conforming))?;
     make_room(desks, alloc, conforming)
 }
 
 // A pair for each receiver of the message's route.
-fn issue_all(issued: &mut Vec<Pair>, conforming: &Conforming, n: u64)
-    requires { vec_len issued.old + length (conforming_seen conforming.now).receivers ≤ vec_capacity issued.old }
-    ensures { map pair_seen issued.new.items ≡ map pair_seen issued.old.items ++ map (pair n) (conforming_seen conforming.now).receivers }
+fn issue_all(queue: &mut VecDeque<Pair>, conforming: &Conforming, n: u64)
+    requires { deque_len queue.old + length (conforming_seen conforming.now).receivers ≤ deque_capacity queue.old }
+    ensures { map pair_seen queue.new.items ≡ map pair_seen queue.old.items ++ map (pair n) (conforming_seen conforming.now).receivers }
 {
     for place in 0..receiver_count(conforming) {
         let receiver = receiver_at(conforming, place);
-        issued.push_reserved(Pair { n, receiver });
+        queue.push_back_reserved(Pair { n, receiver });
     }
 }
 
@@ -113,9 +87,8 @@ pub(crate) struct Books {
     version: u64,
     plan: Arc<Plan>,
     arrivals: u64,
-    accepted: Vec<Arc<Conforming>>,
-    issued: Vec<Pair>,
-    jobs: usize,
+    places: Vec<usize>,
+    queue: VecDeque<Pair>,
     desks: Vec<Desk<Arc<Translated>>>,
 }
 
@@ -123,7 +96,7 @@ impl Model for Books {
     ghost use Rattle.std.specs.Prelude.{map};
     ghost use Rattle.std.specs.Arc.{arc_value};
     ghost use Rattle.gw_gate.specs.Journal.{Journal};
-    ghost use Rattle.gw_gate.specs.Seen.{plan_seen, conforming_seen};
+    ghost use Rattle.gw_gate.specs.Seen.{plan_seen};
     ghost use Rattle.gw_gate.specs.Entries.{entries_seen, start_seen};
     ghost use Rattle.gw_gate.specs.Values.{pair_seen};
     ghost use Rattle.gw_gate.specs.own.Desks.{desk_at};
@@ -137,9 +110,8 @@ impl Model for Books {
       version = b.version;
       plan = plan_seen (arc_value b.plan);
       arrivals = b.arrivals;
-      accepted = map (λ c. conforming_seen (arc_value c)) b.accepted.items;
-      issued = map pair_seen b.issued.items;
-      jobs = b.jobs;
+      places = b.places.items;
+      queue = map pair_seen b.queue.items;
       desk = desk_at b.desks.items;
     }) };
 }
@@ -163,9 +135,8 @@ impl Books {
             version: 0,
             plan,
             arrivals: 0,
-            accepted: Vec::new(alloc),
-            issued: Vec::new(alloc),
-            jobs: 0,
+            places: Vec::new(alloc),
+            queue: VecDeque::new(alloc),
             desks: Vec::new(alloc),
         }
     }
@@ -249,16 +220,33 @@ impl Books {
         Ok((Reply::Swapped { version }, note))
     }
 
+    // What was accepted under this number: by the entry to which its place leads.
+    fn accepted(&self, n: u64) -> Option<&Arc<Conforming>>
+        ensures { acceptance self.now.entries n ≡ option_map (under n) (conforming_in result) }
+    {
+        if n < self.start.acceptances {
+            return None;
+        }
+        let Some(place) = self.places.get((n - self.start.acceptances) as usize) else {
+            return None;
+        };
+        let Some(entry) = self.journal.get(*place) else {
+            return None;
+        };
+        entry.accepted()
+    }
+
     // The next pair, with what was accepted under its number.
     fn next(&self) -> Option<(Pair, &Arc<Conforming>)>
         ensures { reply_to self.now Takes ≡ job_reply (option_map job_seen result) }
     {
-        next_job(
-            &self.accepted,
-            self.start.acceptances,
-            &self.issued,
-            self.jobs,
-        )
+        let Some(pair) = self.queue.front() else {
+            return None;
+        };
+        let Some(conforming) = self.accepted(pair.n) else {
+            return None;
+        };
+        Some((*pair, conforming))
     }
 
     // The next pair is taken.
@@ -279,7 +267,7 @@ impl Books {
         let Ok(note) = prepared(&mut self.journal, takes, &entry) else {
             return Err(Event::Take);
         };
-        self.jobs += 1;
+        self.queue.pop_front();
         self.journal.push_reserved(entry);
         let reply = Reply::Job {
             n,
@@ -294,7 +282,7 @@ impl Books {
         ensures { reply_to self.now (Puts n (translated_seen translated.now)) ≡ put_reply result (translated_seen translated.now) }
     {
         let receiver = translated.receiver();
-        let Some(conforming) = accepted_at(&self.accepted, self.start.acceptances, n) else {
+        let Some(conforming) = self.accepted(n) else {
             return Status::Stranger;
         };
         if !is_of(translated, conforming) {
@@ -364,14 +352,14 @@ impl Books {
         if self.journal.len() == MOST {
             return Ok((Reply::Full(Event::Reissue { n, receiver }), None));
         }
-        if self.issued.reserve(1).is_err() {
+        if self.queue.reserve(1).is_err() {
             return Err(Event::Reissue { n, receiver });
         }
         let entry = Entry::Issued { n, receiver };
         let Ok(note) = prepared(&mut self.journal, takes, &entry) else {
             return Err(Event::Reissue { n, receiver });
         };
-        self.issued.push_reserved(Pair { n, receiver });
+        self.queue.push_back_reserved(Pair { n, receiver });
         self.journal.push_reserved(entry);
         Ok((Reply::Issued, note))
     }
@@ -435,13 +423,14 @@ impl Books {
         requires { is_under (conforming_seen (arc_value conforming)) (current self.old).number (current self.old).plan ≡ true }
         ensures { StepsNoted takes self.old (Arrives (conforming_seen (arc_value conforming))) (noted_seen result) self.new }
     {
-        if self.journal.len() == MOST {
+        let place = self.journal.len();
+        if place == MOST {
             return Ok((Reply::Full(Event::Arrive(conforming)), None));
         }
         let Ok(copy) = Arc::try_clone(&conforming) else {
             return Err(Event::Arrive(conforming));
         };
-        let n = self.start.acceptances + self.accepted.len() as u64;
+        let n = self.start.acceptances + self.places.len() as u64;
         let arrival = self.arrivals + 1;
         let entry = Entry::Accepted {
             n,
@@ -452,8 +441,8 @@ impl Books {
             return Err(Event::Arrive(conforming));
         };
         let grown = make_rooms(
-            &mut self.accepted,
-            &mut self.issued,
+            &mut self.places,
+            &mut self.queue,
             &mut self.desks,
             self.alloc,
             &conforming,
@@ -461,10 +450,10 @@ impl Books {
         if grown.is_err() {
             return Err(Event::Arrive(conforming));
         }
-        issue_all(&mut self.issued, &conforming, n);
+        issue_all(&mut self.queue, &conforming, n);
         make_due(&mut self.desks, &conforming, n);
         self.arrivals = arrival;
-        self.accepted.push_reserved(conforming);
+        self.places.push_reserved(place);
         self.journal.push_reserved(entry);
         Ok((Reply::Accepted { n, arrival }, note))
     }
@@ -473,7 +462,7 @@ impl Books {
     fn is_left(&self) -> bool
         ensures { result ≡ nat_lt (jobs self.now.entries) (length (issued self.now.entries)) }
     {
-        self.jobs < self.issued.len()
+        !self.queue.is_empty()
     }
 
     // Whether something that is due wasn't released.
@@ -509,13 +498,12 @@ impl Books {
         let next = Start {
             version: self.version,
             plan,
-            acceptances: self.start.acceptances + self.accepted.len() as u64,
+            acceptances: self.start.acceptances + self.places.len() as u64,
             arrivals: self.arrivals,
             entries,
         };
-        self.accepted.clear();
-        self.issued.clear();
-        self.jobs = 0;
+        self.places.clear();
+        self.queue.clear();
         restart_all(&mut self.desks);
         let start = mem::replace(&mut self.start, next);
         let entries = mem::replace(&mut self.journal, Vec::new(self.alloc));

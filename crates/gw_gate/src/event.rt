@@ -1,4 +1,9 @@
 //! What comes to a gate, what it replies, and what it enters in its journal.
+ghost use Rattle.std.specs.Prelude.{◌≡◌};
+ghost use Rattle.gw_gate.specs.Entries.{entry_seen};
+ghost use Rattle.gw_gate.specs.Values.{conforming_in};
+ghost use Rattle.gw_gate.specs.own.Books.{accepted_by};
+
 use crate::chapter::Chapter;
 use gw_plan::{Conforming, Plan, Translated};
 use std::mem::size_of;
@@ -157,6 +162,18 @@ impl Drop for Entry {
                 receiver: _,
                 translated: _,
             } => {}
+        }
+    }
+}
+
+impl Entry {
+    // What this entry accepts.
+    pub(crate) fn accepted(&self) -> Option<&Arc<Conforming>>
+        ensures { conforming_in result ≡ accepted_by (entry_seen self.now) }
+    {
+        match self {
+            Entry::Accepted { conforming, .. } => Some(conforming),
+            _ => None,
         }
     }
 }

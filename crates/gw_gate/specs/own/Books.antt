@@ -1,23 +1,22 @@
 -- What the books of a gate are of its journal.
-use Rattle.std.specs.Prelude.{◌≡◌, ℕ, ◌+◌, ◌-◌, ◌≤◌, nat_lt, if◌then◌else◌, List, map, length, slice_get, Option, None, Some, option_map}
+use Rattle.std.specs.Prelude.{◌≡◌, ℕ, ◌+◌, ◌≤◌, List, map, drop, length, slice_get, Option, None, Some}
 use Rattle.gw_reorder.specs.State.{DeskState}
 use Rattle.gw_reorder.specs.declared.desk.Status.{Status}
 use Rattle.gw_reorder.specs.declared.desk.Status.TheVariants.{Waiting, Repeat, Stranger}
 use Rattle.gw_reorder.specs.own.Standing.{Stands}
 use Rattle.gw_gate.specs.Parts.{PlanSeen, ConformingSeen, TranslatedSeen}
-use Rattle.gw_gate.specs.Journal.{EntrySeen, Start, Journal, Pair, Release, current, accepted, arrivals, due, issued, jobs, kept, released}
+use Rattle.gw_gate.specs.Journal.{EntrySeen, WasAccepted, Start, Journal, Acceptance, Pair, Release, current, accepted, arrivals, due, issued, jobs, kept, released}
 use Rattle.gw_gate.specs.Replies.{ReplySeen, IsJob, IsIdle, IsKept, IsRepeat, IsStranger, IsIssued, IsDone, IsOut, IsNothing, most}
 use Rattle.gw_gate.specs.Chapters.{most_in_all}
 use Rattle.gw_gate.specs.Headline.{CountFrom}
 
--- the version in force with its plan, the number of arrivals, what was accepted in order, the pairs to be worked on in order, how many of them were taken, and the desks
+-- the version in force with its plan, the number of arrivals, the acceptances by the places of their entries, the pairs not yet taken, and the desks
 pub record BooksSeen : Type 0 where
   pub version : ℕ
   pub plan : PlanSeen
   pub arrivals : ℕ
-  pub accepted : List ConformingSeen
-  pub issued : List Pair
-  pub jobs : ℕ
+  pub places : List ℕ
+  pub queue : List Pair
   pub desk : ℕ → DeskState TranslatedSeen
 
 abbrev pub journal_of : Start → List EntrySeen → Journal
@@ -49,27 +48,31 @@ pub record FitsArrivals (start : Start) (h : List EntrySeen) (count : ℕ) : Typ
   pub count_is : count ≡ start.arrivals + arrivals h
   pub few : count ≤ start.entries + length h
 
--- what was accepted, under numbers that go on from the start, and the pairs to be worked on
-pub record FitsQueue (start : Start) (h : List EntrySeen) (all : List ConformingSeen) (pairs : List Pair) (taken : ℕ) : Type 0 where
-  pub accepted_are : all ≡ map (λ a. a.conforming) (accepted h)
+-- what an entry accepts
+abbrev pub accepted_by : EntrySeen → Option ConformingSeen
+accepted_by (WasAccepted n arrival c) = Some c
+accepted_by e = None
+
+-- what the entry at a place accepts
+abbrev pub accepted_in : Option EntrySeen → Option ConformingSeen
+accepted_in None = None
+accepted_in (Some e) = accepted_by e
+
+abbrev pub accepted_at : List EntrySeen → ℕ → Option ConformingSeen
+accepted_at h place = accepted_in (slice_get h place)
+
+-- the places lead to what was accepted, under numbers that go on from the start; and the queue has the pairs not yet taken
+pub record FitsQueue (start : Start) (h : List EntrySeen) (places : List ℕ) (queue : List Pair) : Type 0 where
+  pub lead : map (accepted_at h) places ≡ map (λ a. Some a.conforming) (accepted h)
   pub numbered : CountFrom start.acceptances (map (λ a. a.n) (accepted h))
-  pub issued_are : pairs ≡ issued h
-  pub taken_is : taken ≡ jobs h
-  pub few : taken ≤ length h
+  pub queue_is : queue ≡ drop (jobs h) (issued h)
+  pub taken : jobs h ≤ length (issued h)
 
--- what was accepted under a number, where the first has this one
-abbrev pub numbered_at : ℕ → List ConformingSeen → ℕ → Option ConformingSeen
-numbered_at first all n = if nat_lt n first then None else slice_get all (n - first)
+-- a message under the number of its acceptance
+abbrev pub under : ℕ → ConformingSeen → Acceptance
+under n c = record { n = n; conforming = c }
 
--- the next pair to be worked on, with what was accepted under its number
-abbrev pub job_by : ℕ → List ConformingSeen → Option Pair → Option (Pair × ConformingSeen)
-job_by first all None = None
-job_by first all (Some next) = option_map (λ c. (next, c)) (numbered_at first all next.n)
-
-abbrev pub next_job : ℕ → List ConformingSeen → List Pair → ℕ → Option (Pair × ConformingSeen)
-next_job first all pairs taken = job_by first all (slice_get pairs taken)
-
--- the reply that gives it
+-- the reply that gives a pair with what was accepted under its number
 abbrev pub job_reply : Option (Pair × ConformingSeen) → ReplySeen
 job_reply None = IsIdle
 job_reply (Some job) = IsJob job.0.n job.0.receiver job.1
@@ -96,6 +99,6 @@ pub record Fits (start : Start) (h : List EntrySeen) (b : BooksSeen) : Type 0 wh
   pub starts : FitsStart start
   pub plans : FitsPlan start h b.version b.plan
   pub arrivals : FitsArrivals start h b.arrivals
-  pub queue : FitsQueue start h b.accepted b.issued b.jobs
+  pub queue : FitsQueue start h b.places b.queue
   pub desks : (r : ℕ) → StandsAt h r (b.desk r)
   pub within : length h ≤ most

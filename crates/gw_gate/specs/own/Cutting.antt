@@ -1,5 +1,5 @@
 -- What closing a journal leaves.
-use Rattle.std.specs.Prelude.{◌≡◌, ℕ, true, false, List, IsTrue, Option, None, Some, Result, MatchResult, option_map}
+use Rattle.std.specs.Prelude.{◌≡◌, true, false, Option, None, Some, Result, MatchResult, option_map}
 use Rattle.std.specs.declared.alloc.Global.{Global}
 use Rattle.std.specs.declared.vec.Vec.{Vec}
 use Rattle.gw_gate.specs.declared.chapter.Start as chapter

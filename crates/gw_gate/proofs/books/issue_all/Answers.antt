@@ -8,7 +8,7 @@ use Rattle.gw_gate.proofs.books.issue_all.Goals as goal
 
 pub loop-place-preserved : goal.loop-place-preserved
 loop-place-preserved c =
-    let old = map pair_seen c.args.issued.now.items in
+    let old = map pair_seen c.args.queue.now.items in
     let to = (conforming_seen c.args.conforming.now).receivers in
     let k = c.loop-place.place in
     let r = c.receiver_at-receiver.result in
@@ -16,8 +16,8 @@ loop-place-preserved c =
     let l = next.0 in
     record {
       pairs =
-          ap (map pair_seen) c.push_reserved.ensures.items ∙ map-append pair_seen c.loop-place.issued.items _ ∙ ap (λ l. l ++ pair c.args.n r ∷ []) c.loop-place.invariant.pairs
+          ap (map pair_seen) c.push_back_reserved.ensures.items ∙ map-append pair_seen c.loop-place.queue.items _ ∙ ap (λ l. l ++ pair c.args.n r ∷ []) c.loop-place.invariant.pairs
           ∙ append_assoc old (map (pair c.args.n) (take k to)) (pair c.args.n r ∷ [])
           ∙ ap (λ l. old ++ l) (sym (ap (map (pair c.args.n)) next.1 ∙ map-append (pair c.args.n) (take k to) (r ∷ [])));
-      room = omega (arith, c.push_reserved.ensures.len, c.push_reserved.ensures.capacity, c.loop-place.invariant.room);
+      room = omega (arith, c.push_back_reserved.ensures.len, c.push_back_reserved.ensures.capacity, c.loop-place.invariant.room);
     }

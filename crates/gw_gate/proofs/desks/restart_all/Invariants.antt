@@ -1,4 +1,4 @@
-use Rattle.std.proofs.Common.{◌≡◌, ℕ, ◌<◌, ◌≤◌, length}
+use Rattle.std.proofs.Common.{◌≡◌, ℕ, ◌<◌, length}
 use Rattle.gw_reorder.specs.State.{SameButRoom, nothing_due}
 use Rattle.gw_gate.specs.own.Desks.{desk_at}
 use Rattle.gw_gate.proofs.desks.restart_all.Given as goal

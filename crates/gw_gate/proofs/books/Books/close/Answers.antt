@@ -1,11 +1,8 @@
-use Rattle.std.proofs.Common.{◌≡◌, ◌+◌, List, [], length, map, refl, sym, ap, ◌∙◌, Vec}
-use Rattle.std.proofs.lemmas.List.{length-map}
+use Rattle.std.proofs.Common.{◌≡◌, ◌+◌, [], length, map, sym, ap, ◌∙◌, Vec}
 use Rattle.std.specs.Arc.{arc_value}
 use Rattle.std.specs.declared.alloc.Global.{Global}
-use Rattle.std.specs.declared.sync.Arc.{Arc}
 use Rattle.gw_gate.specs.declared.event.Entry.{Entry}
-use Rattle.gw_gate.specs.Parts.{ConformingSeen}
-use Rattle.gw_gate.specs.Seen.{Conforming, plan_seen, conforming_seen}
+use Rattle.gw_gate.specs.Seen.{plan_seen}
 use Rattle.gw_gate.specs.Journal.{from, start_after}
 use Rattle.gw_gate.specs.Entries.{entries_seen, start_seen}
 use Rattle.gw_gate.specs.Values.{pair_seen}
@@ -14,20 +11,17 @@ use Rattle.gw_gate.specs.own.Books.{BooksSeen, journal_of}
 use Rattle.gw_gate.proofs.Closed.{closed_fits, few_is, next_is, next_start}
 use Rattle.gw_gate.proofs.books.Books.close.Goals as goal
 
-abbrev seen : Arc Conforming Global → ConformingSeen
-seen a = conforming_seen (arc_value a)
-
 -- the books before
 abbrev before : goal.After-replace-entries → BooksSeen
 before c =
     let s = c.self.inside in
-    record { version = s.version; plan = plan_seen (arc_value s.plan); arrivals = s.arrivals; accepted = map seen s.accepted.items; issued = map pair_seen s.issued.items; jobs = s.jobs; desk = desk_at s.desks.items }
+    record { version = s.version; plan = plan_seen (arc_value s.plan); arrivals = s.arrivals; places = s.places.items; queue = map pair_seen s.queue.items; desk = desk_at s.desks.items }
 
 start_is : (c : goal.After-replace-entries) → start_seen c.replace-start.new.dest ≡ next_start (start_seen c.self.inside.start) (entries_seen c.self.inside.journal.items) (before c)
 start_is c =
     let s = c.self.inside in
     let plan : plan_seen (arc_value c.in_ok-plan.plan) ≡ plan_seen (arc_value s.plan) = ap plan_seen c.in_ok-plan.ensures in
-    let long : s.start.acceptances + c.len.result ≡ s.start.acceptances + length (map seen s.accepted.items) = ap (λ k. s.start.acceptances + k) (c.len.ensures ∙ s.accepted.ok.0 ∙ sym (length-map s.accepted.items seen)) in
+    let long : s.start.acceptances + c.len.result ≡ s.start.acceptances + length s.places.items = ap (λ k. s.start.acceptances + k) (c.len.ensures ∙ s.places.ok.0) in
     let end : c.end-entries.result ≡ s.start.entries + length (entries_seen s.journal.items) = c.end-entries.ensures.value ∙ ap (λ j. j.start.entries + length j.entries) (sym c.self.view_is) in
     ap start_seen c.replace-start.ensures.after ∙ (λ i. record { version = s.version; plan = plan i; acceptances = long i; arrivals = s.arrivals; entries = end i })
 
@@ -38,7 +32,7 @@ pub invariant_of-self : goal.invariant_of-self
 invariant_of-self c =
     let s = c.self.inside in
     closed_fits (start_seen s.start) (entries_seen s.journal.items) (before c) (desk_at c.restart_all.new.desks.items) (start_seen c.replace-start.new.dest) (entries_seen c.replace-entries.new.dest.items)
-    (map seen c.clear.new.self.items) (map pair_seen c.clear-2.new.self.items) (start_is c) (none_left c) (ap (map seen) c.clear.ensures.items) (ap (map pair_seen) c.clear-2.ensures.items) c.self.invariant
+    c.clear.new.self.items (map pair_seen c.clear-2.new.self.items) (start_is c) (none_left c) c.clear.ensures.items (ap (map pair_seen) c.clear-2.ensures.items) c.self.invariant
     (few_is (start_seen s.start) (entries_seen s.journal.items) c.args.self.now c.self.view_is (sym c.is_pending.ensures ∙ c.if-is_pending.false)) c.restart_all.ensures
 
 pub returns : goal.returns

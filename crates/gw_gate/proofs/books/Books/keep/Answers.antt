@@ -2,7 +2,7 @@ use Rattle.std.proofs.Common.{◌≡◌, arith, ap, sym, ◌∙◌, refl, Some}
 use Rattle.std.specs.Arc.{arc_value}
 use Rattle.gw_reorder.specs.Calls.{status_of}
 use Rattle.gw_gate.specs.declared.event.Entry as entry
-use Rattle.gw_gate.specs.Seen.{plan_seen, translated_seen}
+use Rattle.gw_gate.specs.Seen.{translated_seen}
 use Rattle.gw_gate.specs.Replies.{Puts, reply_to, IsKept}
 use Rattle.gw_gate.specs.Journal.{is_due, WasKept}
 use Rattle.gw_gate.specs.Entries.{entries_seen, start_seen}

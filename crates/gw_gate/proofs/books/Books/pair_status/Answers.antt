@@ -1,7 +1,5 @@
 use Rattle.std.proofs.Common.{ap, sym, ◌∙◌}
-use Rattle.std.specs.Arc.{arc_value}
 use Rattle.gw_reorder.specs.Calls.{status_of}
-use Rattle.gw_gate.specs.Seen.{plan_seen}
 use Rattle.gw_gate.specs.Entries.{entries_seen, start_seen}
 use Rattle.gw_gate.specs.Replies.{Reissues, reply_to}
 use Rattle.gw_gate.specs.own.Desks.{desk_at}

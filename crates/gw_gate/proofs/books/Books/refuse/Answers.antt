@@ -1,7 +1,5 @@
 use Rattle.std.proofs.Common.{◌+◌, ◌∙◌, arith, ap, sym, refl}
-use Rattle.std.specs.Arc.{arc_value}
 use Rattle.gw_gate.specs.declared.event.Entry as entry
-use Rattle.gw_gate.specs.Seen.{plan_seen}
 use Rattle.gw_gate.specs.Entries.{entries_seen, start_seen}
 use Rattle.gw_gate.specs.Replies.{Refuses, IsRefused, reply_to}
 use Rattle.gw_gate.proofs.Fitting.{fits_more, fits_refused}

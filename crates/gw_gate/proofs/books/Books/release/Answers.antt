@@ -1,7 +1,7 @@
 use Rattle.std.proofs.Common.{arith, ap, ◌∙◌, sym, refl, Some}
 use Rattle.std.specs.Arc.{arc_value}
 use Rattle.gw_gate.specs.declared.event.Entry as entry
-use Rattle.gw_gate.specs.Seen.{plan_seen, translated_seen}
+use Rattle.gw_gate.specs.Seen.{translated_seen}
 use Rattle.gw_gate.specs.Replies.{Releases, reply_to, IsOut, IsNothing}
 use Rattle.gw_gate.specs.Entries.{entries_seen, start_seen}
 use Rattle.gw_gate.specs.own.Desks.{desk_at}

@@ -1,11 +1,13 @@
-use Rattle.std.proofs.Common.{arith, ap, sym, refl, ◌∙◌}
-use Rattle.std.specs.Arc.{arc_value}
+use Rattle.std.proofs.Common.{arith, ap, sym, refl, ◌∙◌, map}
+use Rattle.std.proofs.lemmas.List.{drop-map}
 use Rattle.gw_gate.specs.declared.event.Entry as entry
-use Rattle.gw_gate.specs.Seen.{plan_seen, conforming_seen}
+use Rattle.gw_gate.specs.Seen.{conforming_seen}
 use Rattle.gw_gate.specs.Entries.{entries_seen, start_seen}
+use Rattle.gw_gate.specs.Values.{pair_seen}
+use Rattle.gw_gate.proofs.Queue.{left_some}
 use Rattle.gw_gate.proofs.Fitting.{fits_more, fits_taken}
 use Rattle.gw_gate.proofs.Answering.{full, plain}
-use Rattle.gw_gate.specs.Replies.{Takes, IsJob, IsIdle}
+use Rattle.gw_gate.specs.Replies.{Takes, IsJob, IsIdle, reply_to}
 use Rattle.gw_gate.proofs.Leaving.{fits_again, left_short, left_back, left_done}
 use Rattle.gw_gate.proofs.books.Books.take.Goals as goal
 
@@ -13,13 +15,13 @@ pub invariant_of-self-2 : goal.invariant_of-self-2
 invariant_of-self-2 c =
     let s = c.self.inside in
     let p = start_seen s.start in
+    let h = entries_seen s.journal.items in
     let pair = c.in-Some.pair in
+    let left = left_some p h pair.n pair.receiver _ (ap (λ j. reply_to j Takes) c.self.view_is ∙ c.in-Some.ensures) in
+    let rest = ap (map pair_seen) c.pop_front.ensures.rest ∙ sym (drop-map pair_seen 1 s.queue.items) in
     fits_more p s.journal.items c.prepared.new.journal.items c.push_reserved.new.self.items (entry.TheVariants.Job pair.n pair.receiver) _ _
     c.prepared.ensures.same c.push_reserved.ensures.items (λ e. c.if-len-eq-MOST.false (c.len.ensures ∙ s.journal.ok.0 ∙ e)) c.self.invariant
-    (λ room. fits_taken p (entries_seen s.journal.items) _ pair.n pair.receiver room c.self.invariant)
-
-pub overflow_add-self : goal.overflow_add-self
-overflow_add-self c = let k = c.self.invariant.queue.few in let w = c.self.invariant.within in omega (arith, k, w)
+    (λ room. fits_taken p h _ pair.n pair.receiver (map pair_seen c.pop_front.new.self.items) left rest room c.self.invariant)
 
 pub returns-in_default : goal.returns-in_default
 returns-in_default c = plain c.args.takes c.args.self.now Takes IsIdle c.in_default.ensures refl refl
