@@ -1,7 +1,6 @@
 -- What the calls of plans, messages and translations answer, in the gate's words.
 use Rattle.std.proofs.Common.{◌≡◌, ◌↔◌, ◌&&◌, ◌==◌, ◌∙◌, ℕ, Bool, true, false, IsTrue, List, [], ◌∷◌, map, length, slice_get, Some, refl, sym, ap, arith, subst}
-use Rattle.std.specs.Prelude.{Result, Ok, Err, bytes_eq, nat_eq, ◌||◌}
-use Rattle.std.specs.List.{list_any}
+use Rattle.std.specs.Prelude.{Ok, bytes_eq}
 use Rattle.std.specs.FinMap.{same_entries_map}
 use Rattle.std.proofs.lemmas.Grind.{common_steps}
 use Rattle.std.proofs.lemmas.List.{length-map}
@@ -9,16 +8,16 @@ use Rattle.std.proofs.lemmas.Bool.{false≢true}
 use Rattle.std.proofs.lemmas.Slice.Eq.{bytes_eq-Decides}
 use Rattle.gw_er7.specs.Message.{SegmentValue, IsMessage}
 use Rattle.gw_validate.specs.Conforming.{Conforms}
-use Rattle.gw_plan.specs.Shapes.{Leg, RouteValue, PlanValue}
-use Rattle.gw_check.specs.Kept.{CheckedValue}
-use Rattle.gw_plan.specs.Held.{PlanHeld, RouteHeld, plan_value, route_value, leg}
+use Rattle.gw_plan.specs.Shapes.{RouteValue, PlanValue}
+use Rattle.gw_plan.specs.Held.{PlanHeld, RouteHeld, plan_value, route_value, map_between}
 use Rattle.gw_plan.specs.Routing.{routed}
 use Rattle.gw_plan.specs.Whole.{spelled}
-use Rattle.gw_plan.specs.Admitted.{ConformingHeld, IsOf, IsUnder, IsSameSource}
+use Rattle.gw_plan.specs.Admitted.{ConformingHeld, IsUnder, IsSameSource}
 use Rattle.gw_plan.specs.Translating.{TranslatedHeld, IsSameTranslated, MakesFor, Translates}
-use Rattle.gw_gate.specs.Parts.{MessageSeen, delivers, is_under, same_message, same_receivers, same_source, same_translated}
+use Rattle.gw_gate.specs.Parts.{MessageSeen, is_under, same_message, same_receivers, same_source, same_translated}
 use Rattle.gw_gate.specs.Seen.{segment_seen, message_seen, plan_seen, receivers_by, conforming_seen, translated_seen}
 use Rattle.gw_gate.specs.Meaning.{Admits, Makes}
+use Rattle.gw_plan.proofs.Alike.{numbers_are}
 use Rattle.gw_plan.proofs.Once.{made_once}
 use Rattle.gw_plan.proofs.Routes.{ok_same}
 use Rattle.gw_gate.proofs.Sames.{and_both, and_true, message_decides, receivers_decide}
@@ -112,29 +111,8 @@ translated_is t u r h =
 
 -- ---- routes
 
-any_leg : (r : ℕ) (legs : List Leg) → list_any (λ to. to == r) (map (λ l. l.0) legs) ≡ list_any (λ l. nat_eq r l.0) legs
-any_leg r [] = refl
-any_leg r (l ∷ legs) = let same : (l.0 == r) ≡ nat_eq r l.0 = one_answer (l.0 == r) (nat_eq r l.0) (λ e. number_same r l.0 (sym (same_number l.0 r e))) (λ e. number_same l.0 r (sym (same_number r l.0 e))) in ap (λ b. b || list_any (λ to. to == r) (map (λ l. l.0) legs)) same ∙ ap (λ b. nat_eq r l.0 || b) (any_leg r legs)
-
-pub goes_is : (c : ConformingHeld) (receiver : ℕ) (r : Bool) → IsTrue r ↔ IsOf c receiver → r ≡ delivers (conforming_seen c) receiver
-goes_is c receiver r h = by (routed (plan_value c.plan) c.tree.message) refl
-  where
-    by : (o : Result RouteValue ℕ) → routed (plan_value c.plan) c.tree.message ≡ o → r ≡ delivers (conforming_seen c) receiver
-    by (Ok route) e =
-        one_answer r (delivers (conforming_seen c) receiver)
-        (λ t. let of = h.0 t in ap (λ o. list_any (λ to. to == receiver) (receivers_by o)) of.routed_so ∙ any_leg receiver of.route.legs ∙ of.goes)
-        (λ t. h.1 (record { route = route; routed_so = e; goes = sym (any_leg receiver route.legs) ∙ ap (λ o. list_any (λ to. to == receiver) (receivers_by o)) (sym e) ∙ t }))
-    by (Err code) e =
-        one_answer r (delivers (conforming_seen c) receiver)
-        (λ t. let of = h.0 t in ap (λ o. list_any (λ to. to == receiver) (receivers_by o)) of.routed_so ∙ any_leg receiver of.route.legs ∙ of.goes)
-        (λ t. absurd (false≢true (ap (λ o. list_any (λ to. to == receiver) (receivers_by o)) (sym e) ∙ t)))
-
-numbers_of : (legs : List (ℕ × CheckedValue)) → map (λ l. l.0) (map leg legs) ≡ map (λ l. l.0) legs
-numbers_of [] = refl
-numbers_of (l ∷ legs) = ap (λ xs. l.0 ∷ xs) (numbers_of legs)
-
 pub receivers_are : (c : ConformingHeld) (route : RouteHeld) → routed (plan_value c.plan) c.tree.message ≡ Ok (route_value route) → (conforming_seen c).receivers ≡ map (λ l. l.0) route.legs
-receivers_are c route e = ap receivers_by e ∙ numbers_of route.legs
+receivers_are c route e = ap receivers_by e ∙ numbers_are map_between route.legs
 
 pub as_many : (c : ConformingHeld) (route : RouteHeld) → routed (plan_value c.plan) c.tree.message ≡ Ok (route_value route) → length route.legs ≡ length (conforming_seen c).receivers
 as_many c route e = sym (ap length (receivers_are c route e) ∙ length-map route.legs (λ l. l.0))

@@ -6,7 +6,7 @@ ghost use Rattle.gw_reorder.specs.declared.desk.Status.TheVariants as status;
 ghost use Rattle.gw_gate.specs.Seen.{conforming_seen};
 ghost use Rattle.gw_gate.specs.own.Desks.{desk_at, given_out, value_seen, AreRoomier, HasRoomFor, Waits, due_to};
 
-use crate::plans::{goes_to, receiver_at, receiver_count};
+use crate::plans::{goes_once, receiver_at, receiver_count};
 use gw_plan::{Conforming, Translated};
 use gw_reorder::{Desk, Status};
 use std::alloc::{AllocError, Global};
@@ -146,10 +146,11 @@ pub(crate) fn make_due(desks: &mut Vec<Desk<Arc<Translated>>>, conforming: &Conf
     requires above { (r : ℕ) → All (λ m. m < n) (desk_at desks.old.items r).due }
     ensures { (r : ℕ) → desk_at desks.new.items r ≡ due_to (conforming_seen conforming.now) n r (desk_at desks.old.items r) }
 {
-    for receiver in 0..desks.len() {
-        if goes_to(conforming, receiver) {
-            due_at(desks, receiver, n);
-        }
+    // (its clause says that no receiver comes twice)
+    goes_once(conforming);
+    for place in 0..receiver_count(conforming) {
+        let receiver = receiver_at(conforming, place);
+        due_at(desks, receiver, n);
     }
 }
 

@@ -1,6 +1,7 @@
 //! Plans, messages and translations, asked in the gate's words.
-ghost use Rattle.std.specs.Prelude.{◌≡◌, ◌<◌, length, slice_get, Some, bytes_eq};
-ghost use Rattle.gw_gate.specs.Parts.{delivers, is_under, same_receivers, same_source, same_translated};
+ghost use Rattle.std.specs.Prelude.{◌≡◌, ◌<◌, length, nat_eq, slice_get, Some, bytes_eq};
+ghost use Rattle.std.specs.List.{IsDistinct};
+ghost use Rattle.gw_gate.specs.Parts.{is_under, same_receivers, same_source, same_translated};
 ghost use Rattle.gw_gate.specs.Seen.{plan_seen, conforming_seen, translated_seen};
 ghost use Rattle.gw_gate.specs.Headline.{IsTranslated};
 ghost use Rattle.gw_gate.specs.Meaning.{Admits, Makes};
@@ -49,13 +50,6 @@ pub(crate) fn is_of(translated: &Translated, conforming: &Conforming) -> bool
     translated.same_source(conforming)
 }
 
-// Whether the message's route goes to this receiver.
-pub(crate) fn goes_to(conforming: &Conforming, receiver: usize) -> bool
-    ensures { result ≡ delivers (conforming_seen conforming.now) receiver }
-{
-    conforming.goes_to(receiver)
-}
-
 /// How many receivers the message's route has. It takes no memory.
 pub fn receiver_count(conforming: &Conforming) -> usize
     ensures { result ≡ length (conforming_seen conforming.now).receivers }
@@ -69,6 +63,13 @@ pub fn receiver_at(conforming: &Conforming, place: usize) -> usize
     ensures { slice_get (conforming_seen conforming.now).receivers place ≡ Some result }
 {
     conforming.route().receiver(place)
+}
+
+// The message's route goes to each of its receivers once, by its type.
+pub(crate) fn goes_once(conforming: &Conforming)
+    ensures { IsDistinct nat_eq (conforming_seen conforming.now).receivers }
+{
+    let _ = conforming.route();
 }
 
 // An admitted message has a route by the plan of its text, and conforms to the route's profile, by its type.

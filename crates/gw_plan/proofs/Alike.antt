@@ -1,5 +1,5 @@
 -- Receivers of a plan and of a route.
-use Rattle.std.proofs.Common.{◌≡◌, ◌↔◌, ◌∙◌, ℕ, Bool, IsTrue, List, map, Some, slice_get, sym, ap}
+use Rattle.std.proofs.Common.{◌≡◌, ◌↔◌, ◌∙◌, ℕ, Bool, IsTrue, List, [], ◌∷◌, map, Some, slice_get, refl, sym, ap}
 use Rattle.std.specs.Option.{option_map}
 use Rattle.std.proofs.lemmas.Option.{slice_get-map}
 use Rattle.std.specs.List.{AllZip}
@@ -20,3 +20,8 @@ number_at {A} {B} f es legs i n v e at =
     let g : ℕ × A → ℕ × B = λ l. (l.0, f l.1) in
     let h : ℕ × B → ℕ = λ l. l.0 in
     slice_get-map h legs i ∙ ap (λ ls. option_map h (slice_get ls i)) e ∙ ap (option_map h) (slice_get-map g es i) ∙ ap (λ o. option_map h (option_map g o)) (sym at)
+
+-- the numbers of all legs
+pub numbers_are : {A B : Type 0} (f : A → B) (es : List (ℕ × A)) → map (λ (l : ℕ × B). l.0) (map (λ (l : ℕ × A). (l.0, f l.1)) es) ≡ map (λ (l : ℕ × A). l.0) es
+numbers_are f [] = refl
+numbers_are f (e ∷ es) = ap (λ l. e.0 ∷ l) (numbers_are f es)

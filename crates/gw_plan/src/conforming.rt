@@ -1,5 +1,6 @@
 //! Messages that a plan admits.
-ghost use Rattle.std.specs.Prelude.{◌≡◌, ◌<◌, ◌↔◌, map, length, IsTrue, IfOk, IfErr, Ok};
+ghost use Rattle.std.specs.Prelude.{◌≡◌, ◌<◌, ◌↔◌, map, length, nat_eq, IsTrue, IfOk, IfErr, Ok};
+ghost use Rattle.std.specs.List.{IsDistinct};
 ghost use Rattle.std.specs.Arc.{arc_value};
 ghost use Rattle.gw_er7.specs.Message.{IsMessage};
 ghost use Rattle.gw_profile.specs.Seen.{profile_value};
@@ -73,7 +74,7 @@ pub enum Refusal {
 }
 
 impl Conforming {
-    /// The route, by the plan that its plan's text spells. The message conforms to the route's profile, by its type. It takes no memory.
+    /// The route, by the plan that its plan's text spells. It goes to each receiver once. The message conforms to the route's profile, by its type. It takes no memory.
     pub fn route(&self) -> &Route
         ensures route { routed (plan_value self.now.plan) self.now.tree.message ≡ Ok (route_value result.now) }
         ensures profile { profile_value self.now.tree.profile ≡ profile_value result.now.profile }
@@ -81,11 +82,13 @@ impl Conforming {
         ensures formed { WellFormed (profile_value result.now.profile) }
         ensures message { IsMessage self.now.tree.message }
         ensures conforms { Conforms (profile_value result.now.profile) self.now.tree.message }
+        ensures once { IsDistinct nat_eq (map (λ l. l.0) result.now.legs) }
     {
-        // (their clauses tell what the message, the plan and the profile keep)
+        // (their clauses say what the message, the plan, the route and its profile keep)
         let _count = self.tree.message().segment_count();
         self.plan.is_spelled();
         let route = self.plan.route_at(self.number);
+        route.goes_once();
         let _nodes = route.profile().nodes();
         route
     }

@@ -1,6 +1,6 @@
 //! Routes.
 ghost use Rattle.std.specs.Prelude.{◌≡◌, ◌<◌, [], IfOk, IfSome, OnOk, Some, length, map, nat_eq, slice_get};
-ghost use Rattle.std.specs.List.{list_any};
+ghost use Rattle.std.specs.List.{list_any, IsDistinct};
 ghost use Rattle.std.specs.Arc.{arc_value};
 ghost use Rattle.std.specs.Map.{lookup};
 ghost use Rattle.std.specs.Option.{option_map};
@@ -81,6 +81,13 @@ impl Route {
     {
         self.legs.insert(receiver, map)?;
         Ok(())
+    }
+
+    // It goes to each of its receivers once, by its type.
+    pub(crate) fn goes_once(&self)
+        ensures { IsDistinct nat_eq (map (λ l. l.0) self.now.legs) }
+    {
+        let _count = self.legs.len();
     }
 
     /// The profile. It takes no memory.

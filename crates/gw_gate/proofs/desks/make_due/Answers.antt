@@ -1,50 +1,38 @@
 use Rattle.std.proofs.Common.{◌<◌, All, arith, refl, sym, ap, subst, ◌∙◌}
+use Rattle.std.proofs.lemmas.List.{take_all}
 use Rattle.gw_gate.specs.Seen.{conforming_seen}
 use Rattle.gw_gate.specs.own.Desks.{desk_at}
-use Rattle.gw_gate.proofs.Spreading.{room_there, due_here, not_here, due_done, due_left, due_all}
-use Rattle.gw_gate.proofs.desks.make_due.Goals.{then-goes_to, else-goes_to}
+use Rattle.gw_gate.proofs.Spreading.{room_there, among_all, due_among, unmoved, due_more}
 use Rattle.gw_gate.proofs.desks.make_due.Goals as goal
 
-pub loop-receiver-init : goal.loop-receiver-init
-loop-receiver-init c = record { done = λ q under. absurd (omega (arith, under)); left = λ q over. refl }
-
-pub due_at-requires-clause-within : goal.due_at-requires-clause-within
-due_at-requires-clause-within c =
-    let k = c.loop-receiver.receiver in
-    room_there c.loop-receiver.desks.items k (subst (λ s. 0 < s.room) (sym (c.loop-receiver.invariant.left k (omega arith))) (c.requires.room k (sym c.goes_to.ensures ∙ c.if-goes_to.true)))
+pub loop-place-init : goal.loop-place-init
+loop-place-init c = λ q. refl
 
 pub due_at-requires-clause-room : goal.due_at-requires-clause-room
 due_at-requires-clause-room c =
-    let k = c.loop-receiver.receiver in
-    subst (λ s. 0 < s.room) (sym (c.loop-receiver.invariant.left k (omega arith))) (c.requires.room k (sym c.goes_to.ensures ∙ c.if-goes_to.true))
+    let to = (conforming_seen c.args.conforming.now).receivers in
+    let k = c.loop-place.place in
+    let r = c.receiver_at-receiver.result in
+    let at = c.receiver_at-receiver.ensures in
+    subst (λ s. 0 < s.room) (sym (unmoved to c.args.n k r c.args.desks.now.items c.loop-place.desks.items at c.loop-place.invariant c.goes_once.ensures)) (c.requires.room r (among_all to k r at))
+
+pub due_at-requires-clause-within : goal.due_at-requires-clause-within
+due_at-requires-clause-within c = room_there c.loop-place.desks.items c.receiver_at-receiver.result (due_at-requires-clause-room c)
 
 pub due_at-requires-clause-above : goal.due_at-requires-clause-above
 due_at-requires-clause-above c =
-    let k = c.loop-receiver.receiver in
-    subst (λ s. All (λ m. m < c.args.n) s.due) (sym (c.loop-receiver.invariant.left k (omega arith))) (c.requires.above k)
+    let to = (conforming_seen c.args.conforming.now).receivers in
+    let k = c.loop-place.place in
+    let r = c.receiver_at-receiver.result in
+    let at = c.receiver_at-receiver.ensures in
+    subst (λ s. All (λ m. m < c.args.n) s.due) (sym (unmoved to c.args.n k r c.args.desks.now.items c.loop-place.desks.items at c.loop-place.invariant c.goes_once.ensures)) (c.requires.above r)
 
-pub loop-receiver-preserved : goal.loop-receiver-preserved
-loop-receiver-preserved c =
-    let m = conforming_seen c.args.conforming.now in
-    let n = c.args.n in
-    let k = c.loop-receiver.receiver in
-    let start = c.args.desks.now.items in
-    let now = c.loop-receiver.desks.items in
-    let next = c.if-goes_to.desks.items in
-    let was = c.loop-receiver.invariant in
-    elim c.if-goes_to.branch [
-      | then-goes_to w ↦ record {
-        done = due_done m n k start now next (ap (λ d. desk_at d.items k) w.desks-is ∙ w.due_at.ensures.this ∙ due_here m n k (desk_at now k) (sym c.goes_to.ensures ∙ w.if-goes_to.true))
-            (λ q other. ap (λ d. desk_at d.items q) w.desks-is ∙ w.due_at.ensures.others q other) was.done was.left;
-        left = due_left k start now next (λ q other. ap (λ d. desk_at d.items q) w.desks-is ∙ w.due_at.ensures.others q other) was.left;
-      }
-      | else-goes_to w ↦ record {
-        done = due_done m n k start now next (ap (λ d. desk_at d.items k) w.desks-is ∙ not_here m n k (desk_at now k) (sym c.goes_to.ensures ∙ w.if-goes_to.false)) (λ q other. ap (λ d. desk_at d.items q) w.desks-is) was.done was.left;
-        left = due_left k start now next (λ q other. ap (λ d. desk_at d.items q) w.desks-is) was.left;
-      }
-    ]
+pub loop-place-preserved : goal.loop-place-preserved
+loop-place-preserved c =
+    due_more (conforming_seen c.args.conforming.now).receivers c.args.n c.loop-place.place c.receiver_at-receiver.result c.args.desks.now.items c.loop-place.desks.items c.receiver_at-receiver.ensures c.loop-place.invariant
+    c.due_at.new.desks.items c.goes_once.ensures c.due_at.ensures.this c.due_at.ensures.others
 
 pub returns : goal.returns
-returns c =
-    let was = c.loop-receiver.invariant in
-    due_all (conforming_seen c.args.conforming.now) c.args.n c.loop-receiver.receiver c.len-receiver-end.result c.args.desks.now.items c.loop-receiver.desks.items c.requires.room (sym (c.len-receiver-end.ensures ∙ c.args.desks.now.ok.0)) c.loop-receiver-test.false was.done was.left
+returns c = λ r.
+    c.loop-place.invariant r
+    ∙ ap (λ to. due_among to c.args.n r (desk_at c.args.desks.now.items r)) (take_all c.loop-place.place (conforming_seen c.args.conforming.now).receivers (omega (arith, c.receiver_count-place-end.ensures, c.loop-place-test.false)))
