@@ -1,11 +1,11 @@
 -- Desks seen without where their values lie.
-use Rattle.std.proofs.Common.{◌≡◌, ◌==◌, ℕ, zero, suc, ◌+◌, ◌-◌, ◌<◌, ◌≤◌, nat_lt, true, false, if◌then◌else◌, Bool, List, [], ◌∷◌, ◌++◌, length, map, drop, get_or, slice_get, slice_set, Option, None, Some, option_map, ◌⊎◌, inl, inr, refl, sym, ap, ◌∙◌, arith}
+use Rattle.std.proofs.Common.{◌≡◌, ◌==◌, ℕ, zero, suc, ◌-◌, ◌<◌, ◌≤◌, nat_lt, true, false, if◌then◌else◌, Bool, List, [], ◌∷◌, ◌++◌, length, map, get_or, slice_get, slice_set, Option, None, Some, option_map, ◌⊎◌, inl, inr, refl, sym, ap, ◌∙◌, arith}
 use Rattle.std.proofs.lemmas.Grind.{common_steps}
 use Rattle.std.proofs.lemmas.Option.{slice_get-map, gets}
 use Rattle.std.specs.declared.alloc.Global.{Global}
 use Rattle.std.specs.declared.sync.Arc.{Arc}
 use Rattle.gw_reorder.specs.State.{DeskState, SameButRoom, nothing_due}
-use Rattle.gw_reorder.specs.Calls.{place_of, status_of, status_at, slot_status, after_holding, after_bringing, next_of, after_giving, kept_pair, kept_with}
+use Rattle.gw_reorder.specs.Calls.{place_of, status_of, status_at, slot_status, after_holding, after_bringing, kept_with}
 use Rattle.gw_reorder.specs.declared.desk.Status.{Status}
 use Rattle.gw_reorder.specs.declared.desk.Status.TheVariants.{Waiting, Repeat, Stranger}
 use Rattle.std.proofs.lemmas.Bool.{cases_lt}
@@ -14,7 +14,7 @@ use Rattle.std.specs.List.{list_any}
 use Rattle.gw_reorder.proofs.Places.{equal_numbers}
 use Rattle.gw_gate.specs.Parts.{TranslatedSeen}
 use Rattle.gw_gate.specs.Seen.{Translated}
-use Rattle.gw_gate.specs.own.Desks.{Held, value_seen, desk_seen, desk_at, given_seen, IsRoomier}
+use Rattle.gw_gate.specs.own.Desks.{Held, value_seen, desk_seen, desk_at, IsRoomier}
 
 abbrev slot_seen : Option (Arc Translated Global) → Option TranslatedSeen
 slot_seen o = option_map value_seen o
@@ -34,20 +34,10 @@ status_place s (Some place) =
 pub status_seen : (s : Held) (n : ℕ) → status_of (desk_seen s) n ≡ status_of s n
 status_seen s n = status_place s (place_of s n)
 
-next_pair : (n : Option ℕ) (x : Option (Option (Arc Translated Global))) → kept_pair n (option_map slot_seen x) ≡ given_seen (kept_pair n x)
-next_pair None x = refl
-next_pair (Some n) None = refl
-next_pair (Some n) (Some None) = refl
-next_pair (Some n) (Some (Some x)) = refl
-
 map_set : {A B : Type 0} (f : A → B) (xs : List A) (i : ℕ) (x : A) → map f (slice_set xs i x) ≡ slice_set (map f xs) i (f x)
 map_set f [] i x = refl
 map_set f (y ∷ xs) zero x = refl
 map_set f (y ∷ xs) (suc i) x = ap (λ l. f y ∷ l) (map_set f xs i x)
-
-map_drop : {A B : Type 0} (f : A → B) (xs : List A) → map f (drop 1 xs) ≡ drop 1 (map f xs)
-map_drop f [] = refl
-map_drop f (y ∷ xs) = refl
 
 kept_seen : (s : Held) (o : Option ℕ) (x : Arc Translated Global) → map slot_seen (kept_with s o x) ≡ kept_with (desk_seen s) o (value_seen x)
 kept_seen s None x = refl
