@@ -1,11 +1,16 @@
-//! A gate whose passes have ended.
+//! A gate with the book of the entries that were added to it.
 ghost use Rattle.std.specs.Prelude.{◌≡◌};
+ghost use Rattle.std.specs.Option.{option_map};
+ghost use Rattle.gw_crew.specs.Seen.{note_seen};
+ghost use Rattle.gw_run.specs.own.Steps.{added_by};
 
-use gw_gate::Gate;
+use gw_crew::{Note, step};
+use gw_gate::{Event, Gate, Reply};
 use std::marker::Model;
 use std::sync::ledger::{Book, Ledger, Share};
 
 /// A gate whose passes have ended, with the book of the entries that they added.
+/// Behind the lock it is the same gate, and no call changes how many entries it had before.
 #[derive(Drop)]
 pub struct Counted<L: Ledger> {
     gate: Gate,
@@ -25,15 +30,55 @@ impl<L: Ledger> Model for Counted<L> {
     ghost invariant = { λ c. c.since + c.book.total ≡ end c.gate };
 }
 
-impl<L: Ledger> Counted<L> {
-    ghost use Rattle.std.specs.Prelude.{◌≡◌, ◌+◌};
-    ghost use Rattle.gw_gate.specs.Journal.{end};
+// How many entries a note tells of.
+fn entries_in(note: &Option<Note>) -> u64
+    ensures { result ≡ added_by (option_map note_seen note.now) }
+{
+    match note {
+        Some(Note::Added(_)) => 1,
+        _ => 0,
+    }
+}
 
-    pub(crate) fn of(gate: Gate, since: usize, book: Book<L>) -> Self
-        requires { since + book.total ≡ end gate }
-        ensures { result ≡ record { gate = gate; since = since; total = book.total } }
+impl<L: Ledger> Counted<L> {
+    ghost use Rattle.std.specs.Prelude.{◌≡◌, ◌<◌, ◌+◌};
+    ghost use Rattle.gw_gate.specs.Headline.{IsTranslated};
+    ghost use Rattle.gw_gate.specs.Journal.{end};
+    ghost use Rattle.gw_gate.specs.Lawful.{IsLawful};
+    ghost use Rattle.gw_gate.specs.Meaning.{Makes};
+    ghost use Rattle.gw_gate.specs.Values.{event_seen};
+    ghost use Rattle.gw_crew.specs.Solos.{StepsOnce};
+    ghost use Rattle.gw_run.specs.own.Steps.{counted_by};
+
+    // The book counts the entries that are added from here on.
+    pub(crate) fn begin(gate: Gate, book: Book<L>) -> Self
+        requires { book.total ≡ 0 }
+        ensures { result ≡ record { gate = gate; since = end gate; total = 0 } }
     {
+        let since = gate.end() as usize;
         Counted { gate, since, book }
+    }
+
+    // One step of the gate, with its note. An entry is counted in the book and in the share.
+    #[tactic(auto, using(crate::proofs::Counting::step_grows))]
+    pub(crate) fn step(
+        &mut self,
+        event: Event,
+        share: &mut Share<L>,
+    ) -> Result<(Reply, Option<Note>), Event>
+        requires { 0 < share.old.parts }
+        ensures step { StepsOnce self.old.gate (event_seen event) result self.new.gate }
+        ensures lawful { IsLawful (IsTranslated Makes) self.old.gate }
+        ensures since { self.new.since ≡ self.old.since }
+        ensures parts { share.new.parts ≡ share.old.parts }
+        ensures amount { share.new.amount ≡ share.old.amount + counted_by result }
+    {
+        let Counted { gate, book, .. } = self;
+        // (for the clause that its journal is lawful)
+        gate.journal();
+        let (reply, note) = step(gate, event)?;
+        book.add(share, entries_in(&note));
+        Ok((reply, note))
     }
 
     /// The gate. It takes no memory.

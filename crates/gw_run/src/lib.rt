@@ -5,6 +5,7 @@
 #![tactic(auto)]
 
 mod agreeing;
+mod awaited;
 mod counted;
 mod gathering;
 mod join;

@@ -3,6 +3,7 @@ ghost use Rattle.std.specs.Prelude.{◌≡◌, ◌<◌, []};
 ghost use Rattle.gw_run.specs.Passes.{IsCounted};
 ghost use Rattle.gw_crew.specs.Seen.{notes_seen};
 
+use crate::awaited::Missed;
 use crate::locked::LockedGate;
 use gw_crew::{Door, Note, Phase, room_for};
 use gw_gate::{Event, Reply};
@@ -18,7 +19,7 @@ pub struct Pass<'a, L: Ledger, R: Wait> {
     rt: &'a R,
     share: Share<L>,
     notes: Vec<Note>,
-    seen: u64,
+    missed: Missed,
 }
 
 impl<'a, L: Ledger, R: Wait> Model for Pass<'a, L, R> {
@@ -86,7 +87,7 @@ impl<'a, L: Ledger, R: Wait> Pass<'a, L, R> {
             rt,
             share,
             notes: Vec::new(alloc),
-            seen: 0,
+            missed: Missed::none(),
         }
     }
 
@@ -124,8 +125,9 @@ impl<'a, L: Ledger, R: Wait> Door for Pass<'a, L, R> {
         if !room_for(&mut self.notes, &event) {
             return Err(event);
         }
-        let (answer, entries) = self.gate.step(self.rt, event, &mut self.share);
-        self.seen = entries;
+        let answer = self
+            .gate
+            .step(self.rt, event, &mut self.share, &mut self.missed);
         match answer {
             Err(event) => Err(event),
             Ok((reply, note)) => match note {
@@ -138,11 +140,12 @@ impl<'a, L: Ledger, R: Wait> Door for Pass<'a, L, R> {
         }
     }
 
-    /// True at once where an entry was added since the last call, else false where the phase was reached, else true after a sleep.
+    /// True at once where an entry was added that its caller may act on: for `NoArrivals` a pair that was issued and isn't taken,
+    /// for `NoResults` a result that was kept for the receiver of its last Release. Else false where the phase was reached, else true after a sleep.
     fn wait(&mut self, phase: Phase) -> bool
         ensures { self.new ≡ self.old }
     {
-        self.gate.wait(self.rt, self.seen, phase)
+        self.gate.wait(self.rt, self.missed, phase)
     }
 
     /// The notes so far. It takes no memory.
