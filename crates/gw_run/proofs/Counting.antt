@@ -6,13 +6,13 @@ use Rattle.std.proofs.lemmas.List.{map-append}
 use Rattle.std.proofs.lemmas.Option.{none-some}
 use Rattle.gw_gate.specs.Chapters.{is_pending}
 use Rattle.gw_gate.specs.Journal.{EntrySeen, Journal, end}
-use Rattle.gw_gate.specs.Replies.{EventSeen, Looks, Arrives, Refuses, Swaps, Takes, Puts, Reissues, Releases, Cuts, added, with_added, left_by, closed_by, limited, most, reply}
-use Rattle.gw_gate.specs.Replies.{ReplySeen, IsCurrent, IsAccepted, IsStale, IsRefused, IsSwapped, IsUnlike, IsJob, IsIdle, IsKept, IsRepeat, IsStranger}
-use Rattle.gw_gate.specs.Replies.{IsIssued, IsDone, IsOut, IsNothing, IsPending, IsClosed, IsFull}
+use Rattle.gw_gate.specs.Replies.{EventSeen, Releases, Cuts, added, with_added, left_by, closed_by, limited, most, reply}
+use Rattle.gw_gate.specs.Replies.{ReplySeen, IsCurrent}
+use Rattle.gw_gate.specs.Replies.{IsNothing, IsPending, IsClosed}
 use Rattle.gw_gate.specs.declared.event.Event.{Event}
 use Rattle.gw_gate.specs.declared.event.Reply.{Reply}
 use Rattle.gw_crew.specs.declared.note.Note.{Note}
-use Rattle.gw_crew.specs.Notes.{NoteSeen, Looked, WasStale, WasFull, WasIdle, WasNothing, Added, Answers, plain_note, note_or}
+use Rattle.gw_crew.specs.Notes.{NoteSeen, Added, Answers, plain_note, note_or}
 use Rattle.gw_crew.specs.Seen.{note_seen, notes_seen}
 use Rattle.gw_crew.specs.Solos.{StepsOnce, Stepped}
 use Rattle.gw_run.specs.Passes.{receipts}
@@ -24,39 +24,12 @@ use Rattle.gw_run.proofs.Fitting.{some_is}
 pub receipts-append : (xs ys : List NoteSeen) → receipts (xs ++ ys) ≡ receipts xs ++ receipts ys
 receipts-append [] ys = refl
 receipts-append (Added at e ∷ xs) ys = ap (λ l. record { at = at; entry = e } ∷ l) (receipts-append xs ys)
-receipts-append (Looked v p ∷ xs) ys = receipts-append xs ys
-receipts-append (WasStale v c ∷ xs) ys = receipts-append xs ys
-receipts-append (WasFull ∷ xs) ys = receipts-append xs ys
-receipts-append (WasIdle ∷ xs) ys = receipts-append xs ys
-receipts-append (WasNothing r ∷ xs) ys = receipts-append xs ys
+receipts-append (note ∷ xs) ys = receipts-append xs ys
 
 plain_adds_none : (event : EventSeen) (given : ReplySeen) → added_by (plain_note event given) ≡ 0
 plain_adds_none event (IsCurrent v p) = refl
-plain_adds_none event (IsAccepted n arrival) = refl
-plain_adds_none event (IsStale v c) = refl
-plain_adds_none event (IsRefused arrival) = refl
-plain_adds_none event (IsSwapped v) = refl
-plain_adds_none event (IsUnlike p) = refl
-plain_adds_none event (IsJob n r c) = refl
-plain_adds_none event IsIdle = refl
-plain_adds_none event IsKept = refl
-plain_adds_none event (IsRepeat t) = refl
-plain_adds_none event (IsStranger t) = refl
-plain_adds_none event IsIssued = refl
-plain_adds_none event IsDone = refl
-plain_adds_none event (IsOut n t) = refl
-plain_adds_none event IsPending = refl
-plain_adds_none event (IsClosed chapter) = refl
-plain_adds_none event (IsFull back) = refl
-plain_adds_none Looks IsNothing = refl
-plain_adds_none (Arrives c) IsNothing = refl
-plain_adds_none (Refuses code) IsNothing = refl
-plain_adds_none (Swaps p) IsNothing = refl
-plain_adds_none Takes IsNothing = refl
-plain_adds_none (Puts n t) IsNothing = refl
-plain_adds_none (Reissues n r) IsNothing = refl
 plain_adds_none (Releases r) IsNothing = refl
-plain_adds_none Cuts IsNothing = refl
+plain_adds_none event given = refl
 
 -- ---- a step
 
@@ -70,34 +43,11 @@ closes_this j c is = by (is_pending j) (ap closed_by is)
 
 -- a journal that was closed takes its entries with it, and all are counted on
 ends_with : (j : Journal) (event : EventSeen) (given : ReplySeen) → Answers event given → given ≡ reply j event → end (left_by j event given) ≡ end (with_added j (added event given))
-ends_with j event (IsCurrent v p) row is = refl
-ends_with j event (IsAccepted n arrival) row is = refl
-ends_with j event (IsStale v c) row is = refl
-ends_with j event (IsRefused arrival) row is = refl
-ends_with j event (IsSwapped v) row is = refl
-ends_with j event (IsUnlike p) row is = refl
-ends_with j event (IsJob n r c) row is = refl
-ends_with j event IsIdle row is = refl
-ends_with j event IsKept row is = refl
-ends_with j event (IsRepeat t) row is = refl
-ends_with j event (IsStranger t) row is = refl
-ends_with j event IsIssued row is = refl
-ends_with j event IsDone row is = refl
-ends_with j event (IsOut n t) row is = refl
-ends_with j event IsNothing row is = refl
-ends_with j event IsPending row is = refl
-ends_with j event (IsFull back) row is = refl
 ends_with j Cuts (IsClosed chapter) row is =
     let same : end chapter ≡ end j = ap end (closes_this j chapter is) in
     omega (arith, same)
-ends_with j Looks (IsClosed chapter) row is = absurd row
-ends_with j (Arrives c) (IsClosed chapter) row is = absurd row
-ends_with j (Refuses code) (IsClosed chapter) row is = absurd row
-ends_with j (Swaps p) (IsClosed chapter) row is = absurd row
-ends_with j Takes (IsClosed chapter) row is = absurd row
-ends_with j (Puts n t) (IsClosed chapter) row is = absurd row
-ends_with j (Reissues n r) (IsClosed chapter) row is = absurd row
-ends_with j (Releases r) (IsClosed chapter) row is = absurd row
+ends_with j event (IsClosed chapter) row is = absurd row
+ends_with j event given row is = refl
 
 grows : (j : Journal) (o : Option EntrySeen) (k : ℕ) (plain : Option NoteSeen) → added_by plain ≡ 0 → end (with_added j o) ≡ end j + added_by (note_or k plain o)
 grows j None k plain none = omega (arith, none)

@@ -1,6 +1,6 @@
 -- The chapters, one after another, and what was gathered of them.
-use Rattle.std.proofs.Common.{◌≡◌, ℕ, zero, suc, ◌+◌, ◌-◌, ◌<◌, ◌≤◌, ◌&&◌, ◌⊎◌, inl, inr, Bool, true, false, List, [], ◌∷◌, ◌++◌, length, get_or, drop, take, Option, None, Some, slice_get, refl, sym, ap, subst, ◌∙◌, arith, length-append, append-nil, append_assoc}
-use Rattle.std.specs.Prelude.{◌↔◌, IsTrue, cond, count_by, flat_map, nat_le}
+use Rattle.std.proofs.Common.{◌≡◌, ℕ, zero, suc, ◌+◌, ◌-◌, ◌<◌, ◌≤◌, ◌&&◌, ◌⊎◌, inl, inr, Bool, true, false, List, [], ◌∷◌, ◌++◌, length, get_or, drop, take, Some, slice_get, refl, sym, ap, subst, ◌∙◌, arith, length-append, append-nil, append_assoc}
+use Rattle.std.specs.Prelude.{◌↔◌, IsTrue, cond, count_by, nat_le}
 use Rattle.std.proofs.lemmas.Grind.{common_steps}
 use Rattle.std.proofs.lemmas.Bool.{cases_lt, false≢true}
 use Rattle.std.specs.List.Sorted.{IsStrictlyIncreasing}
@@ -9,9 +9,9 @@ use Rattle.std.proofs.lemmas.Option.{slice_get_past}
 use Rattle.gw_gate.specs.Chapters.{all_entries}
 use Rattle.gw_gate.proofs.Entering.{as_long}
 use Rattle.gw_gate.specs.Entries.{entries_seen, start_seen}
-use Rattle.gw_gate.specs.Journal.{EntrySeen, WasAccepted, WasRefused, WasSwapped, WasTaken, WasKept, WasIssued, WasOut, Start, Journal, accepted, arrivals, current, end, start_after}
+use Rattle.gw_gate.specs.Journal.{EntrySeen, WasAccepted, WasRefused, Start, Journal, accepted, arrivals, current, end, start_after}
 use Rattle.gw_gate.specs.Parts.{PlanSeen}
-use Rattle.gw_run.proofs.Marking.{take_past}
+use Rattle.std.proofs.lemmas.List.{take_all}
 use Rattle.gw_run.specs.Report.{is_of}
 use Rattle.gw_run.specs.Turns.{Passes}
 use Rattle.gw_run.specs.declared.report.Kind.{Kind}
@@ -206,27 +206,18 @@ counts kind e h = sum_by-cons (λ (x : EntrySeen). cond (is_of kind x) 1 0) e h
 accepted_count : (h : List EntrySeen) → length (accepted h) ≡ count_by (is_of Accepted) h
 accepted_count [] = refl
 accepted_count (WasAccepted n arrival c ∷ h) = let e = counts Accepted (WasAccepted n arrival c) h in omega (arith, e, accepted_count h)
-accepted_count (WasRefused arrival code ∷ h) = let e = counts Accepted (WasRefused arrival code) h in omega (arith, e, accepted_count h)
-accepted_count (WasSwapped v p ∷ h) = let e = counts Accepted (WasSwapped v p) h in omega (arith, e, accepted_count h)
-accepted_count (WasTaken n r ∷ h) = let e = counts Accepted (WasTaken n r) h in omega (arith, e, accepted_count h)
-accepted_count (WasKept n t ∷ h) = let e = counts Accepted (WasKept n t) h in omega (arith, e, accepted_count h)
-accepted_count (WasIssued n r ∷ h) = let e = counts Accepted (WasIssued n r) h in omega (arith, e, accepted_count h)
-accepted_count (WasOut n r t ∷ h) = let e = counts Accepted (WasOut n r t) h in omega (arith, e, accepted_count h)
+accepted_count (x ∷ h) = let e = counts Accepted x h in omega (arith, e, accepted_count h)
 
 arrived_count : (h : List EntrySeen) → arrivals h ≡ count_by (is_of Arrived) h
 arrived_count [] = refl
 arrived_count (WasAccepted n arrival c ∷ h) = let e = counts Arrived (WasAccepted n arrival c) h in omega (arith, e, arrived_count h)
 arrived_count (WasRefused arrival code ∷ h) = let e = counts Arrived (WasRefused arrival code) h in omega (arith, e, arrived_count h)
-arrived_count (WasSwapped v p ∷ h) = let e = counts Arrived (WasSwapped v p) h in omega (arith, e, arrived_count h)
-arrived_count (WasTaken n r ∷ h) = let e = counts Arrived (WasTaken n r) h in omega (arith, e, arrived_count h)
-arrived_count (WasKept n t ∷ h) = let e = counts Arrived (WasKept n t) h in omega (arith, e, arrived_count h)
-arrived_count (WasIssued n r ∷ h) = let e = counts Arrived (WasIssued n r) h in omega (arith, e, arrived_count h)
-arrived_count (WasOut n r t ∷ h) = let e = counts Arrived (WasOut n r t) h in omega (arith, e, arrived_count h)
+arrived_count (x ∷ h) = let e = counts Arrived x h in omega (arith, e, arrived_count h)
 
 module _ (j : Journal) (part : Part) (tells : TellsPart j part) where
   module _ (turn : ℕ) (there : Passes part.past.swaps.items (length part.entries.now) turn) where
     whole : take (length part.entries.now) j.entries ≡ j.entries
-    whole = take_past (length part.entries.now) j.entries (let l = ap length tells.entries_are ∙ as_long part.entries.now in omega (arith, l))
+    whole = take_all (length part.entries.now) j.entries (let l = ap length tells.entries_are ∙ as_long part.entries.now in omega (arith, l))
 
     pub version_is : (start_after j).version ≡ part.start.now.version + turn
     version_is =
@@ -280,7 +271,7 @@ tells_next js parts new i j part lt is added all this =
 pub tells_end : (js : List Journal) (parts new : List Part) (i : ℕ) (j : Journal) (part : Part) → length js ≤ i → new ≡ parts ++ part ∷ []
     → TellsAll (take i js) parts → TellsPart j part → TellsAll (js ++ j ∷ []) new
 tells_end js parts new i j part le added all this =
-    subst (TellsAll (js ++ j ∷ [])) (sym added) (tells_more js parts j part (subst (λ l. TellsAll l parts) (take_past i js le) all) this)
+    subst (TellsAll (js ++ j ∷ [])) (sym added) (tells_more js parts j part (subst (λ l. TellsAll l parts) (take_all i js le) all) this)
 
 -- ---- entries that are counted, part by part
 

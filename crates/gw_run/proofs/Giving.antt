@@ -1,19 +1,20 @@
 -- What one pass has receipts of is what was given out.
-use Rattle.std.proofs.Common.{◌≡◌, ◌≢◌, ℕ, zero, suc, ◌+◌, ◌-◌, ◌<◌, ◌≤◌, ◌==◌, ◌&&◌, ◌⊎◌, inl, inr, Bool, true, false, if◌then◌else◌, List, [], ◌∷◌, ◌++◌, length, map, drop, Option, None, Some, slice_get, refl, sym, ap, subst, ◌∙◌, arith}
-use Rattle.std.specs.Prelude.{cond, nat_le, flat_map}
+use Rattle.std.proofs.Common.{◌≡◌, ◌≢◌, ℕ, zero, suc, ◌+◌, ◌-◌, ◌<◌, ◌≤◌, ◌==◌, ◌&&◌, ◌⊎◌, inl, inr, Bool, true, false, if◌then◌else◌, List, [], ◌∷◌, ◌++◌, length, map, drop, Some, slice_get, refl, sym, ap, subst, ◌∙◌, arith}
+use Rattle.std.specs.Prelude.{cond, nat_le, flat_map, is_some}
 use Rattle.std.specs.List.{list_all, range_with_len}
 use Rattle.std.proofs.lemmas.Grind.{common_steps}
 use Rattle.std.proofs.lemmas.Bool.{cases_eq, cases_lt, false≢true, false_from_ne_true}
 use Rattle.std.proofs.lemmas.List.Sums.{sum_by-cons, sum_by-append}
-use Rattle.std.proofs.lemmas.Option.{none-some, slice_get_within}
-use Rattle.gw_reorder.proofs.Places.{equals, differs, equal_numbers}
+use Rattle.std.proofs.lemmas.Option.{slice_get_within}
+use Rattle.gw_reorder.proofs.Places.{differs, equal_numbers}
 use Rattle.gw_gate.specs.Parts.{same_translated}
 use Rattle.gw_gate.specs.Chapters.{all_entries}
-use Rattle.gw_gate.specs.Journal.{EntrySeen, WasAccepted, WasRefused, WasSwapped, WasTaken, WasKept, WasIssued, WasOut, Journal, Release, released}
+use Rattle.gw_gate.specs.Journal.{EntrySeen, WasOut, Journal, Release, released}
 use Rattle.gw_gate.specs.Same.{same_entry}
-use Rattle.gw_crew.specs.Notes.{NoteSeen, Looked, WasStale, WasFull, WasIdle, WasNothing, Added, ReceiptSeen}
+use Rattle.gw_gate.proofs.Journals.{released-append}
+use Rattle.gw_crew.specs.Notes.{NoteSeen, Added, ReceiptSeen}
 use Rattle.gw_run.specs.Passes.{receipts}
-use Rattle.gw_run.specs.Settled.{Settled, agrees, are_all, first_of, fits_between, having, is_same, last_end, next_at, stands}
+use Rattle.gw_run.specs.Settled.{Settled, agrees, first_of, fits_between, having, is_same, last_end, next_at, stands}
 use Rattle.gw_run.proofs.Following.{ends_all}
 use Rattle.gw_run.specs.Given.{NoneGiven, are_same, entry_of, given_by, given_out, same_release}
 
@@ -50,136 +51,61 @@ le_of a b is = by (cases_lt b a)
 
 -- ---- entries that give something out
 
+-- whether an entry gives something out for the receiver
 abbrev is_out : EntrySeen → ℕ → Bool
-is_out (WasOut n to t) r = to == r
-is_out e r = false
+is_out e r = is_some (slice_get (released (e ∷ []) r) 0)
+
+none_is : (xs : List Release) → is_some (slice_get xs 0) ≡ false → xs ≡ []
+none_is [] is = refl
+none_is (x ∷ xs) is = absurd (false≢true (sym is))
 
 calm : (e : EntrySeen) (h : List EntrySeen) (r : ℕ) → is_out e r ≡ false → released (e ∷ h) r ≡ released h r
-calm (WasAccepted n arrival c) h r is = refl
-calm (WasRefused arrival code) h r is = refl
-calm (WasSwapped v p) h r is = refl
-calm (WasTaken n to) h r is = refl
-calm (WasKept n t) h r is = refl
-calm (WasIssued n to) h r is = refl
-calm (WasOut n to t) h r is = ap (λ b. if b then record { n = n; translated = t } ∷ released h r else released h r) is
+calm e h r is = released-append (e ∷ []) h r ∙ ap (λ l. l ++ released h r) (none_is (released (e ∷ []) r) is)
 
 out_some : (e : EntrySeen) (h : List EntrySeen) (r : ℕ) → is_out e r ≡ true → released (e ∷ h) r ≡ [] → ⊥
-out_some (WasAccepted n arrival c) h r is none = absurd (false≢true is)
-out_some (WasRefused arrival code) h r is none = absurd (false≢true is)
-out_some (WasSwapped v p) h r is none = absurd (false≢true is)
-out_some (WasTaken n to) h r is none = absurd (false≢true is)
-out_some (WasKept n t) h r is none = absurd (false≢true is)
-out_some (WasIssued n to) h r is none = absurd (false≢true is)
-out_some (WasOut n to t) h r is none = let out : released (WasOut n to t ∷ h) r ≡ record { n = n; translated = t } ∷ released h r = ap (λ b. if b then record { n = n; translated = t } ∷ released h r else released h r) is in absurd (let long = ap length (sym out ∙ none) in omega (arith, long))
+out_some e h r is none = by (released (e ∷ []) r) is (sym (released-append (e ∷ []) h r) ∙ none)
+  where
+    by : (xs : List Release) → is_some (slice_get xs 0) ≡ true → xs ++ released h r ≡ [] → ⊥
+    by [] some empty = false≢true some
+    by (x ∷ xs) some empty = absurd (let long = ap length empty in omega (arith, long))
 
-same_kind : (e f : EntrySeen) (r : ℕ) → same_entry e f ≡ true → is_out e r ≡ is_out f r
-same_kind (WasAccepted n1 arrival1 c1) (WasAccepted n arrival c) r is = refl
-same_kind (WasAccepted n1 arrival1 c1) (WasRefused arrival code) r is = refl
-same_kind (WasAccepted n1 arrival1 c1) (WasSwapped v p) r is = refl
-same_kind (WasAccepted n1 arrival1 c1) (WasTaken n to) r is = refl
-same_kind (WasAccepted n1 arrival1 c1) (WasKept n t) r is = refl
-same_kind (WasAccepted n1 arrival1 c1) (WasIssued n to) r is = refl
-same_kind (WasAccepted n1 arrival1 c1) (WasOut n to t) r is = absurd (false≢true is)
-same_kind (WasRefused arrival1 code1) (WasAccepted n arrival c) r is = refl
-same_kind (WasRefused arrival1 code1) (WasRefused arrival code) r is = refl
-same_kind (WasRefused arrival1 code1) (WasSwapped v p) r is = refl
-same_kind (WasRefused arrival1 code1) (WasTaken n to) r is = refl
-same_kind (WasRefused arrival1 code1) (WasKept n t) r is = refl
-same_kind (WasRefused arrival1 code1) (WasIssued n to) r is = refl
-same_kind (WasRefused arrival1 code1) (WasOut n to t) r is = absurd (false≢true is)
-same_kind (WasSwapped v1 p1) (WasAccepted n arrival c) r is = refl
-same_kind (WasSwapped v1 p1) (WasRefused arrival code) r is = refl
-same_kind (WasSwapped v1 p1) (WasSwapped v p) r is = refl
-same_kind (WasSwapped v1 p1) (WasTaken n to) r is = refl
-same_kind (WasSwapped v1 p1) (WasKept n t) r is = refl
-same_kind (WasSwapped v1 p1) (WasIssued n to) r is = refl
-same_kind (WasSwapped v1 p1) (WasOut n to t) r is = absurd (false≢true is)
-same_kind (WasTaken n1 to1) (WasAccepted n arrival c) r is = refl
-same_kind (WasTaken n1 to1) (WasRefused arrival code) r is = refl
-same_kind (WasTaken n1 to1) (WasSwapped v p) r is = refl
-same_kind (WasTaken n1 to1) (WasTaken n to) r is = refl
-same_kind (WasTaken n1 to1) (WasKept n t) r is = refl
-same_kind (WasTaken n1 to1) (WasIssued n to) r is = refl
-same_kind (WasTaken n1 to1) (WasOut n to t) r is = absurd (false≢true is)
-same_kind (WasKept n1 t1) (WasAccepted n arrival c) r is = refl
-same_kind (WasKept n1 t1) (WasRefused arrival code) r is = refl
-same_kind (WasKept n1 t1) (WasSwapped v p) r is = refl
-same_kind (WasKept n1 t1) (WasTaken n to) r is = refl
-same_kind (WasKept n1 t1) (WasKept n t) r is = refl
-same_kind (WasKept n1 t1) (WasIssued n to) r is = refl
-same_kind (WasKept n1 t1) (WasOut n to t) r is = absurd (false≢true is)
-same_kind (WasIssued n1 to1) (WasAccepted n arrival c) r is = refl
-same_kind (WasIssued n1 to1) (WasRefused arrival code) r is = refl
-same_kind (WasIssued n1 to1) (WasSwapped v p) r is = refl
-same_kind (WasIssued n1 to1) (WasTaken n to) r is = refl
-same_kind (WasIssued n1 to1) (WasKept n t) r is = refl
-same_kind (WasIssued n1 to1) (WasIssued n to) r is = refl
-same_kind (WasIssued n1 to1) (WasOut n to t) r is = absurd (false≢true is)
-same_kind (WasOut n1 to1 t1) (WasAccepted n arrival c) r is = absurd (false≢true is)
-same_kind (WasOut n1 to1 t1) (WasRefused arrival code) r is = absurd (false≢true is)
-same_kind (WasOut n1 to1 t1) (WasSwapped v p) r is = absurd (false≢true is)
-same_kind (WasOut n1 to1 t1) (WasTaken n to) r is = absurd (false≢true is)
-same_kind (WasOut n1 to1 t1) (WasKept n t) r is = absurd (false≢true is)
-same_kind (WasOut n1 to1 t1) (WasIssued n to) r is = absurd (false≢true is)
-same_kind (WasOut m at u) (WasOut n to t) r is = ap (λ q. q == r) (equal_numbers at to (middle (m == n) (at == to) (same_translated u t) is))
+-- the same entries give out the same
+same_out : (e f : EntrySeen) (r : ℕ) → same_entry e f ≡ true → are_same (released (e ∷ []) r) (released (f ∷ []) r) ≡ true
+same_out (WasOut m at u) (WasOut n to t) r is = by (at == r) (to == r) (ap (λ q. q == r) (equal_numbers at to (middle (m == n) (at == to) (same_translated u t) is)))
+  where
+    one : same_release (record { n = m; translated = u }) (record { n = n; translated = t }) ≡ true
+    one = outer_two (m == n) (at == to) (same_translated u t) is
 
-out_both : (m n : ℕ) (b d : Bool) (fs hs : List Release) (x y : Release) → b ≡ d → same_release x y ≡ true → are_same fs hs ≡ true
-    → are_same (if b then x ∷ fs else fs) (if d then y ∷ hs else hs) ≡ true
-out_both m n true true fs hs x y e same rest = and_both (same_release x y) (are_same fs hs) same rest
-out_both m n true false fs hs x y e same rest = absurd (false≢true (sym e))
-out_both m n false true fs hs x y e same rest = absurd (false≢true e)
-out_both m n false false fs hs x y e same rest = rest
+    by : (b d : Bool) → b ≡ d → are_same (if b then record { n = m; translated = u } ∷ [] else []) (if d then record { n = n; translated = t } ∷ [] else []) ≡ true
+    by true true e = and_both (same_release (record { n = m; translated = u }) (record { n = n; translated = t })) true one refl
+    by true false e = absurd (false≢true (sym e))
+    by false true e = absurd (false≢true e)
+    by false false e = refl
+same_out (WasOut m at u) f r is = absurd (false≢true is)
+same_out e (WasOut n to t) r is = absurd (false≢true is)
+same_out e f r is = refl
+
+same_append : (xs ys gs hs : List Release) → are_same xs ys ≡ true → are_same gs hs ≡ true → are_same (xs ++ gs) (ys ++ hs) ≡ true
+same_append [] [] gs hs one rest = rest
+same_append [] (y ∷ ys) gs hs one rest = absurd (false≢true one)
+same_append (x ∷ xs) [] gs hs one rest = absurd (false≢true one)
+same_append (x ∷ xs) (y ∷ ys) gs hs one rest =
+    and_both (same_release x y) (are_same (xs ++ gs) (ys ++ hs)) (and_first (same_release x y) (are_same xs ys) one)
+    (same_append xs ys gs hs (and_second (same_release x y) (are_same xs ys) one) rest)
 
 heads : (e f : EntrySeen) (g h : List EntrySeen) (r : ℕ) → same_entry e f ≡ true → are_same (released g r) (released h r) ≡ true → are_same (released (e ∷ g) r) (released (f ∷ h) r) ≡ true
-heads (WasAccepted n1 arrival1 c1) (WasAccepted n arrival c) g h r is rest = rest
-heads (WasAccepted n1 arrival1 c1) (WasRefused arrival code) g h r is rest = rest
-heads (WasAccepted n1 arrival1 c1) (WasSwapped v p) g h r is rest = rest
-heads (WasAccepted n1 arrival1 c1) (WasTaken n to) g h r is rest = rest
-heads (WasAccepted n1 arrival1 c1) (WasKept n t) g h r is rest = rest
-heads (WasAccepted n1 arrival1 c1) (WasIssued n to) g h r is rest = rest
-heads (WasAccepted n1 arrival1 c1) (WasOut n to t) g h r is rest = absurd (false≢true is)
-heads (WasRefused arrival1 code1) (WasAccepted n arrival c) g h r is rest = rest
-heads (WasRefused arrival1 code1) (WasRefused arrival code) g h r is rest = rest
-heads (WasRefused arrival1 code1) (WasSwapped v p) g h r is rest = rest
-heads (WasRefused arrival1 code1) (WasTaken n to) g h r is rest = rest
-heads (WasRefused arrival1 code1) (WasKept n t) g h r is rest = rest
-heads (WasRefused arrival1 code1) (WasIssued n to) g h r is rest = rest
-heads (WasRefused arrival1 code1) (WasOut n to t) g h r is rest = absurd (false≢true is)
-heads (WasSwapped v1 p1) (WasAccepted n arrival c) g h r is rest = rest
-heads (WasSwapped v1 p1) (WasRefused arrival code) g h r is rest = rest
-heads (WasSwapped v1 p1) (WasSwapped v p) g h r is rest = rest
-heads (WasSwapped v1 p1) (WasTaken n to) g h r is rest = rest
-heads (WasSwapped v1 p1) (WasKept n t) g h r is rest = rest
-heads (WasSwapped v1 p1) (WasIssued n to) g h r is rest = rest
-heads (WasSwapped v1 p1) (WasOut n to t) g h r is rest = absurd (false≢true is)
-heads (WasTaken n1 to1) (WasAccepted n arrival c) g h r is rest = rest
-heads (WasTaken n1 to1) (WasRefused arrival code) g h r is rest = rest
-heads (WasTaken n1 to1) (WasSwapped v p) g h r is rest = rest
-heads (WasTaken n1 to1) (WasTaken n to) g h r is rest = rest
-heads (WasTaken n1 to1) (WasKept n t) g h r is rest = rest
-heads (WasTaken n1 to1) (WasIssued n to) g h r is rest = rest
-heads (WasTaken n1 to1) (WasOut n to t) g h r is rest = absurd (false≢true is)
-heads (WasKept n1 t1) (WasAccepted n arrival c) g h r is rest = rest
-heads (WasKept n1 t1) (WasRefused arrival code) g h r is rest = rest
-heads (WasKept n1 t1) (WasSwapped v p) g h r is rest = rest
-heads (WasKept n1 t1) (WasTaken n to) g h r is rest = rest
-heads (WasKept n1 t1) (WasKept n t) g h r is rest = rest
-heads (WasKept n1 t1) (WasIssued n to) g h r is rest = rest
-heads (WasKept n1 t1) (WasOut n to t) g h r is rest = absurd (false≢true is)
-heads (WasIssued n1 to1) (WasAccepted n arrival c) g h r is rest = rest
-heads (WasIssued n1 to1) (WasRefused arrival code) g h r is rest = rest
-heads (WasIssued n1 to1) (WasSwapped v p) g h r is rest = rest
-heads (WasIssued n1 to1) (WasTaken n to) g h r is rest = rest
-heads (WasIssued n1 to1) (WasKept n t) g h r is rest = rest
-heads (WasIssued n1 to1) (WasIssued n to) g h r is rest = rest
-heads (WasIssued n1 to1) (WasOut n to t) g h r is rest = absurd (false≢true is)
-heads (WasOut n1 to1 t1) (WasAccepted n arrival c) g h r is rest = absurd (false≢true is)
-heads (WasOut n1 to1 t1) (WasRefused arrival code) g h r is rest = absurd (false≢true is)
-heads (WasOut n1 to1 t1) (WasSwapped v p) g h r is rest = absurd (false≢true is)
-heads (WasOut n1 to1 t1) (WasTaken n to) g h r is rest = absurd (false≢true is)
-heads (WasOut n1 to1 t1) (WasKept n t) g h r is rest = absurd (false≢true is)
-heads (WasOut n1 to1 t1) (WasIssued n to) g h r is rest = absurd (false≢true is)
-heads (WasOut m at u) (WasOut n to t) g h r is rest = out_both m n (at == r) (to == r) (released g r) (released h r) (record { n = m; translated = u }) (record { n = n; translated = t }) (same_kind (WasOut m at u) (WasOut n to t) r is) (outer_two (m == n) (at == to) (same_translated u t) is) rest
+heads e f g h r is rest =
+    ap (λ l. are_same l (released (f ∷ h) r)) (released-append (e ∷ []) g r) ∙ ap (are_same (released (e ∷ []) r ++ released g r)) (released-append (f ∷ []) h r)
+    ∙ same_append (released (e ∷ []) r) (released (f ∷ []) r) (released g r) (released h r) (same_out e f r is) rest
+
+some_alike : (xs ys : List Release) → are_same xs ys ≡ true → is_some (slice_get xs 0) ≡ is_some (slice_get ys 0)
+some_alike [] [] is = refl
+some_alike [] (y ∷ ys) is = absurd (false≢true is)
+some_alike (x ∷ xs) [] is = absurd (false≢true is)
+some_alike (x ∷ xs) (y ∷ ys) is = refl
+
+same_kind : (e f : EntrySeen) (r : ℕ) → same_entry e f ≡ true → is_out e r ≡ is_out f r
+same_kind e f r is = some_alike (released (e ∷ []) r) (released (f ∷ []) r) (same_out e f r is)
 
 -- ---- receipts of one pass
 
@@ -198,22 +124,14 @@ rising js low [] is = tt
 rising js low (Added at e ∷ notes) is =
     let here = and_first (nat_le low at && stands js at e) (agrees js (at + 1) notes) is in
     (le_of low at (and_first (nat_le low at) (stands js at e) here), rising js (at + 1) notes (and_second (nat_le low at && stands js at e) (agrees js (at + 1) notes) is))
-rising js low (Looked v p ∷ notes) is = rising js low notes (and_second (fits_between js low (next_at (last_end 0 js) notes) (Looked v p)) (agrees js low notes) is)
-rising js low (WasStale v c ∷ notes) is = rising js low notes (and_second (fits_between js low (next_at (last_end 0 js) notes) (WasStale v c)) (agrees js low notes) is)
-rising js low (WasFull ∷ notes) is = rising js low notes (and_second (fits_between js low (next_at (last_end 0 js) notes) WasFull) (agrees js low notes) is)
-rising js low (WasIdle ∷ notes) is = rising js low notes (and_second (fits_between js low (next_at (last_end 0 js) notes) WasIdle) (agrees js low notes) is)
-rising js low (WasNothing r ∷ notes) is = rising js low notes (and_second (fits_between js low (next_at (last_end 0 js) notes) (WasNothing r)) (agrees js low notes) is)
+rising js low (note ∷ notes) is = rising js low notes (and_second (fits_between js low (next_at (last_end 0 js) notes) note) (agrees js low notes) is)
 
 standing : (js : List Journal) (low : ℕ) (notes : List NoteSeen) → agrees js low notes ≡ true → StandIn (all_entries js) (first_of js) (receipts notes)
 standing js low [] is = tt
 standing js low (Added at e ∷ notes) is =
     let here = and_first (nat_le low at && stands js at e) (agrees js (at + 1) notes) is in
     (and_second (nat_le (first_of js) at) (is_same e (slice_get (all_entries js) (at - first_of js))) (and_second (nat_le low at) (stands js at e) here), standing js (at + 1) notes (and_second (nat_le low at && stands js at e) (agrees js (at + 1) notes) is))
-standing js low (Looked v p ∷ notes) is = standing js low notes (and_second (fits_between js low (next_at (last_end 0 js) notes) (Looked v p)) (agrees js low notes) is)
-standing js low (WasStale v c ∷ notes) is = standing js low notes (and_second (fits_between js low (next_at (last_end 0 js) notes) (WasStale v c)) (agrees js low notes) is)
-standing js low (WasFull ∷ notes) is = standing js low notes (and_second (fits_between js low (next_at (last_end 0 js) notes) WasFull) (agrees js low notes) is)
-standing js low (WasIdle ∷ notes) is = standing js low notes (and_second (fits_between js low (next_at (last_end 0 js) notes) WasIdle) (agrees js low notes) is)
-standing js low (WasNothing r ∷ notes) is = standing js low notes (and_second (fits_between js low (next_at (last_end 0 js) notes) (WasNothing r)) (agrees js low notes) is)
+standing js low (note ∷ notes) is = standing js low notes (and_second (fits_between js low (next_at (last_end 0 js) notes) note) (agrees js low notes) is)
 
 lower : (m n : ℕ) (all : List ReceiptSeen) → m ≤ n → Rising n all → Rising m all
 lower m n [] le up = tt

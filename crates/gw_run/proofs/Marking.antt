@@ -1,5 +1,5 @@
 -- How often numbers are those of receipts.
-use Rattle.std.proofs.Common.{◌≡◌, ◌≢◌, ℕ, zero, suc, ◌+◌, ◌-◌, ◌<◌, ◌≤◌, ◌==◌, ◌&&◌, ◌⊎◌, inl, inr, Bool, true, false, List, [], ◌∷◌, ◌++◌, length, get_or, slice_set, take, Option, None, Some, refl, sym, ap, ◌∙◌, arith, append_assoc, append-nil}
+use Rattle.std.proofs.Common.{◌≡◌, ◌≢◌, ℕ, zero, suc, ◌+◌, ◌-◌, ◌<◌, ◌==◌, ◌&&◌, ◌⊎◌, inl, inr, Bool, true, false, List, [], ◌∷◌, ◌++◌, length, get_or, slice_set, take, Option, None, Some, refl, sym, ap, ◌∙◌, arith, append_assoc, append-nil}
 use Rattle.std.specs.Prelude.{cond, min}
 use Rattle.std.specs.Option.{option_to_list}
 use Rattle.std.specs.List.{list_all, range_with_len}
@@ -99,12 +99,6 @@ not_marked marks since all p was lt other =
 
 pub read_as : (marks : List ℕ) (i x : ℕ) → i < length marks → x ≡ get_or marks i x → x ≡ get_or marks i 0
 read_as marks i x lt is = is ∙ (let e : get_or marks i x ≡ get_or marks i 0 = grind (arith, common_steps, gets) in e)
-
-pub take_past : {X : Type 0} (k : ℕ) (xs : List X) → length xs ≤ k → take k xs ≡ xs
-take_past zero [] le = refl
-take_past zero (x ∷ xs) le = absurd (omega arith)
-take_past (suc k) [] le = refl
-take_past (suc k) (x ∷ xs) le = ap (λ l. x ∷ l) (take_past k xs (omega arith))
 
 pub not_all_at : (test : List NoteSeen → Bool) (passes : List PassSeen) (i : ℕ) (pass : PassSeen) → i < length passes → pass ≡ get_or passes i pass → test pass.notes ≡ false → list_all test (notes_of passes) ≡ false
 not_all_at test [] i pass lt is fails = absurd (omega arith)

@@ -5,7 +5,7 @@ use Rattle.std.proofs.lemmas.Grind.{common_steps}
 use Rattle.std.proofs.lemmas.Bool.{cases_lt}
 use Rattle.std.proofs.lemmas.Option.{none-some}
 use Rattle.gw_gate.specs.Journal.{EntrySeen, Journal}
-use Rattle.gw_crew.specs.Notes.{NoteSeen, Looked, WasStale, WasFull, WasIdle, WasNothing, Added}
+use Rattle.gw_crew.specs.Notes.{NoteSeen, Added}
 use Rattle.gw_run.specs.Settled.{agrees, fits_between, is_same, last_end, next_at, stands}
 use Rattle.gw_run.specs.own.Joins.{IsFirst, is_receipt, meets, next_by}
 use Rattle.gw_run.specs.Turns.{is_within}
@@ -72,12 +72,8 @@ receipt_none js low need at e notes is = by (stands js at e) refl is
 
 other_is : (js : List Journal) (low need : ℕ) (note : NoteSeen) (notes : List NoteSeen) → IsTrue (not (is_receipt note))
     → meets js low need (note ∷ notes) ≡ ((fits_between js low (next_at (last_end 0 js) notes) note && agrees js low notes) && nat_le need (next_at (last_end 0 js) notes))
-other_is js low need (Looked v p) notes other = refl
-other_is js low need (WasStale v c) notes other = refl
-other_is js low need WasFull notes other = refl
-other_is js low need WasIdle notes other = refl
-other_is js low need (WasNothing r) notes other = refl
 other_is js low need (Added at e) notes other = absurd (cc)
+other_is js low need note notes other = refl
 
 both_max : (a b h : ℕ) → (nat_le a h && nat_le b h) ≡ nat_le (max a b) h
 both_max a b h = by (cases_lt h a) (cases_lt h b)

@@ -1,94 +1,109 @@
--- What was accepted and kept in a lawful journal, at any time.
-use Rattle.std.proofs.Common.{◌≡◌, ℕ, ◌+◌, ◌-◌, ◌<◌, ◌≤◌, ◌==◌, ◌&&◌, ◌⊎◌, inl, inr, Bool, true, false, if◌then◌else◌, List, [], ◌∷◌, ◌++◌, length, map, take, Option, None, Some, option_map, slice_get, refl, sym, ap, subst, ◌∙◌, arith, length-append}
-use Rattle.std.specs.Prelude.{nat_lt}
-use Rattle.std.proofs.lemmas.Bool.{cases_lt}
-use Rattle.std.proofs.lemmas.Grind.{common_steps}
-use Rattle.std.proofs.lemmas.List.{length-map, take-append-le}
-use Rattle.std.proofs.lemmas.Option.{none-some, slice_get_past}
-use Rattle.gw_reorder.proofs.Places.{equal_numbers}
-use Rattle.gw_gate.specs.Parts.{MessageSeen, ConformingSeen, TranslatedSeen}
-use Rattle.gw_gate.specs.own.Books.{journal_of}
+-- What an entry of a lawful journal says of those before it.
+use Rattle.std.proofs.Common.{◌≡◌, ℕ, ◌+◌, ◌<◌, ◌≤◌, ◌⊎◌, inl, inr, Bool, true, false, if◌then◌else◌, List, [], ◌∷◌, ◌++◌, length, map, take, Option, None, Some, slice_get, refl, sym, ap, subst, ◌∙◌, arith, length-append}
+use Rattle.std.specs.Prelude.{not, ◌&&◌, ⊤}
+use Rattle.std.proofs.lemmas.Bool.{cases_lt, false≢true}
+use Rattle.std.proofs.lemmas.List.{append_cancel_left, take-append-le, take_all}
+use Rattle.gw_gate.specs.Parts.{TranslatedSeen, is_under, same_receivers}
+use Rattle.gw_gate.specs.Chapters.{is_pending}
 use Rattle.gw_gate.specs.Headline.{CountFrom, IsTranslated}
-use Rattle.gw_gate.specs.Journal.{EntrySeen, WasAccepted, WasRefused, WasSwapped, WasTaken, WasKept, WasIssued, WasOut, Start, Acceptance, acceptance, accepted, kept}
-use Rattle.gw_gate.specs.Lawful.{Lawful, empty, more, IsLawful}
+use Rattle.gw_gate.specs.Journal.{EntrySeen, WasAccepted, WasKept, WasOut, Start, Journal, Pair, acceptance, accepted, current, due, is_due, issued, jobs, kept, next_arrival, next_number, released}
+use Rattle.gw_gate.specs.Lawful.{Lawful, empty, more, IsEvent}
 use Rattle.gw_gate.specs.Meaning.{Makes}
-use Rattle.gw_gate.specs.Replies.{most, reply_to}
-use Rattle.gw_gate.proofs.Accounts.{acceptance_is, under}
-use Rattle.gw_gate.proofs.Journals.{acceptance_stays, either, kept-append}
-use Rattle.gw_gate.proofs.Numbering.{n_of, lawful_numbers}
-use Rattle.gw_gate.proofs.Releasing.{journal, Next, next, unlimited}
-use Rattle.gw_run.specs.Owing.{Ordered}
-use Rattle.gw_run.proofs.Dues.{counted_until}
-use Rattle.gw_run.proofs.Marking.{take_past}
+use Rattle.gw_gate.specs.Replies.{EventSeen, Looks, Arrives, Refuses, Swaps, Takes, Puts, Reissues, Releases, Cuts, IsAccepted, IsStale, IsSwapped, IsUnlike, IsStranger, IsRepeat, IsKept, IsDone, IsIssued, IsPending, IsClosed, added, is_kept, is_of, job_of, job_with, most, out_of, out_with, reply_to}
+use Rattle.gw_gate.proofs.Numbering.{counted, n_of}
+use Rattle.gw_gate.proofs.Releasing.{NextOut, journal, next, some_is, unlimited}
+use Rattle.gw_run.specs.Owing.{AreLawful}
+
+-- ---- what is kept is due
+
+abbrev keeps : Option EntrySeen → Bool
+keeps (Some (WasKept n t)) = true
+keeps o = false
+
+took : (h : List EntrySeen) (o : Option Pair) → keeps (added Takes (job_of h o)) ≡ false
+took h None = refl
+took h (Some p) = elim (acceptance h p.n) as (λ o. keeps (added Takes (job_with p o)) ≡ false) [ None ↦ refl | Some a ↦ refl ]
+
+gave : (h : List EntrySeen) (r : ℕ) (o : Option ℕ) → keeps (added (Releases r) (out_of h r o)) ≡ false
+gave h r None = refl
+gave h r (Some n) = elim (kept h n r) as (λ o. keeps (added (Releases r) (out_with n o)) ≡ false) [ None ↦ refl | Some t ↦ refl ]
+
+no_other : (j : Journal) (event : EventSeen) (n : ℕ) (t : TranslatedSeen) → keeps (added event (reply_to j event)) ≡ false → added event (reply_to j event) ≡ Some (WasKept n t) → ⊥
+no_other j event n t other is = false≢true (sym other ∙ ap keeps is)
+
+put_due : (j : Journal) (event : EventSeen) (n : ℕ) (t : TranslatedSeen) → added event (reply_to j event) ≡ Some (WasKept n t) → is_due j.entries n t.receiver ≡ true
+put_due j Looks n t is = absurd (no_other j Looks n t refl is)
+put_due j (Arrives c) n t is =
+    absurd (no_other j (Arrives c) n t
+    (elim (is_under c (current j).number (current j).plan) as (λ b. keeps (added (Arrives c) (if b then IsAccepted (next_number j) (next_arrival j) else IsStale (current j).number c)) ≡ false) [ true ↦ refl | false ↦ refl ]) is)
+put_due j (Refuses code) n t is = absurd (no_other j (Refuses code) n t refl is)
+put_due j (Swaps p) n t is =
+    absurd (no_other j (Swaps p) n t
+    (elim (same_receivers p j.start.plan) as (λ b. keeps (added (Swaps p) (if b then IsSwapped ((current j).number + 1) else IsUnlike p)) ≡ false) [ true ↦ refl | false ↦ refl ]) is)
+put_due j Takes n t is = absurd (no_other j Takes n t (took j.entries (slice_get (issued j.entries) (jobs j.entries))) is)
+put_due j (Puts m u) n t is = by (is_due j.entries m u.receiver) refl (is_of u (acceptance j.entries m)) (is_kept j.entries m u.receiver) is
+  where
+    same : Some (WasKept m u) ≡ Some (WasKept n t) → is_due j.entries m u.receiver ≡ true → is_due j.entries n t.receiver ≡ true
+    same e = subst (λ x. is_due j.entries m u.receiver ≡ true → due_in x ≡ true) (some_is (WasKept m u) (WasKept n t) e) (λ d. d)
+      where
+        due_in : EntrySeen → Bool
+        due_in (WasKept k v) = is_due j.entries k v.receiver
+        due_in e = false
+
+    by : (due : Bool) → is_due j.entries m u.receiver ≡ due → (of kept : Bool) → added (Puts m u) (if not (due && of) then IsStranger (Some u) else if kept then IsRepeat u else IsKept) ≡ Some (WasKept n t) → is_due j.entries n t.receiver ≡ true
+    by true d true false e = same e d
+    by true d true true e = absurd (false≢true (ap keeps e))
+    by true d false kept e = absurd (false≢true (ap keeps e))
+    by false d of kept e = absurd (false≢true (ap keeps e))
+put_due j (Reissues m r) n t is =
+    absurd (no_other j (Reissues m r) n t (by (not (is_due j.entries m r)) (is_kept j.entries m r)) is)
+  where
+    by : (b c : Bool) → keeps (added (Reissues m r) (if b then IsStranger None else if c then IsDone else IsIssued)) ≡ false
+    by true c = refl
+    by false true = refl
+    by false false = refl
+put_due j (Releases r) n t is = absurd (no_other j (Releases r) n t (gave j.entries r (slice_get (due j.entries r) (length (released j.entries r)))) is)
+put_due j Cuts n t is =
+    absurd (no_other j Cuts n t (elim (is_pending j) as (λ b. keeps (added Cuts (if b then IsPending else IsClosed j)) ≡ false) [ true ↦ refl | false ↦ refl ]) is)
+
+-- ---- each entry
+
+-- what an entry says of those before it
+abbrev pub Comes : Start → List EntrySeen → EntrySeen → Type 0
+Comes start h (WasAccepted n arrival c) = n ≡ start.acceptances + length (accepted h)
+Comes start h (WasKept n t) = is_due h n t.receiver ≡ true
+Comes start h (WasOut n r t) = NextOut h n r t
+Comes start h e = ⊤
+
+last : (start : Start) (h : List EntrySeen) (event : EventSeen) (e : EntrySeen) → IsEvent (IsTranslated Makes) event → added event (reply_to (journal start h) event) ≡ Some e → Comes start h e
+last start h event (WasAccepted n arrival c) fact adds = (next Makes (journal start h) event (WasAccepted n arrival c) fact adds).counts
+last start h event (WasKept n t) fact adds = put_due (journal start h) event n t adds
+last start h event (WasOut n r t) fact adds = next Makes (journal start h) event (WasOut n r t) fact adds
+last start h event e fact adds = tt
 
 -- the first entries of a lawful journal are lawful
-lawful_until : (IsTranslated : TranslatedSeen → Type 0) (start : Start) (h : List EntrySeen) → Lawful IsTranslated start h → (k : ℕ) → Lawful IsTranslated start (take k h)
-lawful_until IsTranslated start h empty k = subst (Lawful IsTranslated start) (sym (take_past k [] (omega arith))) empty
-lawful_until IsTranslated start h (more g event e lawful fact adds) k = by (lawful_until IsTranslated start g lawful k) (cases_lt (length g) k)
+pub until : (start : Start) (h : List EntrySeen) → Lawful (IsTranslated Makes) start h → (k : ℕ) → Lawful (IsTranslated Makes) start (take k h)
+until start h empty k = subst (Lawful (IsTranslated Makes) start) (sym (take_all k [] (omega arith))) empty
+until start h (more g event e lawful fact adds) k = by (until start g lawful k) (cases_lt (length g) k)
   where
-    by : Lawful IsTranslated start (take k g) → (length g < k) ⊎ (k ≤ length g) → Lawful IsTranslated start (take k (g ++ e ∷ []))
-    by before (inl past) = subst (Lawful IsTranslated start) (sym (take_past k (g ++ e ∷ []) (let l = length-append g (e ∷ []) in omega (arith, l)))) (more g event e lawful fact adds)
-    by before (inr within) = subst (Lawful IsTranslated start) (sym (take-append-le k g (e ∷ []) within)) before
+    by : Lawful (IsTranslated Makes) start (take k g) → (length g < k) ⊎ (k ≤ length g) → Lawful (IsTranslated Makes) start (take k (g ++ e ∷ []))
+    by before (inl past) = subst (Lawful (IsTranslated Makes) start) (sym (take_all k (g ++ e ∷ []) (omega (arith, length-append g (e ∷ []))))) (more g event e lawful fact adds)
+    by before (inr within) = subst (Lawful (IsTranslated Makes) start) (sym (take-append-le k g (e ∷ []) within)) before
 
--- something was accepted under this number
-abbrev Known : List EntrySeen → ℕ → Type 0
-Known h n = (a : Acceptance) × (acceptance h n ≡ Some a)
+-- the last entry
+come : (start : Start) (l : List EntrySeen) → Lawful (IsTranslated Makes) start l → (h : List EntrySeen) (e : EntrySeen) → l ≡ h ++ e ∷ [] → Comes start h e
+come start l empty h e is = absurd (let n = ap length is in omega (arith, n, length-append h (e ∷ [])))
+come start l (more g event f lawful fact adds) h e is =
+    let n = ap length is in
+    let long : length g ≡ length h = omega (arith, n, length-append g (f ∷ []), length-append h (e ∷ [])) in
+    let front : g ≡ h =
+    sym (take-append-le (length g) g (f ∷ []) (omega arith) ∙ take_all (length g) g (omega arith)) ∙ ap (take (length g)) is ∙ take-append-le (length g) h (e ∷ []) (omega (arith, long)) ∙ take_all (length g) h (omega (arith, long)) in
+    let same : f ≡ e = some_is f e (ap (λ x. slice_get x 0) (append_cancel_left h (f ∷ []) (e ∷ []) (ap (λ x. x ++ f ∷ []) (sym front) ∙ is))) in
+    subst (λ x. Comes start x e) front (subst (Comes start g) same (last start g event f fact (unlimited most (journal start g) event (reply_to (journal start g) event) f adds)))
 
-module _ (Means : List ℕ → MessageSeen → ℕ → MessageSeen → Type 0) where
-  -- what the last entry keeps was accepted before
-  known_last : (start : Start) (g : List EntrySeen) (e : EntrySeen) → Next Means (journal start g) e → (n r : ℕ) (t : TranslatedSeen) → kept (e ∷ []) n r ≡ Some t → Known g n
-  known_last start g (WasKept m u) after n r t is = by (m == n) refl is
-    where
-      by : (b : Bool) → (m == n) ≡ b → (if b && (u.receiver == r) then Some u else None) ≡ Some t → Known g n
-      by true e found = (after.by, subst (λ k. acceptance g k ≡ Some after.by) (equal_numbers m n e) after.found)
-      by false e found = absurd (none-some t found)
-  known_last start g (WasAccepted m arrival c) after n r t is = absurd (none-some t is)
-  known_last start g (WasRefused arrival code) after n r t is = absurd (none-some t is)
-  known_last start g (WasSwapped v p) after n r t is = absurd (none-some t is)
-  known_last start g (WasTaken m to) after n r t is = absurd (none-some t is)
-  known_last start g (WasIssued m to) after n r t is = absurd (none-some t is)
-  known_last start g (WasOut m to u) after n r t is = absurd (none-some t is)
+pub comes : (h : List EntrySeen) (lawful : AreLawful h) (k : ℕ) (e : EntrySeen) → take (k + 1) h ≡ take k h ++ e ∷ [] → Comes lawful.start (take k h) e
+comes h lawful k e next = come lawful.start (take (k + 1) h) (until lawful.start h lawful.lawful (k + 1)) (take k h) e next
 
-  -- what is kept is kept under a number that something was accepted under
-  known : (start : Start) (h : List EntrySeen) → Lawful (IsTranslated Means) start h → (n r : ℕ) (t : TranslatedSeen) → kept h n r ≡ Some t → Known h n
-  known start h empty n r t is = absurd (none-some t is)
-  known start h (more g event e lawful fact adds) n r t is =
-      by (known start g lawful n r) (known_last start g e (next Means (journal start g) event e fact (unlimited most (journal start g) event (reply_to (journal start g) event) e adds)) n r)
-      (kept g n r) refl (sym (kept-append g (e ∷ []) n r) ∙ is)
-    where
-      stays : Known g n → Known (g ++ e ∷ []) n
-      stays k = (k.0, acceptance_stays g (e ∷ []) n k.0 k.1)
-
-      by : ((u : TranslatedSeen) → kept g n r ≡ Some u → Known g n) → ((u : TranslatedSeen) → kept (e ∷ []) n r ≡ Some u → Known g n) → (o : Option TranslatedSeen) → kept g n r ≡ o → either o (kept (e ∷ []) n r) ≡ Some t → Known (g ++ e ∷ []) n
-      by before last (Some u) was found = stays (before u was)
-      by before last None was found = stays (last t found)
-
-  -- so nothing is kept under a number that is still to come
-  fresh : (start : Start) (h : List EntrySeen) → Lawful (IsTranslated Means) start h → CountFrom start.acceptances (map n_of (accepted h)) → (n r : ℕ)
-      → start.acceptances + length (accepted h) ≤ n → kept h n r ≡ None
-  fresh start h lawful counted n r past = by (kept h n r) refl
-    where
-      all : List ConformingSeen
-      all = map (λ a. a.conforming) (accepted h)
-
-      not_before : nat_lt n start.acceptances ≡ false
-      not_before = grind (arith, common_steps)
-
-      none : acceptance h n ≡ None
-      none =
-          acceptance_is h start.acceptances n counted
-          ∙ ap (λ b. option_map (under n) (if b then None else slice_get all (n - start.acceptances))) not_before
-          ∙ ap (option_map (under n)) (slice_get_past all (n - start.acceptances) (let l = length-map (accepted h) (λ a. a.conforming) in omega (arith, l, past)))
-
-      by : (o : Option TranslatedSeen) → kept h n r ≡ o → kept h n r ≡ None
-      by None is = is
-      by (Some t) is = let k = known start h lawful n r t is in absurd (none-some k.0 (sym none ∙ k.1))
-
-pub ordered : (s : Start) (h : List EntrySeen) → IsLawful (IsTranslated Makes) (journal_of s h) → Ordered h
-ordered s h lawful =
-    let numbers = lawful_numbers Makes (journal_of s h) lawful in
-    record {
-      first = s.acceptances;
-      counted = numbers.accepted;
-      fresh = λ k n r past. fresh Makes s (take k h) (lawful_until (IsTranslated Makes) s h lawful k) (counted_until s.acceptances h numbers.accepted k) n r past;
-    }
+-- acceptances of the first entries count on
+pub numbered : (h : List EntrySeen) (lawful : AreLawful h) (k : ℕ) → CountFrom lawful.start.acceptances (map n_of (accepted (take k h)))
+numbered h lawful k = (counted Makes lawful.start (take k h) (until lawful.start h lawful.lawful k)).acceptances

@@ -5,7 +5,7 @@ use Rattle.std.proofs.lemmas.List.{map-append}
 use Rattle.gw_gate.specs.declared.event.Entry.{Entry}
 use Rattle.gw_gate.specs.Parts.{PlanSeen}
 use Rattle.gw_gate.specs.own.Books.{journal_of}
-use Rattle.gw_gate.specs.Journal.{EntrySeen, WasAccepted, WasRefused, WasSwapped, WasTaken, WasKept, WasIssued, WasOut, Pair, pair, Start, Version, accepted, issued, jobs, plans, swapped}
+use Rattle.gw_gate.specs.Journal.{EntrySeen, WasAccepted, WasSwapped, WasTaken, Pair, pair, Start, Version, accepted, issued, jobs, plans, swapped}
 use Rattle.gw_gate.specs.Entries.{entry_seen, entries_seen}
 use Rattle.gw_gate.proofs.Journals.{swapped-append, accepted-append}
 use Rattle.gw_gate.proofs.Entering.{jobs-append, issued-append}
@@ -30,13 +30,8 @@ seen_next (x ∷ entries) (suc k) e lt is =
 -- ---- plans
 
 swap_counts : (e : EntrySeen) → length (swapped (e ∷ [])) ≡ (if is_swap e then 1 else 0)
-swap_counts (WasAccepted n arrival c) = refl
-swap_counts (WasRefused arrival code) = refl
 swap_counts (WasSwapped v p) = refl
-swap_counts (WasTaken n r) = refl
-swap_counts (WasKept n t) = refl
-swap_counts (WasIssued n r) = refl
-swap_counts (WasOut n r t) = refl
+swap_counts e = refl
 
 pub swaps_next : (entries : List Entry) (k : ℕ) (e : Entry) (b : Bool) → k < length entries → e ≡ get_or entries k e → b ≡ is_swap (entry_seen e)
     → swaps_in (entries_seen entries) (k + 1) ≡ swaps_in (entries_seen entries) k + (if b then 1 else 0)
@@ -82,22 +77,12 @@ queue_next entries k e old new lt is grows was =
     })
 
 pub one_job : (e : EntrySeen) → jobs (e ∷ []) ≤ 1
-one_job (WasAccepted n arrival c) = omega arith
-one_job (WasRefused arrival code) = omega arith
-one_job (WasSwapped v p) = omega arith
 one_job (WasTaken n r) = omega arith
-one_job (WasKept n t) = omega arith
-one_job (WasIssued n r) = omega arith
-one_job (WasOut n r t) = omega arith
+one_job e = omega arith
 
 pub one_accepted : (e : EntrySeen) → length (accepted (e ∷ [])) ≤ 1
 one_accepted (WasAccepted n arrival c) = omega arith
-one_accepted (WasRefused arrival code) = omega arith
-one_accepted (WasSwapped v p) = omega arith
-one_accepted (WasTaken n r) = omega arith
-one_accepted (WasKept n t) = omega arith
-one_accepted (WasIssued n r) = omega arith
-one_accepted (WasOut n r t) = omega arith
+one_accepted e = omega arith
 
 pub idle_is : (first : ℕ) (h : List EntrySeen) (k : ℕ) (queue : Queue) → Queues (take k h) queue → is_idle_after first h k ≡ is_idle_by first (slice_get queue.pairs.items queue.taken) queue.accepted
 idle_is first h k queue is =

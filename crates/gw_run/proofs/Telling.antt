@@ -1,29 +1,29 @@
 -- What is gathered tells of the whole chapter.
-use Rattle.std.proofs.Common.{◌≡◌, ℕ, zero, suc, ◌+◌, ◌-◌, ◌<◌, ◌≤◌, ◌⊎◌, inl, inr, Bool, true, false, List, [], ◌∷◌, ◌++◌, length, map, take, drop, Option, None, Some, option_map, slice_get, refl, sym, ap, subst, ◌∙◌, arith}
-use Rattle.std.specs.Prelude.{nat_le, nat_lt, is_some, not, ◌||◌, if◌then◌else◌}
+use Rattle.std.proofs.Common.{◌≡◌, ℕ, zero, suc, ◌+◌, ◌-◌, ◌<◌, ◌≤◌, ◌⊎◌, inl, inr, Bool, true, false, List, [], ◌∷◌, length, map, take, drop, Option, None, Some, option_map, slice_get, refl, sym, ap, subst, ◌∙◌, arith}
+use Rattle.std.specs.Prelude.{nat_le, nat_lt, ◌||◌, if◌then◌else◌}
 use Rattle.std.proofs.lemmas.Grind.{common_steps}
 use Rattle.std.proofs.lemmas.Bool.{cases_lt}
-use Rattle.std.proofs.lemmas.List.{length-map, take-append-drop}
+use Rattle.std.proofs.lemmas.List.{length-map, take-append-drop, take_all}
 use Rattle.std.proofs.lemmas.Option.{slice_get-map, slice_get-get_or, slice_get_past, none-some}
-use Rattle.gw_gate.specs.Parts.{PlanSeen, ConformingSeen, TranslatedSeen}
+use Rattle.gw_gate.specs.Parts.{PlanSeen, ConformingSeen}
 use Rattle.gw_gate.specs.own.Books.{journal_of}
 use Rattle.gw_gate.specs.Headline.{CountFrom, IsTranslated}
-use Rattle.gw_gate.specs.Journal.{EntrySeen, Pair, Start, Version, acceptance, accepted, current, due, issued, jobs, plans, released, swapped}
+use Rattle.gw_gate.specs.Journal.{EntrySeen, Pair, Start, Version, acceptance, accepted, current, issued, jobs, plans, swapped}
 use Rattle.gw_gate.specs.Lawful.{IsLawful}
 use Rattle.gw_gate.specs.Meaning.{Makes}
-use Rattle.gw_gate.specs.Replies.{Takes, Releases, is_kept, job_of, job_with, out_of, out_with, reply_to}
+use Rattle.gw_gate.specs.Replies.{Takes, job_of, job_with, reply_to}
 use Rattle.gw_gate.proofs.Accounts.{acceptance_is, under}
 use Rattle.gw_gate.proofs.Journals.{last_stands, plan_stays}
 use Rattle.gw_gate.proofs.Numbering.{n_of, lawful_numbers}
-use Rattle.gw_run.specs.Gathers.{is_idle_after, is_idle_by, is_nothing_after, is_nothing_by, kept_of, numbers_issued, swaps_in}
+use Rattle.gw_run.specs.Gathers.{is_idle_after, is_idle_by, numbers_issued, swaps_in}
+use Rattle.gw_run.specs.Owing.{gives_none}
 use Rattle.gw_run.specs.declared.past.Past.{Past}
-use Rattle.gw_run.specs.own.Joins.{IdleAt, NothingAt, PlansAt, of_receiver, plans_at}
+use Rattle.gw_run.specs.own.Joins.{IdleAt, PlansAt, of_receiver, plans_at}
 use Rattle.gw_run.specs.own.Tellings.{Tells}
-use Rattle.gw_run.specs.Settled.{is_idle, is_nothing}
-use Rattle.gw_run.specs.Turns.{CountsTo, TurnsTo}
-use Rattle.gw_run.proofs.Dues.{counted_until}
+use Rattle.gw_run.specs.Settled.{is_idle}
+use Rattle.gw_run.specs.Turns.{CountsTo, TurnsAt, TurnsTo}
+use Rattle.gw_run.proofs.Ordering.{numbered}
 use Rattle.gw_run.proofs.Fitting.{some_is}
-use Rattle.gw_run.proofs.Marking.{take_past}
 use Rattle.gw_run.proofs.Turning.{counts_done, turns_done}
 
 abbrev number : Version → ℕ
@@ -38,7 +38,7 @@ count_at first (x ∷ xs) zero v all is = let e = ap number (some_is x v is) in 
 count_at first (x ∷ xs) (suc i) v all is = let e = count_at (first + 1) xs i v all.1 is in omega (arith, e)
 
 same_past : {X : Type 0} (h : List X) (k m : ℕ) → length h ≤ k → length h ≤ m → take k h ≡ take m h
-same_past h k m a b = take_past k h a ∙ sym (take_past m h b)
+same_past h k m a b = take_all k h a ∙ sym (take_all m h b)
 
 module _ (s : Start) (h : List EntrySeen) where
   pub current_at : (k : ℕ) → slice_get (plans (journal_of s h)) (swaps_in h k) ≡ Some (current (journal_of s (take k h)))
@@ -104,8 +104,7 @@ module _ (s : Start) (h : List EntrySeen) (lawful : IsLawful (IsTranslated Makes
   idle_at : (k : ℕ) → is_idle (reply_to (journal_of s (take k h)) Takes) ≡ is_idle_after s.acceptances h k
   idle_at k =
       let g = take k h in
-      let numbers = lawful_numbers Makes (journal_of s h) lawful in
-      idle_reply s.acceptances g (counted_until s.acceptances h numbers.accepted k) (slice_get (issued g) (jobs g))
+      idle_reply s.acceptances g (numbered h (record { start = s; lawful = lawful }) k) (slice_get (issued g) (jobs g))
       ∙ ap (λ o. is_idle_by s.acceptances o (length (accepted g))) (sym (slice_get-map number_of (issued g) (jobs g)))
 
   pub tells_idle : (ats : List ℕ) → TurnsTo (is_idle_after s.acceptances h) (length h) ats → IdleAt (journal_of s h) ats
@@ -114,33 +113,11 @@ module _ (s : Start) (h : List EntrySeen) (lawful : IsLawful (IsTranslated Makes
       (λ k le. ap (λ l. is_idle_by s.acceptances (slice_get (numbers_issued l) (jobs l)) (length (accepted l))) (same_past h k (length h) le (omega arith))) turns in
       record { rising = done.rising; tells = λ k i there. idle_at k ∙ done.tells k i there }
 
--- ---- what is to be given out
-
-nothing_with : (n : ℕ) (o : Option TranslatedSeen) → is_nothing (out_with n o) ≡ not (is_some o)
-nothing_with n None = refl
-nothing_with n (Some t) = refl
-
-nothing_reply : (h : List EntrySeen) (r : ℕ) (o : Option ℕ) → is_nothing (out_of h r o) ≡ is_nothing_by (option_map (λ n. is_kept h n r) o)
-nothing_reply h r None = refl
-nothing_reply h r (Some n) = nothing_with n _
-
-module _ (s : Start) (h : List EntrySeen) (r : ℕ) where
-  nothing_at : (k : ℕ) → is_nothing (reply_to (journal_of s (take k h)) (Releases r)) ≡ is_nothing_after h r k
-  nothing_at k =
-      let g = take k h in
-      nothing_reply g r (slice_get (due g r) (length (released g r)))
-      ∙ ap is_nothing_by (sym (slice_get-map (λ n. is_kept g n r) (due g r) (length (released g r))))
-
-  pub tells_nothing : (ats : List ℕ) → TurnsTo (is_nothing_after h r) (length h) ats → NothingAt (journal_of s h) r ats
-  tells_nothing ats turns =
-      let done = turns_done (is_nothing_after h r) (length h) ats (λ k le. ap (λ l. is_nothing_by (slice_get (kept_of l r) (length (released l r)))) (same_past h k (length h) le (omega arith))) turns in
-      record { rising = done.rising; tells = λ k i there. nothing_at k ∙ done.tells k i there }
-
 -- ---- all of it
 
 pub tells_all : (s : Start) (h : List EntrySeen) → IsLawful (IsTranslated Makes) (journal_of s h) → (n : ℕ) → n ≡ length h → (past : Past) → past.start ≡ s.entries → past.last ≡ s.entries + n → past.version ≡ s.version → past.entries ≡ n
     → CountsTo (swaps_in h) n past.swaps.items → plans_at past.plans.items ≡ map plan (plans (journal_of s h)) → TurnsTo (is_idle_after s.acceptances h) n past.idle.items
-    → ((r : ℕ) → TurnsTo (is_nothing_after h r) n (of_receiver past.nothing.items r)) → Tells (journal_of s h) past
+    → ((r : ℕ) → TurnsAt (gives_none h r) (of_receiver past.nothing.items r)) → Tells (journal_of s h) past
 tells_all s h lawful n long past start last version entries swaps are idle nothing = record {
   start = start;
   last = last ∙ ap (λ k. s.entries + k) long;
@@ -148,5 +125,5 @@ tells_all s h lawful n long past start last version entries swaps are idle nothi
   entries = entries ∙ long;
   plans = tells_plans s h lawful past.swaps.items (plans_at past.plans.items) (subst (λ n. CountsTo (swaps_in h) n past.swaps.items) long swaps) are;
   idle = tells_idle s h lawful past.idle.items (subst (λ n. TurnsTo (is_idle_after s.acceptances h) n past.idle.items) long idle);
-  nothing = λ r. tells_nothing s h r (of_receiver past.nothing.items r) (subst (λ n. TurnsTo (is_nothing_after h r) n (of_receiver past.nothing.items r)) long (nothing r));
+  nothing = nothing;
 }

@@ -12,7 +12,7 @@ use Rattle.std.proofs.lemmas.List.FromFn.{length-range_with_len, get_or-range_wi
 use Rattle.std.proofs.lemmas.List.Elements.{All-from_get_or}
 use Rattle.std.proofs.lemmas.List.Kept.{AllPairs-from_increasing}
 use Rattle.std.proofs.lemmas.List.Sorted.{searched}
-use Rattle.gw_reorder.proofs.Places.{equals, differs, equal_numbers, rising_more}
+use Rattle.gw_reorder.proofs.Places.{equals, differs, rising_more}
 use Rattle.gw_run.specs.Turns.{Passes, is_even, is_within, CountsTo, RiseTo, TurnsAt, TurnsTo, HoldsFrom}
 
 -- ---- between two numbers

@@ -1,7 +1,6 @@
 -- What is gathered of the entries of a journal.
-use Rattle.std.specs.Prelude.{ℕ, ◌-◌, nat_le, nat_lt, ◌||◌, Bool, true, false, not, List, map, length, take, slice_get, Option, None, Some}
-use Rattle.gw_gate.specs.Journal.{EntrySeen, WasSwapped, accepted, due, issued, jobs, released, swapped}
-use Rattle.gw_gate.specs.Replies.{is_kept}
+use Rattle.std.specs.Prelude.{ℕ, ◌-◌, nat_le, nat_lt, ◌||◌, Bool, true, false, List, map, length, take, slice_get, Option, None, Some}
+use Rattle.gw_gate.specs.Journal.{EntrySeen, WasSwapped, accepted, issued, jobs, swapped}
 
 -- whether an entry is that of a plan
 abbrev pub is_swap : EntrySeen → Bool
@@ -24,16 +23,3 @@ numbers_issued h = map (λ p. p.n) (issued h)
 -- the same, of the first k entries
 abbrev pub is_idle_after : ℕ → List EntrySeen → ℕ → Bool
 is_idle_after first h k = is_idle_by first (slice_get (numbers_issued (take k h)) (jobs (take k h))) (length (accepted (take k h)))
-
--- whether there is nothing to be given out, by whether the next due number's translation is kept
-abbrev pub is_nothing_by : Option Bool → Bool
-is_nothing_by None = true
-is_nothing_by (Some kept) = not kept
-
--- of the numbers that are due to a receiver, in order, whether each one's translation is kept
-abbrev pub kept_of : List EntrySeen → ℕ → List Bool
-kept_of h r = map (λ n. is_kept h n r) (due h r)
-
--- the same, of the first k entries
-abbrev pub is_nothing_after : List EntrySeen → ℕ → ℕ → Bool
-is_nothing_after h r k = is_nothing_by (slice_get (kept_of (take k h) r) (length (released (take k h) r)))

@@ -1,94 +1,51 @@
--- What is owed to receivers.
-use Rattle.std.specs.Prelude.{◌≡◌, ℕ, ◌+◌, ◌-◌, ◌≤◌, ◌==◌, Bool, true, false, if◌then◌else◌, List, [], ◌∷◌, ◌++◌, map, length, take, position, slice_get, slice_index_or, slice_set, Option, None, Some}
-use Rattle.gw_gate.specs.Parts.{ConformingSeen, delivers}
-use Rattle.gw_gate.specs.Journal.{EntrySeen, WasAccepted, WasKept, WasOut, accepted, due, kept, released}
-use Rattle.gw_gate.specs.Headline.{CountFrom}
-use Rattle.gw_run.specs.Gathers.{is_nothing_by, kept_of}
-use Rattle.gw_run.specs.Turns.{TurnsTo}
+-- A receiver's desk as the audit has it, which keeps of a translation only that there is one.
+use Rattle.std.specs.Prelude.{ℕ, ◌<◌, ◌==◌, ⊤, Bool, if◌then◌else◌, List, All, map, length, take, slice_get, Option, None, Some, option_map}
+use Rattle.gw_reorder.specs.State.{DeskState, with_due}
+use Rattle.gw_reorder.specs.Calls.{after_holding, after_giving, next_of}
+use Rattle.gw_reorder.specs.own.Standing.{Stands}
+use Rattle.gw_gate.specs.Headline.{IsTranslated}
+use Rattle.gw_gate.specs.Journal.{EntrySeen, WasAccepted, WasKept, WasOut, Release, Start, due, kept, released}
+use Rattle.gw_gate.specs.Lawful.{Lawful}
+use Rattle.gw_gate.specs.Meaning.{Makes}
+use Rattle.gw_gate.specs.Parts.{TranslatedSeen, delivers}
+use Rattle.gw_gate.specs.Replies.{out_of}
+use Rattle.gw_run.specs.Settled.{is_nothing}
 
--- what is owed to a receiver: the numbers that are due to it in order, of each whether its translation is kept, and how many were given out
-pub record OwedSeen : Type 0 where
-  pub due : List ℕ
-  pub kept : List Bool
-  pub given : ℕ
+abbrev pub Desk : Type 0
+Desk = DeskState ⊤
 
-abbrev pub nothing_owed : OwedSeen
-nothing_owed = record { due = []; kept = []; given = 0 }
+-- the entries of a lawful journal
+pub record AreLawful (h : List EntrySeen) : Type 0 where
+  pub start : Start
+  pub lawful : Lawful (IsTranslated Makes) start h
 
--- what is owed to this receiver, by the receivers' numbers
-abbrev pub owed_at : List OwedSeen → ℕ → OwedSeen
-owed_at all r = slice_index_or all r nothing_owed
+-- whether there was nothing to be given out for a receiver when there were k entries
+abbrev pub gives_none : List EntrySeen → ℕ → ℕ → Bool
+gives_none h r k = is_nothing (out_of (take k h) r (slice_get (due (take k h) r) (length (released (take k h) r))))
 
--- whether there is nothing to be given out
-abbrev pub has_nothing : OwedSeen → Bool
-has_nothing s = is_nothing_by (slice_get s.kept s.given)
+abbrev pub token : TranslatedSeen → ⊤
+token t = tt
 
--- ---- what an entry changes
+abbrev pub number_of : Release → ℕ × ⊤
+number_of out = (out.n, tt)
 
-abbrev pub is_last_by : Option ℕ → ℕ → Bool
-is_last_by None n = false
-is_last_by (Some m) n = m == n
+-- these entries lead to this desk
+abbrev pub Owes : List EntrySeen → ℕ → Desk → Type 0
+Owes h r s = Stands s (due h r) (map number_of (released h r)) (λ n. option_map token (kept h n r))
 
--- whether the numbers end with this one
-abbrev pub is_last : List ℕ → ℕ → Bool
-is_last ns n = is_last_by (slice_get ns (length ns - 1)) n
-
--- one more number is due, unless it is the last one already
-abbrev pub with_due : OwedSeen → ℕ → OwedSeen
-with_due s n = if is_last s.due n then s else record { due = s.due ++ n ∷ []; kept = s.kept ++ false ∷ []; given = s.given }
-
-abbrev pub kept_at : Option ℕ → List Bool → List Bool
-kept_at None kept = kept
-kept_at (Some place) kept = slice_set kept place true
-
--- the translation of this number is kept, where the number is due
-abbrev pub with_kept : OwedSeen → ℕ → OwedSeen
-with_kept s n = record { due = s.due; kept = kept_at (position (λ m. m == n) s.due) s.kept; given = s.given }
-
--- the next one was given out
-abbrev pub with_given : OwedSeen → OwedSeen
-with_given s = record { due = s.due; kept = s.kept; given = s.given + 1 }
-
--- the number is due to the receivers to which the message goes
-abbrev pub due_to : ConformingSeen → ℕ → ℕ → OwedSeen → OwedSeen
-due_to c n r s = if delivers c r then with_due s n else s
-
--- what is owed to the receiver after an entry
-abbrev pub after_entry : EntrySeen → ℕ → OwedSeen → OwedSeen
-after_entry (WasAccepted n arrival c) r s = due_to c n r s
-after_entry (WasKept n t) r s = if t.receiver == r then with_kept s n else s
-after_entry (WasOut n to t) r s = if to == r then with_given s else s
+-- the receiver's desk after an entry
+abbrev pub after_entry : EntrySeen → ℕ → Desk → Desk
+after_entry (WasAccepted n arrival c) r s = if delivers c r then with_due s n else s
+after_entry (WasKept n t) r s = if t.receiver == r then after_holding s n tt else s
+after_entry (WasOut n to t) r s = if to == r then after_giving s (next_of s) else s
 after_entry e r s = s
 
--- whether there may be something to be given out to the receiver after the entry where there was nothing before, or the other way round
-abbrev pub may_turn : EntrySeen → Option ℕ
-may_turn (WasKept n t) = Some t.receiver
-may_turn (WasOut n to t) = Some to
-may_turn e = None
+-- what is accepted has a number above all that are due
+abbrev pub MayEnter : EntrySeen → Desk → Type 0
+MayEnter (WasAccepted n arrival c) s = All (λ m. m < n) s.due
+MayEnter e s = ⊤
 
--- whether it may be so for this receiver
-abbrev pub turns_for : Option ℕ → ℕ → Bool
-turns_for None r = false
-turns_for (Some to) r = to == r
-
--- at this number a test holds, or doesn't, and this is noted where the receiver's test may have turned; where it can't have turned, it stays as it was
-abbrev pub TurnsFor : Option ℕ → ℕ → ℕ → Bool → List ℕ → List ℕ → Type 0
-TurnsFor turned at r holds old new = (test : ℕ → Bool) (m : ℕ) → at ≡ m + 1 → test at ≡ holds → (turns_for turned r ≡ false → test at ≡ test m) → TurnsTo test m old → TurnsTo test at new
-
--- only what is owed to one receiver was changed, and so
-abbrev pub ChangedAt : ℕ → (OwedSeen → OwedSeen) → List OwedSeen → List OwedSeen → Type 0
-ChangedAt receiver change old new = (r : ℕ) → owed_at new r ≡ (if receiver == r then change (owed_at old r) else owed_at old r)
-
--- ---- what entries lead to
-
--- these entries lead to this
-pub record Owes (h : List EntrySeen) (r : ℕ) (s : OwedSeen) : Type 0 where
-  pub due_is : s.due ≡ due h r
-  pub kept_is : s.kept ≡ kept_of h r
-  pub given_is : s.given ≡ length (released h r)
-
--- acceptances count on from a first number, and at no time is anything kept under a number that is still to come
-pub record Ordered (h : List EntrySeen) : Type 0 where
-  pub first : ℕ
-  pub counted : CountFrom first (map (λ a. a.n) (accepted h))
-  pub fresh : (k n r : ℕ) → first + length (accepted (take k h)) ≤ n → kept (take k h) n r ≡ None
+-- the receiver for which an entry keeps a translation
+abbrev pub kept_for : EntrySeen → Option ℕ
+kept_for (WasKept n t) = Some t.receiver
+kept_for e = None

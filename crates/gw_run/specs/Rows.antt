@@ -1,9 +1,10 @@
--- Notes about a toy's journals, and what is owed by them.
-use Rattle.std.specs.Prelude.{ℕ, Bool, List, [], ◌∷◌, fold}
+-- Notes about a toy's journals, and what waits for its receivers.
+use Rattle.std.specs.Prelude.{ℕ, List, [], ◌∷◌, Option, ⊤, fold}
 use Rattle.gw_gate.specs.Journal.{EntrySeen, Journal, WasAccepted, WasSwapped, WasTaken, WasKept, WasOut, opening, start_after}
 use Rattle.gw_gate.specs.Replies.{Arrives, Swaps, Takes, Puts, Releases, run, most}
 use Rattle.gw_gate.specs.Toy.{first_plan, second_plan, message, made, opened}
-use Rattle.gw_run.specs.Owing.{OwedSeen, after_entry, nothing_owed}
+use Rattle.gw_reorder.specs.State.{nothing_due}
+use Rattle.gw_run.specs.Owing.{Desk, after_entry}
 use Rattle.gw_crew.specs.Notes.{NoteSeen, Looked, WasStale, WasFull, WasIdle, WasNothing, Added}
 
 -- ---- two workers, beside the session that brought two messages
@@ -78,11 +79,11 @@ counting_anew = Looked 0 first_plan ∷ Added 0 (WasAccepted 0 1 (message 10)) �
 abbrev pub denying : List NoteSeen
 denying = Added 5 (WasTaken 1 0) ∷ WasFull ∷ []
 
--- ---- what is owed
+-- ---- what is due to a receiver and waits
 
-abbrev pub owing : List ℕ → List Bool → ℕ → OwedSeen
-owing due kept given = record { due = due; kept = kept; given = given }
+abbrev pub owing : List ℕ → ℕ → List (Option ⊤) → Desk
+owing due given kept = record { due = due; released = given; kept = kept; room = 0 }
 
--- what is owed to a receiver after these entries
-abbrev pub owed_by : List EntrySeen → ℕ → OwedSeen
-owed_by h r = fold (λ s e. after_entry e r s) nothing_owed h
+-- the receiver's desk after these entries
+abbrev pub desk_by : List EntrySeen → ℕ → Desk
+desk_by h r = fold (λ s e. after_entry e r s) nothing_due h

@@ -1,17 +1,17 @@
 //! Rows of the definitions of settled notes, and of what is owed.
-ghost use Rattle.std.specs.Prelude.{◌≡◌, ◌-◌, ℕ, List, drop, [], ◌∷◌, ◌++◌, true, false, flat_map, map, length, nat_le, replicate};
+ghost use Rattle.std.specs.Prelude.{◌≡◌, ◌-◌, ℕ, List, drop, [], ◌∷◌, ◌++◌, None, Some, true, false, flat_map, map, length, nat_le, replicate};
 ghost use Rattle.std.specs.List.{range_with_len};
 ghost use Rattle.gw_gate.specs.Chapters.{all_entries};
-ghost use Rattle.gw_gate.specs.Journal.{Journal, end, from, released, start_after};
+ghost use Rattle.gw_gate.specs.Journal.{Journal, WasKept, end, from, released, start_after};
 ghost use Rattle.gw_gate.specs.Replies.{Arrives, Puts, Releases, Takes, most, run};
 ghost use Rattle.gw_gate.specs.Toy.{made, message, opened, worked};
 ghost use Rattle.gw_crew.specs.Notes.{NoteSeen, WasFull};
 ghost use Rattle.gw_run.specs.Given.{NoneGiven, are_same, given_out};
-ghost use Rattle.gw_run.specs.Gathers.{is_nothing_after, kept_of};
-ghost use Rattle.gw_run.specs.Owing.{nothing_owed, with_due, with_kept};
+ghost use Rattle.gw_reorder.specs.State.{nothing_due};
+ghost use Rattle.gw_run.specs.Owing.{after_entry, gives_none};
 ghost use Rattle.gw_run.specs.Passes.{receipts};
 ghost use Rattle.gw_run.specs.Settled.{GoOn, Settled, agrees, are_all, first_of};
-ghost use Rattle.gw_run.specs.Rows.{owed_by, owing, session, one_worker, other_worker, idle_worker, boasting_worker, lying_worker};
+ghost use Rattle.gw_run.specs.Rows.{desk_by, owing, session, one_worker, other_worker, idle_worker, boasting_worker, lying_worker};
 ghost use Rattle.gw_run.specs.Rows.{first_chapter, open_chapter, long_session, long_worker, courier, counting_anew, denying};
 ghost use Rattle.gw_run.specs.Rows.{swapped, through_swap, late_look, late_nothing, false_stale};
 
@@ -51,21 +51,19 @@ pub fn chapters_settle()
     ensures twice { GoOn (first_chapter ∷ first_chapter ∷ open_chapter ∷ []) → ⊥ }
 {}
 
-/// What is owed to a receiver entry by entry: there is something to be given out from the time when its next translation is kept until that is given out.
+/// When there is nothing to be given out for a receiver: not from the time when its next translation is kept until that is given out.
 pub fn owed_rows()
-    ensures kept { kept_of worked.entries 0 ≡ true ∷ true ∷ [] }
-    ensures worked { map (is_nothing_after worked.entries 0) (range_with_len 0 8) ≡ true ∷ true ∷ true ∷ true ∷ true ∷ true ∷ false ∷ false ∷ [] }
-    ensures swapped { map (is_nothing_after swapped.entries 0) (range_with_len 0 6) ≡ true ∷ true ∷ true ∷ true ∷ false ∷ true ∷ [] }
-    ensures elsewhere { map (is_nothing_after worked.entries 1) (range_with_len 0 7) ≡ replicate 7 true }
+    ensures worked { map (gives_none worked.entries 0) (range_with_len 0 8) ≡ true ∷ true ∷ true ∷ true ∷ true ∷ true ∷ false ∷ false ∷ [] }
+    ensures swapped { map (gives_none swapped.entries 0) (range_with_len 0 6) ≡ true ∷ true ∷ true ∷ true ∷ false ∷ true ∷ [] }
+    ensures elsewhere { map (gives_none worked.entries 1) (range_with_len 0 7) ≡ replicate 7 true }
 {}
 
-/// What the program keeps of it, one entry after the other.
+/// The receiver's desk that the program has for it, one entry after the other.
 pub fn owed_walks()
-    ensures worked { owed_by worked.entries 0 ≡ owing (0 ∷ 1 ∷ []) (true ∷ true ∷ []) 0 }
-    ensures swapped { owed_by swapped.entries 0 ≡ owing (0 ∷ []) (true ∷ []) 1 }
-    ensures elsewhere { owed_by worked.entries 1 ≡ nothing_owed }
-    ensures twice { with_due (with_due nothing_owed 3) 3 ≡ owing (3 ∷ []) (false ∷ []) 0 }
-    ensures unasked { with_kept (with_due nothing_owed 3) 4 ≡ with_due nothing_owed 3 }
+    ensures worked { desk_by worked.entries 0 ≡ owing (0 ∷ 1 ∷ []) 0 (Some tt ∷ Some tt ∷ []) }
+    ensures swapped { desk_by swapped.entries 0 ≡ owing (0 ∷ []) 1 [] }
+    ensures elsewhere { desk_by worked.entries 1 ≡ nothing_due }
+    ensures unasked { after_entry (WasKept 4 (made 10)) 0 (owing (3 ∷ []) 0 (None ∷ [])) ≡ owing (3 ∷ []) 0 (None ∷ []) }
 {}
 
 /// Where notes are settled, and one pass alone has receipts of what was given out for a receiver, it has them of all that was given out since, in order.

@@ -1,5 +1,5 @@
 -- What is gathered of a chapter and of notes, which says whether they are settled.
-use Rattle.std.specs.Prelude.{◌≡◌, ℕ, ◌+◌, ◌-◌, ◌<◌, min, nat_le, nat_lt, if◌then◌else◌, Bool, true, false, not, IsTrue, ◌&&◌, List, [], ◌∷◌, ◌++◌, length, get_or, slice_get, map, take, Option, None, Some}
+use Rattle.std.specs.Prelude.{◌≡◌, ℕ, ◌+◌, ◌-◌, ◌<◌, ◌≤◌, min, nat_le, nat_lt, if◌then◌else◌, Bool, true, false, not, IsTrue, ◌&&◌, List, [], ◌∷◌, ◌++◌, length, get_or, slice_get, map, take, Option, None, Some}
 use Rattle.std.specs.List.Sorted.{IsStrictlyIncreasing}
 use Rattle.std.specs.Arc.{arc_value}
 use Rattle.std.specs.declared.alloc.Global.{Global}
@@ -8,10 +8,10 @@ use Rattle.std.specs.declared.vec.Vec.{Vec}
 use Rattle.gw_plan.specs.declared.plan.Plan.{Plan}
 use Rattle.gw_gate.specs.Parts.{PlanSeen}
 use Rattle.gw_gate.specs.Seen.{plan_seen}
-use Rattle.gw_gate.specs.Journal.{EntrySeen, Journal, current}
+use Rattle.gw_gate.specs.Journal.{EntrySeen, Journal, current, kept}
 use Rattle.gw_gate.specs.Replies.{Takes, Releases, reply_to}
 use Rattle.gw_crew.specs.Notes.{NoteSeen, Added, ReceiptSeen}
-use Rattle.gw_run.specs.Owing.{OwedSeen, TurnsFor, has_nothing, may_turn, owed_at}
+use Rattle.gw_run.specs.Owing.{gives_none}
 use Rattle.gw_run.specs.Settled.{agrees, fits, fits_at, having, is_idle, is_nothing, last_end, next_at}
 use Rattle.gw_run.specs.Turns.{IsFirstFrom, Passes, TurnsAt}
 
@@ -92,9 +92,14 @@ or_none (Some ats) = ats.items
 abbrev pub of_receiver : List (Vec ℕ Global) → ℕ → List ℕ
 of_receiver all r = or_none (slice_get all r)
 
--- after this entry, which makes so many, it is noted for each receiver whether there is nothing to be given out any more, or something
-abbrev pub AllTurn : EntrySeen → ℕ → List OwedSeen → List (Vec ℕ Global) → List (Vec ℕ Global) → Type 0
-AllTurn e at owed old new = (r : ℕ) → TurnsFor (may_turn e) at r (has_nothing (owed_at owed r)) (of_receiver old r) (of_receiver new r)
+-- each of these receivers has the numbers at which there begins or ceases to be nothing to be given out for it
+abbrev pub AreRight : List EntrySeen → List (Vec ℕ Global) → Type 0
+AreRight h nothing = (r : ℕ) → r < length nothing → TurnsAt (gives_none h r) (of_receiver nothing r)
+
+-- and for no other receiver anything was kept by the first k entries
+pub record Covers (h : List EntrySeen) (k : ℕ) (nothing : List (Vec ℕ Global)) : Type 0 where
+  pub right : AreRight h nothing
+  pub rest : (r : ℕ) → length nothing ≤ r → (n : ℕ) → kept (take k h) n r ≡ None
 
 abbrev pub plans_at : List (Arc Plan Global) → List PlanSeen
 plans_at all = map (λ p. plan_seen (arc_value p)) all

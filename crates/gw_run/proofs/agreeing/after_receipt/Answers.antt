@@ -1,4 +1,4 @@
-use Rattle.std.proofs.Common.{◌≡◌, ◌∙◌, ◌+◌, ℕ, Some, None, true, false, sym}
+use Rattle.std.proofs.Common.{◌∙◌, sym}
 use Rattle.gw_gate.specs.Entries.{entry_seen}
 use Rattle.gw_run.proofs.Meeting.{receipt_after, receipt_none}
 use Rattle.gw_run.proofs.agreeing.after_receipt.Goals as goal

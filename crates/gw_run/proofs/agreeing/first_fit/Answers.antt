@@ -1,4 +1,4 @@
-use Rattle.std.proofs.Common.{◌≡◌, ◌+◌, ℕ, List, Option, Some, None, [], ◌∷◌, drop, sym, subst, rules}
+use Rattle.std.proofs.Common.{◌+◌, List, Some, None, ◌∷◌, drop, sym, subst, rules}
 use Rattle.gw_gate.specs.Journal.{Journal}
 use Rattle.gw_crew.specs.Seen.{note_seen}
 use Rattle.gw_run.specs.Settled.{GoOn}

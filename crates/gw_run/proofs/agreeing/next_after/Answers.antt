@@ -1,4 +1,4 @@
-use Rattle.std.proofs.Common.{◌≡◌, ◌+◌, ◌∙◌, ℕ, List, [], ◌∷◌, drop, ap, sym, subst, arith, rules}
+use Rattle.std.proofs.Common.{◌+◌, ◌∙◌, List, ◌∷◌, drop, ap, sym, subst, arith, rules}
 use Rattle.gw_gate.specs.Entries.{entry_seen, entries_seen}
 use Rattle.gw_gate.specs.Journal.{Journal}
 use Rattle.gw_run.specs.Settled.{GoOn, stands}

@@ -1,4 +1,4 @@
-use Rattle.std.proofs.Common.{◌≡◌, ◌∙◌, ◌++◌, ◌∷◌, [], List, ap, sym, subst, arith}
+use Rattle.std.proofs.Common.{◌∙◌, ◌++◌, ◌∷◌, [], List, ap, sym, subst, arith}
 use Rattle.gw_gate.specs.Chapters.{all_entries}
 use Rattle.std.proofs.lemmas.Bool.{false≢true}
 use Rattle.gw_gate.specs.Journal.{Journal, end}

@@ -4,7 +4,8 @@ use Rattle.gw_crew.specs.Notes.{receipt_of}
 use Rattle.gw_crew.specs.Seen.{note_seen, notes_seen}
 use Rattle.gw_run.specs.own.Joins.{Marks}
 use Rattle.gw_run.specs.Passes.{receipts}
-use Rattle.gw_run.proofs.Marking.{receipts_next, take_past}
+use Rattle.std.proofs.lemmas.List.{take_all}
+use Rattle.gw_run.proofs.Marking.{receipts_next}
 use Rattle.gw_run.proofs.marks.mark_notes.Goals as goal
 
 pub loop-note-preserved : goal.loop-note-preserved
@@ -22,4 +23,4 @@ loop-note-preserved c =
 
 pub returns-clause-marks : goal.returns-clause-marks
 returns-clause-marks c all was =
-    subst (λ l. Marks c.args.since (all ++ receipts (notes_seen l)) c.loop-note.marks.items) (take_past c.loop-note.note-index c.args.notes.now c.loop-note-test.false) (c.loop-note.invariant.marks all was)
+    subst (λ l. Marks c.args.since (all ++ receipts (notes_seen l)) c.loop-note.marks.items) (take_all c.loop-note.note-index c.args.notes.now c.loop-note-test.false) (c.loop-note.invariant.marks all was)

@@ -1,6 +1,5 @@
-use Rattle.std.proofs.Common.{◌≡◌, ◌-◌, ◌≤◌, ◌∙◌, sym, rules, arith}
+use Rattle.std.proofs.Common.{◌∙◌, sym, rules}
 use Rattle.std.proofs.lemmas.Bool.{false≢true}
-use Rattle.gw_gate.specs.Entries.{start_seen}
 use Rattle.gw_run.proofs.Following.{go_between, go_last, pair_at}
 use Rattle.gw_run.proofs.parts.go_on.Goals as goal
 

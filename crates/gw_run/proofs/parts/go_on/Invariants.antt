@@ -1,4 +1,4 @@
-use Rattle.std.proofs.Common.{◌-◌, ◌≤◌, List, drop}
+use Rattle.std.proofs.Common.{◌-◌, List, drop}
 use Rattle.gw_gate.specs.Journal.{Journal}
 use Rattle.gw_run.specs.Settled.{GoOn}
 use Rattle.gw_run.specs.own.Tellings.{TellsAll}

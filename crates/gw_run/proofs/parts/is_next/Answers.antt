@@ -1,8 +1,7 @@
-use Rattle.std.proofs.Common.{◌≡◌, ◌+◌, ◌∙◌, List, ℕ, Some, None, slice_get, ap, sym}
+use Rattle.std.proofs.Common.{◌≡◌, ◌+◌, ◌∙◌, Some, None, slice_get, ap, sym}
 use Rattle.std.proofs.lemmas.Option.{none-some}
 use Rattle.std.specs.Arc.{arc_value}
 use Rattle.gw_reorder.proofs.Places.{equals, equal_numbers}
-use Rattle.gw_gate.specs.Parts.{PlanSeen}
 use Rattle.gw_gate.specs.Seen.{plan_seen}
 use Rattle.gw_gate.specs.Journal.{start_after}
 use Rattle.gw_run.specs.own.Joins.{plans_at}

@@ -1,4 +1,4 @@
-use Rattle.std.proofs.Common.{◌≡◌, ◌+◌, ◌∙◌, List, ap, drop, sym, rules}
+use Rattle.std.proofs.Common.{◌+◌, ◌∙◌, ap, drop, sym, rules}
 use Rattle.gw_run.specs.Settled.{last_end}
 use Rattle.gw_run.proofs.Following.{all_passed, next_part}
 use Rattle.gw_run.proofs.parts.last_of.Goals as goal

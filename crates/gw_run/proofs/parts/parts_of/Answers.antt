@@ -1,4 +1,4 @@
-use Rattle.std.proofs.Common.{◌++◌, ◌∷◌, [], sym, rules}
+use Rattle.std.proofs.Common.{rules}
 use Rattle.gw_run.proofs.Following.{tells_end, tells_next}
 use Rattle.gw_run.proofs.parts.parts_of.Goals as goal
 

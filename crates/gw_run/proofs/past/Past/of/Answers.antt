@@ -1,7 +1,6 @@
 use Rattle.std.proofs.Common.{sym, length, refl}
 use Rattle.gw_gate.specs.Entries.{entries_seen, start_seen}
 use Rattle.gw_gate.proofs.Entering.{as_long}
-use Rattle.gw_run.proofs.Ordering.{ordered}
 use Rattle.gw_run.proofs.Telling.{tells_all}
 use Rattle.gw_run.proofs.past.Past.of.Goals as goal
 
@@ -11,4 +10,4 @@ returns c =
     c.in_ok-swaps.ensures c.in_ok-plans.ensures c.in_ok-idle.ensures c.in_ok-nothing.ensures
 
 pub nothing_in-requires : goal.nothing_in-requires
-nothing_in-requires c = ordered (start_seen c.args.start.now) (entries_seen c.args.entries.now) c.requires.lawful
+nothing_in-requires c = record { start = start_seen c.args.start.now; lawful = c.requires.lawful }
