@@ -42,7 +42,7 @@ same_self n = grind (arith, common_steps)
 
 -- ---- pairs that are due
 
-abbrev IsDue : List EntrySeen → Pair → Type 0
+abbrev pub IsDue : List EntrySeen → Pair → Type 0
 IsDue h p = is_due h p.n p.receiver ≡ true
 
 due_stays : (g h : List EntrySeen) (p : Pair) → IsDue g p → IsDue (g ++ h) p
@@ -158,12 +158,12 @@ issues j Cuts e is =
 -- ---- all entries
 
 -- what was accepted under a number that is due to a receiver goes to it
-record Found (n r : ℕ) (xs : List Acceptance) : Type 0 where
-  by : Acceptance
-  found : find (λ a. a.n == n) xs ≡ Some by
-  goes : delivers by.conforming r ≡ true
+pub record Found (n r : ℕ) (xs : List Acceptance) : Type 0 where
+  pub by : Acceptance
+  pub found : find (λ a. a.n == n) xs ≡ Some by
+  pub goes : delivers by.conforming r ≡ true
 
-abbrev among : ℕ → ℕ → List Acceptance → Bool
+abbrev pub among : ℕ → ℕ → List Acceptance → Bool
 among n r xs = list_any (λ m. m == n) (map n_of (filter (λ a. delivers a.conforming r) xs))
 
 differs : (m n : ℕ) → n < m → (m == n) ≡ false
@@ -181,7 +181,7 @@ none_later first n r (x ∷ xs) lt all =
       | false ↦ rest
     ]
 
-found_goes : (first n r : ℕ) (xs : List Acceptance) → CountFrom first (map n_of xs) → among n r xs ≡ true → Found n r xs
+pub found_goes : (first n r : ℕ) (xs : List Acceptance) → CountFrom first (map n_of xs) → among n r xs ≡ true → Found n r xs
 found_goes first n r [] all is = absurd (let no : false ≡ true = is in cc)
 found_goes first n r (x ∷ xs) all is = by (x.n == n) (delivers x.conforming r) refl refl (found_goes (first + 1) n r xs all.1)
   where
@@ -205,14 +205,14 @@ found_goes first n r (x ∷ xs) all is = by (x.n == n) (delivers x.conforming r)
 none_there : (k : ℕ) → slice_get (let none : List Pair = [] in none) k ≡ None
 none_there k = grind (arith, common_steps)
 
-all_at : (h : List EntrySeen) (ps : List Pair) (k : ℕ) (p : Pair) → AllByRecursion (IsDue h) ps → slice_get ps k ≡ Some p → IsDue h p
+pub all_at : (h : List EntrySeen) (ps : List Pair) (k : ℕ) (p : Pair) → AllByRecursion (IsDue h) ps → slice_get ps k ≡ Some p → IsDue h p
 all_at h [] k p all is = absurd (none-some p (sym (none_there k) ∙ is))
 all_at h (q ∷ ps) zero p all is = subst (IsDue h) (some_is q p is) all.0
 all_at h (q ∷ ps) (suc k) p all is = all_at h ps k p all.1 is
 
 module _ (Means : List ℕ → MessageSeen → ℕ → MessageSeen → Type 0) where
   -- each pair that was issued is due
-  all_issued : (start : Start) (h : List EntrySeen) → Lawful (IsTranslated Means) start h → AllByRecursion (IsDue h) (issued h)
+  pub all_issued : (start : Start) (h : List EntrySeen) → Lawful (IsTranslated Means) start h → AllByRecursion (IsDue h) (issued h)
   all_issued start h empty = tt
   all_issued start h (more g event e lawful fact adds) =
       subst (AllByRecursion (IsDue (g ++ e ∷ []))) (sym (issued-append g (e ∷ [])))

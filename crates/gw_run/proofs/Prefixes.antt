@@ -1,17 +1,26 @@
 -- Journals with one entry more.
-use Rattle.std.proofs.Common.{◌≡◌, ℕ, zero, suc, ◌+◌, ◌<◌, ◌≤◌, Bool, if◌then◌else◌, List, [], ◌∷◌, ◌++◌, length, map, take, get_or, refl, sym, ap, subst, ◌∙◌, arith, length-append}
-use Rattle.std.specs.Prelude.{replicate, slice_get}
-use Rattle.std.proofs.lemmas.List.{map-append}
+use Rattle.std.proofs.Common.{◌≡◌, ℕ, zero, suc, ◌+◌, ◌<◌, ◌≤◌, ◌⊎◌, inl, inr, Bool, true, false, if◌then◌else◌, List, [], ◌∷◌, ◌++◌, length, map, take, get_or, Some, refl, sym, ap, ◌∙◌, arith, length-append}
+use Rattle.std.specs.Prelude.{nat_le, replicate, slice_get}
+use Rattle.std.proofs.lemmas.Bool.{cases_lt}
+use Rattle.std.proofs.lemmas.Grind.{common_steps}
+use Rattle.std.proofs.lemmas.List.{map-append, take_all}
+use Rattle.std.proofs.lemmas.Option.{slice_get-get_or, slice_get_past}
 use Rattle.gw_gate.specs.declared.event.Entry.{Entry}
 use Rattle.gw_gate.specs.Parts.{PlanSeen}
 use Rattle.gw_gate.specs.own.Books.{journal_of}
-use Rattle.gw_gate.specs.Journal.{EntrySeen, WasAccepted, WasSwapped, WasTaken, Pair, pair, Start, Version, accepted, issued, jobs, plans, swapped}
+use Rattle.gw_gate.specs.Journal.{EntrySeen, WasSwapped, WasTaken, Start, Version, accepted, issued, jobs, pair, plans, swapped}
 use Rattle.gw_gate.specs.Entries.{entry_seen, entries_seen}
-use Rattle.gw_gate.proofs.Journals.{swapped-append, accepted-append}
+use Rattle.gw_gate.specs.Meaning.{Makes}
+use Rattle.gw_gate.specs.Replies.{job_of, job_with}
+use Rattle.gw_gate.proofs.Journals.{swapped-append}
 use Rattle.gw_gate.proofs.Entering.{jobs-append, issued-append}
-use Rattle.gw_run.specs.Gathers.{is_idle_after, is_idle_by, is_swap, numbers_issued, swaps_in}
-use Rattle.gw_run.specs.own.Queues.{Queues, Grows}
-use Rattle.gw_run.specs.declared.queue.Queue.{Queue}
+use Rattle.gw_crew.proofs.Jobs.{all_at, all_issued, found_goes}
+use Rattle.gw_run.specs.Gathers.{is_swap, swaps_in}
+use Rattle.gw_run.specs.Owing.{AreLawful, waits_none}
+use Rattle.gw_run.specs.Settled.{is_idle}
+use Rattle.gw_run.specs.Turns.{TurnsAt, TurnsTo}
+use Rattle.gw_run.proofs.Ordering.{numbered, until}
+use Rattle.gw_run.proofs.Turning.{turns_done}
 
 pub entry_next : (entries : List Entry) (k : ℕ) (e : Entry) → k < length entries → e ≡ get_or entries k e → take (k + 1) (entries_seen entries) ≡ take k (entries_seen entries) ++ entry_seen e ∷ []
 entry_next [] k e lt is = absurd (omega arith)
@@ -55,37 +64,46 @@ plans_next s entries k e old new lt is added was =
 
 -- ---- pairs
 
-pub numbers_same : (n : ℕ) (rs : List ℕ) → map (λ p. p.n) (map (pair n) rs) ≡ replicate (length rs) n
-numbers_same n [] = refl
-numbers_same n (r ∷ rs) = ap (λ l. n ∷ l) (numbers_same n rs)
-
 pub replicate_more : (k n : ℕ) → replicate (k + 1) n ≡ replicate k n ++ n ∷ []
 replicate_more zero n = refl
 replicate_more (suc k) n = let next : suc k + 1 ≡ suc (k + 1) = omega arith in ap (λ m. replicate m n) next ∙ ap (λ l. n ∷ l) (replicate_more k n)
 
-abbrev number_of : Pair → ℕ
-number_of p = p.n
-
-pub queue_next : (entries : List Entry) (k : ℕ) (e : Entry) (old new : Queue) → k < length entries → e ≡ get_or entries k e → Grows old (entry_seen e) new → Queues (take k (entries_seen entries)) old → Queues (take (k + 1) (entries_seen entries)) new
-queue_next entries k e old new lt is grows was =
-    let h = take k (entries_seen entries) in
-    let next = entry_next entries k e lt is in
-    subst (λ l. Queues l new) (sym next) (record {
-      pairs = grows.pairs ∙ ap (λ l. l ++ numbers_issued (entry_seen e ∷ [])) was.pairs ∙ sym (ap (map number_of) (issued-append h (entry_seen e ∷ [])) ∙ map-append number_of (issued h) (issued (entry_seen e ∷ [])));
-      taken = (let a = grows.taken in let b = was.taken in omega (arith, a, b, jobs-append h (entry_seen e ∷ [])));
-      accepted = (let a = grows.accepted in let b = was.accepted in let l = ap length (accepted-append h (entry_seen e ∷ [])) in omega (arith, a, b, l, length-append (accepted h) (accepted (entry_seen e ∷ []))));
-    })
-
-pub one_job : (e : EntrySeen) → jobs (e ∷ []) ≤ 1
+one_job : (e : EntrySeen) → jobs (e ∷ []) ≤ 1
 one_job (WasTaken n r) = omega arith
 one_job e = omega arith
 
-pub one_accepted : (e : EntrySeen) → length (accepted (e ∷ [])) ≤ 1
-one_accepted (WasAccepted n arrival c) = omega arith
-one_accepted e = omega arith
+module _ (h : List EntrySeen) (k : ℕ) (e : EntrySeen) (next : take (k + 1) h ≡ take k h ++ e ∷ []) where
+  pub issued_next : (all more : ℕ) → all ≡ length (issued (take k h)) → more ≡ length (issued (e ∷ [])) → all + more ≡ length (issued (take (k + 1) h))
+  issued_next all more was is =
+      let both = ap (λ l. length (issued l)) next ∙ ap length (issued-append (take k h) (e ∷ [])) in
+      omega (arith, was, is, both, length-append (issued (take k h)) (issued (e ∷ [])))
 
-pub idle_is : (first : ℕ) (h : List EntrySeen) (k : ℕ) (queue : Queue) → Queues (take k h) queue → is_idle_after first h k ≡ is_idle_by first (slice_get queue.pairs.items queue.taken) queue.accepted
-idle_is first h k queue is =
-    sym (ap (λ l. is_idle_by first (slice_get l queue.taken) queue.accepted) is.pairs
-    ∙ ap (λ n. is_idle_by first (slice_get (numbers_issued (take k h)) n) queue.accepted) is.taken
-    ∙ ap (λ n. is_idle_by first (slice_get (numbers_issued (take k h)) (jobs (take k h))) n) is.accepted)
+  pub taken_next : (all more : ℕ) → all ≡ jobs (take k h) → more ≡ jobs (e ∷ []) → all + more ≡ jobs (take (k + 1) h)
+  taken_next all more was is = let both = ap jobs next in omega (arith, was, is, both, jobs-append (take k h) (e ∷ []))
+
+pub few_taken : (e : EntrySeen) (all more k : ℕ) → all ≤ k → more ≡ jobs (e ∷ []) → all + more ≤ k + 1
+few_taken e all more k few is = omega (arith, few, is, one_job e)
+
+-- every pair was taken
+pub idle_is : (h : List EntrySeen) → AreLawful h → (k all taken : ℕ) → all ≡ length (issued (take k h)) → taken ≡ jobs (take k h) → waits_none h k ≡ nat_le all taken
+idle_is h lawful k all taken are is = by (cases_lt (jobs g) (length (issued g))) ∙ ap (λ n. nat_le n (jobs g)) (sym are) ∙ ap (nat_le all) (sym is)
+  where
+    g : List EntrySeen
+    g = take k h
+
+    by : (jobs (take k h) < length (issued (take k h))) ⊎ (length (issued (take k h)) ≤ jobs (take k h)) → waits_none h k ≡ nat_le (length (issued (take k h))) (jobs (take k h))
+    by (inl lt) =
+        let p = get_or (issued g) (jobs g) (pair 0 0) in
+        let at : slice_get (issued g) (jobs g) ≡ Some p = slice_get-get_or (issued g) (jobs g) (pair 0 0) lt in
+        let due = all_at g (issued g) (jobs g) p (all_issued Makes lawful.start g (until lawful.start h lawful.lawful k)) at in
+        let found = found_goes lawful.start.acceptances p.n p.receiver (accepted g) (numbered h lawful k) due in
+        let some : nat_le (length (issued g)) (jobs g) ≡ false = grind (arith, common_steps) in
+        ap (λ o. is_idle (job_of g o)) at ∙ ap (λ a. is_idle (job_with p a)) found.found ∙ sym some
+    by (inr le) =
+        let none : nat_le (length (issued g)) (jobs g) ≡ true = grind (arith, common_steps) in
+        ap (λ o. is_idle (job_of g o)) (slice_get_past (issued g) (jobs g) le) ∙ sym none
+
+pub idle_all : (h : List EntrySeen) (ats : List ℕ) → TurnsTo (waits_none h) (length h) ats → TurnsAt (waits_none h) ats
+idle_all h ats =
+    turns_done (waits_none h) (length h) ats
+    (λ k le. ap (λ l. is_idle (job_of l (slice_get (issued l) (jobs l)))) (take_all k h le ∙ sym (take_all (length h) h (omega arith))))

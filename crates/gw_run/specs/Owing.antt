@@ -1,15 +1,15 @@
--- A receiver's desk as the audit has it, which keeps of a translation only that there is one.
-use Rattle.std.specs.Prelude.{ℕ, ◌<◌, ◌==◌, ⊤, Bool, if◌then◌else◌, List, All, map, length, take, slice_get, Option, None, Some, option_map}
+-- What waited when a lawful journal had its first entries: pairs to be taken, and at a receiver's desk, which keeps here of a translation only that there is one.
+use Rattle.std.specs.Prelude.{◌≡◌, ℕ, ◌+◌, ◌<◌, ◌==◌, ⊤, Bool, if◌then◌else◌, List, All, map, length, take, slice_get, Option, None, Some, option_map}
 use Rattle.gw_reorder.specs.State.{DeskState, with_due}
 use Rattle.gw_reorder.specs.Calls.{after_holding, after_giving, next_of}
 use Rattle.gw_reorder.specs.own.Standing.{Stands}
 use Rattle.gw_gate.specs.Headline.{IsTranslated}
-use Rattle.gw_gate.specs.Journal.{EntrySeen, WasAccepted, WasKept, WasOut, Release, Start, due, kept, released}
+use Rattle.gw_gate.specs.Journal.{EntrySeen, WasAccepted, WasKept, WasOut, Release, Start, due, issued, jobs, kept, released}
 use Rattle.gw_gate.specs.Lawful.{Lawful}
 use Rattle.gw_gate.specs.Meaning.{Makes}
 use Rattle.gw_gate.specs.Parts.{TranslatedSeen, delivers}
-use Rattle.gw_gate.specs.Replies.{out_of}
-use Rattle.gw_run.specs.Settled.{is_nothing}
+use Rattle.gw_gate.specs.Replies.{job_of, out_of}
+use Rattle.gw_run.specs.Settled.{is_idle, is_nothing}
 
 abbrev pub Desk : Type 0
 Desk = DeskState ⊤
@@ -18,6 +18,10 @@ Desk = DeskState ⊤
 pub record AreLawful (h : List EntrySeen) : Type 0 where
   pub start : Start
   pub lawful : Lawful (IsTranslated Makes) start h
+
+-- whether there was no pair to be taken when there were k entries
+abbrev pub waits_none : List EntrySeen → ℕ → Bool
+waits_none h k = is_idle (job_of (take k h) (slice_get (issued (take k h)) (jobs (take k h))))
 
 -- whether there was nothing to be given out for a receiver when there were k entries
 abbrev pub gives_none : List EntrySeen → ℕ → ℕ → Bool

@@ -88,7 +88,7 @@ impl Past {
     {
         let swaps = swaps_in(alloc, entries)?;
         let plans = plans_in(alloc, start, entries)?;
-        let idle = idle_in(alloc, start.acceptances, entries)?;
+        let idle = idle_in(alloc, entries)?;
         let nothing = nothing_in(alloc, entries)?;
         Ok(Past {
             start: start.entries as usize,

@@ -1,4 +1,4 @@
-use Rattle.gw_gate.proofs.Asking.{goes_is}
+use Rattle.gw_run.proofs.Reaching.{goes_is}
 use Rattle.gw_run.proofs.owed.goes_to.Goals as goal
 
 pub returns : goal.returns

@@ -11,3 +11,6 @@ returns c =
 
 pub nothing_in-requires : goal.nothing_in-requires
 nothing_in-requires c = record { start = start_seen c.args.start.now; lawful = c.requires.lawful }
+
+pub idle_in-requires : goal.idle_in-requires
+idle_in-requires c = record { start = start_seen c.args.start.now; lawful = c.requires.lawful }
