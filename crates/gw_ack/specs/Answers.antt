@@ -2,10 +2,13 @@
 use Rattle.std.specs.Prelude.{ℕ, ◌+◌, List, [], ◌∷◌, ◌++◌, map, codes}
 use Rattle.std.specs.FinMap as texts
 use Rattle.std.specs.Fmt.{decimal}
-use Rattle.gw_validate.specs.declared.breach.Breach.{Breach}
 use Rattle.gw_validate.specs.Kinds.{code_of}
 use Rattle.gw_er7.specs.Entries.{Entry}
 use Rattle.gw_er7.specs.Message.{SegmentValue}
+use Rattle.gw_ack.specs.declared.receipt.Ack.{Ack}
+use Rattle.gw_ack.specs.declared.receipt.Ack.TheVariants.{AA, AE, AR}
+use Rattle.gw_ack.specs.declared.reply.Reply.{Reply}
+use Rattle.gw_ack.specs.declared.reply.Reply.TheVariants.{Accept, Refuse, Reject}
 use Rattle.gw_ack.specs.Headers.{HeaderValue}
 use Rattle.gw_ack.specs.Conditions.{condition, location_of, location_for}
 
@@ -70,19 +73,19 @@ segment name rows = record { name = name; at = texts.from_entries rows }
 abbrev pub acknowledged : List ℕ → HeaderValue → List ℕ → ℕ → List SegmentValue
 acknowledged ack h stamp arrival = segment (codes "MSH") (msh h stamp arrival) ∷ segment (codes "MSA") (msa ack h.control) ∷ []
 
--- AA: accepted
-abbrev pub accepted : HeaderValue → List ℕ → ℕ → List SegmentValue
-accepted h stamp arrival = acknowledged (codes "AA") h stamp arrival
-
 -- the message that reports a condition, under this acknowledgment code
 abbrev pub reported : List ℕ → HeaderValue → List ℕ → ℕ → List (List ℕ) → ℕ → List SegmentValue
 reported ack h stamp arrival location code =
     segment (codes "MSH") (msh h stamp arrival) ∷ segment (codes "MSA") (msa ack h.control) ∷ segment (codes "ERR") (err location code) ∷ []
 
--- AE: the message breaks its profile
-abbrev pub refused : HeaderValue → List ℕ → ℕ → Breach → List SegmentValue
-refused h stamp arrival breach = reported (codes "AE") h stamp arrival (location_of breach) (code_of breach.kind)
+-- the acknowledgment code of a reply
+abbrev pub ack_of : Reply → Ack
+ack_of Accept = AA
+ack_of (Refuse breach) = AE
+ack_of (Reject code) = AR
 
--- AR: there is no route for the message, or it can't be read or taken
-abbrev pub rejected : HeaderValue → List ℕ → ℕ → ℕ → List SegmentValue
-rejected h stamp arrival code = reported (codes "AR") h stamp arrival (location_for code) code
+-- The message that says a reply: it is accepted, or it breaks its profile, or there is no route for it, or it can't be read or taken.
+abbrev pub said_by : HeaderValue → List ℕ → ℕ → Reply → List SegmentValue
+said_by h stamp arrival Accept = acknowledged (codes "AA") h stamp arrival
+said_by h stamp arrival (Refuse breach) = reported (codes "AE") h stamp arrival (location_of breach) (code_of breach.kind)
+said_by h stamp arrival (Reject code) = reported (codes "AR") h stamp arrival (location_for code) code

@@ -44,6 +44,10 @@ abbrev pub header_of : List SegmentValue → HeaderValue
 header_of [] = blank
 header_of (s ∷ ss) = header_in s
 
+-- MSH-10 of a message: its control id, by its first subcomponent
+abbrev pub control_of : List SegmentValue → List ℕ
+control_of message = (header_of message).control
+
 -- what every header keeps
 pub record IsHeaderValue (h : HeaderValue) : Type 0 where
   pub sending_application : AreLeaves h.sending_application

@@ -1,8 +1,8 @@
 //! What an answer takes from the header of the message that it answers.
 ghost use Rattle.std.specs.Prelude.{◌≡◌, ◌++◌, IfOk, OnOk};
-ghost use Rattle.gw_er7.specs.Message.{numbers};
+ghost use Rattle.gw_er7.specs.Message.{numbers, text_of};
 ghost use Rattle.gw_er7.specs.Written.{strip, those};
-ghost use Rattle.gw_ack.specs.Headers.{first_repetition};
+ghost use Rattle.gw_ack.specs.Headers.{control_of, first_repetition};
 ghost use Rattle.gw_ack.specs.Seen.{leaves};
 
 use crate::rows::{Row, add_copy, add_field};
@@ -29,7 +29,7 @@ pub struct Header {
     processing: Vec<Leaf>,
 }
 
-// (by hand: so no crate above proves again how what lies in it is let go)
+// (by hand: so no crate above proves again how its parts are dropped)
 impl Drop for Header {
     fn drop(self) {
         let Header {
@@ -69,6 +69,27 @@ impl Model for Header {
       control = h.control.items;
       processing = leaves h.processing.items;
     }) };
+}
+
+/// The first subcomponent of a field. It takes no memory.
+pub(crate) fn first_leaf<'a>(segment: &Segment<'a>, field: usize) -> &'a [u8]
+    ensures { result.now ≡ text_of segment.now.at field 1 1 1 }
+{
+    segment.text(Place {
+        field,
+        rep: 1,
+        comp: 1,
+        sub: 1,
+    })
+}
+
+/// The control id of a message, by its first subcomponent. It takes no memory.
+pub fn control_of(message: &Message) -> &[u8]
+    ensures { result.now ≡ control_of message.now }
+{
+    // (its clause says that a message has a segment)
+    let _count = message.segment_count();
+    first_leaf(&message.segment(0), 10)
 }
 
 /// Adds a text where it stands in repetition 1 of the field.
@@ -118,25 +139,19 @@ impl Header {
     ghost use Rattle.gw_ack.specs.Headers.{IsHeaderValue, header_of, blank};
     ghost use Rattle.gw_ack.specs.Seen.{rows};
 
-    /// The header of a message. The one error is want of memory.
+    /// The header of a message. The one error is an allocation failure.
     pub fn of(alloc: Global, message: &Message) -> Result<Header, AllocError>
         ensures { IfOk result (λ header. header ≡ header_of message.now) }
     {
-        // (its clause tells what every message keeps)
+        // (its clause says what every message keeps)
         let _count = message.segment_count();
         let msh = message.segment(0);
-        // (its clause tells what every segment keeps)
+        // (its clause says what every segment keeps)
         let _values = msh.value_count();
         let event = Place {
             field: 9,
             rep: 1,
             comp: 2,
-            sub: 1,
-        };
-        let control = Place {
-            field: 10,
-            rep: 1,
-            comp: 1,
             sub: 1,
         };
         Ok(Header {
@@ -145,7 +160,7 @@ impl Header {
             receiving_application: first_repetition(alloc, &msh, 5)?,
             receiving_facility: first_repetition(alloc, &msh, 6)?,
             event: Vec::from_slice(alloc, msh.text(event))?,
-            control: Vec::from_slice(alloc, msh.text(control))?,
+            control: Vec::from_slice(alloc, first_leaf(&msh, 10))?,
             processing: first_repetition(alloc, &msh, 11)?,
         })
     }

@@ -2,12 +2,13 @@
 ghost use Rattle.std.specs.Prelude.{◌≡◌, ◌⊎◌, List, Some, Ok, Err};
 ghost use Rattle.gw_er7.specs.declared.fault.ReadFault.{ReadFault};
 ghost use Rattle.gw_er7.specs.Faults.{Faulty};
-ghost use Rattle.gw_er7.specs.Message.{SegmentValue, IsMessage, text_of};
+ghost use Rattle.gw_er7.specs.Message.{SegmentValue, IsMessage};
 ghost use Rattle.gw_er7.specs.Reading.{Reads};
 ghost use Rattle.gw_ack.specs.declared.receipt.Ack.{Ack};
 ghost use Rattle.gw_ack.specs.Acknowledged.{Acknowledges, IsRead, acknowledgment, code_in, in_msa, number_of};
 
-use gw_er7::{Message, Place, ReadFault, Segment, read, reads_once};
+use crate::header::first_leaf;
+use gw_er7::{Message, ReadFault, Segment, read, reads_once};
 use std::alloc::Global;
 use thiserror::Error;
 
@@ -51,18 +52,6 @@ impl AckFault {
             AckFault::OtherMessage => 4,
         }
     }
-}
-
-/// The first subcomponent of a field. It takes no memory.
-fn first_leaf<'a>(segment: &Segment<'a>, field: usize) -> &'a [u8]
-    ensures { result.now ≡ text_of segment.now.at field 1 1 1 }
-{
-    segment.text(Place {
-        field,
-        rep: 1,
-        comp: 1,
-        sub: 1,
-    })
 }
 
 /// The code that a text is.
@@ -120,7 +109,7 @@ pub fn read_ack(alloc: Global, content: &[u8], control: &[u8]) -> Result<Ack, Ac
     reads_once();
     match read(alloc, content) {
         Ok(message) => {
-            // (its clause tells what every message keeps)
+            // (its clause says what every message keeps)
             let _count = message.segment_count();
             acknowledgment(&message, control)
         }

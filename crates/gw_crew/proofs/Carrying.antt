@@ -6,12 +6,13 @@ use Rattle.std.specs.Io.KnownBytes.{Appends, Consumes, IsAtEnd}
 use Rattle.gw_ack.specs.declared.receipt.Ack.{Ack}
 use Rattle.gw_ack.specs.declared.receipt.Ack.TheVariants.{AA, AE, AR}
 use Rattle.gw_ack.specs.Acknowledged.{Acknowledges}
+use Rattle.gw_ack.specs.Headers.{control_of}
 use Rattle.gw_er7.specs.Message.{SegmentValue}
 use Rattle.gw_er7.specs.Written.{written}
 use Rattle.gw_gate.specs.Journal.{WasOut}
 use Rattle.gw_gate.specs.Parts.{TranslatedSeen}
 use Rattle.gw_gate.specs.Seen.{message_seen}
-use Rattle.gw_mllp.specs.Stream.{Has, Held, Stands, Tail, Between, Within, Overlong, LongAfter, block}
+use Rattle.gw_mllp.specs.Stream.{Has, HasGiven, Held, IsFed, Stands, Tail, Between, Within, Overlong, LongAfter, block}
 use Rattle.gw_stream.specs.declared.counts.Counts.{Counts}
 use Rattle.gw_stream.specs.declared.fault.RunFault.{RunFault}
 use Rattle.gw_stream.specs.declared.fault.RunFault.TheVariants.{Memory, Line, Turns}
@@ -20,12 +21,12 @@ use Rattle.gw_stream.specs.Reading.{ReadTimes}
 use Rattle.gw_stream.specs.Sent.{BeginsWith, SendsPart}
 use Rattle.gw_stream.specs.Streams.{HasFirst}
 use Rattle.gw_crew.specs.Notes.{NoteSeen, WasFull, WasNothing, Added}
-use Rattle.gw_stream.proofs.Walking.{has_few, long_enough}
-use Rattle.gw_crew.specs.Streams.{Reading, Spot, Feeds}
+use Rattle.gw_stream.proofs.Walking.{first_whole, has_few, long_enough}
+use Rattle.gw_crew.specs.Streams.{Reading, Spot}
 use Rattle.gw_crew.specs.own.Turns.{Adds, Waits, never, again, ComesOut, ComesNone}
 use Rattle.gw_crew.specs.Carries.{Rounds, no_round, sent_one, waited, none_left, full, Carried, Carries, write, read, ended, denied, LineFails, ReadInVain}
 use Rattle.gw_crew.specs.Carries.{memory, turns, line, Breaks, empty_handed, in_hand, GivesNext, GivesNone, Sent, Unsent, Unwritten, WriteFails}
-use Rattle.gw_crew.specs.Carries.{write_memory, write_line, Denies, no_memory, not_acknowledged, Progress, control_of, with_sent}
+use Rattle.gw_crew.specs.Carries.{write_memory, write_line, Denies, no_memory, not_acknowledged, Progress, with_sent}
 
 -- ---- numbers
 
@@ -104,10 +105,6 @@ carried_one r n w w1 w2 old mid new blocks c at t message content ack was is see
 
 -- ---- the stream
 
--- a decoder gave a block
-abbrev pub Gives : List ℕ → Held → Held → Type 0
-Gives content h h' = (stream : List ℕ) (given : List (List ℕ)) → Stands stream given h → Stands stream (given ++ content ∷ []) h'
-
 pub reading_begins : (s : Spot) (h : Held) → Stands [] [] h → Reading 0 s s [] h
 reading_begins s h stands = record {
   taken = [];
@@ -121,32 +118,13 @@ reading_begins s h stands = record {
   counted = λ small. omega arith;
 }
 
-first_of : (stream more : List ℕ) (blocks others : List (List ℕ)) (tail : Tail) → Has stream (blocks ++ others) tail → HasFirst (stream ++ more) blocks
-first_of stream more blocks others Between p = record { front = stream; more = more; whole = refl; others = others; left = None; cut = p.0 }
-first_of stream more blocks others (Within t) p = record { front = stream; more = more; whole = refl; others = others; left = Some t; cut = p.0 }
-first_of stream more blocks others Overlong p = record {
-  front = p.front;
-  more = p.more ++ more;
-  whole = ap (λ l. l ++ more) p.whole ∙ append_assoc p.front p.more more;
-  others = others;
-  left = Some p.left;
-  cut = p.cut;
-}
-
-first_whole : (s left : Option (List ℕ)) (taken : List ℕ) (blocks : List (List ℕ)) (h : Held) → Consumes s left taken → Stands taken blocks h
-    → IfSome s (λ bytes. HasFirst bytes blocks)
-first_whole None left taken blocks h takes stands = tt
-first_whole (Some bytes) None taken blocks h takes stands = absurd takes
-first_whole (Some bytes) (Some rest) taken blocks h takes stands =
-    subst (λ l. HasFirst l blocks) (sym takes) (first_of taken rest blocks h.waiting h.tail stands)
-
 -- what a decoder gave are the first blocks of the stream
 pub first_blocks : (s left : Spot) (blocks : List (List ℕ)) (h : Held) → Reading 0 s left blocks h → IfSome s.left (λ bytes. HasFirst bytes blocks)
-first_blocks s left blocks h was = first_whole s.left left.left was.taken blocks h was.takes was.stands
+first_blocks s left blocks h was = first_whole s.left left.left was.taken blocks h.waiting h.tail was.takes was.stands
 
 -- a piece was read and fed
 pub reading_more : (k : ℕ) (s left left' : Spot) (blocks : List (List ℕ)) (h h' : Held) (piece : List ℕ) → Reading k s left blocks h
-    → Consumes left.left left'.left piece → 0 < length piece → length piece ≤ 4096 → ReadTimes 1 left.reads left'.reads → Feeds piece h h'
+    → Consumes left.left left'.left piece → 0 < length piece → length piece ≤ 4096 → ReadTimes 1 left.reads left'.reads → IsFed piece h h'
     → Reading (k + 1) s left' blocks h'
 reading_more k s left left' blocks h h' piece was takes some short once feeds =
     let long : length (was.taken ++ piece) ≡ length was.taken + length piece = length-append was.taken piece in
@@ -166,7 +144,7 @@ reading_more k s left left' blocks h h' piece was takes some short once feeds =
 
 -- the decoder gave a block
 pub reading_gives : (k : ℕ) (s left : Spot) (blocks : List (List ℕ)) (h h' : Held) (content : List ℕ) → k ≤ 1000000 → Reading k s left blocks h
-    → Gives content h h' → Reading 0 s left (blocks ++ content ∷ []) h'
+    → HasGiven content h h' → Reading 0 s left (blocks ++ content ∷ []) h'
 reading_gives k s left blocks h h' content limit was gives =
     let stands = gives was.taken blocks was.stands in
     let one : length (blocks ++ content ∷ []) ≡ length blocks + 1 = length-append blocks (content ∷ []) in
@@ -400,7 +378,7 @@ ended_none n reader reads k unread left left' h h' control run none end empty =
     λ s blocks was. let at_end = reading_ends k s left left' blocks h' (run s blocks was) none end empty in line (ended at_end.0 at_end.1)
 
 pub reads_more : (k : ℕ) (unread left left' : Spot) (h h1 h2 h3 : Held) (piece : List ℕ) → Reads k unread h left h1 → Consumes left.left left'.left piece
-    → 0 < length piece → length piece ≤ 4096 → ReadTimes 1 left.reads left'.reads → Feeds piece h1 h2 → h3 ≡ h2 → Reads (k + 1) unread h left' h3
+    → 0 < length piece → length piece ≤ 4096 → ReadTimes 1 left.reads left'.reads → IsFed piece h1 h2 → h3 ≡ h2 → Reads (k + 1) unread h left' h3
 reads_more k unread left left' h h1 h2 h3 piece run takes some short once feeds same =
     λ s blocks was. subst (Reading (k + 1) s left' blocks) (sym same)
     (reading_more k s left left' blocks h1 h2 piece (run s blocks was) takes some short once feeds)
@@ -412,11 +390,11 @@ long_none n reader reads k unread left h h' control run empty long =
     λ s blocks was. line (ended Overlong (reading_long k s left blocks h' (run s blocks was) empty long))
 
 -- a block was at hand
-pub first_so : (unread : Spot) (h h' : Held) (content : List ℕ) → Gives content h h' → GivesNext unread unread h h' content
+pub first_so : (unread : Spot) (h h' : Held) (content : List ℕ) → HasGiven content h h' → GivesNext unread unread h h' content
 first_so unread h h' content gives = λ s blocks was. reading_gives 0 s unread blocks h h' content (omega arith) was gives
 
 pub next_so : (k : ℕ) (unread left left' : Spot) (h h1 h2 h3 : Held) (piece content : List ℕ) → Reads k unread h left h1 → Consumes left.left left'.left piece
-    → 0 < length piece → length piece ≤ 4096 → ReadTimes 1 left.reads left'.reads → k < 1000000 → Feeds piece h1 h2 → Gives content h2 h3
+    → 0 < length piece → length piece ≤ 4096 → ReadTimes 1 left.reads left'.reads → k < 1000000 → IsFed piece h1 h2 → HasGiven content h2 h3
     → GivesNext unread left' h h3 content
 next_so k unread left left' h h1 h2 h3 piece content run takes some short once limit feeds gives =
     λ s blocks was. reading_gives (k + 1) s left' blocks h2 h3 content (omega arith)

@@ -4,7 +4,8 @@ use Rattle.std.specs.Io.KnownBytes.{Appends}
 use Rattle.gw_ack.specs.declared.receipt.Ack.{Ack}
 use Rattle.gw_ack.specs.declared.receipt.Ack.TheVariants.{AA, AE, AR}
 use Rattle.gw_ack.specs.Acknowledged.{Acknowledges}
-use Rattle.gw_er7.specs.Message.{SegmentValue, text_of}
+use Rattle.gw_ack.specs.Headers.{control_of}
+use Rattle.gw_er7.specs.Message.{SegmentValue}
 use Rattle.gw_er7.specs.Written.{written}
 use Rattle.gw_gate.specs.Journal.{WasOut}
 use Rattle.gw_gate.specs.Parts.{TranslatedSeen}
@@ -19,11 +20,6 @@ use Rattle.gw_stream.specs.Sent.{BeginsWith}
 use Rattle.gw_stream.specs.Streams.{HasFirst}
 use Rattle.gw_crew.specs.Notes.{NoteSeen, WasFull, WasNothing, Added}
 use Rattle.gw_crew.specs.Streams.{Reading, Spot}
-
--- MSH-10 of a message: its control id, by its first subcomponent
-abbrev pub control_of : List SegmentValue → List ℕ
-control_of [] = []
-control_of (s ∷ ss) = text_of s.at 10 1 1 1
 
 -- one block more was sent, and acknowledged with this code
 abbrev pub with_sent : Ack → Counts → Counts

@@ -25,7 +25,3 @@ pub record Reading (more : ℕ) (from here : Spot) (given : List (List ℕ)) (he
   pub many : earlier + more ≤ length taken
   pub few : length taken ≤ (earlier + more) * 4096
   pub counted : ReadTimes (earlier + more) from.reads here.reads
-
--- a piece takes a decoder from here to there
-abbrev pub Feeds : List ℕ → Held → Held → Type 0
-Feeds piece old new = (stream : List ℕ) (given : List (List ℕ)) → Stands stream given old → Stands (stream ++ piece) given new

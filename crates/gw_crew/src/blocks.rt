@@ -1,8 +1,8 @@
 //! The blocks that come back on a line.
 ghost use Rattle.std.specs.Prelude.{◌≡◌, OnOk, OnErr, IfOk, IfErr, false, Ok};
-ghost use Rattle.gw_mllp.specs.Stream.{Overlong};
+ghost use Rattle.gw_mllp.specs.Stream.{IsFed, Overlong};
 ghost use Rattle.gw_crew.specs.Carries.{Acked, Denies, GivesNext, GivesNoBlock, GivesNone};
-ghost use Rattle.gw_crew.specs.Streams.{Feeds, spot};
+ghost use Rattle.gw_crew.specs.Streams.{spot};
 ghost use Rattle.gw_ack.specs.Acknowledged.{Acknowledges};
 
 use gw_ack::{Ack, AckFault, read_ack};
@@ -19,7 +19,7 @@ const PIECE: usize = 4_096;
 
 // Takes a piece of the stream. Says whether the stream can be read on.
 fn take_piece(decoder: &mut Decoder, piece: &[u8]) -> Result<bool, AllocError>
-    ensures stands { OnOk result (Feeds piece.now decoder.old decoder.new) }
+    ensures stands { OnOk result (IsFed piece.now decoder.old decoder.new) }
     ensures over { result ≡ Ok false → decoder.new.tail ≡ Overlong }
     ensures err { OnErr result (decoder.new ≡ decoder.old) }
 {

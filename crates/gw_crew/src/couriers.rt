@@ -5,20 +5,20 @@ ghost use Rattle.gw_er7.specs.Written.{written};
 ghost use Rattle.gw_gate.specs.Values.{reply_seen};
 ghost use Rattle.gw_mllp.specs.Stream.{block};
 ghost use Rattle.gw_stream.specs.declared.fault.RunFault.TheVariants.{Memory};
-ghost use Rattle.gw_crew.specs.Carries.{Breaks, Carries, Sent, Unsent, Unwritten, control_of, with_sent};
+ghost use Rattle.gw_crew.specs.Carries.{Breaks, Carries, Sent, Unsent, Unwritten, with_sent};
 ghost use Rattle.gw_crew.specs.Streams.{spot};
 ghost use Rattle.gw_crew.specs.own.Turns.{Adds, Comes, GaveOut, Waits, given_of, given_seen, out_seen};
 ghost use Rattle.std.specs.Option.{option_map};
 
 use crate::blocks::answered;
 use crate::door::{Door, Phase};
-use gw_ack::Ack;
-use gw_er7::{Message, Place, write};
+use gw_ack::{Ack, control_of};
+use gw_er7::Message;
 use gw_gate::{Event, Reply};
-use gw_mllp::{Decoder, write_block};
+use gw_mllp::Decoder;
 use gw_plan::Translated;
-use gw_stream::{Counts, RunFault, Sink, Source, send_all};
-use std::alloc::{AllocError, Global};
+use gw_stream::{Counts, RunFault, Sink, Source, block_of, send_all};
+use std::alloc::Global;
 use std::sync::Arc;
 
 // What was given out for a receiver.
@@ -52,18 +52,6 @@ fn release<D: Door>(door: &mut D, receiver: usize) -> Result<Given, RunFault>
     }
 }
 
-// The block of a message.
-fn block_of(alloc: Global, message: &Message) -> Result<Vec<u8>, AllocError>
-    ensures { IfOk result (λ bytes. bytes.items ≡ block (written message.now)) }
-{
-    // (its clause tells that a message's bytes are those of its segments)
-    let _count = message.segment_count();
-    let content = write(alloc, message)?;
-    let mut framed = Vec::new(alloc);
-    write_block(&mut framed, &content)?;
-    Ok(framed)
-}
-
 // Writes the block of the message of this number.
 fn send<W: Sink>(alloc: Global, message: &Message, writer: &mut W, n: u64) -> Result<(), RunFault>
     requires { W.has_failed writer.old ≡ false }
@@ -78,20 +66,6 @@ fn send<W: Sink>(alloc: Global, message: &Message, writer: &mut W, n: u64) -> Re
             Err(_) => Err(RunFault::Line { n }),
         },
     }
-}
-
-// The control id of a message, by its first subcomponent.
-fn control_of(message: &Message) -> &[u8]
-    ensures { result.now ≡ control_of message.now }
-{
-    // (its clause tells that a message has a segment)
-    let _count = message.segment_count();
-    message.segment(0).text(Place {
-        field: 10,
-        rep: 1,
-        comp: 1,
-        sub: 1,
-    })
 }
 
 // Writes the block of the message of this number, and reads its acknowledgment.

@@ -1,17 +1,18 @@
 -- How a message arrives.
-use Rattle.std.proofs.Common.{◌≡◌, ◌≤◌, ◌+◌, ℕ, List, [], ◌∷◌, ◌++◌, Option, Some, Result, Ok, Err, IfOk, OnErr, refl, sym, ap, subst, ◌∙◌, arith, append_assoc, append-nil}
+use Rattle.std.proofs.Common.{◌≡◌, ◌≤◌, ◌+◌, ℕ, List, [], ◌∷◌, ◌++◌, Option, None, Some, Result, Ok, Err, IfOk, OnErr, refl, sym, ap, subst, ◌∙◌, arith, append_assoc, append-nil}
 use Rattle.gw_er7.specs.Message.{SegmentValue}
 use Rattle.gw_gate.specs.Journal.{WasAccepted}
 use Rattle.gw_gate.specs.Parts.{PlanSeen, ConformingSeen}
 use Rattle.gw_gate.specs.Seen.{message_seen}
 use Rattle.gw_gate.proofs.Asking.{same_messages}
-use Rattle.gw_stream.specs.Answers.{Reply, accept, reject}
+use Rattle.gw_ack.specs.declared.reply.Reply.{Reply}
+use Rattle.gw_ack.specs.declared.reply.Reply.TheVariants.{Accept, Reject}
 use Rattle.gw_crew.specs.Notes.{NoteSeen, Looked, WasStale, WasFull, Added}
 use Rattle.gw_crew.specs.own.Turns.{Adds}
-use Rattle.gw_session.specs.declared.turn.Turn.{Turn}
+use Rattle.gw_session.specs.declared.doors.Turn.{Turn}
 use Rattle.gw_session.specs.Sessions.{Decides, HasCode, IsCutShort, IsTurn, Tries}
 use Rattle.gw_session.specs.Sessions as sessions
-use Rattle.gw_session.specs.own.Steps.{Asks, CameSeen, Taken, Back, NoRoom, ComesTo, CutsShort, EndsIn, JudgementSeen, MayLook, OnceMore, Settles, reply_of}
+use Rattle.gw_session.specs.own.Steps.{Asks, CameSeen, Taken, Back, NoRoom, ComesTo, CutsShort, EndsIn, JudgementSeen, MayLook, OnceMore, Settles}
 use Rattle.gw_session.specs.own.Steps as steps
 
 abbrev Message : Type 0
@@ -50,53 +51,53 @@ looked_only version plan old new noted = record { more = Looked version plan ∷
 
 module _ (m : Message) where
   -- what is to be said after three stale arrivals at most and this look
-  decided : (k : ℕ) (tried notes : List NoteSeen) (asked : Reply) → k ≤ 3 → Tries m k tried → Asks m (steps.Refused asked) notes
+  decided : (k : ℕ) (tried notes : List NoteSeen) (asked : Reply) (code : ℕ) → k ≤ 3 → Tries m k tried → Asks m (steps.Refused asked code) notes
       → Decides (Some m) (tried ++ notes) asked
-  decided k tried notes asked few tries asks =
-      subst (λ l. Decides (Some m) (tried ++ l) asked) (sym asks.is) (sessions.judged m k tried asks.version asks.plan asked few tries asks.judges)
+  decided k tried notes asked code few tries asks =
+      subst (λ l. Decides (Some m) (tried ++ l) asked) (sym asks.is) (sessions.judged m k tried asks.version asks.plan asked few tries asks.judges.0)
 
   accepts : (c : ConformingSeen) (k : ℕ) (tried notes : List NoteSeen) → k ≤ 3 → Tries m k tried → Asks m (steps.Admitted c) notes
-      → Decides (Some m) (tried ++ notes) accept
+      → Decides (Some m) (tried ++ notes) Accept
   accepts c k tried notes few tries asks =
-      subst (λ l. Decides (Some m) (tried ++ l) accept) (sym asks.is) (sessions.judged m k tried asks.version asks.plan accept few tries asks.judges.judged)
+      subst (λ l. Decides (Some m) (tried ++ l) Accept) (sym asks.is) (sessions.judged m k tried asks.version asks.plan Accept few tries asks.judges.judged)
 
-  pub settles_refused : (asked said : Reply) (number : ℕ) (old mid new : List NoteSeen) → Adds (Asks m (steps.Refused asked)) old mid
+  pub settles_refused : (asked said : Reply) (code number : ℕ) (old mid new : List NoteSeen) → Adds (Asks m (steps.Refused asked code)) old mid
       → Adds (EndsIn asked number said) mid new → Adds (Settles m number said) old new
-  settles_refused asked said number old mid new asks ends = record {
+  settles_refused asked said code number old mid new asks ends = record {
     more = asks.more ++ ends.more;
     holds = λ k tried few tries. subst (λ l. IsTurn (Some m) l number said) (append_assoc tried asks.more ends.more)
-        (ends_turn (Some m) (tried ++ asks.more) ends.more asked said number (decided k tried asks.more asked few tries asks.holds) ends.holds);
+        (ends_turn (Some m) (tried ++ asks.more) ends.more asked said number (decided k tried asks.more asked code few tries asks.holds) ends.holds);
     noted = joined old mid new asks.more ends.more asks.noted ends.noted;
   }
 
   -- a look and an acceptance
   taken_notes : (c : ConformingSeen) (arrival : ℕ) (looks came : List NoteSeen) (k : ℕ) (tried : List NoteSeen) → k ≤ 3 → Tries m k tried
-      → Asks m (steps.Admitted c) looks → steps.IsTaken c arrival came → IsTurn (Some m) (tried ++ (looks ++ came)) arrival accept
+      → Asks m (steps.Admitted c) looks → steps.IsTaken c arrival came → IsTurn (Some m) (tried ++ (looks ++ came)) arrival Accept
   taken_notes c arrival looks came k tried few tries asks is =
       let both : looks ++ came ≡ Looked asks.version asks.plan ∷ Added is.at (WasAccepted is.n arrival c) ∷ [] =
       ap (λ l. l ++ came) asks.is ∙ ap (λ l. Looked asks.version asks.plan ∷ l) is.is in
-      subst (λ l. IsTurn (Some m) (tried ++ l) arrival accept) (sym both)
+      subst (λ l. IsTurn (Some m) (tried ++ l) arrival Accept) (sym both)
       (sessions.taken m k tried asks.version asks.plan is.at is.n arrival c few tries asks.judges.judged asks.judges.arrival)
 
   pub settles_taken : (c : ConformingSeen) (arrival : ℕ) (old mid new : List NoteSeen) → Adds (Asks m (steps.Admitted c)) old mid
-      → Adds (ComesTo c (Taken arrival)) mid new → Adds (Settles m arrival accept) old new
+      → Adds (ComesTo c (Taken arrival)) mid new → Adds (Settles m arrival Accept) old new
   settles_taken c arrival old mid new asks came = record {
     more = asks.more ++ came.more;
     holds = λ k tried few tries. taken_notes c arrival asks.more came.more k tried few tries asks.holds came.holds;
     noted = joined old mid new asks.more came.more asks.noted came.noted;
   }
 
-  full_notes : (c : ConformingSeen) (number : ℕ) (said : Reply) (looks came : List NoteSeen) (k : ℕ) (tried : List NoteSeen) → number ≡ 0 → said ≡ reject 207
+  full_notes : (c : ConformingSeen) (number : ℕ) (said : Reply) (looks came : List NoteSeen) (k : ℕ) (tried : List NoteSeen) → number ≡ 0 → said ≡ Reject 207
       → k ≤ 3 → Tries m k tried → Asks m (steps.Admitted c) looks → came ≡ WasFull ∷ [] → IsTurn (Some m) (tried ++ (looks ++ came)) number said
   full_notes c number said looks came k tried zero internal few tries asks is =
-      let so : IsTurn (Some m) ((tried ++ looks) ++ came) 0 (reject 207) =
-      subst (λ l. IsTurn (Some m) ((tried ++ looks) ++ l) 0 (reject 207)) (sym is)
-      (sessions.no_room (Some m) (tried ++ looks) accept (accepts c k tried looks few tries asks)) in
+      let so : IsTurn (Some m) ((tried ++ looks) ++ came) 0 (Reject 207) =
+      subst (λ l. IsTurn (Some m) ((tried ++ looks) ++ l) 0 (Reject 207)) (sym is)
+      (sessions.no_room (Some m) (tried ++ looks) Accept (accepts c k tried looks few tries asks)) in
       subst (λ n. IsTurn (Some m) (tried ++ (looks ++ came)) n said) (sym zero)
       (subst (λ r. IsTurn (Some m) (tried ++ (looks ++ came)) 0 r) (sym internal)
-      (subst (λ l. IsTurn (Some m) l 0 (reject 207)) (append_assoc tried looks came) so))
+      (subst (λ l. IsTurn (Some m) l 0 (Reject 207)) (append_assoc tried looks came) so))
 
-  pub settles_full : (c : ConformingSeen) (number : ℕ) (said : Reply) (old mid new : List NoteSeen) → number ≡ 0 → said ≡ reject 207
+  pub settles_full : (c : ConformingSeen) (number : ℕ) (said : Reply) (old mid new : List NoteSeen) → number ≡ 0 → said ≡ Reject 207
       → Adds (Asks m (steps.Admitted c)) old mid → Adds (ComesTo c NoRoom) mid new → Adds (Settles m number said) old new
   settles_full c number said old mid new zero internal asks came = record {
     more = asks.more ++ came.more;
@@ -157,10 +158,10 @@ module _ (m : Message) where
   pub tries_none : (old : List NoteSeen) → Adds (Tries m 0) old old
   tries_none old = adds_none (Tries m 0) old old sessions.untried refl
 
-  gives_up : (number : ℕ) (said : Reply) (old mid new : List NoteSeen) → Adds (Tries m 4) old mid → Adds (EndsIn (reject 207) number said) mid new
+  gives_up : (number : ℕ) (said : Reply) (old mid new : List NoteSeen) → Adds (Tries m 4) old mid → Adds (EndsIn (Reject 207) number said) mid new
       → Adds (λ notes. IsTurn (Some m) notes number said) old new
   gives_up number said old mid new tries ends =
-      ended_so (Some m) old mid new tries.more (reject 207) said number tries.noted (sessions.given_up m tries.more tries.holds) ends
+      ended_so (Some m) old mid new tries.more (Reject 207) said number tries.noted (sessions.given_up m tries.more tries.holds) ends
 
   cut_at_last : (old mid new : List NoteSeen) → Adds (Tries m 4) old mid → new ≡ mid → Adds (IsCutShort (Some m)) old new
   cut_at_last old mid new tries same = record {
@@ -170,13 +171,25 @@ module _ (m : Message) where
   }
 
   pub if_gives_up : {E : Type 0} (r : Result Turn E) (k : ℕ) (old mid new : List NoteSeen) → k ≡ 4 → Adds (Tries m k) old mid
-      → IfOk r (λ turn. Adds (EndsIn (reject 207) turn.number (reply_of turn.said)) mid new)
-      → IfOk r (λ turn. Adds (λ notes. IsTurn (Some m) notes turn.number (reply_of turn.said)) old new)
+      → IfOk r (λ turn. Adds (EndsIn (Reject 207) turn.number turn.reply) mid new)
+      → IfOk r (λ turn. Adds (λ notes. IsTurn (Some m) notes turn.number turn.reply) old new)
   if_gives_up (Ok turn) k old mid new four tries ends =
-      gives_up turn.number (reply_of turn.said) old mid new (subst (λ n. Adds (Tries m n) old mid) four tries) ends
+      gives_up turn.number turn.reply old mid new (subst (λ n. Adds (Tries m n) old mid) four tries) ends
   if_gives_up (Err e) k old mid new four tries ends = tt
 
   pub unless_gives_up : {T E : Type 0} (r : Result T E) (k : ℕ) (old mid new : List NoteSeen) → k ≡ 4 → Adds (Tries m k) old mid → OnErr r (new ≡ mid)
       → OnErr r (Adds (IsCutShort (Some m)) old new)
   unless_gives_up (Ok x) k old mid new four tries same = tt
   unless_gives_up (Err e) k old mid new four tries same = cut_at_last old mid new (subst (λ n. Adds (Tries m n) old mid) four tries) same
+
+-- ---- what can't be read
+
+-- it is refused at once
+pub if_unreadable : {E : Type 0} (r : Result Turn E) (old new : List NoteSeen) → IfOk r (λ turn. Adds (EndsIn (Reject 207) turn.number turn.reply) old new)
+    → IfOk r (λ turn. Adds (λ notes. IsTurn None notes turn.number turn.reply) old new)
+if_unreadable (Ok turn) old new ends = ended_so None old old new [] (Reject 207) turn.reply turn.number (sym (append-nil old)) sessions.no_message ends
+if_unreadable (Err e) old new ends = tt
+
+pub unless_unreadable : {T E : Type 0} (r : Result T E) (old new : List NoteSeen) → OnErr r (new ≡ old) → OnErr r (Adds (IsCutShort None) old new)
+unless_unreadable (Ok x) old new same = tt
+unless_unreadable (Err e) old new same = adds_none (IsCutShort None) old new (sessions.at_once None) same

@@ -4,7 +4,8 @@ use Rattle.gw_gate.specs.Journal.{WasAccepted, WasRefused}
 use Rattle.gw_gate.specs.Parts.{ConformingSeen}
 use Rattle.gw_gate.specs.Replies.{Arrives, Refuses, ReplySeen, IsCurrent, IsAccepted, IsStale, IsRefused, IsSwapped, IsUnlike, IsJob, IsIdle, IsKept}
 use Rattle.gw_gate.specs.Replies.{IsRepeat, IsStranger, IsIssued, IsDone, IsOut, IsNothing, IsPending, IsClosed, IsFull}
-use Rattle.gw_stream.specs.Answers.{Reply, reject}
+use Rattle.gw_ack.specs.declared.reply.Reply.{Reply}
+use Rattle.gw_ack.specs.declared.reply.Reply.TheVariants.{Reject}
 use Rattle.gw_crew.specs.Notes.{NoteSeen, WasStale, WasFull, Added, Notes}
 use Rattle.gw_crew.specs.own.Turns.{Adds}
 use Rattle.gw_session.specs.Sessions.{HasCode}
@@ -43,7 +44,7 @@ came_so c given came old new is noted = subst (λ x. Adds (ComesTo c x) old new)
 -- what is noted of a refusal, by the number of the arrival
 abbrev Ended : Reply → Option ℕ → List NoteSeen → Type 0
 Ended asked (Some number) notes = EndsIn asked number asked notes
-Ended asked None notes = EndsIn asked 0 (reject 207) notes
+Ended asked None notes = EndsIn asked 0 (Reject 207) notes
 
 ended : (asked : Reply) (code : ℕ) (given : ReplySeen) (old new : List NoteSeen) → HasCode asked code → Notes (Refuses code) given old new
     → Adds (Ended asked (arrival_of given)) old new
@@ -72,7 +73,7 @@ pub refused_so : (asked : Reply) (code number : ℕ) (given : ReplySeen) (old ne
 refused_so asked code number given old new has is noted = subst (λ o. Adds (Ended asked o) old new) (sym is) (ended asked code given old new has noted)
 
 pub full_so : (asked : Reply) (code number : ℕ) (said : Reply) (given : ReplySeen) (old new : List NoteSeen) → HasCode asked code → None ≡ arrival_of given
-    → Notes (Refuses code) given old new → number ≡ 0 → said ≡ reject 207 → Adds (EndsIn asked number said) old new
+    → Notes (Refuses code) given old new → number ≡ 0 → said ≡ Reject 207 → Adds (EndsIn asked number said) old new
 full_so asked code number said given old new has is noted zero internal =
-    let so : Adds (EndsIn asked 0 (reject 207)) old new = subst (λ o. Adds (Ended asked o) old new) (sym is) (ended asked code given old new has noted) in
+    let so : Adds (EndsIn asked 0 (Reject 207)) old new = subst (λ o. Adds (Ended asked o) old new) (sym is) (ended asked code given old new has noted) in
     subst (λ n. Adds (EndsIn asked n said) old new) (sym zero) (subst (λ r. Adds (EndsIn asked 0 r) old new) (sym internal) so)

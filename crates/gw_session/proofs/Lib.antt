@@ -1,5 +1,4 @@
 pub mod Asking
 pub mod Judging
 pub mod Arriving
-pub mod Dealing
-pub mod Going
+pub mod Meeting

@@ -4,10 +4,10 @@ ghost use Rattle.std.specs.Arc.{arc_value};
 ghost use Rattle.gw_crew.specs.own.Turns.{Adds};
 ghost use Rattle.gw_gate.specs.Seen.{plan_seen};
 ghost use Rattle.gw_session.specs.Sessions.{IsCutShort, IsTurn};
-ghost use Rattle.gw_session.specs.own.Steps.{Asks, Attempts, CutsShort, Judges, MayLook, attempt_seen, judgement_seen, reply_of};
+ghost use Rattle.gw_session.specs.own.Steps.{Asks, Attempts, CutsShort, Judges, MayLook, attempt_seen, judgement_seen};
 
-use crate::doors::{Came, Current, arrive, look, refuse};
-use crate::turn::{INTERNAL, Said, Turn, Why};
+use crate::doors::{Came, Current, Turn, arrive, look, refuse, without_room};
+use gw_ack::{INTERNAL, Reply};
 use gw_crew::Door;
 use gw_er7::Message;
 use gw_plan::{Conforming, Refusal, admit};
@@ -17,11 +17,11 @@ use std::sync::Arc;
 /// How often a message arrives that is stale each time.
 const TRIES: usize = 4;
 
-// What the plan in force says of a message.
+// What the plan in force says of a message: it is admitted, or what is said to it, with the condition's code.
 #[derive(Drop)]
 enum Judgement {
     Admitted(Arc<Conforming>),
-    Refused(Why),
+    Refused(Reply, u16),
 }
 
 // What came of an arrival: it is settled, or the message was stale, and comes back.
@@ -39,8 +39,10 @@ fn judge(alloc: Global, current: &Current, message: Message) -> Result<Judgement
     match admit(alloc, &current.plan, current.version, message) {
         Ok(conforming) => Ok(Judgement::Admitted(conforming)),
         Err(Refusal::Memory(_message)) => Err(AllocError),
-        Err(Refusal::Route(code, _message)) => Ok(Judgement::Refused(Why::Rejected(code))),
-        Err(Refusal::Breaks(breach, _message)) => Ok(Judgement::Refused(Why::Breaks(breach))),
+        Err(Refusal::Route(code, _message)) => Ok(Judgement::Refused(Reply::Reject(code), code)),
+        Err(Refusal::Breaks(breach, _message)) => {
+            Ok(Judgement::Refused(Reply::Refuse(breach), breach.code()))
+        }
     }
 }
 
@@ -59,25 +61,25 @@ fn try_once<D: Door>(alloc: Global, door: &mut D, message: Message) -> Result<At
     ensures err { OnErr result (Adds (CutsShort message) (D.noted door.old) (D.noted door.new)) }
 {
     match ask(alloc, door, message)? {
-        Judgement::Refused(why) => Ok(Attempt::Done(refuse(door, why)?)),
+        Judgement::Refused(why, code) => Ok(Attempt::Done(refuse(door, why, code)?)),
         Judgement::Admitted(conforming) => match arrive(door, conforming)? {
             Came::Accepted(number) => Ok(Attempt::Done(Turn {
                 number,
-                said: Said::Accepted,
+                reply: Reply::Accept,
             })),
-            Came::Full => Ok(Attempt::Done(Turn::without_room())),
+            Came::Full => Ok(Attempt::Done(without_room())),
             Came::Stale(conforming) => Ok(Attempt::Stale(conforming.message().copy(alloc)?)),
         },
     }
 }
 
-/// Has a message arrive, under the plan in force each time: where it is stale, again, four times at most; then it is rejected.
-pub(crate) fn arrive_in_time<D: Door>(
+// Has a message arrive, under the plan in force each time: where it is stale, again, four times at most; then it is rejected.
+fn arrive_in_time<D: Door>(
     alloc: Global,
     door: &mut D,
     message: Message,
 ) -> Result<Turn, AllocError>
-    ensures turn { IfOk result (λ turn. Adds (λ notes. IsTurn (Some message) notes turn.number (reply_of turn.said)) (D.noted door.old) (D.noted door.new)) }
+    ensures turn { IfOk result (λ turn. Adds (λ notes. IsTurn (Some message) notes turn.number turn.reply) (D.noted door.old) (D.noted door.new)) }
     ensures err { OnErr result (Adds (IsCutShort (Some message)) (D.noted door.old) (D.noted door.new)) }
 {
     let mut message = message;
@@ -87,5 +89,20 @@ pub(crate) fn arrive_in_time<D: Door>(
             Attempt::Stale(back) => message = back,
         }
     }
-    refuse(door, Why::Rejected(INTERNAL))
+    refuse(door, Reply::Reject(INTERNAL), INTERNAL)
+}
+
+/// Has what was read arrive: a message, or none, which is rejected at once.
+pub(crate) fn settle<D: Door>(
+    alloc: Global,
+    door: &mut D,
+    what: Option<Message>,
+) -> Result<Turn, AllocError>
+    ensures turn { IfOk result (λ turn. Adds (λ notes. IsTurn what notes turn.number turn.reply) (D.noted door.old) (D.noted door.new)) }
+    ensures err { OnErr result (Adds (IsCutShort what) (D.noted door.old) (D.noted door.new)) }
+{
+    match what {
+        Some(message) => arrive_in_time(alloc, door, message),
+        None => refuse(door, Reply::Reject(INTERNAL), INTERNAL),
+    }
 }

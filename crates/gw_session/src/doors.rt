@@ -6,14 +6,23 @@ ghost use Rattle.gw_gate.specs.Seen.{plan_seen};
 ghost use Rattle.gw_gate.specs.Values.{conforming_at, reply_seen};
 ghost use Rattle.gw_crew.specs.Notes.{Looked};
 ghost use Rattle.gw_crew.specs.own.Turns.{Adds};
-ghost use Rattle.gw_session.specs.own.Steps.{ComesTo, EndsIn, arrival_of, came_of, came_seen, current_of, current_seen, reason, reply_of};
+ghost use Rattle.gw_ack.specs.declared.reply.Reply.TheVariants.{Reject};
+ghost use Rattle.gw_session.specs.Sessions.{HasCode};
+ghost use Rattle.gw_session.specs.own.Steps.{ComesTo, EndsIn, arrival_of, came_of, came_seen, current_of, current_seen};
 
-use crate::turn::{Said, Turn, Why};
+use gw_ack::{INTERNAL, Reply};
 use gw_crew::Door;
-use gw_gate::{Event, Reply};
+use gw_gate::{Event, Reply as Replied};
 use gw_plan::{Conforming, Plan};
 use std::alloc::AllocError;
 use std::sync::Arc;
+
+/// What is said to what was read, and the number of its arrival: 0 where there was no room for it.
+#[derive(Clone, Copy)]
+pub(crate) struct Turn {
+    pub(crate) number: u64,
+    pub(crate) reply: Reply,
+}
 
 /// The plan in force, with its version.
 #[derive(Drop)]
@@ -33,33 +42,33 @@ pub(crate) enum Came {
     Full,
 }
 
-// What a reply to Look tells.
-fn current_in(reply: Reply) -> Option<Current>
+// What a reply to Look says.
+fn current_in(reply: Replied) -> Option<Current>
     ensures { option_map current_seen result ≡ current_of (reply_seen reply) }
 {
     match reply {
-        Reply::Current { version, plan } => Some(Current { version, plan }),
+        Replied::Current { version, plan } => Some(Current { version, plan }),
         _ => None,
     }
 }
 
-// What a reply to Arrive tells.
-fn came_in(reply: Reply) -> Came
+// What a reply to Arrive says.
+fn came_in(reply: Replied) -> Came
     ensures { came_seen result ≡ came_of (reply_seen reply) }
 {
     match reply {
-        Reply::Accepted { arrival, .. } => Came::Accepted(arrival),
-        Reply::Stale { conforming, .. } => Came::Stale(conforming),
+        Replied::Accepted { arrival, .. } => Came::Accepted(arrival),
+        Replied::Stale { conforming, .. } => Came::Stale(conforming),
         _ => Came::Full,
     }
 }
 
 // The number in a reply to Refuse.
-fn arrival_in(reply: Reply) -> Option<u64>
+fn arrival_in(reply: Replied) -> Option<u64>
     ensures { result ≡ arrival_of (reply_seen reply) }
 {
     match reply {
-        Reply::Refused { arrival } => Some(arrival),
+        Replied::Refused { arrival } => Some(arrival),
         _ => None,
     }
 }
@@ -90,18 +99,27 @@ pub(crate) fn arrive<D: Door>(door: &mut D, conforming: Arc<Conforming>) -> Resu
     }
 }
 
-/// Has a refusal noted, under the code of what is said.
-pub(crate) fn refuse<D: Door>(door: &mut D, why: Why) -> Result<Turn, AllocError>
-    ensures refused { IfOk result (λ turn. Adds (EndsIn (reason why) turn.number (reply_of turn.said)) (D.noted door.old) (D.noted door.new)) }
+/// What is said where there was no room for an arrival.
+pub(crate) fn without_room() -> Turn
+    ensures number { result.number ≡ 0 }
+    ensures reply { result.reply ≡ Reject 207 }
+{
+    Turn {
+        number: 0,
+        reply: Reply::Reject(INTERNAL),
+    }
+}
+
+/// Has a refusal noted, under the condition code of its reply.
+pub(crate) fn refuse<D: Door>(door: &mut D, reply: Reply, code: u16) -> Result<Turn, AllocError>
+    requires { HasCode reply code }
+    ensures refused { IfOk result (λ turn. Adds (EndsIn reply turn.number turn.reply) (D.noted door.old) (D.noted door.new)) }
     ensures err { OnErr result (D.noted door.new ≡ D.noted door.old) }
 {
-    match door.call(Event::Refuse(why.code())) {
-        Ok(reply) => match arrival_in(reply) {
-            Some(number) => Ok(Turn {
-                number,
-                said: Said::Refused(why),
-            }),
-            None => Ok(Turn::without_room()),
+    match door.call(Event::Refuse(code)) {
+        Ok(replied) => match arrival_in(replied) {
+            Some(number) => Ok(Turn { number, reply }),
+            None => Ok(without_room()),
         },
         Err(_) => Err(AllocError),
     }

@@ -1,45 +1,36 @@
 //! A session: the blocks of a stream, one by one.
-ghost use Rattle.std.specs.Prelude.{◌≡◌, ◌↔◌, ◌⊎◌, ◌<◌, ◌≤◌, ◌^◌, length, OnOk, OnErr, IfOk, IfErr, IfSome, IsTrue, IsErrOf, false};
-ghost use Rattle.std.specs.Io.KnownBytes.{Appends};
-ghost use Rattle.gw_mllp.specs.Stream.{Between, HasNoEnd, block};
-ghost use Rattle.gw_stream.specs.Counted.{IsTotal, with_answer};
-ghost use Rattle.gw_stream.specs.Faults.{OfStream};
-ghost use Rattle.gw_stream.specs.Reading.{ReadTimes, ReadUpTo};
-ghost use Rattle.gw_stream.specs.Sent.{SendsPart};
-ghost use Rattle.gw_session.specs.Sessions.{SessionAll, SessionPart, SessionTooLong, SessionTruncated};
+ghost use Rattle.std.specs.Prelude.{◌≡◌, ◌↔◌, IsTrue, IsErrOf, false};
+ghost use Rattle.gw_stream.specs.Reading.{ReadUpTo, ReadsTooOften};
+ghost use Rattle.gw_stream.specs.Streams.{Ends};
+ghost use Rattle.gw_session.specs.Sessions.{SessionAll, SessionPart};
 
-use crate::answer::{Answer, deal};
+use crate::at_door::AtDoor;
 use gw_crew::{Clock, Door};
-use gw_mllp::write_block;
-use gw_stream::{BlockReader, Counts, Failed, RunFault, Sink, Source, send_all};
+use gw_stream::{Counts, RunFault, Sink, Source, answer_blocks};
 use std::alloc::Global;
 
-// Writes the block of an answer, in one write where the writer takes it, and counts it.
-fn send<W: Sink>(
+// Answers each block of a stream as the judge at a door settles it.
+fn answer_all<D: Door, C: Clock, R: Source, W: Sink>(
     alloc: Global,
-    counts: &mut Counts,
-    answer: &Answer,
+    judge: &mut AtDoor<'_, D, C>,
+    reader: &mut R,
     writer: &mut W,
-) -> Result<(), RunFault>
-    requires works { W.has_failed writer.old ≡ false }
-    requires total { IsTotal counts.old }
-    requires room { counts.old.answered < 2 ^ 60 }
-    requires lawful { HasNoEnd answer.now.content.items }
-    ensures ok { OnOk result (Appends (W.contents writer.old) (W.contents writer.new) (block answer.now.content.items)) }
-    ensures counted { OnOk result (counts.new ≡ with_answer answer.now.code counts.old) }
-    ensures part { OnErr result (SendsPart (W.contents writer.old) (W.contents writer.new) (block answer.now.content.items)) }
+) -> Result<Counts, RunFault>
+    requires reads { R.has_failed reader.old ≡ false }
+    requires writes { W.has_failed writer.old ≡ false }
+    ensures door { judge.new.door.ghost_name ≡ judge.old.door.ghost_name }
+    ensures ends { Ends
+        (SessionAll (C.gives judge.old.clock.now) (R.remaining reader.old) (D.noted judge.old.door.now) (D.noted judge.new.door.now)
+        (W.contents writer.old) (W.contents writer.new))
+        (λ fault. SessionPart (C.gives judge.old.clock.now) (R.remaining reader.old) (D.noted judge.old.door.now) (D.noted judge.new.door.now)
+        (W.contents writer.old) (W.contents writer.new))
+        result }
+    ensures read { IsErrOf result RunFault.Read ↔ IsTrue (R.has_failed reader.new) }
     ensures write { IsErrOf result RunFault.Write ↔ IsTrue (W.has_failed writer.new) }
-    ensures kinds { IfErr result (λ e. (e ≡ RunFault.Memory) ⊎ (e ≡ RunFault.Write)) }
+    ensures turns { IsErrOf result RunFault.Turns → ReadsTooOften (R.remaining reader.old) (R.reads reader.old) (R.reads reader.new) }
+    ensures most { ReadUpTo 1000000 (R.reads reader.old) (R.reads reader.new) }
 {
-    let mut framed = Vec::new(alloc);
-    write_block(&mut framed, &answer.content)?;
-    match send_all(writer, &framed) {
-        Ok(()) => {
-            counts.add(answer.code);
-            Ok(())
-        }
-        Err(Failed) => Err(RunFault::Write),
-    }
+    answer_blocks(alloc, judge, reader, writer)
 }
 
 /// Answers each block of a stream, as the gate behind the door settles it. At the end of the stream it gives its counts.
@@ -47,6 +38,8 @@ fn send<W: Sink>(
 /// For each block it reads the content, looks up the plan in force, and has the message arrive under it. Where the plan was swapped in between,
 /// it looks and has it arrive again, four times in all, and then refuses it (207). What is refused is noted under the code of its answer's ERR-3.
 /// A content that can't be read is refused at once (207). The answer has the number of the arrival. Where the journal is full, it is AR (207) under number 0.
+///
+/// Answers are gathered, and written before the next read and before each fault.
 ///
 /// The faults are `Memory`, `Read`, `Write`, `Frame(2)` at a block that is too long, `Frame(3)` at the end of the stream within a block,
 /// and `Turns` after 1,000,000 reads. What was accepted stays so.
@@ -59,26 +52,16 @@ pub fn session<D: Door, C: Clock, R: Source, W: Sink>(
 ) -> Result<Counts, RunFault>
     requires reads { R.has_failed reader.old ≡ false }
     requires writes { W.has_failed writer.old ≡ false }
-    ensures all { IfOk result (λ counts. SessionAll (C.gives clock.old) (R.remaining reader.old) Between
-        (W.contents writer.old) (W.contents writer.new) (D.noted door.old) (D.noted door.new) counts) }
-    ensures truncated { IsErrOf result (RunFault.Frame 3) → SessionTruncated (C.gives clock.old) (R.remaining reader.old)
-        (W.contents writer.old) (W.contents writer.new) (D.noted door.old) (D.noted door.new) }
-    ensures too_long { IsErrOf result (RunFault.Frame 2) → SessionTooLong (C.gives clock.old) (R.remaining reader.old)
-        (W.contents writer.old) (W.contents writer.new) (D.noted door.old) (D.noted door.new) }
-    ensures part { OnErr result (SessionPart (C.gives clock.old) (R.remaining reader.old)
-        (W.contents writer.old) (W.contents writer.new) (D.noted door.old) (D.noted door.new)) }
+    ensures ends { Ends
+        (SessionAll (C.gives clock.old) (R.remaining reader.old) (D.noted door.old) (D.noted door.new) (W.contents writer.old) (W.contents writer.new))
+        (λ fault. SessionPart (C.gives clock.old) (R.remaining reader.old) (D.noted door.old) (D.noted door.new)
+        (W.contents writer.old) (W.contents writer.new))
+        result }
     ensures read { IsErrOf result RunFault.Read ↔ IsTrue (R.has_failed reader.new) }
     ensures write { IsErrOf result RunFault.Write ↔ IsTrue (W.has_failed writer.new) }
-    ensures turns { IsErrOf result RunFault.Turns → IfSome (R.remaining reader.old) (λ stream. 1000000 ≤ length stream) }
-    ensures counted { IsErrOf result RunFault.Turns → ReadTimes 1000000 (R.reads reader.old) (R.reads reader.new) }
+    ensures turns { IsErrOf result RunFault.Turns → ReadsTooOften (R.remaining reader.old) (R.reads reader.old) (R.reads reader.new) }
     ensures most { ReadUpTo 1000000 (R.reads reader.old) (R.reads reader.new) }
-    ensures kinds { IfErr result OfStream }
 {
-    let mut blocks = BlockReader::new(alloc);
-    let mut counts = Counts::none();
-    'each: while let Some(content) = blocks.next(reader)? {
-        let answer = deal(alloc, door, clock, content)?;
-        send(alloc, &mut counts, &answer, writer)?;
-    }
-    Ok(counts)
+    let mut judge = AtDoor { door, clock };
+    answer_all(alloc, &mut judge, reader, writer)
 }

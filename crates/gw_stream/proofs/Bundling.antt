@@ -1,38 +1,37 @@
 -- What is made of a content.
-use Rattle.std.proofs.Common.{◌≡◌, ◌<◌, ◌||◌, ℕ, zero, suc, Bool, true, false, List, Some, Result, Ok, Err, IfOk, ◌≤◌, length, [], ◌∷◌, ◌++◌, map, take, ◌+◌, arith, rules, subst, sym, ap, ◌∙◌, refl}
+use Rattle.std.proofs.Common.{◌≡◌, ◌<◌, ◌||◌, ℕ, zero, suc, Bool, true, false, List, Option, None, Some, Result, Ok, Err, ◌≤◌, length, [], ◌∷◌, ◌++◌, map, take, ◌+◌, arith, rules, subst, sym, ap, ◌∙◌, refl}
 use Rattle.std.proofs.lemmas.Bool.{eq-eqb}
-use Rattle.std.proofs.lemmas.List.{take_all, take_more}
+use Rattle.std.proofs.lemmas.List.{length-map, take_all, take_more}
 use Rattle.std.proofs.lemmas.Option.{get_or_from_slice_get, slice_get_within}
+use Rattle.std.specs.Arc.{arc_value}
 use Rattle.std.specs.List.{AllZip, list_any}
 use Rattle.std.specs.Map.{lookup}
-use Rattle.std.specs.Prelude.{nat_eq, slice_get, unwrap_or}
+use Rattle.std.specs.Prelude.{◌-◌, ◌^◌, min, nat_eq, slice_get, unwrap_or}
+use Rattle.gw_ack.specs.declared.receipt.Ack.{Ack}
 use Rattle.gw_ack.specs.declared.receipt.Ack.TheVariants.{AA, AE, AR}
-use Rattle.gw_ack.specs.Answers.{accepted, refused, rejected}
-use Rattle.gw_ack.specs.Headers.{HeaderValue, blank, header_of}
+use Rattle.gw_ack.specs.declared.reply.Reply.{Reply}
+use Rattle.gw_ack.specs.declared.reply.Reply.TheVariants.{Accept, Refuse, Reject}
 use Rattle.gw_check.specs.Kept.{CheckedValue}
-use Rattle.gw_er7.specs.declared.fault.ReadFault.{ReadFault}
-use Rattle.gw_er7.specs.Faults.{Faulty}
-use Rattle.gw_er7.specs.Message.{SegmentValue, IsMessage}
-use Rattle.gw_er7.specs.Reading.{Reads}
+use Rattle.gw_er7.specs.Message.{SegmentValue}
 use Rattle.gw_er7.specs.Written.{written}
 use Rattle.gw_mllp.specs.Stream.{block}
-use Rattle.gw_plan.specs.Admitted.{ConformingHeld, IsAdmitted, BreaksSo, IsOf}
+use Rattle.gw_plan.specs.Admitted.{ConformingHeld, IsAdmitted, IsOf}
 use Rattle.gw_plan.specs.Held.{PlanHeld, RouteHeld, leg, plan_value, route_value}
 use Rattle.gw_plan.specs.Routing.{routed}
 use Rattle.gw_plan.specs.Shapes.{PlanValue, RouteValue}
 use Rattle.gw_plan.specs.Translating.{Translates}
 use Rattle.gw_validate.specs.declared.breach.Breach.{Breach}
 use Rattle.gw_validate.specs.Broken.{IsTreeOf}
-use Rattle.gw_validate.specs.Conforming.{Conforms}
-use Rattle.gw_stream.specs.declared.bundle.Bundle.{Bundle}
+use Rattle.gw_stream.specs.declared.counts.Counts.{Counts}
+use Rattle.gw_stream.specs.declared.fault.RunFault.TheVariants.{Write}
 use Rattle.gw_stream.specs.declared.parcel.Parcel.{Parcel}
-use Rattle.gw_stream.specs.Answers.{Answer, Reply, accept, refuse, reject}
-use Rattle.gw_stream.specs.own.Bundled.{AreParcels, AreWithin, Bundles, IsParcel, post, posts}
-use Rattle.gw_stream.specs.Posts.{Post, Whom, receiver, sender}
+use Rattle.gw_stream.specs.declared.under_plan.UnderPlan.{UnderPlan}
+use Rattle.gw_stream.specs.Answers.{Answer, IsSettled, Message}
+use Rattle.gw_stream.specs.Counted.{with_answer, with_one}
+use Rattle.gw_stream.specs.own.Bundled.{AreParcels, AreWithin, IsParcel, Packs, PlanSettles, ServesNot, ServesOne, cut, post, posts}
+use Rattle.gw_stream.specs.Posts.{Known, Post, Sends, SendsSome, Whom, receiver, sender}
 use Rattle.gw_stream.specs.Served as served
-use Rattle.gw_stream.specs.Served.{Delivery, IsDelivery, Routed, SaidBy, delivered, receivers_of}
-use Rattle.gw_stream.proofs.Posting.{map_long}
-use Rattle.gw_stream.proofs.Replying.{says, says_unreadable}
+use Rattle.gw_stream.specs.Served.{AreDeliveries, Delivery, IsDelivery, IsServing, Serving, delivered, posts_of, receivers_of}
 
 -- ---- what a receiver is sent
 
@@ -125,7 +124,7 @@ pub are_parcels : (c : ConformingHeld) (route : RouteHeld) (i : ℕ) (ps : List 
     → AllZip (IsParcel c.tree.message (route_value route)) (take i (receivers_of (route_value route))) ps → AreParcels (plan_value c.plan) c.tree.message ps
 are_parcels c route i ps is all each =
     let numbers = receivers_of (route_value route) in
-    let long : length numbers ≡ length route.legs = ap length (legs_of route.legs) ∙ map_long (λ l. l.0) route.legs in
+    let long : length numbers ≡ length route.legs = ap length (legs_of route.legs) ∙ length-map route.legs (λ l. l.0) in
     let whole : take i numbers ≡ numbers = take_all i numbers (omega arith) in
     record { route = route_value route; routed_so = is; each = subst (λ l. AllZip (IsParcel c.tree.message (route_value route)) l ps) whole each }
 
@@ -151,128 +150,74 @@ opened m route (n ∷ ns) (p ∷ ps) each =
       many = ap suc others.many;
     }
 
--- the posts of a bundle, by its parts
-posts_by : (front : List Post) (b : Bundle) (content : List ℕ) → map post b.parcels.items ≡ front → b.block.items ≡ block content
-    → posts b ≡ front ++ record { whom = sender; bytes = block content } ∷ []
-posts_by front b content parcels is =
-    ap (λ l. l ++ record { whom = sender; bytes = b.block.items } ∷ []) parcels ∙ ap (λ l. front ++ record { whom = sender; bytes = l } ∷ []) is
-
-said : (plan : PlanValue) (m : List SegmentValue) (route : RouteValue) (reply : Reply) → routed plan m ≡ Ok route → SaidBy (Ok route) m reply
-    → Routed plan m reply
-said plan m route reply is by = subst (λ (r : Result RouteValue ℕ). SaidBy r m reply) (sym is) by
-
--- who reads what, and how he is answered
-pub record Heard (content : List ℕ) (m : List SegmentValue) (h : HeaderValue) : Type 0 where
-  pub lawful : IsMessage m
-  pub reads : Reads content m
-  pub header : h ≡ header_of m
-
-accepts : (plan : PlanValue) (s : List ℕ) (n : ℕ) (content : List ℕ) (m : List SegmentValue) (h : HeaderValue) (route : RouteValue) (b : Bundle)
-    → Heard content m h → routed plan m ≡ Ok route
-    → Conforms route.profile m → AreParcels plan m b.parcels.items → b.code ≡ AA → b.block.items ≡ block (written (accepted h s n)) → Bundles plan s n content b
-accepts plan s n content m h route b heard is conforms parcels code content_is =
-    let all = opened m parcels.route (receivers_of parcels.route) b.parcels.items parcels.each in
-    let answer : Answer = record { code = AA; content = written (accepted h s n) } in
+pub packs_all : (plan : PlanHeld) (m : Message) (c : ConformingHeld) (ps : List Parcel) → IsAdmitted plan 0 m c
+    → AreParcels (plan_value c.plan) c.tree.message ps → Packs (plan_value plan) (Some m) Accept ps
+packs_all plan m c ps admitted parcels =
+    let by_plan : AreParcels (plan_value plan) c.tree.message ps =
+    subst (λ (p : PlanHeld). AreParcels (plan_value p) c.tree.message ps) admitted.by_plan parcels in
+    let by_message : AreParcels (plan_value plan) m ps = subst (λ (l : Message). AreParcels (plan_value plan) l ps) admitted.message by_plan in
+    let all = opened m by_message.route (receivers_of by_message.route) ps by_message.each in
     record {
-      serving = record { answer = answer; deliveries = all.deliveries };
-      is_serving = record {
-        answer = says (Routed plan) s n content m h accept answer heard.lawful heard.reads (said plan m route accept is conforms) heard.header refl refl;
-        deliveries = served.accepted m heard.lawful heard.reads parcels.route parcels.routed_so all.deliveries all.each;
-      };
-      code = code;
-      are_posts = posts_by (map delivered all.deliveries) b (written (accepted h s n)) all.posts_are content_is;
+      deliveries = all.deliveries;
+      are_deliveries = served.accepted m by_message.route by_message.routed_so all.deliveries all.each;
+      are_posts = all.posts_are;
       many = all.many;
     }
 
-no_parcels : (b : Bundle) → b.parcels.items ≡ [] → map post b.parcels.items ≡ []
-no_parcels b none = ap (map post) none
+packs_none : (plan : PlanValue) (what : Option Message) (reply : Reply) (ps : List Parcel) → AreDeliveries plan what reply [] → ps ≡ [] → Packs plan what reply ps
+packs_none plan what reply ps none is = record { deliveries = []; are_deliveries = none; are_posts = ap (map post) is; many = ap length is }
 
-refuses : (plan : PlanValue) (s : List ℕ) (n : ℕ) (content : List ℕ) (m : List SegmentValue) (h : HeaderValue) (breach : Breach) (b : Bundle)
-    → Heard content m h → Routed plan m (refuse breach)
-    → b.parcels.items ≡ [] → b.code ≡ AE → b.block.items ≡ block (written (refused h s n breach)) → Bundles plan s n content b
-refuses plan s n content m h breach b heard judged none code content_is =
-    let answer : Answer = record { code = AE; content = written (refused h s n breach) } in
+pub packs_refused : (plan : PlanValue) (what : Option Message) (breach : Breach) (ps : List Parcel) → ps ≡ [] → Packs plan what (Refuse breach) ps
+packs_refused plan what breach ps is = packs_none plan what (Refuse breach) ps (served.refused what breach) is
+
+pub packs_rejected : (plan : PlanValue) (what : Option Message) (code : ℕ) (ps : List Parcel) → ps ≡ [] → Packs plan what (Reject code) ps
+packs_rejected plan what code ps is = packs_none plan what (Reject code) ps (served.rejected what code) is
+
+-- ---- a content that was judged under a plan
+
+-- what it gets
+pub record Made (plan : PlanValue) (stamp : List ℕ) (number : ℕ) (content : List ℕ) (ps : List Parcel) (a : Answer) : Type 0 where
+  pub serving : Serving
+  pub is_serving : IsServing plan stamp number content serving
+  pub code : a.code ≡ serving.answer.code
+  pub are_posts : posts ps (block a.content) ≡ posts_of serving
+  pub many : length ps ≡ length serving.deliveries
+
+pub is_made : (old new : UnderPlan) (number : ℕ) (content : List ℕ) (a : Answer) → IsSettled (PlanSettles old new number) content a
+    → Made (plan_value (arc_value old.plan)) old.stamp number content new.parcels.items a
+is_made old new number content a is =
+    let packs = is.settles.packs in
     record {
-      serving = record { answer = answer; deliveries = [] };
+      serving = record { answer = a; deliveries = packs.deliveries };
       is_serving = record {
-        answer = says (Routed plan) s n content m h (refuse breach) answer heard.lawful heard.reads judged heard.header refl refl;
-        deliveries = served.refused;
+        what = is.what;
+        is_read = is.is_read;
+        outcome = is.outcome;
+        settles = record { says = is.settles.says; sends = packs.are_deliveries };
+        code = is.code;
+        spelled = is.spelled;
       };
-      code = code;
-      are_posts = posts_by [] b (written (refused h s n breach)) (no_parcels b none) content_is;
-      many = ap length none;
+      code = refl;
+      are_posts = ap (λ l. l ++ record { whom = sender; bytes = block a.content } ∷ []) packs.are_posts;
+      many = packs.many;
     }
 
-rejects : (plan : PlanValue) (s : List ℕ) (n : ℕ) (content : List ℕ) (m : List SegmentValue) (h : HeaderValue) (why : ℕ) (b : Bundle) → Heard content m h
-    → Routed plan m (reject why)
-    → b.parcels.items ≡ [] → b.code ≡ AR → b.block.items ≡ block (written (rejected h s n why)) → Bundles plan s n content b
-rejects plan s n content m h why b heard judged none code content_is =
-    let answer : Answer = record { code = AR; content = written (rejected h s n why) } in
-    record {
-      serving = record { answer = answer; deliveries = [] };
-      is_serving = record {
-        answer = says (Routed plan) s n content m h (reject why) answer heard.lawful heard.reads judged heard.header refl refl;
-        deliveries = served.rejected;
-      };
-      code = code;
-      are_posts = posts_by [] b (written (rejected h s n why)) (no_parcels b none) content_is;
-      many = ap length none;
-    }
+pub serves_one : (plan : PlanValue) (stamp content : List ℕ) (ps : List Parcel) (a : Answer) (k k' : Known) (c c' : Counts)
+    → Made plan stamp (c.answered + 1) content ps a → Sends (posts ps (block a.content)) k k' → c' ≡ with_one a.code (length ps) c
+    → ServesOne plan stamp content k k' c c'
+serves_one plan stamp content ps a k k' c c' made sent counted = record {
+  serving = made.serving;
+  is_serving = made.is_serving;
+  sends = subst (λ l. Sends l k k') made.are_posts sent;
+  counted = counted ∙ ap (λ code. with_one code (length ps) c) made.code ∙ ap (λ n. with_one made.serving.answer.code n c) made.many;
+}
 
-rejects_unreadable : (plan : PlanValue) (s : List ℕ) (n : ℕ) (content : List ℕ) (fault : ReadFault) (b : Bundle) → Faulty content fault
-    → b.parcels.items ≡ [] → b.code ≡ AR → b.block.items ≡ block (written (rejected blank s n 207)) → Bundles plan s n content b
-rejects_unreadable plan s n content fault b faulty none code content_is =
-    let answer : Answer = record { code = AR; content = written (rejected blank s n 207) } in
-    record {
-      serving = record { answer = answer; deliveries = [] };
-      is_serving = record { answer = says_unreadable (Routed plan) s n content fault answer faulty refl refl; deliveries = served.rejected };
-      code = code;
-      are_posts = posts_by [] b (written (rejected blank s n 207)) (no_parcels b none) content_is;
-      many = ap length none;
-    }
+pub serves_cut : (plan : PlanValue) (stamp : List ℕ) (number : ℕ) (content : List ℕ) (ps : List Parcel) (a : Answer) (k k' : Known)
+    → Made plan stamp number content ps a → SendsSome (posts ps (block a.content)) k k' → ServesNot plan stamp number content k k' Write
+serves_cut plan stamp number content ps a k k' made sent = cut k' made.serving made.is_serving (subst (λ l. SendsSome l k k') made.are_posts sent)
 
--- ---- a content that may have got it
-
-pub if_accepted : {E : Type 0} (r : Result Bundle E) (plan : PlanHeld) (s : List ℕ) (n : ℕ) (content : List ℕ) (m : List SegmentValue) (h : HeaderValue)
-    (c : ConformingHeld) → Heard content m h
-    → IsAdmitted plan 0 m c → IfOk r (λ b. AreParcels (plan_value c.plan) c.tree.message b.parcels.items) → IfOk r (λ b. b.code ≡ AA)
-    → IfOk r (λ b. b.block.items ≡ block (written (accepted h s n))) → IfOk r (Bundles (plan_value plan) s n content)
-if_accepted (Ok b) plan s n content m h c heard admitted parcels code content_is =
-    let by_plan : AreParcels (plan_value plan) c.tree.message b.parcels.items =
-    subst (λ (p : PlanHeld). AreParcels (plan_value p) c.tree.message b.parcels.items) admitted.by_plan parcels in
-    let by_message : AreParcels (plan_value plan) m b.parcels.items =
-    subst (λ (l : List SegmentValue). AreParcels (plan_value plan) l b.parcels.items) admitted.message by_plan in
-    accepts (plan_value plan) s n content m h admitted.route b heard admitted.routed_so admitted.conforms by_message code content_is
-if_accepted (Err e) plan s n content m h c heard admitted parcels code content_is = tt
-
-pub if_refused : {E : Type 0} (r : Result Bundle E) (plan : PlanHeld) (s : List ℕ) (n : ℕ) (content : List ℕ) (m : List SegmentValue) (h : HeaderValue)
-    (breach : Breach) → Heard content m h
-    → BreaksSo plan m breach → IfOk r (λ b. b.parcels.items ≡ []) → IfOk r (λ b. b.code ≡ AE)
-    → IfOk r (λ b. b.block.items ≡ block (written (refused h s n breach)))
-    → IfOk r (Bundles (plan_value plan) s n content)
-if_refused (Ok b) plan s n content m h breach heard breaks none code content_is =
-    let judged = said (plan_value plan) m breaks.route (refuse breach) breaks.routed_so breaks.least in
-    refuses (plan_value plan) s n content m h breach b heard judged none code content_is
-if_refused (Err e) plan s n content m h breach heard breaks none code content_is = tt
-
-pub if_rejected : {E : Type 0} (r : Result Bundle E) (plan : PlanHeld) (s : List ℕ) (n : ℕ) (content : List ℕ) (m : List SegmentValue) (h : HeaderValue)
-    (why : ℕ) → Heard content m h
-    → routed (plan_value plan) m ≡ Err why → IfOk r (λ b. b.parcels.items ≡ []) → IfOk r (λ b. b.code ≡ AR)
-    → IfOk r (λ b. b.block.items ≡ block (written (rejected h s n why)))
-    → IfOk r (Bundles (plan_value plan) s n content)
-if_rejected (Ok b) plan s n content m h why heard fails none code content_is =
-    let judged : Routed (plan_value plan) m (reject why) = subst (λ (x : Result RouteValue ℕ). SaidBy x m (reject why)) (sym fails) refl in
-    rejects (plan_value plan) s n content m h why b heard judged none code content_is
-if_rejected (Err e) plan s n content m h why heard fails none code content_is = tt
-
-pub if_unreadable : {E : Type 0} (r : Result Bundle E) (plan : PlanHeld) (s : List ℕ) (n : ℕ) (content : List ℕ) (fault : ReadFault) → Faulty content fault
-    → IfOk r (λ b. b.parcels.items ≡ []) → IfOk r (λ b. b.code ≡ AR) → IfOk r (λ b. b.block.items ≡ block (written (rejected blank s n 207)))
-    → IfOk r (Bundles (plan_value plan) s n content)
-if_unreadable (Ok b) plan s n content fault faulty none code content_is = rejects_unreadable (plan_value plan) s n content fault b faulty none code content_is
-if_unreadable (Err e) plan s n content fault faulty none code content_is = tt
-
--- ---- whom it is for
-
-pub within_none : {E : Type 0} (r : Result Bundle E) (count : ℕ) → IfOk r (λ b. b.parcels.items ≡ []) → IfOk r (λ b. AreWithin count b.parcels.items)
-within_none (Ok b) count none = subst (λ (ps : List Parcel). AreWithin count ps) (sym none) tt
-within_none (Err e) count none = tt
+pub counted_one : (code : Ack) (blocks : ℕ) (c with_it with_sent : Counts) → with_it ≡ with_answer code c
+    → with_sent ≡ record with_it { sent = min (with_it.sent + blocks) (2 ^ 64 - 1) } → with_sent ≡ with_one code blocks c
+counted_one AA blocks c with_it with_sent first then = then ∙ ap (λ (x : Counts). record x { sent = min (x.sent + blocks) (2 ^ 64 - 1) }) first
+counted_one AE blocks c with_it with_sent first then = then ∙ ap (λ (x : Counts). record x { sent = min (x.sent + blocks) (2 ^ 64 - 1) }) first
+counted_one AR blocks c with_it with_sent first then = then ∙ ap (λ (x : Counts). record x { sent = min (x.sent + blocks) (2 ^ 64 - 1) }) first

@@ -2,9 +2,9 @@ pub mod Sending
 pub mod Posting
 pub mod Replying
 pub mod Counting
-pub mod Answering
+pub mod Exchanging
 pub mod Walking
-pub mod Progressing
+pub mod Gathering
 pub mod Unique
 pub mod Enclosing
 pub mod Bundling

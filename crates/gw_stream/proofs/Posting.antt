@@ -1,13 +1,12 @@
 -- What is sent to writers, in order.
-use Rattle.std.proofs.Common.{◌≡◌, ◌≢◌, ◌<◌, ◌||◌, ℕ, zero, suc, Result, Ok, Err, OnOk, OnErr, IsTrue, ◌+◌, take, drop, Bool, true, false, List, Option, None, length, [], ◌∷◌, ◌++◌, map, arith, rules, subst, sym, ap, ◌∙◌, refl, append_assoc, append-nil}
+use Rattle.std.proofs.Common.{◌≡◌, ◌<◌, ◌||◌, ◌↔◌, ℕ, zero, suc, Result, Ok, Err, OnOk, OnErr, IsErrOf, IsTrue, ◌+◌, take, drop, Bool, true, false, List, Option, None, length, [], ◌∷◌, ◌++◌, map, arith, rules, subst, sym, ap, ◌∙◌, refl, append_assoc, append-nil}
 use Rattle.std.proofs.KnownBytes.{Appends-nil, Appends-trans}
-use Rattle.std.proofs.lemmas.List.{map-append, take_more, take-append-drop}
+use Rattle.std.proofs.lemmas.List.{length-map, map-append, take_more, take-append-drop}
 use Rattle.std.proofs.Math.Dec.{eqb-suc-suc, eqb-suc-zero, eqb-zero-suc}
 use Rattle.std.specs.Io.KnownBytes.{Appends}
 use Rattle.std.specs.List.{AllByRecursion, list_any}
 use Rattle.std.specs.Prelude.{slice_index_or, slice_set, ◌==◌, if◌then◌else◌}
 use Rattle.gw_stream.specs.declared.fault.RunFault.{RunFault}
-use Rattle.gw_stream.specs.declared.fault.RunFault.TheVariants.{Write}
 use Rattle.gw_stream.specs.Posts.{Whom, sender, receiver, is_same, Post, bytes_to, Known, held_by, Sends, IsBeginning, none, part, whole, SendsSome, all_held, SendsOut, SendsSomeOut}
 use Rattle.gw_stream.specs.Sent.{BeginsWith, SendsPart}
 
@@ -98,16 +97,12 @@ map_index f [] i d e lt = absurd (nothing_below i lt)
 map_index f (y ∷ ys) zero d e lt = refl
 map_index f (y ∷ ys) (suc i) d e lt = map_index f ys i d e (omega arith)
 
-pub map_long : {A B : Type 0} (f : A → B) (xs : List A) → length (map f xs) ≡ length xs
-map_long f [] = refl
-map_long f (y ∷ ys) = ap suc (map_long f ys)
-
 -- the bytes that the writer of this number holds grew
 pub sends_to : {W : Type 0} (held : W → Option (List ℕ)) (outs : List W) (r : ℕ) (d new : W) (bytes : List ℕ) → r < length outs
     → Appends (held (slice_index_or outs r d)) (held new) bytes
     → SendsOut (record { whom = receiver r; bytes = bytes } ∷ []) (map held outs) (map held (slice_set outs r new))
 sends_to held outs r d new bytes lt grows =
-    let within : r < length (map held outs) = subst (λ n. r < n) (sym (map_long held outs)) lt in
+    let within : r < length (map held outs) = subst (λ n. r < n) (sym (length-map outs held)) lt in
     subst (SendsOut (record { whom = receiver r; bytes = bytes } ∷ []) (map held outs)) (sym (map_set held outs r new))
     (out_at (map held outs) r (held new) bytes within (subst (λ k. Appends k (held new) bytes) (sym (map_index held outs r d None lt)) grows))
 
@@ -236,6 +231,7 @@ pub err_gives : {T E P : Type 0} (r : Result T E) → P → OnErr r P
 err_gives (Ok x) p = tt
 err_gives (Err e) p = p
 
-pub err_gives_unless : {T P : Type 0} (r : Result T RunFault) → P → OnErr r (r ≢ Err Write → P)
-err_gives_unless (Ok x) p = tt
-err_gives_unless (Err e) p = λ other. p
+-- what was done well wasn't done by a device that failed
+pub not_failed : {T : Type 0} (r : Result T RunFault) (x : T) (fault : RunFault) (failed : Bool) → r ≡ Ok x → IsErrOf r fault ↔ IsTrue failed → failed ≡ false
+not_failed r x fault true is exactly = let err : Ok x ≡ Err fault = sym is ∙ exactly.1 refl in search rules
+not_failed r x fault false is exactly = refl

@@ -1,20 +1,24 @@
 -- A stream that is served under a plan, block by block.
-use Rattle.std.proofs.Common.{◌≡◌, ◌<◌, ◌≤◌, ◌+◌, ℕ, List, Option, length, [], ◌∷◌, ◌++◌, arith, subst, sym, ap, ◌∙◌, refl, IfSome, length-append, append-nil}
+use Rattle.std.proofs.Common.{◌≡◌, ◌<◌, ◌≤◌, ◌+◌, ℕ, List, Option, Ok, Err, length, [], ◌∷◌, ◌++◌, arith, rules, subst, sym, ap, ◌∙◌, refl, length-append, append-nil}
 use Rattle.std.proofs.lemmas.Grind.{flat_map-append}
 use Rattle.gw_ack.specs.declared.receipt.Ack.{Ack}
 use Rattle.gw_ack.specs.declared.receipt.Ack.TheVariants.{AA, AE, AR}
-use Rattle.gw_mllp.specs.Stream.{Overlong, Tail, Within}
+use Rattle.gw_mllp.specs.Stream.{Between, Overlong, Tail, Within}
 use Rattle.gw_plan.specs.Shapes.{PlanValue}
-use Rattle.gw_stream.specs.declared.bundle.Bundle.{Bundle}
 use Rattle.gw_stream.specs.declared.counts.Counts.{Counts}
-use Rattle.gw_stream.specs.own.Bundled.{Bundles, ServesSoFar, posts}
+use Rattle.gw_stream.specs.declared.fault.RunFault.{RunFault}
+use Rattle.gw_stream.specs.declared.fault.RunFault.TheVariants.{Memory, Read, Turns}
+use Rattle.gw_stream.specs.own.Bundled.{ServesNot, ServesOne, ServesSoFar, cut, nothing_sent}
 use Rattle.gw_stream.specs.Counted.{nothing, with_one, IsTotal}
 use Rattle.gw_stream.specs.Posts.{Known, Sends, SendsSome}
-use Rattle.gw_stream.specs.Reading.{ReadTimes}
-use Rattle.gw_stream.specs.Served.{AreServings, IsServing, Serving, ServesAll, ServesFirst, ServesPart, all_posts, posts_of, with_servings}
-use Rattle.gw_stream.specs.Walked.{Place, Walks, Goes, EndsAt}
-use Rattle.gw_stream.proofs.Posting.{sends_none, sends_join, some_behind, some_of_all}
-use Rattle.gw_stream.proofs.Walking.{walk_few, walk_first, walk_turns, walk_counted, if_some_map}
+use Rattle.gw_stream.specs.Reading.{ReadUpTo, ReadsTooOften}
+use Rattle.gw_stream.specs.Served.{AreServings, IsServing, Serving, ServesAll, ServesFirst, ServesUntil, all_posts, posts_of, with_servings}
+use Rattle.gw_stream.specs.Streams.{Ends}
+use Rattle.gw_stream.specs.Streams as streams
+use Rattle.gw_stream.specs.Walked.{EndsAt, Goes, Place, Stops, Walks}
+use Rattle.gw_stream.specs.Walked as walked
+use Rattle.gw_stream.proofs.Posting.{sends_none, sends_join, some_behind}
+use Rattle.gw_stream.proofs.Walking.{stops_turns, walk_few, walk_first, within_here}
 
 -- ---- counts
 
@@ -66,6 +70,11 @@ posts_next ss s = flat_map-append posts_of ss (s ∷ []) ∙ ap (λ l. all_posts
 
 -- ---- a run
 
+pub not_of_reading : (plan : PlanValue) (stamp : List ℕ) (number : ℕ) (content : List ℕ) (k k' : Known) (fault : RunFault)
+    → ServesNot plan stamp number content k k' fault → (fault ≡ Read → ⊥) × (fault ≡ Turns → ⊥)
+not_of_reading plan stamp number content k _ _ nothing_sent = (λ is. search rules, λ is. search rules)
+not_of_reading plan stamp number content k _ _ (cut k' serving is sent) = (λ is. search rules, λ is. search rules)
+
 module _ (plan : PlanValue) (stamp : List ℕ) (left : Option (List ℕ)) (reads : ℕ) where
   pub serves_begins : (here : Place) (k : Known) (c : Counts) → Walks left reads here [] → c ≡ nothing → ServesSoFar plan stamp left reads here k k c
   serves_begins here k c walks is = record { given = []; walks = walks; servings = []; each = tt; sends = sends_none k; counted = is }
@@ -82,73 +91,65 @@ module _ (plan : PlanValue) (stamp : List ℕ) (left : Option (List ℕ)) (reads
       let number : c.answered + 1 ≡ 1 + length p.servings = omega arith in
       servings_next plan stamp 1 p.given p.servings content serving p.each (subst (λ n. IsServing plan stamp n content serving) number is)
 
-  pub serves_goes : (here there : Place) (content : List ℕ) (b : Bundle) (k0 k k' : Known) (c c' : Counts) → ServesSoFar plan stamp left reads here k0 k c
-      → Goes here there (content ∷ [])
-      → Bundles plan stamp (c.answered + 1) content b → Sends (posts b) k k' → c' ≡ with_one b.code (length b.parcels.items) c
-      → ServesSoFar plan stamp left reads there k0 k' c'
-  serves_goes here there content b k0 k k' c c' p goes made sent counted = record {
+  pub serves_goes : (here there : Place) (content : List ℕ) (k0 k k' : Known) (c c' : Counts) → ServesSoFar plan stamp left reads here k0 k c
+      → Goes here there (content ∷ []) → ServesOne plan stamp content k k' c c' → ServesSoFar plan stamp left reads there k0 k' c'
+  serves_goes here there content k0 k k' c c' p goes one = record {
     given = p.given ++ content ∷ [];
     walks = goes left reads p.given p.walks;
-    servings = p.servings ++ made.serving ∷ [];
-    each = each_next here k0 k c content p made.serving made.is_serving;
-    sends = subst (λ l. Sends l k0 k') (sym (posts_next p.servings made.serving))
-        (sends_join (all_posts p.servings) (posts_of made.serving) k0 k k' p.sends (subst (λ l. Sends l k k') made.are_posts sent));
-    counted = counted ∙ ap (λ code. with_one code (length b.parcels.items) c) made.code ∙ ap (λ n. with_one made.serving.answer.code n c) made.many
-        ∙ ap (with_one made.serving.answer.code (length made.serving.deliveries)) p.counted ∙ sym (counted_next p.servings made.serving nothing);
+    servings = p.servings ++ one.serving ∷ [];
+    each = each_next here k0 k c content p one.serving one.is_serving;
+    sends = subst (λ l. Sends l k0 k') (sym (posts_next p.servings one.serving)) (sends_join (all_posts p.servings) (posts_of one.serving) k0 k k' p.sends one.sends);
+    counted = one.counted ∙ ap (with_one one.serving.answer.code (length one.serving.deliveries)) p.counted ∙ sym (counted_next p.servings one.serving nothing);
   }
 
-  -- the stream ends so
-  pub serves_ends : (here : Place) (k0 k : Known) (c : Counts) (tail : Tail) → ServesSoFar plan stamp left reads here k0 k c → EndsAt here tail
-      → IfSome left (λ stream. ServesAll plan stamp stream tail k0 k c)
-  serves_ends here k0 k c tail p ends =
-      if_some_map left (λ stream has. record { contents = p.given; cut = has; servings = p.servings; each = p.each; sends = p.sends; counted = p.counted })
-      (ends left reads p.given p.walks)
+  -- ---- ends
 
-  pub serves_within : (here : Place) (k0 k : Known) (c : Counts) (t : List ℕ) → ServesSoFar plan stamp left reads here k0 k c → EndsAt here (Within t)
-      → IfSome left (λ stream. (t : List ℕ) × (counts : Counts) × ServesAll plan stamp stream (Within t) k0 k counts)
-  serves_within here k0 k c t p ends = if_some_map left (λ stream all. (t, c, all)) (serves_ends here k0 k c (Within t) p ends)
+  all_of : (here : Place) (k0 k : Known) (c : Counts) (tail : Tail) → ServesSoFar plan stamp left reads here k0 k c → EndsAt here tail
+      → ServesAll plan stamp left k0 k tail c
+  all_of here k0 k c tail p ends =
+      record { contents = p.given; cut = ends left reads p.given p.walks; servings = p.servings; each = p.each; sends = p.sends; counted = p.counted }
 
-  pub serves_long : (here : Place) (k0 k : Known) (c : Counts) → ServesSoFar plan stamp left reads here k0 k c → EndsAt here Overlong
-      → IfSome left (λ stream. (counts : Counts) × ServesAll plan stamp stream Overlong k0 k counts)
-  serves_long here k0 k c p ends = if_some_map left (λ stream all. (c, all)) (serves_ends here k0 k c Overlong p ends)
+  first_of : (here : Place) (k0 k : Known) (c : Counts) → ServesSoFar plan stamp left reads here k0 k c → ServesFirst plan stamp left k0 k
+  first_of here k0 k c p = record {
+    contents = p.given;
+    first = walk_first left reads here p.given p.given [] p.walks (sym (append-nil p.given));
+    servings = p.servings;
+    each = p.each;
+    sends = p.sends;
+  }
 
-  -- the run ends between two blocks
-  pub serves_first : (here : Place) (k0 k : Known) (c : Counts) → ServesSoFar plan stamp left reads here k0 k c
-      → IfSome left (λ stream. ServesFirst plan stamp stream k0 k)
-  serves_first here k0 k c p =
-      if_some_map left (λ stream first. record { contents = p.given; first = first; servings = p.servings; each = p.each; sends = p.sends })
-      (walk_first left reads here p.given p.given [] p.walks (sym (append-nil p.given)))
+  pub serves_end : (here : Place) (k0 k : Known) (c : Counts) → ServesSoFar plan stamp left reads here k0 k c → EndsAt here Between
+      → Ends (ServesAll plan stamp left k0 k) (ServesUntil plan stamp left k0 k) (Ok c)
+  serves_end here k0 k c p ends = streams.at_end c (all_of here k0 k c Between p ends)
 
-  pub serves_stops : (here : Place) (k0 k : Known) (c : Counts) → ServesSoFar plan stamp left reads here k0 k c
-      → IfSome left (λ stream. ServesPart plan stamp stream k0 k)
-  serves_stops here k0 k c p =
-      if_some_map left
-      (λ stream whole. record {
-        contents = whole.contents;
-        first = whole.first;
-        servings = whole.servings;
-        each = whole.each;
-        sends = some_of_all (all_posts whole.servings) k0 k whole.sends;
-      })
-      (serves_first here k0 k c p)
+  pub serves_memory : (here : Place) (k0 k : Known) (c : Counts) → ServesSoFar plan stamp left reads here k0 k c
+      → Ends (ServesAll plan stamp left k0 k) (ServesUntil plan stamp left k0 k) (Err Memory)
+  serves_memory here k0 k c p = streams.memory (first_of here k0 k c p)
 
-  -- a writer failed
-  pub serves_breaks : (here there : Place) (content : List ℕ) (b : Bundle) (k0 k k' : Known) (c : Counts) → ServesSoFar plan stamp left reads here k0 k c
-      → Goes here there (content ∷ [])
-      → Bundles plan stamp (c.answered + 1) content b → SendsSome (posts b) k k' → IfSome left (λ stream. ServesPart plan stamp stream k0 k')
-  serves_breaks here there content b k0 k k' c p goes made sent =
+  pub serves_stop : (here there : Place) (k0 k : Known) (c : Counts) (fault : RunFault) → ServesSoFar plan stamp left reads here k0 k c → Stops here there fault
+      → Ends (ServesAll plan stamp left k0 k) (ServesUntil plan stamp left k0 k) (Err fault)
+  serves_stop here there k0 k c _ p walked.memory = streams.memory (first_of here k0 k c p)
+  serves_stop here there k0 k c _ p walked.read = streams.read (first_of here k0 k c p)
+  serves_stop here there k0 k c _ p (walked.too_long ends) = streams.too_long c (all_of here k0 k c Overlong p ends)
+  serves_stop here there k0 k c _ p (walked.truncated t ends) = streams.truncated t c (all_of here k0 k c (Within t) p ends)
+  serves_stop here there k0 k c _ p (walked.turns goes all) = streams.turns (first_of here k0 k c p)
+
+  -- a content got nothing, or a part
+  pub serves_cut : (here there : Place) (content : List ℕ) (k0 k k' : Known) (c : Counts) (fault : RunFault) → ServesSoFar plan stamp left reads here k0 k c
+      → Goes here there (content ∷ []) → ServesNot plan stamp (c.answered + 1) content k k' fault
+      → Ends (ServesAll plan stamp left k0 k') (ServesUntil plan stamp left k0 k') (Err fault)
+  serves_cut here there content k0 k _ c _ p goes nothing_sent = streams.memory (first_of here k0 k c p)
+  serves_cut here there content k0 k _ c _ p goes (cut k' serving is sent) =
       let given = p.given ++ content ∷ [] in
-      let some : SendsSome (posts_of made.serving) k k' = subst (λ l. SendsSome l k k') made.are_posts sent in
-      if_some_map left
-      (λ stream first. record {
+      streams.write
+      (record {
         contents = given;
-        first = first;
-        servings = p.servings ++ made.serving ∷ [];
-        each = each_next here k0 k c content p made.serving made.is_serving;
-        sends = subst (λ l. SendsSome l k0 k') (sym (posts_next p.servings made.serving))
-            (some_behind (all_posts p.servings) (posts_of made.serving) k0 k k' p.sends some);
+        first = walk_first left reads there given given [] (goes left reads p.given p.walks) (sym (append-nil given));
+        servings = p.servings ++ serving ∷ [];
+        each = each_next here k0 k c content p serving is;
+        sends = subst (λ l. SendsSome l k0 k') (sym (posts_next p.servings serving))
+            (some_behind (all_posts p.servings) (posts_of serving) k0 k k' p.sends sent);
       })
-      (walk_first left reads there given given [] (goes left reads p.given p.walks) (sym (append-nil given)))
 
   -- ---- numbers
 
@@ -165,12 +166,9 @@ module _ (plan : PlanValue) (stamp : List ℕ) (left : Option (List ℕ)) (reads
       let counted = answered_so here k0 k c p in
       omega arith
 
-  pub serves_turns : (here there : Place) (k0 k : Known) (c : Counts) → ServesSoFar plan stamp left reads here k0 k c → Goes here there []
-      → 1000000 ≤ there.blocks.turns
-      → IfSome left (λ stream. 1000000 ≤ length stream)
-  serves_turns here there k0 k c p goes all = walk_turns left reads there (p.given ++ []) (goes left reads p.given p.walks) all
+  pub serves_turns : (here there : Place) (k0 k : Known) (c : Counts) (fault : RunFault) → ServesSoFar plan stamp left reads here k0 k c
+      → Stops here there fault → fault ≡ Turns → ReadsTooOften left reads there.reads
+  serves_turns here there k0 k c fault p stops is = stops_turns left reads here there p.given fault p.walks stops is
 
-  pub serves_counted : (here there : Place) (k0 k : Known) (c : Counts) → ServesSoFar plan stamp left reads here k0 k c → Goes here there []
-      → 1000000 ≤ there.blocks.turns
-      → ReadTimes 1000000 reads there.reads
-  serves_counted here there k0 k c p goes all = walk_counted left reads there (p.given ++ []) (goes left reads p.given p.walks) all
+  pub serves_most : (here : Place) (k0 k : Known) (c : Counts) (now : ℕ) → ServesSoFar plan stamp left reads here k0 k c → now ≡ here.reads → ReadUpTo 1000000 reads now
+  serves_most here k0 k c now p same = within_here here now same left reads p.given p.walks

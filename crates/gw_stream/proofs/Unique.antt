@@ -1,6 +1,8 @@
 -- A content has one answer.
-use Rattle.std.proofs.Common.{◌≡◌, ℕ, List, refl, sym, ap, subst, ◌∙◌}
-use Rattle.gw_ack.specs.Headers.{HeaderValue, header_of}
+use Rattle.std.proofs.Common.{◌≡◌, ℕ, List, Option, None, Some, refl, sym, ap, subst, ◌∙◌}
+use Rattle.gw_ack.specs.declared.reply.Reply.{Reply}
+use Rattle.gw_ack.specs.declared.reply.Reply.TheVariants.{Accept, Refuse, Reject}
+use Rattle.gw_ack.specs.Answers.{ack_of, said_by}
 use Rattle.gw_er7.specs.declared.fault.ReadFault.{ReadFault}
 use Rattle.gw_er7.specs.Faults.{Faulty}
 use Rattle.gw_er7.specs.Message.{SegmentValue, IsMessage}
@@ -11,7 +13,7 @@ use Rattle.gw_profile.specs.Deterministic.{Name}
 use Rattle.gw_validate.specs.declared.breach.Breach.{Breach}
 use Rattle.gw_validate.specs.Broken.{Breaks, IsLeast}
 use Rattle.gw_validate.specs.Conforming.{Conforms}
-use Rattle.gw_stream.specs.Answers.{Reply, accept, refuse, reject, code_of, said_by, Validated, Replies, unreadable, readable, Answer, IsAnswer}
+use Rattle.gw_stream.specs.Answers.{Answer, IsAnswer, IsReadAs, IsSaid, Message, Validated, header_for, readable, unreadable}
 
 -- what the layers below say of a content and a message
 pub record Once (p : ProfileValue) (content : List ℕ) : Type 0 where
@@ -21,33 +23,32 @@ pub record Once (p : ProfileValue) (content : List ℕ) : Type 0 where
   pub nothing : (m : List SegmentValue) → Conforms p m → (i : ℕ) (name : Name) (spot : List ℕ) → Breaks p m i name spot → ⊥
 
 one_reply : (p : ProfileValue) (content : List ℕ) (m : List SegmentValue) (r s : Reply) → Once p content → Validated p m r → Validated p m s → r ≡ s
-one_reply p content m accept accept o x y = refl
-one_reply p content m accept (refuse b) o x y = absurd (o.nothing m x y.number b.segment _ y.breaks)
-one_reply p content m accept (reject code) o x y = absurd y
-one_reply p content m (refuse a) accept o x y = absurd (o.nothing m y x.number a.segment _ x.breaks)
-one_reply p content m (refuse a) (refuse b) o x y = ap refuse (o.least m a b x y)
-one_reply p content m (refuse a) (reject code) o x y = absurd y
-one_reply p content m (reject code) s o x y = absurd x
+one_reply p content m Accept Accept o x y = refl
+one_reply p content m Accept (Refuse b) o x y = absurd (o.nothing m x y.number b.segment _ y.breaks)
+one_reply p content m Accept (Reject code) o x y = absurd y
+one_reply p content m (Refuse a) Accept o x y = absurd (o.nothing m y x.number a.segment _ x.breaks)
+one_reply p content m (Refuse a) (Refuse b) o x y = ap Refuse (o.least m a b x y)
+one_reply p content m (Refuse a) (Reject code) o x y = absurd y
+one_reply p content m (Reject code) s o x y = absurd x
 
--- what is said, and to whom
-pub record Same (h : HeaderValue) (r : Reply) (h' : HeaderValue) (r' : Reply) : Type 0 where
-  pub header : h ≡ h'
-  pub reply : r ≡ r'
+one_reading : (p : ProfileValue) (content : List ℕ) (a b : Option Message) → Once p content → IsReadAs content a → IsReadAs content b → a ≡ b
+one_reading p content _ _ o (unreadable f x) (unreadable g y) = refl
+one_reading p content _ _ o (unreadable f x) (readable m lawful reads) = absurd (o.apart m f reads x)
+one_reading p content _ _ o (readable m lawful reads) (unreadable g y) = absurd (o.apart m g reads y)
+one_reading p content _ _ o (readable m lawful reads) (readable n also again) = ap Some (o.message m n lawful also reads again)
 
-same : (p : ProfileValue) (content : List ℕ) (h h' : HeaderValue) (r r' : Reply) → Once p content → Replies (Validated p) content h r → Replies (Validated p) content h' r' → Same h r h' r'
-same p content _ _ _ _ o (unreadable f x) (unreadable g y) = record { header = refl; reply = refl }
-same p content _ _ _ _ o (unreadable f x) (readable m lawful reads r y) = absurd (o.apart m f reads x)
-same p content _ _ _ _ o (readable m lawful reads r x) (unreadable g y) = absurd (o.apart m g reads y)
-same p content _ _ _ _ o (readable m lawful reads r x) (readable n also again s y) =
-    let one = o.message m n lawful also reads again in
-    record {
-      header = ap header_of one;
-      reply = one_reply p content n r s o (subst (λ k. Validated p k r) one x) y;
-    }
+one_said : (p : ProfileValue) (content : List ℕ) (what : Option Message) (r s : Reply) → Once p content → IsSaid (Validated p) what r → IsSaid (Validated p) what s → r ≡ s
+one_said p content None r s o x y = x ∙ sym y
+one_said p content (Some m) r s o x y = one_reply p content m r s o x y
 
 pub one_answer_of : (p : ProfileValue) (stamp content : List ℕ) (number : ℕ) (a b : Answer) → Once p content → IsAnswer (Validated p) stamp number content a → IsAnswer (Validated p) stamp number content b → a ≡ b
 one_answer_of p stamp content number a b o x y =
-    let is = same p content x.header y.header x.reply y.reply o x.replies y.replies in
-    let code = x.code ∙ ap code_of is.reply ∙ sym y.code in
-    let spelled = x.spelled ∙ ap (λ h. written (said_by h stamp number x.reply)) is.header ∙ ap (λ r. written (said_by y.header stamp number r)) is.reply ∙ sym y.spelled in
+    let what : x.what ≡ y.what = one_reading p content x.what y.what o x.is_read y.is_read in
+    let said = subst (λ w. IsSaid (Validated p) w x.outcome.reply) what x.settles.said in
+    let reply : x.outcome.reply ≡ y.outcome.reply = one_said p content y.what x.outcome.reply y.outcome.reply o said y.settles.said in
+    let code = x.code ∙ ap ack_of reply ∙ sym y.code in
+    let spelled = x.spelled ∙ ap (λ w. written (said_by (header_for w) x.outcome.stamp x.outcome.number x.outcome.reply)) what
+    ∙ ap (λ s. written (said_by (header_for y.what) s x.outcome.number x.outcome.reply)) (x.settles.stamp_is ∙ sym y.settles.stamp_is)
+    ∙ ap (λ n. written (said_by (header_for y.what) y.outcome.stamp n x.outcome.reply)) (x.settles.number_is ∙ sym y.settles.number_is)
+    ∙ ap (λ r. written (said_by (header_for y.what) y.outcome.stamp y.outcome.number r)) reply ∙ sym y.spelled in
     ap (λ k. record { code = k; content = a.content }) code ∙ ap (λ k. record { code = b.code; content = k }) spelled

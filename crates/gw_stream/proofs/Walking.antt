@@ -1,20 +1,15 @@
 -- A run over a stream, block by block.
-use Rattle.std.proofs.Common.{◌≡◌, ◌<◌, ◌≤◌, ◌+◌, ℕ, List, Option, length, [], ◌∷◌, ◌++◌, arith, subst, sym, ap, ◌∙◌, refl, append_assoc, append-nil, IfSome, Some, None, length-append, map}
+use Rattle.std.proofs.Common.{◌≡◌, ◌<◌, ◌≤◌, ◌+◌, ℕ, List, Option, length, [], ◌∷◌, ◌++◌, arith, rules, subst, sym, ap, ◌∙◌, refl, append_assoc, append-nil, IfSome, Some, None, length-append, map}
 use Rattle.std.proofs.lemmas.Grind.{common_steps}
 use Rattle.std.proofs.KnownBytes.{Consumes-trans, Consumes-whole}
 use Rattle.std.specs.Io.KnownBytes.{Consumes, IsAtEnd}
 use Rattle.std.specs.List.{flat_map}
-use Rattle.gw_mllp.specs.Stream.{Blocks, Has, Held, Overlong, Between, Within, Stands, Tail, LongAfter, Part, spelled, content_of}
+use Rattle.gw_mllp.specs.Stream.{Blocks, Has, IsFed, Overlong, Between, Within, Tail, LongAfter, Part, spelled, content_of}
 use Rattle.gw_stream.specs.declared.fault.RunFault.{RunFault}
-use Rattle.gw_stream.specs.declared.fault.RunFault.TheVariants.{Frame}
-use Rattle.gw_stream.specs.Faults.{OfReading, truncated}
-use Rattle.gw_stream.specs.Reading.{ReadTimes}
+use Rattle.gw_stream.specs.declared.fault.RunFault.TheVariants.{Frame, Turns, Write}
+use Rattle.gw_stream.specs.Reading.{ReadTimes, ReadsTooOften}
 use Rattle.gw_stream.specs.Streams.{HasFirst}
-use Rattle.gw_stream.specs.Walked.{Place, Walks, Goes, EndsAt, WithinReads}
-
--- a piece takes a decoder from here to there
-abbrev pub Feeds : List ℕ → Held → Held → Type 0
-Feeds piece old new = (stream : List ℕ) (given : List (List ℕ)) → Stands stream given old → Stands (stream ++ piece) given new
+use Rattle.gw_stream.specs.Walked.{Place, Walks, Goes, EndsAt, Stops, WithinReads, memory, read, too_long, truncated, turns}
 
 -- ---- a stream has no more blocks than bytes
 
@@ -63,7 +58,7 @@ counts_more times before between after many one small = let there = many (omega 
 -- a piece is read and taken
 pub goes_read : (here there : Place) (piece : List ℕ) → Consumes here.left there.left piece → 0 < length piece → length piece ≤ 65536
     → here.blocks.turns < 1000000
-    → Feeds piece here.blocks.decoder there.blocks.decoder → there.blocks.turns ≡ here.blocks.turns + 1 → ReadTimes 1 here.reads there.reads
+    → IsFed piece here.blocks.decoder there.blocks.decoder → there.blocks.turns ≡ here.blocks.turns + 1 → ReadTimes 1 here.reads there.reads
     → Goes here there []
 goes_read here there piece eats some short early feeds turn once left reads given w =
     let long : length (w.taken ++ piece) ≡ length w.taken + length piece = length-append w.taken piece in
@@ -80,10 +75,17 @@ goes_read here there piece eats some short early feeds turn once left reads give
     } in
     subst (Walks left reads there) (sym (append-nil given)) walks
 
+pub goes_nowhere : (here : Place) → Goes here here []
+goes_nowhere here left reads given w = subst (Walks left reads here) (sym (append-nil given)) w
+
 -- ---- ends
 
 pub ends_from : (here there : Place) (tail : Tail) → Goes here there [] → EndsAt there tail → EndsAt here tail
 ends_from here there tail goes ends left reads given w = ends left reads given (subst (Walks left reads there) (append-nil given) (goes left reads given w))
+
+pub goes_on : (here mid there : Place) → Goes here mid [] → Goes mid there [] → Goes here there []
+goes_on here mid there first then left reads given w =
+    subst (λ l. Walks left reads there l) (append-nil (given ++ [])) (then left reads (given ++ []) (first left reads given w))
 
 -- nothing waits
 all_given : (here : Place) (left : Option (List ℕ)) (reads : ℕ) (given : List (List ℕ)) (w : Walks left reads here given) → here.blocks.decoder.waiting ≡ []
@@ -134,7 +136,7 @@ first_of stream more blocks others Overlong p = record {
   cut = p.cut;
 }
 
-first_whole : (left rest : Option (List ℕ)) (taken : List ℕ) (blocks others : List (List ℕ)) (tail : Tail) → Consumes left rest taken
+pub first_whole : (left rest : Option (List ℕ)) (taken : List ℕ) (blocks others : List (List ℕ)) (tail : Tail) → Consumes left rest taken
     → Has taken (blocks ++ others) tail
     → IfSome left (λ stream. HasFirst stream blocks)
 first_whole None rest taken blocks others tail takes has = tt
@@ -185,11 +187,32 @@ pub within_from : (here there : Place) (after : ℕ) → Goes here there [] → 
 within_from here there after goes within left reads given w =
     within left reads given (subst (Walks left reads there) (append-nil given) (goes left reads given w))
 
-pub if_some_map : {P Q : List ℕ → Type 0} (left : Option (List ℕ)) → ((stream : List ℕ) → P stream → Q stream) → IfSome left P → IfSome left Q
-if_some_map None f p = tt
-if_some_map (Some stream) f p = f stream p
-
 -- ---- faults
 
-pub within_of_reading : (e : RunFault) → e ≡ Frame 3 → OfReading e
-within_of_reading e is = subst OfReading (sym is) truncated
+pub stops_from : (here there end : Place) (fault : RunFault) → Goes here there [] → Stops there end fault → Stops here end fault
+stops_from here there end _ goes memory = memory
+stops_from here there end _ goes read = read
+stops_from here there end _ goes (too_long ends) = too_long (ends_from here there Overlong goes ends)
+stops_from here there end _ goes (truncated t ends) = truncated t (ends_from here there (Within t) goes ends)
+stops_from here there end _ goes (turns more all) = turns (goes_on here there end goes more) all
+
+pub stops_turns : (left : Option (List ℕ)) (reads : ℕ) (here there : Place) (given : List (List ℕ)) (fault : RunFault) → Walks left reads here given
+    → Stops here there fault → fault ≡ Turns → ReadsTooOften left reads there.reads
+stops_turns left reads here there given _ w memory is = search rules
+stops_turns left reads here there given _ w read is = search rules
+stops_turns left reads here there given _ w (too_long ends) is = search rules
+stops_turns left reads here there given _ w (truncated t ends) is = search rules
+stops_turns left reads here there given _ w (turns goes all) is =
+    let walks = goes left reads given w in
+    record { counted = walk_counted left reads there (given ++ []) walks all; many = walk_turns left reads there (given ++ []) walks all }
+
+pub stops_within : (here there : Place) (t : List ℕ) (fault : RunFault) → fault ≡ Frame 3 → EndsAt here (Within t) → Stops here there fault
+stops_within here there t fault is ends = subst (Stops here there) (sym is) (truncated t ends)
+
+-- a fault of reading isn't one of writing
+pub stops_not_write : (here there : Place) (fault : RunFault) → Stops here there fault → fault ≡ Write → ⊥
+stops_not_write here there _ memory is = search rules
+stops_not_write here there _ read is = search rules
+stops_not_write here there _ (too_long ends) is = search rules
+stops_not_write here there _ (truncated t ends) is = search rules
+stops_not_write here there _ (turns goes all) is = search rules

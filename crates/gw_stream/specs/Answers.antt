@@ -1,11 +1,12 @@
 -- What is answered to a content (HL7 v2.5.1 chapter 2, 2.9.2: original acknowledgment mode).
-use Rattle.std.specs.Prelude.{◌≡◌, ℕ, List}
+use Rattle.std.specs.Prelude.{◌≡◌, ℕ, List, Option, None, Some}
 use Rattle.std.specs.Arc.{arc_value}
 use Rattle.std.specs.declared.alloc.Global.{Global}
 use Rattle.std.specs.declared.sync.Arc.{Arc}
 use Rattle.gw_ack.specs.declared.receipt.Ack.{Ack}
-use Rattle.gw_ack.specs.declared.receipt.Ack.TheVariants.{AA, AE, AR}
-use Rattle.gw_ack.specs.Answers.{accepted, refused, rejected}
+use Rattle.gw_ack.specs.declared.reply.Reply.{Reply}
+use Rattle.gw_ack.specs.declared.reply.Reply.TheVariants.{Accept, Refuse, Reject}
+use Rattle.gw_ack.specs.Answers.{ack_of, said_by}
 use Rattle.gw_ack.specs.Headers.{HeaderValue, blank, header_of}
 use Rattle.gw_er7.specs.declared.fault.ReadFault.{ReadFault}
 use Rattle.gw_er7.specs.Faults.{Faulty}
@@ -15,52 +16,58 @@ use Rattle.gw_er7.specs.Written.{written}
 use Rattle.gw_profile.specs.declared.profile.Profile.{Profile}
 use Rattle.gw_profile.specs.Seen.{profile_value}
 use Rattle.gw_profile.specs.Shapes.{ProfileValue}
-use Rattle.gw_validate.specs.declared.breach.Breach.{Breach}
 use Rattle.gw_validate.specs.Broken.{IsLeast}
 use Rattle.gw_validate.specs.Conforming.{Conforms}
+use Rattle.gw_stream.specs.declared.judge.Outcome.{Outcome}
 
--- what is said to a message: it is accepted, it breaks its profile, or it is rejected under a code
-pub data Reply : Type 0 where
-  accept : Reply
-  refuse : Breach → Reply
-  reject : ℕ → Reply
+abbrev pub Message : Type 0
+Message = List SegmentValue
 
--- its acknowledgment code
-abbrev pub code_of : Reply → Ack
-code_of accept = AA
-code_of (refuse breach) = AE
-code_of (reject code) = AR
-
--- the message that says so, to the sender that this header names
-abbrev pub said_by : HeaderValue → List ℕ → ℕ → Reply → List SegmentValue
-said_by header stamp number accept = accepted header stamp number
-said_by header stamp number (refuse breach) = refused header stamp number breach
-said_by header stamp number (reject code) = rejected header stamp number code
-
--- what is said to a message that is held against one profile: it is accepted where it conforms, else it is told its least breach
-abbrev pub Validated : ProfileValue → List SegmentValue → Reply → Type 0
-Validated p m accept = Conforms p m
-Validated p m (refuse breach) = IsLeast p m breach
-Validated p m (reject code) = ⊥
+-- what is said to a message that is held against one profile: it is accepted where it conforms, else its least breach is reported
+abbrev pub Validated : ProfileValue → Message → Reply → Type 0
+Validated p m Accept = Conforms p m
+Validated p m (Refuse breach) = IsLeast p m breach
+Validated p m (Reject code) = ⊥
 
 -- the same by a profile as a caller holds it
-abbrev pub ValidatedBy : Arc Profile Global → List SegmentValue → Reply → Type 0
+abbrev pub ValidatedBy : Arc Profile Global → Message → Reply → Type 0
 ValidatedBy profile = Validated (profile_value (arc_value profile))
 
--- What is said to a content, and to whom, by what is said to messages: one that can't be read is rejected as an internal error, as from a message with no fields.
-pub data Replies (Judged : List SegmentValue → Reply → Type 0) (content : List ℕ) : HeaderValue → Reply → Type 0 where
-  unreadable : (fault : ReadFault) → Faulty content fault → Replies Judged content blank (reject 207)
-  readable : (message : List SegmentValue) → IsMessage message → Reads content message → (reply : Reply) → Judged message reply → Replies Judged content (header_of message) reply
+-- what a content is read as: none, where it can't be read, or a message
+pub data IsReadAs (content : List ℕ) : Option Message → Type 0 where
+  unreadable : (fault : ReadFault) → Faulty content fault → IsReadAs content None
+  readable : (m : Message) → IsMessage m → Reads content m → IsReadAs content (Some m)
+
+-- the header of what is answered: that of a message with no fields, where it can't be read
+abbrev pub header_for : Option Message → HeaderValue
+header_for None = blank
+header_for (Some m) = header_of m
+
+-- what is said to what was read, by what is said to messages: what can't be read is rejected as an internal error
+abbrev pub IsSaid : (Message → Reply → Type 0) → Option Message → Reply → Type 0
+IsSaid Judged None reply = reply ≡ Reject 207
+IsSaid Judged (Some m) reply = Judged m reply
 
 -- an answer: its acknowledgment code and its content
 pub record Answer : Type 0 where
   pub code : Ack
   pub content : List ℕ
 
+-- A content was read, the outcome for it was settled, and the answer says the outcome's reply under its number and stamp.
+pub record IsSettled (Settles : Option Message → Outcome → Type 0) (content : List ℕ) (answer : Answer) : Type 0 where
+  pub what : Option Message
+  pub is_read : IsReadAs content what
+  pub outcome : Outcome
+  pub settles : Settles what outcome
+  pub code : answer.code ≡ ack_of outcome.reply
+  pub spelled : answer.content ≡ written (said_by (header_for what) outcome.stamp outcome.number outcome.reply)
+
+-- this is said, under this stamp and number
+pub record IsSaidUnder (Judged : Message → Reply → Type 0) (stamp : List ℕ) (number : ℕ) (what : Option Message) (outcome : Outcome) : Type 0 where
+  pub said : IsSaid Judged what outcome.reply
+  pub stamp_is : outcome.stamp ≡ stamp
+  pub number_is : outcome.number ≡ number
+
 -- the answer of this number to a content
-pub record IsAnswer (Judged : List SegmentValue → Reply → Type 0) (stamp : List ℕ) (number : ℕ) (content : List ℕ) (answer : Answer) : Type 0 where
-  pub header : HeaderValue
-  pub reply : Reply
-  pub replies : Replies Judged content header reply
-  pub code : answer.code ≡ code_of reply
-  pub spelled : answer.content ≡ written (said_by header stamp number reply)
+abbrev pub IsAnswer : (Message → Reply → Type 0) → List ℕ → ℕ → List ℕ → Answer → Type 0
+IsAnswer Judged stamp number = IsSettled (IsSaidUnder Judged stamp number)

@@ -1,9 +1,8 @@
 -- How many answers were written, by their codes.
-use Rattle.std.specs.Prelude.{◌≡◌, ℕ, ◌+◌, ◌-◌, ◌^◌, min, List, [], ◌∷◌}
+use Rattle.std.specs.Prelude.{◌≡◌, ℕ, ◌+◌, ◌-◌, ◌^◌, min}
 use Rattle.gw_ack.specs.declared.receipt.Ack.{Ack}
 use Rattle.gw_ack.specs.declared.receipt.Ack.TheVariants.{AA, AE, AR}
 use Rattle.gw_stream.specs.declared.counts.Counts.{Counts}
-use Rattle.gw_stream.specs.Answers.{Answer}
 
 -- nothing yet
 abbrev pub nothing : Counts
@@ -18,11 +17,6 @@ with_answer AR counts = record counts { answered = counts.answered + 1; ar = cou
 -- the same, and the blocks that were sent, as far as a count of 64 bits can tell
 abbrev pub with_one : Ack → ℕ → Counts → Counts
 with_one code blocks counts = record (with_answer code counts) { sent = min (counts.sent + blocks) (2 ^ 64 - 1) }
-
--- these answers more
-abbrev pub with_answers : List Answer → Counts → Counts
-with_answers [] counts = counts
-with_answers (answer ∷ answers) counts = with_answers answers (with_answer answer.code counts)
 
 -- each answer has one of the three codes
 abbrev pub IsTotal : Counts → Type 0

@@ -12,20 +12,3 @@ number_of (Frame number) = 4
 number_of (Line n) = 5
 number_of Turns = 6
 number_of Unsettled = 7
-
--- the faults that a stream and its source can have
-pub data OfReading : RunFault → Type 0 where
-  memory : OfReading Memory
-  read : OfReading Read
-  too_long : OfReading (Frame 2)
-  truncated : OfReading (Frame 3)
-  turns : OfReading Turns
-
--- the faults that a stream and its two devices can have: a frame fault is 2, a block that is too long, or 3, a stream that ends within a block
-pub data OfStream : RunFault → Type 0 where
-  memory : OfStream Memory
-  read : OfStream Read
-  write : OfStream Write
-  too_long : OfStream (Frame 2)
-  truncated : OfStream (Frame 3)
-  turns : OfStream Turns

@@ -5,6 +5,7 @@ pub mod Counted
 pub mod Reading
 pub mod Walked
 pub mod Streams
+pub mod Exchanges
 pub mod Posts
 pub mod Served
 pub mod own

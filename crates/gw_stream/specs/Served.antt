@@ -1,22 +1,25 @@
 -- What a content gets under a plan: its answer, and what its receivers are sent.
-use Rattle.std.specs.Prelude.{◌≡◌, ℕ, ◌+◌, List, [], ◌∷◌, ◌++◌, length, map, Some, Result, Ok, Err, nat_eq}
+use Rattle.std.specs.Prelude.{◌≡◌, ℕ, ◌+◌, List, [], ◌∷◌, ◌++◌, length, map, Option, Some, IfSome, Result, Ok, Err, nat_eq}
 use Rattle.std.specs.List.{AllZip, flat_map}
 use Rattle.std.specs.Map.{lookup}
-use Rattle.gw_ack.specs.declared.receipt.Ack.{Ack}
-use Rattle.gw_ack.specs.declared.receipt.Ack.TheVariants.{AA, AE, AR}
-use Rattle.gw_er7.specs.Message.{SegmentValue, IsMessage}
-use Rattle.gw_er7.specs.Reading.{Reads}
+use Rattle.gw_ack.specs.declared.reply.Reply.{Reply}
+use Rattle.gw_ack.specs.declared.reply.Reply.TheVariants.{Accept, Refuse, Reject}
+use Rattle.gw_er7.specs.Message.{SegmentValue}
 use Rattle.gw_er7.specs.Written.{written}
 use Rattle.gw_interp.specs.Meaning.{Means}
 use Rattle.gw_mllp.specs.Stream.{Has, Tail, block}
 use Rattle.gw_plan.specs.Routing.{routed}
 use Rattle.gw_plan.specs.Shapes.{MapBetween, PlanValue, RouteValue}
 use Rattle.gw_resolve.specs.Naming.{resolved}
+use Rattle.gw_validate.specs.declared.breach.Breach.{Breach}
 use Rattle.gw_validate.specs.Broken.{IsTreeOf}
 use Rattle.gw_validate.specs.Conforming.{Conforms}
 use Rattle.gw_validate.specs.Trees.{Tree}
 use Rattle.gw_stream.specs.declared.counts.Counts.{Counts}
-use Rattle.gw_stream.specs.Answers.{Answer, IsAnswer, Reply, Validated, reject}
+use Rattle.gw_stream.specs.declared.fault.RunFault.{RunFault}
+use Rattle.gw_stream.specs.declared.fault.RunFault.TheVariants.{Write}
+use Rattle.gw_stream.specs.declared.judge.Outcome.{Outcome}
+use Rattle.gw_stream.specs.Answers.{Answer, IsSaidUnder, IsSettled, Message, Validated}
 use Rattle.gw_stream.specs.Counted.{nothing, with_one}
 use Rattle.gw_stream.specs.Posts.{Known, Post, Sends, SendsSome, receiver, sender}
 use Rattle.gw_stream.specs.Streams.{HasFirst}
@@ -24,13 +27,13 @@ use Rattle.gw_stream.specs.Streams.{HasFirst}
 -- ---- what is said
 
 -- what is said to a message for which there is this route, or no route and this code
-abbrev pub SaidBy : Result RouteValue ℕ → List SegmentValue → Reply → Type 0
+abbrev pub SaidBy : Result RouteValue ℕ → Message → Reply → Type 0
 SaidBy (Ok route) m reply = Validated route.profile m reply
-SaidBy (Err code) m reply = reply ≡ reject code
+SaidBy (Err code) m reply = reply ≡ Reject code
 
 -- What is said to a message under a plan: where it has a route, it is held against the route's profile;
 -- else it is rejected under the code of the first route test that fails.
-abbrev pub Routed : PlanValue → List SegmentValue → Reply → Type 0
+abbrev pub Routed : PlanValue → Message → Reply → Type 0
 Routed plan m reply = SaidBy (routed plan m) m reply
 
 -- ---- what is sent on
@@ -55,11 +58,11 @@ abbrev pub receivers_of : RouteValue → List ℕ
 receivers_of route = map (λ leg. leg.0) route.legs
 
 -- A message that is accepted goes to each receiver of its route, in the route's order; any other goes nowhere.
-pub data AreDeliveries (plan : PlanValue) (content : List ℕ) : Ack → List Delivery → Type 0 where
-  accepted : (m : List SegmentValue) → IsMessage m → Reads content m → (route : RouteValue) → routed plan m ≡ Ok route → (deliveries : List Delivery)
-      → AllZip (IsDelivery m route) (receivers_of route) deliveries → AreDeliveries plan content AA deliveries
-  refused : AreDeliveries plan content AE []
-  rejected : AreDeliveries plan content AR []
+pub data AreDeliveries (plan : PlanValue) : Option Message → Reply → List Delivery → Type 0 where
+  accepted : (m : Message) (route : RouteValue) → routed plan m ≡ Ok route → (deliveries : List Delivery)
+      → AllZip (IsDelivery m route) (receivers_of route) deliveries → AreDeliveries plan (Some m) Accept deliveries
+  refused : (what : Option Message) (breach : Breach) → AreDeliveries plan what (Refuse breach) []
+  rejected : (what : Option Message) (code : ℕ) → AreDeliveries plan what (Reject code) []
 
 -- ---- what a content gets
 
@@ -68,10 +71,14 @@ pub record Serving : Type 0 where
   pub answer : Answer
   pub deliveries : List Delivery
 
+-- under this number this is said, and these messages are sent on
+pub record Serves (plan : PlanValue) (stamp : List ℕ) (number : ℕ) (deliveries : List Delivery) (what : Option Message) (outcome : Outcome) : Type 0 where
+  pub says : IsSaidUnder (Routed plan) stamp number what outcome
+  pub sends : AreDeliveries plan what outcome.reply deliveries
+
 -- what a content of this number gets under a plan
-pub record IsServing (plan : PlanValue) (stamp : List ℕ) (number : ℕ) (content : List ℕ) (serving : Serving) : Type 0 where
-  pub answer : IsAnswer (Routed plan) stamp number content serving.answer
-  pub deliveries : AreDeliveries plan content serving.answer.code serving.deliveries
+abbrev pub IsServing : PlanValue → List ℕ → ℕ → List ℕ → Serving → Type 0
+IsServing plan stamp number content serving = IsSettled (Serves plan stamp number serving.deliveries) content serving.answer
 
 -- what contents get, each its own and in order, numbered from this number on
 abbrev pub AreServings : PlanValue → List ℕ → ℕ → List (List ℕ) → List Serving → Type 0
@@ -100,26 +107,31 @@ with_servings (serving ∷ servings) counts = with_servings servings (with_one s
 -- ---- a stream, served
 
 -- Each writer's known bytes grew by its blocks of what all blocks of the stream get, and by nothing else, and these are their counts.
-pub record ServesAll (plan : PlanValue) (stamp stream : List ℕ) (tail : Tail) (before after : Known) (counts : Counts) : Type 0 where
+pub record ServesAll (plan : PlanValue) (stamp : List ℕ) (stream : Option (List ℕ)) (before after : Known) (tail : Tail) (counts : Counts) : Type 0 where
   pub contents : List (List ℕ)
-  pub cut : Has stream contents tail
+  pub cut : IfSome stream (λ bytes. Has bytes contents tail)
   pub servings : List Serving
   pub each : AreServings plan stamp 1 contents servings
   pub sends : Sends (all_posts servings) before after
   pub counted : counts ≡ with_servings servings nothing
 
 -- the same of the first blocks of the stream: what they get went out whole
-pub record ServesFirst (plan : PlanValue) (stamp stream : List ℕ) (before after : Known) : Type 0 where
+pub record ServesFirst (plan : PlanValue) (stamp : List ℕ) (stream : Option (List ℕ)) (before after : Known) : Type 0 where
   pub contents : List (List ℕ)
-  pub first : HasFirst stream contents
+  pub first : IfSome stream (λ bytes. HasFirst bytes contents)
   pub servings : List Serving
   pub each : AreServings plan stamp 1 contents servings
   pub sends : Sends (all_posts servings) before after
 
 -- A beginning of what the first blocks of the stream get went out, in order.
-pub record ServesPart (plan : PlanValue) (stamp stream : List ℕ) (before after : Known) : Type 0 where
+pub record ServesPart (plan : PlanValue) (stamp : List ℕ) (stream : Option (List ℕ)) (before after : Known) : Type 0 where
   pub contents : List (List ℕ)
-  pub first : HasFirst stream contents
+  pub first : IfSome stream (λ bytes. HasFirst bytes contents)
   pub servings : List Serving
   pub each : AreServings plan stamp 1 contents servings
   pub sends : SendsSome (all_posts servings) before after
+
+-- what went out before a fault: all that was begun, where no writer failed
+abbrev pub ServesUntil : PlanValue → List ℕ → Option (List ℕ) → Known → Known → RunFault → Type 0
+ServesUntil plan stamp stream before after Write = ServesPart plan stamp stream before after
+ServesUntil plan stamp stream before after fault = ServesFirst plan stamp stream before after

@@ -1,9 +1,11 @@
 -- How far a run over a stream has come.
-use Rattle.std.specs.Prelude.{ℕ, ◌*◌, ◌≤◌, List, ◌++◌, length, Option}
+use Rattle.std.specs.Prelude.{ℕ, ◌*◌, ◌≤◌, List, [], ◌++◌, length, Option}
 use Rattle.std.specs.Io.KnownBytes.{Consumes}
 use Rattle.std.specs.Option.{IfSome}
-use Rattle.gw_mllp.specs.Stream.{Has, Stands, Tail}
+use Rattle.gw_mllp.specs.Stream.{Has, Overlong, Stands, Tail, Within}
 use Rattle.gw_stream.specs.declared.block_reader.BlockReader.{BlockReader}
+use Rattle.gw_stream.specs.declared.fault.RunFault.{RunFault}
+use Rattle.gw_stream.specs.declared.fault.RunFault.TheVariants.{Memory, Read, Frame, Turns}
 use Rattle.gw_stream.specs.Reading.{ReadTimes, ReadUpTo}
 
 -- what a source has left, where that is known, how often it was read, and what reads its blocks
@@ -12,9 +14,12 @@ pub record Place : Type 0 where
   pub reads : ℕ
   pub blocks : BlockReader
 
+abbrev pub at : Option (List ℕ) → ℕ → BlockReader → Place
+at left reads blocks = record { left = left; reads = reads; blocks = blocks }
+
 -- a source and what reads its blocks, by what the source says of itself
 abbrev pub place : {S : Type 0} → (S → Option (List ℕ)) → (S → ℕ) → S → BlockReader → Place
-place remaining reads source blocks = record { left = remaining source; reads = reads source; blocks = blocks }
+place remaining reads source blocks = at (remaining source) (reads source) blocks
 
 -- From a source that had this left and was read this often, a run has come here, and these blocks were given on the way.
 pub record Walks (left : Option (List ℕ)) (reads : ℕ) (here : Place) (given : List (List ℕ)) : Type 0 where
@@ -33,6 +38,14 @@ Goes here there more = (left : Option (List ℕ)) (reads : ℕ) (given : List (L
 -- a run that had come here has all blocks of its stream, and the stream ends so
 abbrev pub EndsAt : Place → Tail → Type 0
 EndsAt here tail = (left : Option (List ℕ)) (reads : ℕ) (given : List (List ℕ)) → Walks left reads here given → IfSome left (λ stream. Has stream given tail)
+
+-- why a run that had come here, and has come there, has no block more
+pub data Stops (here there : Place) : RunFault → Type 0 where
+  memory : Stops here there Memory
+  read : Stops here there Read
+  too_long : EndsAt here Overlong → Stops here there (Frame 2)
+  truncated : (t : List ℕ) → EndsAt here (Within t) → Stops here there (Frame 3)
+  turns : Goes here there [] → 1000000 ≤ there.blocks.turns → Stops here there Turns
 
 -- a run that had come here has read no more than a run may, once its source was read this often
 abbrev pub WithinReads : Place → ℕ → Type 0

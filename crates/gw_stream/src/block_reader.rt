@@ -1,8 +1,7 @@
 //! The blocks of a stream, read one by one.
 ghost use Rattle.std.specs.Prelude.{◌≡◌, ◌≢◌, ◌↔◌, ◌≤◌, ◌<◌, ◌+◌, ◌∷◌, ◌++◌, [], ℕ, List, Option, OnOk, OnErr, IfOk, IfErr, IfSome, IfNone, IsTrue, IsErrOf, false, true, Ok};
-ghost use Rattle.gw_mllp.specs.Stream.{Between, Within, Overlong, Stands};
-ghost use Rattle.gw_stream.specs.Faults.{OfReading};
-ghost use Rattle.gw_stream.specs.Walked.{EndsAt, Goes, Walks, WithinReads, place};
+ghost use Rattle.gw_mllp.specs.Stream.{Between, IsFed, Within, Overlong};
+ghost use Rattle.gw_stream.specs.Walked.{EndsAt, Goes, Stops, Walks, WithinReads, at, place};
 
 use crate::fault::RunFault;
 use crate::source::Source;
@@ -17,16 +16,15 @@ const PIECE: usize = 65_536;
 
 /// Reads a stream, and gives its blocks one by one.
 #[derive(Drop)]
-pub struct BlockReader {
+pub(crate) struct BlockReader {
     decoder: Decoder,
     buffer: [u8; PIECE],
     turns: usize,
 }
 
-/// Takes a piece of the stream. What it holds too much of is told once its blocks are given.
+/// Takes a piece of the stream. What it holds too much of is reported once its blocks are given.
 fn take_piece(decoder: &mut Decoder, piece: &[u8]) -> Result<(), AllocError>
-    ensures stands { OnOk result ((stream : List ℕ) (given : List (List ℕ)) → Stands stream given decoder.old
-        → Stands (stream ++ piece.now) given decoder.new) }
+    ensures fed { OnOk result (IsFed piece.now decoder.old decoder.new) }
     ensures err { OnErr result (decoder.new ≡ decoder.old) }
 {
     match decoder.feed(piece) {
@@ -50,8 +48,8 @@ fn end_of(decoder: &Decoder) -> Result<(), RunFault>
 
 impl BlockReader {
     /// Before the first read. It takes no memory.
-    pub fn new(alloc: Global) -> BlockReader
-        ensures { (left : Option (List ℕ)) (reads : ℕ) → Walks left reads (record { left = left; reads = reads; blocks = result }) [] }
+    pub(crate) fn new(alloc: Global) -> BlockReader
+        ensures { (left : Option (List ℕ)) (reads : ℕ) → Walks left reads (at left reads result) [] }
     {
         BlockReader {
             decoder: Decoder::new(alloc),
@@ -60,22 +58,28 @@ impl BlockReader {
         }
     }
 
-    // Reads a piece behind which blocks may end. Says whether there was one.
-    fn fill<R: Source>(&mut self, reader: &mut R) -> Result<bool, RunFault>
+    /// The next block of what was read. It takes no memory.
+    pub(crate) fn ready(&mut self) -> Option<Vec<u8>>
+        ensures goes { IfSome result (λ content. (left : Option (List ℕ)) (reads : ℕ)
+            → Goes (at left reads self.old) (at left reads self.new) (content.items ∷ [])) }
+        ensures none { IfNone result ((self.old.decoder.waiting ≡ []) × (self.new ≡ self.old)) }
+        ensures turns { self.new.turns ≡ self.old.turns }
+    {
+        self.decoder.next_block()
+    }
+
+    /// Reads a piece behind which blocks may end. False says that the stream has no more bytes.
+    /// The faults are those of a run over a stream but `Write`: `Memory`, `Read`, `Frame(2)`, `Frame(3)` and `Turns`.
+    pub(crate) fn fill<R: Source>(&mut self, reader: &mut R) -> Result<bool, RunFault>
         requires works { R.has_failed reader.old ≡ false }
         requires none { self.old.decoder.waiting ≡ [] }
         ensures goes { result ≡ Ok true → Goes (place R.remaining R.reads reader.old self.old) (place R.remaining R.reads reader.new self.new) [] }
         ensures early { result ≡ Ok true → self.old.turns < 1000000 }
         ensures turn { result ≡ Ok true → self.new.turns ≡ self.old.turns + 1 }
         ensures end { result ≡ Ok false → EndsAt (place R.remaining R.reads reader.old self.old) Between }
-        ensures truncated { IsErrOf result (RunFault.Frame 3) → (t : List ℕ) × EndsAt (place R.remaining R.reads reader.old self.old) (Within t) }
-        ensures too_long { IsErrOf result (RunFault.Frame 2) → EndsAt (place R.remaining R.reads reader.old self.old) Overlong }
-        ensures turns { IsErrOf result RunFault.Turns → 1000000 ≤ self.new.turns }
-        ensures turned { IsErrOf result RunFault.Turns
-            → Goes (place R.remaining R.reads reader.old self.old) (place R.remaining R.reads reader.new self.new) [] }
+        ensures stops { IfErr result (Stops (place R.remaining R.reads reader.old self.old) (place R.remaining R.reads reader.new self.new)) }
         ensures most { WithinReads (place R.remaining R.reads reader.old self.old) (R.reads reader.new) }
         ensures read { IsErrOf result RunFault.Read ↔ IsTrue (R.has_failed reader.new) }
-        ensures kinds { IfErr result OfReading }
     {
         if self.decoder.at_end() == Err(FrameFault::TooLong) {
             return Err(RunFault::Frame(2));
@@ -87,35 +91,36 @@ impl BlockReader {
             return Err(RunFault::Read);
         };
         if count == 0 {
-            end_of(&self.decoder)?;
-            return Ok(false);
+            return match end_of(&self.decoder) {
+                Ok(()) => Ok(false),
+                Err(fault) => Err(fault),
+            };
         }
-        take_piece(&mut self.decoder, &self.buffer[..count])?;
+        let Ok(()) = take_piece(&mut self.decoder, &self.buffer[..count]) else {
+            return Err(RunFault::Memory);
+        };
         self.turns += 1;
         Ok(true)
     }
 
-    /// The next block of the stream, or that it has no more. The faults are those of a stream's run but `Write`: `Memory`, `Read`, `Frame(2)`, `Frame(3)` and `Turns`.
-    pub fn next<R: Source>(&mut self, reader: &mut R) -> Result<Option<Vec<u8>>, RunFault>
+    /// The next block of the stream, or that it has no more. The faults are those of `fill`.
+    pub(crate) fn next<R: Source>(&mut self, reader: &mut R) -> Result<Option<Vec<u8>>, RunFault>
         requires works { R.has_failed reader.old ≡ false }
         ensures goes { IfOk result (λ r. IfSome r (λ content.
             Goes (place R.remaining R.reads reader.old self.old) (place R.remaining R.reads reader.new self.new) (content.items ∷ []))) }
         ensures end { IfOk result (λ r. IfNone r (EndsAt (place R.remaining R.reads reader.old self.old) Between)) }
-        ensures truncated { IsErrOf result (RunFault.Frame 3) → (t : List ℕ) × EndsAt (place R.remaining R.reads reader.old self.old) (Within t) }
-        ensures too_long { IsErrOf result (RunFault.Frame 2) → EndsAt (place R.remaining R.reads reader.old self.old) Overlong }
-        ensures turns { IsErrOf result RunFault.Turns → 1000000 ≤ self.new.turns }
-        ensures turned { IsErrOf result RunFault.Turns
-            → Goes (place R.remaining R.reads reader.old self.old) (place R.remaining R.reads reader.new self.new) [] }
+        ensures stops { IfErr result (Stops (place R.remaining R.reads reader.old self.old) (place R.remaining R.reads reader.new self.new)) }
         ensures most { WithinReads (place R.remaining R.reads reader.old self.old) (R.reads reader.new) }
         ensures read { IsErrOf result RunFault.Read ↔ IsTrue (R.has_failed reader.new) }
-        ensures kinds { IfErr result OfReading }
     {
         'pieces: loop {
-            if let Some(content) = self.decoder.next_block() {
+            if let Some(content) = self.ready() {
                 return Ok(Some(content));
             }
-            if !self.fill(reader)? {
-                return Ok(None);
+            match self.fill(reader) {
+                Ok(true) => continue,
+                Ok(false) => return Ok(None),
+                Err(fault) => return Err(fault),
             }
         }
     }

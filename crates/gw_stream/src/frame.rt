@@ -1,7 +1,9 @@
-//! Contents as blocks.
+//! Contents and messages as blocks.
 ghost use Rattle.std.specs.Prelude.{◌≡◌, IfOk};
+ghost use Rattle.gw_er7.specs.Written.{written};
 ghost use Rattle.gw_mllp.specs.Stream.{HasNoEnd, block};
 
+use gw_er7::{Message, write, written_is_read};
 use gw_mllp::write_block;
 use std::alloc::{AllocError, Global};
 
@@ -16,4 +18,15 @@ pub(crate) fn framed(alloc: Global, content: &[u8]) -> Result<Vec<u8>, AllocErro
     let mut framed = Vec::with_capacity(alloc, content.len() + FRAME)?;
     write_block(&mut framed, content)?;
     Ok(framed)
+}
+
+/// The block of a message. The one error is an allocation failure.
+pub fn block_of(alloc: Global, message: &Message) -> Result<Vec<u8>, AllocError>
+    ensures { IfOk result (λ bytes. bytes.items ≡ block (written message.now)) }
+{
+    // (a law: what is written of a message reads as it)
+    written_is_read();
+    prove!(message.segment_count() > 0);
+    let content = write(alloc, message)?;
+    framed(alloc, &content)
 }

@@ -1,28 +1,33 @@
 //! Runs over bytes: streams of framed messages, answered through any reader and writer that can fail.
 //!
-//! [`answer_stream`] answers each block of a stream by one profile (MLLP Release 1; HL7 v2.5.1 chapter 2, 2.9.2: original mode).
+//! [`answer_blocks`] answers each block of a stream as a [`Judge`] settles it, [`answer_stream`] by one profile (MLLP Release 1; HL7 v2.5.1 chapter 2, 2.9.2: original mode).
 //! [`serve_once`] answers each block of a stream under a plan, and sends its receivers what the plan makes of it.
 #![tactic(auto)]
 
-mod answer;
 mod block_reader;
-mod bundle;
+mod by_profile;
 mod counts;
+mod exchange;
 mod fault;
 mod frame;
+mod judge;
 pub mod laws;
 mod parcel;
 mod reads;
+mod run;
 mod send;
 mod sink;
 mod source;
 mod stream;
+mod under_plan;
 mod writes;
 
-pub use block_reader::BlockReader;
 pub use counts::Counts;
 pub use fault::RunFault;
+pub use frame::block_of;
+pub use judge::{Judge, Outcome};
 pub use reads::Reads;
+pub use run::answer_blocks;
 pub use send::send_all;
 pub use sink::Sink;
 pub use source::{Failed, Source};

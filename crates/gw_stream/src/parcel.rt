@@ -7,8 +7,7 @@ ghost use Rattle.gw_plan.specs.Routing.{routed};
 ghost use Rattle.gw_plan.specs.Shapes.{RouteValue};
 ghost use Rattle.gw_stream.specs.own.Bundled.{AreParcels, AreWithin, IsParcel};
 
-use crate::frame::framed;
-use gw_er7::{write, written_is_read};
+use crate::frame::block_of;
 use gw_plan::{Conforming, translate_for};
 use std::alloc::{AllocError, Global};
 use std::sync::Arc;
@@ -26,13 +25,8 @@ fn pack(alloc: Global, conforming: &Arc<Conforming>, receiver: usize) -> Result<
     ensures { (route : RouteValue) → routed (plan_value (arc_value conforming.now).plan) (arc_value conforming.now).tree.message ≡ Ok route
         → IfOk result (IsParcel (arc_value conforming.now).tree.message route receiver) }
 {
-    // (a law: what is written of a message reads as it)
-    written_is_read();
     let translated = translate_for(alloc, conforming, receiver)?;
-    let message = translated.message();
-    prove!(message.segment_count() > 0);
-    let content = write(alloc, message)?;
-    let block = framed(alloc, &content)?;
+    let block = block_of(alloc, translated.message())?;
     Ok(Parcel { receiver, block })
 }
 

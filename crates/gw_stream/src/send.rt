@@ -6,7 +6,6 @@ ghost use Rattle.gw_stream.specs.own.Bundled.{AreWithin, post, posts};
 ghost use Rattle.gw_stream.specs.Posts.{Sends, SendsOut, SendsSome, SendsSomeOut, known, receiver, some_failed};
 ghost use Rattle.gw_stream.specs.Sent.{SendsPart};
 
-use crate::bundle::Bundle;
 use crate::parcel::Parcel;
 use crate::sink::Sink;
 use crate::source::Failed;
@@ -62,18 +61,19 @@ fn send_parcels<W: Sink>(outs: &mut Vec<W>, parcels: &[Parcel]) -> Result<(), Fa
 pub(crate) fn send_bundle<A: Sink, W: Sink>(
     answers: &mut A,
     outs: &mut Vec<W>,
-    bundle: &Bundle,
+    parcels: &[Parcel],
+    block: &[u8],
 ) -> Result<(), Failed>
     requires answers { A.has_failed answers.old ≡ false }
     requires outs { list_any W.has_failed outs.old.items ≡ false }
-    requires within { AreWithin (length outs.old.items) bundle.now.parcels.items }
+    requires within { AreWithin (length outs.old.items) parcels.now }
     ensures count { length outs.new.items ≡ length outs.old.items }
-    ensures ok { OnOk result (Sends (posts bundle.now)
+    ensures ok { OnOk result (Sends (posts parcels.now block.now)
         (known A.contents W.contents answers.old outs.old.items) (known A.contents W.contents answers.new outs.new.items)) }
-    ensures part { OnErr result (SendsSome (posts bundle.now)
+    ensures part { OnErr result (SendsSome (posts parcels.now block.now)
         (known A.contents W.contents answers.old outs.old.items) (known A.contents W.contents answers.new outs.new.items)) }
     ensures failed { IsTrue (some_failed A.has_failed W.has_failed answers.new outs.new.items) ↔ IsErr result }
 {
-    send_parcels(outs, &bundle.parcels)?;
-    send_all(answers, &bundle.block)
+    send_parcels(outs, parcels)?;
+    send_all(answers, block)
 }

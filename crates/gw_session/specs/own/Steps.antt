@@ -1,27 +1,15 @@
 -- How a session comes there: what each of its steps notes.
-use Rattle.std.specs.Prelude.{◌≡◌, ℕ, ◌+◌, ◌≤◌, List, [], ◌∷◌, ◌++◌, map, Option, None, Some}
+use Rattle.std.specs.Prelude.{◌≡◌, ◌↔◌, ℕ, ◌+◌, ◌≤◌, List, [], ◌∷◌, ◌++◌, Option, None, Some}
 use Rattle.std.specs.Arc.{arc_value}
-use Rattle.std.specs.Io.KnownBytes.{Appends}
-use Rattle.std.specs.List.{AllByRecursion, flat_map}
-use Rattle.gw_ack.specs.Conditions.{IsRejection}
+use Rattle.gw_ack.specs.declared.reply.Reply.{Reply}
+use Rattle.gw_ack.specs.declared.reply.Reply.TheVariants.{Accept, Reject}
 use Rattle.gw_er7.specs.Message.{SegmentValue}
 use Rattle.gw_gate.specs.Journal.{WasAccepted, WasRefused}
 use Rattle.gw_gate.specs.Parts.{PlanSeen, ConformingSeen}
 use Rattle.gw_gate.specs.Replies.{ReplySeen, IsCurrent, IsAccepted, IsStale, IsRefused}
 use Rattle.gw_gate.specs.Seen.{plan_seen}
 use Rattle.gw_gate.specs.Values.{conforming_at}
-use Rattle.gw_stream.specs.declared.counts.Counts.{Counts}
-use Rattle.gw_stream.specs.Answers as answers
-use Rattle.gw_stream.specs.Answers.{Reply, accept, refuse, reject}
-use Rattle.gw_stream.specs.Counted.{nothing, with_answers}
-use Rattle.gw_stream.specs.Streams.{blocks_of}
-use Rattle.gw_stream.specs.Walked.{Place, Walks}
-use Rattle.gw_crew.specs.own.Turns.{Adds}
 use Rattle.gw_crew.specs.Notes.{NoteSeen, Looked, WasStale, WasFull, Added}
-use Rattle.gw_session.specs.declared.turn.Why.{Why}
-use Rattle.gw_session.specs.declared.turn.Why.TheVariants as why
-use Rattle.gw_session.specs.declared.turn.Said.{Said}
-use Rattle.gw_session.specs.declared.turn.Said.TheVariants as said
 use Rattle.gw_session.specs.declared.doors.Current.{Current}
 use Rattle.gw_session.specs.declared.doors.Came.{Came}
 use Rattle.gw_session.specs.declared.doors.Came.TheVariants as came
@@ -29,26 +17,7 @@ use Rattle.gw_session.specs.declared.arrival.Judgement.{Judgement}
 use Rattle.gw_session.specs.declared.arrival.Judgement.TheVariants as judgement
 use Rattle.gw_session.specs.declared.arrival.Attempt.{Attempt}
 use Rattle.gw_session.specs.declared.arrival.Attempt.TheVariants as attempt
-use Rattle.gw_session.specs.declared.answer.Answer as answer
-use Rattle.gw_session.specs.Sessions.{Dealt, HasCode, IsArrival, IsCutShort, IsDealt, IsTurn, Judged, Tries, answer_of, content_of, notes_of}
-
--- ---- what is said
-
-abbrev pub reason : Why → Reply
-reason (why.Breaks breach) = refuse breach
-reason (why.Rejected code) = reject code
-
-abbrev pub reply_of : Said → Reply
-reply_of said.Accepted = accept
-reply_of (said.Refused why) = reason why
-
--- what is rejected is so under one of the codes of rejections
-abbrev pub MayBeSaid : Reply → Type 0
-MayBeSaid (reject code) = IsRejection code
-MayBeSaid reply = Unit {0}
-
-abbrev pub answered : answer.Answer → answers.Answer
-answered a = record { code = a.code; content = a.content.items }
+use Rattle.gw_session.specs.Sessions.{HasCode, IsArrival, IsCutShort, IsTurn, Judged, Tries}
 
 -- ---- what a door replies
 
@@ -104,27 +73,27 @@ ComesTo c NoRoom notes = notes ≡ WasFull ∷ []
 -- the note of a refusal, by what was to be said: its number, and what is said
 pub data EndsIn (asked : Reply) : ℕ → Reply → List NoteSeen → Type 0 where
   refused : (at arrival code : ℕ) → HasCode asked code → EndsIn asked arrival asked (Added at (WasRefused arrival code) ∷ [])
-  full : EndsIn asked 0 (reject 207) (WasFull ∷ [])
+  full : EndsIn asked 0 (Reject 207) (WasFull ∷ [])
 
 -- ---- what a plan says of a message
 
 pub data JudgementSeen : Type 0 where
   Admitted : (conforming : ConformingSeen) → JudgementSeen
-  Refused : (reply : Reply) → JudgementSeen
+  Refused : (reply : Reply) (code : ℕ) → JudgementSeen
 
 abbrev pub judgement_seen : Judgement → JudgementSeen
 judgement_seen (judgement.Admitted c) = Admitted (conforming_at c)
-judgement_seen (judgement.Refused why) = Refused (reason why)
+judgement_seen (judgement.Refused reply code) = Refused reply code
 
 -- it is accepted, and may arrive
 pub record IsAdmitted (m : List SegmentValue) (version : ℕ) (plan : PlanSeen) (c : ConformingSeen) : Type 0 where
-  pub judged : Judged plan.text m accept
+  pub judged : Judged plan.text m Accept
   pub arrival : IsArrival m version plan c
 
 -- what the plan says of the message
 abbrev pub Judges : List SegmentValue → ℕ → PlanSeen → JudgementSeen → Type 0
 Judges m version plan (Admitted c) = IsAdmitted m version plan c
-Judges m version plan (Refused reply) = Judged plan.text m reply
+Judges m version plan (Refused reply code) = Judged plan.text m reply × HasCode reply code
 
 -- the plan was looked up, and says this of the message
 pub record Asks (m : List SegmentValue) (judgement : JudgementSeen) (notes : List NoteSeen) : Type 0 where
@@ -145,7 +114,7 @@ pub data AttemptSeen : Type 0 where
   Again : (message : List SegmentValue) → AttemptSeen
 
 abbrev pub attempt_seen : Attempt → AttemptSeen
-attempt_seen (attempt.Done turn) = Done turn.number (reply_of turn.said)
+attempt_seen (attempt.Done turn) = Done turn.number turn.reply
 attempt_seen (attempt.Stale message) = Again message
 
 -- after three stale arrivals at most, it is settled with these notes
@@ -167,19 +136,6 @@ CutsShort m notes = (k : ℕ) (tried : List NoteSeen) → k ≤ 3 → Tries m k 
 
 -- ---- a session
 
-abbrev pub dealt : List ℕ → answers.Answer → List NoteSeen → Dealt
-dealt content answer notes = record { content = content; notes = notes; answer = answer }
-
--- the notes of a door grew by those of a content that was dealt with by this answer
-abbrev pub Deals : (List ℕ → Type 0) → List ℕ → answer.Answer → List NoteSeen → List NoteSeen → Type 0
-Deals Gives content a old new = Adds (λ notes. IsDealt Gives (dealt content (answered a) notes)) old new
-
--- all blocks that were given so far were dealt with
-pub record DealtSoFar (Gives : List ℕ → Type 0) (left : Option (List ℕ)) (reads : ℕ) (here : Place) (before after : Option (List ℕ))
-    (old new : List NoteSeen) (counts : Counts) : Type 0 where
-  pub blocks : List Dealt
-  pub each : AllByRecursion (IsDealt Gives) blocks
-  pub walks : Walks left reads here (map content_of blocks)
-  pub bytes : Appends before after (blocks_of (map answer_of blocks))
-  pub notes : new ≡ old ++ flat_map notes_of blocks
-  pub counted : counts ≡ with_answers (map answer_of blocks) nothing
+-- what gives stamps can give the same after as before
+abbrev pub SameStamps : (List ℕ → Type 0) → (List ℕ → Type 0) → Type 0
+SameStamps Before After = (stamp : List ℕ) → After stamp ↔ Before stamp

@@ -1,30 +1,30 @@
 -- What is made of a content before anything is written, and how a run under a plan comes on.
-use Rattle.std.specs.Prelude.{◌≡◌, ℕ, ◌<◌, List, [], ◌∷◌, ◌++◌, length, map, Ok, Option}
+use Rattle.std.specs.Prelude.{◌≡◌, ℕ, ◌+◌, ◌<◌, List, [], ◌∷◌, ◌++◌, length, map, Ok, Option}
+use Rattle.std.specs.Arc.{arc_value}
 use Rattle.std.specs.List.{AllByRecursion, AllZip}
-use Rattle.std.specs.declared.alloc.Global.{Global}
-use Rattle.std.specs.declared.vec.Vec.{Vec}
-use Rattle.gw_ack.specs.declared.receipt.Ack.{Ack}
+use Rattle.gw_ack.specs.declared.reply.Reply.{Reply}
 use Rattle.gw_er7.specs.Message.{SegmentValue}
+use Rattle.gw_plan.specs.Held.{plan_value}
 use Rattle.gw_plan.specs.Routing.{routed}
 use Rattle.gw_plan.specs.Shapes.{PlanValue, RouteValue}
-use Rattle.gw_stream.specs.declared.bundle.Bundle.{Bundle}
 use Rattle.gw_stream.specs.declared.parcel.Parcel.{Parcel}
 use Rattle.gw_stream.specs.declared.counts.Counts.{Counts}
-use Rattle.gw_stream.specs.Answers.{Answer}
-use Rattle.gw_stream.specs.Counted.{nothing}
-use Rattle.gw_stream.specs.Posts.{Known, Post, Sends, receiver, sender}
-use Rattle.gw_stream.specs.Served.{AreServings, Delivery, IsDelivery, IsServing, Serving, all_posts, delivered, posts_of, receivers_of, with_servings}
+use Rattle.gw_stream.specs.declared.fault.RunFault.{RunFault}
+use Rattle.gw_stream.specs.declared.fault.RunFault.TheVariants.{Memory, Write}
+use Rattle.gw_stream.specs.declared.judge.Outcome.{Outcome}
+use Rattle.gw_stream.specs.declared.under_plan.UnderPlan.{UnderPlan}
+use Rattle.gw_stream.specs.Answers.{IsSaidUnder, Message}
+use Rattle.gw_stream.specs.Counted.{nothing, with_one}
+use Rattle.gw_stream.specs.Posts.{Known, Post, Sends, SendsSome, receiver, sender}
+use Rattle.gw_stream.specs.Served.{AreDeliveries, AreServings, Delivery, IsDelivery, IsServing, Routed, Serving, all_posts, delivered, posts_of, receivers_of, with_servings}
 use Rattle.gw_stream.specs.Walked.{Place, Walks}
-
-abbrev pub answered : Ack × Vec ℕ Global → Answer
-answered a = record { code = a.0; content = a.1.items }
 
 abbrev pub post : Parcel → Post
 post parcel = record { whom = receiver parcel.receiver; bytes = parcel.block.items }
 
 -- the blocks for receivers, and then the answer's
-abbrev pub posts : Bundle → List Post
-posts bundle = map post bundle.parcels.items ++ record { whom = sender; bytes = bundle.block.items } ∷ []
+abbrev pub posts : List Parcel → List ℕ → List Post
+posts parcels block = map post parcels ++ record { whom = sender; bytes = block } ∷ []
 
 -- it holds what a receiver of the message's route is sent
 pub record IsParcel (m : List SegmentValue) (route : RouteValue) (receiver : ℕ) (parcel : Parcel) : Type 0 where
@@ -42,13 +42,33 @@ pub record AreParcels (plan : PlanValue) (m : List SegmentValue) (parcels : List
 abbrev pub AreWithin : ℕ → List Parcel → Type 0
 AreWithin count parcels = AllByRecursion (λ parcel. parcel.receiver < count) parcels
 
--- it holds what a content of this number gets under a plan
-pub record Bundles (plan : PlanValue) (stamp : List ℕ) (number : ℕ) (content : List ℕ) (bundle : Bundle) : Type 0 where
+-- they hold what receivers are sent of what was read, where this is said
+pub record Packs (plan : PlanValue) (what : Option Message) (reply : Reply) (parcels : List Parcel) : Type 0 where
+  pub deliveries : List Delivery
+  pub are_deliveries : AreDeliveries plan what reply deliveries
+  pub are_posts : map post parcels ≡ map delivered deliveries
+  pub many : length parcels ≡ length deliveries
+
+-- what a judge under a plan settles
+pub record PlanSettles (old new : UnderPlan) (number : ℕ) (what : Option Message) (outcome : Outcome) : Type 0 where
+  pub plan : new.plan ≡ old.plan
+  pub stamp : new.stamp ≡ old.stamp
+  pub says : IsSaidUnder (Routed (plan_value (arc_value old.plan))) old.stamp number what outcome
+  pub packs : Packs (plan_value (arc_value old.plan)) what outcome.reply new.parcels.items
+  pub within : AreWithin (length (arc_value old.plan).receivers) new.parcels.items
+
+-- a content got what it gets under a plan, sent whole and counted
+pub record ServesOne (plan : PlanValue) (stamp content : List ℕ) (before after : Known) (c c' : Counts) : Type 0 where
   pub serving : Serving
-  pub is_serving : IsServing plan stamp number content serving
-  pub code : bundle.code ≡ serving.answer.code
-  pub are_posts : posts bundle ≡ posts_of serving
-  pub many : length bundle.parcels.items ≡ length serving.deliveries
+  pub is_serving : IsServing plan stamp (c.answered + 1) content serving
+  pub sends : Sends (posts_of serving) before after
+  pub counted : c' ≡ with_one serving.answer.code (length serving.deliveries) c
+
+-- it got nothing, where an allocation failed, or a part, where a writer failed
+pub data ServesNot (plan : PlanValue) (stamp : List ℕ) (number : ℕ) (content : List ℕ) (before : Known) : Known → RunFault → Type 0 where
+  nothing_sent : ServesNot plan stamp number content before before Memory
+  cut : (after : Known) (serving : Serving) → IsServing plan stamp number content serving → SendsSome (posts_of serving) before after
+      → ServesNot plan stamp number content before after Write
 
 -- what all blocks that were given so far get was sent whole, and counted
 pub record ServesSoFar (plan : PlanValue) (stamp : List ℕ) (left : Option (List ℕ)) (reads : ℕ) (here : Place)

@@ -21,9 +21,12 @@ returns-in_err-copy-in-Stale-clause-err g c =
     let came = rw c.in-Stale.is at c.in_ok-number-in-Admitted.ensures.came in
     err_gives _ (cuts_after_stale _ _ _ _ _ _ asks came)
 
+pub refuse-requires : goal.refuse-requires
+refuse-requires g c = let asks = rw c.in-Refused.is at c.in_ok-why.ensures.asked in asks.holds.judges.1
+
 pub returns-in_ok-refuse-in-Refused-clause-tried : goal.returns-in_ok-refuse-in-Refused-clause-tried
 returns-in_ok-refuse-in-Refused-clause-tried g c =
-    let asks = rw c.in-Refused.is at c.in_ok-why.ensures.asked in settles_refused _ _ _ _ _ _ _ asks c.in_ok-refuse-in-Refused.ensures.refused
+    let asks = rw c.in-Refused.is at c.in_ok-why.ensures.asked in settles_refused _ _ _ _ _ _ _ _ asks c.in_ok-refuse-in-Refused.ensures.refused
 
 pub returns-in-Accepted-clause-tried : goal.returns-in-Accepted-clause-tried
 returns-in-Accepted-clause-tried g c =
@@ -35,7 +38,7 @@ pub returns-in-Full-clause-tried : goal.returns-in-Full-clause-tried
 returns-in-Full-clause-tried g c =
     let asks = rw c.in-Admitted.is at c.in_ok-why.ensures.asked in
     let came = rw c.in-Full.is at c.in_ok-number-in-Admitted.ensures.came in
-    settles_full _ _ _ _ _ _ _ c.without_room.ensures.number c.without_room.ensures.said asks came
+    settles_full _ _ _ _ _ _ _ c.without_room.ensures.number c.without_room.ensures.reply asks came
 
 pub returns-in_ok-copy-in-Stale-clause-tried : goal.returns-in_ok-copy-in-Stale-clause-tried
 returns-in_ok-copy-in-Stale-clause-tried g c =

@@ -6,9 +6,9 @@ pub returns-in-Err : goal.returns-in-Err
 returns-in-Err c =
     let memory : ¬ (c.in-Err.field-0 ≡ Memory) = λ e. search rules in
     record {
-      stands = c.in-Err.ensures.fed (λ h. search rules);
+      fed = c.in-Err.ensures.fed (λ h. search rules);
       err = tt;
     }
 
-pub returns-in-Ok-clause-stands : goal.returns-in-Ok-clause-stands
-returns-in-Ok-clause-stands c = c.in-Ok.ensures.fed (λ h. search rules)
+pub returns-in-Ok-clause-fed : goal.returns-in-Ok-clause-fed
+returns-in-Ok-clause-fed c = c.in-Ok.ensures.fed (λ h. search rules)

@@ -5,18 +5,11 @@ use Rattle.gw_stream.proofs.send.send_bundle.Goals as goal
 
 pub returns-in_err-send_parcels-clause-part : goal.returns-in_err-send_parcels-clause-part
 returns-in_err-send_parcels-clause-part g c =
-    let sent = rw c.deref.ensures.value at c.in_err-send_parcels.ensures.part in
-    let last : List Post = record { whom = sender; bytes = c.args.bundle.now.block.items } ∷ [] in
-    let part = sender_not_yet _ last _ _ (g.A.Sink.contents c.args.answers.now) sent in search rules
+    let last : List Post = record { whom = sender; bytes = c.args.block.now } ∷ [] in
+    let part = sender_not_yet _ last _ _ (g.A.Sink.contents c.args.answers.now) c.in_err-send_parcels.ensures.part in search rules
 
 pub returns-clause-ok : goal.returns-clause-ok
-returns-clause-ok g c =
-    let out = rw c.deref.ensures.value at c.in_ok-send_parcels.ensures.ok in
-    let sent = rw c.deref-2.ensures.value at c.send_all.ensures.ok in
-    on_ok _ (sender_last _ _ _ _ _ _ out) sent
+returns-clause-ok g c = on_ok _ (sender_last _ _ _ _ _ _ c.in_ok-send_parcels.ensures.ok) c.send_all.ensures.ok
 
 pub returns-clause-part : goal.returns-clause-part
-returns-clause-part g c =
-    let out = rw c.deref.ensures.value at c.in_ok-send_parcels.ensures.ok in
-    let sent = rw c.deref-2.ensures.value at c.send_all.ensures.part in
-    on_err _ (sender_in_part _ _ _ _ _ _ out) sent
+returns-clause-part g c = on_err _ (sender_in_part _ _ _ _ _ _ c.in_ok-send_parcels.ensures.ok) c.send_all.ensures.part

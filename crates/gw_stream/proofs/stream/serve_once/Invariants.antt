@@ -17,7 +17,8 @@ invariant-each g l =
       answers : A.has_failed l.answers ≡ false;
       outs : list_any W.has_failed l.outs.items ≡ false;
       writers : length l.outs.items ≡ length l.fn.outs.items;
-      plan : arc_value l.plan ≡ l.fn.plan;
+      plan : arc_value l.judge.plan ≡ l.fn.plan;
+      stamp : l.judge.stamp ≡ l.fn.stamp;
       serves : ServesSoFar (plan_value l.fn.plan) l.fn.stamp (R.remaining l.fn.reader) (R.reads l.fn.reader) (place R.remaining R.reads l.reader l.blocks)
           (known A.contents W.contents l.fn.answers l.fn.outs.items) (known A.contents W.contents l.answers l.outs.items) l.counts;
     }

@@ -12,6 +12,6 @@ invariant_of-result c =
       c.in_ok-from_slice.ensures.items,
       c.in_ok-from_slice-2.ensures.items,
       c.text.ensures,
-      c.text-2.ensures,
+      c.first_leaf.ensures,
     )
     (header_is_lawful c.segment-msh.result c.value_count-values.ensures.segment)

@@ -1,0 +1,39 @@
+//! Messages, judged as the gate behind a door settles them.
+use crate::arrival::settle;
+use gw_crew::{Clock, Door};
+use gw_er7::Message;
+use gw_stream::{Judge, Outcome};
+use std::alloc::{AllocError, Global};
+
+/// Judges messages as the gate behind a door settles them, and answers them with the stamps of a clock.
+#[derive(Drop)]
+pub(crate) struct AtDoor<'a, D, C> {
+    pub(crate) door: &'a mut D,
+    pub(crate) clock: &'a mut C,
+}
+
+impl<D: Door, C: Clock> Judge for AtDoor<'_, D, C> {
+    ghost use Rattle.std.specs.Prelude.{◌≡◌};
+    ghost use Rattle.gw_session.specs.Sessions.{Breaks, Settles};
+    ghost use Rattle.gw_session.specs.own.Steps.{SameStamps};
+
+    ghost settles = { λ s t number what outcome. (t.door.ghost_name ≡ s.door.ghost_name) × SameStamps (C.gives s.clock.now) (C.gives t.clock.now)
+        × Settles (C.gives s.clock.now) (D.noted s.door.now) (D.noted t.door.now) number what outcome };
+
+    ghost breaks = { λ s t what. (t.door.ghost_name ≡ s.door.ghost_name) × SameStamps (C.gives s.clock.now) (C.gives t.clock.now)
+        × Breaks (D.noted s.door.now) (D.noted t.door.now) what };
+
+    fn judge(
+        &mut self,
+        alloc: Global,
+        _number: u64,
+        what: Option<Message>,
+    ) -> Result<Outcome, AllocError> {
+        let turn = settle(alloc, self.door, what)?;
+        Ok(Outcome {
+            reply: turn.reply,
+            number: turn.number,
+            stamp: self.clock.stamp(),
+        })
+    }
+}

@@ -1,0 +1,49 @@
+-- How a run that gathers its answers comes on.
+use Rattle.std.specs.Prelude.{◌≡◌, ℕ, ◌+◌, Bool, true, false, List, ◌++◌, map, Option}
+use Rattle.std.specs.Io.KnownBytes.{Appends}
+use Rattle.std.specs.Arc.{arc_value}
+use Rattle.gw_mllp.specs.Stream.{block}
+use Rattle.gw_stream.specs.declared.by_profile.ByProfile.{ByProfile}
+use Rattle.gw_stream.specs.declared.counts.Counts.{Counts}
+use Rattle.gw_stream.specs.declared.exchange.Answer as program
+use Rattle.gw_stream.specs.declared.fault.RunFault.{RunFault}
+use Rattle.gw_stream.specs.declared.fault.RunFault.TheVariants.{Memory, Write}
+use Rattle.gw_stream.specs.declared.judge.Outcome.{Outcome}
+use Rattle.gw_stream.specs.Answers.{Answer, IsSaidUnder, IsSettled, Message, ValidatedBy}
+use Rattle.gw_stream.specs.Counted.{nothing, with_answer}
+use Rattle.gw_stream.specs.Exchanges.{Exchange, Exchanges, blocks_of, content_of, with_answers}
+use Rattle.gw_stream.specs.Sent.{SendsPart}
+use Rattle.gw_stream.specs.Walked.{Place, Walks}
+
+abbrev pub answered : program.Answer → Answer
+answered a = record { code = a.code; content = a.content.items }
+
+-- what a judge by one profile settles
+pub record ProfileSettles (old new : ByProfile) (number : ℕ) (what : Option Message) (outcome : Outcome) : Type 0 where
+  pub profile : new.profile ≡ old.profile
+  pub stamp : new.stamp ≡ old.stamp
+  pub says : IsSaidUnder (ValidatedBy old.profile) old.stamp number what outcome
+
+-- what was gathered when an allocation failed went out, whole or in part
+pub data SentAtLast (before after : Option (List ℕ)) (gathered : List ℕ) : Bool → RunFault → Type 0 where
+  sent : Appends before after gathered → SentAtLast before after gathered false Memory
+  cut : SendsPart before after gathered → SentAtLast before after gathered true Write
+
+module _ {S : Type 0} (Settles : S → S → ℕ → Option Message → Outcome → Type 0) where
+  -- a content was settled, its answer's block gathered and counted
+  pub record Gathers (old new : S) (content before after : List ℕ) (c c' : Counts) : Type 0 where
+    pub answer : Answer
+    pub settled : IsSettled (Settles old new (c.answered + 1)) content answer
+    pub gathered : after ≡ before ++ block answer.content
+    pub counted : c' ≡ with_answer answer.code c
+
+  -- all blocks that were given so far were settled, and their answers' blocks written but for those that are gathered
+  pub record Progress (old new : S) (left : Option (List ℕ)) (reads : ℕ) (here : Place) (before after : Option (List ℕ)) (gathered : List ℕ)
+      (counts : Counts) : Type 0 where
+    pub done : List Exchange
+    pub each : Exchanges Settles old done new
+    pub walks : Walks left reads here (map content_of done)
+    pub sent : List ℕ
+    pub written : Appends before after sent
+    pub whole : blocks_of done ≡ sent ++ gathered
+    pub counted : counts ≡ with_answers done nothing

@@ -1,0 +1,35 @@
+//! What settles the messages of a stream.
+use gw_ack::{Reply, Stamp};
+use gw_er7::Message;
+use std::alloc::{AllocError, Global};
+
+/// What is said to a message, and the number and the stamp of its answer.
+#[derive(Clone, Copy)]
+pub struct Outcome {
+    pub reply: Reply,
+    pub number: u64,
+    pub stamp: Stamp,
+}
+
+/// What settles the messages of a stream, one after another.
+pub trait Judge {
+    ghost use Rattle.std.specs.Prelude.{ℕ, Option, IfOk, OnErr};
+    ghost use Rattle.gw_stream.specs.declared.judge.Outcome.{Outcome};
+    ghost use Rattle.gw_stream.specs.Answers.{Message};
+
+    /// What this outcome says of the judge before and after, of the message's number in the stream, and of what was read.
+    ghost settles: { Self → Self → ℕ → Option Message → Outcome → Type 0 };
+
+    /// What a failure says of the judge before and after, and of what was read.
+    ghost breaks: { Self → Self → Option Message → Type 0 };
+
+    /// The outcome for what was read: a message, or none where it can't be read. `number` is its number in the stream. The one error is an allocation failure.
+    fn judge(
+        &mut self,
+        alloc: Global,
+        number: u64,
+        what: Option<Message>,
+    ) -> Result<Outcome, AllocError>
+        ensures settled { IfOk result (λ outcome. settles self.old self.new number what outcome) }
+        ensures broken { OnErr result (breaks self.old self.new what) };
+}
