@@ -1,0 +1,9 @@
+//! Calls of which each growth is refused in turn. They stand apart from the crates that they test, since a crate with tests is proved twice.
+#![tactic(auto)]
+
+#[cfg(test)]
+mod answers;
+#[cfg(test)]
+mod contents;
+#[cfg(test)]
+mod sweeps;
