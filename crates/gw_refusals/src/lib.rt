@@ -6,4 +6,8 @@ mod answers;
 #[cfg(test)]
 mod contents;
 #[cfg(test)]
+mod desks;
+#[cfg(test)]
 mod sweeps;
+#[cfg(test)]
+mod texts;
