@@ -9,6 +9,7 @@ use crate::report::{DONE, USAGE, tell, tell_fault, tell_if_full, tell_report, te
 use crate::stamps::{Utc, stamp_of};
 use crate::threads::{Line, PARTS, Served, Service};
 use clap::ArgMatches;
+use gw_ack::Stamp;
 use gw_gate::Gate;
 use gw_plan::{Plan, Receiver};
 use gw_run::Clock as Stamps;
@@ -159,6 +160,31 @@ fn listen<'a, R: Net<Stream = TcpStream, Listener = TcpListener> + Eprint>(
     Ok(listener)
 }
 
+/// Serves under a plan, by the system's clock in UTC: the stamp that is given is that of answers where it gives no time.
+fn serve_in_utc<
+    R: Net<Stream = TcpStream, Listener = TcpListener>
+        + Threads
+        + Wait
+        + Clock
+        + Files<File = File, Dir = D>
+        + Print
+        + Eprint
+        + AllocGlobal
+        + Sync,
+    D: Read + Drop + Send + Sync,
+    I: Read + Drop + Send,
+>(
+    rt: &R,
+    plan: &Arc<Plan>,
+    listener: TcpListener,
+    sizes: Sizes,
+    paths: I,
+    start: Stamp,
+) -> Result<Served, RunFault> {
+    let clock = Utc::new(rt, start);
+    serve_with(rt, plan, listener, sizes, paths, clock)
+}
+
 /// Serves under the plan of the file PLAN at ADDRESS, and tells what the gate did.
 fn serve<
     'a,
@@ -183,8 +209,7 @@ fn serve<
     };
     let plan = Arc::new(rt.alloc(), read_plan(rt, words)?)?;
     let listener = listen(rt, words)?;
-    let clock = Utc::new(rt, start);
-    let served = serve_with(rt, &plan, listener, sizes, paths, clock)?;
+    let served = serve_in_utc(rt, &plan, listener, sizes, paths, start)?;
     Ok(served)
 }
 
