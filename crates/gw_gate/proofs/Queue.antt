@@ -22,7 +22,7 @@ found a = Some a.conforming
 -- ---- what a number leads to
 
 -- what was accepted under a number stands at its place
-found_from : (first k : ℕ) (xs : List Acceptance) → CountFrom first (map n_of xs) → find (λ a. a.n == (first + k)) xs ≡ option_map (under (first + k)) (slice_get (map (λ a. a.conforming) xs) k)
+pub found_from : (first k : ℕ) (xs : List Acceptance) → CountFrom first (map n_of xs) → find (λ a. a.n == (first + k)) xs ≡ option_map (under (first + k)) (slice_get (map (λ a. a.conforming) xs) k)
 found_from first k [] all = refl
 found_from first zero (x ∷ xs) all =
     let is : x.n ≡ first + 0 = omega (arith, all.0) in
@@ -34,7 +34,7 @@ found_from first (suc k) (x ∷ xs) all =
     ∙ subst (λ m. find (λ a. a.n == m) xs ≡ option_map (under m) (slice_get (map (λ a. a.conforming) xs) k)) next (found_from (first + 1) k xs all.1)
 
 -- nothing was accepted under a number below the first
-none_below : (first n : ℕ) (xs : List Acceptance) → CountFrom first (map n_of xs) → n < first → find (λ a. a.n == n) xs ≡ None
+pub none_below : (first n : ℕ) (xs : List Acceptance) → CountFrom first (map n_of xs) → n < first → find (λ a. a.n == n) xs ≡ None
 none_below first n [] all low = refl
 none_below first n (x ∷ xs) all low =
     let other : x.n ≢ n = λ e. omega (arith, all.0, e, low) in
