@@ -14,3 +14,4 @@ pub mod Receiving
 pub mod Stopping
 pub mod Reachable
 pub mod Once
+pub mod Crossing

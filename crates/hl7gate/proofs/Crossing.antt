@@ -7,10 +7,8 @@ use Rattle.std.specs.declared.sync.ledger.Ledger as ledger
 use Rattle.std.proofs.sync.ledger.Share.TheSendSync as share
 use Rattle.std.specs.contracts.net.SocketAddr as SocketAddr
 use Rattle.std.specs.contracts.net.TcpStream as TcpStream
-use Rattle.gw_gate.specs.contracts.chapter.Chapter as Chapter
-use Rattle.gw_gate.specs.contracts.chapter.Start as Start
-use Rattle.gw_gate.specs.contracts.event.Entry as Entry
-use Rattle.gw_run.proofs.Crossing.{Plan-send, Plan-sync, Conforming-send, Conforming-sync, Translated-send, Translated-sync, LockedGate-sync, Receipts-send}
+use Rattle.gw_gate.proofs.Crossing.{Chapter-send}
+use Rattle.gw_run.proofs.Crossing.{LockedGate-sync, Receipts-send}
 use Rattle.hl7gate.specs.contracts.outcome.Outcome as Outcome
 use Rattle.hl7gate.specs.contracts.tickets.Tickets as Tickets
 use Rattle.hl7gate.specs.contracts.threads.Connection as Connection
@@ -22,17 +20,6 @@ Tickets-send L g = search (share.the_send, crosses, sendable) depth 60 fits 5000
 
 Outcome-send : IsSend (Outcome.the_field).row
 Outcome-send = search (crosses, sendable) depth 60 fits 50000
-
-ruleset held = (Plan-send, Plan-sync, Conforming-send, Conforming-sync, Translated-send, Translated-sync, crosses, sendable)
-
-Entry-send : IsSend (Entry.the_field).row
-Entry-send = search held depth 60 fits 50000
-
-Start-send : IsSend (Start.the_field).row
-Start-send = search held depth 60 fits 50000
-
-Chapter-send : IsSend (Chapter.the_field).row
-Chapter-send = search (Entry-send, Start-send, crosses, sendable) depth 60 fits 50000
 
 pub Service-sync : (a : NamedLft) (L R C : RattleType) (g : ledger.Ghosts L.Denot) → IsSync R → IsSync C → IsSync (Service.the_field a L R C g).row
 Service-sync a L R C g s c = search (LockedGate-sync, Receipts-send, Chapter-send, Tickets-send, Outcome-send, s, c, crosses, sendable) depth 60 fits 50000
