@@ -1,5 +1,5 @@
 -- Which receivers a message's route goes to.
-use Rattle.std.proofs.Common.{◌≡◌, ◌↔◌, ◌==◌, ◌∙◌, ℕ, Bool, true, false, IsTrue, List, [], ◌∷◌, map, refl, sym, ap, arith}
+use Rattle.std.proofs.Common.{◌≡◌, ◌↔◌, ◌==◌, ◌∙◌, ℕ, Bool, true, IsTrue, List, [], ◌∷◌, map, refl, sym, ap}
 use Rattle.std.specs.Prelude.{Result, Ok, Err, nat_eq, ◌||◌}
 use Rattle.std.specs.List.{list_any}
 use Rattle.std.proofs.lemmas.Bool.{false≢true}

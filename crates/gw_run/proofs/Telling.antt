@@ -1,30 +1,23 @@
 -- What is gathered tells of the whole chapter.
-use Rattle.std.proofs.Common.{◌≡◌, ℕ, zero, suc, ◌+◌, ◌-◌, ◌<◌, ◌≤◌, ◌⊎◌, inl, inr, Bool, true, false, List, [], ◌∷◌, ◌++◌, length, map, take, drop, Option, None, Some, option_map, slice_get, refl, sym, ap, subst, ◌∙◌, arith}
-use Rattle.std.specs.Prelude.{nat_le, nat_lt, ◌||◌, if◌then◌else◌}
-use Rattle.std.proofs.lemmas.Grind.{common_steps}
-use Rattle.std.proofs.lemmas.Bool.{cases_lt}
+use Rattle.std.proofs.Common.{◌≡◌, ℕ, zero, suc, ◌+◌, ◌≤◌, List, [], ◌∷◌, length, map, take, drop, Some, option_map, slice_get, sym, ap, subst, ◌∙◌, arith}
 use Rattle.std.proofs.lemmas.List.{take-append-drop, take_all}
-use Rattle.std.proofs.lemmas.Option.{slice_get-map, slice_get-get_or, slice_get_past, none-some}
-use Rattle.gw_gate.specs.Parts.{PlanSeen, ConformingSeen}
+use Rattle.std.proofs.lemmas.Option.{slice_get-map, none-some}
+use Rattle.gw_gate.specs.Parts.{PlanSeen}
 use Rattle.gw_gate.specs.own.Books.{journal_of}
 use Rattle.gw_gate.specs.Headline.{CountFrom, IsTranslated}
-use Rattle.gw_gate.specs.Journal.{EntrySeen, Pair, Start, Version, acceptance, accepted, current, issued, jobs, plans, swapped}
+use Rattle.gw_gate.specs.Journal.{EntrySeen, Start, Version, current, plans, swapped}
 use Rattle.gw_gate.specs.Lawful.{IsLawful}
 use Rattle.gw_gate.specs.Meaning.{Makes}
-use Rattle.gw_gate.specs.Replies.{Takes, job_of, job_with, reply_to}
-use Rattle.gw_gate.proofs.Accounts.{acceptance_is, under}
 use Rattle.gw_gate.proofs.Journals.{last_stands, plan_stays}
-use Rattle.gw_gate.proofs.Numbering.{n_of, lawful_numbers}
+use Rattle.gw_gate.proofs.Numbering.{lawful_numbers}
 use Rattle.gw_run.specs.Gathers.{swaps_in}
 use Rattle.gw_run.specs.Owing.{gives_none, waits_none}
 use Rattle.gw_run.specs.declared.past.Past.{Past}
-use Rattle.gw_run.specs.own.Joins.{IdleAt, PlansAt, of_receiver, plans_at}
+use Rattle.gw_run.specs.own.Joins.{PlansAt, of_receiver, plans_at}
 use Rattle.gw_run.specs.own.Tellings.{Tells}
-use Rattle.gw_run.specs.Settled.{is_idle}
-use Rattle.gw_run.specs.Turns.{CountsTo, TurnsAt, TurnsTo}
-use Rattle.gw_run.proofs.Ordering.{numbered}
+use Rattle.gw_run.specs.Turns.{CountsTo, TurnsAt}
 use Rattle.gw_run.proofs.Fitting.{some_is}
-use Rattle.gw_run.proofs.Turning.{counts_done, turns_done}
+use Rattle.gw_run.proofs.Turning.{counts_done}
 
 abbrev number : Version → ℕ
 number v = v.number

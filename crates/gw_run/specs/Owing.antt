@@ -1,5 +1,5 @@
 -- What waited when a lawful journal had its first entries: pairs to be taken, and at a receiver's desk, which keeps here of a translation only that there is one.
-use Rattle.std.specs.Prelude.{◌≡◌, ℕ, ◌+◌, ◌<◌, ◌==◌, ⊤, Bool, if◌then◌else◌, List, All, map, length, take, slice_get, Option, None, Some, option_map}
+use Rattle.std.specs.Prelude.{ℕ, ◌<◌, ◌==◌, ⊤, Bool, if◌then◌else◌, List, All, map, length, take, slice_get, Option, None, Some, option_map}
 use Rattle.gw_reorder.specs.State.{DeskState, with_due}
 use Rattle.gw_reorder.specs.Calls.{after_holding, after_giving, next_of}
 use Rattle.gw_reorder.specs.own.Standing.{Stands}
