@@ -13,14 +13,14 @@ use Rattle.gw_stream.specs.Answers.{Answer, IsSettled, Message}
 use Rattle.gw_stream.specs.Counted.{nothing, with_answer, IsTotal}
 use Rattle.gw_stream.specs.Exchanges.{AllExchanged, Begins, Exchange, SomeExchanged, blocks_of, content_of, more, none, not_yet, unanswered}
 use Rattle.gw_stream.specs.own.Gathered.{Gathers, Progress, SentAtLast, cut, sent}
-use Rattle.gw_stream.specs.Reading.{ReadUpTo, ReadsTooOften}
+use Rattle.gw_stream.specs.Reading.{ReadsTooOften}
 use Rattle.gw_stream.specs.Sent.{SendsPart}
 use Rattle.gw_stream.specs.Streams.{Ends}
 use Rattle.gw_stream.specs.Streams as streams
 use Rattle.gw_stream.specs.Walked.{EndsAt, Goes, Place, Stops, Walks}
 use Rattle.gw_stream.specs.Walked as walked
 use Rattle.gw_stream.proofs.Counting.{all_more, counted_next, total_more}
-use Rattle.gw_stream.proofs.Walking.{goes_nowhere, stops_turns, walk_few, walk_first, within_here}
+use Rattle.gw_stream.proofs.Walking.{goes_nowhere, stops_turns, walk_few, walk_first}
 
 blocks_next : (done : List Exchange) (e : Exchange) → blocks_of (done ++ e ∷ []) ≡ blocks_of done ++ block e.answer.content
 blocks_next done e = flat_map-append (λ x. block x.answer.content) done (e ∷ []) ∙ ap (λ l. blocks_of done ++ l) (append-nil (block e.answer.content))
@@ -193,10 +193,6 @@ module _ {S : Type 0} (Settles : S → S → ℕ → Option Message → Outcome 
       let same : length given ≡ length p.done = length-map p.done content_of in
       let counted = numbered mid here after g c p in
       omega arith
-
-  pub gathers_most : (mid : S) (here : Place) (after : Option (List ℕ)) (g : List ℕ) (c : Counts) (now : ℕ)
-      → Progress Settles old mid left reads here before after g c → now ≡ here.reads → ReadUpTo 1000000 reads now
-  gathers_most mid here after g c now p same = within_here here now same left reads (map content_of p.done) p.walks
 
   pub gathers_turns : (mid : S) (here there : Place) (after : Option (List ℕ)) (g : List ℕ) (c : Counts) (fault : RunFault)
       → Progress Settles old mid left reads here before after g c → Stops here there fault → fault ≡ Turns → ReadsTooOften left reads there.reads

@@ -26,10 +26,6 @@ sends_join ps qs a b c p q whom =
     subst (Appends (held_by a whom) (held_by c whom)) (sym (bytes_more whom ps qs))
     (Appends-trans (held_by a whom) (held_by b whom) (held_by c whom) (bytes_to whom ps) (bytes_to whom qs) (p whom) (q whom))
 
-begins_all : (ps : List Post) → IsBeginning ps ps
-begins_all [] = none []
-begins_all (p ∷ ps) = whole p ps ps (begins_all ps)
-
 begins_more : (sent ps qs : List Post) → IsBeginning sent ps → IsBeginning sent (ps ++ qs)
 begins_more _ _ qs (none ps) = none (ps ++ qs)
 begins_more _ _ qs (part p ps front is) = part p (ps ++ qs) front is
@@ -38,9 +34,6 @@ begins_more _ _ qs (whole p sent ps begins) = whole p sent (ps ++ qs) (begins_mo
 begins_behind : (ps sent qs : List Post) → IsBeginning sent qs → IsBeginning (ps ++ sent) (ps ++ qs)
 begins_behind [] sent qs begins = begins
 begins_behind (p ∷ ps) sent qs begins = whole p (ps ++ sent) (ps ++ qs) (begins_behind ps sent qs begins)
-
-pub some_of_all : (ps : List Post) (a b : Known) → Sends ps a b → SendsSome ps a b
-some_of_all ps a b p = record { sent = ps; begins = begins_all ps; sends = p }
 
 pub some_behind : (ps qs : List Post) (a b c : Known) → Sends ps a b → SendsSome qs b c → SendsSome (ps ++ qs) a c
 some_behind ps qs a b c p q = record { sent = ps ++ q.sent; begins = begins_behind ps q.sent qs q.begins; sends = sends_join ps q.sent a b c p q.sends }

@@ -11,14 +11,14 @@ use Rattle.gw_stream.specs.declared.fault.RunFault.TheVariants.{Memory, Read, Tu
 use Rattle.gw_stream.specs.own.Bundled.{ServesNot, ServesOne, ServesSoFar, cut, nothing_sent}
 use Rattle.gw_stream.specs.Counted.{nothing, with_one, IsTotal}
 use Rattle.gw_stream.specs.Posts.{Known, Sends, SendsSome}
-use Rattle.gw_stream.specs.Reading.{ReadUpTo, ReadsTooOften}
+use Rattle.gw_stream.specs.Reading.{ReadsTooOften}
 use Rattle.gw_stream.specs.Served.{AreServings, IsServing, Serving, ServesAll, ServesFirst, ServesUntil, all_posts, posts_of, with_servings}
 use Rattle.gw_stream.specs.Streams.{Ends}
 use Rattle.gw_stream.specs.Streams as streams
 use Rattle.gw_stream.specs.Walked.{EndsAt, Goes, Place, Stops, Walks}
 use Rattle.gw_stream.specs.Walked as walked
 use Rattle.gw_stream.proofs.Posting.{sends_none, sends_join, some_behind}
-use Rattle.gw_stream.proofs.Walking.{stops_turns, walk_few, walk_first, within_here}
+use Rattle.gw_stream.proofs.Walking.{stops_turns, walk_few, walk_first}
 
 -- ---- counts
 
@@ -169,6 +169,3 @@ module _ (plan : PlanValue) (stamp : List ℕ) (left : Option (List ℕ)) (reads
   pub serves_turns : (here there : Place) (k0 k : Known) (c : Counts) (fault : RunFault) → ServesSoFar plan stamp left reads here k0 k c
       → Stops here there fault → fault ≡ Turns → ReadsTooOften left reads there.reads
   serves_turns here there k0 k c fault p stops is = stops_turns left reads here there p.given fault p.walks stops is
-
-  pub serves_most : (here : Place) (k0 k : Known) (c : Counts) (now : ℕ) → ServesSoFar plan stamp left reads here k0 k c → now ≡ here.reads → ReadUpTo 1000000 reads now
-  serves_most here k0 k c now p same = within_here here now same left reads p.given p.walks
