@@ -8,6 +8,8 @@ mod contents;
 #[cfg(test)]
 mod desks;
 #[cfg(test)]
+mod plans;
+#[cfg(test)]
 mod sweeps;
 #[cfg(test)]
 mod texts;
