@@ -1,7 +1,6 @@
 //! What threads wait for at a gate behind its lock.
-use crate::routes::receiver_count;
 use gw_crew::{Note, Phase};
-use gw_gate::{Event, Reply};
+use gw_gate::{Event, Reply, receiver_count};
 
 // How many conditions there are for those who wait for results: the receivers whose numbers leave the same rest share one.
 pub(crate) const ROW: usize = 16;
@@ -9,7 +8,7 @@ pub(crate) const ROW: usize = 16;
 // What a step is to those who wait.
 #[derive(Clone, Copy)]
 pub(crate) enum News {
-    // So many pairs were issued.
+    // This many pairs were issued.
     Issued(usize),
     Taken,
     // Every pair was taken.

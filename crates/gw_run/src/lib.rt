@@ -19,7 +19,6 @@ mod past;
 mod plans;
 mod queue;
 mod report;
-mod routes;
 mod settling;
 mod turns;
 

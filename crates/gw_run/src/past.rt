@@ -4,8 +4,7 @@ ghost use Rattle.std.specs.Option.{option_map};
 ghost use Rattle.std.specs.Arc.{arc_value};
 ghost use Rattle.gw_gate.specs.own.Books.{journal_of};
 ghost use Rattle.gw_gate.specs.Journal.{Journal};
-ghost use Rattle.gw_gate.specs.Parts.{is_under};
-ghost use Rattle.gw_gate.specs.Seen.{plan_seen, conforming_seen};
+ghost use Rattle.gw_gate.specs.Seen.{plan_seen};
 ghost use Rattle.gw_crew.specs.Notes.{Looked, WasStale, WasFull, WasIdle, WasNothing};
 ghost use Rattle.gw_crew.specs.Seen.{note_seen};
 ghost use Rattle.gw_run.specs.own.Joins.{IsFirstIn, of_receiver, plans_at};
@@ -15,7 +14,7 @@ use crate::gathering::{plans_in, swaps_in};
 use crate::owed::nothing_in;
 use crate::queue::idle_in;
 use crate::turns::{first_even, first_with};
-use gw_gate::{Entry, MOST, Start};
+use gw_gate::{Entry, MOST, Start, is_under};
 use gw_plan::{Conforming, Plan};
 use std::alloc::{AllocError, Global};
 use std::sync::Arc;
@@ -49,13 +48,6 @@ fn of_receiver(nothing: &[Vec<usize>], receiver: usize) -> &[usize]
         Some(ats) => ats.as_slice(),
         None => &[],
     }
-}
-
-// Whether the message was admitted under this version, by a plan of this one's text.
-fn is_under(conforming: &Conforming, version: u64, plan: &Plan) -> bool
-    ensures { result ≡ is_under (conforming_seen conforming.now) version (plan_seen plan.now) }
-{
-    conforming.under(version, plan)
 }
 
 // Whether the plans have the same text.

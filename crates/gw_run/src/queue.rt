@@ -5,9 +5,8 @@ ghost use Rattle.gw_gate.specs.Journal.{issued, jobs};
 ghost use Rattle.gw_run.specs.Owing.{AreLawful, waits_none};
 ghost use Rattle.gw_run.specs.Turns.{TurnsAt};
 
-use crate::routes::receiver_count;
 use crate::turns::turn_to;
-use gw_gate::Entry;
+use gw_gate::{Entry, receiver_count};
 use std::alloc::{AllocError, Global};
 
 // How many pairs an entry issues.
