@@ -7,6 +7,7 @@ use Rattle.std.specs.declared.sync.ledger.Ledger as ledger
 use Rattle.std.proofs.sync.ledger.Share.TheSendSync as share
 use Rattle.std.specs.contracts.net.SocketAddr as SocketAddr
 use Rattle.std.specs.contracts.net.TcpStream as TcpStream
+use Rattle.gw_ack.proofs.stamp.Stamp.TheSendSync as stamp
 use Rattle.gw_gate.proofs.Crossing.{Chapter-send}
 use Rattle.gw_run.proofs.Crossing.{LockedGate-sync, Receipts-send}
 use Rattle.hl7gate.specs.contracts.outcome.Outcome as Outcome
@@ -21,8 +22,8 @@ Tickets-send L g = search (share.the_send, crosses, sendable) depth 60 fits 5000
 Outcome-send : IsSend (Outcome.the_field).row
 Outcome-send = search (crosses, sendable) depth 60 fits 50000
 
-pub Service-sync : (a : NamedLft) (L R C : RattleType) (g : ledger.Ghosts L.Denot) → IsSync R → IsSync C → IsSync (Service.the_field a L R C g).row
-Service-sync a L R C g s c = search (LockedGate-sync, Receipts-send, Chapter-send, Tickets-send, Outcome-send, s, c, crosses, sendable) depth 60 fits 50000
+pub Service-sync : (a : NamedLft) (L R : RattleType) (g : ledger.Ghosts L.Denot) → IsSync R → IsSync (Service.the_field a L R g).row
+Service-sync a L R g s = search (LockedGate-sync, Receipts-send, Chapter-send, Tickets-send, Outcome-send, stamp.the_sync, s, crosses, sendable) depth 60 fits 50000
 
 Stream-send : IsSend (TcpStream.the_field).row
 Stream-send = search (crosses, sendable) depth 60 fits 50000

@@ -3,7 +3,7 @@ ghost use Rattle.std.specs.Thread.{IsSend, IsSync};
 
 use crate::swaps::swap_all;
 use crate::threads::{Connection, Line, Service};
-use gw_run::{Clock as Stamps, Phase};
+use gw_run::Phase;
 use gw_stream::RunFault;
 use std::fs::File;
 use std::io::{Eprint, Print, Read};
@@ -26,8 +26,8 @@ pub(crate) struct Sizes {
 }
 
 /// The connection of this number. One that can't be taken is a session that ended, and the next isn't tried at once.
-fn take<L: Ledger, R: Wait + Clock + Eprint + AllocGlobal, C: Stamps + Copy>(
-    service: &Service<'_, L, R, C>,
+fn take<L: Ledger, R: Wait + Clock + Eprint + AllocGlobal>(
+    service: &Service<'_, L, R>,
     listener: &TcpListener,
     number: u64,
 ) -> Option<Connection> {
@@ -46,21 +46,21 @@ fn take<L: Ledger, R: Wait + Clock + Eprint + AllocGlobal, C: Stamps + Copy>(
 }
 
 /// Takes so many connections, a thread each, and waits for their end. One whose thread can't be started is attended to here.
-fn take_sessions<
-    L: Ledger + Send,
-    R: Threads + Wait + Clock + Eprint + AllocGlobal + Sync,
-    C: Stamps + Copy + Sync,
->(service: &Service<'_, L, R, C>, listener: TcpListener, sessions: u64) {
+fn take_sessions<L: Ledger + Send, R: Threads + Wait + Clock + Eprint + AllocGlobal + Sync>(
+    service: &Service<'_, L, R>,
+    listener: TcpListener,
+    sessions: u64,
+) {
     thread::scope(
         thread::scope_env(),
         service.rt,
         |scope|
-            requires { IsSend L.row × IsSync R.row × IsSync C.row }
+            requires { IsSend L.row × IsSync R.row }
         {
             for taken in 0..sessions {
                 if let Some(connection) = take(service, &listener, taken + 1) {
                     let attend = move ||
-                        requires { IsSend L.row × IsSync R.row × IsSync C.row }
+                        requires { IsSend L.row × IsSync R.row }
                     { service.attend(connection) };
                     if let Err(refused) = scope.spawn(attend) {
                         (refused.value)()
@@ -75,21 +75,21 @@ fn take_sessions<
 }
 
 /// Has workers work, a thread each, while connections are taken, and waits for their end.
-fn with_workers<
-    L: Ledger + Send,
-    R: Threads + Wait + Clock + Eprint + AllocGlobal + Sync,
-    C: Stamps + Copy + Sync,
->(service: &Service<'_, L, R, C>, listener: TcpListener, sizes: Sizes) {
+fn with_workers<L: Ledger + Send, R: Threads + Wait + Clock + Eprint + AllocGlobal + Sync>(
+    service: &Service<'_, L, R>,
+    listener: TcpListener,
+    sizes: Sizes,
+) {
     thread::scope(
         thread::scope_env(),
         service.rt,
         |scope|
-            requires { IsSend L.row × IsSync R.row × IsSync C.row }
+            requires { IsSend L.row × IsSync R.row }
         {
             for started in 0..sizes.workers {
                 let number = started + 1;
                 let work = move ||
-                    requires { IsSend L.row × IsSync R.row × IsSync C.row }
+                    requires { IsSend L.row × IsSync R.row }
                 { service.work(number) };
                 if scope.spawn(work).is_err() {
                     service.give_up();
@@ -110,9 +110,8 @@ pub(crate) fn with_couriers<
     R: Threads + Wait + Clock + Files<File = File, Dir = D> + Print + Eprint + AllocGlobal + Sync,
     D: Read + Drop + Send + Sync,
     I: Read + Drop + Send,
-    C: Stamps + Copy + Sync,
 >(
-    service: &Service<'_, L, R, C>,
+    service: &Service<'_, L, R>,
     paths: I,
     lines: Vec<Line<'_>>,
     listener: TcpListener,
@@ -122,10 +121,10 @@ pub(crate) fn with_couriers<
         thread::scope_env(),
         service.rt,
         |scope|
-            requires { IsSend L.row × IsSync R.row × IsSync C.row × IsSend I.row × IsSend D.row × IsSync D.row }
+            requires { IsSend L.row × IsSync R.row × IsSend I.row × IsSend D.row × IsSync D.row }
         {
             let swap = move ||
-                requires { IsSend L.row × IsSync R.row × IsSync C.row × IsSend I.row × IsSend D.row × IsSync D.row }
+                requires { IsSend L.row × IsSync R.row × IsSend I.row × IsSend D.row × IsSync D.row }
             { swap_all(service, paths) };
             if scope.spawn(swap).is_err() {
                 service.give_up();
@@ -133,7 +132,7 @@ pub(crate) fn with_couriers<
             }
             for line in lines {
                 let carry = move ||
-                    requires { IsSend L.row × IsSync R.row × IsSync C.row }
+                    requires { IsSend L.row × IsSync R.row }
                 { service.carry(line) };
                 if scope.spawn(carry).is_err() {
                     service.give_up();

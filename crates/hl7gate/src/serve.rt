@@ -6,13 +6,12 @@ use crate::ended::Ended;
 use crate::hands::{Sizes, with_couriers};
 use crate::plans::read_plan;
 use crate::report::{DONE, USAGE, tell, tell_fault, tell_if_full, tell_report, tell_words};
-use crate::stamps::{Utc, stamp_of};
+use crate::stamps::stamp_of;
 use crate::threads::{Line, PARTS, Served, Service};
 use clap::ArgMatches;
 use gw_ack::Stamp;
 use gw_gate::Gate;
 use gw_plan::{Plan, Receiver};
-use gw_run::Clock as Stamps;
 use gw_stream::RunFault;
 use std::alloc::AllocError;
 use std::fs::File;
@@ -80,8 +79,8 @@ fn connect_all<'p, R: Net<Stream = TcpStream, Listener = TcpListener> + Eprint +
     Ok(lines)
 }
 
-/// Serves with a ledger's blank, which is opened for the gate's book and the parts of its passes.
-fn serve_counted<
+/// Serves under a plan, and under those that are swapped in, until so many connections have ended and the paths too.
+fn serve_with<
     L: Ledger + Send,
     R: Net<Stream = TcpStream, Listener = TcpListener>
         + Threads
@@ -94,15 +93,14 @@ fn serve_counted<
         + Sync,
     D: Read + Drop + Send + Sync,
     I: Read + Drop + Send,
-    C: Stamps + Copy + Sync,
 >(
     rt: &R,
     blank: Blank,
     plan: &Arc<Plan>,
+    start: Stamp,
+    paths: I,
     listener: TcpListener,
     sizes: Sizes,
-    paths: I,
-    clock: C,
 ) -> Result<Served, RunFault>
     requires name { blank.name ≡ L.name }
     requires parts { blank.parts ≡ L.parts }
@@ -112,37 +110,10 @@ fn serve_counted<
     let Ok(gate) = Gate::begin(rt.alloc(), Arc::clone(plan)?) else {
         return Err(RunFault::Memory);
     };
-    let service = Service::new(rt, clock, gate, book, share);
+    let service = Service::new(rt, start, gate, book, share);
     let lines = connect_all(rt, plan)?;
     with_couriers(&service, paths, lines, listener, sizes);
     service.end()
-}
-
-/// Serves under a plan, and under those that are swapped in, until this number of connections have ended and the paths too. Answers have
-/// the stamps of the clock, of which each session has a copy.
-fn serve_with<
-    R: Net<Stream = TcpStream, Listener = TcpListener>
-        + Threads
-        + Wait
-        + Clock
-        + Files<File = File, Dir = D>
-        + Print
-        + Eprint
-        + AllocGlobal
-        + Sync,
-    D: Read + Drop + Send + Sync,
-    I: Read + Drop + Send,
-    C: Stamps + Copy + Sync,
->(
-    rt: &R,
-    plan: &Arc<Plan>,
-    listener: TcpListener,
-    sizes: Sizes,
-    paths: I,
-    clock: C,
-) -> Result<Served, RunFault> {
-    let blank = Blank::new(PARTS);
-    serve_counted::<Brand, _, _, _, _>(rt, blank, plan, listener, sizes, paths, clock)
 }
 
 /// The listener at the address ADDRESS.
@@ -158,31 +129,6 @@ fn listen<'a, R: Net<Stream = TcpStream, Listener = TcpListener> + Eprint>(
         let _ = eprintln!(rt; "listening on {at}");
     }
     Ok(listener)
-}
-
-/// Serves under a plan, by the system's clock in UTC: the stamp that is given is that of answers where it gives no time.
-fn serve_in_utc<
-    R: Net<Stream = TcpStream, Listener = TcpListener>
-        + Threads
-        + Wait
-        + Clock
-        + Files<File = File, Dir = D>
-        + Print
-        + Eprint
-        + AllocGlobal
-        + Sync,
-    D: Read + Drop + Send + Sync,
-    I: Read + Drop + Send,
->(
-    rt: &R,
-    plan: &Arc<Plan>,
-    listener: TcpListener,
-    sizes: Sizes,
-    paths: I,
-    start: Stamp,
-) -> Result<Served, RunFault> {
-    let clock = Utc::new(rt, start);
-    serve_with(rt, plan, listener, sizes, paths, clock)
 }
 
 /// Serves under the plan of the file PLAN at ADDRESS, and tells what the gate did.
@@ -209,7 +155,8 @@ fn serve<
     };
     let plan = Arc::new(rt.alloc(), read_plan(rt, words)?)?;
     let listener = listen(rt, words)?;
-    let served = serve_in_utc(rt, &plan, listener, sizes, paths, start)?;
+    let blank = Blank::new(PARTS);
+    let served = serve_with::<Brand, _, _, _>(rt, blank, &plan, start, paths, listener, sizes)?;
     Ok(served)
 }
 

@@ -3,7 +3,6 @@ use gw_ack::Stamp;
 use gw_civil::FromCivil;
 use jiff::Timestamp;
 use jiff::tz::Offset;
-use std::alloc::AllocError;
 use std::time::Clock;
 
 /// Now in UTC, or fourteen zeros where the clock gives no year from 0 to 9999.
@@ -24,21 +23,11 @@ pub(crate) fn stamp_of<R: Clock>(clock: &R, digits: Option<&str>) -> Option<Stam
 }
 
 /// The system's clock, in UTC: each answer has the time at which it is made.
+#[derive(Drop)]
 pub(crate) struct Utc<'a, R: Clock> {
     clock: &'a R,
     start: Stamp,
 }
-
-impl<R: Clock> Clone for Utc<'_, R> {
-    fn clone(&self) -> Result<Self, AllocError> {
-        Ok(Utc {
-            clock: self.clock,
-            start: self.start,
-        })
-    }
-}
-
-impl<R: Clock> Copy for Utc<'_, R> {}
 
 impl<'a, R: Clock> Utc<'a, R> {
     /// The clock, with the stamp that is given where it tells no time.

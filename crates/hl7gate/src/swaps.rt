@@ -5,7 +5,7 @@ use crate::files::read_text;
 use crate::plans::refused;
 use crate::report::tell;
 use crate::threads::Service;
-use gw_run::{Clock, SwapFault, swap};
+use gw_run::{SwapFault, swap};
 use gw_stream::RunFault;
 use std::alloc::AllocError;
 use std::io::{BufRead, BufReader, Eprint, ErrorKind, Print, Read};
@@ -69,24 +69,20 @@ fn tell_unswapped<R: Eprint + AllocGlobal>(rt: &R, path: &str, why: &Unswapped<'
 }
 
 /// Takes each of these lines in order, up to their end: `cut` closes the journal, and any other is the path of a plan to be swapped in. Where they can't be read on, standard error says so.
-pub(crate) fn swap_all<
-    L: Ledger,
-    R: Wait + Files + Print + Eprint + AllocGlobal,
-    I: Read + Drop,
-    C: Clock + Copy,
->(service: &Service<'_, L, R, C>, paths: I) {
+pub(crate) fn swap_all<L: Ledger, R: Wait + Files + Print + Eprint + AllocGlobal, I: Read + Drop>(
+    service: &Service<'_, L, R>,
+    paths: I,
+) {
     if let Err(fault) = swap_lines(service, paths) {
         let _ = eprintln!(service.rt; "swaps ended: fault {}: {fault}", fault.number());
         service.fail(fault);
     }
 }
 
-fn swap_lines<
-    L: Ledger,
-    R: Wait + Files + Print + Eprint + AllocGlobal,
-    I: Read + Drop,
-    C: Clock + Copy,
->(service: &Service<'_, L, R, C>, paths: I) -> Result<(), RunFault> {
+fn swap_lines<L: Ledger, R: Wait + Files + Print + Eprint + AllocGlobal, I: Read + Drop>(
+    service: &Service<'_, L, R>,
+    paths: I,
+) -> Result<(), RunFault> {
     let Some(mut door) = service.door(Who::Swaps) else {
         return Err(RunFault::Memory);
     };
@@ -95,13 +91,8 @@ fn swap_lines<
     read
 }
 
-fn swap_with<
-    L: Ledger,
-    R: Wait + Files + Print + Eprint + AllocGlobal,
-    I: Read + Drop,
-    C: Clock + Copy,
->(
-    service: &Service<'_, L, R, C>,
+fn swap_with<L: Ledger, R: Wait + Files + Print + Eprint + AllocGlobal, I: Read + Drop>(
+    service: &Service<'_, L, R>,
     door: &mut Reporter<'_, '_, L, R>,
     paths: I,
 ) -> Result<(), RunFault> {
@@ -148,8 +139,8 @@ fn swap_one<L: Ledger, R: Wait + Files + Print + Eprint + AllocGlobal>(
 }
 
 /// Closes the gate's journal, and prints how many entries the chapter has, or why it isn't closed.
-fn cut_one<L: Ledger, R: Wait + Print + Eprint + AllocGlobal, C: Clock + Copy>(
-    service: &Service<'_, L, R, C>,
+fn cut_one<L: Ledger, R: Wait + Print + Eprint + AllocGlobal>(
+    service: &Service<'_, L, R>,
     door: &mut Reporter<'_, '_, L, R>,
 ) {
     let rt = service.rt;

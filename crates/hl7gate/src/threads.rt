@@ -4,11 +4,11 @@ ghost use Rattle.std.specs.Prelude.{◌≡◌, ◌<◌, ◌^◌};
 use crate::doors::{Reporter, Who};
 use crate::heard::{Heard, Unacknowledged, sent_in};
 use crate::outcome::Outcome;
+use crate::stamps::Utc;
 use crate::tickets::Tickets;
+use gw_ack::Stamp;
 use gw_gate::{Chapter, Event, Gate, MOST};
-use gw_run::{
-    Clock, Door, LockedGate, Pause, Phase, Receipts, Report, courier, cut, join_all, worker,
-};
+use gw_run::{Door, LockedGate, Pause, Phase, Receipts, Report, courier, cut, join_all, worker};
 use gw_session::session;
 use gw_stream::{Counts, Reads, RunFault, Sink, Writes};
 use std::alloc::AllocError;
@@ -16,16 +16,16 @@ use std::io::Eprint;
 use std::net::{SocketAddr, TcpStream};
 use std::sync::ledger::{Book, Ledger, Share};
 use std::sync::{Mutex, Wait};
+use std::time::Clock;
 
 /// How many threads may step the gate of a service: more than 1,000 sessions, 1,000 workers and the receivers of any plan.
 pub(crate) const PARTS: u64 = 1_000_000;
 
-/// What the threads of a service share: its clock, its gate behind the lock, the parts of the ledger, what ended passes leave, the chapters
-/// that were closed, and what went wrong.
+/// What the threads of a service share: its gate behind the lock, the parts of the ledger, what ended passes leave, the chapters that were closed, and what went wrong.
 #[derive(Drop)]
-pub(crate) struct Service<'a, L: Ledger, R: Wait, C: Clock + Copy> {
+pub(crate) struct Service<'a, L: Ledger, R: Wait> {
     pub(crate) rt: &'a R,
-    clock: C,
+    start: Stamp,
     gate: LockedGate<L>,
     tickets: Mutex<Tickets<L>>,
     receipts: Mutex<Vec<Receipts<L>>>,
@@ -74,18 +74,18 @@ impl Pause for Onward {
     }
 }
 
-impl<'a, L: Ledger, R: Wait + Eprint + AllocGlobal, C: Clock + Copy> Service<'a, L, R, C> {
+impl<'a, L: Ledger, R: Wait + Eprint + AllocGlobal> Service<'a, L, R> {
     ghost use Rattle.std.specs.Prelude.{◌≡◌, ◌<◌, IfSome};
 
     /// A service at this gate, whose ledger has these parts.
-    pub(crate) fn new(rt: &'a R, clock: C, gate: Gate, book: Book<L>, share: Share<L>) -> Self
+    pub(crate) fn new(rt: &'a R, start: Stamp, gate: Gate, book: Book<L>, share: Share<L>) -> Self
         requires total { book.total ≡ 0 }
         requires parts { share.parts ≡ 1000000 }
         requires unused { share.amount ≡ 0 }
     {
         Service {
             rt,
-            clock,
+            start,
             gate: LockedGate::new(gate, book),
             tickets: Mutex::new(Tickets::new(share, PARTS)),
             receipts: Mutex::new(Vec::new(rt.alloc())),
@@ -198,7 +198,7 @@ impl<'a, L: Ledger, R: Wait + Eprint + AllocGlobal, C: Clock + Copy> Service<'a,
     }
 }
 
-impl<L: Ledger, R: Wait + AllocGlobal + Eprint, C: Clock + Copy> Service<'_, L, R, C> {
+impl<L: Ledger, R: Wait + AllocGlobal + Clock + Eprint> Service<'_, L, R> {
     /// Answers the messages of a connection, up to its end.
     pub(crate) fn attend(&self, connection: Connection) {
         let Connection {
@@ -235,7 +235,7 @@ impl<L: Ledger, R: Wait + AllocGlobal + Eprint, C: Clock + Copy> Service<'_, L, 
         let Some(mut door) = self.door(Who::Session(number)) else {
             return Err(RunFault::Memory);
         };
-        let mut clock = self.clock;
+        let mut clock = Utc::new(self.rt, self.start);
         let mut reader = Reads::new(stream);
         let mut writer = Writes::new(stream);
         let answered = session(

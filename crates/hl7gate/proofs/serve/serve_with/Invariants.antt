@@ -1,4 +1,0 @@
-use Rattle.hl7gate.proofs.serve.serve_with.Given as goal
-
-abbrev pub ghosts-serve_counted : goal.ghosts-serve_counted
-ghosts-serve_counted g a = record { name = a.blank.name; parts = a.blank.parts }
