@@ -1,18 +1,15 @@
 //! A worker, a courier and a cut over one gate.
-use crate::gates::{OUT_OF_ORDER, begun, event, plan};
+use crate::gates::{OUT_OF_ORDER, begun, event, made, plan};
 use crate::locked::replies;
-use crate::streams::Device;
-use crate::worked::{admitted, archive};
+use crate::streams::{Device, Ran};
+use crate::worked::{ARRIVED, admitted, archive};
 use gw_crew::{Door, Note, Pause, Phase, Solo, courier, cut, worker};
-use gw_gate::{Event, Reply};
+use gw_gate::{Entry, Event, Reply};
 use gw_plan::Plan;
 use gw_stream::{Counts, Reads, RunFault, Writes};
 use std::alloc::Global;
 use std::sync::Arc;
 use std::test::Fail;
-
-const MESSAGE: &[u8] =
-    b"MSH|^~\\&|LAB|H1|GW|H2|20240102030405||ADT^A01^ADT_A01|7|P|2.5.1\rPID|||123|||||F\r";
 
 /// What the receiver is sent.
 const SENT: &[u8] = b"\x0bMSH|^~\\&||||||||7\rPID||||||||2\r\x1c\r";
@@ -59,7 +56,7 @@ fn arrived(alloc: Global, count: u64) -> Result<Solo, Fail> {
     let plan = Arc::new(alloc, archive(alloc)?)?;
     let mut door = door_of(alloc, &plan)?;
     for n in 0..count {
-        let event = Event::Arrive(admitted(alloc, &plan, 0, MESSAGE)?);
+        let event = Event::Arrive(admitted(alloc, &plan, 0, ARRIVED)?);
         if !replies(&mut door, event, ("Accepted", n)) {
             return Err("it isn't accepted".into());
         }
@@ -127,19 +124,18 @@ fn work(alloc: Global, door: &mut Solo, left: u64) -> Result<Counts, Fail> {
     }
 }
 
-// What a courier does whose devices fail after so many calls, and how many bytes of the message's block it wrote.
-fn carry(
-    alloc: Global,
-    door: &mut Solo,
-    answers: &[u8],
-    reads: usize,
-    writes: usize,
-) -> (Result<Counts, RunFault>, Option<usize>) {
-    let mut reader = Reads::new(Device::new(alloc, answers, 1, reads, 0));
+// What a courier does over these answers and a writer that fails after so many calls, and how many bytes of the message's block it wrote.
+fn carry(alloc: Global, door: &mut Solo, answers: Device<'_>, writes: usize) -> Ran {
+    let mut reader = Reads::new(answers);
     let mut output = Device::new(alloc, b"", 1, writes, 0);
     let mut writer = Writes::new(&mut output);
     let result = courier(alloc, door, 0, &mut reader, &mut writer);
     (result, output.holds(SENT))
+}
+
+// A line over which these answers come, byte by byte.
+fn answers<'a>(alloc: Global, bytes: &'a [u8]) -> Device<'a> {
+    Device::new(alloc, bytes, 1, 1_000, 0)
 }
 
 #[test]
@@ -147,10 +143,10 @@ fn a_message_is_worked_on_and_carried(rt: HostRuntime) -> Result<(), Fail> {
     let alloc = rt.alloc();
     let mut door = arrived(alloc, 1)?;
     assert_eq!(rt; work(alloc, &mut door, 9)?.put, 1);
-    let (result, held) = carry(alloc, &mut door, ACKED, 1_000, 1_000);
+    let (result, held) = carry(alloc, &mut door, answers(alloc, ACKED), 1_000);
     assert!(rt; result == Ok(CARRIED) && held == Some(SENT.len()));
     assert_eq!(rt; work(alloc, &mut door, 9)?, NOTHING);
-    let (result, held) = carry(alloc, &mut door, b"", 1_000, 1_000);
+    let (result, held) = carry(alloc, &mut door, answers(alloc, b""), 1_000);
     assert!(rt; result == Ok(NOTHING) && held == Some(0));
     assert_eq!(rt; (door.notes().len(), door.gate().journal().len()), (8, 4));
     Ok(())
@@ -211,12 +207,16 @@ fn a_worker_tells_its_job(rt: HostRuntime) -> Result<(), Fail> {
     Ok(())
 }
 
-// Whether a courier over such a line ends with its fault, and has written a beginning of the message's block.
-fn fails(alloc: Global, answers: &[u8], reads: usize, writes: usize) -> Result<bool, Fail> {
+// What a courier does over such a line at a gate that has kept what is sent of one message.
+fn carried(alloc: Global, answers: Device<'_>, writes: usize) -> Result<Ran, Fail> {
     let mut door = arrived(alloc, 1)?;
     let _counts = work(alloc, &mut door, 9)?;
-    let (result, held) = carry(alloc, &mut door, answers, reads, writes);
-    Ok(result == Err(RunFault::Line { n: 0 }) && held.is_some())
+    Ok(carry(alloc, &mut door, answers, writes))
+}
+
+/// What it does whose line ends at the first message, once it wrote so much of it.
+const fn ended(written: usize) -> Ran {
+    (Err(RunFault::Line { n: 0 }), Some(written))
 }
 
 /// Each device fails at each of its calls in turn; and what comes back ends early, is no message, or acknowledges another.
@@ -224,13 +224,74 @@ fn fails(alloc: Global, answers: &[u8], reads: usize, writes: usize) -> Result<b
 fn a_line_fails(rt: HostRuntime) -> Result<(), Fail> {
     let alloc = rt.alloc();
     for call in 0..ACKED.len() {
-        assert!(rt; fails(alloc, ACKED, call, 1_000)?, "read {call}");
+        let answers = Device::new(alloc, ACKED, 1, call, 0);
+        assert!(rt;
+            carried(alloc, answers, 1_000)? == ended(SENT.len()),
+            "read {call}"
+        );
     }
     for call in 0..SENT.len() {
-        assert!(rt; fails(alloc, ACKED, 1_000, call)?, "write {call}");
+        let answers = answers(alloc, ACKED);
+        assert!(rt;
+            carried(alloc, answers, call)? == ended(call),
+            "write {call}"
+        );
     }
-    for answers in [b"\x0bMSH".as_slice(), b"\x0bMSH\x1c\r", OTHER] {
-        assert!(rt; fails(alloc, answers, 1_000, 1_000)?);
+    for bytes in [b"\x0bMSH".as_slice(), b"\x0bMSH\x1c\r", OTHER] {
+        let answers = answers(alloc, bytes);
+        assert!(rt; carried(alloc, answers, 1_000)? == ended(SENT.len()));
     }
+    Ok(())
+}
+
+/// No acknowledgment comes, for ever.
+#[test]
+fn a_line_without_end(rt: HostRuntime) -> Result<(), Fail> {
+    let alloc = rt.alloc();
+    let (result, held) = carried(alloc, Device::endless(alloc, b""), 1_000)?;
+    assert!(rt; result == Err(RunFault::Turns) && held == Some(SENT.len()));
+    Ok(())
+}
+
+/// What a courier wrote that had no acknowledgment isn't sent again: the next one sends what follows.
+#[test]
+fn a_courier_follows_another(rt: HostRuntime) -> Result<(), Fail> {
+    let alloc = rt.alloc();
+    let mut door = arrived(alloc, 2)?;
+    assert_eq!(rt; work(alloc, &mut door, 9)?.put, 2);
+    let found = carry(alloc, &mut door, answers(alloc, b""), 1_000);
+    assert!(rt; found == ended(SENT.len()));
+    let (result, held) = carry(alloc, &mut door, answers(alloc, ACKED), 1_000);
+    assert!(rt; result == Ok(CARRIED) && held == Some(SENT.len()));
+    assert_eq!(rt; given_out(&door), (2, 1));
+    Ok(())
+}
+
+// How many results a gate has given out, and the sum of their numbers.
+fn given_out(door: &Solo) -> (u64, u64) {
+    let mut count: u64 = 0;
+    let mut sum: u64 = 0;
+    for entry in door.gate().journal() {
+        if let Entry::Out { n, .. } = entry {
+            count = count.saturating_add(1);
+            sum = sum.saturating_add(*n);
+        }
+    }
+    (count, sum)
+}
+
+/// A worker ends with a job in hand. Another one puts its result once the pair is issued again, and no one puts it twice.
+#[test]
+fn a_worker_follows_another(rt: HostRuntime) -> Result<(), Fail> {
+    let alloc = rt.alloc();
+    let plan = Arc::new(alloc, archive(alloc)?)?;
+    let mut door = arrived(alloc, 1)?;
+    assert_eq!(rt; work(alloc, &mut door, 0)?.put, 0);
+    let event = Event::Reissue { n: 0, receiver: 0 };
+    assert!(rt; replies(&mut door, event, ("Issued", 0)));
+    assert_eq!(rt; work(alloc, &mut door, 9)?.put, 1);
+    let translated = made(alloc, &admitted(alloc, &plan, 0, ARRIVED)?)?;
+    let event = Event::Put { n: 0, translated };
+    assert!(rt; replies(&mut door, event, ("Repeat", 0)));
     Ok(())
 }

@@ -35,7 +35,7 @@ pub(crate) fn admitted(
 }
 
 // What its receiver is sent.
-fn made(alloc: Global, conforming: &Arc<Conforming>) -> Result<Arc<Translated>, Fail> {
+pub(crate) fn made(alloc: Global, conforming: &Arc<Conforming>) -> Result<Arc<Translated>, Fail> {
     if !conforming.goes_to(0) {
         return Err("no receiver".into());
     }

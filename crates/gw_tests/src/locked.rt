@@ -4,7 +4,7 @@ ghost use Rattle.std.specs.Prelude.{◌≡◌};
 use crate::gates::{CUT, HISTORIES, History, Step, begun, event, plan, said};
 use gw_gate::{Chapter, Event, Gate, Reply};
 use gw_plan::Plan;
-use gw_run::{Door, LockedGate, Pass, Report, RunFault, join_all};
+use gw_run::{Door, LockedGate, Pass, Phase, Report, RunFault, join_all};
 use std::alloc::Global;
 use std::marker::Brand;
 use std::sync::ledger::{Blank, Ledger};
@@ -138,5 +138,81 @@ fn what_is_lost_is_missed(rt: HostRuntime) -> Result<(), Fail> {
         let joined = through_one::<Brand, _>(&rt, gate, Blank::new(1), plans, &CUT, lost)?;
         assert_eq!(rt; joined, Err(RunFault::Unsettled));
     }
+    Ok(())
+}
+
+// How many entries a locked gate had before.
+fn since_of<L: Ledger>(gate: Gate, blank: Blank) -> usize
+    requires name { blank.name ≡ L.name }
+    requires parts { blank.parts ≡ L.parts }
+{
+    let (book, _all) = blank.open::<L>();
+    LockedGate::new(gate, book).into_counted().since()
+}
+
+#[test]
+fn entries_before_the_lock_are_counted(rt: HostRuntime) -> Result<(), Fail> {
+    let alloc = rt.alloc();
+    let plan = plan(alloc, "ONE")?;
+    let mut gate = begun(alloc, &plan)?;
+    for _entry in 0..3 {
+        if gate.step(Event::Refuse(207)).is_err() {
+            return Err("no memory".into());
+        }
+    }
+    assert_eq!(rt; since_of::<Brand>(gate, Blank::new(1)), 3);
+    Ok(())
+}
+
+/// What comes through a pass, what it replies, and what it answers where it waits then for what comes before this phase, which was reached.
+const WAITS: [(Step, (&str, u64), Phase, bool); 10] = [
+    (Step::Take, ("Idle", 0), Phase::NoArrivals, false),
+    (Step::Release, ("Nothing", 0), Phase::NoResults, false),
+    (Step::Arrive(0), ("Accepted", 0), Phase::NoArrivals, true),
+    (Step::Look, ("Current", 0), Phase::NoResults, false),
+    (Step::Take, ("Job", 0), Phase::NoArrivals, false),
+    (
+        Step::Put { n: 0, control: 0 },
+        ("Kept", 0),
+        Phase::NoResults,
+        true,
+    ),
+    (Step::Release, ("Out", 0), Phase::NoArrivals, false),
+    (Step::Release, ("Nothing", 0), Phase::NoResults, false),
+    (Step::Cut, ("Closed", 4), Phase::NoArrivals, false),
+    (Step::Arrive(1), ("Accepted", 1), Phase::NoArrivals, true),
+];
+
+// Whether a pass replies and answers so.
+fn waits_so<L: Ledger, R: Wait + AllocGlobal>(
+    rt: &R,
+    gate: Gate,
+    blank: Blank,
+    plan: &Arc<Plan>,
+) -> Result<bool, Fail>
+    requires name { blank.name ≡ L.name }
+    requires parts { blank.parts ≡ L.parts }
+    requires one { blank.parts ≡ 1 }
+{
+    let alloc = rt.alloc();
+    let (book, all) = blank.open::<L>();
+    let gate = LockedGate::new(gate, book);
+    gate.close(rt, Phase::NoResults);
+    let mut pass = gate.pass(alloc, rt, all);
+    for (step, reply, phase, answer) in &WAITS {
+        let event = event(alloc, plan, plan, *step)?;
+        if !replies(&mut pass, event, *reply) || pass.wait(*phase) != *answer {
+            return Ok(false);
+        }
+    }
+    Ok(true)
+}
+
+#[test]
+fn a_pass_waits_only_for_what_it_may_act_on(rt: HostRuntime) -> Result<(), Fail> {
+    let alloc = rt.alloc();
+    let plan = plan(alloc, "ONE")?;
+    let gate = begun(alloc, &plan)?;
+    assert!(rt; waits_so::<Brand, _>(&rt, gate, Blank::new(1), &plan)?);
     Ok(())
 }

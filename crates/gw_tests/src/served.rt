@@ -1,5 +1,5 @@
 //! A stream served under a plan, over devices that give and take little, and fail.
-use crate::streams::Device;
+use crate::streams::{Device, Ran, written};
 use crate::worked;
 use gw_ack::Stamp;
 use gw_stream::{Counts, Reads, RunFault, Writes, serve_once};
@@ -26,6 +26,9 @@ const ANSWERS: &[u8] =
     \x0bMSH|^~\\&|||||20240102030406||ACK^^ACK|G3|P|2.5.1\rMSA|AR\rERR|||207^Application internal error^HL70357|E\r\x1c\r\
     \x0bMSH|^~\\&|GW|H2|LAB|H1|20240102030406||ACK^A01^ACK|G4|P|2.5.1\rMSA|AA|7\r\x1c\r\
     \x0bMSH|^~\\&|GW|H2|LAB|H1|20240102030406||ACK^A01^ACK|G5|P|2.5.1\rMSA|AE|7\rERR||PID^1^8|101^Required field missing^HL70357|E\r\x1c\r";
+
+/// Where each block of the stream ends, and its answer.
+const ENDS: [(usize, usize); 5] = [(81, 128), (164, 255), (167, 361), (250, 434), (327, 557)];
 
 /// What the archive is sent.
 const ARCHIVE: &[u8] = b"\x0bMSH|^~\\&||||||||7\rPID||||||||2\r\x1c\r";
@@ -117,8 +120,9 @@ fn reader_fails(rt: HostRuntime) -> Result<(), Fail> {
         } else {
             Err(RunFault::Read)
         };
-        let answers = served.answers.ok_or("other answers")?;
-        assert!(rt; served.result == want && served.archive == Some(sent(answers > FIRST.len())));
+        let answers = written(&ENDS, reads);
+        assert!(rt; served.result == want && served.answers == Some(answers));
+        assert!(rt; served.archive == Some(sent(answers > FIRST.len())));
     }
     Ok(())
 }
@@ -128,7 +132,7 @@ fn reader_fails(rt: HostRuntime) -> Result<(), Fail> {
 fn answers_fail(rt: HostRuntime) -> Result<(), Fail> {
     let alloc = rt.alloc();
     for writes in 0..ANSWERS.len() {
-        let input = Device::new(alloc, STREAM, 65_536, 1000, 0);
+        let input = Device::new(alloc, STREAM, 1, 1000, 0);
         let served = run(alloc, input, sink(alloc, 1, writes), sink(alloc, 1, 2000))?;
         assert!(rt; served.result == Err(RunFault::Write) && served.answers == Some(writes));
         assert!(rt; served.archive == Some(sent(writes >= FIRST.len())));
@@ -141,10 +145,21 @@ fn answers_fail(rt: HostRuntime) -> Result<(), Fail> {
 fn archive_fails(rt: HostRuntime) -> Result<(), Fail> {
     let alloc = rt.alloc();
     for writes in 0..ARCHIVE.len() {
-        let input = Device::new(alloc, STREAM, 65_536, 1000, 0);
+        let input = Device::new(alloc, STREAM, 1, 1000, 0);
         let served = run(alloc, input, sink(alloc, 1, 2000), sink(alloc, 1, writes))?;
         assert!(rt; served.result == Err(RunFault::Write) && served.answers == Some(FIRST.len()));
         assert!(rt; served.archive == Some(writes));
     }
+    Ok(())
+}
+
+/// A stream without another block has no end.
+#[test]
+fn a_stream_without_end(rt: HostRuntime) -> Result<(), Fail> {
+    let alloc = rt.alloc();
+    let input = Device::endless(alloc, STREAM);
+    let served = run(alloc, input, sink(alloc, 1, 2000), sink(alloc, 1, 2000))?;
+    assert!(rt; served.result == Err(RunFault::Turns));
+    assert!(rt; served.answers == Some(ANSWERS.len()) && served.archive == Some(ARCHIVE.len()));
     Ok(())
 }

@@ -1,8 +1,9 @@
 //! Sessions over one gate.
 use crate::crews::door;
-use crate::streams::Device;
+use crate::streams::{Device, Ran};
 use gw_ack::Stamp;
-use gw_crew::Solo;
+use gw_crew::{Door, Note, Receipt, Solo};
+use gw_gate::Entry;
 use gw_session::{FixedClock, session};
 use gw_stream::{Counts, Reads, RunFault, Writes};
 use std::alloc::Global;
@@ -12,45 +13,106 @@ use std::test::Fail;
 const STREAM: &[u8] =
     b"\x0bMSH|^~\\&|LAB|H1|GW|H2|20240102030405||ADT^A01^ADT_A01|7|P|2.5.1\rPID|||123|||||F\r\x1c\r";
 
+/// The block twice.
+const TWICE: &[u8] =
+    b"\x0bMSH|^~\\&|LAB|H1|GW|H2|20240102030405||ADT^A01^ADT_A01|7|P|2.5.1\rPID|||123|||||F\r\x1c\r\
+    \x0bMSH|^~\\&|LAB|H1|GW|H2|20240102030405||ADT^A01^ADT_A01|7|P|2.5.1\rPID|||123|||||F\r\x1c\r";
+
 const ACCEPTED: &[u8] =
     b"\x0bMSH|^~\\&|GW|H2|LAB|H1|20240102030406||ACK^A01^ACK|G1|P|2.5.1\rMSA|AA|7\r\x1c\r";
 
-// What a session over the stream does whose devices fail after this many calls, and how many bytes of the answer it wrote.
-fn run(
-    alloc: Global,
-    door: &mut Solo,
-    reads: usize,
-    writes: usize,
-) -> (Result<Counts, RunFault>, Option<usize>) {
-    let Some(stamp) = Stamp::from_digits(b"20240102030406") else {
-        return (Err(RunFault::Unsettled), None);
-    };
+// What a session does over a reader and a writer that fails after this many calls, and how many bytes of the answer it wrote.
+fn over(alloc: Global, door: &mut Solo, input: Device<'_>, writes: usize) -> Result<Ran, Fail> {
+    let stamp = Stamp::from_digits(b"20240102030406").ok_or("a stamp")?;
     let mut clock = FixedClock::new(stamp);
-    let mut reader = Reads::new(Device::new(alloc, STREAM, 1, reads, 0));
+    let mut reader = Reads::new(input);
     let mut output = Device::new(alloc, b"", 1, writes, 0);
     let mut writer = Writes::new(&mut output);
     let result = session(alloc, door, &mut clock, &mut reader, &mut writer);
-    (result, output.holds(ACCEPTED))
+    Ok((result, output.holds(ACCEPTED)))
 }
 
-/// A device fails at each of its calls in turn.
-#[test]
-fn a_device_fails(rt: HostRuntime) -> Result<(), Fail> {
-    let alloc = rt.alloc();
-    let rows = [
-        (STREAM.len() + 1, RunFault::Read),
-        (ACCEPTED.len(), RunFault::Write),
-    ];
-    for (calls, fault) in rows {
-        for call in 0..calls {
-            let mut door = door(alloc)?;
-            let (reads, writes) = match fault {
-                RunFault::Read => (call, 1_000),
-                _ => (1_000, call),
-            };
-            let (result, held) = run(alloc, &mut door, reads, writes);
-            assert!(rt; result == Err(fault) && held.is_some());
+/// How many messages were accepted, by what a door notes.
+pub(crate) fn count_accepted(door: &Solo) -> usize {
+    let mut count: usize = 0;
+    for note in door.notes() {
+        if let Note::Added(
+            Receipt {
+                at: _,
+                entry: Entry::Accepted { .. },
+            },
+        ) = note
+        {
+            count = count.saturating_add(1);
         }
     }
+    count
+}
+
+/// A read fails in turn: all is written of what was read, and nothing else is accepted.
+#[test]
+fn reader_fails(rt: HostRuntime) -> Result<(), Fail> {
+    let alloc = rt.alloc();
+    for reads in 0..STREAM.len() + 1 {
+        let mut door = door(alloc)?;
+        let input = Device::new(alloc, STREAM, 1, reads, 0);
+        let (result, held) = over(alloc, &mut door, input, 1_000)?;
+        let (len, count) = if reads < STREAM.len() {
+            (0, 0)
+        } else {
+            (ACCEPTED.len(), 1)
+        };
+        assert!(rt; result == Err(RunFault::Read) && held == Some(len));
+        assert_eq!(rt; count_accepted(&door), count);
+    }
+    Ok(())
+}
+
+/// A write fails in turn: what was accepted stays so.
+#[test]
+fn writer_fails(rt: HostRuntime) -> Result<(), Fail> {
+    let alloc = rt.alloc();
+    for writes in 0..ACCEPTED.len() {
+        let mut door = door(alloc)?;
+        let input = Device::new(alloc, STREAM, 1, 1_000, 0);
+        let (result, held) = over(alloc, &mut door, input, writes)?;
+        assert!(rt; result == Err(RunFault::Write) && held == Some(writes));
+        assert_eq!(rt; count_accepted(&door), 1);
+    }
+    Ok(())
+}
+
+/// The writer takes the first answer and fails: both messages were accepted, each after a look at the plan.
+#[test]
+fn the_second_answer_fails(rt: HostRuntime) -> Result<(), Fail> {
+    let alloc = rt.alloc();
+    let mut door = door(alloc)?;
+    let input = Device::new(alloc, TWICE, 1, 1_000, 0);
+    let (result, held) = over(alloc, &mut door, input, ACCEPTED.len())?;
+    assert!(rt; result == Err(RunFault::Write) && held == Some(ACCEPTED.len()));
+    assert_eq!(rt;
+        (door.gate().journal().len(), count_accepted(&door)),
+        (2, 2)
+    );
+    let [
+        Note::Look(0, _),
+        Note::Added(_),
+        Note::Look(0, _),
+        Note::Added(_),
+    ] = door.notes()
+    else {
+        return Err("other notes".into());
+    };
+    Ok(())
+}
+
+/// A stream without another block has no end.
+#[test]
+fn a_stream_without_end(rt: HostRuntime) -> Result<(), Fail> {
+    let alloc = rt.alloc();
+    let mut door = door(alloc)?;
+    let input = Device::endless(alloc, STREAM);
+    let (result, held) = over(alloc, &mut door, input, 1_000)?;
+    assert!(rt; result == Err(RunFault::Turns) && held == Some(ACCEPTED.len()));
     Ok(())
 }

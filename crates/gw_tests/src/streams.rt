@@ -14,6 +14,20 @@ const STREAM: &[u8] =
 const ANSWERS: &[u8] =
     b"\x0bMSH|^~\\&|||LAB||20240102030406||ACK^^ACK|G1|P|2.5.1\rMSA|AA\r\x1c\r\x0bMSH|^~\\&|||LAB||20240102030406||ACK^^ACK|G2|P|2.5.1\rMSA|AE\rERR||PID^1|100^Segment sequence error^HL70357|E\r\x1c\r\x0bMSH|^~\\&|||||20240102030406||ACK^^ACK|G3|P|2.5.1\rMSA|AR\rERR|||207^Application internal error^HL70357|E\r\x1c\r";
 
+/// Where each block of the stream ends, and its answer.
+const ENDS: [(usize, usize); 3] = [(22, 62), (40, 172), (47, 278)];
+
+/// How many bytes are written once this many were read, where an answer ends so for each block that does.
+pub(crate) fn written(ends: &[(usize, usize)], reads: usize) -> usize {
+    let mut count = 0;
+    for (block, answer) in ends {
+        if *block <= reads {
+            count = *answer;
+        }
+    }
+    count
+}
+
 const COUNTS: Counts = Counts {
     answered: 3,
     put: 0,
@@ -24,9 +38,11 @@ const COUNTS: Counts = Counts {
 };
 
 /// Moves at most so many bytes a call, fails after so many calls, and is interrupted so often before each.
+/// Behind what it has it gives a CR a call for ever, if it is endless.
 #[derive(Drop)]
 pub(crate) struct Device<'a> {
     rest: &'a [u8],
+    is_endless: bool,
     held: Vec<u8>,
     most: usize,
     pub(crate) calls: usize,
@@ -44,12 +60,20 @@ impl<'a> Device<'a> {
     ) -> Device<'a> {
         Device {
             rest,
+            is_endless: false,
             held: Vec::new(alloc),
             most,
             calls,
             often,
             left: often,
         }
+    }
+
+    /// A reader that gives these bytes, one a call, and a CR for ever.
+    pub(crate) fn endless(alloc: Global, first: &'a [u8]) -> Device<'a> {
+        let mut device = Device::new(alloc, first, 1, 2_000_000, 0);
+        device.is_endless = true;
+        device
     }
 
     /// How many bytes of these it holds, if it holds a beginning of them.
@@ -78,6 +102,10 @@ impl<'a> Device<'a> {
 impl Read for Device<'_> {
     fn read(&mut self, buf: &mut [u8]) -> io::Result<usize> {
         self.begin()?;
+        if self.is_endless && self.rest.is_empty() && !buf.is_empty() {
+            buf[0] = b'\r';
+            return Ok(1);
+        }
         let count = self.rest.len().min(buf.len()).min(self.most);
         let (front, rest) = self.rest.split_at(count);
         buf[..count].copy_from_slice(front);
@@ -123,6 +151,9 @@ fn run(
     Ok((result, output.holds(ANSWERS), output.calls))
 }
 
+/// What a run answers, and how many bytes of what it writes its output has.
+pub(crate) type Ran = (Result<Counts, RunFault>, Option<usize>);
+
 #[test]
 fn reader_fails(rt: HostRuntime) -> Result<(), Fail> {
     let alloc = rt.alloc();
@@ -134,7 +165,7 @@ fn reader_fails(rt: HostRuntime) -> Result<(), Fail> {
         } else {
             Err(RunFault::Read)
         };
-        assert!(rt; result == want && held.is_some());
+        assert!(rt; result == want && held == Some(written(&ENDS, reads)));
     }
     Ok(())
 }
@@ -172,6 +203,26 @@ fn interrupted(rt: HostRuntime) -> Result<(), Fail> {
         let (result, held, _) = run(alloc, input, Device::new(alloc, b"", 1, 1000, writes))?;
         assert!(rt; result == want && held == Some(count));
     }
+    Ok(())
+}
+
+/// The answers to what one read brought go out in one write.
+#[test]
+fn answers_are_gathered(rt: HostRuntime) -> Result<(), Fail> {
+    let alloc = rt.alloc();
+    let input = Device::new(alloc, STREAM, 65_536, 1000, 0);
+    let (result, held, left) = run(alloc, input, Device::new(alloc, b"", 65_536, 1, 0))?;
+    assert!(rt; result == Ok(COUNTS) && held == Some(ANSWERS.len()) && left == 0);
+    Ok(())
+}
+
+/// A stream without another block has no end.
+#[test]
+fn a_stream_without_end(rt: HostRuntime) -> Result<(), Fail> {
+    let alloc = rt.alloc();
+    let input = Device::endless(alloc, STREAM);
+    let (result, held, _) = run(alloc, input, Device::new(alloc, b"", 1, 1000, 0))?;
+    assert!(rt; result == Err(RunFault::Turns) && held == Some(ANSWERS.len()));
     Ok(())
 }
 

@@ -23,6 +23,10 @@ pub fn profile(alloc: Global, text: &str) -> Result<Arc<Profile>, Fail> {
     Ok(shared)
 }
 
+/// A message for the plan.
+pub const ARRIVED: &[u8] =
+    b"MSH|^~\\&|LAB|H1|GW|H2|20240102030405||ADT^A01^ADT_A01|7|P|2.5.1\rPID|||123|||||F\r";
+
 /// A plan of one receiver, in the parts before its name and behind it.
 const PLAN: [&str; 2] = [
     "plan G\nreceiver ",
