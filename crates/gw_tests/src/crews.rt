@@ -12,10 +12,10 @@ use std::sync::Arc;
 use std::test::Fail;
 
 /// What the receiver is sent.
-const SENT: &[u8] = b"\x0bMSH|^~\\&||||||||7\rPID||||||||2\r\x1c\r";
+pub(crate) const SENT: &[u8] = b"\x0bMSH|^~\\&||||||||7\rPID||||||||2\r\x1c\r";
 
 /// Its acknowledgment, one of another message and one that is none.
-const ACKED: &[u8] =
+pub(crate) const ACKED: &[u8] =
     b"\x0bMSH|^~\\&|GW|H2|LAB|H1|20240102030406||ACK^A01^ACK|G1|P|2.5.1\rMSA|AA|7\r\x1c\r";
 
 const OTHER: &[u8] =
@@ -30,7 +30,7 @@ const NOTHING: Counts = Counts {
     ar: 0,
 };
 
-const CARRIED: Counts = Counts {
+pub(crate) const CARRIED: Counts = Counts {
     answered: 0,
     put: 0,
     sent: 1,
@@ -52,7 +52,7 @@ pub(crate) fn door(alloc: Global) -> Result<Solo, Fail> {
 }
 
 // A door at whose gate so many messages arrived.
-fn arrived(alloc: Global, count: u64) -> Result<Solo, Fail> {
+pub(crate) fn arrived(alloc: Global, count: u64) -> Result<Solo, Fail> {
     let plan = Arc::new(alloc, archive(alloc)?)?;
     let mut door = door_of(alloc, &plan)?;
     for n in 0..count {
@@ -91,9 +91,9 @@ impl Door for WithoutPut {
 
 /// A pause that ends its worker after so many jobs.
 #[derive(Drop)]
-struct After {
-    left: u64,
-    stopped: bool,
+pub(crate) struct After {
+    pub(crate) left: u64,
+    pub(crate) stopped: bool,
 }
 
 impl Pause for After {
@@ -113,7 +113,7 @@ impl Pause for After {
 }
 
 // What a worker does that may do so many jobs.
-fn work(alloc: Global, door: &mut Solo, left: u64) -> Result<Counts, Fail> {
+pub(crate) fn work(alloc: Global, door: &mut Solo, left: u64) -> Result<Counts, Fail> {
     let mut pause = After {
         left,
         stopped: false,

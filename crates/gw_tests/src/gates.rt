@@ -237,13 +237,13 @@ fn sent(alloc: Global, reply: Option<&Reply>) -> Result<Vec<u8>, Fail> {
     Ok(written)
 }
 
-// The events by which a gate is opened and a plan is swapped in over a message that was accepted.
-fn swapped(alloc: Global) -> Result<Vec<Event>, Fail> {
+// The events by which a gate is opened and a history goes on.
+pub(crate) fn opened(alloc: Global, history: &History) -> Result<Vec<Event>, Fail> {
     let first = plan(alloc, "ONE")?;
     let later = plan(alloc, "TWO")?;
     let mut events = Vec::new(alloc);
     events.push(Event::Swap(first.clone()?))?;
-    for (step, _) in SWAPPED.steps {
+    for (step, _) in history.steps {
         events.push(event(alloc, &first, &later, *step)?)?;
     }
     Ok(events)
@@ -252,7 +252,7 @@ fn swapped(alloc: Global) -> Result<Vec<Event>, Fail> {
 #[test]
 fn a_message_stays_under_its_plan(rt: HostRuntime) -> Result<(), Fail> {
     let alloc = rt.alloc();
-    let Ok((gate, replies)) = replay(alloc, swapped(alloc)?) else {
+    let Ok((gate, replies)) = replay(alloc, opened(alloc, &SWAPPED)?) else {
         return Err("it is no replay".into());
     };
     assert_eq!(rt; (gate.journal().len(), replies.len()), (5, 8));

@@ -24,6 +24,8 @@ mod messages;
 #[cfg(test)]
 mod profiles;
 #[cfg(test)]
+mod refusals;
+#[cfg(test)]
 mod served;
 #[cfg(test)]
 mod sessions;

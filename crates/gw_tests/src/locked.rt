@@ -2,6 +2,7 @@
 ghost use Rattle.std.specs.Prelude.{◌≡◌};
 
 use crate::gates::{CUT, HISTORIES, History, Step, begun, event, plan, said};
+use crate::refusals::{holds, refuse};
 use gw_gate::{Chapter, Event, Gate, Reply};
 use gw_plan::Plan;
 use gw_run::{Door, LockedGate, Pass, Phase, Report, RunFault, join_all};
@@ -64,14 +65,16 @@ fn replies_to_all<L: Ledger, R: Wait>(
 
 /// What is lost of what a pass leaves.
 #[derive(Clone, Copy, PartialEq, Eq)]
-enum Lost {
+pub(crate) enum Lost {
     Nothing,
     Receipts,
     Chapters,
+    /// The growth of this number, of those of `join_all`.
+    Growth(u32),
 }
 
 // What is reported of a gate to which one pass replies as is said, where this is lost in the end.
-fn through_one<L: Ledger, R: Wait + AllocGlobal>(
+pub(crate) fn through_one<L: Ledger, R: Wait + AllocGlobal>(
     rt: &R,
     gate: Gate,
     blank: Blank,
@@ -94,9 +97,28 @@ fn through_one<L: Ledger, R: Wait + AllocGlobal>(
         Lost::Nothing => {}
         Lost::Receipts => passes.clear(),
         Lost::Chapters => chapters.clear(),
+        Lost::Growth(growth) => refuse(alloc, growth),
     }
     let mut counted = gate.into_counted();
-    Ok(join_all(alloc, &mut counted, passes, chapters))
+    let joined = join_all(alloc, &mut counted, passes, chapters);
+    refuse(alloc, 0);
+    holds(
+        counted.since() == 0 && counted.gate().end() == history.counts[3],
+        "another gate",
+    )?;
+    Ok(joined)
+}
+
+// What is reported of it.
+pub(crate) fn report_of(history: &History) -> Report {
+    let [accepted, kept, released, entries] = history.counts;
+    Report {
+        accepted,
+        refused: 0,
+        kept,
+        released,
+        entries,
+    }
 }
 
 #[test]
@@ -105,14 +127,6 @@ fn one_pass_replies_as_its_gate(rt: HostRuntime) -> Result<(), Fail> {
     let first = plan(alloc, "ONE")?;
     let later = plan(alloc, "TWO")?;
     for history in &HISTORIES {
-        let [accepted, kept, released, entries] = history.counts;
-        let report = Report {
-            accepted,
-            refused: 0,
-            kept,
-            released,
-            entries,
-        };
         let gate = begun(alloc, &first)?;
         let plans = (&first, &later);
         let joined = through_one::<Brand, _>(
@@ -123,7 +137,7 @@ fn one_pass_replies_as_its_gate(rt: HostRuntime) -> Result<(), Fail> {
             history,
             Lost::Nothing,
         )?;
-        assert_eq!(rt; joined, Ok(report));
+        assert_eq!(rt; joined, Ok(report_of(history)));
     }
     Ok(())
 }

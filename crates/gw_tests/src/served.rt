@@ -1,4 +1,5 @@
 //! A stream served under a plan, over devices that give and take little, and fail.
+use crate::refusals::refuse;
 use crate::streams::{Device, Ran, written};
 use crate::worked;
 use gw_ack::Stamp;
@@ -42,9 +43,10 @@ const COUNTS: Counts = Counts {
     ar: 3,
 };
 
-/// What a run over these devices answers.
+/// What a run over these devices answers, of which the growth of this number is refused, if it isn't 0.
 fn answered(
     alloc: Global,
+    growth: u32,
     input: &mut Device<'_>,
     answers: &mut Device<'_>,
     archive: &mut Device<'_>,
@@ -58,7 +60,9 @@ fn answered(
     outs.push(Writes::new(archive))?;
     let mut reader = Reads::new(input);
     let mut writer = Writes::new(answers);
+    refuse(alloc, growth);
     let result = serve_once(alloc, plan, stamp, &mut reader, &mut writer, &mut outs);
+    refuse(alloc, 0);
     Ok(result)
 }
 
@@ -77,7 +81,7 @@ fn run(
     mut answers: Device<'_>,
     mut archive: Device<'_>,
 ) -> Result<Served, Fail> {
-    let result = answered(alloc, &mut input, &mut answers, &mut archive)?;
+    let result = answered(alloc, 0, &mut input, &mut answers, &mut archive)?;
     Ok(Served {
         result,
         answers: answers.holds(ANSWERS),
@@ -85,6 +89,20 @@ fn run(
         calls: (answers.calls, archive.calls),
     })
 }
+
+/// What a run answers of which this growth is refused, and how many bytes its two writers have: `WHOLE` where none is.
+pub(crate) fn run_refused(alloc: Global, growth: u32) -> Result<(Ran, Option<usize>), Fail> {
+    let mut input = Device::new(alloc, STREAM, 1, 1000, 0);
+    let mut answers = sink(alloc, 65_536, 1000).with_room(ANSWERS.len())?;
+    let mut archive = sink(alloc, 65_536, 1000).with_room(ARCHIVE.len())?;
+    let result = answered(alloc, growth, &mut input, &mut answers, &mut archive)?;
+    Ok(((result, answers.holds(ANSWERS)), archive.holds(ARCHIVE)))
+}
+
+pub(crate) const WHOLE: (Ran, Option<usize>) = (
+    (Ok(COUNTS), Some(ANSWERS.len())),
+    Some(ARCHIVE.len()),
+);
 
 /// A device that takes so many bytes a call, so often.
 fn sink<'a>(alloc: Global, most: usize, calls: usize) -> Device<'a> {

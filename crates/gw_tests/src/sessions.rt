@@ -1,5 +1,6 @@
 //! Sessions over one gate.
 use crate::crews::door;
+use crate::refusals::refuse;
 use crate::streams::{Device, Ran};
 use gw_ack::Stamp;
 use gw_crew::{Door, Note, Receipt, Solo};
@@ -22,15 +23,42 @@ const ACCEPTED: &[u8] =
     b"\x0bMSH|^~\\&|GW|H2|LAB|H1|20240102030406||ACK^A01^ACK|G1|P|2.5.1\rMSA|AA|7\r\x1c\r";
 
 // What a session does over a reader and a writer that fails after this many calls, and how many bytes of the answer it wrote.
-fn over(alloc: Global, door: &mut Solo, input: Device<'_>, writes: usize) -> Result<Ran, Fail> {
+// The growth of this number is refused, if it isn't 0.
+fn over(
+    alloc: Global,
+    door: &mut Solo,
+    growth: u32,
+    input: Device<'_>,
+    writes: usize,
+) -> Result<Ran, Fail> {
     let stamp = Stamp::from_digits(b"20240102030406").ok_or("a stamp")?;
     let mut clock = FixedClock::new(stamp);
     let mut reader = Reads::new(input);
-    let mut output = Device::new(alloc, b"", 1, writes, 0);
+    let mut output = Device::new(alloc, b"", 1, writes, 0).with_room(ACCEPTED.len())?;
     let mut writer = Writes::new(&mut output);
+    refuse(alloc, growth);
     let result = session(alloc, door, &mut clock, &mut reader, &mut writer);
+    refuse(alloc, 0);
     Ok((result, output.holds(ACCEPTED)))
 }
+
+// What a session does over the stream of which this growth is refused, if it isn't 0.
+pub(crate) fn run_refused(alloc: Global, door: &mut Solo, growth: u32) -> Result<Ran, Fail> {
+    let input = Device::new(alloc, STREAM, 1, 1_000, 0);
+    over(alloc, door, growth, input, 1_000)
+}
+
+/// What it does where nothing fails and no growth is refused.
+pub(crate) const WHOLE: Ran = (Ok(COUNTS), Some(ACCEPTED.len()));
+
+const COUNTS: Counts = Counts {
+    answered: 1,
+    put: 0,
+    sent: 0,
+    aa: 1,
+    ae: 0,
+    ar: 0,
+};
 
 /// How many messages were accepted, by what a door notes.
 pub(crate) fn count_accepted(door: &Solo) -> usize {
@@ -56,7 +84,7 @@ fn reader_fails(rt: HostRuntime) -> Result<(), Fail> {
     for reads in 0..STREAM.len() + 1 {
         let mut door = door(alloc)?;
         let input = Device::new(alloc, STREAM, 1, reads, 0);
-        let (result, held) = over(alloc, &mut door, input, 1_000)?;
+        let (result, held) = over(alloc, &mut door, 0, input, 1_000)?;
         let (len, count) = if reads < STREAM.len() {
             (0, 0)
         } else {
@@ -75,7 +103,7 @@ fn writer_fails(rt: HostRuntime) -> Result<(), Fail> {
     for writes in 0..ACCEPTED.len() {
         let mut door = door(alloc)?;
         let input = Device::new(alloc, STREAM, 1, 1_000, 0);
-        let (result, held) = over(alloc, &mut door, input, writes)?;
+        let (result, held) = over(alloc, &mut door, 0, input, writes)?;
         assert!(rt; result == Err(RunFault::Write) && held == Some(writes));
         assert_eq!(rt; count_accepted(&door), 1);
     }
@@ -88,7 +116,7 @@ fn the_second_answer_fails(rt: HostRuntime) -> Result<(), Fail> {
     let alloc = rt.alloc();
     let mut door = door(alloc)?;
     let input = Device::new(alloc, TWICE, 1, 1_000, 0);
-    let (result, held) = over(alloc, &mut door, input, ACCEPTED.len())?;
+    let (result, held) = over(alloc, &mut door, 0, input, ACCEPTED.len())?;
     assert!(rt; result == Err(RunFault::Write) && held == Some(ACCEPTED.len()));
     assert_eq!(rt;
         (door.gate().journal().len(), count_accepted(&door)),
@@ -112,7 +140,7 @@ fn a_stream_without_end(rt: HostRuntime) -> Result<(), Fail> {
     let alloc = rt.alloc();
     let mut door = door(alloc)?;
     let input = Device::endless(alloc, STREAM);
-    let (result, held) = over(alloc, &mut door, input, 1_000)?;
+    let (result, held) = over(alloc, &mut door, 0, input, 1_000)?;
     assert!(rt; result == Err(RunFault::Turns) && held == Some(ACCEPTED.len()));
     Ok(())
 }

@@ -38,7 +38,7 @@ const PLAN: [&str; 2] = [
 ];
 
 /// The plan's text, with a receiver of this name.
-fn plan_text(alloc: Global, name: &str) -> Result<String, AllocError> {
+pub fn plan_text(alloc: Global, name: &str) -> Result<String, AllocError> {
     let [before, behind] = PLAN;
     format!(in alloc; "{before}{name}{behind}to {name} by M2\n")
 }
