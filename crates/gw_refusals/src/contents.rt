@@ -29,7 +29,7 @@ const BARS: &[u8] = b"MSH|^~\\&|LAB\rPID|||a#b\\F\\c\r";
 
 #[derive(Clone, Copy)]
 enum Framing {
-    /// The stream is fed in pieces of so many bytes.
+    /// The stream is fed in pieces of this many bytes.
     Feed(usize),
     WriteBlock,
 }
@@ -59,7 +59,7 @@ fn feed_again(decoder: &mut Decoder, piece: &[u8]) -> Result<bool, Fail> {
     }
 }
 
-// Feeds the stream in pieces of so many bytes. Whether one wasn't taken at once.
+// Feeds the stream in pieces of this many bytes. Whether one wasn't taken at once.
 fn feed_all(decoder: &mut Decoder, size: usize) -> Result<bool, Fail> {
     let mut refused = false;
     for piece in STREAM.chunks(size.max(1)) {

@@ -9,7 +9,7 @@ const ORDER: usize = 1 << 62;
 const MOST: u32 = 10_000;
 
 /// Has the growth of this number refused, of those from here on; 0 takes that back.
-/// A block of so many bytes can't be had: the heap of `.ci/refusals` takes the request as this order, and begins a sweep at 1. To any other it is one that fails.
+/// A block of this many bytes can't be had: the heap of `.ci/refusals` takes the request as this order, and begins a sweep at 1. To any other it is one that fails.
 pub(crate) fn refuse(alloc: Global, growth: u32) {
     let _ = Vec::<u8>::with_capacity(alloc, ORDER + growth as usize);
 }
