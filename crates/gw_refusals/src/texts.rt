@@ -9,13 +9,16 @@ use std::sync::Arc;
 use std::test::Fail;
 
 pub(crate) const P1: &str =
-    "profile P1\ntable SEX M F U\nsegment MSH R 1..1\n  field 10 R 1..1\nsegment PID R 1..1\n  field 3 R 1..2\n  field 5 RE 0..1\n  field 8 RE 0..1 len 1 table SEX\nsegment NK1 O 0..2\n";
+    "profile P1\ntable SEX M F U\nsegment MSH R 1..1\n  field 10 R 1..1\nsegment PID R 1..1\n  field 3 R 1..2\n  field 5 RE 0..1\n  \
+    field 8 RE 0..1 len 1 table SEX\nsegment NK1 O 0..2\n";
 
 const ORU: &str =
-    "profile ORU\nsegment MSH R 1..1\ngroup PATIENT_RESULT R 1..*\n  group PATIENT R 1..1\n    segment PID R 1..1\n  end\n  group ORDER R 1..*\n    segment OBR R 1..1\n      field 1 RE 0..1\n  end\nend\n";
+    "profile ORU\nsegment MSH R 1..1\ngroup PATIENT_RESULT R 1..*\n  group PATIENT R 1..1\n    segment PID R 1..1\n  end\n  \
+    group ORDER R 1..*\n    segment OBR R 1..1\n      field 1 RE 0..1\n  end\nend\n";
 
 pub(crate) const M2: &[u8] =
-    b"map M2 from P2 to T1\ntable SEXMAP\n  row M 1\n  row F 2\n  else 9\nsegment MSH from MSH\n  copy 10 from MSH-10\nsegment PID from PID\n  build 8 lookup SEXMAP PID-8\ndrop PID-3\ndrop PID-5\n";
+    b"map M2 from P2 to T1\ntable SEXMAP\n  row M 1\n  row F 2\n  else 9\nsegment MSH from MSH\n  copy 10 from MSH-10\n\
+    segment PID from PID\n  build 8 lookup SEXMAP PID-8\ndrop PID-3\ndrop PID-5\n";
 
 // The profile against which messages are held.
 fn profile(alloc: Global) -> Result<Arc<Profile>, Fail> {
@@ -54,7 +57,7 @@ fn profile_refused(alloc: Global, growth: u32) -> Result<bool, Fail> {
     Ok(refused)
 }
 
-// Whether a map has this name and so many items and lines of what is dropped.
+// Whether a map has this name, and this many items and `drop` lines.
 pub(crate) fn is_map(map: &Map, name: &[u8], items: usize, drops: usize) -> bool {
     map.name() == name && map.items().len() == items && map.drops().len() == drops
 }
