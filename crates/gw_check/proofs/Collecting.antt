@@ -12,7 +12,7 @@ use Rattle.gw_resolve.specs.declared.resolved.GroupItem.{GroupItem}
 use Rattle.gw_resolve.specs.declared.resolved.FlatItem.{FlatItem}
 use Rattle.gw_resolve.specs.declared.resolved.Item.{Item, Segment, Group, Flat, Group', Flat'}
 use Rattle.gw_resolve.specs.Resolved.{Items, no_items}
-use Rattle.gw_resolve.specs.declared.resolved.Place as places
+use Rattle.gw_resolve.specs.declared.resolved.ScopePath as places
 use Rattle.gw_resolve.specs.declared.resolved.Rule as rules_of
 use Rattle.gw_resolve.specs.declared.resolved.SegmentItem.{SegmentItem}
 use Rattle.gw_check.specs.Reads.{Position, SourceField, read_by, at_reads, making_reads, rules_read, inner, inner_if, items_read}
@@ -68,7 +68,7 @@ flat_added tables scope within i f is old new same items there h =
     ∙ ap (λ l. fields_at old ++ l) (sym (append-nil (items_read (inner scope (place f.place)) (all_items tables f.items.items))))
     ∙ sym (ap (λ x. fields_at old ++ items_read scope x) (ap (λ j. with_item tables j no_items) same ∙ flat_items tables f no_items))
 
-pub segment_added : (tables : List TableValue) (scope within : List Position) (p : Option places.Place) (list rules : List rules_of.Rule) (old new : List FieldAt) → within ≡ inner_if scope (option_map place p) → list ≡ rules → Adds old new (rules_read within (map (rule tables) list)) → Adds old new (rules_read (inner_if scope (option_map place p)) (map (rule tables) rules))
+pub segment_added : (tables : List TableValue) (scope within : List Position) (p : Option places.ScopePath) (list rules : List rules_of.Rule) (old new : List FieldAt) → within ≡ inner_if scope (option_map place p) → list ≡ rules → Adds old new (rules_read within (map (rule tables) list)) → Adds old new (rules_read (inner_if scope (option_map place p)) (map (rule tables) rules))
 segment_added tables scope within p list rules old new there same h =
     subst (λ l. Adds old new (rules_read (inner_if scope (option_map place p)) (map (rule tables) l))) same (subst (λ s. Adds old new (rules_read s (map (rule tables) list))) there h)
 

@@ -7,7 +7,7 @@ use Rattle.gw_profile.specs.Nodes.{card_of}
 use Rattle.gw_profile.specs.Shapes.{FieldValue, Forest, ProfileValue}
 use Rattle.gw_profile.specs.Seen.{forest, node_forest}
 use Rattle.gw_maplang.specs.Shapes.{TableValue, MapValue}
-use Rattle.gw_resolve.specs.declared.named.Named.{Named}
+use Rattle.gw_resolve.specs.declared.named.ResolvedMap.{ResolvedMap}
 use Rattle.gw_resolve.specs.declared.failure.Failure.{Failure}
 use Rattle.gw_resolve.specs.declared.resolved.GroupItem.{GroupItem}
 use Rattle.gw_resolve.specs.declared.resolved.FlatItem.{FlatItem}
@@ -134,7 +134,7 @@ none_of (f ∷ found) x h = refl
 pub none_lost : (from to : ProfileValue) (m : MapValue) (found : List Failure) → IsLost from to m found → [] ≡ gaps from to m
 none_lost from to m found h = none_of found (of_map from to m) h.some ∙ ap (λ l. none_if l (of_map from to m)) h.all
 
-pub all_named : (from to : ProfileValue) (m : MapValue) (made : Named) (line : ℕ) (nodes : Forest) (found : List Gap) → IsNamed from to m made → line ≡ m.line → nodes ≡ to.nodes
+pub all_named : (from to : ProfileValue) (m : MapValue) (made : ResolvedMap) (line : ℕ) (nodes : Forest) (found : List Gap) → IsNamed from to m made → line ≡ m.line → nodes ≡ to.nodes
     → found ≡ level_gaps line [] 0 nodes (all_items m.tables made.items.items) ++ items_gaps [] nodes (all_items m.tables made.items.items) → found ≡ gaps from to m
 all_named from to m made line nodes found h e f is =
     is ∙ (λ i. level_gaps (e i) [] 0 (f i) (h.items i) ++ items_gaps [] (f i) (h.items i)) ∙ ap (λ l. none_if l (of_map from to m)) (sym h.none)

@@ -13,7 +13,7 @@ use Rattle.gw_check.specs.declared.accounted.Accounted.{Accounted}
 use Rattle.gw_check.specs.declared.accounted.FieldAt.{FieldAt}
 use Rattle.std.specs.Global.{Vec}
 use Rattle.gw_maplang.specs.Shapes.{MapValue, TableValue}
-use Rattle.gw_resolve.specs.declared.named.Named.{Named}
+use Rattle.gw_resolve.specs.declared.named.ResolvedMap.{ResolvedMap}
 use Rattle.gw_resolve.specs.declared.named.Resolving as resolving
 use Rattle.gw_resolve.specs.declared.resolved.Item.{Item}
 use Rattle.gw_resolve.specs.declared.resolved.LeftOut.{LeftOut}
@@ -113,7 +113,7 @@ module _ (known : Accounted) where
 
 -- ---- where the labels of a map were looked up
 
-pub unread_of : {E : Type 0} (from to : profiles.Contents) (m : MapValue) (told : resolving.Resolving) (made : Named) (nodes : List Node) (items : List Item) (drops : List LeftOut) (r : Result (Vec FieldAt) E) →
+pub unread_of : {E : Type 0} (from to : profiles.Contents) (m : MapValue) (told : resolving.Resolving) (made : ResolvedMap) (nodes : List Node) (items : List Item) (drops : List LeftOut) (r : Result (Vec FieldAt) E) →
     Resolves (profile_value from) (profile_value to) m told → told ≡ resolving.TheVariants.Resolved made → nodes ≡ from.nodes → items ≡ made.items.items → drops ≡ made.drops.items →
     IfOk r (λ found. (tables : List TableValue) → fields_at found.items ≡ seen.passed_over tables items drops (forest nodes)) →
     IfOk r (λ found. fields_at found.items ≡ unread (profile_value from) (profile_value to) m)

@@ -13,7 +13,7 @@ use Rattle.gw_resolve.specs.Failures.{Failure}
 use Rattle.gw_resolve.specs.Places.{Element, nodes_of_child, within}
 use Rattle.gw_resolve.specs.Resolved.{Items, no_items}
 use Rattle.gw_check.specs.Levels.{level_failures, items_failures}
-use Rattle.gw_resolve.specs.declared.element.Element as elements
+use Rattle.gw_resolve.specs.declared.element.ScopeNode as elements
 use Rattle.gw_resolve.specs.Seen.{failures, place, with_item, all_items, scope}
 use Rattle.gw_resolve.specs.Noted.{Notes}
 use Rattle.gw_check.specs.Found.{weight, weight_one, weight_all, NotesLevel}
@@ -25,7 +25,7 @@ where_ok P Q (Ok x) f h = f x h
 where_ok P Q (Err e) f h = tt
 
 -- lent twice
-pub level_same : (a b : List elements.Element) (is js : List Item) → a ≡ b → is ≡ js → (tables : List TableValue) (holder : ℕ) (nodes : Forest) (old new : Vec declared.Failure) → NotesLevel tables (scope a) holder 0 nodes is old new → NotesLevel tables (scope b) holder 0 nodes js old new
+pub level_same : (a b : List elements.ScopeNode) (is js : List Item) → a ≡ b → is ≡ js → (tables : List TableValue) (holder : ℕ) (nodes : Forest) (old new : Vec declared.Failure) → NotesLevel tables (scope a) holder 0 nodes is old new → NotesLevel tables (scope b) holder 0 nodes js old new
 level_same a b is js e f tables holder nodes old new h = subst (λ x. NotesLevel tables (scope b) holder 0 nodes x old new) f (subst (λ x. NotesLevel tables (scope x) holder 0 nodes is old new) e h)
 
 -- ---- fewer items

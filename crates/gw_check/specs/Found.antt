@@ -14,7 +14,7 @@ use Rattle.gw_check.specs.Fields.{segment_failures}
 use Rattle.gw_resolve.specs.declared.resolved.SegmentItem.{SegmentItem}
 use Rattle.gw_check.specs.Counts.{items_count}
 use Rattle.gw_profile.specs.Seen.{profile_value}
-use Rattle.gw_leaves.specs.Sides.{SidesValue}
+use Rattle.gw_leaves.specs.Context.{ContextValue}
 use Rattle.gw_check.specs.Levels.{sources, node_failures, level_failures, items_failures}
 use Rattle.gw_resolve.specs.Resolved.{Items, no_items, segment_item, group_item, flat_item}
 use Rattle.gw_resolve.specs.Noted.{Notes}
@@ -34,11 +34,11 @@ abbrev pub NotesLevel : List TableValue → List Element → ℕ → ℕ → For
 NotesLevel tables scope holder j nodes is old new = Notes old new (level_failures scope holder j nodes (all_items tables is))
 
 -- with those of what the items give
-abbrev pub NotesItems : SidesValue → List Element → Forest → List Item → Vec declared.Failure → Vec declared.Failure → Type 0
+abbrev pub NotesItems : ContextValue → List Element → Forest → List Item → Vec declared.Failure → Vec declared.Failure → Type 0
 NotesItems s scope nodes is old new =
     Notes old new (items_failures (profile_value s.source) (profile_value s.target) scope nodes (all_items s.map.tables is))
 
-abbrev pub NotesItem : SidesValue → List Element → Forest → Item → Vec declared.Failure → Vec declared.Failure → Type 0
+abbrev pub NotesItem : ContextValue → List Element → Forest → Item → Vec declared.Failure → Vec declared.Failure → Type 0
 NotesItem s scope nodes i old new =
     Notes old new (items_failures (profile_value s.source) (profile_value s.target) scope nodes (with_item s.map.tables i no_items))
 
@@ -56,8 +56,8 @@ abbrev pub weight_all : List Item → ℕ
 weight_all is = weight (all_items [] is)
 
 -- with those of the segments that an item gives
-abbrev pub NotesSegment : SidesValue → List Element → Forest → SegmentItem → Vec declared.Failure → Vec declared.Failure → Type 0
-NotesSegment sides scope nodes s old new =
+abbrev pub NotesSegment : ContextValue → List Element → Forest → SegmentItem → Vec declared.Failure → Vec declared.Failure → Type 0
+NotesSegment context scope nodes s old new =
     Notes old new
-    (segment_failures (sources (profile_value sides.source) (within_if scope (option_map place s.place))) (profile_value sides.target)
-    s.line (map (rule sides.map.tables) s.rules.items) (fields_of (child nodes s.child)))
+    (segment_failures (sources (profile_value context.source) (within_if scope (option_map place s.place))) (profile_value context.target)
+    s.line (map (rule context.map.tables) s.rules.items) (fields_of (child nodes s.child)))

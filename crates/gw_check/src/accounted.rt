@@ -15,7 +15,7 @@ pub struct FieldAt {
     pub field: u32,
 }
 
-// (by hand: so no crate above proves again how what lies in it is let go)
+// (by hand, so that no crate above proves again how its fields are dropped)
 impl Drop for FieldAt {
     fn drop(self) {
         let FieldAt { at: _, field: _ } = self;

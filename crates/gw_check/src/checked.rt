@@ -14,7 +14,7 @@ pub struct CheckedMap {
     items: Vec<Item>,
 }
 
-// (by hand: so no crate above proves again how what lies in it is let go)
+// (by hand, so that no crate above proves again how its fields are dropped)
 impl Drop for CheckedMap {
     fn drop(self) {
         let CheckedMap {

@@ -24,7 +24,7 @@ pub struct Gap {
     pub field: Option<u32>,
 }
 
-// (by hand: so no crate above proves again how what lies in it is let go)
+// (by hand, so that no crate above proves again how its fields are dropped)
 impl Drop for Gap {
     fn drop(self) {
         let Gap {
@@ -120,7 +120,7 @@ fn add_node(
     add_if(alloc, found, holder, at, None, asked && missing)
 }
 
-// The nodes of a level whose items stand in the group, or the map, at this line.
+// The nodes of a level whose items are in the group, or the map, at this line.
 fn add_level(
     alloc: Global,
     found: &mut Vec<Gap>,
@@ -221,7 +221,7 @@ fn all_found(
 
 /// The segments, groups and fields that the target asks for (at least once, or RE) and to which the map gives no item and no rule: what the rules 5 and 8 fail of where nothing is said.
 ///
-/// None are told where the rules on labels (1 to 3) fail. It takes time by the sizes of the profiles and the map. The one error is want of memory.
+/// The list is empty where the rules on labels (1 to 3) fail. It takes time by the sizes of the profiles and the map. The one error is allocation failure.
 pub fn gaps(
     alloc: Global,
     source: &Profile,

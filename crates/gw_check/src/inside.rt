@@ -6,26 +6,26 @@ ghost use Rattle.gw_resolve.specs.Seen.{scope as walked};
 
 use crate::field::check_segment;
 use crate::level::check_level;
-use gw_leaves::{Sides, Sources, fields_at, within_if};
+use gw_leaves::{MapContext, Sources, enter_if, fields_at};
 use gw_profile::Node;
-use gw_resolve::{Element, Failure, Item, SegmentItem, nodes_within, within};
+use gw_resolve::{Failure, Item, ScopeNode, SegmentItem, enter, nodes_within};
 use std::alloc::{AllocError, Global};
 
 // The failures of the rules on the segments that an item gives.
 fn check_given(
     alloc: Global,
     found: &mut Vec<Failure>,
-    sides: &Sides<'_>,
-    scope: &[Element<'_, '_>],
+    context: &MapContext<'_>,
+    scope: &[ScopeNode<'_, '_>],
     nodes: &[Node],
     segment: &SegmentItem,
 ) -> Result<(), AllocError>
-    ensures { OnOk result (NotesSegment sides.now (walked scope.now) (forest nodes.now) segment.now found.old found.new) }
+    ensures { OnOk result (NotesSegment context.now (walked scope.now) (forest nodes.now) segment.now found.old found.new) }
 {
-    let inner = within_if(alloc, scope, &segment.place)?;
+    let inner = enter_if(alloc, scope, &segment.place)?;
     let sources = Sources {
         alloc,
-        sides,
+        context,
         scope: &inner,
         current: None,
     };
@@ -43,24 +43,24 @@ fn check_given(
 fn check_item(
     alloc: Global,
     found: &mut Vec<Failure>,
-    sides: &Sides<'_>,
-    scope: &[Element<'_, '_>],
+    context: &MapContext<'_>,
+    scope: &[ScopeNode<'_, '_>],
     nodes: &[Node],
     item: &Item,
 ) -> Result<(), AllocError>
-    ensures { OnOk result (NotesItem sides.now (walked scope.now) (forest nodes.now) item.now found.old found.new) }
+    ensures { OnOk result (NotesItem context.now (walked scope.now) (forest nodes.now) item.now found.old found.new) }
 {
     match item {
-        Item::Segment(segment) => check_given(alloc, found, sides, scope, nodes, segment),
+        Item::Segment(segment) => check_given(alloc, found, context, scope, nodes, segment),
         Item::Group(group) => {
-            let inner = within(alloc, scope, &group.place)?;
+            let inner = enter(alloc, scope, &group.place)?;
             let below = nodes_within(nodes, group.child);
             check_level(alloc, found, &inner, group.line, below, &group.items)?;
-            check_items(alloc, found, sides, &inner, below, &group.items)
+            check_items(alloc, found, context, &inner, below, &group.items)
         }
         Item::Flat(flat) => {
-            let inner = within(alloc, scope, &flat.place)?;
-            check_items(alloc, found, sides, &inner, nodes, &flat.items)
+            let inner = enter(alloc, scope, &flat.place)?;
+            check_items(alloc, found, context, &inner, nodes, &flat.items)
         }
     }
 }
@@ -70,15 +70,15 @@ fn check_item(
 pub(crate) fn check_items(
     alloc: Global,
     found: &mut Vec<Failure>,
-    sides: &Sides<'_>,
-    scope: &[Element<'_, '_>],
+    context: &MapContext<'_>,
+    scope: &[ScopeNode<'_, '_>],
     nodes: &[Node],
     items: &[Item],
 ) -> Result<(), AllocError>
-    ensures { OnOk result (NotesItems sides.now (walked scope.now) (forest nodes.now) items.now found.old found.new) }
+    ensures { OnOk result (NotesItems context.now (walked scope.now) (forest nodes.now) items.now found.old found.new) }
 {
     for item in items {
-        check_item(alloc, found, sides, scope, nodes, item)?;
+        check_item(alloc, found, context, scope, nodes, item)?;
     }
     Ok(())
 }

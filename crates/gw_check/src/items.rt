@@ -5,19 +5,23 @@ ghost use Rattle.gw_check.specs.Levels.{is_of};
 ghost use Rattle.gw_resolve.specs.Seen.{scope as walked};
 
 use crate::level::{count_at, count_if};
-use gw_resolve::{Element, Interval, Item, never, within};
+use gw_resolve::{Interval, Item, ScopeNode, enter, never};
 use std::alloc::{AllocError, Global};
 
 // How often one item comes.
 #[cycle(count)]
-fn item_count(alloc: Global, scope: &[Element<'_, '_>], item: &Item) -> Result<Interval, AllocError>
+fn item_count(
+    alloc: Global,
+    scope: &[ScopeNode<'_, '_>],
+    item: &Item,
+) -> Result<Interval, AllocError>
     ensures { IfOk result (λ c. CountsOne (walked scope.now) item.now c) }
 {
     match item {
         Item::Segment(segment) => Ok(count_if(scope, &segment.place)),
         Item::Group(group) => Ok(count_at(scope, &group.place)),
         Item::Flat(flat) => {
-            let inner = within(alloc, scope, &flat.place)?;
+            let inner = enter(alloc, scope, &flat.place)?;
             let each = items_count(alloc, &inner, &flat.items)?;
             Ok(count_at(scope, &flat.place).times(each))
         }
@@ -28,7 +32,7 @@ fn item_count(alloc: Global, scope: &[Element<'_, '_>], item: &Item) -> Result<I
 #[cycle(count)]
 pub(crate) fn items_count(
     alloc: Global,
-    scope: &[Element<'_, '_>],
+    scope: &[ScopeNode<'_, '_>],
     items: &[Item],
 ) -> Result<Interval, AllocError>
     ensures { IfOk result (λ c. CountsAll (walked scope.now) items.now c) }
@@ -75,7 +79,7 @@ fn is_of(node: usize, child: Option<usize>) -> bool
     }
 }
 
-/// How many of the items, which stand in the order of the nodes, are of this node.
+/// How many of the items, in the order of the nodes, are of this node.
 pub(crate) fn leading(items: &[Item], node: usize) -> usize
     ensures { Leads node items.now result }
 {

@@ -12,11 +12,13 @@ ghost use Rattle.gw_maplang.specs.Shapes.{TableValue};
 use crate::items::{items_count, leading};
 use crate::often::{Asked, check_often};
 use gw_profile::{Node, Usage};
-use gw_resolve::{Element, Failure, Interval, Item, Mark, Place, at_line, find, never, once};
+use gw_resolve::{
+    Failure, FailureSite, Interval, Item, ScopeNode, ScopePath, at_line, find, never, once,
+};
 use std::alloc::{AllocError, Global};
 
 /// How often a place is there.
-pub(crate) fn count_at(scope: &[Element<'_, '_>], place: &Place) -> Interval
+pub(crate) fn count_at(scope: &[ScopeNode<'_, '_>], place: &ScopePath) -> Interval
     ensures { interval result ≡ saturated (places.count_at (walked scope.now) (seen_place place.now)) }
 {
     match find(scope, place) {
@@ -26,7 +28,7 @@ pub(crate) fn count_at(scope: &[Element<'_, '_>], place: &Place) -> Interval
 }
 
 /// How often a place is there, once where none is said.
-pub(crate) fn count_if(scope: &[Element<'_, '_>], place: &Option<Place>) -> Interval
+pub(crate) fn count_if(scope: &[ScopeNode<'_, '_>], place: &Option<ScopePath>) -> Interval
     ensures { interval result ≡ saturated (places.count_if (walked scope.now) (option_map seen_place place.now)) }
 {
     match place {
@@ -47,11 +49,11 @@ fn line_of(item: &Item) -> u32
 }
 
 // What the first item gives, or the node of this number within what should hold one.
-fn node_mark(holder: u32, number: usize, items: &[Item]) -> Mark
+fn node_mark(holder: u32, number: usize, items: &[Item]) -> FailureSite
     ensures { (tables : List TableValue) → seen_mark result ≡ spec.node_mark holder number (all_items tables items.now) }
 {
     let [item, ..] = items else {
-        return Mark {
+        return FailureSite {
             child: Some(number),
             ..at_line(holder)
         };
@@ -78,8 +80,8 @@ pub(crate) fn usage_of(node: &Node) -> Usage
 fn check_node(
     alloc: Global,
     found: &mut Vec<Failure>,
-    scope: &[Element<'_, '_>],
-    mark: Mark,
+    scope: &[ScopeNode<'_, '_>],
+    mark: FailureSite,
     node: &Node,
     items: &[Item],
 ) -> Result<(), AllocError>
@@ -94,11 +96,11 @@ fn check_node(
     check_often(found, asked, items_count(alloc, scope, items)?)
 }
 
-/// The failures of the rules on the counts of these nodes, at a level whose items stand in the group, or the map, at this line.
+/// The failures of the rules on the counts of these nodes, at a level whose items are in the group, or the map, at this line.
 pub(crate) fn check_level(
     alloc: Global,
     found: &mut Vec<Failure>,
-    scope: &[Element<'_, '_>],
+    scope: &[ScopeNode<'_, '_>],
     holder: u32,
     nodes: &[Node],
     items: &[Item],

@@ -20,6 +20,6 @@ pub use accounted::FieldAt;
 pub use checked::CheckedMap;
 pub use gap::{Gap, gaps};
 pub use gw_leaves::{Presence, Shape, Values, included};
-pub use gw_resolve::{Failure, Interval, Mark};
-pub use overlooked::unread;
+pub use gw_resolve::{Failure, FailureSite, Interval};
+pub use overlooked::unused_fields;
 pub use rules::{CheckFault, Refusal, check, examine, failures};

@@ -9,14 +9,14 @@ ghost use Rattle.gw_resolve.specs.Seen.{interval, mark as seen_mark, saturated};
 
 use gw_leaves::is_forbidden;
 use gw_profile::{Card, Usage};
-use gw_resolve::{Failure, Interval, Mark, note};
+use gw_resolve::{Failure, FailureSite, Interval, note};
 use std::alloc::AllocError;
 
-/// What a target asks of how often something comes, and where that is told.
+/// How often the target asks something to come, and at which line a failure is reported.
 #[derive(Clone, Copy)]
 pub(crate) struct Asked {
     /// What gives it, or what should hold it where it is missing.
-    pub(crate) mark: Mark,
+    pub(crate) mark: FailureSite,
     pub(crate) usage: Usage,
     pub(crate) card: Card,
     /// Nothing gives it.
@@ -34,7 +34,7 @@ pub(crate) fn is_expected(usage: Usage) -> bool
 
 fn check_capped(
     found: &mut Vec<Failure>,
-    mark: Mark,
+    mark: FailureSite,
     asked: Asked,
     count: Interval,
 ) -> Result<(), AllocError>
@@ -58,7 +58,7 @@ pub(crate) fn check_often(
 ) -> Result<(), AllocError>
     ensures { (full : intervals.Interval) → interval count ≡ saturated full → OnOk result (Notes found.old found.new (seen.often_failures asked full)) }
 {
-    let mark = Mark {
+    let mark = FailureSite {
         count: Some(count),
         ..asked.mark
     };

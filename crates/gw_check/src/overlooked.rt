@@ -143,8 +143,8 @@ fn passed_over(
 
 /// The required fields of the source that the map neither reads nor drops, in the profile's order: what rule 9 fails of.
 ///
-/// None are told where the rules on labels (1 to 3) fail. It takes time by the sizes of the profiles and the map. The one error is want of memory.
-pub fn unread(
+/// The list is empty where the rules on labels (1 to 3) fail. It takes time by the sizes of the profiles and the map. The one error is allocation failure.
+pub fn unused_fields(
     alloc: Global,
     source: &Profile,
     target: &Profile,

@@ -11,11 +11,17 @@ ghost use Rattle.gw_maplang.specs.Shapes.{TableValue};
 use crate::accounted::{Accounted, FieldAt};
 use gw_leaves::is_forbidden;
 use gw_profile::{FieldShape, Node, SegNode, Usage};
-use gw_resolve::{At, Item, Leaf, LeftOut, Making, Place, Reference, Rule, SegmentItem, Source};
+use gw_resolve::{
+    At, Item, LeftOut, Making, Reference, ResolvedLeaf, Rule, ScopePath, SegmentItem, Source,
+};
 use std::alloc::{AllocError, Global};
 
 /// The position of a place, seen from the positions that are walked, the innermost last.
-fn position(alloc: Global, scope: &[Vec<usize>], place: &Place) -> Result<Vec<usize>, AllocError>
+fn position(
+    alloc: Global,
+    scope: &[Vec<usize>],
+    place: &ScopePath,
+) -> Result<Vec<usize>, AllocError>
     ensures { IfOk result (λ p. p.items ≡ spec.position (positions scope.now) (seen_place place.now)) }
 {
     if place.out >= scope.len() {
@@ -66,9 +72,9 @@ fn add_leaf(
     ensures { (tables : List TableValue) → OnOk result (Adds reads.old.items reads.new.items (spec.at_reads (positions scope.now) (at_leaf tables at.now))) }
 {
     match &at.leaf {
-        Leaf::Const(_) => Ok(()),
-        Leaf::Copied(from) => add_source(alloc, reads, scope, from),
-        Leaf::LookedUp(_, from) => add_source(alloc, reads, scope, from),
+        ResolvedLeaf::Const(_) => Ok(()),
+        ResolvedLeaf::Copied(from) => add_source(alloc, reads, scope, from),
+        ResolvedLeaf::LookedUp(_, from) => add_source(alloc, reads, scope, from),
     }
 }
 
@@ -225,7 +231,11 @@ fn add_rules(
     Ok(())
 }
 
-fn inner(alloc: Global, scope: &[Vec<usize>], place: &Place) -> Result<Vec<Vec<usize>>, AllocError>
+fn inner(
+    alloc: Global,
+    scope: &[Vec<usize>],
+    place: &ScopePath,
+) -> Result<Vec<Vec<usize>>, AllocError>
     ensures { IfOk result (λ inner. positions inner.items ≡ spec.inner (positions scope.now) (seen_place place.now)) }
 {
     let at = position(alloc, scope, place)?;

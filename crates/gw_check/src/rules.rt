@@ -11,7 +11,7 @@ ghost use Rattle.gw_check.specs.Checked.{all_failures};
 ghost use Rattle.gw_resolve.specs.Noted.{Notes};
 ghost use Rattle.gw_resolve.specs.Seen.{failures as seen_failures};
 ghost use Rattle.gw_check.specs.own.Seen as seen;
-ghost use Rattle.gw_leaves.specs.Sides as spec;
+ghost use Rattle.gw_leaves.specs.Context as spec;
 
 use crate::checked::CheckedMap;
 use crate::failure::least;
@@ -19,26 +19,26 @@ use crate::inside::check_items;
 use crate::labels::look_up;
 use crate::level::check_level;
 use crate::reads::passes_over;
-use gw_leaves::Sides;
+use gw_leaves::MapContext;
 use gw_maplang::Map;
 use gw_profile::{Level, Profile};
-use gw_resolve::{Element, Failure, Item, LeftOut, Named, Resolving, at_line, note};
+use gw_resolve::{Failure, Item, LeftOut, ResolvedMap, Resolving, ScopeNode, at_line, note};
 use std::alloc::{AllocError, Global};
 use std::sync::Arc;
 
-/// Why a map isn't checked. The map is handed back.
+/// Why a map was refused. The map is returned.
 #[derive(Drop)]
 pub enum CheckFault {
-    /// Want of memory.
+    /// Allocation failure.
     Memory(Map),
     /// The least rule that fails, at the least line where it fails.
     Rule { rule: u8, line: u32, map: Map },
 }
 
-/// Why a map isn't checked, with all that fails. The map is handed back.
+/// Why a map was refused, with every failure. The map is returned.
 #[derive(Drop)]
 pub enum Refusal {
-    /// Want of memory.
+    /// Allocation failure.
     Memory(Map),
     /// The least failure, and all of them in the order of the definition.
     Rules {
@@ -70,22 +70,22 @@ enum Judged {
 fn add_failures(
     alloc: Global,
     found: &mut Vec<Failure>,
-    sides: &Sides<'_>,
+    context: &MapContext<'_>,
     level: &Level<'_>,
     items: &[Item],
     drops: &[LeftOut],
 ) -> Result<(), AllocError>
-    requires { level.now ≡ sides.now.source.nodes }
-    ensures source { WellFormed (profile_value sides.now.source) }
-    ensures target { WellFormed (profile_value sides.now.target) }
-    ensures found { OnOk result (Notes found.old found.new (seen.failures sides.now items.now drops.now)) }
+    requires { level.now ≡ context.now.source.nodes }
+    ensures source { WellFormed (profile_value context.now.source) }
+    ensures target { WellFormed (profile_value context.now.target) }
+    ensures found { OnOk result (Notes found.old found.new (seen.failures context.now items.now drops.now)) }
 {
-    let line = sides.map().line();
-    let whole = sides.source().nodes();
-    let nodes = sides.target().nodes();
-    let scope = [Element::Whole(Some(level))];
+    let line = context.map().line();
+    let whole = context.source().nodes();
+    let nodes = context.target().nodes();
+    let scope = [ScopeNode::Whole(Some(level))];
     check_level(alloc, found, &scope, line, nodes, items)?;
-    check_items(alloc, found, sides, &scope, nodes, items)?;
+    check_items(alloc, found, context, &scope, nodes, items)?;
     let passed = passes_over(alloc, whole, items, drops)?;
     note(found, 9, at_line(line), passed)
 }
@@ -97,17 +97,24 @@ fn failures_of(
     target: &Profile,
     map: &Map,
     level: &Level<'_>,
-    named: &Named,
+    named: &ResolvedMap,
 ) -> Result<Vec<Failure>, AllocError>
     requires { level.now ≡ source.now.nodes }
     ensures source { IfOk result (λ found. WellFormed (profile_value source.now)) }
     ensures target { IfOk result (λ found. WellFormed (profile_value target.now)) }
     ensures found { IfOk result (λ found.
-        seen_failures found.items ≡ seen.failures (spec.sides_of source.now target.now map.now) named.now.items.items named.now.drops.items) }
+        seen_failures found.items ≡ seen.failures (spec.context_of source.now target.now map.now) named.now.items.items named.now.drops.items) }
 {
-    let sides = Sides::of(alloc, source, target, map, level, &named.items)?;
+    let context = MapContext::of(alloc, source, target, map, level, &named.items)?;
     let mut found = Vec::new(alloc);
-    add_failures(alloc, &mut found, &sides, level, &named.items, &named.drops)?;
+    add_failures(
+        alloc,
+        &mut found,
+        &context,
+        level,
+        &named.items,
+        &named.drops,
+    )?;
     Ok(found)
 }
 
@@ -137,7 +144,7 @@ fn look(
 
 /// All failures of a map between two profiles, in the order of the definition; none where the map is allowed.
 ///
-/// The rules 4 to 12 are looked at only where 1 to 3 hold. It takes time by the sizes of the profiles and the map. The one error is want of memory.
+/// The rules 4 to 12 are looked at only where 1 to 3 hold. It takes time by the sizes of the profiles and the map. The one error is allocation failure.
 pub fn failures(
     alloc: Global,
     source: &Profile,
@@ -195,7 +202,7 @@ fn least_of(refusal: Refusal) -> CheckFault
     }
 }
 
-/// The map with its profiles, where no rule fails; else the map back, with the least rule that fails at its least line, or want of memory. What a yes means is a law of `gw_interp`: each message that conforms to the source has one translation, and that conforms to the target.
+/// The map with its profiles, where no rule fails; else the map back, with the least rule that fails at its least line, or allocation failure. What acceptance means is a law of `gw_interp`: each message that conforms to the source has one translation, and that conforms to the target.
 pub fn check(
     alloc: Global,
     source: Arc<Profile>,

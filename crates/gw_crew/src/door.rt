@@ -23,7 +23,7 @@ pub trait Door {
     /// What was noted so far.
     ghost noted: { Self → List NoteSeen };
 
-    /// The reply to the event. An error is an allocation failure: the event comes back, and nothing changed.
+    /// The reply to the event. An error is an allocation failure: the event is returned, and nothing changed.
     fn call(&mut self, event: Event) -> Result<Reply, Event>
         ensures { Calls (noted self.old) (event_seen event) (answer_seen result) (noted self.new) };
 

@@ -90,7 +90,7 @@ pub fn room_for(notes: &mut Vec<Note>, event: &Event) -> bool
     }
 }
 
-/// One step of a gate, with its note. An error is an allocation failure: the event comes back, and nothing changed.
+/// One step of a gate, with its note. An error is an allocation failure: the event is returned, and nothing changed.
 pub fn step(gate: &mut Gate, event: Event) -> Result<(Reply, Option<Note>), Event>
     ensures { StepsOnce gate.old (event_seen event) result gate.new }
 {
@@ -147,7 +147,7 @@ impl Door for Solo {
 
     ghost noted = { λ s. s.notes };
 
-    /// One step of the gate, noted with the number of its entry. An error is an allocation failure: the event comes back, and nothing changed.
+    /// One step of the gate, noted with the number of its entry. An error is an allocation failure: the event is returned, and nothing changed.
     fn call(&mut self, event: Event) -> Result<Reply, Event>
         ensures calls { Calls self.old.notes (event_seen event) (answer_seen result) self.new.notes }
         ensures step { IfOk result (λ given. Replied self.old.gate (event_seen event) (reply_seen given) self.new.gate) }

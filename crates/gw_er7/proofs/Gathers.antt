@@ -11,8 +11,8 @@ use Rattle.std.proofs.lemmas.List.{append-nil}
 use Rattle.gw_er7.specs.declared.delimiters.Delimiters.{Delimiters}
 use Rattle.gw_er7.specs.Content.{Line, Begins, lines_from, first_bad}
 use Rattle.gw_er7.specs.Names.{is_named}
-use Rattle.gw_er7.specs.declared.fields.Taken.{Taken}
-use Rattle.gw_er7.specs.declared.start.Start.{Start}
+use Rattle.gw_er7.specs.declared.fields.SegmentTexts.{SegmentTexts}
+use Rattle.gw_er7.specs.declared.start.SegmentHead.{SegmentHead}
 use Rattle.gw_er7.specs.Message.{SegmentValue, IsMessage}
 use Rattle.gw_er7.specs.Entries.{Entry, fields}
 use Rattle.gw_er7.specs.View.{Held, lying, AreInside, AreLying, IsLying}
@@ -27,21 +27,21 @@ pub use Rattle.gw_er7.proofs.Messages.{three}
 
 -- ---- one segment is taken in
 
-pub takes_in : {A E : Type 0} (r : Result A E) (starts after : List Start) (n : Start) (old new : Taken) (d : Delimiters) (first skip : ℕ) (line bytes : List ℕ) → IsTaken starts old → after ≡ starts ++ n ∷ [] → n.first ≡ length old.leaves → n.name ≡ take 3 line → bytes ≡ drop skip line
-    → OnOk r (AreInside new.bytes.items new.leaves) → OnOk r (Keeps old new) → OnOk r (taken_by new ≡ taken_by old ++ fields d first bytes) → OnOk r (Takes starts old after new (segment_of d first skip line ∷ []))
+pub takes_in : {A E : Type 0} (r : Result A E) (starts after : List SegmentHead) (n : SegmentHead) (old new : SegmentTexts) (d : Delimiters) (first skip : ℕ) (line bytes : List ℕ) → IsTaken starts old → after ≡ starts ++ n ∷ [] → n.first ≡ length old.spans → n.name ≡ take 3 line → bytes ≡ drop skip line
+    → OnOk r (AreInside new.bytes.items new.spans) → OnOk r (Keeps old new) → OnOk r (taken_by new ≡ taken_by old ++ fields d first bytes) → OnOk r (Takes starts old after new (segment_of d first skip line ∷ []))
 takes_in (Err x) starts after n old new d first skip line bytes is grown from name e inside kept read = tt
 takes_in (Ok x) starts after n old new d first skip line bytes is grown from name e inside kept read =
     let here = behind_entries (held_in old) (held_in new) (fields d first bytes) read in
     let sorted = subst (λ (es : List Entry). T (is_sorted (slice_cmp nat_cmp) es)) (sym here) (sorted-fields d first bytes) in
-    let in_it = taken_in starts n (held_in old) (held_in new) (from ∙ sym (length-held old.bytes.items old.leaves)) kept is.each sorted in
+    let in_it = taken_in starts n (held_in old) (held_in new) (from ∙ sym (length-held old.bytes.items old.spans)) kept is.each sorted in
     let entries = here ∙ ap (fields d first) e in
     record {
-      taken = record { inside = inside; each = subst (λ (ss : List Start). AreLying ss (held_in new)) (sym grown) in_it.each };
-      segments = ap (λ (ss : List Start). lying ss (held_in new)) grown ∙ in_it.same ∙ ap (λ (s : SegmentValue). lying starts (held_in old) ++ s ∷ []) (λ i. record { name = name i; at = texts.from_sorted (entries i) });
+      taken = record { inside = inside; each = subst (λ (ss : List SegmentHead). AreLying ss (held_in new)) (sym grown) in_it.each };
+      segments = ap (λ (ss : List SegmentHead). lying ss (held_in new)) grown ∙ in_it.same ∙ ap (λ (s : SegmentValue). lying starts (held_in old) ++ s ∷ []) (λ i. record { name = name i; at = texts.from_sorted (entries i) });
     }
 
 -- what was taken in is a message
-pub closed : (starts : List Start) (taken : Taken) (texts : List Held) (ss : List SegmentValue) → IsTaken starts taken → lying starts (held_in taken) ≡ ss → texts ≡ held_in taken → IsMessage ss → IsLying starts texts
+pub closed : (starts : List SegmentHead) (taken : SegmentTexts) (texts : List Held) (ss : List SegmentValue) → IsTaken starts taken → lying starts (held_in taken) ≡ ss → texts ≡ held_in taken → IsMessage ss → IsLying starts texts
 closed starts taken texts ss is same e message =
     subst (λ (hs : List Held). IsLying starts hs) (sym e) (record { each = is.each; message = subst (λ (vs : List SegmentValue). IsMessage vs) (sym same) message })
 

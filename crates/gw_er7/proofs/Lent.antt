@@ -59,24 +59,24 @@ text_is name xs s p is e =
 -- ---- where a place begins
 
 record HasEntry (xs : List Held) (i : ℕ) (e : Entry) : Type 0 where
-  leaf : Held
+  span : Held
   within : i < length xs
-  here : get_or xs i leaf ≡ leaf
-  is : entry_of leaf ≡ e
+  here : get_or xs i span ≡ span
+  is : entry_of span ≡ e
 
 has_entry : (xs : List Held) (i : ℕ) (e : Entry) → slice_get (entries_of xs) i ≡ Some e → HasEntry xs i e
 has_entry [] i e h = absurd (let z : ⊥ = cc in z)
-has_entry (x ∷ xs) zero e h = (let same : entry_of x ≡ e = cc in record { leaf = x; within = omega arith; here = refl; is = same })
-has_entry (x ∷ xs) (suc i) e h = (let more = has_entry xs i e h in record { leaf = more.leaf; within = omega (arith, more.within); here = more.here; is = more.is })
+has_entry (x ∷ xs) zero e h = (let same : entry_of x ≡ e = cc in record { span = x; within = omega arith; here = refl; is = same })
+has_entry (x ∷ xs) (suc i) e h = (let more = has_entry xs i e h in record { span = more.span; within = omega (arith, more.within); here = more.here; is = more.is })
 
 start_at : (q : List ℕ) (xs : List Held) (n : ℕ) → n ≤ length xs → IsPartitionPoint (λ l. is_below q l ≡ true) (λ l. is_below q l ≡ false) xs n → IsStart q (entries_of xs) n
 start_at q xs n bound point = record {
   bound = omega (arith, length-map xs entry_of);
   before = λ i e lt h. (let at = has_entry xs i e h in
-      subst (λ (x : Entry). order x.0 q ≡ Less) at.is (lt_true _ (ap (is_below q) (sym at.here) ∙ point.0 i at.leaf (omega arith) lt)));
+      subst (λ (x : Entry). order x.0 q ≡ Less) at.is (lt_true _ (ap (is_below q) (sym at.here) ∙ point.0 i at.span (omega arith) lt)));
   from = λ i e le h is. (let at = has_entry xs i e h in
-      let out : is_below q at.leaf ≡ false = ap (is_below q) (sym at.here) ∙ point.1 i at.leaf le at.within in
-      let in_it : is_below q at.leaf ≡ true = ap (λ (x : Entry). is_lt (order x.0 q)) at.is ∙ ap is_lt is in
+      let out : is_below q at.span ≡ false = ap (is_below q) (sym at.here) ∙ point.1 i at.span le at.within in
+      let in_it : is_below q at.span ≡ true = ap (λ (x : Entry). is_lt (order x.0 q)) at.is ∙ ap is_lt is in
       true≢false (sym in_it ∙ out));
 }
 

@@ -12,12 +12,12 @@ use Rattle.std.specs.Ordering.{is_lt}
 use Rattle.std.specs.FinMap as texts
 use Rattle.std.specs.FinMap.{is_sorted}
 use Rattle.gw_er7.specs.declared.place.Place.{Place}
-use Rattle.gw_er7.specs.declared.start.Start.{Start}
+use Rattle.gw_er7.specs.declared.start.SegmentHead.{SegmentHead}
 use Rattle.gw_er7.specs.Message.{SegmentValue, numbers, IsSegment, IsMessage}
 use Rattle.gw_er7.specs.Building.{IsBegun, MayPut, with_last}
 use Rattle.gw_er7.specs.Entries.{Entry}
 use Rattle.gw_er7.specs.View.{Held, entry_of, entries_of, stored, drafted, between, end_before, lying, AreLying, building, AreBuilding, IsBuilding, IsLent}
-use Rattle.gw_er7.specs.own.Leaves.{AreSortedFrom}
+use Rattle.gw_er7.specs.own.Spans.{AreSortedFrom}
 use Rattle.gw_er7.proofs.Sorted.{order}
 use Rattle.gw_er7.proofs.Drafts.{closed_sorted, closed_is, apart_put, draft_put, none_apart}
 use Rattle.gw_er7.proofs.Lasts.{begun_put}
@@ -105,35 +105,35 @@ same_long place k xs ys is le =
 
 -- ---- the last segment is put in order
 
-abbrev last_start : Start → List Start → Start
+abbrev last_start : SegmentHead → List SegmentHead → SegmentHead
 last_start s [] = s
 last_start s (t ∷ ss) = last_start t ss
 
-at_last : (s : Start) (ss : List Start) (d : Start) → get_or (s ∷ ss) (length ss) d ≡ last_start s ss
+at_last : (s : SegmentHead) (ss : List SegmentHead) (d : SegmentHead) → get_or (s ∷ ss) (length ss) d ≡ last_start s ss
 at_last s [] d = refl
 at_last s (t ∷ ss) d = at_last t ss d
 
-at_end : (s : Start) (ss : List Start) (d : Start) → get_or (s ∷ ss) (length (s ∷ ss) - 1) d ≡ last_start s ss
+at_end : (s : SegmentHead) (ss : List SegmentHead) (d : SegmentHead) → get_or (s ∷ ss) (length (s ∷ ss) - 1) d ≡ last_start s ss
 at_end s ss d = (let e : length (s ∷ ss) - 1 ≡ length ss = omega arith in ap (λ (k : ℕ). get_or (s ∷ ss) k d) e ∙ at_last s ss d)
 
-first_lower : (s : Start) (ss : List Start) (xs : List Held) → AreBuilding (s ∷ ss) xs → s.first ≤ (last_start s ss).first
+first_lower : (s : SegmentHead) (ss : List SegmentHead) (xs : List Held) → AreBuilding (s ∷ ss) xs → s.first ≤ (last_start s ss).first
 first_lower s [] xs h = omega arith
 first_lower s (t ∷ ss) xs h = omega (arith, h.0, first_lower t ss xs h.3)
 
-last_within : (s : Start) (ss : List Start) (xs : List Held) → AreBuilding (s ∷ ss) xs → (last_start s ss).first ≤ length xs
+last_within : (s : SegmentHead) (ss : List SegmentHead) (xs : List Held) → AreBuilding (s ∷ ss) xs → (last_start s ss).first ≤ length xs
 last_within s [] xs h = h.0
 last_within s (t ∷ ss) xs h = last_within t ss xs h.3
 
-pub last_fits : (starts : List Start) (d : Start) (xs : List Held) → 0 < length starts → AreBuilding starts xs → (get_or starts (length starts - 1) d).first ≤ length xs
+pub last_fits : (starts : List SegmentHead) (d : SegmentHead) (xs : List Held) → 0 < length starts → AreBuilding starts xs → (get_or starts (length starts - 1) d).first ≤ length xs
 last_fits [] d xs some h = absurd (omega arith)
-last_fits (s ∷ ss) d xs some h = subst (λ (t : Start). t.first ≤ length xs) (sym (at_end s ss d)) (last_within s ss xs h)
+last_fits (s ∷ ss) d xs some h = subst (λ (t : SegmentHead). t.first ≤ length xs) (sym (at_end s ss d)) (last_within s ss xs h)
 
 -- the texts that are in order now make the segments that were made
-pub record IsClosed (starts : List Start) (xs ys : List Held) : Type 0 where
+pub record IsClosed (starts : List SegmentHead) (xs ys : List Held) : Type 0 where
   pub each : AreLying starts ys
   pub same : lying starts ys ≡ building starts xs
 
-closes : (s : Start) (ss : List Start) (xs ys : List Held) → AreBuilding (s ∷ ss) xs → AreSortedFrom (λ h. h.place) (last_start s ss).first xs ys → IsClosed (s ∷ ss) xs ys
+closes : (s : SegmentHead) (ss : List SegmentHead) (xs ys : List Held) → AreBuilding (s ∷ ss) xs → AreSortedFrom (λ h. h.place) (last_start s ss).first xs ys → IsClosed (s ∷ ss) xs ys
 closes s [] xs ys h is =
     let long = same_long (λ h. h.place) s.first xs ys is h.0 in
     let behind = between_end s.first ys in
@@ -150,20 +150,20 @@ closes s (t ∷ ss) xs ys h is =
       same = ap (λ (hs : List Held). stored s.name hs ∷ lying (t ∷ ss) ys) here ∙ ap (λ (vs : List SegmentValue). stored s.name (between s.first t.first xs) ∷ vs) rest.same;
     }
 
-pub closed : (starts : List Start) (d : Start) (xs ys : List Held) → 0 < length starts → AreBuilding starts xs → AreSortedFrom (λ h. h.place) (get_or starts (length starts - 1) d).first xs ys → IsClosed starts xs ys
+pub closed : (starts : List SegmentHead) (d : SegmentHead) (xs ys : List Held) → 0 < length starts → AreBuilding starts xs → AreSortedFrom (λ h. h.place) (get_or starts (length starts - 1) d).first xs ys → IsClosed starts xs ys
 closed [] d xs ys some h is = absurd (omega arith)
-closed (s ∷ ss) d xs ys some h is = closes s ss xs ys h (subst (λ (t : Start). AreSortedFrom (λ h. h.place) t.first xs ys) (at_end s ss d) is)
+closed (s ∷ ss) d xs ys some h is = closes s ss xs ys h (subst (λ (t : SegmentHead). AreSortedFrom (λ h. h.place) t.first xs ys) (at_end s ss d) is)
 
 -- ---- a segment is begun behind the others
 
-abbrev empty_of : Start → SegmentValue
+abbrev empty_of : SegmentHead → SegmentValue
 empty_of n = record { name = n.name; at = texts.empty }
 
-pub record IsOpened (starts : List Start) (n : Start) (ys : List Held) : Type 0 where
+pub record IsOpened (starts : List SegmentHead) (n : SegmentHead) (ys : List Held) : Type 0 where
   pub each : AreBuilding (starts ++ n ∷ []) ys
   pub same : building (starts ++ n ∷ []) ys ≡ lying starts ys ++ record { name = n.name; at = texts.empty } ∷ []
 
-pub opened : (starts : List Start) (n : Start) (ys : List Held) → n.first ≡ length ys → AreLying starts ys → IsOpened starts n ys
+pub opened : (starts : List SegmentHead) (n : SegmentHead) (ys : List Held) → n.first ≡ length ys → AreLying starts ys → IsOpened starts n ys
 opened [] n ys e h =
     let none : drop n.first ys ≡ [] = drop_all n.first ys (omega (arith, e)) in
     record {
@@ -189,7 +189,7 @@ opened (s ∷ t ∷ ss) n ys e h =
 abbrev change : Held → SegmentValue → SegmentValue
 change h s = record s { at = texts.insert s.at (numbers h.place) h.text }
 
-some_building : (t : Start) (ss : List Start) (xs : List Held) → 0 < length (building (t ∷ ss) xs)
+some_building : (t : SegmentHead) (ss : List SegmentHead) (xs : List Held) → 0 < length (building (t ∷ ss) xs)
 some_building t [] xs = omega arith
 some_building t (u ∷ ss) xs = omega arith
 
@@ -201,11 +201,11 @@ last_later : (f : SegmentValue → SegmentValue) (v : SegmentValue) (vs : List S
 last_later f v [] some = absurd (omega arith)
 last_later f v (w ∷ vs) some = refl
 
-pub record IsPut (starts : List Start) (h : Held) (xs ys : List Held) : Type 0 where
+pub record IsPut (starts : List SegmentHead) (h : Held) (xs ys : List Held) : Type 0 where
   pub each : AreBuilding starts ys
   pub same : building starts ys ≡ with_last (change h) (building starts xs)
 
-pub put : (starts : List Start) (h : Held) (xs ys : List Held) → ys ≡ xs ++ h ∷ [] → MayPut (numbers h.place) h.text (building starts xs) → AreBuilding starts xs → IsPut starts h xs ys
+pub put : (starts : List SegmentHead) (h : Held) (xs ys : List Held) → ys ≡ xs ++ h ∷ [] → MayPut (numbers h.place) h.text (building starts xs) → AreBuilding starts xs → IsPut starts h xs ys
 put [] h xs ys e may is = absurd may
 put (s ∷ []) h xs ys e may is =
     let behind : drop s.first ys ≡ drop s.first xs ++ h ∷ [] = ap (drop s.first) e ∙ drop-append-le s.first xs (h ∷ []) is.0 in
@@ -234,11 +234,11 @@ put (s ∷ t ∷ ss) h xs ys e may is =
 
 -- ---- a segment is read behind the others
 
-pub record IsTakenIn (starts : List Start) (n : Start) (xs ys : List Held) : Type 0 where
+pub record IsTakenIn (starts : List SegmentHead) (n : SegmentHead) (xs ys : List Held) : Type 0 where
   pub each : AreLying (starts ++ n ∷ []) ys
   pub same : lying (starts ++ n ∷ []) ys ≡ lying starts xs ++ stored n.name (drop (length xs) ys) ∷ []
 
-pub taken_in : (starts : List Start) (n : Start) (xs ys : List Held) → n.first ≡ length xs → take (length xs) ys ≡ xs → AreLying starts xs → T (is_sorted order (entries_of (drop (length xs) ys))) → IsTakenIn starts n xs ys
+pub taken_in : (starts : List SegmentHead) (n : SegmentHead) (xs ys : List Held) → n.first ≡ length xs → take (length xs) ys ≡ xs → AreLying starts xs → T (is_sorted order (entries_of (drop (length xs) ys))) → IsTakenIn starts n xs ys
 taken_in [] n xs ys e kept h sorted =
     let longer : length xs ≤ length ys = omega (arith, ap length kept, length-take (length xs) ys) in
     let behind : between n.first (length ys) ys ≡ drop (length xs) ys = between_end n.first ys ∙ ap (λ (k : ℕ). drop k ys) e in
@@ -274,17 +274,17 @@ behind_entries xs ys es e =
 
 -- ---- the segment of a number
 
-pub length-lying : (starts : List Start) (xs : List Held) → length (lying starts xs) ≡ length starts
+pub length-lying : (starts : List SegmentHead) (xs : List Held) → length (lying starts xs) ≡ length starts
 length-lying [] xs = refl
 length-lying (s ∷ ss) xs = omega (arith, length-lying ss xs)
 
-pub record Lies (starts : List Start) (xs : List Held) (i : ℕ) (s : Start) (end : ℕ) : Type 0 where
+pub record Lies (starts : List SegmentHead) (xs : List Held) (i : ℕ) (s : SegmentHead) (end : ℕ) : Type 0 where
   pub rising : s.first ≤ end
   pub bound : end ≤ length xs
   pub sorted : T (is_sorted order (entries_of (between s.first end xs)))
   pub is : (v : SegmentValue) → get_or (lying starts xs) i v ≡ stored s.name (between s.first end xs)
 
-pub lies_at : (starts : List Start) (xs : List Held) (i : ℕ) (d : Start) → i < length starts → AreLying starts xs → Lies starts xs i (get_or starts i d) (end_before (drop (i + 1) starts) xs)
+pub lies_at : (starts : List SegmentHead) (xs : List Held) (i : ℕ) (d : SegmentHead) → i < length starts → AreLying starts xs → Lies starts xs i (get_or starts i d) (end_before (drop (i + 1) starts) xs)
 lies_at [] xs i d lt h = absurd (omega arith)
 lies_at (s ∷ ss) xs zero d lt h = record { rising = h.0; bound = h.1; sorted = h.2; is = λ v. refl }
 lies_at (s ∷ ss) xs (suc i) d lt h =
@@ -297,12 +297,12 @@ here_is [] i v lt h = absurd (omega arith)
 here_is (w ∷ vs) zero v lt h = ap (λ (x : SegmentValue). Some x) (h v)
 here_is (w ∷ vs) (suc i) v lt h = here_is vs i v (omega arith) h
 
-pub lies_here : (starts lent : List Start) (xs : List Held) (i : ℕ) (s : Start) (end : ℕ) → i < length starts → AreLying starts xs → s ≡ get_or starts i s → lent ≡ starts → end ≡ end_before (drop (i + 1) lent) xs → Lies starts xs i s end
+pub lies_here : (starts lent : List SegmentHead) (xs : List Held) (i : ℕ) (s : SegmentHead) (end : ℕ) → i < length starts → AreLying starts xs → s ≡ get_or starts i s → lent ≡ starts → end ≡ end_before (drop (i + 1) lent) xs → Lies starts xs i s end
 lies_here starts lent xs i s end lt h here same e =
-    let behind : end ≡ end_before (drop (i + 1) starts) xs = e ∙ ap (λ (ss : List Start). end_before (drop (i + 1) ss) xs) same in
-    subst (λ (n : ℕ). Lies starts xs i s n) (sym behind) (subst (λ (t : Start). Lies starts xs i t (end_before (drop (i + 1) starts) xs)) (sym here) (lies_at starts xs i s lt h))
+    let behind : end ≡ end_before (drop (i + 1) starts) xs = e ∙ ap (λ (ss : List SegmentHead). end_before (drop (i + 1) ss) xs) same in
+    subst (λ (n : ℕ). Lies starts xs i s n) (sym behind) (subst (λ (t : SegmentHead). Lies starts xs i t (end_before (drop (i + 1) starts) xs)) (sym here) (lies_at starts xs i s lt h))
 
-pub lent_is : (starts : List Start) (xs values : List Held) (i : ℕ) (s : Start) (end : ℕ) → i < length starts → IsMessage (lying starts xs) → values ≡ between s.first end xs → Lies starts xs i s end → IsLent s.name values
+pub lent_is : (starts : List SegmentHead) (xs values : List Held) (i : ℕ) (s : SegmentHead) (end : ℕ) → i < length starts → IsMessage (lying starts xs) → values ≡ between s.first end xs → Lies starts xs i s end → IsLent s.name values
 lent_is starts xs values i s end lt message e lies =
     let v : SegmentValue = stored s.name values in
     record {
@@ -312,25 +312,25 @@ lent_is starts xs values i s end lt message e lies =
 
 -- ---- what a builder does
 
-pub record IsBegins (pushed : List Start) (n : Start) (ys : List Held) (all : List SegmentValue) : Type 0 where
+pub record IsBegins (pushed : List SegmentHead) (n : SegmentHead) (ys : List Held) (all : List SegmentValue) : Type 0 where
   pub each : AreBuilding pushed ys
   pub same : building pushed ys ≡ all ++ empty_of n ∷ []
 
-pub begins : {A E : Type 0} (r : Result A E) (starts had pushed lent : List Start) (n : Start) (old ys : List Held) (all : List SegmentValue) → IsOk r → pushed ≡ (if is_ok r then had ++ n ∷ [] else had) → had ≡ starts → lent ≡ had
+pub begins : {A E : Type 0} (r : Result A E) (starts had pushed lent : List SegmentHead) (n : SegmentHead) (old ys : List Held) (all : List SegmentValue) → IsOk r → pushed ≡ (if is_ok r then had ++ n ∷ [] else had) → had ≡ starts → lent ≡ had
     → n.first ≡ length ys → AreLying lent ys → lying lent ys ≡ building lent old → building starts old ≡ all → IsBegins pushed n ys all
 begins (Err e) starts had pushed lent n old ys all ok p h l first each same view = absurd (let z : ⊥ = cc in z)
 begins (Ok x) starts had pushed lent n old ys all ok p h l first each same view =
     let is = opened lent n ys first each in
-    let begun : pushed ≡ lent ++ n ∷ [] = p ∙ ap (λ (ss : List Start). ss ++ n ∷ []) (sym l) in
+    let begun : pushed ≡ lent ++ n ∷ [] = p ∙ ap (λ (ss : List SegmentHead). ss ++ n ∷ []) (sym l) in
     record {
-      each = subst (λ (ss : List Start). AreBuilding ss ys) (sym begun) is.each;
-      same = ap (λ (ss : List Start). building ss ys) begun ∙ is.same ∙ ap (λ (vs : List SegmentValue). vs ++ empty_of n ∷ []) (same ∙ ap (λ (ss : List Start). building ss old) (l ∙ h) ∙ view);
+      each = subst (λ (ss : List SegmentHead). AreBuilding ss ys) (sym begun) is.each;
+      same = ap (λ (ss : List SegmentHead). building ss ys) begun ∙ is.same ∙ ap (λ (vs : List SegmentValue). vs ++ empty_of n ∷ []) (same ∙ ap (λ (ss : List SegmentHead). building ss old) (l ∙ h) ∙ view);
     }
 
-pub begun_is : (pushed : List Start) (n : Start) (ys : List Held) (all : List SegmentValue) → IsBegins pushed n ys all → IsBegun (all ++ empty_of n ∷ []) → IsBuilding pushed ys
+pub begun_is : (pushed : List SegmentHead) (n : SegmentHead) (ys : List Held) (all : List SegmentValue) → IsBegins pushed n ys all → IsBegun (all ++ empty_of n ∷ []) → IsBuilding pushed ys
 begun_is pushed n ys all is begun = record { each = is.each; begun = subst (λ (vs : List SegmentValue). IsBegun vs) (sym is.same) begun }
 
-pub puts : {A E : Type 0} (r : Result A E) (starts : List Start) (h : Held) (xs ys : List Held) (all : List SegmentValue) → building starts xs ≡ all → MayPut (numbers h.place) h.text all
+pub puts : {A E : Type 0} (r : Result A E) (starts : List SegmentHead) (h : Held) (xs ys : List Held) (all : List SegmentValue) → building starts xs ≡ all → MayPut (numbers h.place) h.text all
     → OnOk r (ys ≡ xs ++ h ∷ []) → OnErr r (ys ≡ xs) → IsBuilding starts xs → IsBuilding starts ys
 puts (Err e) starts h xs ys all view may ok err is = subst (λ (hs : List Held). IsBuilding starts hs) (sym err) is
 puts (Ok x) starts h xs ys all view may ok err is =
@@ -338,7 +338,7 @@ puts (Ok x) starts h xs ys all view may ok err is =
     let after = put starts h xs ys ok may_here is.each in
     record { each = after.each; begun = subst (λ (vs : List SegmentValue). IsBegun vs) (sym after.same) (begun_put (numbers h.place) h.text (building starts xs) may_here is.begun) }
 
-pub puts_last : {A E : Type 0} (r : Result A E) (starts : List Start) (h : Held) (xs ys : List Held) (all : List SegmentValue) → building starts xs ≡ all → MayPut (numbers h.place) h.text all
+pub puts_last : {A E : Type 0} (r : Result A E) (starts : List SegmentHead) (h : Held) (xs ys : List Held) (all : List SegmentValue) → building starts xs ≡ all → MayPut (numbers h.place) h.text all
     → OnOk r (ys ≡ xs ++ h ∷ []) → IsBuilding starts xs → OnOk r (building starts ys ≡ with_last (change h) all)
 puts_last (Err e) starts h xs ys all view may ok is = tt
 puts_last (Ok x) starts h xs ys all view may ok is =

@@ -3,7 +3,7 @@ use Rattle.std.proofs.Common.{◌≡◌, ℕ, ◌+◌, ◌-◌, ◌<◌, ◌≤�
 use Rattle.std.proofs.lemmas.List.{map-append, take-append-le, drop-append-le, length-drop, take_all, get_or-map, length-map}
 use Rattle.std.proofs.Math.Seq.{drop-append_seam}
 use Rattle.std.proofs.lemmas.List.Elements.{All-tail}
-use Rattle.gw_er7.specs.declared.leaves.Leaf.{Leaf}
+use Rattle.gw_er7.specs.declared.spans.TextSpan.{TextSpan}
 use Rattle.gw_er7.specs.View.{Held, IsInside, AreInside, AreWithin, between, held_at, held}
 use Rattle.gw_er7.proofs.Lying.{length-between, get_or-between}
 
@@ -16,29 +16,29 @@ slice_kept k n bytes more le =
 pub slice_put : (bytes more : List ℕ) → take (length more) (drop (length bytes) (bytes ++ more)) ≡ more
 slice_put bytes more = ap (take (length more)) (drop-append_seam bytes more) ∙ take_all (length more) more (omega arith)
 
-pub held_more : (bytes more : List ℕ) (ls : List Leaf) → AreInside bytes ls → held (bytes ++ more) ls ≡ held bytes ls
+pub held_more : (bytes more : List ℕ) (ls : List TextSpan) → AreInside bytes ls → held (bytes ++ more) ls ≡ held bytes ls
 held_more bytes more [] h = refl
 held_more bytes more (l ∷ ls) h =
     let text = slice_kept l.from l.len bytes more (h 0 l (omega arith)) in
     ap (λ (t : List ℕ). record { place = l.place; text = t } ∷ held (bytes ++ more) ls) text ∙ ap (λ (hs : List Held). held_at bytes l ∷ hs) (held_more bytes more ls (All-tail (IsInside bytes) l ls h))
 
-pub held_put : (bytes more new : List ℕ) (ls ms : List Leaf) (l : Leaf) → AreInside bytes ls → new ≡ bytes ++ more → ms ≡ ls ++ l ∷ [] → l.from ≡ length bytes → l.len ≡ length more → held new ms ≡ held bytes ls ++ record { place = l.place; text = more } ∷ []
+pub held_put : (bytes more new : List ℕ) (ls ms : List TextSpan) (l : TextSpan) → AreInside bytes ls → new ≡ bytes ++ more → ms ≡ ls ++ l ∷ [] → l.from ≡ length bytes → l.len ≡ length more → held new ms ≡ held bytes ls ++ record { place = l.place; text = more } ∷ []
 held_put bytes more new ls ms l h b e from len =
     let text : take l.len (drop l.from (bytes ++ more)) ≡ more = rw (from, len) (slice_put bytes more) in
     let here : held_at (bytes ++ more) l ≡ record { place = l.place; text = more } = λ i. record { place = l.place; text = text i } in
     rw (b, e) (map-append (held_at (bytes ++ more)) ls (l ∷ []) ∙ ap (λ (hs : List Held). hs ++ held_at (bytes ++ more) l ∷ []) (held_more bytes more ls h) ∙ ap (λ (x : Held). held bytes ls ++ x ∷ []) here)
 
-pub length-held : (bytes : List ℕ) (ls : List Leaf) → length (held bytes ls) ≡ length ls
+pub length-held : (bytes : List ℕ) (ls : List TextSpan) → length (held bytes ls) ≡ length ls
 length-held bytes ls = length-map ls (held_at bytes)
 
 -- ---- some of the texts
 
-module _ (bytes : List ℕ) (from to : ℕ) (ls : List Leaf) (i : ℕ) (l : Leaf) (now : List Held) (are : AreWithin bytes from to ls) (view : between from to (held bytes ls) ≡ now) (lt : i < length now) (here : get_or ls (from + i) l ≡ l) where
+module _ (bytes : List ℕ) (from to : ℕ) (ls : List TextSpan) (i : ℕ) (l : TextSpan) (now : List Held) (are : AreWithin bytes from to ls) (view : between from to (held bytes ls) ≡ now) (lt : i < length now) (here : get_or ls (from + i) l ≡ l) where
   before : from + i < to
   before = omega (arith, lt, ap length view, length-between from to (held bytes ls) (omega (arith, are.bound, length-held bytes ls)), are.rising)
 
   pub inside_at : l.from + l.len ≤ length bytes
-  inside_at = (let inside = are.inside (from + i) l (omega (arith, before, are.bound)) in subst (λ (m : Leaf). m.from + m.len ≤ length bytes) here inside)
+  inside_at = (let inside = are.inside (from + i) l (omega (arith, before, are.bound)) in subst (λ (m : TextSpan). m.from + m.len ≤ length bytes) here inside)
 
   pub value_at : (other : Held) → get_or now i other ≡ record { place = l.place; text = take (l.from + l.len - l.from) (drop l.from bytes) }
   value_at other =

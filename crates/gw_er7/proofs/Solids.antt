@@ -158,8 +158,8 @@ module _ (n s : ℕ) (write : List Entry → List ℕ) (is : IsTight n write) (l
   pub layer_tight : IsTight (n + 1) (layer write s 1)
   layer_tight = record { solid = λ es h. layer_solid 1 es (omega arith) h (from_one n es h); some = λ es h some. layer_some 1 es h (from_one n es h) some }
 
-leaf_tight : IsTight 0 leaf_text
-leaf_tight = record {
+span_tight : IsTight 0 leaf_text
+span_tight = record {
   solid = λ es h. leaf_cases (λ o. Solid (unwrap_or o [])) IsText es (shape-texts 0 es h) tt (λ t is. solid_plain t (Each-weaker IsTextByte (λ b. rank b ≡ 0) rank_text t is.bytes));
   some = some;
 }
@@ -173,7 +173,7 @@ leaf_tight = record {
     some (e ∷ es) h lt = here e.0 e.1 es h.0.size h.0.text
 
 component_tight : IsTight 1 component_text
-component_tight = layer_tight 0 38 leaf_text leaf_tight (λ es h. leaf-each (λ b. rank b ≤ 1) (low_text 1) es (shape-texts 0 es h))
+component_tight = layer_tight 0 38 leaf_text span_tight (λ es h. leaf-each (λ b. rank b ≤ 1) (low_text 1) es (shape-texts 0 es h))
 
 repetition_tight : IsTight 2 repetition_text
 repetition_tight = layer_tight 1 94 component_text component_tight (λ es h. component-each (λ b. rank b ≤ 2) (omega arith) (low_text 2) es (shape-texts 1 es h))

@@ -23,7 +23,7 @@ IsPlace p = (0 < p.field) × (0 < p.rep) × (0 < p.comp) × (0 < p.sub)
 abbrev pub Texts : Type 0
 Texts = texts.FinMap (slice_cmp nat_cmp) (List ℕ)
 
--- the text of a leaf: field, repetition, component, subcomponent; empty where it is absent
+-- the text of a span: field, repetition, component, subcomponent; empty where it is absent
 abbrev pub text_of : Texts → ℕ → ℕ → ℕ → ℕ → List ℕ
 text_of m f r c s = unwrap_or (texts.get m (f ∷ r ∷ c ∷ s ∷ [])) []
 

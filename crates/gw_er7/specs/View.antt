@@ -10,8 +10,8 @@ use Rattle.std.specs.FinMap as texts
 use Rattle.std.specs.FinMap.{is_sorted}
 use Rattle.std.specs.Coded.{Coded, code_by, coded×, coded_ℕ, coded_list}
 use Rattle.gw_er7.specs.declared.place.Place.{Place}
-use Rattle.gw_er7.specs.declared.leaves.Leaf.{Leaf}
-use Rattle.gw_er7.specs.declared.start.Start.{Start}
+use Rattle.gw_er7.specs.declared.spans.TextSpan.{TextSpan}
+use Rattle.gw_er7.specs.declared.start.SegmentHead.{SegmentHead}
 use Rattle.gw_er7.specs.Message.{numbers, Texts, SegmentValue, IsEntry, IsSegment, IsMessage}
 use Rattle.gw_er7.specs.Building.{IsBegun}
 use Rattle.gw_er7.specs.Entries.{Entry}
@@ -27,19 +27,19 @@ held_code =
     code_by (ℕ × (ℕ × (ℕ × (ℕ × List ℕ)))) (coded× coded_ℕ (coded× coded_ℕ (coded× coded_ℕ (coded× coded_ℕ (coded_list coded_ℕ)))))
     (λ h. (h.place.field, (h.place.rep, (h.place.comp, (h.place.sub, h.text))))) (λ p. record { place = record { field = p.0; rep = p.1.0; comp = p.1.1.0; sub = p.1.1.1.0 }; text = p.1.1.1.1 }) (λ _. refl)
 
--- the text of a leaf lies within the bytes
-abbrev pub IsInside : List ℕ → Leaf → Type 0
+-- the text of a span lies within the bytes
+abbrev pub IsInside : List ℕ → TextSpan → Type 0
 IsInside bytes l = l.from + l.len ≤ length bytes
 
-abbrev pub AreInside : List ℕ → List Leaf → Type 0
-AreInside bytes leaves = All (IsInside bytes) leaves
+abbrev pub AreInside : List ℕ → List TextSpan → Type 0
+AreInside bytes spans = All (IsInside bytes) spans
 
--- what a leaf says of the bytes in which its text lies
-abbrev pub held_at : List ℕ → Leaf → Held
+-- what a span says of the bytes in which its text lies
+abbrev pub held_at : List ℕ → TextSpan → Held
 held_at bytes l = record { place = l.place; text = take l.len (drop l.from bytes) }
 
-abbrev pub held : List ℕ → List Leaf → List Held
-held bytes leaves = map (held_at bytes) leaves
+abbrev pub held : List ℕ → List TextSpan → List Held
+held bytes spans = map (held_at bytes) spans
 
 abbrev pub entry_of : Held → Entry
 entry_of h = (numbers h.place, h.text)
@@ -104,43 +104,43 @@ abbrev pub between : {A : Type 0} → ℕ → ℕ → List A → List A
 between from to xs = drop from (take to xs)
 
 -- where the values of a segment end: where those of the next one begin, or all end
-abbrev pub end_before : {A : Type 0} → List Start → List A → ℕ
+abbrev pub end_before : {A : Type 0} → List SegmentHead → List A → ℕ
 end_before [] xs = length xs
 end_before (s ∷ ss) xs = s.first
 
-abbrev pub lying : List Start → List Held → List SegmentValue
+abbrev pub lying : List SegmentHead → List Held → List SegmentValue
 lying [] values = []
 lying (s ∷ ss) values = stored s.name (between s.first (end_before ss values) values) ∷ lying ss values
 
 -- the values of each are in order
-abbrev pub AreLying : List Start → List Held → Type 0
+abbrev pub AreLying : List SegmentHead → List Held → Type 0
 AreLying [] values = Unit {0}
 AreLying (s ∷ ss) values =
     (s.first ≤ end_before ss values) × (end_before ss values ≤ length values) × T (is_sorted (slice_cmp nat_cmp) (entries_of (between s.first (end_before ss values) values))) × AreLying ss values
 
 -- the same, but the last segment is still being made: its values may be in any order
-abbrev pub building : List Start → List Held → List SegmentValue
+abbrev pub building : List SegmentHead → List Held → List SegmentValue
 building [] values = []
 building (s ∷ []) values = drafted s.name (drop s.first values) ∷ []
 building (s ∷ t ∷ ss) values = stored s.name (between s.first t.first values) ∷ building (t ∷ ss) values
 
-abbrev pub AreBuilding : List Start → List Held → Type 0
+abbrev pub AreBuilding : List SegmentHead → List Held → Type 0
 AreBuilding [] values = Unit {0}
 AreBuilding (s ∷ []) values = (s.first ≤ length values) × AreApart (drop s.first values)
 AreBuilding (s ∷ t ∷ ss) values =
     (s.first ≤ t.first) × (t.first ≤ length values) × T (is_sorted (slice_cmp nat_cmp) (entries_of (between s.first t.first values))) × AreBuilding (t ∷ ss) values
 
 -- a message, and one whose last segment is still being made
-pub record IsLying (starts : List Start) (values : List Held) : Type 0 where
+pub record IsLying (starts : List SegmentHead) (values : List Held) : Type 0 where
   pub each : AreLying starts values
   pub message : IsMessage (lying starts values)
 
-pub record IsBuilding (starts : List Start) (values : List Held) : Type 0 where
+pub record IsBuilding (starts : List SegmentHead) (values : List Held) : Type 0 where
   pub each : AreBuilding starts values
   pub begun : IsBegun (building starts values)
 
--- some of the leaves, whose texts lie within the bytes
-pub record AreWithin (bytes : List ℕ) (from to : ℕ) (leaves : List Leaf) : Type 0 where
+-- some of the spans, whose texts lie within the bytes
+pub record AreWithin (bytes : List ℕ) (from to : ℕ) (spans : List TextSpan) : Type 0 where
   pub rising : from ≤ to
-  pub bound : to ≤ length leaves
-  pub inside : AreInside bytes leaves
+  pub bound : to ≤ length spans
+  pub inside : AreInside bytes spans

@@ -4,5 +4,5 @@ pub mod Gathered
 pub mod Ordered
 pub mod Gaps
 pub mod Canonical
-pub mod Leaves
+pub mod Spans
 pub mod Standing

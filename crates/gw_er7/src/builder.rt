@@ -4,13 +4,13 @@ ghost use Rattle.gw_er7.specs.View.{lying, building, AreLying, AreBuilding};
 
 use crate::message::Message;
 use crate::place::Place;
-use crate::start::Start;
+use crate::start::SegmentHead;
 use crate::texts::Texts;
 use std::alloc::{AllocError, Global};
 use std::marker::Model;
 
 /// Puts the texts of the last segment, where there is one, in order. It takes no memory.
-fn close(starts: &[Start], texts: &mut Texts)
+fn close(starts: &[SegmentHead], texts: &mut Texts)
     requires { AreBuilding starts.now texts.old }
     ensures each { AreLying starts.now texts.new }
     ensures same { lying starts.now texts.new ≡ building starts.now texts.old }
@@ -23,7 +23,7 @@ fn close(starts: &[Start], texts: &mut Texts)
 /// Makes a message, segment by segment and text by text.
 #[derive(Drop)]
 pub struct Builder {
-    starts: Vec<Start>,
+    starts: Vec<SegmentHead>,
     texts: Texts,
 }
 
@@ -58,7 +58,7 @@ impl Builder {
         }
     }
 
-    /// Begins a segment, MSH first and only first. On want of memory nothing has changed.
+    /// Begins a segment, MSH first and only first. On allocation failure nothing has changed.
     pub fn begin(&mut self, name: [u8; 3]) -> Result<(), AllocError>
         requires { IsBegun (self.old ++ record { name = name; at = texts.empty } ∷ []) }
         ensures ok { OnOk result (self.new ≡ self.old ++ record { name = name; at = texts.empty } ∷ []) }
@@ -67,11 +67,11 @@ impl Builder {
         self.starts.reserve(1)?;
         close(&self.starts, &mut self.texts);
         let first = self.texts.len();
-        let _ = self.starts.push(Start { name, first });
+        let _ = self.starts.push(SegmentHead { name, first });
         Ok(())
     }
 
-    /// Puts a text at a place of the last segment, where none is. Places may come in any order. On want of memory nothing has changed.
+    /// Puts a text at a place of the last segment, where none is. Places may come in any order. On allocation failure nothing has changed.
     pub fn put(&mut self, place: Place, text: &[u8]) -> Result<(), AllocError>
         requires { MayPut (numbers place) text.now self.old }
         ensures ok { OnOk result (self.new ≡ with_last (λ s. record s { at = texts.insert s.at (numbers place) text.now }) self.old) }

@@ -11,7 +11,7 @@ fn is_allowed(byte: u8) -> bool
     byte >= 32 || byte == b'\t' || byte == b'\r' || byte == b'\n'
 }
 
-/// The place of the first byte that stands in no content.
+/// The index of the first byte that no message may hold.
 pub(crate) fn first_control(content: &[u8]) -> Option<usize>
     ensures { result ≡ position (λ b. not (is_allowed b)) content.now }
 {

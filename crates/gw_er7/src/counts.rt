@@ -58,7 +58,7 @@ pub(crate) fn count_within(values: &Values<'_>, prefix: &[usize]) -> usize
     low
 }
 
-// Whether the texts before this number stand in fields up to this one.
+// Whether the texts before this number are in fields up to this one.
 fn are_up_to(values: &Values<'_>, at: usize, field: usize) -> bool
     requires { T (is_sorted (slice_cmp nat_cmp) (entries_of values.now)) }
     ensures bound { IsTrue result → at ≤ length values.now }
@@ -79,7 +79,7 @@ fn is_up_to(place: Place, field: usize) -> bool
     place.field <= field
 }
 
-/// How many texts stand in fields up to this one: found at once where that is the number named or one of a few behind it.
+/// How many texts are in fields up to this one. It is found at once where that is the number named, or one of a few behind it.
 pub(crate) fn count_up_to(values: &Values<'_>, near: usize, field: usize) -> usize
     requires { T (is_sorted (slice_cmp nat_cmp) (entries_of values.now)) }
     ensures bound { result ≤ length values.now }
@@ -101,7 +101,7 @@ pub(crate) fn count_up_to(values: &Values<'_>, near: usize, field: usize) -> usi
     count_within(values, &[field])
 }
 
-/// The last place that begins with these numbers, where so many texts stand at places that don't begin above them.
+/// The last place that begins with these numbers, where `count` texts are at places up to those that begin with them.
 pub(crate) fn last_before(values: &Values<'_>, count: usize, prefix: &[usize]) -> Option<Place>
     requires values { AreValues values.now }
     requires bound { count ≤ length values.now }

@@ -100,7 +100,7 @@ fn head_len(delimiters: Delimiters, raw: &[u8]) -> usize
     first_stop(delimiters, raw).unwrap_or(raw.len())
 }
 
-/// Takes in the first bytes, so many; gives those behind them.
+/// Takes the first `len` bytes, and gives those behind them.
 fn push_first<'a>(text: &mut Vec<u8>, raw: &'a [u8], len: usize) -> Result<&'a [u8], AllocError>
     requires { len ≤ length raw.now }
     ensures head { OnOk result (text.new.items ≡ text.old.items ++ take len raw.now) }
@@ -113,7 +113,7 @@ fn push_first<'a>(text: &mut Vec<u8>, raw: &'a [u8], len: usize) -> Result<&'a [
     Ok(&raw[len..])
 }
 
-/// Takes in the canonical text of a raw value under the sender's delimiters, of which so many bytes stand for themselves before the first that doesn't.
+/// Reads the canonical text of a raw value under the sender's delimiters. Its first `plain` bytes stand for themselves.
 pub(crate) fn push_canonical(
     text: &mut Vec<u8>,
     delimiters: Delimiters,
@@ -139,7 +139,7 @@ pub(crate) fn push_canonical(
     Ok(())
 }
 
-/// The canonical text of a raw value under the sender's delimiters (chapter 2, 2.7). The one error is want of memory.
+/// The canonical text of a raw value under the sender's delimiters (chapter 2, 2.7). The one error is allocation failure.
 pub fn canonical(alloc: Global, delimiters: Delimiters, raw: &[u8]) -> Result<Vec<u8>, AllocError>
     ensures { IfOk result (λ text. text.items ≡ canon delimiters raw.now) }
 {

@@ -9,8 +9,8 @@ ghost use Rattle.gw_er7.specs.View.{AreInside};
 
 use crate::delimiters::{Delimiters, STANDARD};
 use crate::escapes::{is_special, push_canonical};
-use crate::leaves::{Leaf, MessageLeaves, Store};
 use crate::place::Place;
+use crate::spans::{MessageSpans, Store, TextSpan};
 use crate::texts::Texts;
 use std::alloc::{AllocError, Global};
 
@@ -133,46 +133,46 @@ fn next_place(delimiters: Delimiters, place: Place, separator: u8) -> Place
     }
 }
 
-/// The texts of the message that is being read: leaves, and the one buffer in which their texts lie.
+/// The texts of the message that is being read: spans, and the one buffer in which their texts lie.
 #[derive(Drop)]
-pub(crate) struct Taken {
-    pub(crate) leaves: MessageLeaves,
+pub(crate) struct SegmentTexts {
+    pub(crate) spans: MessageSpans,
     pub(crate) bytes: Vec<u8>,
 }
 
-impl Taken {
+impl SegmentTexts {
     ghost use Rattle.std.specs.Prelude.{[]};
 
-    /// No text, with room for the texts of a content of so many bytes, as most are: a place for every eight of them.
-    pub(crate) fn with_room(alloc: Global, len: usize) -> Result<Taken, AllocError>
-        ensures inside { IfOk result (λ t. AreInside t.bytes.items t.leaves) }
+    /// No text, with capacity for the usual number of texts in `len` message bytes: one for every eight bytes.
+    pub(crate) fn with_room(alloc: Global, len: usize) -> Result<SegmentTexts, AllocError>
+        ensures inside { IfOk result (λ t. AreInside t.bytes.items t.spans) }
         ensures none { IfOk result (λ t. held_in t ≡ []) }
     {
-        let leaves = MessageLeaves::with_room(alloc, len / 8)?;
+        let spans = MessageSpans::with_room(alloc, len / 8)?;
         let bytes = Vec::with_capacity(alloc, len)?;
-        Ok(Taken { leaves, bytes })
+        Ok(SegmentTexts { spans, bytes })
     }
 
     /// The texts.
     pub(crate) fn close(self) -> Texts
-        requires { AreInside self.bytes.items self.leaves }
+        requires { AreInside self.bytes.items self.spans }
         ensures { result ≡ held_in self }
     {
-        Texts::of(self.leaves, self.bytes)
+        Texts::of(self.spans, self.bytes)
     }
 }
 
-/// Takes in the raw value at a place, of which so many bytes stand for themselves before the first that doesn't.
+/// Reads the raw value at a place. Its first `plain` bytes stand for themselves.
 fn push_value(
-    taken: &mut Taken,
+    taken: &mut SegmentTexts,
     delimiters: Delimiters,
     place: Place,
     raw: &[u8],
     plain: usize,
 ) -> Result<(), AllocError>
-    requires inside { AreInside taken.old.bytes.items taken.old.leaves }
+    requires inside { AreInside taken.old.bytes.items taken.old.spans }
     requires plain { plain ≡ position_or_len (λ b. is_special b || b == delimiters.escape) raw.now }
-    ensures inside { OnOk result (AreInside taken.new.bytes.items taken.new.leaves) }
+    ensures inside { OnOk result (AreInside taken.new.bytes.items taken.new.spans) }
     ensures kept { OnOk result (Keeps taken.old taken.new) }
     ensures entries { OnOk result (taken_by taken.new ≡ taken_by taken.old ++ value_at delimiters (numbers place) raw.now) }
 {
@@ -182,20 +182,20 @@ fn push_value(
     let from = taken.bytes.len();
     push_canonical(&mut taken.bytes, delimiters, raw, plain)?;
     let len = taken.bytes.len() - from;
-    taken.leaves.push(&Leaf { place, from, len })?;
+    taken.spans.push(&TextSpan { place, from, len })?;
     Ok(())
 }
 
 /// Takes in the fields of a segment, the first of which has this number.
 pub(crate) fn take_fields(
-    taken: &mut Taken,
+    taken: &mut SegmentTexts,
     delimiters: Delimiters,
     first: usize,
     bytes: &[u8],
 ) -> Result<(), AllocError>
     requires first { first ≤ 3 }
-    requires inside { AreInside taken.old.bytes.items taken.old.leaves }
-    ensures inside { OnOk result (AreInside taken.new.bytes.items taken.new.leaves) }
+    requires inside { AreInside taken.old.bytes.items taken.old.spans }
+    ensures inside { OnOk result (AreInside taken.new.bytes.items taken.new.spans) }
     ensures kept { OnOk result (Keeps taken.old taken.new) }
     ensures entries { OnOk result (taken_by taken.new ≡ taken_by taken.old ++ fields delimiters first bytes.now) }
 {

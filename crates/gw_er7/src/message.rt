@@ -1,7 +1,7 @@
 //! Messages: segments, the first named MSH.
 
 use crate::same::{are_same, are_same_segments};
-use crate::start::{Start, end_of};
+use crate::start::{SegmentHead, end_of};
 use crate::texts::Texts;
 use crate::view::Segment;
 use std::alloc::{AllocError, Global};
@@ -9,11 +9,11 @@ use std::marker::Model;
 
 /// At least one segment, the first named MSH and no other; each holds canonical texts that aren't empty, at places of four positive numbers.
 pub struct Message {
-    starts: Vec<Start>,
+    starts: Vec<SegmentHead>,
     texts: Texts,
 }
 
-// (by hand: so no crate above proves again how what lies in it is let go)
+// (by hand, so that no crate above proves again how its fields are dropped)
 impl Drop for Message {
     fn drop(self) {
         let Message {
@@ -44,7 +44,7 @@ impl Message {
     ghost use Rattle.gw_er7.specs.View.{lying, IsLying};
 
     /// The message of the segments that begin so among these texts, in memory that fits it.
-    pub(crate) fn of(starts: Vec<Start>, texts: Texts) -> Message
+    pub(crate) fn of(starts: Vec<SegmentHead>, texts: Texts) -> Message
         requires { IsLying starts.items texts }
         ensures { result ≡ lying starts.items texts }
     {
@@ -63,7 +63,7 @@ impl Message {
         self.starts.len()
     }
 
-    /// An equal message. The one error is want of memory.
+    /// An equal message. The one error is allocation failure.
     pub fn copy(&self, alloc: Global) -> Result<Message, AllocError>
         ensures { IfOk result (λ message. message ≡ self.now) }
     {
@@ -94,7 +94,7 @@ impl Message {
         requires { i < length self.now }
         ensures { slice_get self.now i ≡ Some result }
     {
-        let Start { name, first } = self.starts[i];
+        let SegmentHead { name, first } = self.starts[i];
         let end = end_of(&self.starts, &self.texts, i);
         Segment::of(name, self.texts.lend(first, end))
     }

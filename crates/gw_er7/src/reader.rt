@@ -10,11 +10,11 @@ ghost use Rattle.gw_er7.specs.own.Gathered.{segment_of, others_of, segments_of, 
 
 use crate::delimiters::Delimiters;
 use crate::fault::ReadFault;
-use crate::fields::{Taken, take_fields};
-use crate::leaves::Store;
+use crate::fields::{SegmentTexts, take_fields};
 use crate::lines::{NextLine, check, next_line};
 use crate::message::Message;
-use crate::start::Start;
+use crate::spans::Store;
+use crate::start::SegmentHead;
 use std::alloc::{AllocError, Global};
 
 /// The bytes behind the first ones, none where there are too few.
@@ -27,10 +27,10 @@ fn behind(bytes: &[u8], count: usize) -> &[u8]
     &bytes[count..]
 }
 
-/// Takes in the segment of a line, whose fields stand behind these many bytes.
+/// Reads the segment of a line, whose fields begin behind `skip` bytes.
 fn take_segment(
-    starts: &mut Vec<Start>,
-    taken: &mut Taken,
+    starts: &mut Vec<SegmentHead>,
+    taken: &mut SegmentTexts,
     delimiters: Delimiters,
     first: usize,
     skip: usize,
@@ -42,9 +42,9 @@ fn take_segment(
     ensures { OnOk result (Takes starts.old.items taken.old starts.new.items taken.new (segment_of delimiters first skip line.now ∷ [])) }
 {
     let name = [line[0], line[1], line[2]];
-    let start = Start {
+    let start = SegmentHead {
         name,
-        first: taken.leaves.len(),
+        first: taken.spans.len(),
     };
     starts.push(start)?;
     take_fields(taken, delimiters, first, behind(line, skip))
@@ -52,8 +52,8 @@ fn take_segment(
 
 /// Takes in the segments of the lines from a place on.
 fn take_others(
-    starts: &mut Vec<Start>,
-    taken: &mut Taken,
+    starts: &mut Vec<SegmentHead>,
+    taken: &mut SegmentTexts,
     delimiters: Delimiters,
     at: usize,
     bytes: &[u8],
@@ -74,14 +74,14 @@ fn take_others(
     Ok(())
 }
 
-/// The starts and the texts of the segments of a content of so many bytes, line by line, each taken in where it is read:
+/// The heads and the texts of the segments of a message, line by line, each read in one walk:
 /// what most messages need is asked for at once.
 fn take_segments(
     alloc: Global,
     delimiters: Delimiters,
     header: NextLine<'_>,
     len: usize,
-) -> Result<(Vec<Start>, Taken), AllocError>
+) -> Result<(Vec<SegmentHead>, SegmentTexts), AllocError>
     requires named { 3 ≤ length header.bytes.now }
     requires good { first_bad delimiters.field (lines_from (header.at + length header.bytes.now + 1) header.behind.now) ≡ None }
     requires room { header.at + length header.bytes.now + 1 < 2 ^ 64 - 1 }
@@ -89,7 +89,7 @@ fn take_segments(
     ensures taken { IfOk result (λ r. IsTaken r.0.items r.1) }
     ensures segments { IfOk result (λ r. lying r.0.items (held_in r.1) ≡ segments_of delimiters header.entry) }
 {
-    let mut taken = Taken::with_room(alloc, len)?;
+    let mut taken = SegmentTexts::with_room(alloc, len)?;
     let mut starts = Vec::with_capacity(alloc, len / 64)?;
     take_segment(&mut starts, &mut taken, delimiters, 3, 9, header.bytes)?;
     let at = header.at + header.bytes.len() + 1;

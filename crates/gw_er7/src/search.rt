@@ -115,7 +115,7 @@ pub(crate) fn text_there<'a>(values: &Values<'a>, at: usize, place: Place) -> Op
     Some(value.text)
 }
 
-/// The text at a place that these many texts stand below, empty where it is absent.
+/// The text at a place, empty where it is absent; `at` texts are at places below it.
 pub(crate) fn text_behind<'a>(values: &Values<'a>, at: usize, place: Place) -> &'a [u8]
     requires sorted { T (is_sorted (slice_cmp nat_cmp) (entries_of values.now)) }
     requires bound { at ≤ length values.now }

@@ -1,16 +1,16 @@
 //! The texts of a message: all in one buffer, so that none takes memory of its own.
 
-use crate::leaves::{Leaf, MessageLeaves, Store};
 use crate::place::Place;
 use crate::same::same_bytes;
+use crate::spans::{MessageSpans, Store, TextSpan};
 use crate::values::Values;
 use std::alloc::{AllocError, Global};
 use std::marker::Model;
 
-/// Texts at places, in the order in which they were put: leaves, and the one buffer in which their texts lie.
+/// Texts at places, in the order in which they were put: spans, and the one buffer in which their texts lie.
 #[derive(Drop)]
 pub(crate) struct Texts {
-    leaves: MessageLeaves,
+    spans: MessageSpans,
     bytes: Vec<u8>,
 }
 
@@ -23,41 +23,41 @@ impl Model for Texts {
 
     ghost coded = { coded_list held_code };
 
-    ghost view = { λ t. held t.bytes.items t.leaves };
+    ghost view = { λ t. held t.bytes.items t.spans };
 
-    ghost invariant = { λ t. AreInside t.bytes.items t.leaves };
+    ghost invariant = { λ t. AreInside t.bytes.items t.spans };
 }
 
 impl Texts {
     ghost use Rattle.std.specs.Prelude.{◌≡◌, ◌≤◌, ◌++◌, ◌∷◌, [], length, IsTrue, OnOk, OnErr, IfOk};
     ghost use Rattle.gw_er7.specs.View.{held, between, AreInside};
-    ghost use Rattle.gw_er7.specs.own.Leaves.{AreSortedFrom};
+    ghost use Rattle.gw_er7.specs.own.Spans.{AreSortedFrom};
 
     /// No text. It takes no memory.
     pub(crate) fn new(alloc: Global) -> Texts
         ensures { result ≡ [] }
     {
         Texts {
-            leaves: MessageLeaves::new(alloc),
+            spans: MessageSpans::new(alloc),
             bytes: Vec::new(alloc),
         }
     }
 
-    /// The texts that these leaves say of these bytes.
-    pub(crate) fn of(leaves: MessageLeaves, bytes: Vec<u8>) -> Texts
-        requires { AreInside bytes.items leaves }
-        ensures { result ≡ held bytes.items leaves }
+    /// The texts that these spans say of these bytes.
+    pub(crate) fn of(spans: MessageSpans, bytes: Vec<u8>) -> Texts
+        requires { AreInside bytes.items spans }
+        ensures { result ≡ held bytes.items spans }
     {
-        Texts { leaves, bytes }
+        Texts { spans, bytes }
     }
 
     /// The same texts once more, in memory that fits them.
     pub(crate) fn copy(&self, alloc: Global) -> Result<Texts, AllocError>
         ensures { IfOk result (λ texts. texts ≡ self.now) }
     {
-        let leaves = self.leaves.copy(alloc)?;
+        let spans = self.spans.copy(alloc)?;
         let bytes = Vec::from_slice(alloc, &self.bytes)?;
-        Ok(Texts { leaves, bytes })
+        Ok(Texts { spans, bytes })
     }
 
     /// Puts a text at a place, behind the others.
@@ -67,12 +67,12 @@ impl Texts {
     {
         let from = self.bytes.len();
         self.bytes.extend_from_slice(text)?;
-        let leaf = Leaf {
+        let span = TextSpan {
             place,
             from,
             len: text.len(),
         };
-        match self.leaves.push(&leaf) {
+        match self.spans.push(&span) {
             Ok(()) => Ok(()),
             Err(_) => {
                 self.bytes.truncate(from);
@@ -86,14 +86,14 @@ impl Texts {
         requires { first ≤ length self.old }
         ensures { AreSortedFrom (λ h. h.place) first self.old self.new }
     {
-        self.leaves.sort_from(first);
+        self.spans.sort_from(first);
     }
 
     /// Gives back the memory that the texts don't take.
     pub(crate) fn fit(&mut self)
         ensures { self.new ≡ self.old }
     {
-        self.leaves.fit();
+        self.spans.fit();
         self.bytes.shrink_to_fit();
     }
 
@@ -101,21 +101,21 @@ impl Texts {
     pub(crate) fn lie_alike(&self, other: &Texts) -> bool
         ensures { IsTrue result → self.now ≡ other.now }
     {
-        same_bytes(&self.bytes, &other.bytes) && self.leaves.are_alike(&other.leaves)
+        same_bytes(&self.bytes, &other.bytes) && self.spans.are_alike(&other.spans)
     }
 
     pub(crate) fn len(&self) -> usize
         ensures { result ≡ length self.now }
     {
-        self.leaves.len()
+        self.spans.len()
     }
 
-    /// The texts from one number up to another, lent.
+    /// The texts from one number up to another, borrowed.
     pub(crate) fn lend(&self, from: usize, to: usize) -> Values<'_>
         requires rising { from ≤ to }
         requires bound { to ≤ length self.now }
         ensures { result ≡ between from to self.now }
     {
-        Values::of(&self.leaves, &self.bytes, from, to)
+        Values::of(&self.spans, &self.bytes, from, to)
     }
 }

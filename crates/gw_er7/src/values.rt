@@ -1,13 +1,13 @@
-//! Texts at places, as they are lent.
+//! Borrowed texts at places.
 
-use crate::leaves::{MessageLeaves, Store};
+use crate::spans::{MessageSpans, Store};
 use crate::view::Value;
 use std::marker::Model;
 
-/// Texts at places, lent: leaves of which some count, from one number up to another, and the bytes in which their texts lie.
+/// Borrowed texts at places: the spans from one number up to another, and the bytes in which their texts lie.
 #[derive(Drop)]
 pub(crate) struct Values<'a> {
-    leaves: &'a MessageLeaves,
+    spans: &'a MessageSpans,
     bytes: &'a [u8],
     from: usize,
     to: usize,
@@ -22,39 +22,34 @@ impl<'a> Model for Values<'a> {
 
     ghost coded = { coded_list held_code };
 
-    ghost view = { λ v. between v.from v.to (held v.bytes.now v.leaves.now) };
+    ghost view = { λ v. between v.from v.to (held v.bytes.now v.spans.now) };
 
-    ghost invariant = { λ v. AreWithin v.bytes.now v.from v.to v.leaves.now };
+    ghost invariant = { λ v. AreWithin v.bytes.now v.from v.to v.spans.now };
 }
 
 impl<'a> Values<'a> {
     ghost use Rattle.std.specs.Prelude.{◌≡◌, ◌<◌, length, slice_index_or};
     ghost use Rattle.gw_er7.specs.View.{Held, held, between, AreWithin};
 
-    /// The texts that the leaves from one number up to another say of these bytes.
-    pub(crate) fn of(
-        leaves: &'a MessageLeaves,
-        bytes: &'a [u8],
-        from: usize,
-        to: usize,
-    ) -> Values<'a>
-        requires { AreWithin bytes.now from to leaves.now }
-        ensures { result ≡ between from to (held bytes.now leaves.now) }
+    /// The texts that the spans from one number up to another say of these bytes.
+    pub(crate) fn of(spans: &'a MessageSpans, bytes: &'a [u8], from: usize, to: usize) -> Values<'a>
+        requires { AreWithin bytes.now from to spans.now }
+        ensures { result ≡ between from to (held bytes.now spans.now) }
     {
         Values {
-            leaves,
+            spans,
             bytes,
             from,
             to,
         }
     }
 
-    /// The same texts, lent once more.
-    pub(crate) fn again(&self) -> Values<'a>
+    /// The same texts, borrowed once more.
+    pub(crate) fn reborrow(&self) -> Values<'a>
         ensures { result ≡ self.now }
     {
         Values {
-            leaves: self.leaves,
+            spans: self.spans,
             bytes: self.bytes,
             from: self.from,
             to: self.to,
@@ -72,11 +67,11 @@ impl<'a> Values<'a> {
         requires { i < length self.now }
         ensures { (other : Held) → slice_index_or self.now i other ≡ record { place = result.place; text = result.text.now } }
     {
-        let leaves = self.leaves;
-        let leaf = leaves.at(self.from + i);
+        let spans = self.spans;
+        let span = spans.at(self.from + i);
         Value {
-            place: leaf.place,
-            text: &self.bytes[leaf.from..leaf.from + leaf.len],
+            place: span.place,
+            text: &self.bytes[span.from..span.from + span.len],
         }
     }
 }

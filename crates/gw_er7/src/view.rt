@@ -1,4 +1,4 @@
-//! Segments as they are lent.
+//! Borrowed segments.
 
 use crate::counts::{count_up_to, count_within, last_before, last_under};
 use crate::layout::write_line;
@@ -9,7 +9,7 @@ use crate::values::Values;
 use std::alloc::AllocError;
 use std::marker::Model;
 
-/// A segment, lent by its message: its name, and texts at places.
+/// A segment, borrowed from its message: its name, and texts at places.
 #[derive(Drop)]
 pub struct Segment<'a> {
     name: [u8; 3],
@@ -52,13 +52,13 @@ impl<'a> Segment<'a> {
         Segment { name, values }
     }
 
-    /// The same segment, lent once more. It takes no memory.
-    pub fn again(&self) -> Segment<'a>
+    /// The same segment, borrowed once more, without an allocation.
+    pub fn reborrow(&self) -> Segment<'a>
         ensures { result ≡ self.now }
     {
         Segment {
             name: self.name,
-            values: self.values.again(),
+            values: self.values.reborrow(),
         }
     }
 

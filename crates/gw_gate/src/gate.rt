@@ -56,7 +56,7 @@ fn known(event: &Event)
 }
 
 impl Gate {
-    /// A gate that opens with this plan, as version 0. The one error is an allocation failure, and hands the plan back.
+    /// A gate that opens with this plan, as version 0. The one error is an allocation failure, which returns the plan.
     pub fn begin(alloc: Global, plan: Arc<Plan>) -> Result<Self, Arc<Plan>>
         ensures gate { IfOk result (λ g. g ≡ from (opening (plan_seen (arc_value plan)))) }
         ensures back { IfErr result (λ p. p ≡ plan) }
@@ -103,7 +103,7 @@ impl Gate {
         self.books.end()
     }
 
-    /// One step: the reply to the event, whose entry is added. An error is an allocation failure: the event comes back, and nothing changed.
+    /// One step: the reply to the event, whose entry is added. An error is an allocation failure: the event is returned, and nothing changed.
     /// Only a reply that adds an entry, Current and Closed are refused so. It takes no more time where the journal is longer, but for finding a number among those due.
     pub fn step(&mut self, event: Event) -> Result<Reply, Event>
         ensures { Steps self.old (event_seen event) (answer_seen result) self.new }

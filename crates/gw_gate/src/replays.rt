@@ -54,13 +54,13 @@ fn follow(
             return Err(ReplayFault::Memory);
         }
     }
-    // (its clause tells that the journal is lawful)
+    // (its clause says that the journal is lawful)
     let _ = gate.journal();
     Ok((gate, replies))
 }
 
 /// The replies to these events, and the gate that they lead to: the first event is a Swap, whose plan opens the gate, and it has no reply.
-/// For any other list the fault is NoPlan. An allocation failure is the only other fault. The events aren't handed back.
+/// For any other list the fault is NoPlan. An allocation failure is the only other fault. The events aren't returned.
 pub fn replay(alloc: Global, events: Vec<Event>) -> Result<(Gate, Vec<Reply>), ReplayFault>
     ensures replies { Replays (map event_seen events.items) (replay_seen result) }
     ensures lawful { IfOk result (λ r. IsLawful (IsTranslated Makes) r.0) }

@@ -9,7 +9,7 @@ use Rattle.gw_er7.specs.Building.{IsBegun, with_last}
 use Rattle.gw_er7.specs.Presence.{RepAt, IsLast, IsStart}
 use Rattle.gw_validate.specs.Breaches.{NotAfter}
 use Rattle.gw_validate.proofs.Keys.{order, never_less, rising_at, found_at, find_at}
-use Rattle.gw_interp.specs.declared.copying.Spot.{Spot}
+use Rattle.gw_interp.specs.declared.copying.ValuePath.{ValuePath}
 use Rattle.gw_interp.specs.own.Putting.{last_texts, MayStand, IsPut}
 use Rattle.gw_interp.specs.own.Making.{MayMake, AreMade, comp_key, field_key, MayMakeField, IsFieldMade, rep_key}
 use Rattle.gw_interp.proofs.Fills.{same_last}
@@ -147,7 +147,7 @@ module _ (m : Texts) (from first behind : ℕ) (start : IsStart (from ∷ []) (t
       let same : f ≡ from = between f from r (c ∷ s ∷ []) (start.from n (f ∷ r ∷ c ∷ s ∷ [], t) le g) (end.before n (f ∷ r ∷ c ∷ s ∷ [], t) lt g) in
       g ∙ ap (λ k. Some (k ∷ r ∷ c ∷ s ∷ [], t)) same
 
-module _ (m : Texts) (from : Spot) (first behind : ℕ) (start : IsStart (from.field ∷ from.rep ∷ []) (texts.entries m) first) (end : IsStart (from.field ∷ (from.rep + 1) ∷ []) (texts.entries m) behind) where
+module _ (m : Texts) (from : ValuePath) (first behind : ℕ) (start : IsStart (from.field ∷ from.rep ∷ []) (texts.entries m) first) (end : IsStart (from.field ∷ (from.rep + 1) ∷ []) (texts.entries m) behind) where
   -- behind the same field the repetitions decide
   inner : (key other : List ℕ) → order (from.field ∷ key) (from.field ∷ other) ≡ order key other
   inner key other = ap (λ r. ordering_then r (order key other)) (equal from.field)
@@ -190,7 +190,7 @@ apart_field f p q e =
     let s : p.1.1 ≡ q.1.1 = cc in
     λ i. (r i, (c i, s i))
 
-pub apart_rep : (to : Spot) (p q : ℕ × ℕ) → comp_key to p ≡ comp_key to q → p ≡ q
+pub apart_rep : (to : ValuePath) (p q : ℕ × ℕ) → comp_key to p ≡ comp_key to q → p ≡ q
 apart_rep to p q e =
     let c : p.0 ≡ q.0 = cc in
     let s : p.1 ≡ q.1 = cc in

@@ -8,7 +8,7 @@ use std::alloc::AllocError;
 
 /// A repetition of a field, by its numbers.
 #[derive(Clone, Copy)]
-pub(crate) struct Spot {
+pub(crate) struct ValuePath {
     pub(crate) field: usize,
     pub(crate) rep: usize,
 }
@@ -17,8 +17,8 @@ pub(crate) struct Spot {
 pub(crate) fn copy_rep(
     builder: &mut Builder,
     segment: &Segment<'_>,
-    from: Spot,
-    to: Spot,
+    from: ValuePath,
+    to: ValuePath,
 ) -> Result<(), AllocError>
     requires { MayCopyRep segment.now.at from to builder.old }
     ensures { OnOk result (IsRepCopied segment.now.at from to builder.old builder.new) }

@@ -19,7 +19,7 @@ use crate::segments::put_segment;
 use gw_er7::Builder;
 use gw_maplang::Map;
 use gw_profile::Node;
-use gw_resolve::{Item, Place, SegmentItem, nodes_within};
+use gw_resolve::{Item, ScopePath, SegmentItem, nodes_within};
 use gw_validate::Occ;
 use std::alloc::AllocError;
 
@@ -114,7 +114,7 @@ fn enter<'a>(
     ensures lawful { OnOk result (IsBegun builder.new) }
 {
     let depth = scope.len();
-    scope.push(each.again())?;
+    scope.push(each.reborrow())?;
     let put = put_part(rows, scope, builder, part);
     scope.truncate(depth);
     put
@@ -161,7 +161,7 @@ fn put_each<'a>(
     scope: &mut Vec<Occ<'a>>,
     builder: &mut Builder,
     part: &Part<'a>,
-    place: &Place,
+    place: &ScopePath,
 ) -> Result<(), AllocError>
     requires of { AreOf (message_of scope.old.items) scope.old.items }
     requires lawful { IsBegun builder.old }

@@ -13,7 +13,7 @@ ghost use Rattle.gw_interp.specs.own.Sourced.{walks, LeafGives};
 
 use crate::reading::{Reading, source_text};
 use gw_maplang::{Map, Table};
-use gw_resolve::Leaf;
+use gw_resolve::ResolvedLeaf;
 
 fn is_null(text: &[u8]) -> bool
     ensures { result ≡ is_null text.now }
@@ -48,13 +48,13 @@ fn look_up<'a>(map: &'a Map, name: &[u8], text: &'a [u8]) -> Option<&'a [u8]>
 pub(crate) fn leaf_text<'a>(
     map: &'a Map,
     reading: &Reading<'_, 'a>,
-    leaf: &'a Leaf,
+    leaf: &'a ResolvedLeaf,
 ) -> Option<&'a [u8]>
     ensures { (m : List SegmentValue) → AreOf m reading.now.scope.now → LeafGives (walks m reading.now) (seen_leaf map.now.tables leaf.now) (now result) }
 {
     match leaf {
-        Leaf::Const(text) => Some(text.as_slice()),
-        Leaf::Copied(source) => Some(source_text(reading, source)),
-        Leaf::LookedUp(name, source) => look_up(map, name, source_text(reading, source)),
+        ResolvedLeaf::Const(text) => Some(text.as_slice()),
+        ResolvedLeaf::Copied(source) => Some(source_text(reading, source)),
+        ResolvedLeaf::LookedUp(name, source) => look_up(map, name, source_text(reading, source)),
     }
 }

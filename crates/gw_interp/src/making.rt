@@ -6,7 +6,7 @@ ghost use Rattle.gw_interp.specs.own.Lent.{AreOf};
 ghost use Rattle.gw_interp.specs.own.Filling.{message_of};
 ghost use Rattle.gw_interp.specs.own.Making.{seen_from, in_repetition, at_leaves, MayFillRep, IsRepFilled, MayMakeBy, IsMadeBy, MayMakeRule, IsRuleMade};
 
-use crate::copying::{Spot, copy_rep, copy_reps};
+use crate::copying::{ValuePath, copy_rep, copy_reps};
 use crate::filling::fill_rep;
 use crate::reading::{Reading, Repetition, first_rep, next_rep, segment_at};
 use gw_er7::Builder;
@@ -50,8 +50,8 @@ fn make_first(
     let Some(rep) = first_rep(&segment, source) else {
         return Ok(());
     };
-    let spot = Spot { field: source, rep };
-    copy_rep(builder, &segment, spot, Spot { field, rep: 1 })
+    let spot = ValuePath { field: source, rep };
+    copy_rep(builder, &segment, spot, ValuePath { field, rep: 1 })
 }
 
 // Makes one repetition of leaves.
@@ -117,7 +117,7 @@ fn make_repeat<'a>(
     while rep < last {
         rep = next_rep(&segment, source, rep, last);
         let repetition = Repetition {
-            segment: segment.again(),
+            segment: segment.reborrow(),
             field: source,
             rep,
         };

@@ -6,7 +6,7 @@ ghost use Rattle.gw_resolve.specs.Seen.{place as seen_place};
 ghost use Rattle.gw_interp.specs.Occurrences as spec;
 ghost use Rattle.gw_interp.specs.own.Lent.{occurrence, scope as walked, AreOf, IsFirstOf};
 
-use gw_resolve::Place;
+use gw_resolve::ScopePath;
 use gw_validate::Occ;
 
 /// The occurrence that is walked, counted outwards from the innermost, which is the last. It takes no memory.
@@ -17,7 +17,7 @@ pub(crate) fn walked_at<'a>(scope: &[Occ<'a>], out: usize) -> Option<Occ<'a>>
     if out >= scope.len() {
         return None;
     }
-    Some(scope[scope.len() - 1 - out].again())
+    Some(scope[scope.len() - 1 - out].reborrow())
 }
 
 // The first of the occurrences where these steps lead from the children of this number.
@@ -45,13 +45,13 @@ fn first_below<'a>(from: &Occ<'a>, steps: &[usize]) -> Option<Occ<'a>>
     ensures message { IfSome result (λ o. o.message ≡ from.now.message) }
 {
     match steps {
-        [] => Some(from.again()),
+        [] => Some(from.reborrow()),
         [child, later @ ..] => first_of_children(from, *child, later),
     }
 }
 
 /// The first of the occurrences at a place. It takes no memory.
-pub(crate) fn first_at_place<'a>(scope: &[Occ<'a>], place: &Place) -> Option<Occ<'a>>
+pub(crate) fn first_at_place<'a>(scope: &[Occ<'a>], place: &ScopePath) -> Option<Occ<'a>>
     ensures first { IsFirstOf (spec.at_place (walked scope.now) (seen_place place.now)) result }
     ensures message { (m : List SegmentValue) → AreOf m scope.now → IfSome result (λ o. o.message ≡ m) }
 {

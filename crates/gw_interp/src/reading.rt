@@ -11,7 +11,7 @@ ghost use Rattle.gw_interp.specs.own.Sourced.{texts_of, IsFirstRep, current_text
 use crate::places::first_at_place;
 use gw_er7::Segment;
 use gw_maplang::LeafPlace;
-use gw_resolve::{Place, Source};
+use gw_resolve::{ScopePath, Source};
 use gw_validate::Occ;
 
 /// A repetition of a field.
@@ -30,7 +30,7 @@ pub(crate) struct Reading<'s, 'a> {
 }
 
 /// The segment at a place, where one is there. It takes no memory.
-pub(crate) fn segment_at<'a>(scope: &[Occ<'a>], place: &Place) -> Option<Segment<'a>>
+pub(crate) fn segment_at<'a>(scope: &[Occ<'a>], place: &ScopePath) -> Option<Segment<'a>>
     ensures { (m : List SegmentValue) → AreOf m scope.now → texts_of result ≡ texts_at m (walked scope.now) (seen_place place.now) }
 {
     match first_at_place(scope, place) {

@@ -23,7 +23,7 @@ fn root_of(tree: &Tree) -> Occ<'_>
     ensures conforms { Conforms (profile_value tree.now.profile) tree.now.message }
     ensures message { IsMessage tree.now.message }
 {
-    // (its clause tells what every message keeps)
+    // (its clause says what every message keeps)
     let _segments = tree.message().segment_count();
     tree.root()
 }
@@ -34,14 +34,14 @@ fn rows_of(map: &CheckedMap) -> &Map
     ensures lawful { Lawful (map_value map.now.map) }
 {
     let rows = map.map();
-    // (its clause tells what every map keeps)
+    // (its clause says what every map keeps)
     let _items = rows.items();
     rows
 }
 
 /// The one message that the map makes of the message of a tree by the map's source. It conforms to the map's target.
 ///
-/// It takes time by the occurrences that the map's items walk, by the rules that are made for each of them and by the texts that these read and put, times the logarithm of the values in a segment; how large the numbers of places are doesn't count. Where an item within another walks occurrences that don't stand within those of the other, each is walked once for each of the others: their numbers multiply, and the result may be larger than the message and the map together. The one error is want of memory.
+/// It takes time by the occurrences that the map's items walk, by the rules that are made for each of them and by the texts that these read and put, times the logarithm of the values in a segment; how large the numbers of places are doesn't count. Where an item within another walks occurrences that don't stand within those of the other, each is walked once for each of the others: their numbers multiply, and the result may be larger than the message and the map together. The one error is allocation failure.
 pub fn translate(alloc: Global, map: &CheckedMap, tree: &Tree) -> Result<Message, AllocError>
     requires takes { profile_value tree.now.profile ≡ profile_value map.now.source }
     ensures means { IfOk result (λ made. Means (profile_value map.now.target) (resolved_map map.now) tree.now.message tree.now.tree made) }

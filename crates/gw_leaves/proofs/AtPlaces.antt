@@ -6,13 +6,13 @@ use Rattle.gw_profile.specs.Value.{table_of as table_in}
 use Rattle.gw_leaves.specs.Components.{table_values}
 use Rattle.gw_profile.specs.Seen.{profile_value}
 use Rattle.gw_maplang.specs.Seen.{now}
-use Rattle.gw_leaves.specs.declared.given.Given.{Given}
+use Rattle.gw_leaves.specs.declared.given.LeafSource.{LeafSource}
 use Rattle.gw_leaves.specs.own.Readings.{Origin, table_texts, values_named, rowed, table_of, len_of}
-use Rattle.gw_leaves.specs.Sides.{SidesValue}
+use Rattle.gw_leaves.specs.Context.{ContextValue}
 use Rattle.gw_leaves.specs.own.Held.{some_sub, given_texts}
 use Rattle.gw_leaves.proofs.AtLengths.{sub_texts}
 
-pub place_texts : (s : SidesValue) (g : Given) (origin : Origin) (len : Option ℕ) → now origin.0 ≡ now g.rows → now origin.1 ≡ table_of (some_sub g.sub) → len ≡ len_of (some_sub g.sub)
+pub place_texts : (s : ContextValue) (g : LeafSource) (origin : Origin) (len : Option ℕ) → now origin.0 ≡ now g.rows → now origin.1 ≡ table_of (some_sub g.sub) → len ≡ len_of (some_sub g.sub)
     → rowed s.map.tables (now origin.0) (table_texts (profile_value s.source) (now origin.1) len) ≡ given_texts s g
 place_texts s g origin len rows table length =
     let profile = profile_value s.source in

@@ -11,7 +11,7 @@ use Rattle.gw_profile.proofs.Facts.{both}
 use Rattle.gw_leaves.specs.declared.findings.Findings.{Findings}
 use Rattle.gw_leaves.specs.own.Findings.{IsFound, AreFound}
 use Rattle.gw_leaves.specs.own.Readings.{Origin, all_read, read_of}
-use Rattle.gw_leaves.specs.Sides.{SidesValue}
+use Rattle.gw_leaves.specs.Context.{ContextValue}
 
 -- ---- keys that stand for the same
 
@@ -63,7 +63,7 @@ module _ {K V W : Type 0} (eq : K → K → Bool) (value : K → W) (same : (x y
 
 -- ---- what is found of origins
 
-module _ (s : SidesValue) (origin : Origin) (known : List (Origin × Findings)) (f : Findings) where
+module _ (s : ContextValue) (origin : Origin) (known : List (Origin × Findings)) (f : Findings) where
   abbrev IsIt : Option (List ℕ) × Option (List ℕ) → Findings → Type 0
   IsIt o g = IsFound s.target.count s.target.tables (all_read s.source.count s.source.tables s.map.tables o.0 o.1) g
 

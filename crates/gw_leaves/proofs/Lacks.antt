@@ -18,7 +18,7 @@ use Rattle.gw_resolve.specs.Failures.{Mark, fails}
 use Rattle.gw_resolve.specs.Resolved.{At}
 use Rattle.gw_resolve.specs.Seen.{leaf, at_leaf}
 use Rattle.gw_leaves.specs.declared.lacking.Parts.{Parts}
-use Rattle.gw_leaves.specs.declared.lacking.Standing.{Standing}
+use Rattle.gw_leaves.specs.declared.lacking.Covered.{Covered}
 use Rattle.gw_leaves.specs.declared.shape.Presence.{Presence}
 use Rattle.gw_leaves.specs.declared.shape.Presence.TheVariants.{Always}
 use Rattle.gw_leaves.specs.Components.{comp_in, sub_in, made_sub, made_comp}
@@ -57,7 +57,7 @@ part_added parts k b e n = ap (λ x. x && k == n) (sym e) ∙ by (k == n) refl
 -- ---- one leaf more
 
 -- a text is always there
-pub sure_added : (old new : Standing) (place : LeafPlace)
+pub sure_added : (old new : Covered) (place : LeafPlace)
     → new.sure_comps.keys ≡ insert_key (λ a b. a == b) old.sure_comps.keys place.comp
     → new.sure_places.keys ≡ insert_key (λ a b. a.comp == b.comp && a.sub == b.sub) old.sure_places.keys place
     → new.comps ≡ old.comps → new.subs ≡ old.subs → Gains old new place true true
@@ -81,7 +81,7 @@ sure_added old new place comps places rest_comps rest_subs = record {
         ap₂ (λ m n. comp == m && sub == n) (eqb-true place.comp x.comp h.0) (eqb-true place.sub x.sub h.1)
 
 -- a text can be there
-pub possible_added : (old new : Standing) (place : LeafPlace) (comps subs : Parts)
+pub possible_added : (old new : Covered) (place : LeafPlace) (comps subs : Parts)
     → new.comps ≡ Some comps → ((n : ℕ) → is_only (Some comps) n ≡ (is_only old.comps n && place.comp == n))
     → ((n : ℕ) → lookup (λ c. n == c) new.subs.entries ≡ cond (place.comp == n) (Some subs) (lookup (λ c. n == c) old.subs.entries))
     → ((n : ℕ) → is_only (Some subs) n ≡ (has_only_sub old place.comp n && place.sub == n))
@@ -101,7 +101,7 @@ possible_added old new place comps subs is_comps in_comps is_subs in_subs rest_c
     by comp sub false there = sym (and_all (has_only_sub old comp sub))
 
 -- both
-pub always_added : (old mid new : Standing) (place : LeafPlace) (p : Presence) → p ≡ Always → Gains old mid place false false → Gains mid new place true true → Gains old new place (is_always p) (is_absent p)
+pub always_added : (old mid new : Covered) (place : LeafPlace) (p : Presence) → p ≡ Always → Gains old mid place false false → Gains mid new place true true → Gains old new place (is_always p) (is_absent p)
 always_added old mid new place p is h k = subst (λ q. Gains old new place (is_always q) (is_absent q)) (sym is) (record {
   comps = λ comp. k.comps comp ∙ ap (λ b. b || (place.comp == comp && true)) (h.comps comp ∙ sym (never_adds (has_comp old comp) (place.comp == comp)));
   only_comps = λ comp. k.only_comps comp ∙ sym (never_takes (is_only mid.comps comp) (place.comp == comp)) ∙ h.only_comps comp;
@@ -119,7 +119,7 @@ any_last p xs x = list_any-append p xs (x ∷ []) ∙ ap (λ b. list_any p xs ||
 all_last : {A : Type 0} (p : A → Bool) (xs : List A) (x : A) → list_all p (xs ++ x ∷ []) ≡ (list_all p xs && p x)
 all_last p xs x = list_all-append p xs (x ∷ []) ∙ ap (λ b. list_all p xs && b) (and_all (p x))
 
-one_more : (from : Sources) (leaves : List At) (a : At) (old new : Standing)
+one_more : (from : Sources) (leaves : List At) (a : At) (old new : Covered)
     → Gains old new (record { comp = a.comp; sub = a.sub }) (is_always (leaf_shape from a.leaf).presence) (is_absent (leaf_shape from a.leaf).presence)
     → Gathers old from leaves → Gathers new from (leaves ++ a ∷ [])
 one_more from leaves a old new h k =
@@ -132,7 +132,7 @@ one_more from leaves a old new h k =
       only_subs = λ comp sub. h.only_subs comp sub ∙ ap (λ b. b && (not (a.comp == comp) || a.sub == sub || never)) (k.only_subs comp sub) ∙ sym (all_last _ leaves a);
     }
 
-pub gathers_more : (from : Sources) (tables : List TableValue) (leaves : List ats.At) (i : ℕ) (x : ats.At) (p : Presence) (old new : Standing)
+pub gathers_more : (from : Sources) (tables : List TableValue) (leaves : List ats.At) (i : ℕ) (x : ats.At) (p : Presence) (old new : Covered)
     → i < length leaves → x ≡ get_or leaves i x → p ≡ (leaf_shape from (leaf tables x.leaf)).presence → Gains old new x.place (is_always p) (is_absent p)
     → Gathers old from (map (at_leaf tables) (take i leaves)) → Gathers new from (map (at_leaf tables) (take (i + 1) leaves))
 gathers_more from tables leaves i x p old new low at there h k =
@@ -142,7 +142,7 @@ gathers_more from tables leaves i x p old new low at there h k =
 
 -- ---- what is lacking
 
-module _ (s : Standing) (from : Sources) (leaves : List At) (g : Gathers s from leaves) where
+module _ (s : Covered) (from : Sources) (leaves : List At) (g : Gathers s from leaves) where
   same_sub : (mark : Mark) (comp : ℕ) (sub : SubValue) → sub_lacks mark s comp sub ≡ made_sub from mark leaves comp sub
   same_sub mark comp sub = λ i. fails 5 (sub_in mark sub.number) (is_required sub.usage && not (g.subs comp sub.number i || g.only_subs comp sub.number i))
 

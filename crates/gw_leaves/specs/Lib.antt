@@ -2,6 +2,6 @@ pub mod Leaves
 pub mod Counts
 pub mod Components
 pub mod Texts
-pub mod Sides
+pub mod Context
 pub mod Uses
 pub mod own

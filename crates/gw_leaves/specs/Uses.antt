@@ -5,7 +5,7 @@ use Rattle.gw_profile.specs.declared.shape.FieldShape.{FieldShape}
 use Rattle.gw_profile.specs.Shapes.{ProfileValue}
 use Rattle.gw_profile.specs.Seen.{field, profile_value}
 use Rattle.gw_maplang.specs.Shapes.{TableValue}
-use Rattle.gw_resolve.specs.declared.failure.Mark.{Mark}
+use Rattle.gw_resolve.specs.declared.failure.FailureSite.{FailureSite}
 use Rattle.gw_resolve.specs.declared.interval.Interval as intervals
 use Rattle.gw_resolve.specs.declared.resolved.Making.{Making}
 use Rattle.gw_resolve.specs.declared.resolved.Rule as rules_of
@@ -19,14 +19,14 @@ use Rattle.gw_leaves.specs.Components as components
 use Rattle.gw_leaves.specs.Counts as counts
 
 abbrev pub sources_value : declared.Sources → Sources
-sources_value s = record { profile = profile_value s.sides.now.source; scope = scope s.scope.now; current = option_map (λ f. field f.now) s.current }
+sources_value s = record { profile = profile_value s.context.now.source; scope = scope s.scope.now; current = option_map (λ f. field f.now) s.current }
 
 -- the tables of the map
 abbrev pub map_tables : declared.Sources → List TableValue
-map_tables s = s.sides.now.map.tables
+map_tables s = s.context.now.map.tables
 
 abbrev pub target_value : declared.Sources → ProfileValue
-target_value s = profile_value s.sides.now.target
+target_value s = profile_value s.context.now.target
 
 abbrev pub some_rule : List TableValue → Option (Bor rules_of.Rule) → Option Rule
 some_rule tables r = option_map (λ b. rule tables b.now) r
@@ -45,5 +45,5 @@ abbrev pub CountsRule : declared.Sources → Option (Bor rules_of.Rule) → inte
 CountsRule s r c = interval c ≡ saturated (rule_count s r)
 
 -- the failures of what a rule makes
-abbrev pub making_failures : declared.Sources → Mark → Making → FieldShape → List Failure
+abbrev pub making_failures : declared.Sources → FailureSite → Making → FieldShape → List Failure
 making_failures s at m target = components.making_failures (sources_value s) (target_value s) (mark at) (making (map_tables s) m) (field target)

@@ -4,28 +4,28 @@ ghost use Rattle.gw_profile.specs.Seen.{sub as sub_value, comp as comp_value};
 ghost use Rattle.gw_resolve.specs.Noted.{Notes};
 ghost use Rattle.gw_leaves.specs.own.Seen as seen;
 
-use crate::given::Given;
+use crate::context::MapContext;
+use crate::given::LeafSource;
 use crate::known::{at_field, comp_of, sub_of};
 use crate::presence::{comp_presence, sub_presence};
-use crate::sides::Sides;
 use crate::sources::Sources;
 use crate::values::{check_forbidden, check_required, check_values};
 use gw_profile::{CompShape, FieldShape, SubShape};
-use gw_resolve::{Failure, Mark, Reference};
+use gw_resolve::{Failure, FailureSite, Reference};
 use std::alloc::AllocError;
 
 fn check_sub(
     found: &mut Vec<Failure>,
-    sides: &Sides<'_>,
-    mark: Mark,
+    context: &MapContext<'_>,
+    mark: FailureSite,
     from: Option<&CompShape>,
     sub: &SubShape,
 ) -> Result<(), AllocError>
-    ensures { OnOk result (Notes found.old found.new (seen.copied_sub sides.now mark from.entry (sub_value sub.now))) }
+    ensures { OnOk result (Notes found.old found.new (seen.copied_sub context.now mark from.entry (sub_value sub.now))) }
 {
     let same = sub_of(from, sub.number);
     let presence = sub_presence(from, same);
-    let mark = Mark {
+    let mark = FailureSite {
         sub: sub.number,
         ..mark
     };
@@ -33,10 +33,10 @@ fn check_sub(
     check_forbidden(found, mark, sub.usage, presence)?;
     check_values(
         found,
-        sides,
+        context,
         mark,
         presence,
-        Given {
+        LeafSource {
             rows: None,
             sub: same,
         },
@@ -46,50 +46,50 @@ fn check_sub(
 
 fn check_subs(
     found: &mut Vec<Failure>,
-    sides: &Sides<'_>,
-    mark: Mark,
+    context: &MapContext<'_>,
+    mark: FailureSite,
     from: Option<&CompShape>,
     subs: &[SubShape],
 ) -> Result<(), AllocError>
-    ensures { OnOk result (Notes found.old found.new (flat_map (seen.copied_sub sides.now mark from.entry) (map sub_value subs.now))) }
+    ensures { OnOk result (Notes found.old found.new (flat_map (seen.copied_sub context.now mark from.entry) (map sub_value subs.now))) }
 {
     for sub in subs {
-        check_sub(found, sides, mark, from, sub)?;
+        check_sub(found, context, mark, from, sub)?;
     }
     Ok(())
 }
 
 fn check_comp(
     found: &mut Vec<Failure>,
-    sides: &Sides<'_>,
-    mark: Mark,
+    context: &MapContext<'_>,
+    mark: FailureSite,
     from: Option<&FieldShape>,
     comp: &CompShape,
 ) -> Result<(), AllocError>
-    ensures { OnOk result (Notes found.old found.new (seen.copied_comp sides.now mark from.entry (comp_value comp.now))) }
+    ensures { OnOk result (Notes found.old found.new (seen.copied_comp context.now mark from.entry (comp_value comp.now))) }
 {
     let same = comp_of(from, comp.number);
     let presence = comp_presence(same);
-    let mark = Mark {
+    let mark = FailureSite {
         comp: comp.number,
         ..mark
     };
     check_required(found, mark, comp.usage, presence)?;
     check_forbidden(found, mark, comp.usage, presence)?;
-    check_subs(found, sides, mark, same, &comp.subs)
+    check_subs(found, context, mark, same, &comp.subs)
 }
 
 fn check_comps(
     found: &mut Vec<Failure>,
-    sides: &Sides<'_>,
-    mark: Mark,
+    context: &MapContext<'_>,
+    mark: FailureSite,
     from: Option<&FieldShape>,
     comps: &[CompShape],
 ) -> Result<(), AllocError>
-    ensures { OnOk result (Notes found.old found.new (flat_map (seen.copied_comp sides.now mark from.entry) (map comp_value comps.now))) }
+    ensures { OnOk result (Notes found.old found.new (flat_map (seen.copied_comp context.now mark from.entry) (map comp_value comps.now))) }
 {
     for comp in comps {
-        check_comp(found, sides, mark, from, comp)?;
+        check_comp(found, context, mark, from, comp)?;
     }
     Ok(())
 }
@@ -98,7 +98,7 @@ fn check_comps(
 pub(crate) fn check_copied(
     found: &mut Vec<Failure>,
     sources: Sources<'_, '_, '_, '_, '_>,
-    mark: Mark,
+    mark: FailureSite,
     from: &Reference,
     field: &FieldShape,
 ) -> Result<(), AllocError>
@@ -106,7 +106,7 @@ pub(crate) fn check_copied(
 {
     check_comps(
         found,
-        sources.sides,
+        sources.context,
         mark,
         at_field(sources, from),
         &field.comps,

@@ -3,7 +3,7 @@ ghost use Rattle.std.specs.Prelude.{IfOk};
 ghost use Rattle.gw_leaves.specs.own.Findings.{AreUnlisted, IsFound};
 ghost use Rattle.gw_leaves.specs.own.Readings.{readings_value, read_of, AreRising};
 
-use crate::readings::{Origin, Reading, Step, Test, readings_of, shortest, steps_of};
+use crate::readings::{LengthStep, Origin, SourceValue, Test, readings_of, shortest, steps_of};
 use gw_maplang::Map;
 use gw_profile::Profile;
 use indexmap::{IndexMap, IndexSet};
@@ -17,14 +17,14 @@ pub(crate) struct Findings<'a> {
     /// The length of the shortest text for which nothing is given.
     pub(crate) nothing: Option<u64>,
     /// How long what is given can be.
-    pub(crate) steps: Vec<Step>,
+    pub(crate) steps: Vec<LengthStep>,
 }
 
 // The length of the shortest text for which something is given that isn't in a table of the target, for each of these.
 fn find_unlisted<'a>(
     alloc: Global,
     target: &Profile,
-    readings: &[Reading<'_>],
+    readings: &[SourceValue<'_>],
     names: IndexSet<&'a [u8]>,
 ) -> Result<IndexMap<&'a [u8], Option<u64>>, AllocError>
     requires { AreRising readings.now }

@@ -8,15 +8,15 @@ ghost use Rattle.gw_leaves.specs.own.Readings as spec;
 ghost use Rattle.gw_leaves.specs.own.Readings.{rows_named};
 ghost use Rattle.gw_leaves.specs.own.Held.{some_sub, given_texts, source_values};
 
+use crate::context::MapContext;
 use crate::readings::{Origin, fits, is_any};
-use crate::sides::Sides;
 use crate::texts::may_exceed;
 use gw_profile::SubShape;
 use std::alloc::AllocError;
 
 /// What is read at a place: a subcomponent of the source, as it is or looked up in the table of this name.
 #[derive(Clone, Copy)]
-pub(crate) struct Given<'a> {
+pub(crate) struct LeafSource<'a> {
     pub(crate) rows: Option<&'a [u8]>,
     pub(crate) sub: Option<&'a SubShape>,
 }
@@ -45,7 +45,7 @@ fn len_of(sub: Option<&SubShape>) -> Option<u32>
 }
 
 /// Where the texts are from that are read at a place.
-pub(crate) fn origin_of<'a>(given: Given<'a>) -> Origin<'a>
+pub(crate) fn origin_of<'a>(given: LeafSource<'a>) -> Origin<'a>
     ensures rows { now result.0 ≡ now given.entry.rows }
     ensures table { now result.1 ≡ spec.table_of (some_sub given.entry.sub) }
 {
@@ -54,32 +54,32 @@ pub(crate) fn origin_of<'a>(given: Given<'a>) -> Origin<'a>
 
 /// Whether what can stand there may be missing from the table of this subcomponent of the target.
 pub(crate) fn may_be_unlisted(
-    sides: &Sides<'_>,
-    given: Given<'_>,
+    context: &MapContext<'_>,
+    given: LeafSource<'_>,
     sub: &SubShape,
 ) -> Result<bool, AllocError>
-    ensures { IfOk result (λ b. b ≡ leaves.may_be_unlisted (given_texts sides.now given.entry) (table_values sides.now.target.tables (sub_value sub.now))) }
+    ensures { IfOk result (λ b. b ≡ leaves.may_be_unlisted (given_texts context.now given.entry) (table_values context.now.target.tables (sub_value sub.now))) }
 {
     let Some(name) = table_of(Some(sub)) else {
         return Ok(false);
     };
-    if sides.target().table(name).is_none() {
+    if context.target().table(name).is_none() {
         return Ok(false);
     }
     let origin = origin_of(given);
     if is_any(origin) {
         return Ok(true);
     }
-    Ok(fits(len_of(given.sub), sides.unlisted(origin, name)?))
+    Ok(fits(len_of(given.sub), context.unlisted(origin, name)?))
 }
 
 /// Whether what can stand there may be longer than this subcomponent of the target takes.
 pub(crate) fn may_be_long(
-    sides: &Sides<'_>,
-    given: Given<'_>,
+    context: &MapContext<'_>,
+    given: LeafSource<'_>,
     sub: &SubShape,
 ) -> Result<bool, AllocError>
-    ensures { IfOk result (λ b. b ≡ leaves.may_be_long sides.now.target.count (given_texts sides.now given.entry) (sub_value sub.now).len) }
+    ensures { IfOk result (λ b. b ≡ leaves.may_be_long context.now.target.count (given_texts context.now given.entry) (sub_value sub.now).len) }
 {
     let Some(most) = sub.len else {
         return Ok(false);
@@ -89,23 +89,28 @@ pub(crate) fn may_be_long(
     if is_any(origin) {
         return match len {
             None => Ok(true),
-            Some(len) => Ok(may_exceed(sides.source().count(), len, sides.target().count(), most)),
+            Some(len) => Ok(may_exceed(
+                context.source().count(),
+                len,
+                context.target().count(),
+                most,
+            )),
         };
     }
-    sides.goes_beyond(origin, len, most)
+    context.goes_beyond(origin, len, most)
 }
 
 /// Whether a text of this subcomponent may have no row in the table of this name, and nothing stands for it.
 pub(crate) fn is_unrowed(
-    sides: &Sides<'_>,
+    context: &MapContext<'_>,
     name: &[u8],
     sub: Option<&SubShape>,
 ) -> Result<bool, AllocError>
-    ensures { IfOk result (λ b. b ≡ spec.is_unrowed (rows_named sides.now.map.tables name.now) (source_values sides.now sub.entry)) }
+    ensures { IfOk result (λ b. b ≡ spec.is_unrowed (rows_named context.now.map.tables name.now) (source_values context.now sub.entry)) }
 {
-    let given = Given {
+    let given = LeafSource {
         rows: Some(name),
         sub,
     };
-    Ok(fits(len_of(sub), sides.nothing(origin_of(given))?))
+    Ok(fits(len_of(sub), context.nothing(origin_of(given))?))
 }

@@ -12,7 +12,7 @@ ghost use Rattle.gw_maplang.specs.Shapes.{TableValue};
 
 use crate::sources::Sources;
 use gw_profile::{CompShape, FieldShape, SubShape};
-use gw_resolve::{Element, Found, Interval, Place, Reference, Rule, find, never};
+use gw_resolve::{CountedNode, Interval, Reference, Rule, ScopeNode, ScopePath, find, never};
 
 /// The segment at a place: how often it is there, and its fields.
 #[derive(Clone, Copy)]
@@ -31,11 +31,11 @@ fn nothing_known<'a>() -> Known<'a>
     }
 }
 
-fn known_of<'a>(found: Found<'a, '_>) -> Known<'a>
+fn known_of<'a>(found: CountedNode<'a, '_>) -> Known<'a>
     ensures { known_value result ≡ places.known_of (found_value (Some found.entry)) }
 {
     match found.element {
-        Element::Segment(segment) => Known {
+        ScopeNode::Segment(segment) => Known {
             count: found.count,
             fields: &segment.fields,
         },
@@ -44,7 +44,7 @@ fn known_of<'a>(found: Found<'a, '_>) -> Known<'a>
 }
 
 /// The segment at a place.
-pub(crate) fn segment_at<'a>(scope: &[Element<'a, '_>], place: &Place) -> Known<'a>
+pub(crate) fn segment_at<'a>(scope: &[ScopeNode<'a, '_>], place: &ScopePath) -> Known<'a>
     ensures { known_value result ≡ saturated_known (places.known (walked scope.now) (seen_place place.now)) }
 {
     match find(scope, place) {

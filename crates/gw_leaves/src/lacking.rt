@@ -15,7 +15,7 @@ use crate::sources::Sources;
 use crate::values::is_required;
 use gw_maplang::LeafPlace;
 use gw_profile::{CompShape, SubShape};
-use gw_resolve::{At, Failure, Mark, note};
+use gw_resolve::{At, Failure, FailureSite, note};
 use indexmap::{IndexMap, IndexSet};
 use std::alloc::AllocError;
 
@@ -28,7 +28,7 @@ enum Parts {
 
 /// Where texts of the leaves of a field stand.
 #[derive(Drop)]
-struct Standing {
+struct Covered {
     /// The components where one is always there.
     sure_comps: IndexSet<u32>,
     /// The places where one is always there.
@@ -52,7 +52,7 @@ fn is_only(parts: Option<&Parts>, number: u32) -> bool
     }
 }
 
-// A text can stand in the part of this number as well.
+// A text can be in the part of this number as well.
 fn with_part(parts: Option<&Parts>, number: u32) -> Parts
     ensures { (n : ℕ) → is_only (Some result) n ≡ (is_only (option_copied parts.entry) n && number == n) }
 {
@@ -63,7 +63,7 @@ fn with_part(parts: Option<&Parts>, number: u32) -> Parts
 }
 
 // A text always stands there.
-fn add_sure(standing: &mut Standing, place: LeafPlace) -> Result<(), AllocError>
+fn add_sure(standing: &mut Covered, place: LeafPlace) -> Result<(), AllocError>
     ensures { OnOk result (Gains standing.old standing.new place true true) }
 {
     standing.sure_comps.insert(place.comp)?;
@@ -72,7 +72,7 @@ fn add_sure(standing: &mut Standing, place: LeafPlace) -> Result<(), AllocError>
 }
 
 // A text can stand there.
-fn add_possible(standing: &mut Standing, place: LeafPlace) -> Result<(), AllocError>
+fn add_possible(standing: &mut Covered, place: LeafPlace) -> Result<(), AllocError>
     ensures { OnOk result (Gains standing.old standing.new place false false) }
 {
     let comps = with_part(standing.comps.as_ref(), place.comp);
@@ -82,7 +82,7 @@ fn add_possible(standing: &mut Standing, place: LeafPlace) -> Result<(), AllocEr
     Ok(())
 }
 
-fn add(standing: &mut Standing, place: LeafPlace, presence: Presence) -> Result<(), AllocError>
+fn add(standing: &mut Covered, place: LeafPlace, presence: Presence) -> Result<(), AllocError>
     ensures { OnOk result (Gains standing.old standing.new place (is_always presence) (is_absent presence)) }
 {
     match presence {
@@ -97,10 +97,10 @@ fn add(standing: &mut Standing, place: LeafPlace, presence: Presence) -> Result<
 }
 
 // Where the texts of these leaves stand.
-fn gather(sources: Sources<'_, '_, '_, '_, '_>, leaves: &[At]) -> Result<Standing, AllocError>
+fn gather(sources: Sources<'_, '_, '_, '_, '_>, leaves: &[At]) -> Result<Covered, AllocError>
     ensures { IfOk result (λ s. Gathers s (sources_value sources.entry) (leaves_value sources.entry leaves.now)) }
 {
-    let mut standing = Standing {
+    let mut standing = Covered {
         sure_comps: IndexSet::new(sources.alloc),
         sure_places: IndexSet::new(sources.alloc),
         comps: None,
@@ -113,14 +113,14 @@ fn gather(sources: Sources<'_, '_, '_, '_, '_>, leaves: &[At]) -> Result<Standin
 }
 
 // The component always has a text, where the field has one.
-fn is_comp_sure(standing: &Standing, comp: u32) -> bool
+fn is_comp_sure(standing: &Covered, comp: u32) -> bool
     ensures { result ≡ is_comp_sure standing.now comp }
 {
     standing.sure_comps.contains(&comp) || is_only(standing.comps.as_ref(), comp)
 }
 
 // The subcomponent always has a text, where its component has one.
-fn is_sub_sure(standing: &Standing, comp: u32, sub: u32) -> bool
+fn is_sub_sure(standing: &Covered, comp: u32, sub: u32) -> bool
     ensures { result ≡ is_sub_sure standing.now comp sub }
 {
     standing.sure_places.contains(&LeafPlace { comp, sub })
@@ -131,14 +131,14 @@ fn is_sub_sure(standing: &Standing, comp: u32, sub: u32) -> bool
 
 fn check_sub(
     found: &mut Vec<Failure>,
-    mark: Mark,
-    standing: &Standing,
+    mark: FailureSite,
+    standing: &Covered,
     comp: u32,
     sub: &SubShape,
 ) -> Result<(), AllocError>
     ensures { OnOk result (Notes found.old found.new (sub_lacks (seen_mark mark) standing.now comp (sub_value sub.now))) }
 {
-    let mark = Mark {
+    let mark = FailureSite {
         sub: sub.number,
         ..mark
     };
@@ -148,8 +148,8 @@ fn check_sub(
 
 fn check_subs(
     found: &mut Vec<Failure>,
-    mark: Mark,
-    standing: &Standing,
+    mark: FailureSite,
+    standing: &Covered,
     comp: u32,
     subs: &[SubShape],
 ) -> Result<(), AllocError>
@@ -163,13 +163,13 @@ fn check_subs(
 
 fn check_comp(
     found: &mut Vec<Failure>,
-    mark: Mark,
-    standing: &Standing,
+    mark: FailureSite,
+    standing: &Covered,
     comp: &CompShape,
 ) -> Result<(), AllocError>
     ensures { OnOk result (Notes found.old found.new (all_lacks (seen_mark mark) standing.now (comp_value comp.now))) }
 {
-    let mark = Mark {
+    let mark = FailureSite {
         comp: comp.number,
         ..mark
     };
@@ -180,8 +180,8 @@ fn check_comp(
 
 fn check_comps(
     found: &mut Vec<Failure>,
-    mark: Mark,
-    standing: &Standing,
+    mark: FailureSite,
+    standing: &Covered,
     comps: &[CompShape],
 ) -> Result<(), AllocError>
     ensures { OnOk result (Notes found.old found.new (flat_map (all_lacks (seen_mark mark) standing.now) (map comp_value comps.now))) }
@@ -196,7 +196,7 @@ fn check_comps(
 pub(crate) fn check_lacking(
     found: &mut Vec<Failure>,
     sources: Sources<'_, '_, '_, '_, '_>,
-    mark: Mark,
+    mark: FailureSite,
     leaves: &[At],
     comps: &[CompShape],
 ) -> Result<(), AllocError>

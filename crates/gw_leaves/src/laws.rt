@@ -40,7 +40,7 @@ pub fn counts_at_the_cap()
 {}
 
 /// What can stand at a place is included exactly where it meets the usage, and is never there or has only values of the table that aren't too long.
-/// Where none can be missing from a table, each stands in it, and where each of listed values stands in it, none can.
+/// Where no value can be missing from a table, each is in it; where each listed value is in it, none can be missing.
 /// None can be too long exactly where each has at most that length in the count of the target.
 pub fn values_that_are_included()
     ensures included { (to : Count) (shape : Shape) (s : SubValue) (table : Option (List (List ℕ))) → (is_included to shape s table ≡ true) ↔

@@ -1,6 +1,7 @@
 //! What a source can give at a place, and what a field, a component or a subcomponent of the target asks there.
 #![tactic(auto)]
 
+mod context;
 mod copied;
 mod count;
 mod findings;
@@ -18,19 +19,18 @@ mod places;
 mod presence;
 mod readings;
 mod shape;
-mod sides;
 mod sources;
 mod texts;
 mod values;
 
+pub use context::MapContext;
 pub use count::rule_count;
 pub use known::rule_of;
 pub use leaf::included;
 pub use lookup::check_lookups;
 pub use making::check_making;
 pub use mark::field_mark;
-pub use places::{fields_at, within_if};
+pub use places::{enter_if, fields_at};
 pub use shape::{Presence, Shape, Values};
-pub use sides::Sides;
 pub use sources::Sources;
 pub use values::is_forbidden;

@@ -11,7 +11,7 @@ use crate::given::is_unrowed;
 use crate::leaf::source_sub;
 use crate::mark::leaf_mark;
 use crate::sources::Sources;
-use gw_resolve::{At, Failure, Leaf, Making, Rule, note};
+use gw_resolve::{At, Failure, Making, ResolvedLeaf, Rule, note};
 use std::alloc::AllocError;
 
 fn check_lookup(
@@ -22,10 +22,10 @@ fn check_lookup(
 ) -> Result<(), AllocError>
     ensures { OnOk result (Notes found.old found.new (spec.lookup_failures (sources_value sources.entry) field (at_leaf (map_tables sources.entry) at.now))) }
 {
-    let Leaf::LookedUp(name, source) = &at.leaf else {
+    let ResolvedLeaf::LookedUp(name, source) = &at.leaf else {
         return Ok(());
     };
-    let is_unrowed = is_unrowed(sources.sides, name, source_sub(sources, source))?;
+    let is_unrowed = is_unrowed(sources.context, name, source_sub(sources, source))?;
     note(found, 10, leaf_mark(field, at), is_unrowed)
 }
 
@@ -64,7 +64,7 @@ fn check_rule(
     }
 }
 
-/// Adds the failures of the lookups of these rules, each at its line and place. The one error is want of memory.
+/// Adds the failures of the lookups of these rules, each at its line and place. The one error is allocation failure.
 pub fn check_lookups(
     found: &mut Vec<Failure>,
     sources: Sources<'_, '_, '_, '_, '_>,

@@ -10,7 +10,7 @@ ghost use Rattle.gw_leaves.specs.Uses.{map_tables};
 ghost use Rattle.gw_resolve.specs.Seen.{at_leaf, mark as seen_mark};
 ghost use Rattle.gw_leaves.specs.own.Seen as seen;
 
-use crate::given::{Given, table_of};
+use crate::given::{LeafSource, table_of};
 use crate::known::{comp_of, sub_of};
 use crate::lacking::check_lacking;
 use crate::leaf::{source_sub, table_named};
@@ -21,7 +21,7 @@ use crate::sources::Sources;
 use crate::texts::{is_long, is_missing};
 use crate::values::{check_values, is_forbidden};
 use gw_profile::{CompShape, FieldShape, Profile, SubShape};
-use gw_resolve::{At, Failure, Leaf, Mark, Source, note};
+use gw_resolve::{At, Failure, FailureSite, ResolvedLeaf, Source, note};
 use std::alloc::AllocError;
 
 // ---- what the leaves give
@@ -43,7 +43,7 @@ fn breaks(target: &Profile, text: &[u8], sub: &SubShape) -> bool
 fn check_const(
     found: &mut Vec<Failure>,
     target: &Profile,
-    mark: Mark,
+    mark: FailureSite,
     text: &[u8],
     sub: &SubShape,
 ) -> Result<(), AllocError>
@@ -59,7 +59,7 @@ fn check_const(
 fn check_source(
     found: &mut Vec<Failure>,
     sources: Sources<'_, '_, '_, '_, '_>,
-    mark: Mark,
+    mark: FailureSite,
     rows: Option<&[u8]>,
     source: &Source,
     sub: &SubShape,
@@ -68,10 +68,10 @@ fn check_source(
 {
     check_values(
         found,
-        sources.sides,
+        sources.context,
         mark,
         source_presence(sources, source),
-        Given {
+        LeafSource {
             rows,
             sub: source_sub(sources, source),
         },
@@ -82,16 +82,16 @@ fn check_source(
 fn check_leaf(
     found: &mut Vec<Failure>,
     sources: Sources<'_, '_, '_, '_, '_>,
-    mark: Mark,
-    leaf: &Leaf,
+    mark: FailureSite,
+    leaf: &ResolvedLeaf,
     sub: &SubShape,
 ) -> Result<(), AllocError>
     ensures { OnOk result (Notes found.old found.new (seen.leaf_failures sources.entry mark leaf.now sub.now)) }
 {
     match leaf {
-        Leaf::Const(text) => check_const(found, sources.sides.target(), mark, text, sub),
-        Leaf::Copied(source) => check_source(found, sources, mark, None, source, sub),
-        Leaf::LookedUp(name, source) => {
+        ResolvedLeaf::Const(text) => check_const(found, sources.context.target(), mark, text, sub),
+        ResolvedLeaf::Copied(source) => check_source(found, sources, mark, None, source, sub),
+        ResolvedLeaf::LookedUp(name, source) => {
             check_source(found, sources, mark, Some(name.as_slice()), source, sub)
         }
     }
@@ -117,7 +117,7 @@ fn is_forbidden_sub(sub: Option<&SubShape>) -> bool
 
 fn check_barred(
     found: &mut Vec<Failure>,
-    mark: Mark,
+    mark: FailureSite,
     barred: bool,
     presence: Presence,
 ) -> Result<(), AllocError>
@@ -167,7 +167,7 @@ fn check_leaves(
 pub(crate) fn check_made(
     found: &mut Vec<Failure>,
     sources: Sources<'_, '_, '_, '_, '_>,
-    mark: Mark,
+    mark: FailureSite,
     leaves: &[At],
     field: &FieldShape,
 ) -> Result<(), AllocError>

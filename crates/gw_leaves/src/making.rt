@@ -8,14 +8,14 @@ use crate::count::walking;
 use crate::made::check_made;
 use crate::sources::Sources;
 use gw_profile::FieldShape;
-use gw_resolve::{Failure, Making, Mark};
+use gw_resolve::{Failure, FailureSite, Making};
 use std::alloc::AllocError;
 
-/// Adds the failures of what a rule makes of a target field, each at this mark or at a part of it. The one error is want of memory.
+/// Adds the failures of what a rule makes of a target field, each at this mark or at a part of it. The one error is allocation failure.
 pub fn check_making(
     found: &mut Vec<Failure>,
     sources: Sources<'_, '_, '_, '_, '_>,
-    mark: Mark,
+    mark: FailureSite,
     making: &Making,
     field: &FieldShape,
 ) -> Result<(), AllocError>

@@ -3,13 +3,13 @@ ghost use Rattle.std.specs.Prelude.{◌≡◌, None};
 ghost use Rattle.gw_leaves.specs.Components as spec;
 ghost use Rattle.gw_resolve.specs.Seen.{mark as seen_mark};
 
-use gw_resolve::{At, Mark};
+use gw_resolve::{At, FailureSite};
 
 /// A mark of all of a target field, by its number and a line. It takes no memory.
-pub fn field_mark(number: u32, line: u32) -> Mark
+pub fn field_mark(number: u32, line: u32) -> FailureSite
     ensures { seen_mark result ≡ spec.field_mark number line }
 {
-    Mark {
+    FailureSite {
         line,
         child: None,
         field: number,
@@ -19,11 +19,11 @@ pub fn field_mark(number: u32, line: u32) -> Mark
     }
 }
 
-/// Where a leaf stands in its field.
-pub(crate) fn leaf_mark(field: u32, at: &At) -> Mark
+/// The component and the subcomponent of a leaf in its field.
+pub(crate) fn leaf_mark(field: u32, at: &At) -> FailureSite
     ensures { seen_mark result ≡ record { line = at.now.line; child = None; field = field; comp = at.now.place.comp; sub = at.now.place.sub; count = None } }
 {
-    Mark {
+    FailureSite {
         line: at.line,
         child: None,
         field,

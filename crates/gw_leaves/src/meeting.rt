@@ -1,16 +1,16 @@
 //! The tables that a map brings together.
 
+use crate::context::{MapContext, Meetings};
 use crate::count::walking;
-use crate::given::{Given, origin_of, table_of};
+use crate::given::{LeafSource, origin_of, table_of};
 use crate::known::{at_field, comp_of, field_of, sub_of};
 use crate::leaf::source_sub;
-use crate::places::{fields_at, within_if};
+use crate::places::{enter_if, fields_at};
 use crate::readings::Origin;
-use crate::sides::{Meetings, Sides};
 use crate::sources::Sources;
 use gw_profile::{FieldShape, Node};
 use gw_resolve::{
-    At, Element, Item, Leaf, Making, Rule, SegmentItem, Source, nodes_within, within,
+    At, Item, Making, ResolvedLeaf, Rule, ScopeNode, SegmentItem, Source, enter, nodes_within,
 };
 use indexmap::IndexSet;
 use std::alloc::{AllocError, Global};
@@ -43,11 +43,11 @@ fn add_leaves<'a>(
 ) -> Result<(), AllocError> {
     for at in leaves {
         let (rows, source) = match &at.leaf {
-            Leaf::Const(_) => continue,
-            Leaf::Copied(source) => (None, source),
-            Leaf::LookedUp(name, source) => (Some(name.as_slice()), source),
+            ResolvedLeaf::Const(_) => continue,
+            ResolvedLeaf::Copied(source) => (None, source),
+            ResolvedLeaf::LookedUp(name, source) => (Some(name.as_slice()), source),
         };
-        let given = Given {
+        let given = LeafSource {
             rows,
             sub: source_sub(sources, source),
         };
@@ -70,7 +70,7 @@ fn add_copied<'a>(
     for comp in &field.comps {
         let same = comp_of(from, comp.number);
         for sub in &comp.subs {
-            let given = Given {
+            let given = LeafSource {
                 rows: None,
                 sub: sub_of(same, sub.number),
             };
@@ -100,15 +100,15 @@ fn add_rule<'a>(
 fn add_segment<'a>(
     alloc: Global,
     meetings: &mut Meetings<'a>,
-    sides: &Sides<'_>,
-    scope: &[Element<'a, '_>],
+    context: &MapContext<'_>,
+    scope: &[ScopeNode<'a, '_>],
     nodes: &'a [Node],
     segment: &'a SegmentItem,
 ) -> Result<(), AllocError> {
-    let inner = within_if(alloc, scope, &segment.place)?;
+    let inner = enter_if(alloc, scope, &segment.place)?;
     let sources = Sources {
         alloc,
-        sides,
+        context,
         scope: &inner,
         current: None,
     };
@@ -124,22 +124,22 @@ fn add_segment<'a>(
 pub(crate) fn add_items<'a>(
     alloc: Global,
     meetings: &mut Meetings<'a>,
-    sides: &Sides<'_>,
-    scope: &[Element<'a, '_>],
+    context: &MapContext<'_>,
+    scope: &[ScopeNode<'a, '_>],
     nodes: &'a [Node],
     items: &'a [Item],
 ) -> Result<(), AllocError> {
     for item in items {
         match item {
-            Item::Segment(segment) => add_segment(alloc, meetings, sides, scope, nodes, segment)?,
+            Item::Segment(segment) => add_segment(alloc, meetings, context, scope, nodes, segment)?,
             Item::Group(group) => {
-                let inner = within(alloc, scope, &group.place)?;
+                let inner = enter(alloc, scope, &group.place)?;
                 let below = nodes_within(nodes, group.child);
-                add_items(alloc, meetings, sides, &inner, below, &group.items)?;
+                add_items(alloc, meetings, context, &inner, below, &group.items)?;
             }
             Item::Flat(flat) => {
-                let inner = within(alloc, scope, &flat.place)?;
-                add_items(alloc, meetings, sides, &inner, nodes, &flat.items)?;
+                let inner = enter(alloc, scope, &flat.place)?;
+                add_items(alloc, meetings, context, &inner, nodes, &flat.items)?;
             }
         }
     }

@@ -6,7 +6,7 @@ ghost use Rattle.gw_resolve.specs.Places as places;
 ghost use Rattle.gw_resolve.specs.Seen.{scope as walked, place as seen_place};
 
 use gw_profile::{FieldShape, Node};
-use gw_resolve::{Element, Place, within};
+use gw_resolve::{ScopeNode, ScopePath, enter};
 use std::alloc::{AllocError, Global};
 
 fn fields_of(node: &Node) -> &[FieldShape]
@@ -28,16 +28,16 @@ pub fn fields_at(nodes: &[Node], number: usize) -> &[FieldShape]
     }
 }
 
-/// The elements that are walked at a place, the innermost last; where no place is said, those that are walked already. The one error is want of memory.
-pub fn within_if<'a, 'l>(
+/// The elements that are walked at a place, the innermost last; where no place is said, those that are walked already. The one error is allocation failure.
+pub fn enter_if<'a, 'l>(
     alloc: Global,
-    scope: &[Element<'a, 'l>],
-    place: &Option<Place>,
-) -> Result<Vec<Element<'a, 'l>>, AllocError>
+    scope: &[ScopeNode<'a, 'l>],
+    place: &Option<ScopePath>,
+) -> Result<Vec<ScopeNode<'a, 'l>>, AllocError>
     ensures { IfOk result (λ es. walked es.items ≡ places.within_if (walked scope.now) (option_map seen_place place.now)) }
 {
     match place {
         None => Vec::from_slice(alloc, scope),
-        Some(place) => within(alloc, scope, place),
+        Some(place) => enter(alloc, scope, place),
     }
 }

@@ -11,7 +11,7 @@ use crate::known::{Known, at_field, comp_of, field_of, segment_at, sub_of};
 use crate::shape::Presence;
 use crate::sources::Sources;
 use gw_profile::{Card, CompShape, FieldShape, SubShape, Usage};
-use gw_resolve::{Interval, Leaf, Reference, Source};
+use gw_resolve::{Interval, Reference, ResolvedLeaf, Source};
 
 fn by_usage(usage: Option<Usage>) -> Presence
     ensures { result ≡ spec.by_usage usage }
@@ -138,12 +138,12 @@ pub(crate) fn source_presence(sources: Sources<'_, '_, '_, '_, '_>, source: &Sou
 }
 
 /// Of the text of a leaf.
-pub(crate) fn leaf_presence(sources: Sources<'_, '_, '_, '_, '_>, leaf: &Leaf) -> Presence
+pub(crate) fn leaf_presence(sources: Sources<'_, '_, '_, '_, '_>, leaf: &ResolvedLeaf) -> Presence
     ensures { result ≡ (spec.leaf_shape (sources_value sources.entry) (seen_leaf (map_tables sources.entry) leaf.now)).presence }
 {
     match leaf {
-        Leaf::Const(_) => Presence::Always,
-        Leaf::Copied(source) => source_presence(sources, source),
-        Leaf::LookedUp(_, source) => source_presence(sources, source),
+        ResolvedLeaf::Const(_) => Presence::Always,
+        ResolvedLeaf::Copied(source) => source_presence(sources, source),
+        ResolvedLeaf::LookedUp(_, source) => source_presence(sources, source),
     }
 }

@@ -16,7 +16,7 @@ pub(crate) type Origin<'a> = (Option<&'a [u8]>, Option<&'a [u8]>);
 
 /// A text that can be read: its length by the count of the source, and what is given for it.
 #[derive(Clone, Copy)]
-pub(crate) struct Reading<'a> {
+pub(crate) struct SourceValue<'a> {
     pub(crate) size: u64,
     pub(crate) text: Option<&'a [u8]>,
 }
@@ -30,7 +30,7 @@ pub(crate) enum Test<'a> {
 
 /// The greatest length of what is given for texts of this length or more, by the count of the target.
 #[derive(Clone, Copy)]
-pub(crate) struct Step {
+pub(crate) struct LengthStep {
     pub(crate) from: u64,
     pub(crate) most: u64,
 }
@@ -70,12 +70,12 @@ fn themselves<'a>(
     alloc: Global,
     count: Count,
     values: &'a [Vec<u8>],
-) -> Result<Vec<Reading<'a>>, AllocError>
+) -> Result<Vec<SourceValue<'a>>, AllocError>
     ensures { IfOk result (λ made. readings_value made.items ≡ map (spec.itself count) (items_all values.now)) }
 {
     let mut made = Vec::with_capacity(alloc, values.len())?;
     for value in values {
-        made.push(Reading {
+        made.push(SourceValue {
             size: measure(count, value),
             text: Some(value.as_slice()),
         })?;
@@ -89,12 +89,12 @@ fn looked_up<'a>(
     count: Count,
     rows: Option<&'a Rows>,
     values: &'a [Vec<u8>],
-) -> Result<Vec<Reading<'a>>, AllocError>
+) -> Result<Vec<SourceValue<'a>>, AllocError>
     ensures { IfOk result (λ made. readings_value made.items ≡ map (spec.looked_up count (rows_value rows.entry)) (items_all values.now)) }
 {
     let mut made = Vec::with_capacity(alloc, values.len())?;
     for value in values {
-        made.push(Reading {
+        made.push(SourceValue {
             size: measure(count, value),
             text: given(rows, value),
         })?;
@@ -113,17 +113,17 @@ fn second_at<'a>(rows: &'a Rows, i: usize) -> Option<&'a [u8]>
 }
 
 // All that the rows give, each for a text as short as one likes.
-fn all_given<'a>(alloc: Global, rows: &'a Rows) -> Result<Vec<Reading<'a>>, AllocError>
+fn all_given<'a>(alloc: Global, rows: &'a Rows) -> Result<Vec<SourceValue<'a>>, AllocError>
     ensures { IfOk result (λ made. readings_value made.items ≡ spec.all_given rows.now) }
 {
     let mut made = Vec::new(alloc);
     for i in 0..rows.rows().len() {
-        made.push(Reading {
+        made.push(SourceValue {
             size: 0,
             text: second_at(rows, i),
         })?;
     }
-    made.push(Reading {
+    made.push(SourceValue {
         size: 0,
         text: rows.other(),
     })?;
@@ -136,7 +136,7 @@ fn gathered<'a>(
     source: &'a Profile,
     map: &'a Map,
     origin: Origin<'a>,
-) -> Result<Vec<Reading<'a>>, AllocError>
+) -> Result<Vec<SourceValue<'a>>, AllocError>
     ensures { IfOk result (λ made. readings_value made.items ≡ spec.read_of source.now.count source.now.tables map.now.tables origin.entry) }
 {
     let (rows, table) = origin;
@@ -149,7 +149,7 @@ fn gathered<'a>(
             None => match map.table(rows) {
                 None => {
                     let mut made = Vec::new(alloc);
-                    made.push(Reading {
+                    made.push(SourceValue {
                         size: 0,
                         text: None,
                     })?;
@@ -175,13 +175,13 @@ pub(crate) fn readings_of<'a>(
     source: &'a Profile,
     map: &'a Map,
     origin: Origin<'a>,
-) -> Result<Vec<Reading<'a>>, AllocError>
+) -> Result<Vec<SourceValue<'a>>, AllocError>
     ensures rising { IfOk result (λ made. AreRising made.items) }
     ensures all { IfOk result (λ made. AreAll (spec.read_of source.now.count source.now.tables map.now.tables origin.entry) made.items) }
 {
     let mut made = gathered(alloc, source, map, origin)?;
     made.sort_unstable_by_key(
-        |reading: &Reading| -> u64
+        |reading: &SourceValue| -> u64
             ensures { result ≡ reading.now.size }
         { reading.size },
     );
@@ -221,7 +221,7 @@ fn holds(test: Test<'_>, given: Option<&[u8]>) -> bool
 }
 
 /// The length of the shortest text for which the test holds of what is given; the first of these that is found.
-pub(crate) fn shortest(readings: &[Reading<'_>], test: Test<'_>) -> Option<u64>
+pub(crate) fn shortest(readings: &[SourceValue<'_>], test: Test<'_>) -> Option<u64>
     requires { AreRising readings.now }
     ensures { IsShortest (test_value test.entry) (readings_value readings.now) result }
 {
@@ -234,7 +234,7 @@ pub(crate) fn shortest(readings: &[Reading<'_>], test: Test<'_>) -> Option<u64>
 }
 
 // Whether the last of these steps is as low, and goes as far.
-fn is_within(step: Step, steps: &[Step]) -> bool
+fn is_within(step: LengthStep, steps: &[LengthStep]) -> bool
     ensures { IsTrue result → IsWithin step steps.now }
 {
     match steps.last() {
@@ -244,13 +244,17 @@ fn is_within(step: Step, steps: &[Step]) -> bool
 }
 
 // Adds the step that a text makes, where the last doesn't go as far.
-fn add_step(steps: &mut Vec<Step>, to: Count, reading: Reading<'_>) -> Result<(), AllocError>
+fn add_step(
+    steps: &mut Vec<LengthStep>,
+    to: Count,
+    reading: SourceValue<'_>,
+) -> Result<(), AllocError>
     ensures { OnOk result (AddsStep to steps.old.items steps.new.items (spec.reading_value reading.entry)) }
 {
     let Some(text) = reading.text else {
         return Ok(());
     };
-    let step = Step {
+    let step = LengthStep {
         from: reading.size,
         most: measure(to, text),
     };
@@ -264,8 +268,8 @@ fn add_step(steps: &mut Vec<Step>, to: Count, reading: Reading<'_>) -> Result<()
 pub(crate) fn steps_of(
     alloc: Global,
     to: Count,
-    readings: &[Reading<'_>],
-) -> Result<Vec<Step>, AllocError>
+    readings: &[SourceValue<'_>],
+) -> Result<Vec<LengthStep>, AllocError>
     ensures { IfOk result (λ steps. AreSteps to (readings_value readings.now) steps.items) }
 {
     let mut steps = Vec::new(alloc);
@@ -276,7 +280,7 @@ pub(crate) fn steps_of(
 }
 
 /// Whether what is given for a text that isn't longer can be longer than this.
-pub(crate) fn goes_beyond(steps: &[Step], len: Option<u32>, most: u32) -> bool
+pub(crate) fn goes_beyond(steps: &[LengthStep], len: Option<u32>, most: u32) -> bool
     ensures { result ≡ some_step len most steps.now }
 {
     for step in steps {

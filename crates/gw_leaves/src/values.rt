@@ -7,12 +7,12 @@ ghost use Rattle.gw_resolve.specs.Noted.{Notes};
 ghost use Rattle.gw_resolve.specs.Seen.{mark as seen_mark};
 ghost use Rattle.gw_leaves.specs.own.Seen as seen;
 
-use crate::given::{Given, may_be_long, may_be_unlisted};
+use crate::context::MapContext;
+use crate::given::{LeafSource, may_be_long, may_be_unlisted};
 use crate::presence::{is_absent, is_always};
 use crate::shape::Presence;
-use crate::sides::Sides;
 use gw_profile::{SubShape, Usage};
-use gw_resolve::{Failure, Mark, note};
+use gw_resolve::{Failure, FailureSite, note};
 use std::alloc::AllocError;
 
 pub(crate) fn is_required(usage: Usage) -> bool
@@ -37,7 +37,7 @@ pub fn is_forbidden(usage: Usage) -> bool
 /// Something required isn't always there.
 pub(crate) fn check_required(
     found: &mut Vec<Failure>,
-    mark: Mark,
+    mark: FailureSite,
     usage: Usage,
     presence: Presence,
 ) -> Result<(), AllocError>
@@ -52,7 +52,7 @@ pub(crate) fn check_required(
 /// Something forbidden may be there.
 pub(crate) fn check_forbidden(
     found: &mut Vec<Failure>,
-    mark: Mark,
+    mark: FailureSite,
     usage: Usage,
     presence: Presence,
 ) -> Result<(), AllocError>
@@ -67,19 +67,19 @@ pub(crate) fn check_forbidden(
 /// What can stand there has another value than its table's, or is too long.
 pub(crate) fn check_values(
     found: &mut Vec<Failure>,
-    sides: &Sides<'_>,
-    mark: Mark,
+    context: &MapContext<'_>,
+    mark: FailureSite,
     presence: Presence,
-    given: Given<'_>,
+    given: LeafSource<'_>,
     sub: &SubShape,
 ) -> Result<(), AllocError>
-    ensures { OnOk result (Notes found.old found.new (seen.value_failures sides.now mark presence given.entry sub.now)) }
+    ensures { OnOk result (Notes found.old found.new (seen.value_failures context.now mark presence given.entry sub.now)) }
 {
     if is_absent(presence) {
         return Ok(());
     }
-    let is_unlisted = may_be_unlisted(sides, given, sub)?;
+    let is_unlisted = may_be_unlisted(context, given, sub)?;
     note(found, 6, mark, is_unlisted)?;
-    let is_long = may_be_long(sides, given, sub)?;
+    let is_long = may_be_long(context, given, sub)?;
     note(found, 7, mark, is_long)
 }

@@ -56,7 +56,7 @@ pub trait Form<'a>: Drop {
         ensures { gives self at result };
 }
 
-/// Takes a line: the value with it, or the fault of the line, or want of memory.
+/// Takes a line: the value with it, or the fault of the line, or allocation failure.
 pub fn take_line<'a, F: Form<'a>>(
     alloc: Global,
     form: F,
@@ -77,7 +77,7 @@ pub fn take_line<'a, F: Form<'a>>(
     }
 }
 
-/// Takes these lines, of which the first has this number: the value with all of them, or the fault of the first faulty one, or want of memory.
+/// Takes these lines, of which the first has this number: the value with all of them, or the fault of the first faulty one, or allocation failure.
 pub fn take_lines<'a, F: Form<'a>>(
     alloc: Global,
     form: F,
@@ -113,7 +113,7 @@ fn finish_lines<'a, F: Form<'a>>(
     }
 }
 
-/// The value of a text of at most so many bytes and lines; else that it is too large, or the fault of its first faulty line or of its end, or want of memory.
+/// The value of a text within the limits of bytes and lines; else that it is too large, or the fault of its first faulty line or of its end, or allocation failure.
 pub fn read_text<'a, F: Form<'a>>(
     alloc: Global,
     form: F,

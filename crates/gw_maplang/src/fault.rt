@@ -27,7 +27,7 @@ impl MapFault {
     ghost use Rattle.std.specs.Prelude.{◌≡◌};
     ghost use Rattle.gw_maplang.specs.Numbers.{number};
 
-    /// The number of the fault, from 1 for want of memory to 7. It takes no memory.
+    /// The number of the fault, from 1 (allocation failure) to 7. It takes no memory.
     pub fn number(&self) -> u8
         ensures { result ≡ number self.now }
     {

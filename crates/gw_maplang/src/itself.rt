@@ -131,7 +131,7 @@ fn same_items(alloc: Global, nodes: &[Node]) -> Result<Vec<Item>, AllocError>
     Ok(items)
 }
 
-/// The map from the profile to itself: each segment from itself with a copy of each listed field that is not X, each group from itself, X segments left out. Every line is 0. The one error is want of memory.
+/// The map from the profile to itself: each segment from itself with a copy of each listed field that is not X, each group from itself, X segments left out. Every line is 0. The one error is allocation failure.
 pub fn identity(alloc: Global, profile: &Profile) -> Result<Map, AllocError>
     ensures { IfOk result (λ m. map_value m ≡ spec.identity (profile_value profile.now)) }
 {

@@ -22,7 +22,7 @@ pub struct Map {
     pub(crate) drops: Vec<Dropped>,
 }
 
-// (by hand: so no crate above proves again how what lies in it is let go)
+// (by hand, so that no crate above proves again how its fields are dropped)
 impl Drop for Map {
     fn drop(self) {
         let Map {

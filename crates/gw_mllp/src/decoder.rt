@@ -19,7 +19,7 @@ pub struct Decoder {
     tail: Tail,
 }
 
-// (by hand: so no crate above proves again how what lies in it is let go)
+// (by hand, so that no crate above proves again how its fields are dropped)
 impl Drop for Decoder {
     fn drop(self) {
         let Decoder {

@@ -22,7 +22,7 @@ pub enum FrameFault {
 impl FrameFault {
     ghost use Rattle.gw_mllp.specs.Numbers.{number};
 
-    /// The number of the fault, from 1 for want of memory to 3. It takes no memory.
+    /// The number of the fault, from 1 (allocation failure) to 3. It takes no memory.
     pub fn number(&self) -> u8
         ensures { result ≡ number self.now }
     {

@@ -17,7 +17,7 @@ pub(crate) enum Reach<'a> {
     Ends(&'a [u8], &'a [u8]),
 }
 
-/// Where FS CR stands first. Most short pieces have no CR, and that is told at once.
+/// The index of the first FS CR. Most short pieces have no CR, which is seen at once.
 pub(crate) fn find_end(bytes: &[u8]) -> Option<usize>
     ensures { FindsNeedle bytes.now (28 ∷ 13 ∷ []) 0 result }
 {

@@ -13,7 +13,7 @@ pub fn is_content(bytes: &[u8]) -> bool
     find_end(bytes).is_none()
 }
 
-/// Writes a content in which no FS CR stands as one block at the end. On want of memory nothing was written.
+/// Appends a message without FS CR as one block. On allocation failure nothing was written.
 pub fn write_block(out: &mut Vec<u8>, content: &[u8]) -> Result<(), AllocError>
     requires { HasNoEnd content.now }
     ensures ok { OnOk result (out.new.items ≡ out.old.items ++ block content.now) }

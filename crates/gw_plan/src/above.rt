@@ -19,7 +19,7 @@ pub(crate) struct Above {
     maps: IndexMap<Vec<u8>, Arc<CheckedMap>>,
 }
 
-// (by hand: so what holds one is let go by a call)
+// (by hand, so that what holds one is dropped by a call)
 impl Drop for Above {
     fn drop(self) {
         let Above {

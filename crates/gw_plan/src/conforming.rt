@@ -31,7 +31,7 @@ pub struct Conforming {
     version: u64,
 }
 
-// (by hand: so no crate above proves again how what lies in it is let go)
+// (by hand, so that no crate above proves again how its fields are dropped)
 impl Drop for Conforming {
     fn drop(self) {
         let Conforming {
@@ -62,10 +62,10 @@ impl Model for Conforming {
     ghost invariant = { λ c. IsConforming (record { tree = c.tree; number = c.number; plan = arc_value c.plan; version = c.version }) };
 }
 
-/// Why a message isn't admitted. The message is handed back.
+/// Why a message isn't admitted. The message is returned.
 #[derive(Drop)]
 pub enum Refusal {
-    /// Want of memory.
+    /// Allocation failure.
     Memory(Message),
     /// The plan has no route for it: the code of the condition (HL7 table 0357).
     Route(u16, Message),
@@ -106,7 +106,7 @@ impl Conforming {
         ensures goes { IsTrue result ↔ IsOf self.now receiver }
         ensures stands { IsTrue result → receiver < length self.now.plan.receivers }
     {
-        // (its clause tells that the route goes to receivers of the plan alone)
+        // (its clause says that the route goes to receivers of the plan alone)
         let _receivers = self.receivers();
         self.route().goes_to(receiver)
     }
@@ -163,7 +163,7 @@ impl Conforming {
         ensures { IfOk result (Translates self.now receiver) }
     {
         let tree = &self.tree;
-        // (its clause tells that the tree is the message's)
+        // (its clause says that the tree is the message's)
         let _root = tree.root();
         match self.route().map_for(receiver) {
             // (it doesn't come: the route goes to the receiver)
@@ -171,7 +171,7 @@ impl Conforming {
             Some(map) => match translate(alloc, map, tree) {
                 Err(error) => Err(error),
                 Ok(made) => {
-                    // (its clause tells what every message keeps)
+                    // (its clause says what every message keeps)
                     let _count = made.segment_count();
                     Ok(made)
                 }

@@ -3,7 +3,7 @@
 use std::alloc::{AllocError, AllocFailed};
 use thiserror::Error;
 
-/// Why a text is no plan. A line is told by its number in the plan, from 1.
+/// Why a text is no plan. Lines are numbered in the plan, from 1.
 #[derive(Clone, Copy, PartialEq, Eq, Debug, Drop, Error)]
 pub enum PlanFault {
     #[error("out of memory")]
@@ -33,7 +33,7 @@ impl PlanFault {
     ghost use Rattle.std.specs.Prelude.{◌≡◌};
     ghost use Rattle.gw_plan.specs.Numbers.{number, line_of};
 
-    /// The number of the fault, from 1 for want of memory to 9. It takes no memory.
+    /// The number of the fault, from 1 (allocation failure) to 9. It takes no memory.
     pub fn number(&self) -> u8
         ensures { result ≡ number self.now }
     {

@@ -13,7 +13,7 @@ pub(crate) struct Index {
     pairs: IndexSet<(usize, usize)>,
 }
 
-// (by hand: so what holds one is let go by a call)
+// (by hand, so that what holds one is dropped by a call)
 impl Drop for Index {
     fn drop(self) {
         let Index {

@@ -108,7 +108,7 @@ fn faults_beside(
     Ok(earliest(found, head_faults(above, head)))
 }
 
-// The fault, where it isn't want of memory.
+// The fault, where it isn't allocation failure.
 fn lasting(fault: MapFault) -> Result<MapFault, AllocError>
     ensures { IfOk result (IsLasting map_faults.Memory fault) }
 {

@@ -85,7 +85,7 @@ fn faults_beside(
     Ok(earliest(found, again(above, head)))
 }
 
-// The fault, where it isn't want of memory.
+// The fault, where it isn't allocation failure.
 fn lasting(fault: ProfileFault) -> Result<ProfileFault, AllocError>
     ensures { IfOk result (IsLasting profile_faults.Memory fault) }
 {

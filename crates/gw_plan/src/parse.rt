@@ -140,7 +140,7 @@ fn take_bytes(
     take_words(alloc, draft, at, &words, more)
 }
 
-// Takes a line, or skips it where so many are to be skipped; how many of the lines that follow are to be.
+// Takes a line, or skips it while `skip` isn't 0; gives how many of the following lines are skipped.
 fn take_next(
     alloc: Global,
     draft: &mut Draft,

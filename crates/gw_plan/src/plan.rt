@@ -35,7 +35,7 @@ pub struct Plan {
     routes: Vec<Route>,
 }
 
-// (by hand: so no crate above proves again how what lies in it is let go)
+// (by hand, so that no crate above proves again how its fields are dropped)
 impl Drop for Plan {
     fn drop(self) {
         let Plan {

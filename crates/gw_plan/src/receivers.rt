@@ -13,7 +13,7 @@ pub(crate) struct Receivers {
     addresses: IndexMap<Vec<u8>, Vec<u8>>,
 }
 
-// (by hand: so what holds one is let go by a call)
+// (by hand, so that what holds one is dropped by a call)
 impl Drop for Receivers {
     fn drop(self) {
         let Receivers { addresses: _ } = self;

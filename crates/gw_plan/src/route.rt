@@ -23,7 +23,7 @@ pub struct Route {
     legs: IndexMap<usize, Arc<CheckedMap>>,
 }
 
-// (by hand: so what holds one is let go by a call)
+// (by hand, so that what holds one is dropped by a call)
 impl Drop for Route {
     fn drop(self) {
         let Route {

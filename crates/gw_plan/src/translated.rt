@@ -19,7 +19,7 @@ pub struct Translated {
     message: Message,
 }
 
-// (by hand: so no crate above proves again how what lies in it is let go)
+// (by hand, so that no crate above proves again how its fields are dropped)
 impl Drop for Translated {
     fn drop(self) {
         let Translated {
@@ -88,7 +88,7 @@ impl Translated {
     }
 }
 
-/// What a receiver is sent of an admitted message whose route goes to it. The one error is want of memory.
+/// What a receiver is sent of an admitted message whose route goes to it. The one error is allocation failure.
 pub fn translate_for(
     alloc: Global,
     conforming: &Arc<Conforming>,

@@ -18,15 +18,15 @@ use Rattle.std.specs.Global.{Vec}
 use Rattle.indexmap.specs.IndexSet.{IndexSet}
 use Rattle.gw_profile.specs.Shapes.{TableValue, SubValue, CompValue, FieldValue, SegmentValue, Forest, nothing, segment, group, ProfileValue}
 use Rattle.gw_profile.specs.Line as Spec
-use Rattle.gw_profile.specs.declared.form.Leaf as Leaf
+use Rattle.gw_profile.specs.declared.form.LeafOptions as Leaf
 
 abbrev pub now : Option (Bor (List ℕ)) → Option (List ℕ)
 now found = option_map (λ bytes. bytes.now) found
 
-abbrev pub leaf : Leaf.Leaf → Spec.Leaf
+abbrev pub leaf : Leaf.LeafOptions → Spec.Leaf
 leaf l = record { len = l.len; table = now l.table }
 
-abbrev pub leaf_of : Option Leaf.Leaf → Option Spec.Leaf
+abbrev pub leaf_of : Option Leaf.LeafOptions → Option Spec.Leaf
 leaf_of l = option_map leaf l
 
 abbrev pub line : declared.Line → Spec.Line

@@ -9,7 +9,7 @@ ghost use Rattle.gw_profile.specs.Seen.{line, sub, comp, field, forest, leaf_of,
 ghost use Rattle.gw_profile.specs.Line as line_of;
 ghost use Rattle.gw_profile.specs.Value as spec;
 
-use crate::form::{Leaf, Line};
+use crate::form::{LeafOptions, Line};
 use crate::node::{GroupNode, Node, SegNode};
 use crate::rules::is_optional;
 use crate::shape::{Card, CompShape, Count, FieldShape, SubShape, Usage};
@@ -58,7 +58,7 @@ fn sub_of(
     alloc: Global,
     number: u32,
     usage: Option<Usage>,
-    leaf: Option<Leaf>,
+    leaf: Option<LeafOptions>,
 ) -> Result<SubShape, AllocError>
     ensures { IfOk result (λ s. sub s ≡ spec.sub_of number usage (leaf_of leaf.entry)) }
 {
@@ -84,7 +84,7 @@ fn sub_of(
 // The subcomponents of a component.
 fn subs_of(
     alloc: Global,
-    leaf: Option<Leaf>,
+    leaf: Option<LeafOptions>,
     mut below: Vec<SubShape>,
 ) -> Result<Vec<SubShape>, AllocError>
     ensures { IfOk result (λ v. map sub v.items ≡ spec.subs_of (leaf_of leaf.entry) (map sub (reverse below.items))) }
@@ -106,7 +106,7 @@ fn subs_of(
 // The components of a field.
 fn comps_of(
     alloc: Global,
-    leaf: Option<Leaf>,
+    leaf: Option<LeafOptions>,
     mut below: Vec<CompShape>,
 ) -> Result<Vec<CompShape>, AllocError>
     ensures { IfOk result (λ v. map comp v.items ≡ spec.comps_of (leaf_of leaf.entry) (map comp (reverse below.items))) }
@@ -172,7 +172,7 @@ fn add_field(
     number: u32,
     usage: Option<Usage>,
     card: Card,
-    leaf: Option<Leaf>,
+    leaf: Option<LeafOptions>,
 ) -> Result<(), AllocError>
     ensures { OnOk result (Grows below.old below.new (line_of.Field number usage card (leaf_of leaf.entry))) }
 {
@@ -193,7 +193,7 @@ fn add_comp(
     below: &mut Below,
     number: u32,
     usage: Option<Usage>,
-    leaf: Option<Leaf>,
+    leaf: Option<LeafOptions>,
 ) -> Result<(), AllocError>
     ensures { OnOk result (Grows below.old below.new (line_of.Comp number usage (leaf_of leaf.entry))) }
 {
@@ -212,7 +212,7 @@ fn add_sub(
     below: &mut Below,
     number: u32,
     usage: Option<Usage>,
-    leaf: Option<Leaf>,
+    leaf: Option<LeafOptions>,
 ) -> Result<(), AllocError>
     ensures { OnOk result (Grows below.old below.new (line_of.Sub number usage (leaf_of leaf.entry))) }
 {

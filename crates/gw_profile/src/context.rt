@@ -6,7 +6,7 @@ ghost use Rattle.gw_profile.specs.WellFormed.{table_names};
 ghost use Rattle.gw_profile.specs.Seen.{line, leaf_of, parent, now, now_all, table, made, with_table, levels, outer_labels, IsNewTable, IsNewLabel, ParentsFollow, NamesFollow, LevelsFollow};
 
 use crate::fault::ProfileFault;
-use crate::form::{Leaf, Line, is_forbidden};
+use crate::form::{LeafOptions, Line, is_forbidden};
 use crate::table::Table;
 use indexmap::{IndexMap, IndexSet};
 use std::alloc::{AllocError, Global};
@@ -249,7 +249,7 @@ fn is_unknown(name: Option<&[u8]>, tables: &IndexMap<Vec<u8>, Table>) -> bool
     }
 }
 
-fn names_unknown(leaf: Option<Leaf>, tables: &IndexMap<Vec<u8>, Table>) -> bool
+fn names_unknown(leaf: Option<LeafOptions>, tables: &IndexMap<Vec<u8>, Table>) -> bool
     ensures { result ≡ spec.names_unknown (leaf_of leaf.entry) (table_names (map table tables.now.entries)) }
 {
     match leaf {
@@ -263,7 +263,7 @@ pub(crate) fn part_fault(
     at: u32,
     number: u32,
     lawful: bool,
-    leaf: Option<Leaf>,
+    leaf: Option<LeafOptions>,
     held: Option<Parent>,
     tables: &IndexMap<Vec<u8>, Table>,
 ) -> Option<ProfileFault>

@@ -33,7 +33,7 @@ impl ProfileFault {
     ghost use Rattle.std.specs.Prelude.{◌≡◌};
     ghost use Rattle.gw_profile.specs.Numbers.{number};
 
-    /// The number of the fault, from 1 for want of memory to 10. It takes no memory.
+    /// The number of the fault, from 1 (allocation failure) to 10. It takes no memory.
     pub fn number(&self) -> u8
         ensures { result ≡ number self.now }
     {

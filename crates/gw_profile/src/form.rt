@@ -12,7 +12,7 @@ use std::alloc::{AllocError, Global};
 
 /// What a line says of a leaf.
 #[derive(Clone, Copy, Drop)]
-pub(crate) struct Leaf<'a> {
+pub(crate) struct LeafOptions<'a> {
     pub(crate) len: Option<u32>,
     pub(crate) table: Option<&'a [u8]>,
 }
@@ -23,9 +23,9 @@ pub(crate) enum Line<'a> {
     Begins(&'a [u8]),
     Table(&'a [u8], Vec<&'a [u8]>),
     Segment([u8; 3], &'a [u8], bool, Option<Usage>, Card),
-    Field(u32, Option<Usage>, Card, Option<Leaf<'a>>),
-    Comp(u32, Option<Usage>, Option<Leaf<'a>>),
-    Sub(u32, Option<Usage>, Option<Leaf<'a>>),
+    Field(u32, Option<Usage>, Card, Option<LeafOptions<'a>>),
+    Comp(u32, Option<Usage>, Option<LeafOptions<'a>>),
+    Sub(u32, Option<Usage>, Option<LeafOptions<'a>>),
     Group(u32, &'a [u8], Option<Usage>, Card),
     End,
     Counts,
@@ -162,22 +162,25 @@ fn table_at<'a, 'w>(words: &'w [Word<'a>]) -> Option<(Option<&'a [u8]>, &'w [Wor
     }
 }
 
-fn said_leaf<'a>(said: bool, len: Option<u32>, table: Option<&'a [u8]>) -> Option<Leaf<'a>>
+fn said_leaf<'a>(said: bool, len: Option<u32>, table: Option<&'a [u8]>) -> Option<LeafOptions<'a>>
     ensures { option_map leaf result ≡ spec.said_leaf said len (now table.entry) }
 {
     match (len, table) {
-        (Some(_), _) => Some(Leaf { len, table }),
-        (None, Some(_)) => Some(Leaf { len, table }),
+        (Some(_), _) => Some(LeafOptions { len, table }),
+        (None, Some(_)) => Some(LeafOptions { len, table }),
         (None, None) => {
             if said {
-                return Some(Leaf { len, table });
+                return Some(LeafOptions { len, table });
             }
             None
         }
     }
 }
 
-fn lawful_leaf<'a>(usage: Option<Usage>, said: Option<Leaf<'a>>) -> Option<Option<Leaf<'a>>>
+fn lawful_leaf<'a>(
+    usage: Option<Usage>,
+    said: Option<LeafOptions<'a>>,
+) -> Option<Option<LeafOptions<'a>>>
     ensures { option_map (λ l. option_map leaf l) result ≡ spec.lawful_leaf usage (option_map leaf said.entry) }
 {
     match said {
@@ -191,7 +194,11 @@ fn lawful_leaf<'a>(usage: Option<Usage>, said: Option<Leaf<'a>>) -> Option<Optio
     }
 }
 
-fn options<'a>(usage: Option<Usage>, said: bool, words: &[Word<'a>]) -> Option<Option<Leaf<'a>>>
+fn options<'a>(
+    usage: Option<Usage>,
+    said: bool,
+    words: &[Word<'a>],
+) -> Option<Option<LeafOptions<'a>>>
     ensures { option_map (λ l. option_map leaf l) result ≡ spec.options usage said (map word words.now) }
 {
     let (len, more) = len_at(words)?;
@@ -202,7 +209,7 @@ fn options<'a>(usage: Option<Usage>, said: bool, words: &[Word<'a>]) -> Option<O
     None
 }
 
-fn leaf_options<'a>(usage: Option<Usage>, words: &[Word<'a>]) -> Option<Option<Leaf<'a>>>
+fn leaf_options<'a>(usage: Option<Usage>, words: &[Word<'a>]) -> Option<Option<LeafOptions<'a>>>
     ensures { option_map (λ l. option_map leaf l) result ≡ spec.leaf_options usage (map word words.now) }
 {
     let (said, more) = leaf_at(words);

@@ -128,7 +128,7 @@ impl<'p> Level<'p> {
     ghost use Rattle.gw_profile.specs.Seen.{forest};
     ghost use Rattle.gw_profile.specs.Labels as spec;
 
-    /// The level of the nodes at the top of a profile, with all that is within them. It takes time by the number of nodes. The one error is want of memory.
+    /// The level of the nodes at the top of a profile, with all that is within them. It takes time by the number of nodes. The one error is allocation failure.
     pub fn of(alloc: Global, profile: &'p Profile) -> Result<Level<'p>, AllocError>
         ensures { IfOk result (λ made. made ≡ profile.now.nodes) }
     {

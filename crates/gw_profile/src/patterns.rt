@@ -39,7 +39,7 @@ fn pattern(keyword: &[u8]) -> &'static [u8]
     b"profile, count, table, segment, field, comp, sub, group or end"
 }
 
-/// What was expected at the line of this number, from 1, of a text that is no profile: the pattern of its keyword, or the keywords that there are; behind the last line what is missing. The one error is want of memory.
+/// What was expected at the line of this number, from 1, of a text that is no profile: the pattern of its keyword, or the keywords that there are; behind the last line what is missing. The one error is allocation failure.
 pub fn expected(alloc: Global, text: &[u8], at: u32) -> Result<Expected<'_>, AllocError>
     ensures { IfOk result (λ e. (e.pattern.now, e.found.now) ≡ spec.expected text.now at) }
 {

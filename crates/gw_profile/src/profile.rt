@@ -25,7 +25,7 @@ pub struct Profile {
     names: HashSet<[u8; 3]>,
 }
 
-// (by hand: so no crate above proves again how what lies in it is let go)
+// (by hand, so that no crate above proves again how its fields are dropped)
 impl Drop for Profile {
     fn drop(self) {
         let Profile {

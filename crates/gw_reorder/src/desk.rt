@@ -26,7 +26,7 @@ pub enum Held<T: Drop> {
     Stranger(T),
 }
 
-/// What is due, by its numbers, and what was brought of it and not yet released: the values stand in a window, each at the place of its number.
+/// What is due, by its numbers, and what was brought of it and not yet released: the values are in a window, each at the place of its number.
 #[derive(Drop)]
 pub struct Desk<T: Drop> {
     due: Vec<u64>,
@@ -116,7 +116,7 @@ impl<T: Drop> Desk<T> {
         }
     }
 
-    /// Keeps the value of a number that waits for one; another is handed back. The room for it was made before its number was due, so it takes no memory.
+    /// Keeps the value of a number that waits for one; any other is returned. Its capacity was reserved before its number was due, so nothing is allocated.
     pub fn hold(&mut self, n: u64, value: T) -> Held<T>
         ensures answer { result ≡ held_as (status_of self.old n) value }
         ensures left { self.new ≡ after_holding self.old n value }

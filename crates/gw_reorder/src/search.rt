@@ -1,4 +1,4 @@
-//! Where a number stands in a list.
+//! The index of a number in a list.
 
 ghost use Rattle.std.specs.Prelude.{◌≡◌, ◌==◌, position};
 ghost use Rattle.std.specs.List.Sorted.{IsStrictlyIncreasing};

@@ -8,7 +8,7 @@ use Rattle.gw_profile.specs.Shapes.{Forest}
 use Rattle.gw_profile.specs.Labels.{labelled}
 use Rattle.gw_maplang.specs.Seen.{items_all}
 use Rattle.gw_resolve.specs.Places.{Element, nodes_of_child}
-use Rattle.gw_resolve.specs.declared.resolved.Place.{Place}
+use Rattle.gw_resolve.specs.declared.resolved.ScopePath.{ScopePath}
 use Rattle.gw_resolve.specs.own.Looking.{onwards}
 use Rattle.gw_resolve.specs.Naming.{first_label, steps_of, place_of}
 use Rattle.gw_resolve.specs.Seen.{place}
@@ -68,12 +68,12 @@ placed : (scope : List Element) (path : List (Vec ℕ)) (x : Vec ℕ) (label : L
 placed scope [] x label m e same = absurd (omega (arith, m))
 placed scope (y ∷ path) x label m e same = ap (λ l. option_and_then (onwards scope (items_all path)) (first_label scope l)) (same ∙ ap (λ (v : Vec ℕ). v.items) e)
 
-pub placed_from : (scope : List Element) (path : List (Vec ℕ)) (x : Vec ℕ) (label : List ℕ) (o : Option Place) (p : Place) → 1 ≤ length path → x ≡ get_or path 0 x → label ≡ x.items → option_map place o ≡ first_label scope label → o ≡ Some p
+pub placed_from : (scope : List Element) (path : List (Vec ℕ)) (x : Vec ℕ) (label : List ℕ) (o : Option ScopePath) (p : ScopePath) → 1 ≤ length path → x ≡ get_or path 0 x → label ≡ x.items → option_map place o ≡ first_label scope label → o ≡ Some p
     → onwards scope (items_all (take (length path - 1) (drop 1 path))) (place p) ≡ place_of scope (items_all path)
 placed_from scope path x label o p m e same is some =
     ap (λ l. onwards scope (items_all l) (place p)) (behind_first path)
     ∙ ap (option_and_then (onwards scope (items_all (drop 1 path)))) (sym (ap (option_map place) some) ∙ is) ∙ placed scope path x label m e same
 
-pub placed_nowhere : (scope : List Element) (path : List (Vec ℕ)) (x : Vec ℕ) (label : List ℕ) (o : Option Place) → 1 ≤ length path → x ≡ get_or path 0 x → label ≡ x.items → option_map place o ≡ first_label scope label → o ≡ None → None ≡ place_of scope (items_all path)
+pub placed_nowhere : (scope : List Element) (path : List (Vec ℕ)) (x : Vec ℕ) (label : List ℕ) (o : Option ScopePath) → 1 ≤ length path → x ≡ get_or path 0 x → label ≡ x.items → option_map place o ≡ first_label scope label → o ≡ None → None ≡ place_of scope (items_all path)
 placed_nowhere scope path x label o m e same is none =
     ap (option_and_then (onwards scope (items_all (drop 1 path)))) (sym (ap (option_map place) none) ∙ is) ∙ placed scope path x label m e same

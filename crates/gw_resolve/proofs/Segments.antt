@@ -11,7 +11,7 @@ use Rattle.gw_maplang.specs.declared.item.AlwaysItem.{AlwaysItem}
 use Rattle.gw_maplang.specs.declared.item.Item.{SegFrom, SegAlways}
 use Rattle.gw_maplang.specs.declared.rule.Rule as their
 use Rattle.gw_resolve.specs.declared.resolved.Item.{Item, Segment}
-use Rattle.gw_resolve.specs.declared.resolved.Place.{Place}
+use Rattle.gw_resolve.specs.declared.resolved.ScopePath.{ScopePath}
 use Rattle.gw_resolve.specs.declared.resolved.Rule.{Rule}
 use Rattle.gw_resolve.specs.Places.{Element}
 use Rattle.gw_resolve.specs.Order.{is_segment}
@@ -21,7 +21,7 @@ use Rattle.gw_resolve.specs.Seen.{place, rule, with_item}
 use Rattle.gw_resolve.specs.Naming as spec
 
 -- a segment for each that is walked
-pub made_from : (tables : List TableValue) (scope : List Element) (nodes : Forest) (s : FromItem) (item : Item) (child : ℕ) (at : Place) (rules : Vec Rule) (label : List ℕ) (rest : raw.Items)
+pub made_from : (tables : List TableValue) (scope : List Element) (nodes : Forest) (s : FromItem) (item : Item) (child : ℕ) (at : ScopePath) (rules : Vec Rule) (label : List ℕ) (rest : raw.Items)
     → item ≡ Segment (record { line = s.line; child = child; place = Some at; rules = rules }) → child ≡ spec.node_or 0 nodes label → label ≡ s.label.items → place at ≡ spec.place_or scope (raws.path s.path)
     → map (rule tables) rules.items ≡ map (spec.rule tables (spec.walked_if scope (Some (raws.path s.path)))) (map raws.rule s.rules.items)
     → with_item tables item (spec.resolved_items tables scope nodes rest) ≡ spec.resolved_items tables scope nodes (raws.with_item (SegFrom s) rest)

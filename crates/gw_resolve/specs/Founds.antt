@@ -1,6 +1,6 @@
 -- What stands at a place, as the program finds it.
 use Rattle.std.specs.Prelude.{Option, Some, None}
-use Rattle.gw_resolve.specs.declared.element.Found.{Found as TheFound}
+use Rattle.gw_resolve.specs.declared.element.CountedNode.{CountedNode as TheFound}
 use Rattle.gw_resolve.specs.Intervals.{Interval, once, of_card, product}
 use Rattle.gw_resolve.specs.Places.{Element, a_segment, a_group, the_whole, Found}
 use Rattle.gw_resolve.specs.Seen.{element, interval, saturated}

@@ -6,7 +6,7 @@ use Rattle.gw_maplang.specs.Shapes.{MapValue, TableValue, Items, nothing}
 use Rattle.gw_maplang.specs.declared.item.Item.{Item as TheirItem}
 use Rattle.gw_maplang.specs.declared.rule.LeafRule.{LeafRule}
 use Rattle.gw_maplang.specs.declared.rule.Rule.{Rule as TheirRule}
-use Rattle.gw_resolve.specs.declared.named.Named.{Named}
+use Rattle.gw_resolve.specs.declared.named.ResolvedMap.{ResolvedMap}
 use Rattle.gw_resolve.specs.declared.named.Resolving as declared
 use Rattle.gw_resolve.specs.declared.failure.Failure.{Failure}
 use Rattle.gw_resolve.specs.declared.resolved.At.{At}
@@ -72,7 +72,7 @@ HidesUnled old new leads kept = (own later : List Told) → length own ≡ kept 
 -- ---- the whole
 
 -- no rule on labels fails, and this is the map without them
-pub record IsNamed (from to : ProfileValue) (m : MapValue) (made : Named) : Type 0 where
+pub record IsNamed (from to : ProfileValue) (m : MapValue) (made : ResolvedMap) : Type 0 where
   pub none : naming_failures from to m ≡ []
   pub items : all_items m.tables made.items.items ≡ (resolved from to m).items
   pub drops : map left_out made.drops.items ≡ (resolved from to m).drops

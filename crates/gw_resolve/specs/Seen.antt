@@ -3,15 +3,15 @@ use Rattle.std.specs.Prelude.{ℕ, min, List, [], ◌∷◌, map, reverse, optio
 use Rattle.gw_profile.specs.Labels.{nodes_in}
 use Rattle.gw_profile.specs.Seen.{segment_value}
 use Rattle.gw_resolve.specs.declared.failure.Failure as failures_of
-use Rattle.gw_resolve.specs.declared.failure.Mark as marks
+use Rattle.gw_resolve.specs.declared.failure.FailureSite as marks
 use Rattle.gw_resolve.specs.declared.interval.Interval as intervals
-use Rattle.gw_resolve.specs.declared.element.Element as elements
+use Rattle.gw_resolve.specs.declared.element.ScopeNode as elements
 use Rattle.gw_resolve.specs.Failures.{Mark, Failure}
 use Rattle.gw_resolve.specs.Intervals.{Interval}
-use Rattle.gw_resolve.specs.declared.resolved.Place as places
+use Rattle.gw_resolve.specs.declared.resolved.ScopePath as places
 use Rattle.gw_resolve.specs.declared.resolved.Reference as references
 use Rattle.gw_resolve.specs.declared.resolved.Source as sources_of
-use Rattle.gw_resolve.specs.declared.resolved.Leaf as leaves
+use Rattle.gw_resolve.specs.declared.resolved.ResolvedLeaf as leaves
 use Rattle.gw_resolve.specs.declared.resolved.At as ats
 use Rattle.gw_resolve.specs.declared.resolved.Making as makings
 use Rattle.gw_resolve.specs.declared.resolved.Rule as rules_of
@@ -37,7 +37,7 @@ saturated i = record { least = min i.least cap; greatest = option_map (λ n. min
 
 -- ---- failures
 
-abbrev pub mark : marks.Mark → Mark
+abbrev pub mark : marks.FailureSite → Mark
 mark m = record { line = m.line; child = m.child; field = m.field; comp = m.comp; sub = m.sub; count = option_map interval m.count }
 
 abbrev pub failure : failures_of.Failure → Failure
@@ -49,18 +49,18 @@ failures = map failure
 -- ---- elements
 
 -- a group's nodes are those of its level
-abbrev pub element : elements.Element → Element
+abbrev pub element : elements.ScopeNode → Element
 element (elements.TheVariants.Segment s) = a_segment (segment_value s.now)
 element (elements.TheVariants.Group g level) = a_group (record { label = g.now.label.items; usage = g.now.usage; card = g.now.card }) (nodes_in level)
 element (elements.TheVariants.Whole level) = the_whole (nodes_in level)
 
 -- the elements that are walked, the innermost last in the program
-abbrev pub scope : List elements.Element → List Element
+abbrev pub scope : List elements.ScopeNode → List Element
 scope es = reverse (map element es)
 
 -- ---- a map without labels; its tables stand apart
 
-abbrev pub place : places.Place → Place
+abbrev pub place : places.ScopePath → Place
 place p = record { out = p.out; steps = p.steps.items }
 
 abbrev pub reference : references.Reference → Reference
@@ -70,7 +70,7 @@ abbrev pub source : sources_of.Source → Source
 source (sources_of.TheVariants.OfField from at) = of_field (reference from) at.comp at.sub
 source (sources_of.TheVariants.OfCurrent at) = of_current at.comp at.sub
 
-abbrev pub leaf : List TableValue → leaves.Leaf → Leaf
+abbrev pub leaf : List TableValue → leaves.ResolvedLeaf → Leaf
 leaf tables (leaves.TheVariants.Const text) = const text.items
 leaf tables (leaves.TheVariants.Copied from) = copied (source from)
 leaf tables (leaves.TheVariants.LookedUp name from) = looked_up (unwrap_or (table_of name.items tables) no_rows) (source from)

@@ -9,13 +9,13 @@ ghost use Rattle.gw_resolve.specs.Founds.{count_of, saturated_found, found_value
 ghost use Rattle.gw_resolve.specs.own.Looking.{IsTimes};
 
 use crate::interval::{Interval, once};
-use crate::resolved::Place;
+use crate::resolved::ScopePath;
 use gw_profile::{GroupNode, Level, Node, SegNode};
 use std::alloc::{AllocError, Global};
 
 /// A segment, a group with its level, or the level of the whole profile, None where nothing stands.
 #[derive(Clone, Copy)]
-pub enum Element<'a, 'p> {
+pub enum ScopeNode<'a, 'p> {
     Segment(&'a SegNode),
     Group(&'a GroupNode, Option<&'a Level<'p>>),
     Whole(Option<&'a Level<'p>>),
@@ -23,26 +23,26 @@ pub enum Element<'a, 'p> {
 
 /// An element, and how often it is there below where the steps began.
 #[derive(Clone, Copy)]
-pub struct Found<'a, 'p> {
-    pub element: Element<'a, 'p>,
+pub struct CountedNode<'a, 'p> {
+    pub element: ScopeNode<'a, 'p>,
     pub count: Interval,
 }
 
 // ---- nodes
 
 // The node, with the level of what is within it.
-fn of_node<'a, 'p>(node: &'a Node, level: Option<&'a Level<'p>>) -> Element<'a, 'p>
+fn of_node<'a, 'p>(node: &'a Node, level: Option<&'a Level<'p>>) -> ScopeNode<'a, 'p>
     requires { nodes_in level ≡ inner node.now }
     ensures { spec.child (node_forest node.now nothing) 0 ≡ Some (seen result) }
 {
     match node {
-        Node::Seg(segment) => Element::Segment(segment),
-        Node::Group(group) => Element::Group(group, level),
+        Node::Seg(segment) => ScopeNode::Segment(segment),
+        Node::Group(group) => ScopeNode::Group(group, level),
     }
 }
 
 // The node of this number.
-fn node_at<'a, 'p>(level: &'a Level<'p>, number: usize) -> Option<Element<'a, 'p>>
+fn node_at<'a, 'p>(level: &'a Level<'p>, number: usize) -> Option<ScopeNode<'a, 'p>>
     ensures { option_map seen result ≡ spec.child (forest level.now) number }
 {
     match level.nodes().get(number) {
@@ -52,7 +52,10 @@ fn node_at<'a, 'p>(level: &'a Level<'p>, number: usize) -> Option<Element<'a, 'p
 }
 
 /// The node of this number.
-pub(crate) fn child<'a, 'p>(level: Option<&'a Level<'p>>, number: usize) -> Option<Element<'a, 'p>>
+pub(crate) fn child<'a, 'p>(
+    level: Option<&'a Level<'p>>,
+    number: usize,
+) -> Option<ScopeNode<'a, 'p>>
     ensures { option_map seen result ≡ spec.child (nodes_in level.entry) number }
 {
     match level {
@@ -62,13 +65,13 @@ pub(crate) fn child<'a, 'p>(level: Option<&'a Level<'p>>, number: usize) -> Opti
 }
 
 /// The level within an element.
-pub(crate) fn nodes_of<'a, 'p>(element: Element<'a, 'p>) -> Option<&'a Level<'p>>
+pub(crate) fn nodes_of<'a, 'p>(element: ScopeNode<'a, 'p>) -> Option<&'a Level<'p>>
     ensures { nodes_in result ≡ spec.nodes_of (seen element.entry) }
 {
     match element {
-        Element::Segment(_) => None,
-        Element::Group(_, level) => level,
-        Element::Whole(level) => level,
+        ScopeNode::Segment(_) => None,
+        ScopeNode::Group(_, level) => level,
+        ScopeNode::Whole(level) => level,
     }
 }
 
@@ -86,25 +89,28 @@ pub(crate) fn nodes_of_child<'a, 'p>(
 }
 
 // How often an element comes; the whole comes once.
-fn count_of(element: Element<'_, '_>) -> Interval
+fn count_of(element: ScopeNode<'_, '_>) -> Interval
     ensures { interval result ≡ saturated (count_of (seen element.entry)) }
 {
     match element {
-        Element::Segment(segment) => Interval::of(segment.card),
-        Element::Group(group, _) => Interval::of(group.card),
-        Element::Whole(_) => once(),
+        ScopeNode::Segment(segment) => Interval::of(segment.card),
+        ScopeNode::Group(group, _) => Interval::of(group.card),
+        ScopeNode::Whole(_) => once(),
     }
 }
 
 // ---- places
 
-// So many times as the element comes.
-fn times<'a, 'p>(element: Element<'a, 'p>, below: Option<Found<'a, 'p>>) -> Option<Found<'a, 'p>>
+// As many times as the element comes.
+fn times<'a, 'p>(
+    element: ScopeNode<'a, 'p>,
+    below: Option<CountedNode<'a, 'p>>,
+) -> Option<CountedNode<'a, 'p>>
     ensures { IsTimes (seen element.entry) below.entry result }
 {
     match below {
         None => None,
-        Some(below) => Some(Found {
+        Some(below) => Some(CountedNode {
             element: below.element,
             count: count_of(element).times(below.count),
         }),
@@ -113,7 +119,11 @@ fn times<'a, 'p>(element: Element<'a, 'p>, below: Option<Found<'a, 'p>>) -> Opti
 
 // What stands where this step and the others lead.
 #[cycle(below)]
-fn step<'a, 'p>(element: Element<'a, 'p>, first: usize, rest: &[usize]) -> Option<Found<'a, 'p>>
+fn step<'a, 'p>(
+    element: ScopeNode<'a, 'p>,
+    first: usize,
+    rest: &[usize],
+) -> Option<CountedNode<'a, 'p>>
     ensures { found_value result ≡ saturated_found (spec.found_below (first ∷ rest.now) (seen element.entry)) }
 {
     match child(nodes_of(element), first) {
@@ -124,11 +134,11 @@ fn step<'a, 'p>(element: Element<'a, 'p>, first: usize, rest: &[usize]) -> Optio
 
 // What stands where the steps lead.
 #[cycle(below)]
-fn found_below<'a, 'p>(element: Element<'a, 'p>, steps: &[usize]) -> Option<Found<'a, 'p>>
+fn found_below<'a, 'p>(element: ScopeNode<'a, 'p>, steps: &[usize]) -> Option<CountedNode<'a, 'p>>
     ensures { found_value result ≡ saturated_found (spec.found_below steps.now (seen element.entry)) }
 {
     let [first, rest @ ..] = steps else {
-        return Some(Found {
+        return Some(CountedNode {
             element,
             count: once(),
         });
@@ -137,7 +147,7 @@ fn found_below<'a, 'p>(element: Element<'a, 'p>, steps: &[usize]) -> Option<Foun
 }
 
 /// What stands at a place, seen from the elements that are walked, the innermost last. It takes no memory.
-pub fn find<'a, 'p>(scope: &[Element<'a, 'p>], place: &Place) -> Option<Found<'a, 'p>>
+pub fn find<'a, 'p>(scope: &[ScopeNode<'a, 'p>], place: &ScopePath) -> Option<CountedNode<'a, 'p>>
     ensures { found_value result ≡ saturated_found (spec.found (walked scope.now) (seen_place place.now)) }
 {
     if place.out >= scope.len() {
@@ -147,21 +157,24 @@ pub fn find<'a, 'p>(scope: &[Element<'a, 'p>], place: &Place) -> Option<Found<'a
 }
 
 /// The element at a place, where one is.
-pub(crate) fn element_at<'a, 'p>(scope: &[Element<'a, 'p>], place: &Place) -> Element<'a, 'p>
+pub(crate) fn element_at<'a, 'p>(
+    scope: &[ScopeNode<'a, 'p>],
+    place: &ScopePath,
+) -> ScopeNode<'a, 'p>
     ensures { seen result ≡ spec.element_of (spec.found (walked scope.now) (seen_place place.now)) }
 {
     match find(scope, place) {
-        None => Element::Whole(None),
+        None => ScopeNode::Whole(None),
         Some(found) => found.element,
     }
 }
 
-/// The scope of what is walked at a place. The one error is want of memory.
-pub fn within<'a, 'p>(
+/// The scope of what is walked at a place. The one error is allocation failure.
+pub fn enter<'a, 'p>(
     alloc: Global,
-    scope: &[Element<'a, 'p>],
-    place: &Place,
-) -> Result<Vec<Element<'a, 'p>>, AllocError>
+    scope: &[ScopeNode<'a, 'p>],
+    place: &ScopePath,
+) -> Result<Vec<ScopeNode<'a, 'p>>, AllocError>
     ensures { IfOk result (λ inner. walked inner.items ≡ spec.within (walked scope.now) (seen_place place.now)) }
 {
     let mut inner = Vec::from_slice(alloc, scope)?;

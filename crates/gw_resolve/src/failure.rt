@@ -9,7 +9,7 @@ use std::alloc::AllocError;
 
 /// The line at which a map breaks a rule, and the part of the target that fails.
 #[derive(Clone, Copy, Drop)]
-pub struct Mark {
+pub struct FailureSite {
     pub line: u32,
     /// Of a node within what the line makes that nothing gives its number, from 0.
     pub child: Option<usize>,
@@ -27,14 +27,14 @@ pub struct Mark {
 #[derive(Clone, Copy, Drop)]
 pub struct Failure {
     pub rule: u8,
-    pub mark: Mark,
+    pub mark: FailureSite,
 }
 
 /// All that a line makes. It takes no memory.
-pub fn at_line(line: u32) -> Mark
+pub fn at_line(line: u32) -> FailureSite
     ensures { seen_mark result ≡ at_line line }
 {
-    Mark {
+    FailureSite {
         line,
         child: None,
         field: 0,
@@ -44,8 +44,13 @@ pub fn at_line(line: u32) -> Mark
     }
 }
 
-/// Takes note of the rule's failure at the mark, where it is broken. The one error is want of memory.
-pub fn note(found: &mut Vec<Failure>, rule: u8, mark: Mark, broken: bool) -> Result<(), AllocError>
+/// Records the rule's failure at the site, where the rule is broken. The one error is allocation failure.
+pub fn note(
+    found: &mut Vec<Failure>,
+    rule: u8,
+    mark: FailureSite,
+    broken: bool,
+) -> Result<(), AllocError>
     ensures { OnOk result (Notes found.old found.new (fails rule (seen_mark mark) broken)) }
 {
     if !broken {

@@ -100,7 +100,7 @@ impl Interval {
         }
     }
 
-    /// So many of what comes so often.
+    /// What comes this often, times another count.
     pub fn times(self, other: Interval) -> Interval
         ensures { interval result ≡ saturated (spec.product (interval self) (interval other)) }
     {

@@ -9,19 +9,19 @@ ghost use Rattle.gw_resolve.specs.Places.{within as scope_within};
 ghost use Rattle.gw_resolve.specs.Outcome.{MakesItem, MakesItems, MakesRules, path_failures, target_failures, reached};
 ghost use Rattle.gw_resolve.specs.Seen.{scope as walked, place as seen_place};
 
-use crate::element::{Element, nodes_of_child, within};
+use crate::element::{ScopeNode, enter, nodes_of_child};
 use crate::failure::Failure;
 use crate::led::{note_led, segments_led, walk_led};
-use crate::lost::{Lost, hide_both, hide_unled, mark};
-use crate::resolved::{FlatItem, GroupItem, Item, Place, Rule, SegmentItem};
+use crate::lost::{NameFailures, hide_both, hide_unled, mark};
+use crate::resolved::{FlatItem, GroupItem, Item, Rule, ScopePath, SegmentItem};
 use crate::rules::rules;
-use crate::targets::{Aimed, flat_target, group_target, segment_target};
+use crate::targets::{TargetNode, flat_target, group_target, segment_target};
 use gw_profile::Level;
 use std::alloc::{AllocError, Global};
 
 /// An item without labels, and the node behind which the next one stands.
 #[derive(Drop)]
-pub(crate) struct Looked {
+pub(crate) struct ResolvedItem {
     item: Item,
     node: usize,
 }
@@ -29,23 +29,23 @@ pub(crate) struct Looked {
 /// The place that an item walks, and the rules there.
 #[derive(Drop)]
 struct Ruled {
-    place: Place,
+    place: ScopePath,
     rules: Vec<Rule>,
 }
 
 /// The place that a group or a flat walks, whether its path leads there, and the scope there.
 #[derive(Drop)]
 struct Entered<'a, 'p> {
-    place: Place,
+    place: ScopePath,
     leads: bool,
-    inner: Vec<Element<'a, 'p>>,
+    inner: Vec<ScopeNode<'a, 'p>>,
 }
 
 // Where the path of a group or a flat leads, with the failures of that path.
-fn enter<'a, 'p>(
+fn enter_path<'a, 'p>(
     alloc: Global,
     found: &mut Vec<Failure>,
-    scope: &[Element<'a, 'p>],
+    scope: &[ScopeNode<'a, 'p>],
     line: u32,
     path: &[Vec<u8>],
 ) -> Result<Entered<'a, 'p>, AllocError>
@@ -56,7 +56,7 @@ fn enter<'a, 'p>(
 {
     let led = walk_led(alloc, scope, path)?;
     note_led(found, line, &led)?;
-    let inner = within(alloc, scope, &led.place)?;
+    let inner = enter(alloc, scope, &led.place)?;
     Ok(Entered {
         place: led.place,
         leads: led.leads,
@@ -68,7 +68,7 @@ fn enter<'a, 'p>(
 fn rules_walked(
     alloc: Global,
     paths: &mut Vec<Failure>,
-    scope: &[Element<'_, '_>],
+    scope: &[ScopeNode<'_, '_>],
     made: &gw_maplang::FromItem,
 ) -> Result<Ruled, AllocError>
     ensures place { IfOk result (λ r. seen_place r.place ≡ spec.place_or (walked scope.now) (raw.path made.now.path)) }
@@ -78,7 +78,7 @@ fn rules_walked(
     let led = segments_led(alloc, scope, &made.path)?;
     note_led(paths, made.line, &led)?;
     let kept = paths.len();
-    let inner = within(alloc, scope, &led.place)?;
+    let inner = enter(alloc, scope, &led.place)?;
     let rules = rules(alloc, paths, &inner, &made.rules)?;
     hide_unled(paths, led.leads, kept);
     Ok(Ruled {
@@ -88,11 +88,11 @@ fn rules_walked(
 }
 
 // A segment item.
-fn segment(line: u32, aimed: Aimed, place: Option<Place>, rules: Vec<Rule>) -> Looked
+fn segment(line: u32, aimed: TargetNode, place: Option<ScopePath>, rules: Vec<Rule>) -> ResolvedItem
     ensures item { result.item ≡ Item.Segment (record { line = line; child = aimed.child; place = place; rules = rules }) }
     ensures node { result.node ≡ aimed.node }
 {
-    Looked {
+    ResolvedItem {
         item: Item::Segment(SegmentItem {
             line,
             child: aimed.child,
@@ -106,12 +106,12 @@ fn segment(line: u32, aimed: Aimed, place: Option<Place>, rules: Vec<Rule>) -> L
 // An item of a segment for each that is walked.
 fn segment_from(
     alloc: Global,
-    lost: &mut Lost,
-    scope: &[Element<'_, '_>],
+    lost: &mut NameFailures,
+    scope: &[ScopeNode<'_, '_>],
     level: Option<&Level<'_>>,
     j: usize,
     made: &gw_maplang::FromItem,
-) -> Result<Looked, AllocError>
+) -> Result<ResolvedItem, AllocError>
     ensures item { IfOk result (λ l. MakesItem (walked scope.now) (nodes_in level.entry) (SegFrom made.now) l.item) }
     ensures node { IfOk result (λ l. l.node ≡ reached (nodes_in level.entry) j (SegFrom made.now)) }
     ensures paths { OnOk result (Notes lost.old.paths lost.new.paths (path_failures (walked scope.now) (SegFrom made.now))) }
@@ -125,12 +125,12 @@ fn segment_from(
 // An item of one segment.
 fn segment_always(
     alloc: Global,
-    lost: &mut Lost,
-    scope: &[Element<'_, '_>],
+    lost: &mut NameFailures,
+    scope: &[ScopeNode<'_, '_>],
     level: Option<&Level<'_>>,
     j: usize,
     made: &gw_maplang::AlwaysItem,
-) -> Result<Looked, AllocError>
+) -> Result<ResolvedItem, AllocError>
     ensures item { IfOk result (λ l. MakesItem (walked scope.now) (nodes_in level.entry) (SegAlways made.now) l.item) }
     ensures node { IfOk result (λ l. l.node ≡ reached (nodes_in level.entry) j (SegAlways made.now)) }
     ensures paths { OnOk result (Notes lost.old.paths lost.new.paths (path_failures (walked scope.now) (SegAlways made.now))) }
@@ -146,25 +146,25 @@ fn segment_always(
 #[cycle(items)]
 fn group(
     alloc: Global,
-    lost: &mut Lost,
-    scope: &[Element<'_, '_>],
+    lost: &mut NameFailures,
+    scope: &[ScopeNode<'_, '_>],
     level: Option<&Level<'_>>,
     j: usize,
     made: &gw_maplang::GroupItem,
-) -> Result<Looked, AllocError>
+) -> Result<ResolvedItem, AllocError>
     ensures item { IfOk result (λ l. MakesItem (walked scope.now) (nodes_in level.entry) (EachAs made.now) l.item) }
     ensures node { IfOk result (λ l. l.node ≡ reached (nodes_in level.entry) j (EachAs made.now)) }
     ensures paths { OnOk result (Notes lost.old.paths lost.new.paths (path_failures (walked scope.now) (EachAs made.now))) }
     ensures targets { OnOk result (Notes lost.old.targets lost.new.targets (target_failures (nodes_in level.entry) j (EachAs made.now))) }
 {
     let before = lost.targets.len();
-    let entered = enter(alloc, &mut lost.paths, scope, made.line, &made.path)?;
+    let entered = enter_path(alloc, &mut lost.paths, scope, made.line, &made.path)?;
     let aimed = group_target(&mut lost.targets, level, j, made.line, &made.label)?;
     let kept = mark(lost);
     let below = nodes_of_child(level, aimed.child);
     let items = resolve_items(alloc, lost, &entered.inner, below, &made.items)?;
     hide_both(lost, entered.leads, before, kept);
-    Ok(Looked {
+    Ok(ResolvedItem {
         item: Item::Group(GroupItem {
             line: made.line,
             child: aimed.child,
@@ -180,24 +180,24 @@ fn group(
 #[cycle(items)]
 fn flat(
     alloc: Global,
-    lost: &mut Lost,
-    scope: &[Element<'_, '_>],
+    lost: &mut NameFailures,
+    scope: &[ScopeNode<'_, '_>],
     level: Option<&Level<'_>>,
     j: usize,
     made: &gw_maplang::FlatItem,
-) -> Result<Looked, AllocError>
+) -> Result<ResolvedItem, AllocError>
     ensures item { IfOk result (λ l. MakesItem (walked scope.now) (nodes_in level.entry) (EachFlat made.now) l.item) }
     ensures node { IfOk result (λ l. l.node ≡ reached (nodes_in level.entry) j (EachFlat made.now)) }
     ensures paths { OnOk result (Notes lost.old.paths lost.new.paths (path_failures (walked scope.now) (EachFlat made.now))) }
     ensures targets { OnOk result (Notes lost.old.targets lost.new.targets (target_failures (nodes_in level.entry) j (EachFlat made.now))) }
 {
     let before = lost.targets.len();
-    let entered = enter(alloc, &mut lost.paths, scope, made.line, &made.path)?;
+    let entered = enter_path(alloc, &mut lost.paths, scope, made.line, &made.path)?;
     let node = flat_target(&mut lost.targets, level, j, made.line, &made.items)?;
     let kept = mark(lost);
     let items = resolve_items(alloc, lost, &entered.inner, level, &made.items)?;
     hide_both(lost, entered.leads, before, kept);
-    Ok(Looked {
+    Ok(ResolvedItem {
         item: Item::Flat(FlatItem {
             line: made.line,
             place: entered.place,
@@ -210,12 +210,12 @@ fn flat(
 #[cycle(items)]
 fn resolve_item(
     alloc: Global,
-    lost: &mut Lost,
-    scope: &[Element<'_, '_>],
+    lost: &mut NameFailures,
+    scope: &[ScopeNode<'_, '_>],
     level: Option<&Level<'_>>,
     j: usize,
     item: &gw_maplang::Item,
-) -> Result<Looked, AllocError>
+) -> Result<ResolvedItem, AllocError>
     ensures item { IfOk result (λ l. MakesItem (walked scope.now) (nodes_in level.entry) item.now l.item) }
     ensures node { IfOk result (λ l. l.node ≡ reached (nodes_in level.entry) j item.now) }
     ensures paths { OnOk result (Notes lost.old.paths lost.new.paths (path_failures (walked scope.now) item.now)) }
@@ -233,8 +233,8 @@ fn resolve_item(
 #[cycle(items)]
 pub(crate) fn resolve_items(
     alloc: Global,
-    lost: &mut Lost,
-    scope: &[Element<'_, '_>],
+    lost: &mut NameFailures,
+    scope: &[ScopeNode<'_, '_>],
     level: Option<&Level<'_>>,
     items: &[gw_maplang::Item],
 ) -> Result<Vec<Item>, AllocError>

@@ -11,17 +11,17 @@ ghost use Rattle.gw_resolve.specs.Order.{is_segment};
 ghost use Rattle.gw_resolve.specs.Places as places;
 ghost use Rattle.gw_resolve.specs.Seen.{element as seen, scope as walked, place as seen_place};
 
-use crate::element::{Element, child, element_at, nodes_of, nodes_of_child};
+use crate::element::{ScopeNode, child, element_at, nodes_of, nodes_of_child};
 use crate::failure::{Failure, at_line, note};
 use crate::paths::{or_itself, place_of};
-use crate::resolved::Place;
+use crate::resolved::ScopePath;
 use gw_profile::{Card, Level};
 use std::alloc::{AllocError, Global};
 
 /// Where a path leads: a place that stands for none, whether it leads to what is sought, and whether its steps come once.
 #[derive(Drop)]
-pub(crate) struct Led {
-    pub(crate) place: Place,
+pub(crate) struct PathTarget {
+    pub(crate) place: ScopePath,
     pub(crate) leads: bool,
     pub(crate) once: bool,
 }
@@ -43,9 +43,9 @@ fn comes_often<'a, 'p>(level: Option<&'a Level<'p>>, number: usize) -> bool
 {
     match child(level, number) {
         None => false,
-        Some(Element::Segment(segment)) => allows_two(segment.card),
-        Some(Element::Group(group, _)) => allows_two(group.card),
-        Some(Element::Whole(_)) => false,
+        Some(ScopeNode::Segment(segment)) => allows_two(segment.card),
+        Some(ScopeNode::Group(group, _)) => allows_two(group.card),
+        Some(ScopeNode::Whole(_)) => false,
     }
 }
 
@@ -73,7 +73,7 @@ fn but_last(steps: &[usize]) -> &[usize]
 }
 
 // From where the steps of a place begin.
-fn start_of<'a, 'p>(scope: &[Element<'a, 'p>], place: &Place) -> Option<&'a Level<'p>>
+fn start_of<'a, 'p>(scope: &[ScopeNode<'a, 'p>], place: &ScopePath) -> Option<&'a Level<'p>>
     ensures { nodes_in result ≡ spec.start_of (walked scope.now) (seen_place place.now) }
 {
     if place.out >= scope.len() {
@@ -83,7 +83,7 @@ fn start_of<'a, 'p>(scope: &[Element<'a, 'p>], place: &Place) -> Option<&'a Leve
 }
 
 // No step of the place may come more than once, its last aside.
-fn is_walked_once(scope: &[Element<'_, '_>], place: Option<&Place>) -> bool
+fn is_walked_once(scope: &[ScopeNode<'_, '_>], place: Option<&ScopePath>) -> bool
     ensures { result ≡ spec.is_single_place (walked scope.now) spec.but_last (place_there place.entry) }
 {
     match place {
@@ -93,7 +93,7 @@ fn is_walked_once(scope: &[Element<'_, '_>], place: Option<&Place>) -> bool
 }
 
 // No step of the place may come more than once.
-fn is_read_once(scope: &[Element<'_, '_>], place: Option<&Place>) -> bool
+fn is_read_once(scope: &[ScopeNode<'_, '_>], place: Option<&ScopePath>) -> bool
     ensures { result ≡ spec.is_single_place (walked scope.now) all_steps (place_there place.entry) }
 {
     match place {
@@ -104,18 +104,18 @@ fn is_read_once(scope: &[Element<'_, '_>], place: Option<&Place>) -> bool
 
 // ---- what stands there
 
-fn is_segment(element: Element<'_, '_>) -> bool
+fn is_segment(element: ScopeNode<'_, '_>) -> bool
     ensures { result ≡ is_segment (Some (seen element.entry)) }
 {
     match element {
-        Element::Segment(_) => true,
-        Element::Group(_, _) => false,
-        Element::Whole(_) => false,
+        ScopeNode::Segment(_) => true,
+        ScopeNode::Group(_, _) => false,
+        ScopeNode::Whole(_) => false,
     }
 }
 
 /// Whether the place is that of a segment.
-pub(crate) fn ends_at_segment(scope: &[Element<'_, '_>], place: Option<&Place>) -> bool
+pub(crate) fn ends_at_segment(scope: &[ScopeNode<'_, '_>], place: Option<&ScopePath>) -> bool
     ensures { result ≡ spec.ends_at_segment (walked scope.now) (place_there place.entry) }
 {
     match place {
@@ -129,9 +129,9 @@ pub(crate) fn ends_at_segment(scope: &[Element<'_, '_>], place: Option<&Place>) 
 /// Where a path leads to what is walked; its last step may come often.
 pub(crate) fn walk_led(
     alloc: Global,
-    scope: &[Element<'_, '_>],
+    scope: &[ScopeNode<'_, '_>],
     path: &[Vec<u8>],
-) -> Result<Led, AllocError>
+) -> Result<PathTarget, AllocError>
     ensures place { IfOk result (λ l. seen_place l.place ≡ spec.place_or (walked scope.now) (items_all path.now)) }
     ensures leads { IfOk result (λ l. l.leads ≡ spec.has_place (spec.place_of (walked scope.now) (items_all path.now))) }
     ensures once { IfOk result (λ l. l.once ≡ spec.is_single_place (walked scope.now) spec.but_last (spec.place_of (walked scope.now) (items_all path.now))) }
@@ -139,7 +139,7 @@ pub(crate) fn walk_led(
     let place = place_of(alloc, scope, path)?;
     let leads = place.is_some();
     let once = is_walked_once(scope, place.as_ref());
-    Ok(Led {
+    Ok(PathTarget {
         place: or_itself(alloc, place),
         leads,
         once,
@@ -149,9 +149,9 @@ pub(crate) fn walk_led(
 /// Where a path leads to the segments that are walked; its last step may come often.
 pub(crate) fn segments_led(
     alloc: Global,
-    scope: &[Element<'_, '_>],
+    scope: &[ScopeNode<'_, '_>],
     path: &[Vec<u8>],
-) -> Result<Led, AllocError>
+) -> Result<PathTarget, AllocError>
     ensures place { IfOk result (λ l. seen_place l.place ≡ spec.place_or (walked scope.now) (items_all path.now)) }
     ensures leads { IfOk result (λ l. l.leads ≡ spec.ends_at_segment (walked scope.now) (spec.place_of (walked scope.now) (items_all path.now))) }
     ensures once { IfOk result (λ l. l.once ≡ spec.is_single_place (walked scope.now) spec.but_last (spec.place_of (walked scope.now) (items_all path.now))) }
@@ -159,7 +159,7 @@ pub(crate) fn segments_led(
     let place = place_of(alloc, scope, path)?;
     let leads = ends_at_segment(scope, place.as_ref());
     let once = is_walked_once(scope, place.as_ref());
-    Ok(Led {
+    Ok(PathTarget {
         place: or_itself(alloc, place),
         leads,
         once,
@@ -169,9 +169,9 @@ pub(crate) fn segments_led(
 /// Where a path leads to the one segment that is read.
 pub(crate) fn read_led(
     alloc: Global,
-    scope: &[Element<'_, '_>],
+    scope: &[ScopeNode<'_, '_>],
     path: &[Vec<u8>],
-) -> Result<Led, AllocError>
+) -> Result<PathTarget, AllocError>
     ensures place { IfOk result (λ l. seen_place l.place ≡ spec.place_or (walked scope.now) (items_all path.now)) }
     ensures leads { IfOk result (λ l. l.leads ≡ spec.ends_at_segment (walked scope.now) (spec.place_of (walked scope.now) (items_all path.now))) }
     ensures once { IfOk result (λ l. l.once ≡ spec.is_single_place (walked scope.now) all_steps (spec.place_of (walked scope.now) (items_all path.now))) }
@@ -179,7 +179,7 @@ pub(crate) fn read_led(
     let place = place_of(alloc, scope, path)?;
     let leads = ends_at_segment(scope, place.as_ref());
     let once = is_read_once(scope, place.as_ref());
-    Ok(Led {
+    Ok(PathTarget {
         place: or_itself(alloc, place),
         leads,
         once,
@@ -187,7 +187,11 @@ pub(crate) fn read_led(
 }
 
 /// Takes note of a path that leads nowhere, or by steps that come often.
-pub(crate) fn note_led(found: &mut Vec<Failure>, line: u32, led: &Led) -> Result<(), AllocError>
+pub(crate) fn note_led(
+    found: &mut Vec<Failure>,
+    line: u32,
+    led: &PathTarget,
+) -> Result<(), AllocError>
     ensures { OnOk result (Notes found.old found.new (fails 1 (at_line line) (not led.now.leads) ++ fails 2 (at_line line) (not led.now.once))) }
 {
     note(found, 1, at_line(line), !led.leads)?;

@@ -14,12 +14,12 @@ mod resolved;
 mod rules;
 mod targets;
 
-pub use element::{Element, Found, find, within};
-pub use failure::{Failure, Mark, at_line, note};
+pub use element::{CountedNode, ScopeNode, enter, find};
+pub use failure::{Failure, FailureSite, at_line, note};
 pub use interval::{CAP, Interval, any_number, never, once};
-pub use named::{Named, Resolving, resolve};
+pub use named::{ResolvedMap, Resolving, resolve};
 pub use nodes::nodes_within;
 pub use resolved::{
-    At, FlatItem, GroupItem, Item, Leaf, LeftOut, Making, Place, Reference, Rule, SegmentItem,
-    Source,
+    At, FlatItem, GroupItem, Item, LeftOut, Making, Reference, ResolvedLeaf, Rule, ScopePath,
+    SegmentItem, Source,
 };

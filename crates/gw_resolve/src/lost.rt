@@ -6,7 +6,7 @@ use crate::failure::Failure;
 
 /// The failures that are found: of source paths (1 and 2), and of target labels (3).
 #[derive(Drop)]
-pub(crate) struct Lost {
+pub(crate) struct NameFailures {
     pub(crate) paths: Vec<Failure>,
     pub(crate) targets: Vec<Failure>,
 }
@@ -19,7 +19,7 @@ pub(crate) struct Marks {
 }
 
 /// How many there are so far.
-pub(crate) fn mark(lost: &Lost) -> Marks
+pub(crate) fn mark(lost: &NameFailures) -> Marks
     ensures paths { result.paths ≡ length lost.now.paths.items }
     ensures targets { result.targets ≡ length lost.now.targets.items }
 {
@@ -51,7 +51,7 @@ pub(crate) fn hide_unled(found: &mut Vec<Failure>, leads: bool, kept: usize)
 
 /// Takes back those behind the kept ones: of paths where the path before them leads nowhere, of targets where one of the
 /// kept ones is new.
-pub(crate) fn hide_both(lost: &mut Lost, leads: bool, before: usize, kept: Marks)
+pub(crate) fn hide_both(lost: &mut NameFailures, leads: bool, before: usize, kept: Marks)
     ensures paths { HidesUnled lost.old.paths.items lost.new.paths.items leads kept.paths }
     ensures targets { Hides lost.old.targets.items lost.new.targets.items before kept.targets }
 {

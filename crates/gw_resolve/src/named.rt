@@ -9,20 +9,20 @@ ghost use Rattle.gw_resolve.specs.Noted.{Notes};
 ghost use Rattle.gw_resolve.specs.Outcome.{ResolvesBy};
 ghost use Rattle.gw_resolve.specs.Seen.{element as seen, scope as walked, failures, left_out};
 
-use crate::element::Element;
+use crate::element::ScopeNode;
 use crate::failure::{Failure, at_line, note};
 use crate::items::resolve_items;
 use crate::led::ends_at_segment;
-use crate::lost::Lost;
+use crate::lost::NameFailures;
 use crate::paths::{or_itself, place_of};
-use crate::resolved::{Item, LeftOut, Place};
+use crate::resolved::{Item, LeftOut, ScopePath};
 use gw_maplang::{Dropped, Map};
 use gw_profile::Level;
 use std::alloc::{AllocError, Global};
 
 /// The items of a map and what it leaves out, without labels.
 #[derive(Drop)]
-pub struct Named {
+pub struct ResolvedMap {
     pub items: Vec<Item>,
     pub drops: Vec<LeftOut>,
 }
@@ -31,11 +31,11 @@ pub struct Named {
 #[derive(Drop)]
 pub enum Resolving {
     Refused(Vec<Failure>),
-    Resolved(Named),
+    Resolved(ResolvedMap),
 }
 
 // Whether what is left out is there, and a segment where a field of it is named.
-fn leads(scope: &[Element<'_, '_>], field: Option<u32>, place: Option<&Place>) -> bool
+fn leads(scope: &[ScopeNode<'_, '_>], field: Option<u32>, place: Option<&ScopePath>) -> bool
     ensures { result ≡ (if is_some field then spec.ends_at_segment (walked scope.now) (place_there place.entry) else spec.has_place (place_there place.entry)) }
 {
     match field {
@@ -48,7 +48,7 @@ fn leads(scope: &[Element<'_, '_>], field: Option<u32>, place: Option<&Place>) -
 fn left_out(
     alloc: Global,
     found: &mut Vec<Failure>,
-    message: Element<'_, '_>,
+    message: ScopeNode<'_, '_>,
     dropped: &Dropped,
 ) -> Result<LeftOut, AllocError>
     ensures made { IfOk result (λ d. left_out d ≡ spec.drop (seen message.entry) (raw.dropped dropped.now)) }
@@ -69,7 +69,7 @@ fn left_out(
 fn all_left_out(
     alloc: Global,
     found: &mut Vec<Failure>,
-    message: Element<'_, '_>,
+    message: ScopeNode<'_, '_>,
     drops: &[Dropped],
 ) -> Result<Vec<LeftOut>, AllocError>
     ensures made { IfOk result (λ v. map left_out v.items ≡ map (spec.drop (seen message.entry)) (map raw.dropped drops.now)) }
@@ -84,7 +84,7 @@ fn all_left_out(
 }
 
 // The failures of source paths, and behind them those of target labels.
-fn all_lost(lost: Lost) -> Result<Vec<Failure>, AllocError>
+fn all_lost(lost: NameFailures) -> Result<Vec<Failure>, AllocError>
     ensures { IfOk result (λ found. failures found.items ≡ failures lost.paths.items ++ failures lost.targets.items) }
 {
     let mut found = lost.paths;
@@ -92,7 +92,7 @@ fn all_lost(lost: Lost) -> Result<Vec<Failure>, AllocError>
     Ok(found)
 }
 
-/// Looks the labels of a map up in the levels of its profiles, each once. The one error is want of memory.
+/// Looks the labels of a map up in the levels of its profiles, each once. The one error is allocation failure.
 pub fn resolve(
     alloc: Global,
     source: &Level<'_>,
@@ -101,16 +101,16 @@ pub fn resolve(
 ) -> Result<Resolving, AllocError>
     ensures { IfOk result (ResolvesBy (forest source.now) (forest target.now) (map_value map.now)) }
 {
-    let mut lost = Lost {
+    let mut lost = NameFailures {
         paths: Vec::new(alloc),
         targets: Vec::new(alloc),
     };
-    let message = Element::Whole(Some(source));
+    let message = ScopeNode::Whole(Some(source));
     let items = resolve_items(alloc, &mut lost, &[message], Some(target), map.items())?;
     let drops = all_left_out(alloc, &mut lost.paths, message, map.drops())?;
     let found = all_lost(lost)?;
     if found.as_slice().is_empty() {
-        return Ok(Resolving::Resolved(Named { items, drops }));
+        return Ok(Resolving::Resolved(ResolvedMap { items, drops }));
     }
     Ok(Resolving::Refused(found))
 }

@@ -7,8 +7,8 @@ ghost use Rattle.gw_resolve.specs.own.Looking.{inwards, further, begun, onwards,
 ghost use Rattle.gw_profile.specs.Labels.{nodes_in, labelled as spec_labelled};
 ghost use Rattle.gw_resolve.specs.Seen.{element as seen, scope as walked, place as seen_place};
 
-use crate::element::{Element, element_at, nodes_of, nodes_of_child};
-use crate::resolved::Place;
+use crate::element::{ScopeNode, element_at, nodes_of, nodes_of_child};
+use crate::resolved::ScopePath;
 use gw_profile::Level;
 use std::alloc::{AllocError, Global};
 
@@ -30,40 +30,40 @@ pub(crate) fn labelled<'a, 'p>(level: Option<&'a Level<'p>>, label: &[u8]) -> Op
 }
 
 // Whether this is the element's own label.
-fn has_label(element: Element<'_, '_>, label: &[u8]) -> bool
+fn has_label(element: ScopeNode<'_, '_>, label: &[u8]) -> bool
     ensures { result ≡ spec.has_label label.now (seen element.entry) }
 {
     match element {
-        Element::Segment(segment) => same(&segment.label, label),
-        Element::Group(group, _) => same(&group.label, label),
-        Element::Whole(_) => false,
+        ScopeNode::Segment(segment) => same(&segment.label, label),
+        ScopeNode::Group(group, _) => same(&group.label, label),
+        ScopeNode::Whole(_) => false,
     }
 }
 
-fn itself(alloc: Global, out: usize) -> Place
+fn itself(alloc: Global, out: usize) -> ScopePath
     ensures { seen_place result ≡ further out spec.itself }
 {
-    Place {
+    ScopePath {
         out,
         steps: Vec::new(alloc),
     }
 }
 
-fn one_step(alloc: Global, out: usize, number: usize) -> Result<Place, AllocError>
+fn one_step(alloc: Global, out: usize, number: usize) -> Result<ScopePath, AllocError>
     ensures { IfOk result (λ p. seen_place p ≡ further out (inwards number)) }
 {
     let mut steps = Vec::new(alloc);
     steps.push(number)?;
-    Ok(Place { out, steps })
+    Ok(ScopePath { out, steps })
 }
 
 // The label among the nodes of an element so far outwards, or its own.
 fn begin(
     alloc: Global,
-    element: Element<'_, '_>,
+    element: ScopeNode<'_, '_>,
     out: usize,
     label: &[u8],
-) -> Result<Option<Place>, AllocError>
+) -> Result<Option<ScopePath>, AllocError>
     ensures { IfOk result (λ p. option_map seen_place p ≡ option_map (further out) (begun (seen element.entry) label.now)) }
 {
     if let Some(number) = labelled(nodes_of(element), label) {
@@ -79,9 +79,9 @@ fn begin(
 // From the innermost element outwards.
 fn first_label(
     alloc: Global,
-    scope: &[Element<'_, '_>],
+    scope: &[ScopeNode<'_, '_>],
     label: &[u8],
-) -> Result<Option<Place>, AllocError>
+) -> Result<Option<ScopePath>, AllocError>
     ensures { IfOk result (λ p. option_map seen_place p ≡ spec.first_label (walked scope.now) label.now) }
 {
     let mut left = scope;
@@ -117,17 +117,17 @@ fn follow<'a, 'p>(
 
 // The place to which the labels lead from here.
 fn follow_from(
-    scope: &[Element<'_, '_>],
+    scope: &[ScopeNode<'_, '_>],
     path: &[Vec<u8>],
-    place: Place,
-) -> Result<Option<Place>, AllocError>
+    place: ScopePath,
+) -> Result<Option<ScopePath>, AllocError>
     ensures { IfOk result (λ p. option_map seen_place p ≡ onwards (walked scope.now) (items_all path.now) (seen_place place)) }
 {
     let level = nodes_of(element_at(scope, &place));
     let steps = follow(level, path, place.steps)?;
     match steps {
         None => Ok(None),
-        Some(steps) => Ok(Some(Place {
+        Some(steps) => Ok(Some(ScopePath {
             out: place.out,
             steps,
         })),
@@ -137,9 +137,9 @@ fn follow_from(
 /// The place to which a path leads.
 pub(crate) fn place_of(
     alloc: Global,
-    scope: &[Element<'_, '_>],
+    scope: &[ScopeNode<'_, '_>],
     path: &[Vec<u8>],
-) -> Result<Option<Place>, AllocError>
+) -> Result<Option<ScopePath>, AllocError>
     ensures { IfOk result (λ p. option_map seen_place p ≡ spec.place_of (walked scope.now) (items_all path.now)) }
 {
     let [label, labels @ ..] = path else {
@@ -152,7 +152,7 @@ pub(crate) fn place_of(
 }
 
 /// The place, or that of the innermost element itself where there is none.
-pub(crate) fn or_itself(alloc: Global, place: Option<Place>) -> Place
+pub(crate) fn or_itself(alloc: Global, place: Option<ScopePath>) -> ScopePath
     ensures { seen_place result ≡ unwrap_or (option_map seen_place place) spec.itself }
 {
     match place {

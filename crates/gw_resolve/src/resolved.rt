@@ -4,7 +4,7 @@ use gw_maplang::LeafPlace;
 
 /// One of the occurrences that are walked, counted outwards from the innermost, and from there the number of a child, step by step.
 #[derive(Drop)]
-pub struct Place {
+pub struct ScopePath {
     pub out: usize,
     pub steps: Vec<usize>,
 }
@@ -12,7 +12,7 @@ pub struct Place {
 /// A field of the segment at a place.
 #[derive(Drop)]
 pub struct Reference {
-    pub place: Place,
+    pub place: ScopePath,
     pub field: u32,
 }
 
@@ -25,7 +25,7 @@ pub enum Source {
 
 /// A text, the text of a source, or what the table of this name gives for that.
 #[derive(Drop)]
-pub enum Leaf {
+pub enum ResolvedLeaf {
     Const(Vec<u8>),
     Copied(Source),
     LookedUp(Vec<u8>, Source),
@@ -36,7 +36,7 @@ pub enum Leaf {
 pub struct At {
     pub line: u32,
     pub place: LeafPlace,
-    pub leaf: Leaf,
+    pub leaf: ResolvedLeaf,
 }
 
 /// How a field is made: as another, as its first repetition, a repetition of leaves for each of its own, or one of leaves.
@@ -61,7 +61,7 @@ pub struct Rule {
 pub struct SegmentItem {
     pub line: u32,
     pub child: usize,
-    pub place: Option<Place>,
+    pub place: Option<ScopePath>,
     pub rules: Vec<Rule>,
 }
 
@@ -71,7 +71,7 @@ pub struct SegmentItem {
 pub struct GroupItem {
     pub line: u32,
     pub child: usize,
-    pub place: Place,
+    pub place: ScopePath,
     pub items: Vec<Item>,
 }
 
@@ -80,7 +80,7 @@ pub struct GroupItem {
 #[cycle(item)]
 pub struct FlatItem {
     pub line: u32,
-    pub place: Place,
+    pub place: ScopePath,
     pub items: Vec<Item>,
 }
 

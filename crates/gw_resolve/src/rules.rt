@@ -8,17 +8,17 @@ ghost use Rattle.gw_resolve.specs.Outcome.{MakesLeaf, MakesLeaves, MakesMaking, 
 ghost use Rattle.gw_resolve.specs.Seen as seen;
 ghost use Rattle.gw_resolve.specs.Seen.{scope as walked};
 
-use crate::element::Element;
+use crate::element::ScopeNode;
 use crate::failure::Failure;
 use crate::led::{note_led, read_led};
-use crate::resolved::{At, Leaf, Making, Reference, Rule, Source};
+use crate::resolved::{At, Making, Reference, ResolvedLeaf, Rule, Source};
 use gw_maplang::{FieldPath, LeafRule, Ref};
 use std::alloc::{AllocError, Global};
 
 fn reference(
     alloc: Global,
     found: &mut Vec<Failure>,
-    scope: &[Element<'_, '_>],
+    scope: &[ScopeNode<'_, '_>],
     line: u32,
     from: &FieldPath,
 ) -> Result<Reference, AllocError>
@@ -36,7 +36,7 @@ fn reference(
 fn source(
     alloc: Global,
     found: &mut Vec<Failure>,
-    scope: &[Element<'_, '_>],
+    scope: &[ScopeNode<'_, '_>],
     line: u32,
     from: &Ref,
 ) -> Result<Source, AllocError>
@@ -61,26 +61,26 @@ fn copy_of(alloc: Global, bytes: &[u8]) -> Result<Vec<u8>, AllocError>
 fn leaf(
     alloc: Global,
     found: &mut Vec<Failure>,
-    scope: &[Element<'_, '_>],
+    scope: &[ScopeNode<'_, '_>],
     line: u32,
     made: &gw_maplang::Leaf,
-) -> Result<Leaf, AllocError>
+) -> Result<ResolvedLeaf, AllocError>
     ensures made { IfOk result (λ l. (tables : List TableValue) → seen.leaf tables l ≡ spec.leaf tables (walked scope.now) (raw.leaf made.now)) }
     ensures failures { OnOk result (Notes found.old found.new (spec.text_failures (walked scope.now) line (raw.leaf made.now))) }
 {
     match made {
         gw_maplang::Leaf::Const(text) => {
             let text = copy_of(alloc, text)?;
-            Ok(Leaf::Const(text))
+            Ok(ResolvedLeaf::Const(text))
         }
         gw_maplang::Leaf::Copy(from) => {
             let from = source(alloc, found, scope, line, from)?;
-            Ok(Leaf::Copied(from))
+            Ok(ResolvedLeaf::Copied(from))
         }
         gw_maplang::Leaf::Lookup(name, from) => {
             let name = copy_of(alloc, name)?;
             let from = source(alloc, found, scope, line, from)?;
-            Ok(Leaf::LookedUp(name, from))
+            Ok(ResolvedLeaf::LookedUp(name, from))
         }
     }
 }
@@ -88,7 +88,7 @@ fn leaf(
 fn at_leaf(
     alloc: Global,
     found: &mut Vec<Failure>,
-    scope: &[Element<'_, '_>],
+    scope: &[ScopeNode<'_, '_>],
     made: &LeafRule,
 ) -> Result<At, AllocError>
     ensures made { IfOk result (MakesLeaf (walked scope.now) made.now) }
@@ -105,7 +105,7 @@ fn at_leaf(
 fn leaves(
     alloc: Global,
     found: &mut Vec<Failure>,
-    scope: &[Element<'_, '_>],
+    scope: &[ScopeNode<'_, '_>],
     all: &[LeafRule],
 ) -> Result<Vec<At>, AllocError>
     ensures made { IfOk result (λ v. MakesLeaves (walked scope.now) all.now v.items) }
@@ -122,7 +122,7 @@ fn leaves(
 fn making(
     alloc: Global,
     found: &mut Vec<Failure>,
-    scope: &[Element<'_, '_>],
+    scope: &[ScopeNode<'_, '_>],
     made: &gw_maplang::Rule,
 ) -> Result<Making, AllocError>
     ensures made { IfOk result (MakesMaking (walked scope.now) made.now) }
@@ -152,7 +152,7 @@ fn making(
 fn rule(
     alloc: Global,
     found: &mut Vec<Failure>,
-    scope: &[Element<'_, '_>],
+    scope: &[ScopeNode<'_, '_>],
     made: &gw_maplang::Rule,
 ) -> Result<Rule, AllocError>
     ensures made { IfOk result (MakesRule (walked scope.now) made.now) }
@@ -170,7 +170,7 @@ fn rule(
 pub(crate) fn rules(
     alloc: Global,
     found: &mut Vec<Failure>,
-    scope: &[Element<'_, '_>],
+    scope: &[ScopeNode<'_, '_>],
     all: &[gw_maplang::Rule],
 ) -> Result<Vec<Rule>, AllocError>
     ensures made { IfOk result (λ v. MakesRules (walked scope.now) all.now v.items) }

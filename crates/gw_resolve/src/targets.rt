@@ -1,4 +1,4 @@
-//! The target nodes of items, and whether they stand in order (3).
+//! The target nodes of items, and whether they are in order (3).
 ghost use Rattle.std.specs.Prelude.{◌≡◌, ◌++◌, not, nat_lt, slice_get, bytes_eq, unwrap_or, option_map, option_and_then, IfOk, OnOk};
 ghost use Rattle.std.specs.List.{list_all};
 ghost use Rattle.gw_maplang.specs.Seen.{now, with_item, all_items};
@@ -11,7 +11,7 @@ ghost use Rattle.gw_resolve.specs.Order.{is_segment, is_group};
 ghost use Rattle.gw_resolve.specs.Places as places;
 ghost use Rattle.gw_resolve.specs.Seen.{element as seen};
 
-use crate::element::{Element, child};
+use crate::element::{ScopeNode, child};
 use crate::failure::{Failure, at_line, note};
 use crate::paths::{labelled, same};
 use gw_maplang::Item;
@@ -95,7 +95,7 @@ fn first_or(items: &[Item]) -> &[u8]
 
 /// The target node of a label: its number in the map without labels, and the one behind which the next item stands.
 #[derive(Clone, Copy)]
-pub(crate) struct Aimed {
+pub(crate) struct TargetNode {
     pub(crate) child: usize,
     pub(crate) node: usize,
 }
@@ -110,7 +110,10 @@ fn number_or(j: usize, number: Option<usize>) -> usize
     }
 }
 
-fn child_if<'a, 'p>(level: Option<&'a Level<'p>>, number: Option<usize>) -> Option<Element<'a, 'p>>
+fn child_if<'a, 'p>(
+    level: Option<&'a Level<'p>>,
+    number: Option<usize>,
+) -> Option<ScopeNode<'a, 'p>>
     ensures { option_map seen result ≡ option_and_then (places.child (nodes_in level.entry)) number }
 {
     match number {
@@ -124,9 +127,9 @@ fn is_segment_at(level: Option<&Level<'_>>, number: Option<usize>) -> bool
 {
     match child_if(level, number) {
         None => false,
-        Some(Element::Segment(_)) => true,
-        Some(Element::Group(_, _)) => false,
-        Some(Element::Whole(_)) => false,
+        Some(ScopeNode::Segment(_)) => true,
+        Some(ScopeNode::Group(_, _)) => false,
+        Some(ScopeNode::Whole(_)) => false,
     }
 }
 
@@ -135,9 +138,9 @@ fn is_group_at(level: Option<&Level<'_>>, number: Option<usize>) -> bool
 {
     match child_if(level, number) {
         None => false,
-        Some(Element::Segment(_)) => false,
-        Some(Element::Group(_, _)) => true,
-        Some(Element::Whole(_)) => false,
+        Some(ScopeNode::Segment(_)) => false,
+        Some(ScopeNode::Group(_, _)) => true,
+        Some(ScopeNode::Whole(_)) => false,
     }
 }
 
@@ -162,7 +165,7 @@ pub(crate) fn segment_target(
     j: usize,
     line: u32,
     label: &[u8],
-) -> Result<Aimed, AllocError>
+) -> Result<TargetNode, AllocError>
     ensures failures { OnOk result (Notes found.old found.new (spec.label_failures (nodes_in level.entry) is_segment j line label.now)) }
     ensures child { IfOk result (λ a. a.child ≡ spec.node_or 0 (nodes_in level.entry) label.now) }
     ensures node { IfOk result (λ a. a.node ≡ spec.node_or j (nodes_in level.entry) label.now) }
@@ -170,7 +173,7 @@ pub(crate) fn segment_target(
     let number = labelled(level, label);
     let node = number_or(j, number);
     note_target(found, line, is_segment_at(level, number), j, node)?;
-    Ok(Aimed {
+    Ok(TargetNode {
         child: number_or(0, number),
         node,
     })
@@ -183,7 +186,7 @@ pub(crate) fn group_target(
     j: usize,
     line: u32,
     label: &[u8],
-) -> Result<Aimed, AllocError>
+) -> Result<TargetNode, AllocError>
     ensures failures { OnOk result (Notes found.old found.new (spec.label_failures (nodes_in level.entry) is_group j line label.now)) }
     ensures child { IfOk result (λ a. a.child ≡ spec.node_or 0 (nodes_in level.entry) label.now) }
     ensures node { IfOk result (λ a. a.node ≡ spec.node_or j (nodes_in level.entry) label.now) }
@@ -191,7 +194,7 @@ pub(crate) fn group_target(
     let number = labelled(level, label);
     let node = number_or(j, number);
     note_target(found, line, is_group_at(level, number), j, node)?;
-    Ok(Aimed {
+    Ok(TargetNode {
         child: number_or(0, number),
         node,
     })

@@ -6,13 +6,13 @@ use Rattle.std.proofs.lemmas.List.{append-nil, append_assoc}
 use Rattle.gw_profile.specs.Shapes.{ProfileValue}
 use Rattle.gw_maplang.specs.Shapes.{TableValue, MapValue}
 use Rattle.gw_resolve.specs.declared.failure.Failure.{Failure}
-use Rattle.gw_resolve.specs.declared.named.Named.{Named}
+use Rattle.gw_resolve.specs.declared.named.ResolvedMap.{ResolvedMap}
 use Rattle.gw_resolve.specs.declared.resolved.Making as makings
 use Rattle.gw_resolve.specs.declared.resolved.GroupItem.{GroupItem}
 use Rattle.gw_resolve.specs.declared.resolved.FlatItem.{FlatItem}
 use Rattle.gw_resolve.specs.declared.resolved.SegmentItem.{SegmentItem}
 use Rattle.gw_resolve.specs.declared.resolved.Item.{Item, Segment, Group, Flat, Group', Flat'}
-use Rattle.gw_resolve.specs.declared.resolved.Place as places
+use Rattle.gw_resolve.specs.declared.resolved.ScopePath as places
 use Rattle.gw_resolve.specs.declared.resolved.Rule as rules_of
 use Rattle.gw_resolve.specs.Resolved.{Items, no_items, first_child}
 use Rattle.gw_resolve.specs.Naming.{resolved}
@@ -50,7 +50,7 @@ module _ (tables : List TableValue) (scope : List Position) (at : Position) (s :
       (subst (λ l. Adds tables old new (node_sites s.line at unsaid ++ rules_sites scope at (map (rule tables) l))) same (added_twice tables old mid new _ _ h k))
 
   -- that is made for each occurrence at a place
-  pub walked_made : (within : List Position) (p : places.Place) (list : List rules_of.Rule) → s.place ≡ Some p → list ≡ s.rules.items → within ≡ inner scope (place p) →
+  pub walked_made : (within : List Position) (p : places.ScopePath) (list : List rules_of.Rule) → s.place ≡ Some p → list ≡ s.rules.items → within ≡ inner scope (place p) →
       Adds tables old mid (node_sites s.line at (node_origin scope (place p))) → Adds tables mid new (rules_sites within at (map (rule tables) list)) → Adds tables old new (segment_sites scope at (segment_item tables s))
   walked_made within p list some same there h k =
       subst (λ q. Adds tables old new (node_sites s.line at (origin_if scope (option_map place q)) ++ rules_sites (inner_if scope (option_map place q)) at (map (rule tables) s.rules.items))) (sym some)
@@ -136,5 +136,5 @@ none_of (f ∷ found) x h = refl
 pub none_lost : (from to : ProfileValue) (m : MapValue) (found : List Failure) → IsLost from to m found → [] ≡ sites from to m
 none_lost from to m found h = none_of found (of_map from to m) h.some ∙ ap (λ l. none_if l (of_map from to m)) h.all
 
-pub all_named : (from to : ProfileValue) (m : MapValue) (made : Named) (found : List Site) → IsNamed from to m made → found ≡ items_sites ([] ∷ []) [] (all_items m.tables made.items.items) → found ≡ sites from to m
+pub all_named : (from to : ProfileValue) (m : MapValue) (made : ResolvedMap) (found : List Site) → IsNamed from to m made → found ≡ items_sites ([] ∷ []) [] (all_items m.tables made.items.items) → found ≡ sites from to m
 all_named from to m made found h is = is ∙ ap (items_sites ([] ∷ []) []) h.items ∙ ap (λ l. none_if l (of_map from to m)) (sym h.none)

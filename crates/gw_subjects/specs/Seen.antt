@@ -9,11 +9,11 @@ use Rattle.gw_resolve.specs.declared.resolved.Item.{Item}
 use Rattle.gw_resolve.specs.declared.resolved.SegmentItem as segments
 use Rattle.gw_resolve.specs.declared.resolved.Reference as references
 use Rattle.gw_subjects.specs.Sites.{Spot, Origin, unsaid, text, read, repeated, given, Site}
-use Rattle.gw_subjects.specs.declared.site.Spot as spots
+use Rattle.gw_subjects.specs.declared.site.ElementPath as spots
 use Rattle.gw_subjects.specs.declared.site.Origin as origins
 use Rattle.gw_subjects.specs.declared.site.Site as declared
 
-abbrev pub spot : spots.Spot → Spot
+abbrev pub spot : spots.ElementPath → Spot
 spot s = record { at = s.at.items; walked = s.walked; field = s.field; comp = s.comp; sub = s.sub }
 
 -- the rows of the table of this name, none where there isn't one

@@ -7,7 +7,7 @@ ghost use Rattle.gw_subjects.specs.Elements as spec;
 ghost use Rattle.gw_subjects.specs.Elements.{some_field, some_comp, some_sub};
 ghost use Rattle.gw_subjects.specs.Seen.{spot as seen_spot};
 
-use crate::site::Spot;
+use crate::site::ElementPath;
 use gw_profile::{CompShape, FieldShape, Node, Profile, SubShape};
 use gw_resolve::nodes_within;
 
@@ -104,21 +104,21 @@ fn sub_of(comp: Option<&CompShape>, number: u32) -> Option<&SubShape>
 }
 
 /// The field that is named, where the profile lists it. It takes no memory.
-pub fn field_at<'a>(profile: &'a Profile, spot: &Spot) -> Option<&'a FieldShape>
+pub fn field_at<'a>(profile: &'a Profile, spot: &ElementPath) -> Option<&'a FieldShape>
     ensures { some_field result ≡ spec.field_at (profile_value profile.now).nodes (seen_spot spot.now) }
 {
     field_of(fields_in(profile.nodes(), &spot.at), spot.field)
 }
 
 /// The component that is named, where the profile lists it. It takes no memory.
-pub fn comp_at<'a>(profile: &'a Profile, spot: &Spot) -> Option<&'a CompShape>
+pub fn comp_at<'a>(profile: &'a Profile, spot: &ElementPath) -> Option<&'a CompShape>
     ensures { some_comp result ≡ spec.comp_at (profile_value profile.now).nodes (seen_spot spot.now) }
 {
     comp_of(field_at(profile, spot), spot.comp)
 }
 
 /// The subcomponent that is named, where the profile lists it. It takes no memory.
-pub fn sub_at<'a>(profile: &'a Profile, spot: &Spot) -> Option<&'a SubShape>
+pub fn sub_at<'a>(profile: &'a Profile, spot: &ElementPath) -> Option<&'a SubShape>
     ensures { some_sub result ≡ spec.sub_at (profile_value profile.now).nodes (seen_spot spot.now) }
 {
     sub_of(comp_at(profile, spot), spot.sub)

@@ -15,7 +15,7 @@ use crate::rules::{Target, add_rules, add_whole};
 use crate::site::{Origin, Site};
 use gw_maplang::Map;
 use gw_profile::{Level, Profile};
-use gw_resolve::{Item, Place, Resolving, SegmentItem, resolve};
+use gw_resolve::{Item, Resolving, ScopePath, SegmentItem, resolve};
 use std::alloc::{AllocError, Global};
 
 // The node of this number below a position.
@@ -71,7 +71,7 @@ fn add_node(
     scope: &[Vec<usize>],
     line: u32,
     at: &[usize],
-    place: &Place,
+    place: &ScopePath,
 ) -> Result<(), AllocError>
     ensures { AddsAll result sites.old.items sites.new.items
         (λ tables. spec.node_sites line at.now (spec.node_origin (positions scope.now) (seen_place place.now))) }
@@ -183,7 +183,7 @@ fn look_up(
 
 /// What each line of a map makes, and of what.
 ///
-/// None are told where the rules on labels (1 to 3) fail. It takes time by the sizes of the profiles and the map. The one error is want of memory.
+/// The list is empty where the rules on labels (1 to 3) fail. It takes time by the sizes of the profiles and the map. The one error is allocation failure.
 pub fn sites(
     alloc: Global,
     source: &Profile,

@@ -10,5 +10,5 @@ mod texts;
 
 pub use elements::{comp_at, field_at, sub_at};
 pub use items::{site_at, sites};
-pub use site::{Origin, Site, Spot};
+pub use site::{ElementPath, Origin, Site};
 pub use texts::{unlisted, unrowed};

@@ -6,16 +6,16 @@ ghost use Rattle.gw_resolve.specs.Seen.{place as seen_place, reference, source a
 ghost use Rattle.gw_subjects.specs.Seen.{spot as seen_spot, some_reference, rows_of, OriginIs};
 ghost use Rattle.gw_subjects.specs.Sites as spec;
 
-use crate::site::{Origin, Spot};
+use crate::site::{ElementPath, Origin};
 use gw_maplang::LeafPlace;
-use gw_resolve::{Leaf, Place, Reference, Source};
+use gw_resolve::{Reference, ResolvedLeaf, ScopePath, Source};
 use std::alloc::{AllocError, Global};
 
 /// The position of a place, seen from the positions that are walked, the innermost last.
 pub(crate) fn position(
     alloc: Global,
     scope: &[Vec<usize>],
-    place: &Place,
+    place: &ScopePath,
 ) -> Result<Vec<usize>, AllocError>
     ensures { IfOk result (λ p. p.items ≡ places.position (positions scope.now) (seen_place place.now)) }
 {
@@ -28,7 +28,7 @@ pub(crate) fn position(
 }
 
 // How many numbers of its position lead to what is walked.
-fn walked_steps(scope: &[Vec<usize>], place: &Place) -> usize
+fn walked_steps(scope: &[Vec<usize>], place: &ScopePath) -> usize
     ensures { result ≡ places.walked (positions scope.now) (seen_place place.now) }
 {
     if place.out >= scope.len() {
@@ -41,7 +41,7 @@ fn walked_steps(scope: &[Vec<usize>], place: &Place) -> usize
 pub(crate) fn inner(
     alloc: Global,
     scope: &[Vec<usize>],
-    place: &Place,
+    place: &ScopePath,
 ) -> Result<Vec<Vec<usize>>, AllocError>
     ensures { IfOk result (λ inner. positions inner.items ≡ places.inner (positions scope.now) (seen_place place.now)) }
 {
@@ -62,11 +62,11 @@ fn read_at(
     from: &Reference,
     comp: u32,
     sub: u32,
-) -> Result<Spot, AllocError>
+) -> Result<ElementPath, AllocError>
     ensures { IfOk result (λ s. seen_spot s ≡ spec.read_at (positions scope.now) (reference from.now) comp sub) }
 {
     let at = position(alloc, scope, &from.place)?;
-    Ok(Spot {
+    Ok(ElementPath {
         at,
         walked: walked_steps(scope, &from.place),
         field: from.field,
@@ -103,12 +103,12 @@ pub(crate) fn repeated_origin(
 pub(crate) fn node_origin(
     alloc: Global,
     scope: &[Vec<usize>],
-    place: &Place,
+    place: &ScopePath,
 ) -> Result<Origin, AllocError>
     ensures { OriginIs result (λ _. spec.node_origin (positions scope.now) (seen_place place.now)) }
 {
     let at = position(alloc, scope, place)?;
-    Ok(Origin::Read(Spot {
+    Ok(Origin::Read(ElementPath {
         at,
         walked: walked_steps(scope, place),
         field: 0,
@@ -123,11 +123,11 @@ fn current_spot(
     scope: &[Vec<usize>],
     walked: Option<&Reference>,
     at: LeafPlace,
-) -> Result<Spot, AllocError>
+) -> Result<ElementPath, AllocError>
     ensures { IfOk result (λ s. seen_spot s ≡ spec.current_spot (positions scope.now) (some_reference walked.entry) at.comp at.sub) }
 {
     match walked {
-        None => Ok(Spot {
+        None => Ok(ElementPath {
             at: Vec::new(alloc),
             walked: 0,
             field: 0,
@@ -143,7 +143,7 @@ fn source_spot(
     scope: &[Vec<usize>],
     walked: Option<&Reference>,
     from: &Source,
-) -> Result<Spot, AllocError>
+) -> Result<ElementPath, AllocError>
     ensures { IfOk result (λ s. seen_spot s ≡ spec.source_spot (positions scope.now) (some_reference walked.entry) (seen_source from.now)) }
 {
     match from {
@@ -173,19 +173,19 @@ pub(crate) fn leaf_origin(
     alloc: Global,
     scope: &[Vec<usize>],
     walked: Option<&Reference>,
-    leaf: &Leaf,
+    leaf: &ResolvedLeaf,
 ) -> Result<Origin, AllocError>
     ensures { OriginIs result (λ tables. spec.leaf_origin (positions scope.now) (some_reference walked.entry) (seen_leaf tables leaf.now)) }
 {
     match leaf {
-        Leaf::Const(text) => {
+        ResolvedLeaf::Const(text) => {
             let text = Vec::from_slice(alloc, text)?;
             Ok(Origin::Text(text))
         }
-        Leaf::Copied(from) => {
+        ResolvedLeaf::Copied(from) => {
             let from = source_spot(alloc, scope, walked, from)?;
             Ok(Origin::Read(from))
         }
-        Leaf::LookedUp(name, from) => looked_up(alloc, scope, walked, name, from),
+        ResolvedLeaf::LookedUp(name, from) => looked_up(alloc, scope, walked, name, from),
     }
 }

@@ -6,7 +6,7 @@ ghost use Rattle.gw_subjects.specs.Seen.{AddsAll, origin as seen_origin, some_re
 ghost use Rattle.gw_subjects.specs.Sites as spec;
 
 use crate::reading::{field_origin, leaf_origin, repeated_origin};
-use crate::site::{Origin, Site, Spot};
+use crate::site::{ElementPath, Origin, Site};
 use gw_maplang::LeafPlace;
 use gw_resolve::{At, Making, Reference, Rule};
 use std::alloc::{AllocError, Global};
@@ -32,7 +32,7 @@ pub(crate) fn add_site(
         (λ tables. spec.site_of line target.entry.at.now target.entry.field part.comp part.sub (seen_origin tables origin) ∷ []) }
 {
     let at = Vec::from_slice(alloc, target.at)?;
-    let target = Spot {
+    let target = ElementPath {
         at,
         walked: 0,
         field: target.field,

@@ -2,7 +2,7 @@
 
 /// An element of a profile: a node, by the numbers of the nodes that lead to it from the top on, each from 0, or in it a field, a component, a subcomponent. 0 is said where the whole is meant.
 #[derive(Drop)]
-pub struct Spot {
+pub struct ElementPath {
     pub at: Vec<usize>,
     /// Of what is read, how many of the numbers lead to what an item around it walks.
     pub walked: usize,
@@ -19,21 +19,21 @@ pub enum Origin {
     /// A constant.
     Text(Vec<u8>),
     /// An element of the source.
-    Read(Spot),
+    Read(ElementPath),
     /// A field of the source, of whose repetitions each makes one by the leaves of the line.
-    Repeated(Spot),
+    Repeated(ElementPath),
     /// What the table of this name gives for an element of the source.
-    LookedUp(Vec<u8>, Spot),
+    LookedUp(Vec<u8>, ElementPath),
 }
 
 /// The element of the target that a line makes, and of what.
 pub struct Site {
     pub line: u32,
-    pub target: Spot,
+    pub target: ElementPath,
     pub origin: Origin,
 }
 
-// (by hand: so no crate above proves again how what lies in it is let go)
+// (by hand, so that no crate above proves again how its fields are dropped)
 impl Drop for Site {
     fn drop(self) {
         let Site {

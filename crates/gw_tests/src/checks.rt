@@ -1,4 +1,4 @@
-//! What the checker hands back, and maps that it always allows.
+//! What the checker returns, and maps that it always allows.
 use crate::worked::{ORU, P1, map, profile};
 use gw_check::{CheckFault, check};
 use gw_leaves::{Presence, Shape, Values, included};

@@ -12,14 +12,14 @@ fn told(held: &Held<u64>, value: u64) -> (Status, bool) {
     }
 }
 
-/// Brings a value of ten times the number: `status` and `hold` tell the same.
+/// Brings a value of ten times the number: `status` and `hold` say the same.
 fn brings(desk: &mut Desk<u64>, number: u64, value: u64, want: Status) -> bool {
     let before = desk.status(number);
     let held = desk.hold(number, value);
     before == want && told(&held, value) == (want, true)
 }
 
-/// Gives the next one: `peek` and `release` tell the same.
+/// Gives the next one: `peek` and `release` say the same.
 fn gives(desk: &mut Desk<u64>, want: Option<(u64, u64)>) -> bool {
     let before = match desk.peek() {
         Some((number, value)) => Some((number, *value)),

@@ -66,7 +66,7 @@ fn has_values(segment: &Segment<'_>) -> bool {
 
 // Whether the segment is PID with its values.
 fn is_pid(segment: &Segment<'_>) -> bool {
-    segment.again().name() == *b"PID"
+    segment.reborrow().name() == *b"PID"
         && counts(segment) == (3, 3, 2, 0, 2)
         && is_found_from(segment, 0)
         && is_found_from(segment, 7)
@@ -139,7 +139,7 @@ fn read_copy(alloc: Global, content: &[u8]) -> Result<Message, ReadFault> {
     }
 }
 
-// Whether the content is read as this message, lent or handed over.
+// Whether the message bytes are read as this message, borrowed or owned.
 fn is_read_as(alloc: Global, content: &[u8], message: &Message) -> Result<bool, ReadFault> {
     Ok(is_same(alloc, content, message)? && read_copy(alloc, content)?.same(message))
 }

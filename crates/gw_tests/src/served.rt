@@ -104,7 +104,7 @@ pub(crate) const WHOLE: (Ran, Option<usize>) = (
     Some(ARCHIVE.len()),
 );
 
-/// A device that takes so many bytes a call, so often.
+/// A device that takes `most` bytes a call, and fails after `calls` calls.
 fn sink<'a>(alloc: Global, most: usize, calls: usize) -> Device<'a> {
     Device::new(alloc, b"", most, calls, 0)
 }

@@ -38,7 +38,7 @@ const COUNTS: Counts = Counts {
     ar: 1,
 };
 
-/// Moves at most so many bytes a call, fails after so many calls, and is interrupted so often before each.
+/// Moves a limited number of bytes a call, fails after a number of calls, and is interrupted before each.
 /// Behind what it has it gives a CR a call for ever, if it is endless.
 #[derive(Drop)]
 pub(crate) struct Device<'a> {

@@ -32,7 +32,7 @@ fn lookup<'a>(
     Some((field.usage, comp.number, sub.len, strange, unrowed))
 }
 
-/// What the lookup reads, and the texts that stand in its way.
+/// What the lookup reads, and the texts that it can't look up.
 #[test]
 fn lookups(rt: HostRuntime) -> Result<(), Fail> {
     let alloc = rt.alloc();

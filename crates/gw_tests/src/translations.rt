@@ -62,7 +62,7 @@ fn made(alloc: Global, map: &CheckedMap, tree: &Tree) -> Result<Message, Fail> {
     Ok(made)
 }
 
-// Whether the value stands in PID-2 and PID-3, as far away, and nothing else does.
+// Whether the value is in PID-2 and PID-3, as far away, and nothing else is.
 fn is_copied(made: &Message) -> bool {
     if made.segment_count() != 2 {
         return false;

@@ -15,7 +15,7 @@ fn at<'a>(occ: &Occ<'a>, child: usize, k: usize) -> Option<Occ<'a>> {
     Some(occ.child(child, k))
 }
 
-// Whether a tree has two results, of two orders and of one, and how the second order stands in the first.
+// Whether a tree has two results, of two orders and of one, and which segments of the first are the second order.
 fn is_shaped(root: &Occ<'_>) -> Option<bool> {
     let first = at(root, 1, 0)?;
     let second = at(root, 1, 1)?;

@@ -64,7 +64,7 @@ fn can_go_on(due: Card, children: &[Node], message: &Message, number: usize) -> 
     has_room(due) && can_begin(children, name_at(message, number))
 }
 
-// The place behind the segments of a node that stand in the list from this place on.
+// The place behind a node's segments, which are listed from this place on.
 fn pass_segments(segment: &SegNode, message: &Message, listed: &[usize], at: usize) -> usize
     ensures on { at ≤ result }
     ensures built { BuildsSegments (named message.now) (segment_value segment.now)

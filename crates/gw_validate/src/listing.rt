@@ -17,7 +17,7 @@ pub(crate) fn name_at(message: &Message, number: usize) -> [u8; 3]
     message.segment(number).name()
 }
 
-/// The numbers of the segments whose names stand in the profile.
+/// The numbers of the segments whose names the profile has.
 pub(crate) fn listed(
     alloc: Global,
     profile: &Profile,

@@ -1,4 +1,4 @@
-//! Occurrences as they are lent.
+//! Borrowed occurrences.
 ghost use Rattle.std.specs.Prelude.{◌≡◌, ◌<◌, List, length, get_or, Some};
 ghost use Rattle.std.specs.List.{AllByRecursion};
 ghost use Rattle.gw_er7.specs.Message.{SegmentValue};
@@ -78,7 +78,7 @@ impl<'a> Row<'a> {
     }
 }
 
-/// One occurrence of a node in a message, lent by its tree: a segment, or a group with the occurrences of its children.
+/// One occurrence of a node in a message, borrowed from its tree: a segment, or a group with the occurrences of its children.
 #[derive(Drop)]
 pub struct Occ<'a> {
     message: &'a Message,
@@ -130,8 +130,8 @@ impl<'a> Occ<'a> {
         }
     }
 
-    /// The same occurrence, lent once more. It takes no memory.
-    pub fn again(&self) -> Occ<'a>
+    /// The same occurrence, borrowed once more, without an allocation.
+    pub fn reborrow(&self) -> Occ<'a>
         ensures { result ≡ self.now }
     {
         Occ {
@@ -170,7 +170,7 @@ impl<'a> Occ<'a> {
         ensures shows { occurrence_at self.now.tree child k ≡ Some (occurrence_of result) }
     {
         match &self.shown {
-            Shown::Segment(_) => self.again(),
+            Shown::Segment(_) => self.reborrow(),
             Shown::Group(row) => Occ {
                 message: self.message,
                 shown: row.child(child, k),

@@ -9,7 +9,7 @@ use std::alloc::{AllocError, Global};
 #[derive(Drop)]
 #[cycle(tree)]
 pub(crate) enum Occurrences {
-    /// Those of a segment: so many of the numbers that are listed, from one on.
+    /// Those of a segment: `count` of the listed numbers, from the index `from`.
     Segments { from: usize, count: usize },
     Groups(Vec<Found>),
 }
@@ -49,7 +49,7 @@ pub(crate) fn of_group(found: Vec<Found>) -> Option<Occurrences>
     Some(Occurrences::Groups(found))
 }
 
-// So many of the numbers, from one on.
+// `count` of the numbers, from one on.
 fn part(numbers: &[usize], from: usize, count: usize) -> &[usize]
     ensures { result.now ≡ take count (drop from numbers.now) }
 {

@@ -14,7 +14,7 @@ pub struct Tree {
     found: Found,
 }
 
-// (by hand: so no crate above proves again how what lies in it is let go)
+// (by hand, so that no crate above proves again how its fields are dropped)
 impl Drop for Tree {
     fn drop(self) {
         let Tree {

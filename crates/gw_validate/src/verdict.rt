@@ -28,7 +28,7 @@ use std::sync::Arc;
 pub enum Verdict {
     /// It conforms, and this is its tree.
     Fits(Tree),
-    /// It does not, and this is its first breach; the message is handed back.
+    /// It does not, and this is its first breach. The message is returned.
     Breaks(Breach, Message),
 }
 
@@ -123,7 +123,7 @@ fn judge(alloc: Global, profile: &Profile, message: &Message) -> Result<Judged, 
     }
 }
 
-/// What a message is by a profile: it conforms, with its one tree, or it breaks, with its first breach and the message back. Err is want of memory, and gives the message back.
+/// Validates a message against a profile: it conforms, with its one tree, or it breaks the profile, with its first breach and the message. Err is allocation failure, with the message.
 pub fn validate(alloc: Global, profile: Arc<Profile>, message: Message) -> Result<Verdict, Message>
     ensures exact { IfOk result (λ verdict. IsTrue (is_fit verdict) ↔ Conforms (profile_value (arc_value profile)) message) }
     ensures tree { IfOk result (λ verdict. IfFits verdict (HasTree (profile_value (arc_value profile)) message)) }

@@ -1,11 +1,11 @@
 //! What a person needs of a map that a rule refuses: the file and its line, what the rule demands, and what to do.
 use crate::elements::{Named, tell_name};
-use crate::maps::Sides;
+use crate::maps::ProfilePair;
 use crate::report::say;
 use crate::subjects::Told;
-use gw_check::{FieldAt, Gap, gaps, unread};
+use gw_check::{FieldAt, Gap, gaps, unused_fields};
 use gw_maplang::Map;
-use gw_resolve::{Failure, Mark};
+use gw_resolve::{Failure, FailureSite};
 use gw_subjects::{Site, site_at, sites};
 use std::alloc::{AllocError, Global};
 use std::collections::BTreeMap;
@@ -55,7 +55,7 @@ pub(crate) struct Found {
 /// A map that a rule refuses, with its text and its profiles.
 #[derive(Clone, Copy)]
 pub(crate) struct Refusal<'a> {
-    pub(crate) sides: &'a Sides,
+    pub(crate) sides: &'a ProfilePair,
     pub(crate) written: &'a Written<'a>,
     pub(crate) refused: &'a Refused,
 }
@@ -114,7 +114,7 @@ fn cut(text: &[u8], byte: u8) -> Option<(&[u8], &[u8])> {
     Some((&text[..at], &text[at + 1..]))
 }
 
-/// What stands behind so many lines.
+/// What comes behind the first `lines` lines.
 pub(crate) fn behind(text: &[u8], lines: u32) -> &[u8] {
     let mut rest = text;
     for _ in 0..lines {
@@ -172,7 +172,7 @@ fn place_of(gap: &Gap) -> Place {
 }
 
 /// What stands for the part of the target that fails.
-fn marked(mark: Mark) -> Place {
+fn marked(mark: FailureSite) -> Place {
     match mark.child {
         Some(node) => (mark.line, node.saturating_add(1), 0),
         None => (mark.line, 0, mark.field),
@@ -209,7 +209,7 @@ impl Gaps {
     }
 
     /// What nothing gives of which a mark speaks.
-    fn at(&self, mark: Mark) -> Option<&Gap> {
+    fn at(&self, mark: FailureSite) -> Option<&Gap> {
         let number = self.by_place.get(&marked(mark))?;
         self.all.get(*number)
     }
@@ -228,9 +228,9 @@ impl Gaps {
 impl Refusal<'_> {
     /// What its failures speak of.
     pub(crate) fn found(&self, alloc: Global) -> Result<Found, AllocError> {
-        let Sides { source, target } = self.sides;
+        let ProfilePair { source, target } = self.sides;
         let map = &self.refused.map;
-        let unread = unread(alloc, source, target, map)?;
+        let unread = unused_fields(alloc, source, target, map)?;
         let sites = sites(alloc, source, target, map)?;
         let alike = alike(alloc, &self.refused.failures)?;
         let gaps = Gaps::of(alloc, gaps(alloc, source, target, map)?)?;

@@ -134,7 +134,7 @@ fn tell_full<R: Eprint>(rt: &R, who: Who<'_>) {
                 "the main thread meets a full journal: what isn't translated yet is not sent"
             )
         }
-        // (the line of the swap that is refused tells it)
+        // (the line of the refused swap says it)
         Who::Swaps => Ok(()),
     };
 }

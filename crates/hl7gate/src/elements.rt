@@ -1,8 +1,8 @@
-//! Elements of a profile in the field's words: their names, how often they come, and what stands in them.
+//! Elements of a profile in the field's words: their names, how often they come, and their values.
 use crate::report::say;
 use gw_profile::{Card, Node, Profile, Usage};
 use gw_resolve::{CAP, Interval};
-use gw_subjects::{Spot, comp_at, field_at, sub_at};
+use gw_subjects::{ElementPath, comp_at, field_at, sub_at};
 use std::io::Write;
 
 /// An element by its numbers: a node, or in it a field, a component, a subcomponent; 0 where the whole is meant.
@@ -15,7 +15,7 @@ pub(crate) struct Named<'a> {
 }
 
 /// The element of a spot.
-pub(crate) fn element_of(spot: &Spot) -> Named<'_> {
+pub(crate) fn element_of(spot: &ElementPath) -> Named<'_> {
     Named {
         at: &spot.at,
         field: spot.field,
@@ -145,7 +145,7 @@ fn tell_what<E: Write>(errors: &mut E, profile: &Profile, said: Option<(Usage, O
 }
 
 /// The field of a component or subcomponent.
-fn whole_field(spot: &Spot) -> Named<'_> {
+fn whole_field(spot: &ElementPath) -> Named<'_> {
     Named {
         comp: 0,
         sub: 0,
@@ -176,7 +176,7 @@ pub(crate) fn tell_node<E: Write>(errors: &mut E, profile: &Profile, at: &[usize
 }
 
 /// Tells how a field may come.
-pub(crate) fn tell_field<E: Write>(errors: &mut E, profile: &Profile, spot: &Spot) {
+pub(crate) fn tell_field<E: Write>(errors: &mut E, profile: &Profile, spot: &ElementPath) {
     let said = match field_at(profile, spot) {
         None => None,
         Some(field) => Some((field.usage, Some(field.card))),
@@ -186,7 +186,7 @@ pub(crate) fn tell_field<E: Write>(errors: &mut E, profile: &Profile, spot: &Spo
 }
 
 /// Tells how a component may come.
-pub(crate) fn tell_comp<E: Write>(errors: &mut E, profile: &Profile, spot: &Spot) {
+pub(crate) fn tell_comp<E: Write>(errors: &mut E, profile: &Profile, spot: &ElementPath) {
     let said = match comp_at(profile, spot) {
         None => None,
         Some(comp) => Some((comp.usage, None)),
@@ -198,13 +198,13 @@ pub(crate) fn tell_comp<E: Write>(errors: &mut E, profile: &Profile, spot: &Spot
 }
 
 /// Tells how a subcomponent may come.
-pub(crate) fn tell_sub<E: Write>(errors: &mut E, profile: &Profile, spot: &Spot) {
+pub(crate) fn tell_sub<E: Write>(errors: &mut E, profile: &Profile, spot: &ElementPath) {
     let said = match sub_at(profile, spot) {
         None => None,
         Some(sub) => Some((sub.usage, None)),
     };
     tell_name(errors, profile, whole_field(spot));
-    let Spot { comp, sub, .. } = spot;
+    let ElementPath { comp, sub, .. } = spot;
     let _ = write!(errors, ".{comp}.{sub}");
     tell_what(errors, profile, said);
 }

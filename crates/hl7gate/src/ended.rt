@@ -7,7 +7,7 @@ use gw_stream::RunFault;
 use gw_validate::Breach;
 use std::alloc::{AllocError, AllocFailed};
 
-/// Why a command wasn't done. A path is a word of the command line; what was expected is said of a line that is no line of its form.
+/// Why a command wasn't done. A path is a word of the command line; what was expected is printed for a line that is no line of its form.
 #[derive(Drop)]
 pub(crate) enum Ended<'a> {
     /// The digits of the time stamp aren't fourteen.

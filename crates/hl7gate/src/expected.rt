@@ -7,7 +7,7 @@ use gw_plan::PlanFault;
 use gw_profile::ProfileFault;
 use std::alloc::{AllocError, Global};
 
-/// What is said of a line whose words are no line of a profile; nothing of any other fault.
+/// What is printed of a line whose words are no line of a profile; nothing for any other fault.
 pub(crate) fn in_profile(
     alloc: Global,
     text: &[u8],
@@ -21,7 +21,7 @@ pub(crate) fn in_profile(
     Ok(Some(said))
 }
 
-/// What is said of a line whose words are no line of a map; nothing of any other fault.
+/// What is printed of a line whose words are no line of a map; nothing for any other fault.
 pub(crate) fn in_map(
     alloc: Global,
     text: &[u8],
@@ -153,7 +153,7 @@ fn ambiguous(alloc: Global, text: &[u8], begin: u32) -> Result<ProfileFault, All
     }
 }
 
-/// The fault of this number of a profile in a plan, told by the plan's line.
+/// The fault of this number of a profile in a plan, at the plan's line.
 fn profile_fault(
     alloc: Global,
     text: &[u8],
@@ -190,7 +190,7 @@ fn of_profile(alloc: Global, text: &[u8], line: u32, number: u8) -> Result<Strin
     }
 }
 
-/// The fault of this number of a map in a plan, told by the plan's line.
+/// The fault of this number of a map in a plan, at the plan's line.
 fn map_fault(line: u32, number: u8) -> MapFault {
     match number {
         2 => MapFault::Syntax(line),

@@ -45,7 +45,7 @@ fn take<L: Ledger, R: Wait + Clock + Eprint + AllocGlobal>(
     }
 }
 
-/// Takes so many connections, a thread each, and waits for their end. One whose thread can't be started is attended to here.
+/// Accepts `sessions` connections, a thread each, and waits for their end. One whose thread can't be started is served here.
 fn take_sessions<L: Ledger + Send, R: Threads + Wait + Clock + Eprint + AllocGlobal + Sync>(
     service: &Service<'_, L, R>,
     listener: TcpListener,

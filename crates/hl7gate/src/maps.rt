@@ -49,17 +49,17 @@ pub(crate) fn read_profile<'a, R: Files + AllocGlobal>(
 
 /// The profiles between which a map goes.
 #[derive(Drop)]
-pub(crate) struct Sides {
+pub(crate) struct ProfilePair {
     pub(crate) source: Arc<Profile>,
     pub(crate) target: Arc<Profile>,
 }
 
-impl Sides {
+impl ProfilePair {
     // The same profiles, shared once more.
-    fn shared(&self) -> Result<Sides, AllocError> {
+    fn shared(&self) -> Result<ProfilePair, AllocError> {
         let source = self.source.clone()?;
         let target = self.target.clone()?;
-        Ok(Sides { source, target })
+        Ok(ProfilePair { source, target })
     }
 }
 
@@ -74,10 +74,10 @@ enum Judged {
 fn read_sides<'a, R: Files + AllocGlobal>(
     rt: &R,
     words: &ArgMatches<'a>,
-) -> Result<Sides, Ended<'a>> {
+) -> Result<ProfilePair, Ended<'a>> {
     let source = read_profile(rt, words, "SOURCE")?;
     let target = read_profile(rt, words, "TARGET")?;
-    Ok(Sides { source, target })
+    Ok(ProfilePair { source, target })
 }
 
 /// The text of the file MAP.
@@ -106,8 +106,8 @@ fn parse_map<'a>(alloc: Global, written: &Written<'a>) -> Result<Map, Ended<'a>>
 }
 
 /// What the rules say of a map between two profiles.
-fn examined<'a>(alloc: Global, sides: &Sides, map: Map) -> Result<Judged, Ended<'a>> {
-    let Sides { source, target } = sides.shared()?;
+fn examined<'a>(alloc: Global, sides: &ProfilePair, map: Map) -> Result<Judged, Ended<'a>> {
+    let ProfilePair { source, target } = sides.shared()?;
     match gw_check::examine(alloc, source, target, map) {
         Ok(checked) => Ok(Judged::Allowed(checked)),
         Err(gw_check::Refusal::Memory(_)) => Err(Ended::Run(RunFault::Memory)),
@@ -120,7 +120,11 @@ fn examined<'a>(alloc: Global, sides: &Sides, map: Map) -> Result<Judged, Ended<
 }
 
 /// The map of a text, by the rules.
-fn judge<'a>(alloc: Global, sides: &Sides, written: &Written<'a>) -> Result<Judged, Ended<'a>> {
+fn judge<'a>(
+    alloc: Global,
+    sides: &ProfilePair,
+    written: &Written<'a>,
+) -> Result<Judged, Ended<'a>> {
     let map = parse_map(alloc, written)?;
     examined(alloc, sides, map)
 }
@@ -160,7 +164,7 @@ fn write_accepted<'a, O: Write>(output: &mut O) -> Result<u8, Ended<'a>> {
 // Prints what the rules say of a map, and answers the status.
 fn write_judged<'a, O: Write, E: Write>(
     alloc: Global,
-    sides: &Sides,
+    sides: &ProfilePair,
     written: &Written<'a>,
     output: &mut O,
     errors: &mut E,
@@ -260,10 +264,10 @@ fn tell_refusal<'a, E: Write>(
     Ok(REFUSED)
 }
 
-// Writes the translation by a map that the rules allow, and else tells the rule that refuses it. Answers the status.
+// Writes the translation by a map that the rules allow, and else prints the rule that refuses it. Returns the status.
 fn translate_judged<'a, R: AllocGlobal, I: Read, O: Write, E: Write>(
     rt: &R,
-    sides: &Sides,
+    sides: &ProfilePair,
     written: &Written<'a>,
     input: &mut I,
     output: &mut O,
@@ -283,7 +287,7 @@ fn translate_judged<'a, R: AllocGlobal, I: Read, O: Write, E: Write>(
     }
 }
 
-/// Prints the translation of the content on standard input. A map that is refused is told before that is read. Answers the status.
+/// Prints the translation of the content on standard input. A refused map is reported before standard input is read. Returns the status.
 /// The files SOURCE, TARGET and MAP are each read and parsed before the next.
 pub(crate) fn translate<'a, R: Files + AllocGlobal, I: Read, O: Write, E: Write>(
     rt: &R,

@@ -119,7 +119,7 @@ fn ended_by<'a, S: Sink>(
 }
 
 /// Answers each message of a stream by the plan of the file PLAN, and writes what each receiver is sent to a file of FOLDER.
-/// Nothing of FOLDER is touched before the plan is accepted. On a terminal it is told how far the run is.
+/// Nothing of FOLDER is touched before the plan is accepted. On a terminal the progress of the run is shown.
 pub(crate) fn run<'a, R: Files + Clock + AllocGlobal, I: Read, O: Write, E: Write + IsTerminal>(
     rt: &R,
     words: &ArgMatches<'a>,

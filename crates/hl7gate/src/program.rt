@@ -28,7 +28,7 @@ fn validate<'a, R: Files + Clock + AllocGlobal, I: Read, O: Write>(
     Ok(counts)
 }
 
-/// Validates a stream, tells where it has no message, and answers the status.
+/// Validates a stream, reports where it has no message, and returns the status.
 fn validated<'a, R: Files + Clock + AllocGlobal, I: Read, O: Write, E: Write>(
     rt: &R,
     words: &ArgMatches<'a>,
@@ -41,7 +41,7 @@ fn validated<'a, R: Files + Clock + AllocGlobal, I: Read, O: Write, E: Write>(
     Ok(status_if(counts.aa == counts.answered))
 }
 
-/// Runs a plan, tells where the stream has no message, and answers the status.
+/// Runs a plan, reports where the stream has no message, and returns the status.
 fn ran<'a, R: Files + Clock + AllocGlobal, I: Read, O: Write, E: Write + IsTerminal>(
     rt: &R,
     words: &ArgMatches<'a>,
@@ -71,7 +71,7 @@ fn done<'a, R: Files + Clock + AllocGlobal, I: Read, O: Write, E: Write + IsTerm
     }
 }
 
-/// Does what the words say, and answers the status: 0 done, 1 refused, 2 usage, 3 a fault of a device, a frame or a run, 4 want of memory.
+/// Does what the words say, and returns the status: 0 done, 1 refused, 2 usage, 3 a fault of a device, a frame or a run, 4 allocation failure.
 pub fn command<R: Files + Clock + AllocGlobal, I: Read, O: Write, E: Write + IsTerminal>(
     rt: &R,
     words: &[String],

@@ -1,10 +1,10 @@
-//! How far a run is, told where a person looks on.
+//! The progress of a run, shown on a terminal.
 use std::cell::Cell;
 use std::io;
 use std::io::{Read, Write};
 use std::time::{Clock, Duration};
 
-/// A line stands so long before the next is told.
+/// How long a line stays before the next is shown.
 const SECONDS: u64 = 1;
 
 /// A writer of answers, each of which ends a write. It counts them.
@@ -34,7 +34,7 @@ impl<O: Write> Write for Counted<'_, O> {
     }
 }
 
-/// A stream. Where it shows, it tells each second how many of its bytes were read and how many answers were written.
+/// A stream. On a terminal it shows each second how many bytes were read and how many answers were written.
 #[derive(Drop)]
 pub(crate) struct Watched<'c, 't, C: Clock, I: Read, E: Write> {
     clock: &'c C,

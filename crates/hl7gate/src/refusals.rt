@@ -1,4 +1,4 @@
-//! What is told of a text or a content that was refused.
+//! What is printed of a text or a message that was refused.
 use crate::report::{REFUSED, tell_fault};
 use gw_er7::ReadFault;
 use gw_maplang::MapFault;
@@ -9,7 +9,7 @@ use gw_validate::Breach;
 use std::fmt::Display;
 use std::io::Write;
 
-/// The number of want of memory, whatever was read.
+/// The number of allocation failure, whatever was read.
 const NO_MEMORY: u8 = 1;
 
 /// What a refusal names beside its number.

@@ -1,4 +1,4 @@
-//! What is told of a command, and its status.
+//! What a command prints, and its status.
 use crate::ended::Ended;
 use crate::refusals::{tell_breach, tell_map, tell_message, tell_plan, tell_profile};
 use clap::Error;
@@ -20,7 +20,7 @@ pub(crate) const USAGE: u8 = 2;
 /// A read, write, frame, line, turns or unsettled fault.
 pub(crate) const FAULT: u8 = 3;
 
-/// Want of memory.
+/// Allocation failure.
 pub(crate) const NO_MEMORY: u8 = 4;
 
 /// Tells that no message was found in a stream, where none was: it may be a file without frames.
@@ -80,7 +80,7 @@ pub(crate) fn tell_fault<E: Write>(errors: &mut E, fault: RunFault) -> u8 {
     }
 }
 
-/// Writes what is told; where it can't be written, nothing is done about it.
+/// Writes a message; where it can't be written, nothing is done about it.
 pub(crate) fn say<E: Write>(errors: &mut E, bytes: &[u8]) {
     let _ = errors.write_all(bytes);
 }

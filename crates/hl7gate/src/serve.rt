@@ -79,7 +79,7 @@ fn connect_all<'p, R: Net<Stream = TcpStream, Listener = TcpListener> + Eprint +
     Ok(lines)
 }
 
-/// Serves under a plan, and under those that are swapped in, until so many connections have ended and the paths too.
+/// Serves under a plan, and under those that are swapped in, until the stated number of connections has ended and no path comes any more.
 fn serve_with<
     L: Ledger + Send,
     R: Net<Stream = TcpStream, Listener = TcpListener>
@@ -131,7 +131,7 @@ fn listen<'a, R: Net<Stream = TcpStream, Listener = TcpListener> + Eprint>(
     Ok(listener)
 }
 
-/// Serves under the plan of the file PLAN at ADDRESS, and tells what the gate did.
+/// Serves under the plan of the file PLAN at ADDRESS, and prints what the gate did.
 fn serve<
     'a,
     R: Net<Stream = TcpStream, Listener = TcpListener>

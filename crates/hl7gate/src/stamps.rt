@@ -30,7 +30,7 @@ pub(crate) struct Utc<'a, R: Clock> {
 }
 
 impl<'a, R: Clock> Utc<'a, R> {
-    /// The clock, with the stamp that is given where it tells no time.
+    /// The clock, with the stamp that is given where it has no time.
     pub(crate) fn new(clock: &'a R, start: Stamp) -> Self {
         Utc { clock, start }
     }

@@ -1,21 +1,21 @@
-//! What a failure of a map speaks of, in the field's words: the part of the target that fails, what the source has for it, and what stands in their way.
+//! What a failure of a map speaks of, in the field's words: the part of the target that fails, what the source has for it, and what prevents them.
 use crate::elements::{
     element_of, node_at, tell_comp, tell_field, tell_interval, tell_name, tell_node, tell_profile,
     tell_sub,
 };
-use crate::maps::Sides;
+use crate::maps::ProfilePair;
 use crate::report::say;
 use gw_maplang::Map;
 use gw_profile::{Count, Profile, SubShape, Usage, measure};
-use gw_resolve::{Failure, Mark};
-use gw_subjects::{Origin, Site, Spot, comp_at, sub_at, unlisted, unrowed};
+use gw_resolve::{Failure, FailureSite};
+use gw_subjects::{ElementPath, Origin, Site, comp_at, sub_at, unlisted, unrowed};
 use std::alloc::{AllocError, Global};
 use std::io::Write;
 
 /// What a line of a map makes, with the map and its profiles.
 #[derive(Clone, Copy)]
 pub(crate) struct Told<'a> {
-    pub(crate) sides: &'a Sides,
+    pub(crate) sides: &'a ProfilePair,
     pub(crate) map: &'a Map,
     pub(crate) site: &'a Site,
 }
@@ -23,12 +23,12 @@ pub(crate) struct Told<'a> {
 /// The part of the target that fails, and what the source has for it, where the line reads anything.
 #[derive(Drop)]
 struct Parts {
-    target: Spot,
-    source: Option<Spot>,
+    target: ElementPath,
+    source: Option<ElementPath>,
 }
 
 /// What a line reads, where it reads anything.
-fn read_of(site: &Site) -> Option<&Spot> {
+fn read_of(site: &Site) -> Option<&ElementPath> {
     match &site.origin {
         Origin::Unsaid | Origin::Text(_) => None,
         Origin::Read(from) | Origin::Repeated(from) => Some(from),
@@ -47,13 +47,13 @@ fn is_copy(site: &Site) -> bool {
 /// A component and subcomponent of a field.
 fn part_of(
     alloc: Global,
-    spot: &Spot,
+    spot: &ElementPath,
     field: u32,
     comp: u32,
     sub: u32,
-) -> Result<Spot, AllocError> {
+) -> Result<ElementPath, AllocError> {
     let at = Vec::from_slice(alloc, &spot.at)?;
-    Ok(Spot {
+    Ok(ElementPath {
         at,
         walked: spot.walked,
         field,
@@ -63,7 +63,11 @@ fn part_of(
 }
 
 /// What the source has for a part of what a line makes.
-fn source_of(alloc: Global, site: &Site, mark: Mark) -> Result<Option<Spot>, AllocError> {
+fn source_of(
+    alloc: Global,
+    site: &Site,
+    mark: FailureSite,
+) -> Result<Option<ElementPath>, AllocError> {
     let Some(from) = read_of(site) else {
         return Ok(None);
     };
@@ -76,7 +80,7 @@ fn source_of(alloc: Global, site: &Site, mark: Mark) -> Result<Option<Spot>, All
 }
 
 /// The part of what a line makes that a failure speaks of.
-fn parts_at(alloc: Global, site: &Site, mark: Mark) -> Result<Parts, AllocError> {
+fn parts_at(alloc: Global, site: &Site, mark: FailureSite) -> Result<Parts, AllocError> {
     let target = part_of(alloc, &site.target, mark.field, mark.comp, mark.sub)?;
     let source = source_of(alloc, site, mark)?;
     Ok(Parts { target, source })
@@ -85,14 +89,14 @@ fn parts_at(alloc: Global, site: &Site, mark: Mark) -> Result<Parts, AllocError>
 // ---- how often
 
 /// Whether a component is listed as always there.
-fn is_sure_comp(profile: &Profile, spot: &Spot) -> bool {
+fn is_sure_comp(profile: &Profile, spot: &ElementPath) -> bool {
     match comp_at(profile, spot) {
         None => false,
         Some(comp) => comp.usage == Usage::R,
     }
 }
 
-fn is_forbidden_comp(profile: &Profile, spot: &Spot) -> bool {
+fn is_forbidden_comp(profile: &Profile, spot: &ElementPath) -> bool {
     match comp_at(profile, spot) {
         None => false,
         Some(comp) => comp.usage == Usage::X,
@@ -100,7 +104,7 @@ fn is_forbidden_comp(profile: &Profile, spot: &Spot) -> bool {
 }
 
 /// The first node on the way to what is read that may be absent, among those that no item around the line walks.
-fn absent_on_the_way<'a>(profile: &Profile, spot: &'a Spot) -> Option<&'a [usize]> {
+fn absent_on_the_way<'a>(profile: &Profile, spot: &'a ElementPath) -> Option<&'a [usize]> {
     for (i, _number) in spot.at.iter().enumerate() {
         let at = &spot.at[..=i];
         if i >= spot.walked
@@ -114,7 +118,7 @@ fn absent_on_the_way<'a>(profile: &Profile, spot: &'a Spot) -> Option<&'a [usize
 }
 
 /// Tells an element of a profile by its own numbers.
-fn tell_part<E: Write>(errors: &mut E, profile: &Profile, spot: &Spot) {
+fn tell_part<E: Write>(errors: &mut E, profile: &Profile, spot: &ElementPath) {
     if spot.field == 0 {
         tell_node(errors, profile, &spot.at);
     } else if spot.comp == 0 {
@@ -127,7 +131,7 @@ fn tell_part<E: Write>(errors: &mut E, profile: &Profile, spot: &Spot) {
 }
 
 /// Tells whether what is read is there: by its field, or by its component where that may be absent.
-fn tell_read<E: Write>(errors: &mut E, profile: &Profile, spot: &Spot) {
+fn tell_read<E: Write>(errors: &mut E, profile: &Profile, spot: &ElementPath) {
     if spot.field > 0 && spot.comp > 0 && !is_sure_comp(profile, spot) {
         tell_comp(errors, profile, spot);
     } else if spot.field > 0 {
@@ -138,7 +142,7 @@ fn tell_read<E: Write>(errors: &mut E, profile: &Profile, spot: &Spot) {
 }
 
 /// Tells why what is read may be absent: by a node on the way to it, where one may be, or by itself.
-fn tell_absent<E: Write>(errors: &mut E, profile: &Profile, spot: &Spot) {
+fn tell_absent<E: Write>(errors: &mut E, profile: &Profile, spot: &ElementPath) {
     match absent_on_the_way(profile, spot) {
         Some(at) => tell_node(errors, profile, at),
         None => tell_read(errors, profile, spot),
@@ -147,7 +151,13 @@ fn tell_absent<E: Write>(errors: &mut E, profile: &Profile, spot: &Spot) {
 
 impl Told<'_> {
     /// Tells what the source has for a part of the target of which rule 5 or 11 fails.
-    fn tell_source<E: Write>(&self, errors: &mut E, rule: u8, mark: Mark, from: &Spot) {
+    fn tell_source<E: Write>(
+        &self,
+        errors: &mut E,
+        rule: u8,
+        mark: FailureSite,
+        from: &ElementPath,
+    ) {
         let source = &self.sides.source;
         say(errors, b", and ");
         if is_copy(self.site) && mark.comp > 0 {
@@ -197,7 +207,7 @@ fn len_of(sub: Option<&SubShape>) -> Option<u32> {
 }
 
 /// Tells how long a text of an element may be, by the count of its profile.
-fn tell_length<E: Write>(errors: &mut E, profile: &Profile, spot: &Spot) {
+fn tell_length<E: Write>(errors: &mut E, profile: &Profile, spot: &ElementPath) {
     tell_name(errors, profile, element_of(spot));
     say(errors, b" has ");
     tell_most(errors, len_of(sub_at(profile, spot)), profile.count());
@@ -214,7 +224,7 @@ fn table_of(sub: Option<&SubShape>) -> Option<&[u8]> {
 }
 
 /// Tells the table of an element.
-fn tell_table<E: Write>(errors: &mut E, profile: &Profile, spot: &Spot) {
+fn tell_table<E: Write>(errors: &mut E, profile: &Profile, spot: &ElementPath) {
     tell_name(errors, profile, element_of(spot));
     match table_of(sub_at(profile, spot)) {
         None => {
@@ -237,8 +247,8 @@ fn is_at_most(count: Count, text: &[u8], len: Option<u32>) -> bool {
 }
 
 /// The first listed text of a source that its own length allows and that is longer than the target's most, each by the count of its profile.
-fn first_long<'a>(sides: &'a Sides, from: &SubShape, most: u32) -> Option<&'a [u8]> {
-    let Sides { source, target } = sides;
+fn first_long<'a>(sides: &'a ProfilePair, from: &SubShape, most: u32) -> Option<&'a [u8]> {
+    let ProfilePair { source, target } = sides;
     let table = source.table(table_of(Some(from))?)?;
     for text in table.values() {
         if is_at_most(source.count(), text, from.len)
@@ -251,14 +261,14 @@ fn first_long<'a>(sides: &'a Sides, from: &SubShape, most: u32) -> Option<&'a [u
 }
 
 /// The first listed text of a source that the table of a target lacks.
-fn first_strange<'a>(sides: &'a Sides, from: &SubShape, to: &SubShape) -> Option<&'a [u8]> {
+fn first_strange<'a>(sides: &'a ProfilePair, from: &SubShape, to: &SubShape) -> Option<&'a [u8]> {
     let table = sides.target.table(table_of(Some(to))?)?;
     unlisted(&sides.source, from, table)
 }
 
-// ---- what stands in the way
+// ---- what prevents a map
 
-/// Tells a text that stands in the way.
+/// Prints a text that prevents the map.
 fn tell_text<E: Write>(errors: &mut E, text: &[u8], said: &str) {
     say(errors, b": ");
     say(errors, text);
@@ -277,8 +287,8 @@ impl Told<'_> {
     }
 
     /// Tells the table of the target and that of the source, and a text that only the source's has.
-    fn tell_strange<E: Write>(&self, errors: &mut E, to: &Spot, from: &Spot) {
-        let Sides { source, target } = self.sides;
+    fn tell_strange<E: Write>(&self, errors: &mut E, to: &ElementPath, from: &ElementPath) {
+        let ProfilePair { source, target } = self.sides;
         tell_table(errors, target, to);
         say(errors, b", and ");
         tell_table(errors, source, from);
@@ -295,8 +305,8 @@ impl Told<'_> {
     }
 
     /// Tells the length that the target takes, and that of the source.
-    fn tell_long<E: Write>(&self, errors: &mut E, to: &Spot, from: &Spot) {
-        let Sides { source, target } = self.sides;
+    fn tell_long<E: Write>(&self, errors: &mut E, to: &ElementPath, from: &ElementPath) {
+        let ProfilePair { source, target } = self.sides;
         tell_length(errors, target, to);
         say(errors, b", and ");
         tell_length(errors, source, from);
@@ -331,7 +341,7 @@ impl Told<'_> {
     }
 
     /// Tells a constant, and what the target takes.
-    fn tell_constant<E: Write>(&self, errors: &mut E, to: &Spot) {
+    fn tell_constant<E: Write>(&self, errors: &mut E, to: &ElementPath) {
         let Origin::Text(text) = &self.site.origin else {
             return;
         };

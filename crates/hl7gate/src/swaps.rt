@@ -124,7 +124,7 @@ fn path_of(line: &str) -> &str {
     path.strip_suffix('\r').unwrap_or(path)
 }
 
-/// Swaps in the plan of a file, and tells what became of it.
+/// Swaps in the plan of a file, and prints the outcome.
 fn swap_one<L: Ledger, R: Wait + Files + Print + Eprint + AllocGlobal>(
     door: &mut Reporter<'_, '_, L, R>,
     rt: &R,

@@ -145,7 +145,7 @@ impl<'a, L: Ledger, R: Wait + Eprint + AllocGlobal> Service<'a, L, R> {
         self.close(Phase::NoResults);
     }
 
-    /// Does what so many workers left: each job that one of them had is issued again, once.
+    /// Finishes what `workers` failed workers left: each job that one of them had is issued again, once.
     pub(crate) fn finish(&self, workers: u64) {
         let Some(mut door) = self.door(Who::Main) else {
             self.fail(RunFault::Memory);

@@ -16,7 +16,7 @@ pub(crate) struct Tickets<L: Ledger> {
 impl<L: Ledger> Tickets<L> {
     ghost use Rattle.std.specs.Prelude.{◌≡◌, IfSome};
 
-    /// So many parts, one at least.
+    /// `left` parts, at least one.
     pub(crate) fn new(share: Share<L>, left: u64) -> Self
         requires parts { share.parts ≡ left }
         requires unused { share.amount ≡ 0 }

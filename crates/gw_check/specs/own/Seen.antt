@@ -20,7 +20,7 @@ use Rattle.gw_resolve.specs.Intervals.{Interval, is_never, is_within}
 use Rattle.gw_resolve.specs.Resolved.{no_items}
 use Rattle.gw_resolve.specs.Seen.{mark, place, at_leaf, making, rule, with_item, all_items, left_out}
 use Rattle.gw_leaves.specs.declared.sources.Sources.{Sources}
-use Rattle.gw_leaves.specs.Sides.{SidesValue}
+use Rattle.gw_leaves.specs.Context.{ContextValue}
 use Rattle.gw_leaves.specs.Uses.{sources_value, target_value, map_tables, some_rule, rules_value, rule_count}
 use Rattle.gw_check.specs.declared.often.Asked.{Asked}
 use Rattle.gw_check.specs.Answers.{unlabelled}
@@ -67,7 +67,7 @@ segment_failures s holder rules = spec.segment_failures (sources_value s) (targe
 -- ---- a map
 
 -- of the rules 4 to 12
-abbrev pub failures : SidesValue → List Item → List LeftOut → List Failure
+abbrev pub failures : ContextValue → List Item → List LeftOut → List Failure
 failures s items drops = typed.failures (profile_value s.source) (profile_value s.target) (unlabelled (map_value s.map) items drops)
 
 -- ---- what is read

@@ -2,9 +2,9 @@
 use Rattle.std.specs.Prelude.{◌≡◌, ℕ, ◌+◌, List, [], ◌∷◌, ◌++◌, length, take, drop}
 use Rattle.std.specs.FinMap as texts
 use Rattle.gw_er7.specs.declared.delimiters.Delimiters.{Delimiters}
-use Rattle.gw_er7.specs.declared.fields.Taken.{Taken}
+use Rattle.gw_er7.specs.declared.fields.SegmentTexts.{SegmentTexts}
 use Rattle.gw_er7.specs.declared.lines.NextLine.{NextLine}
-use Rattle.gw_er7.specs.declared.start.Start.{Start}
+use Rattle.gw_er7.specs.declared.start.SegmentHead.{SegmentHead}
 use Rattle.gw_er7.specs.Content.{Line, lines_from}
 use Rattle.gw_er7.specs.Message.{SegmentValue}
 use Rattle.gw_er7.specs.Entries.{fields}
@@ -24,11 +24,11 @@ abbrev pub segments_of : Delimiters → NextLine → List SegmentValue
 segments_of d header = segment_of d 3 9 header.bytes.now ∷ others_of d (lines_from (header.at + length header.bytes.now + 1) header.behind.now)
 
 -- the segments that were taken in so far
-pub record IsTaken (starts : List Start) (taken : Taken) : Type 0 where
-  pub inside : AreInside taken.bytes.items taken.leaves
+pub record IsTaken (starts : List SegmentHead) (taken : SegmentTexts) : Type 0 where
+  pub inside : AreInside taken.bytes.items taken.spans
   pub each : AreLying starts (held_in taken)
 
 -- these were taken in as well
-pub record Takes (starts : List Start) (old : Taken) (after : List Start) (new : Taken) (more : List SegmentValue) : Type 0 where
+pub record Takes (starts : List SegmentHead) (old : SegmentTexts) (after : List SegmentHead) (new : SegmentTexts) (more : List SegmentValue) : Type 0 where
   pub taken : IsTaken after new
   pub segments : lying after (held_in new) ≡ lying starts (held_in old) ++ more

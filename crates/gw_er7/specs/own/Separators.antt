@@ -6,7 +6,7 @@ use Rattle.gw_er7.specs.declared.delimiters.Delimiters.{Delimiters}
 use Rattle.gw_er7.specs.Text.{canon, is_special}
 use Rattle.gw_er7.specs.Entries.{Entry}
 use Rattle.gw_er7.specs.View.{Held, entries_of, held}
-use Rattle.gw_er7.specs.declared.fields.Taken.{Taken}
+use Rattle.gw_er7.specs.declared.fields.SegmentTexts.{SegmentTexts}
 
 -- those that cut fields, repetitions, components and subcomponents
 abbrev pub separators : Delimiters → List ℕ
@@ -32,14 +32,14 @@ value_at d ns [] = []
 value_at d ns (b ∷ bs) = (ns, canon d (b ∷ bs)) ∷ []
 
 -- what was read so far
-abbrev pub held_in : Taken → List Held
-held_in t = held t.bytes.items t.leaves
+abbrev pub held_in : SegmentTexts → List Held
+held_in t = held t.bytes.items t.spans
 
-abbrev pub taken_by : Taken → List Entry
+abbrev pub taken_by : SegmentTexts → List Entry
 taken_by t = entries_of (held_in t)
 
 -- what was read before stands first
-abbrev pub Keeps : Taken → Taken → Type 0
+abbrev pub Keeps : SegmentTexts → SegmentTexts → Type 0
 Keeps old new = take (length (held_in old)) (held_in new) ≡ held_in old
 
 -- no separator stands in it

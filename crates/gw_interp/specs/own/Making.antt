@@ -11,7 +11,7 @@ use Rattle.gw_maplang.specs.Shapes.{TableValue}
 use Rattle.gw_resolve.specs.declared.resolved.At as declared
 use Rattle.gw_resolve.specs.Seen.{at_leaf}
 use Rattle.gw_resolve.specs.Resolved.{At, leaf_at, Making, Rule}
-use Rattle.gw_interp.specs.declared.copying.Spot.{Spot}
+use Rattle.gw_interp.specs.declared.copying.ValuePath.{ValuePath}
 use Rattle.gw_interp.specs.declared.reading.Repetition.{Repetition}
 use Rattle.gw_interp.specs.own.Lent.{scope}
 use Rattle.gw_interp.specs.Meaning.{Walked, walked, AtMeans, MakingMeans}
@@ -37,17 +37,17 @@ pub record AreMade (I : Type 0) (key : I → List ℕ) (Means : I → List ℕ �
 
 -- ---- copies
 
-abbrev pub comp_key : Spot → ℕ × ℕ → List ℕ
+abbrev pub comp_key : ValuePath → ℕ × ℕ → List ℕ
 comp_key to p = to.field ∷ to.rep ∷ p.0 ∷ p.1 ∷ []
 
-abbrev pub RepMeans : Texts → Spot → ℕ × ℕ → List ℕ → Type 0
+abbrev pub RepMeans : Texts → ValuePath → ℕ × ℕ → List ℕ → Type 0
 RepMeans m from p text = text ≡ text_of m from.field from.rep p.0 p.1
 
 -- a repetition in another
-abbrev pub MayCopyRep : Texts → Spot → Spot → List SegmentValue → Type 0
+abbrev pub MayCopyRep : Texts → ValuePath → ValuePath → List SegmentValue → Type 0
 MayCopyRep m from to old = MayMake (ℕ × ℕ) (comp_key to) (RepMeans m from) old
 
-abbrev pub IsRepCopied : Texts → Spot → Spot → List SegmentValue → List SegmentValue → Type 0
+abbrev pub IsRepCopied : Texts → ValuePath → ValuePath → List SegmentValue → List SegmentValue → Type 0
 IsRepCopied m from to old new = AreMade (ℕ × ℕ) (comp_key to) (RepMeans m from) old new
 
 -- ---- fields

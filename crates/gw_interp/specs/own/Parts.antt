@@ -6,7 +6,7 @@ use Rattle.gw_profile.specs.Seen.{forest}
 use Rattle.gw_profile.specs.declared.node.Node.{Node}
 use Rattle.gw_validate.specs.Fitting.{OccValue}
 use Rattle.gw_maplang.specs.Shapes.{TableValue}
-use Rattle.gw_resolve.specs.declared.resolved.Place.{Place}
+use Rattle.gw_resolve.specs.declared.resolved.ScopePath.{ScopePath}
 use Rattle.gw_resolve.specs.declared.resolved.SegmentItem.{SegmentItem}
 use Rattle.gw_resolve.specs.Places.{child, name_of}
 use Rattle.gw_resolve.specs.Resolved.{Rule, Items}
@@ -31,7 +31,7 @@ abbrev pub ItemsGive : List Node → Items → List OccValue → List SegmentVal
 ItemsGive nodes items os list = Give (message_of os) (scope os) (forest nodes) items list
 
 -- the occurrences at a place
-abbrev pub found_at : List OccValue → Place → List Occurrence
+abbrev pub found_at : List OccValue → ScopePath → List Occurrence
 found_at os p = at_place (scope os) (place p)
 
 -- the name of the target's node of an item

@@ -6,7 +6,7 @@ use Rattle.gw_profile.specs.declared.shape.Count.{Count}
 use Rattle.gw_profile.specs.Shapes.{TableValue}
 use Rattle.gw_leaves.specs.declared.findings.Findings.{Findings}
 use Rattle.gw_leaves.specs.own.Readings.{Origin, Reading, read_of, values_named, is_unlisted, is_nothing, IsShortest, AreSteps}
-use Rattle.gw_leaves.specs.Sides.{SidesValue}
+use Rattle.gw_leaves.specs.Context.{ContextValue}
 
 -- what is given isn't in the target's table of this name
 abbrev pub is_missing : List TableValue → List ℕ → Option (List ℕ) → Bool
@@ -23,9 +23,9 @@ pub record IsFound (to : Count) (target : List TableValue) (readings : List Read
   pub steps : AreSteps to readings f.steps.items
 
 -- all that can be read of an origin
-abbrev pub read_at : SidesValue → Origin → List Reading
+abbrev pub read_at : ContextValue → Origin → List Reading
 read_at s origin = read_of s.source.count s.source.tables s.map.tables origin
 
 -- of all origins that are kept
-abbrev pub AreFound : SidesValue → List (Origin × Findings) → Type 0
+abbrev pub AreFound : ContextValue → List (Origin × Findings) → Type 0
 AreFound s known = AllByRecursion (λ (e : Origin × Findings). IsFound s.target.count s.target.tables (read_at s e.0) e.1) known

@@ -11,11 +11,11 @@ use Rattle.gw_resolve.specs.declared.resolved.At as ats
 use Rattle.gw_resolve.specs.Places.{Known}
 use Rattle.gw_resolve.specs.Resolved.{At}
 use Rattle.gw_resolve.specs.Seen.{interval, saturated, at_leaf}
-use Rattle.gw_leaves.specs.declared.given.Given.{Given}
+use Rattle.gw_leaves.specs.declared.given.LeafSource.{LeafSource}
 use Rattle.gw_leaves.specs.declared.known.Known as the_known
 use Rattle.gw_leaves.specs.declared.sources.Sources.{Sources}
 use Rattle.gw_leaves.specs.Leaves.{Values, sub_values}
-use Rattle.gw_leaves.specs.Sides.{SidesValue}
+use Rattle.gw_leaves.specs.Context.{ContextValue}
 use Rattle.gw_leaves.specs.Uses.{map_tables}
 use Rattle.gw_leaves.specs.own.Readings.{rowed}
 
@@ -34,10 +34,10 @@ abbrev pub some_sub : Option (Bor SubShape) → Option SubValue
 some_sub s = option_map (λ b. sub b.now) s
 
 -- what is read of a subcomponent, as it is or looked up
-abbrev pub source_values : SidesValue → Option (Bor SubShape) → Values
+abbrev pub source_values : ContextValue → Option (Bor SubShape) → Values
 source_values s sub = sub_values (profile_value s.source) (some_sub sub)
 
-abbrev pub given_texts : SidesValue → Given → Values
+abbrev pub given_texts : ContextValue → LeafSource → Values
 given_texts s g = rowed s.map.tables (now g.rows) (source_values s g.sub)
 
 -- ---- the segment at a place

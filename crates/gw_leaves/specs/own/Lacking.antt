@@ -9,7 +9,7 @@ use Rattle.gw_resolve.specs.Failures.{Mark, Failure, fails}
 use Rattle.gw_resolve.specs.Resolved.{At}
 use Rattle.gw_leaves.specs.declared.lacking.Parts.{Parts}
 use Rattle.gw_leaves.specs.declared.lacking.Parts.TheVariants.{One, Several}
-use Rattle.gw_leaves.specs.declared.lacking.Standing.{Standing}
+use Rattle.gw_leaves.specs.declared.lacking.Covered.{Covered}
 use Rattle.gw_leaves.specs.Components.{comp_in, sub_in}
 use Rattle.gw_leaves.specs.Leaves.{Sources, leaf_shape, is_always, is_absent}
 
@@ -22,26 +22,26 @@ is_only (Some Several) number = false
 -- ---- where texts stand
 
 -- a text is always in the component
-abbrev pub has_comp : Standing → ℕ → Bool
+abbrev pub has_comp : Covered → ℕ → Bool
 has_comp s comp = list_any (λ c. comp == c) s.sure_comps.keys
 
 -- it is always in the subcomponent
-abbrev pub has_sub : Standing → ℕ → ℕ → Bool
+abbrev pub has_sub : Covered → ℕ → ℕ → Bool
 has_sub s comp sub = list_any (λ p. comp == p.comp && sub == p.sub) s.sure_places.keys
 
 -- the component has no text but in the subcomponent
-abbrev pub has_only_sub : Standing → ℕ → ℕ → Bool
+abbrev pub has_only_sub : Covered → ℕ → ℕ → Bool
 has_only_sub s comp sub = is_only (lookup (λ c. comp == c) s.subs.entries) sub
 
 -- a leaf at this place was added: a text always stands there, or never
-pub record Gains (old new : Standing) (place : LeafPlace) (always never : Bool) : Type 0 where
+pub record Gains (old new : Covered) (place : LeafPlace) (always never : Bool) : Type 0 where
   pub comps : (comp : ℕ) → has_comp new comp ≡ (has_comp old comp || (place.comp == comp && always))
   pub only_comps : (comp : ℕ) → is_only new.comps comp ≡ (is_only old.comps comp && (place.comp == comp || never))
   pub subs : (comp sub : ℕ) → has_sub new comp sub ≡ (has_sub old comp sub || (place.comp == comp && place.sub == sub && always))
   pub only_subs : (comp sub : ℕ) → has_only_sub new comp sub ≡ (has_only_sub old comp sub && (not (place.comp == comp) || place.sub == sub || never))
 
 -- these leaves were added, and no others
-pub record Gathers (s : Standing) (from : Sources) (leaves : List At) : Type 0 where
+pub record Gathers (s : Covered) (from : Sources) (leaves : List At) : Type 0 where
   pub comps : (comp : ℕ) → has_comp s comp ≡ list_any (λ a. a.comp == comp && is_always (leaf_shape from a.leaf).presence) leaves
   pub only_comps : (comp : ℕ) → is_only s.comps comp ≡ list_all (λ a. a.comp == comp || is_absent (leaf_shape from a.leaf).presence) leaves
   pub subs : (comp sub : ℕ) → has_sub s comp sub ≡ list_any (λ a. a.comp == comp && a.sub == sub && is_always (leaf_shape from a.leaf).presence) leaves
@@ -49,16 +49,16 @@ pub record Gathers (s : Standing) (from : Sources) (leaves : List At) : Type 0 w
 
 -- ---- what is lacking
 
-abbrev pub is_comp_sure : Standing → ℕ → Bool
+abbrev pub is_comp_sure : Covered → ℕ → Bool
 is_comp_sure s comp = has_comp s comp || is_only s.comps comp
 
-abbrev pub is_sub_sure : Standing → ℕ → ℕ → Bool
+abbrev pub is_sub_sure : Covered → ℕ → ℕ → Bool
 is_sub_sure s comp sub = has_sub s comp sub || has_only_sub s comp sub
 
-abbrev pub sub_lacks : Mark → Standing → ℕ → SubValue → List Failure
+abbrev pub sub_lacks : Mark → Covered → ℕ → SubValue → List Failure
 sub_lacks mark s comp sub = fails 5 (sub_in mark sub.number) (is_required sub.usage && not (is_sub_sure s comp sub.number))
 
-abbrev pub all_lacks : Mark → Standing → CompValue → List Failure
+abbrev pub all_lacks : Mark → Covered → CompValue → List Failure
 all_lacks mark s c =
     fails 5 (comp_in mark c.number) (is_required c.usage && not (is_comp_sure s c.number))
     ++ flat_map (sub_lacks (comp_in mark c.number) s c.number) c.subs

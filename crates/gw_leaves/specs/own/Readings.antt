@@ -12,8 +12,8 @@ use Rattle.gw_maplang.specs.Seen.{now}
 use Rattle.gw_maplang.specs.Shapes as maps
 use Rattle.gw_maplang.specs.Shapes.{Rows, Row}
 use Rattle.gw_resolve.specs.Naming.{no_rows}
-use Rattle.gw_leaves.specs.declared.readings.Reading as declared
-use Rattle.gw_leaves.specs.declared.readings.Step.{Step}
+use Rattle.gw_leaves.specs.declared.readings.SourceValue as declared
+use Rattle.gw_leaves.specs.declared.readings.LengthStep.{LengthStep}
 use Rattle.gw_leaves.specs.declared.readings.Test as tests
 use Rattle.gw_leaves.specs.Leaves.{Values, any, listed, is_short, given, given_values, has_no_row}
 use Rattle.gw_leaves.specs.Texts.{is_there}
@@ -116,10 +116,10 @@ some_read len test readings = list_any (λ r. fits len r.0 && test r.1) readings
 
 -- ---- as the program holds it
 
-abbrev pub reading_value : declared.Reading → Reading
+abbrev pub reading_value : declared.SourceValue → Reading
 reading_value r = (r.size, now r.text)
 
-abbrev pub readings_value : List declared.Reading → List Reading
+abbrev pub readings_value : List declared.SourceValue → List Reading
 readings_value readings = map reading_value readings
 
 abbrev pub test_value : tests.Test → Option (List ℕ) → Bool
@@ -127,11 +127,11 @@ test_value (tests.TheVariants.Unlisted table) = is_unlisted (unwrap_or (option_c
 test_value tests.TheVariants.Nothing = is_nothing
 
 -- the shorter first
-abbrev pub AreRising : List declared.Reading → Type 0
-AreRising readings = IsNonDecreasingBy (λ (r : declared.Reading). r.size) readings
+abbrev pub AreRising : List declared.SourceValue → Type 0
+AreRising readings = IsNonDecreasingBy (λ (r : declared.SourceValue). r.size) readings
 
 -- these are all
-abbrev pub AreAll : List Reading → List declared.Reading → Type 0
+abbrev pub AreAll : List Reading → List declared.SourceValue → Type 0
 AreAll all readings = IsPermutation all (readings_value readings)
 
 -- the length of the shortest of which this holds
@@ -139,16 +139,16 @@ abbrev pub IsShortest : (Option (List ℕ) → Bool) → List Reading → Option
 IsShortest test readings shortest = (len : Option ℕ) → fits_some len shortest ≡ some_read len test readings
 
 -- so long is what is given for one of the texts that aren't longer
-abbrev pub some_step : Option ℕ → ℕ → List Step → Bool
+abbrev pub some_step : Option ℕ → ℕ → List LengthStep → Bool
 some_step len most steps = list_any (λ s. fits len s.from && nat_lt most s.most) steps
 
 -- a text that reaches the step reaches one of these as well
-abbrev pub IsWithin : Step → List Step → Type 0
+abbrev pub IsWithin : LengthStep → List LengthStep → Type 0
 IsWithin step steps = (len : Option ℕ) (most : ℕ) → (fits len step.from && nat_lt most step.most) ≡ true → some_step len most steps ≡ true
 
 -- what is read of a text was added
-abbrev pub AddsStep : Count → List Step → List Step → Reading → Type 0
+abbrev pub AddsStep : Count → List LengthStep → List LengthStep → Reading → Type 0
 AddsStep to old new r = (len : Option ℕ) (most : ℕ) → some_step len most new ≡ (some_step len most old || (fits len r.0 && is_longer to most r.1))
 
-abbrev pub AreSteps : Count → List Reading → List Step → Type 0
+abbrev pub AreSteps : Count → List Reading → List LengthStep → Type 0
 AreSteps to readings steps = (len : Option ℕ) (most : ℕ) → some_step len most steps ≡ some_read len (is_longer to most) readings

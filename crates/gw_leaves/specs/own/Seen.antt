@@ -11,18 +11,18 @@ use Rattle.gw_maplang.specs.Seen.{now}
 use Rattle.gw_validate.specs.Breaches.{is_null}
 use Rattle.gw_resolve.specs.declared.resolved.Reference.{Reference}
 use Rattle.gw_resolve.specs.declared.resolved.Source.{Source}
-use Rattle.gw_resolve.specs.declared.resolved.Leaf.{Leaf}
+use Rattle.gw_resolve.specs.declared.resolved.ResolvedLeaf.{ResolvedLeaf}
 use Rattle.gw_resolve.specs.declared.resolved.At.{At}
-use Rattle.gw_resolve.specs.declared.failure.Mark.{Mark}
+use Rattle.gw_resolve.specs.declared.failure.FailureSite.{FailureSite}
 use Rattle.gw_resolve.specs.Failures.{Failure, fails}
 use Rattle.gw_resolve.specs.Resolved as resolved
 use Rattle.gw_resolve.specs.Seen.{mark, reference, source, leaf}
-use Rattle.gw_leaves.specs.declared.given.Given.{Given}
+use Rattle.gw_leaves.specs.declared.given.LeafSource.{LeafSource}
 use Rattle.gw_leaves.specs.declared.shape.Presence.{Presence}
 use Rattle.gw_leaves.specs.declared.sources.Sources.{Sources}
 use Rattle.gw_leaves.specs.Components as spec
 use Rattle.gw_leaves.specs.Leaves.{Values, listed, source_shape, may_be_unlisted, may_be_long}
-use Rattle.gw_leaves.specs.Sides.{SidesValue}
+use Rattle.gw_leaves.specs.Context.{ContextValue}
 use Rattle.gw_leaves.specs.Uses.{sources_value, target_value, map_tables}
 use Rattle.gw_leaves.specs.own.Held.{given_texts, some_comp, some_field, leaves_value}
 use Rattle.gw_leaves.specs.own.Readings.{rowed}
@@ -30,9 +30,9 @@ use Rattle.gw_leaves.specs.own.Readings.{rowed}
 -- ---- a subcomponent
 
 -- what can stand there has another value than the table's, or is too long
-abbrev pub value_failures : SidesValue → Mark → Presence → Given → SubShape → List Failure
-value_failures sides at presence given sub =
-    spec.value_failures (profile_value sides.target) (mark at) (record { presence = presence; values = given_texts sides given }) (sub_value sub)
+abbrev pub value_failures : ContextValue → FailureSite → Presence → LeafSource → SubShape → List Failure
+value_failures context at presence given sub =
+    spec.value_failures (profile_value context.target) (mark at) (record { presence = presence; values = given_texts context given }) (sub_value sub)
 
 -- a value may be missing from the table, or be too long
 abbrev pub may_break : profiles.Contents → Values → SubShape → Bool
@@ -41,36 +41,36 @@ may_break to values sub = may_be_unlisted values (spec.table_values to.tables (s
 -- ---- copied fields
 
 -- of a target subcomponent that is copied from this component
-abbrev pub copied_sub : SidesValue → Mark → Option (Bor CompShape) → SubValue → List Failure
-copied_sub sides at c = spec.copied_sub (profile_value sides.source) (profile_value sides.target) (mark at) (some_comp c)
+abbrev pub copied_sub : ContextValue → FailureSite → Option (Bor CompShape) → SubValue → List Failure
+copied_sub context at c = spec.copied_sub (profile_value context.source) (profile_value context.target) (mark at) (some_comp c)
 
 -- of a target component that is copied from this field
-abbrev pub copied_comp : SidesValue → Mark → Option (Bor FieldShape) → CompValue → List Failure
-copied_comp sides at f = spec.copied_comp (profile_value sides.source) (profile_value sides.target) (mark at) (some_field f)
+abbrev pub copied_comp : ContextValue → FailureSite → Option (Bor FieldShape) → CompValue → List Failure
+copied_comp context at f = spec.copied_comp (profile_value context.source) (profile_value context.target) (mark at) (some_field f)
 
 -- of a target field that is copied from this one
-abbrev pub copied_field : Sources → Mark → Reference → FieldShape → List Failure
+abbrev pub copied_field : Sources → FailureSite → Reference → FieldShape → List Failure
 copied_field s at from target = spec.copied_field (sources_value s) (target_value s) (mark at) (reference from) (field_value target)
 
 -- ---- fields made of leaves
 
 -- of a target component where these leaves are given
-abbrev pub made_comp : Sources → Mark → List At → CompValue → List Failure
+abbrev pub made_comp : Sources → FailureSite → List At → CompValue → List Failure
 made_comp s at leaves = spec.made_comp (sources_value s) (mark at) (leaves_value s leaves)
 
 -- of a constant; "" is exempt
-abbrev pub const_failures : profiles.Contents → Mark → List ℕ → SubShape → List Failure
+abbrev pub const_failures : profiles.Contents → FailureSite → List ℕ → SubShape → List Failure
 const_failures to at text sub = fails 12 (mark at) (not (is_null text) && may_break to (listed (text ∷ [])) sub)
 
 -- of what a source gives, as it is or looked up in the table of this name
-abbrev pub source_failures : Sources → Mark → Option (Bor (List ℕ)) → Source → SubShape → List Failure
+abbrev pub source_failures : Sources → FailureSite → Option (Bor (List ℕ)) → Source → SubShape → List Failure
 source_failures s at rows from sub =
     spec.value_failures (target_value s) (mark at)
     (record { presence = (source_shape (sources_value s) (source from)).presence; values = rowed (map_tables s) (now rows) (source_shape (sources_value s) (source from)).values })
     (sub_value sub)
 
 -- of a leaf, also of a constant
-abbrev pub leaf_failures : Sources → Mark → Leaf → SubShape → List Failure
+abbrev pub leaf_failures : Sources → FailureSite → ResolvedLeaf → SubShape → List Failure
 leaf_failures s at l sub = spec.leaf_failures (sources_value s) (target_value s) (mark at) (leaf (map_tables s) l) (sub_value sub)
 
 -- of a leaf at its place in this target field
@@ -78,5 +78,5 @@ abbrev pub made_leaf : Sources → FieldShape → resolved.At → List Failure
 made_leaf s target = spec.made_leaf (sources_value s) (target_value s) (field_value target)
 
 -- of a target field
-abbrev pub made_field : Sources → Mark → List At → FieldShape → List Failure
+abbrev pub made_field : Sources → FailureSite → List At → FieldShape → List Failure
 made_field s at leaves target = spec.made_field (sources_value s) (target_value s) (mark at) (leaves_value s leaves) (field_value target)

@@ -7,8 +7,8 @@ use Rattle.gw_maplang.specs.Shapes.{Path, Items}
 use Rattle.gw_resolve.specs.Founds.{found_value, saturated_found, times_element}
 use Rattle.gw_resolve.specs.Places.{Element, a_segment, a_group, the_whole, nodes_of, Place, Found, found, element_of, within}
 use denote.Ref.{Bor}
-use Rattle.gw_resolve.specs.declared.element.Found.{Found as TheFound}
-use Rattle.gw_resolve.specs.declared.resolved.Place as places
+use Rattle.gw_resolve.specs.declared.element.CountedNode.{CountedNode as TheFound}
+use Rattle.gw_resolve.specs.declared.resolved.ScopePath as places
 use Rattle.gw_resolve.specs.Seen.{place}
 use Rattle.gw_profile.specs.Labels.{labelled}
 use Rattle.gw_resolve.specs.Failures.{Failure, where_so}
@@ -36,8 +36,8 @@ comes_often (Some (a_segment s)) = allows s.card.max 2
 comes_often (Some (a_group g nodes)) = allows g.card.max 2
 comes_often (Some (the_whole nodes)) = false
 
-abbrev pub place_there : Option (Bor places.Place) → Option Place
-place_there p = option_map (λ (b : Bor places.Place). place b.now) p
+abbrev pub place_there : Option (Bor places.ScopePath) → Option Place
+place_there p = option_map (λ (b : Bor places.ScopePath). place b.now) p
 
 -- the failures of a path that is walked, and of the items within
 abbrev pub each_within : List Element → ℕ → Path → Items → List Failure

@@ -8,7 +8,7 @@ use Rattle.gw_check.proofs.inside.+inside.Goals as goal
 
 pub check_items-loop-item-preserved : goal.check_items-loop-item-preserved
 check_items-loop-item-preserved t c =
-    items_more c.args.sides.now.map.tables (profile_value c.args.sides.now.source) (profile_value c.args.sides.now.target) (scope c.args.scope.now) (forest c.args.nodes.now) c.args.items.now c.loop-item.item-index c.item-item.result
+    items_more c.args.context.now.map.tables (profile_value c.args.context.now.source) (profile_value c.args.context.now.target) (scope c.args.scope.now) (forest c.args.nodes.now) c.args.items.now c.loop-item.item-index c.item-item.result
     (failures c.args.found.now.items) c.loop-item.found c.check_item.new.found c.loop-item-test.true c.item-item.is c.in_ok-check_item.ensures c.loop-item.invariant
 
 pub check_item-check_items-requires : goal.check_item-check_items-requires
@@ -28,10 +28,10 @@ check_items-check_item-requires t c =
 
 pub check_item-returns-in_ok-check_level-in-Group : goal.check_item-returns-in_ok-check_level-in-Group
 check_item-returns-in_ok-check_level-in-Group t c =
-    let tables = c.args.sides.now.map.tables in
+    let tables = c.args.context.now.map.tables in
     let inner = scope c.deref-in-Group-2.result.now in
     on_ok c.check_items.result _ _
-    (group_noted tables (profile_value c.args.sides.now.source) (profile_value c.args.sides.now.target) (scope c.args.scope.now) inner (forest c.args.nodes.now) (forest c.nodes_within-below.result.now) c.args.item.now c.in-Group.group c.deref-in-Group-3.result.now
+    (group_noted tables (profile_value c.args.context.now.source) (profile_value c.args.context.now.target) (scope c.args.scope.now) inner (forest c.args.nodes.now) (forest c.nodes_within-below.result.now) c.args.item.now c.in-Group.group c.deref-in-Group-3.result.now
     c.args.found.now c.check_level.new.found c.check_items.new.found c.in-Group.is c.deref-in-Group-3.ensures.value (ap scope c.deref-in-Group-2.ensures.value ∙ c.in_ok-inner-in-Group.ensures) c.nodes_within-below.ensures
     (level_same c.deref.result.now c.deref-in-Group-2.result.now c.deref-in-Group.result.now c.deref-in-Group-3.result.now (c.deref.ensures.value ∙ sym c.deref-in-Group-2.ensures.value) (c.deref-in-Group.ensures.value ∙ sym c.deref-in-Group-3.ensures.value) tables c.in-Group.group.line (forest c.nodes_within-below.result.now) c.args.found.now c.check_level.new.found (c.in_ok-check_level-in-Group.ensures tables)))
     c.check_items.ensures
@@ -39,6 +39,6 @@ check_item-returns-in_ok-check_level-in-Group t c =
 pub check_item-returns-in_ok-inner-in-Flat : goal.check_item-returns-in_ok-inner-in-Flat
 check_item-returns-in_ok-inner-in-Flat t c =
     on_ok c.check_items-in-Flat.result _ _
-    (flat_noted c.args.sides.now.map.tables (profile_value c.args.sides.now.source) (profile_value c.args.sides.now.target) (scope c.args.scope.now) (scope c.deref-in-Flat.result.now) (forest c.args.nodes.now) c.args.item.now c.in-Flat.flat c.deref-in-Flat-2.result.now
+    (flat_noted c.args.context.now.map.tables (profile_value c.args.context.now.source) (profile_value c.args.context.now.target) (scope c.args.scope.now) (scope c.deref-in-Flat.result.now) (forest c.args.nodes.now) c.args.item.now c.in-Flat.flat c.deref-in-Flat-2.result.now
     c.args.found.now c.check_items-in-Flat.new.found c.in-Flat.is c.deref-in-Flat-2.ensures.value (ap scope c.deref-in-Flat.ensures.value ∙ c.in_ok-inner-in-Flat.ensures))
     c.check_items-in-Flat.ensures

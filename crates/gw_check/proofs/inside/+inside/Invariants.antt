@@ -13,5 +13,5 @@ decreases-check_items l = 2 * weight_all l.items.now + 1
 
 abbrev pub invariant-check_items-loop-item : goal.invariant-check_items-loop-item
 invariant-check_items-loop-item l =
-    failures l.initial.found.items ++ (items_failures (profile_value l.sides.source) (profile_value l.sides.target) (scope l.scope) (forest l.nodes) (all_items l.sides.map.tables l.items))
-    ≡ failures l.found.items ++ (items_failures (profile_value l.sides.source) (profile_value l.sides.target) (scope l.scope) (forest l.nodes) (all_items l.sides.map.tables (drop l.item-index l.items)))
+    failures l.initial.found.items ++ (items_failures (profile_value l.context.source) (profile_value l.context.target) (scope l.scope) (forest l.nodes) (all_items l.context.map.tables l.items))
+    ≡ failures l.found.items ++ (items_failures (profile_value l.context.source) (profile_value l.context.target) (scope l.scope) (forest l.nodes) (all_items l.context.map.tables (drop l.item-index l.items)))

@@ -8,7 +8,7 @@ use Rattle.gw_er7.proofs.fields.take_fields.Given as goal
 
 abbrev pub invariant-loop-separator : goal.invariant-loop-separator
 invariant-loop-separator l = record {
-  inside : AreInside l.taken.bytes.items l.taken.leaves;
+  inside : AreInside l.taken.bytes.items l.taken.spans;
   kept : Keeps l.fn.taken l.taken;
   read : taken_by l.taken ++ rest l.delimiters (separators l.delimiters) (numbers l.place) l.rest ≡ taken_by l.fn.taken ++ fields l.delimiters l.fn.first l.fn.bytes;
   field : l.place.field + length l.rest ≤ length l.fn.bytes + 3;

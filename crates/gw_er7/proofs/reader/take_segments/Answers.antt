@@ -1,5 +1,5 @@
 use Rattle.std.proofs.Common.{◌≡◌, ◌∷◌, ◌++◌, ◌+◌, [], List, length, ap, ◌∙◌, rules}
-use Rattle.gw_er7.specs.declared.start.Start.{Start}
+use Rattle.gw_er7.specs.declared.start.SegmentHead.{SegmentHead}
 use Rattle.gw_er7.specs.Content.{lines_from}
 use Rattle.gw_er7.specs.Message.{SegmentValue}
 use Rattle.gw_er7.specs.View.{lying}
@@ -17,4 +17,4 @@ returns-clause-segments c =
     let others = others_of d (lines_from (header.at + length header.bytes.now + 1) header.behind.now) in
     let none : c.in_ok-starts.starts.items ≡ [] = search rules in
     c.in_ok-take_others.ensures.segments
-    ∙ ap (λ (ss : List SegmentValue). ss ++ others) (c.in_ok-take_segment.ensures.segments ∙ ap (λ (starts : List Start). lying starts (held_in c.in_ok-taken.taken) ++ segment_of d 3 9 header.bytes.now ∷ []) none)
+    ∙ ap (λ (ss : List SegmentValue). ss ++ others) (c.in_ok-take_segment.ensures.segments ∙ ap (λ (starts : List SegmentHead). lying starts (held_in c.in_ok-taken.taken) ++ segment_of d 3 9 header.bytes.now ∷ []) none)

@@ -21,8 +21,8 @@ pub make_rep-requires-clause-fill : goal.make_rep-requires-clause-fill
 make_rep-requires-clause-fill c =
     let is = ap texts_of (sym c.in-Some.is) ∙ c.segment_at.ensures (message_of c.args.scope.now) c.requires.of in
     let leaves = map (at_leaf c.args.rows.now.tables) c.args.leaves.now in
-    let again = ap (λ (s : SegmentValue). s.at) c.again.ensures ∙ is in
-    subst (λ w. MayFillRep w c.args.field c.next_rep-rep.result leaves c.loop-rep.builder) (same_walk (seen_from c.args.scope.now) (reference c.args.from.now) c.next_rep-rep.result c.again.result.at again)
+    let again = ap (λ (s : SegmentValue). s.at) c.reborrow.ensures ∙ is in
+    subst (λ w. MayFillRep w c.args.field c.next_rep-rep.result leaves c.loop-rep.builder) (same_walk (seen_from c.args.scope.now) (reference c.args.from.now) c.next_rep-rep.result c.reborrow.result.at again)
     (may_next_repeat (seen_from c.args.scope.now) leaves c.args.field (reference c.args.from.now) c.in-Some.segment.at is c.reps-last.result c.reps-last.ensures c.args.builder.now c.requires.may
     c.loop-rep.rep c.next_rep-rep.result c.loop-rep.builder c.next_rep-rep.ensures.after c.next_rep-rep.ensures.there c.loop-rep.invariant)
 
@@ -30,10 +30,10 @@ pub loop-rep-preserved : goal.loop-rep-preserved
 loop-rep-preserved c =
     let is = ap texts_of (sym c.in-Some.is) ∙ c.segment_at.ensures (message_of c.args.scope.now) c.requires.of in
     let leaves = map (at_leaf c.args.rows.now.tables) c.args.leaves.now in
-    let again = ap (λ (s : SegmentValue). s.at) c.again.ensures ∙ is in
+    let again = ap (λ (s : SegmentValue). s.at) c.reborrow.ensures ∙ is in
     next_repeat (seen_from c.args.scope.now) leaves c.args.field (reference c.args.from.now) c.in-Some.segment.at is c.reps-last.result c.reps-last.ensures c.args.builder.now c.requires.may
     c.loop-rep.rep c.next_rep-rep.result c.loop-rep.builder c.make_rep.new.builder c.next_rep-rep.ensures.after c.next_rep-rep.ensures.there c.next_rep-rep.ensures.first c.loop-rep.invariant
-    (subst (λ w. IsRepFilled w c.args.field c.next_rep-rep.result leaves c.loop-rep.builder c.make_rep.new.builder) (sym (same_walk (seen_from c.args.scope.now) (reference c.args.from.now) c.next_rep-rep.result c.again.result.at again)) c.in_ok-make_rep.ensures)
+    (subst (λ w. IsRepFilled w c.args.field c.next_rep-rep.result leaves c.loop-rep.builder c.make_rep.new.builder) (sym (same_walk (seen_from c.args.scope.now) (reference c.args.from.now) c.next_rep-rep.result c.reborrow.result.at again)) c.in_ok-make_rep.ensures)
 
 pub loop-rep-smaller : goal.loop-rep-smaller
 loop-rep-smaller c = omega (arith, c.loop-rep-test.true, c.next_rep-rep.ensures.after)

@@ -8,4 +8,4 @@ returns-then-out-scope-clause-walked c = none_walked c.args.scope.now c.args.out
 
 pub returns-clause-walked : goal.returns-clause-walked
 returns-clause-walked c =
-    one_walked c.args.scope.now c.args.out c.index-scope-scope.result c.if-out-scope.false c.index-scope-scope.is ∙ ap (λ o. occurrence o ∷ []) (sym c.again.ensures)
+    one_walked c.args.scope.now c.args.out c.index-scope-scope.result c.if-out-scope.false c.index-scope-scope.is ∙ ap (λ o. occurrence o ∷ []) (sym c.reborrow.ensures)

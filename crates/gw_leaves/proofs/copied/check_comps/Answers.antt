@@ -7,10 +7,10 @@ use Rattle.gw_leaves.proofs.copied.check_comps.Goals as goal
 
 pub loop-comp-preserved : goal.loop-comp-preserved
 loop-comp-preserved c =
-    more_each (copied_comp (profile_value c.args.sides.now.source) (profile_value c.args.sides.now.target) (mark c.args.mark) (some_field c.args.from)) comp c.args.comps.now c.loop-comp.comp-index _ c.comp-item.result
+    more_each (copied_comp (profile_value c.args.context.now.source) (profile_value c.args.context.now.target) (mark c.args.mark) (some_field c.args.from)) comp c.args.comps.now c.loop-comp.comp-index _ c.comp-item.result
     (failures c.loop-comp.found.items) (failures c.check_comp.new.found.items) c.loop-comp-test.true c.comp-item.is c.in_ok-check_comp.ensures c.loop-comp.invariant
 
 pub returns : goal.returns
 returns c =
-    done_each (copied_comp (profile_value c.args.sides.now.source) (profile_value c.args.sides.now.target) (mark c.args.mark) (some_field c.args.from)) comp c.args.comps.now c.loop-comp.comp-index _
+    done_each (copied_comp (profile_value c.args.context.now.source) (profile_value c.args.context.now.target) (mark c.args.mark) (some_field c.args.from)) comp c.args.comps.now c.loop-comp.comp-index _
     (failures c.loop-comp.found.items) c.loop-comp-test.false c.loop-comp.invariant

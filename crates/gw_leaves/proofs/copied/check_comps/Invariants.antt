@@ -8,5 +8,5 @@ use Rattle.gw_leaves.proofs.copied.check_comps.Given as goal
 
 abbrev pub invariant-loop-comp : goal.invariant-loop-comp
 invariant-loop-comp l =
-    failures l.initial.found.items ++ (flat_map (copied_comp (profile_value l.sides.source) (profile_value l.sides.target) (mark l.mark) (some_field l.from)) (map comp l.comps))
-    ≡ failures l.found.items ++ (flat_map (copied_comp (profile_value l.sides.source) (profile_value l.sides.target) (mark l.mark) (some_field l.from)) (map comp (drop l.comp-index l.comps)))
+    failures l.initial.found.items ++ (flat_map (copied_comp (profile_value l.context.source) (profile_value l.context.target) (mark l.mark) (some_field l.from)) (map comp l.comps))
+    ≡ failures l.found.items ++ (flat_map (copied_comp (profile_value l.context.source) (profile_value l.context.target) (mark l.mark) (some_field l.from)) (map comp (drop l.comp-index l.comps)))

@@ -8,5 +8,5 @@ use Rattle.gw_leaves.proofs.copied.check_subs.Given as goal
 
 abbrev pub invariant-loop-sub : goal.invariant-loop-sub
 invariant-loop-sub l =
-    failures l.initial.found.items ++ (flat_map (copied_sub (profile_value l.sides.source) (profile_value l.sides.target) (mark l.mark) (some_comp l.from)) (map sub l.subs))
-    ≡ failures l.found.items ++ (flat_map (copied_sub (profile_value l.sides.source) (profile_value l.sides.target) (mark l.mark) (some_comp l.from)) (map sub (drop l.sub-index l.subs)))
+    failures l.initial.found.items ++ (flat_map (copied_sub (profile_value l.context.source) (profile_value l.context.target) (mark l.mark) (some_comp l.from)) (map sub l.subs))
+    ≡ failures l.found.items ++ (flat_map (copied_sub (profile_value l.context.source) (profile_value l.context.target) (mark l.mark) (some_comp l.from)) (map sub (drop l.sub-index l.subs)))

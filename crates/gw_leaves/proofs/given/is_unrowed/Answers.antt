@@ -8,7 +8,7 @@ use Rattle.gw_leaves.proofs.given.is_unrowed.Goals as goal
 
 pub returns : goal.returns
 returns c =
-    let s = c.args.sides.now in
+    let s = c.args.context.now in
     let profile = profile_value s.source in
     let name = c.args.name.now in
     let rows = rows_named s.map.tables name in

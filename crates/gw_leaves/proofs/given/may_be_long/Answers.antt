@@ -9,7 +9,7 @@ use Rattle.gw_leaves.proofs.given.may_be_long.Goals as goal
 
 pub returns : goal.returns
 returns c =
-    let s = c.args.sides.now in
+    let s = c.args.context.now in
     let origin = c.origin_of-origin.result in
     let len = c.len_of-len.result in
     let most = c.in-Some.most in

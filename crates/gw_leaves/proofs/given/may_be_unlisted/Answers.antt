@@ -12,7 +12,7 @@ use Rattle.gw_leaves.proofs.given.may_be_unlisted.Goals as goal
 
 pub returns : goal.returns
 returns c =
-    let s = c.args.sides.now in
+    let s = c.args.context.now in
     let tables = s.target.tables in
     let name = c.in-Some.name.now in
     let origin = c.origin_of-origin.result in

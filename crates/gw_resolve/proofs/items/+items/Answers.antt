@@ -29,8 +29,8 @@ group-returns-clause-paths t c =
     let own = spec.walk_failures (walked c.args.scope.now) c.args.made.now.line (raw.items_all c.deref.result.now) in
     let later = spec.path_failures (walked c.deref-3.result.now) (raw.all_items c.deref-4.result.now) in
     c.hide_both.ensures.paths (first ++ own) later
-    (as_many failure c.enter.new.found.items (first ++ own) _ c.mark-kept.ensures.paths c.in_ok-entered.ensures.failures)
-    (found_both failure first c.enter.new.found.items c.resolve_items.new.lost.paths.items own later c.in_ok-entered.ensures.failures c.in_ok-items.ensures.paths)
+    (as_many failure c.enter_path.new.found.items (first ++ own) _ c.mark-kept.ensures.paths c.in_ok-entered.ensures.failures)
+    (found_both failure first c.enter_path.new.found.items c.resolve_items.new.lost.paths.items own later c.in_ok-entered.ensures.failures c.in_ok-items.ensures.paths)
     ∙ append_assoc first own (where_so c.in_ok-entered.entered.leads later)
     ∙ ap (λ l. first ++ l)
     (group_paths (walked c.args.scope.now) (walked c.deref-3.result.now) c.args.made.now c.in_ok-entered.entered.leads c.deref.result.now c.deref-4.result.now
@@ -71,8 +71,8 @@ flat-returns-clause-paths t c =
     let own = spec.walk_failures (walked c.args.scope.now) c.args.made.now.line (raw.items_all c.deref.result.now) in
     let later = spec.path_failures (walked c.deref-3.result.now) (raw.all_items c.deref-4.result.now) in
     c.hide_both.ensures.paths (first ++ own) later
-    (as_many failure c.enter.new.found.items (first ++ own) _ c.mark-kept.ensures.paths c.in_ok-entered.ensures.failures)
-    (found_both failure first c.enter.new.found.items c.resolve_items.new.lost.paths.items own later c.in_ok-entered.ensures.failures c.in_ok-items.ensures.paths)
+    (as_many failure c.enter_path.new.found.items (first ++ own) _ c.mark-kept.ensures.paths c.in_ok-entered.ensures.failures)
+    (found_both failure first c.enter_path.new.found.items c.resolve_items.new.lost.paths.items own later c.in_ok-entered.ensures.failures c.in_ok-items.ensures.paths)
     ∙ append_assoc first own (where_so c.in_ok-entered.entered.leads later)
     ∙ ap (λ l. first ++ l)
     (flat_paths (walked c.args.scope.now) (walked c.deref-3.result.now) c.args.made.now c.in_ok-entered.entered.leads c.deref.result.now c.deref-4.result.now

@@ -2,7 +2,7 @@ use Rattle.std.proofs.Common.{sym, subst}
 use Rattle.gw_leaves.specs.own.Findings.{IsFound, AreFound}
 use Rattle.gw_leaves.specs.own.Readings.{read_of}
 use Rattle.gw_leaves.proofs.Kept.{kept_in}
-use Rattle.gw_leaves.proofs.sides.Sides.knowing.Goals as goal
+use Rattle.gw_leaves.proofs.context.MapContext.knowing.Goals as goal
 
 pub loop-origin-preserved : goal.loop-origin-preserved
 loop-origin-preserved c =

@@ -2,10 +2,10 @@
 
 use crate::findings::{Findings, find};
 use crate::meeting::add_items;
-use crate::readings::{Origin, Step, Test, goes_beyond, readings_of, shortest, steps_of};
+use crate::readings::{LengthStep, Origin, Test, goes_beyond, readings_of, shortest, steps_of};
 use gw_maplang::Map;
 use gw_profile::{Level, Profile};
-use gw_resolve::{Element, Item};
+use gw_resolve::{Item, ScopeNode};
 use indexmap::{IndexMap, IndexSet};
 use std::alloc::{AllocError, Global};
 use std::marker::Model;
@@ -14,7 +14,7 @@ use std::marker::Model;
 pub(crate) type Meetings<'a> = IndexMap<Origin<'a>, IndexSet<&'a [u8]>>;
 
 /// A map with its profiles, and what is found of the tables that it brings together.
-pub struct Sides<'a> {
+pub struct MapContext<'a> {
     alloc: Global,
     source: &'a Profile,
     target: &'a Profile,
@@ -22,10 +22,10 @@ pub struct Sides<'a> {
     known: IndexMap<Origin<'a>, Findings<'a>>,
 }
 
-// (by hand: so no crate above proves again how what lies in it is let go)
-impl<'a> Drop for Sides<'a> {
+// (by hand, so that no crate above proves again how its fields are dropped)
+impl<'a> Drop for MapContext<'a> {
     fn drop(self) {
-        let Sides {
+        let MapContext {
             alloc: _,
             source: _,
             target: _,
@@ -35,30 +35,30 @@ impl<'a> Drop for Sides<'a> {
     }
 }
 
-impl<'a> Model for Sides<'a> {
+impl<'a> Model for MapContext<'a> {
     ghost use Rattle.std.specs.Coded.{codes};
     ghost use Rattle.gw_profile.specs.contracts.node.Node as node;
     ghost use Rattle.gw_maplang.specs.contracts.item.Item as raw_item;
     ghost use Rattle.gw_leaves.specs.own.Findings.{AreFound};
-    ghost use Rattle.gw_leaves.specs.Sides.{SidesValue, sides_of};
+    ghost use Rattle.gw_leaves.specs.Context.{ContextValue, context_of};
 
-    ghost Value = { SidesValue };
+    ghost Value = { ContextValue };
 
     ghost coded = { Prim.hlevel (codes, node.the_row.coded, raw_item.the_row.coded) };
 
-    ghost view = { λ s. sides_of s.source.now s.target.now s.map.now };
+    ghost view = { λ s. context_of s.source.now s.target.now s.map.now };
 
-    ghost invariant = { λ s. AreFound (sides_of s.source.now s.target.now s.map.now) s.known.entries };
+    ghost invariant = { λ s. AreFound (context_of s.source.now s.target.now s.map.now) s.known.entries };
 }
 
-impl<'a> Sides<'a> {
+impl<'a> MapContext<'a> {
     ghost use Rattle.std.specs.Prelude.{◌≡◌, IfOk};
     ghost use Rattle.gw_leaves.specs.own.Findings.{is_missing, read_at};
     ghost use Rattle.gw_leaves.specs.own.Readings.{some_read, is_nothing, is_longer, IsShortest};
-    ghost use Rattle.gw_leaves.specs.Sides.{sides_of};
+    ghost use Rattle.gw_leaves.specs.Context.{context_of};
 
     /// The map with its profiles, and what is found of the tables that its items bring together, where this is the level of the source's nodes.
-    /// The one error is want of memory.
+    /// The one error is allocation failure.
     pub fn of(
         alloc: Global,
         source: &'a Profile,
@@ -66,21 +66,28 @@ impl<'a> Sides<'a> {
         map: &'a Map,
         level: &'a Level<'_>,
         items: &'a [Item],
-    ) -> Result<Sides<'a>, AllocError>
-        ensures { IfOk result (λ sides. sides ≡ sides_of source.now target.now map.now) }
+    ) -> Result<MapContext<'a>, AllocError>
+        ensures { IfOk result (λ context. context ≡ context_of source.now target.now map.now) }
     {
-        let sides = Sides::new(alloc, source, target, map);
+        let context = MapContext::new(alloc, source, target, map);
         let mut meetings = IndexMap::new(alloc);
-        let scope = [Element::Whole(Some(level))];
-        add_items(alloc, &mut meetings, &sides, &scope, target.nodes(), items)?;
-        sides.knowing(meetings)
+        let scope = [ScopeNode::Whole(Some(level))];
+        add_items(
+            alloc,
+            &mut meetings,
+            &context,
+            &scope,
+            target.nodes(),
+            items,
+        )?;
+        context.knowing(meetings)
     }
 
     // The map and its profiles, with nothing found of any table.
-    fn new(alloc: Global, source: &'a Profile, target: &'a Profile, map: &'a Map) -> Sides<'a>
-        ensures { result ≡ sides_of source.now target.now map.now }
+    fn new(alloc: Global, source: &'a Profile, target: &'a Profile, map: &'a Map) -> MapContext<'a>
+        ensures { result ≡ context_of source.now target.now map.now }
     {
-        Sides {
+        MapContext {
             alloc,
             source,
             target,
@@ -90,7 +97,7 @@ impl<'a> Sides<'a> {
     }
 
     // The same, with what is found of these tables.
-    fn knowing(&self, meetings: Meetings<'a>) -> Result<Sides<'a>, AllocError>
+    fn knowing(&self, meetings: Meetings<'a>) -> Result<MapContext<'a>, AllocError>
         ensures { IfOk result (λ s. s ≡ self.now) }
     {
         let mut known = IndexMap::with_capacity(self.alloc, meetings.len())?;
@@ -105,7 +112,7 @@ impl<'a> Sides<'a> {
             )?;
             known.insert(origin, found)?;
         }
-        Ok(Sides {
+        Ok(MapContext {
             alloc: self.alloc,
             source: self.source,
             target: self.target,

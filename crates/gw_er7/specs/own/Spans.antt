@@ -5,25 +5,25 @@ use Rattle.std.specs.Ordering.{nat_cmp, is_lt}
 use Rattle.std.specs.Cmp.Lexicographic.{slice_cmp}
 use Rattle.std.specs.Coded.{Coded, code_by, coded×, coded_ℕ}
 use Rattle.gw_er7.specs.declared.place.Place.{Place}
-use Rattle.gw_er7.specs.declared.leaves.Leaf.{Leaf}
+use Rattle.gw_er7.specs.declared.spans.TextSpan.{TextSpan}
 use Rattle.gw_er7.specs.Message.{numbers}
 
--- a leaf is stored as its numbers
-abbrev pub leaf_code : Coded Leaf
-leaf_code =
+-- a span is stored as its numbers
+abbrev pub span_code : Coded TextSpan
+span_code =
     code_by (ℕ × (ℕ × (ℕ × (ℕ × (ℕ × ℕ))))) (coded× coded_ℕ (coded× coded_ℕ (coded× coded_ℕ (coded× coded_ℕ (coded× coded_ℕ coded_ℕ)))))
     (λ l. (l.place.field, (l.place.rep, (l.place.comp, (l.place.sub, (l.from, l.len)))))) (λ p. record { place = record { field = p.0; rep = p.1.0; comp = p.1.1.0; sub = p.1.1.1.0 }; from = p.1.1.1.1.0; len = p.1.1.1.1.1 }) (λ _. refl)
 
--- no number of the leaf's place is larger than the first of these, and no other than the second
-abbrev pub IsUpTo : ℕ → ℕ → Leaf → Type 0
+-- no number of the span's place is larger than the first of these, and no other than the second
+abbrev pub IsUpTo : ℕ → ℕ → TextSpan → Type 0
 IsUpTo at most l = (l.place.field ≤ at) × (l.place.rep ≤ at) × (l.place.comp ≤ at) × (l.place.sub ≤ at) × (l.from ≤ most) × (l.len ≤ most)
 
--- leaves of one width, and others
-abbrev pub all_said : {N : Type 0} → (N → Leaf) → List N → List Leaf → List Leaf
+-- spans of one width, and others
+abbrev pub all_said : {N : Type 0} → (N → TextSpan) → List N → List TextSpan → List TextSpan
 all_said said narrow others = map said narrow ++ others
 
 -- all are of this width, or none
-abbrev pub AreAlike : {N : Type 0} → List N → List Leaf → Type 0
+abbrev pub AreAlike : {N : Type 0} → List N → List TextSpan → Type 0
 AreAlike narrow others = (narrow ≡ []) ⊎ (others ≡ [])
 
 -- those from this number on were put in the order of their places

@@ -2,7 +2,7 @@ use Rattle.std.proofs.Common.{ap, ◌∙◌, ◌++◌, not}
 use Rattle.gw_resolve.specs.Failures.{at_line, fails}
 use Rattle.gw_resolve.specs.Places.{within}
 use Rattle.gw_resolve.specs.Seen.{scope as walked, failures}
-use Rattle.gw_resolve.proofs.items.enter.Goals as goal
+use Rattle.gw_resolve.proofs.items.enter_path.Goals as goal
 
 pub returns-clause-inner : goal.returns-clause-inner
 returns-clause-inner c = c.in_ok-inner.ensures ∙ ap (within (walked c.args.scope.now)) c.in_ok-led.ensures.place

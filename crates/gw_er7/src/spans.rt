@@ -7,7 +7,7 @@ ghost use Rattle.std.specs.List.Sorted.{IsPermutation, IsSortedBy};
 ghost use Rattle.std.specs.Ordering.{nat_cmp, is_lt};
 ghost use Rattle.std.specs.Cmp.Lexicographic.{slice_cmp};
 ghost use Rattle.gw_er7.specs.Message.{numbers};
-ghost use Rattle.gw_er7.specs.own.Leaves.{IsUpTo, AreSortedFrom};
+ghost use Rattle.gw_er7.specs.own.Spans.{IsUpTo, AreSortedFrom};
 
 use crate::place::Place;
 use crate::search::compare_places;
@@ -15,9 +15,9 @@ use std::alloc::{AllocError, Global};
 use std::cmp::Ordering;
 use std::marker::Model;
 
-/// Where the text at a place lies: so many bytes from this one on.
+/// Where the text at a place lies: `len` bytes from the byte `from`.
 #[derive(Clone, Copy)]
-pub(crate) struct Leaf {
+pub(crate) struct TextSpan {
     pub(crate) place: Place,
     pub(crate) from: usize,
     pub(crate) len: usize,
@@ -25,7 +25,7 @@ pub(crate) struct Leaf {
 
 /// The same in fewer bytes: the numbers of the place in one width, and the others in another.
 #[derive(Clone, Copy)]
-pub(crate) struct NarrowLeaf<P, L> {
+pub(crate) struct NarrowSpan<P, L> {
     field: P,
     rep: P,
     comp: P,
@@ -99,28 +99,28 @@ impl Number for u32 {
     }
 }
 
-/// A width of leaves: `said` is what one says, as a leaf of 48 bytes; the largest number of a place that fits is `farthest`, and of the others `largest`.
+/// A width of spans: `said` is what one says, as a span of 48 bytes; the largest number of a place that fits is `farthest`, and of the others `largest`.
 pub(crate) trait Width: Copy {
     ghost use Rattle.std.specs.Prelude.{◌≡◌, ◌↔◌, ℕ, IsSome, IfSome};
-    ghost use Rattle.gw_er7.specs.declared.leaves.Leaf.{Leaf};
-    ghost use Rattle.gw_er7.specs.own.Leaves.{IsUpTo};
+    ghost use Rattle.gw_er7.specs.declared.spans.TextSpan.{TextSpan};
+    ghost use Rattle.gw_er7.specs.own.Spans.{IsUpTo};
 
-    ghost said: { Self → Leaf };
+    ghost said: { Self → TextSpan };
 
     ghost farthest: { ℕ };
 
     ghost largest: { ℕ };
 
-    /// The leaf in this width, where its numbers fit.
-    fn narrowed(leaf: Leaf) -> Option<Self>
-        ensures same { IfSome result (λ narrow. said narrow ≡ leaf) }
-        ensures fits { IsSome result ↔ IsUpTo farthest largest leaf };
+    /// The span in this width, where its numbers fit.
+    fn narrowed(span: TextSpan) -> Option<Self>
+        ensures same { IfSome result (λ narrow. said narrow ≡ span) }
+        ensures fits { IsSome result ↔ IsUpTo farthest largest span };
 
-    fn widened(self) -> Leaf
+    fn widened(self) -> TextSpan
         ensures { result ≡ said self };
 }
 
-impl<P: Number, L: Number> Width for NarrowLeaf<P, L> {
+impl<P: Number, L: Number> Width for NarrowSpan<P, L> {
     ghost said = { λ l. record {
       place = record { field = P.said l.field; rep = P.said l.rep; comp = P.said l.comp; sub = P.said l.sub };
       from = L.said l.from;
@@ -131,19 +131,19 @@ impl<P: Number, L: Number> Width for NarrowLeaf<P, L> {
 
     ghost largest = { L.most };
 
-    fn narrowed(leaf: Leaf) -> Option<NarrowLeaf<P, L>> {
-        Some(NarrowLeaf {
-            field: P::narrowed(leaf.place.field)?,
-            rep: P::narrowed(leaf.place.rep)?,
-            comp: P::narrowed(leaf.place.comp)?,
-            sub: P::narrowed(leaf.place.sub)?,
-            from: L::narrowed(leaf.from)?,
-            len: L::narrowed(leaf.len)?,
+    fn narrowed(span: TextSpan) -> Option<NarrowSpan<P, L>> {
+        Some(NarrowSpan {
+            field: P::narrowed(span.place.field)?,
+            rep: P::narrowed(span.place.rep)?,
+            comp: P::narrowed(span.place.comp)?,
+            sub: P::narrowed(span.place.sub)?,
+            from: L::narrowed(span.from)?,
+            len: L::narrowed(span.len)?,
         })
     }
 
-    fn widened(self) -> Leaf {
-        Leaf {
+    fn widened(self) -> TextSpan {
+        TextSpan {
             place: Place {
                 field: self.field.widened(),
                 rep: self.rep.widened(),
@@ -157,231 +157,231 @@ impl<P: Number, L: Number> Width for NarrowLeaf<P, L> {
 }
 
 /// The widest of all.
-impl Width for Leaf {
+impl Width for TextSpan {
     ghost use Rattle.std.specs.Prelude.{◌-◌, ◌^◌};
 
-    ghost said = { λ leaf. leaf };
+    ghost said = { λ span. span };
 
     ghost farthest = { 2 ^ 64 - 1 };
 
     ghost largest = { 2 ^ 64 - 1 };
 
-    fn narrowed(leaf: Leaf) -> Option<Leaf> {
-        Some(leaf)
+    fn narrowed(span: TextSpan) -> Option<TextSpan> {
+        Some(span)
     }
 
-    fn widened(self) -> Leaf {
+    fn widened(self) -> TextSpan {
         self
     }
 }
 
-fn same_leaf(one: Leaf, other: Leaf) -> bool
+fn same_span(one: TextSpan, other: TextSpan) -> bool
     ensures { IsTrue result ↔ (one ≡ other) }
 {
     one.place == other.place && one.from == other.from && one.len == other.len
 }
 
-fn same_leaves<N: Width>(leaves: &[N], others: &[N]) -> bool
-    ensures { IsTrue result ↔ AllZip (λ a b. N.said a ≡ N.said b) leaves.now others.now }
+fn same_spans<N: Width>(spans: &[N], others: &[N]) -> bool
+    ensures { IsTrue result ↔ AllZip (λ a b. N.said a ≡ N.said b) spans.now others.now }
 {
-    if leaves.len() != others.len() {
+    if spans.len() != others.len() {
         return false;
     }
-    for (i, leaf) in leaves.iter().enumerate() {
-        if !same_leaf(leaf.widened(), others[i].widened()) {
+    for (i, span) in spans.iter().enumerate() {
+        if !same_span(span.widened(), others[i].widened()) {
             return false;
         }
     }
     true
 }
 
-fn sort_leaves<N: Width>(leaves: &mut [N])
-    ensures permutation { IsPermutation leaves.old leaves.new }
-    ensures sorted { IsSortedBy (λ a b. is_lt (slice_cmp nat_cmp (numbers (N.said a).place) (numbers (N.said b).place))) leaves.new }
+fn sort_spans<N: Width>(spans: &mut [N])
+    ensures permutation { IsPermutation spans.old spans.new }
+    ensures sorted { IsSortedBy (λ a b. is_lt (slice_cmp nat_cmp (numbers (N.said a).place) (numbers (N.said b).place))) spans.new }
 {
-    leaves.sort_unstable_by(
+    spans.sort_unstable_by(
         |a: &N, b: &N| -> Ordering
             ensures { result ≡ slice_cmp nat_cmp (numbers (N.said a.now).place) (numbers (N.said b.now).place) }
         { compare_places(a.widened().place, b.widened().place) },
     );
 }
 
-fn sort_leaves_from<N: Width>(leaves: &mut Vec<N>, first: usize)
-    requires { first ≤ length leaves.old.items }
-    ensures { AreSortedFrom (λ l. (N.said l).place) first leaves.old.items leaves.new.items }
+fn sort_spans_from<N: Width>(spans: &mut Vec<N>, first: usize)
+    requires { first ≤ length spans.old.items }
+    ensures { AreSortedFrom (λ l. (N.said l).place) first spans.old.items spans.new.items }
 {
-    let (_, tail) = leaves.split_at_mut(first);
-    sort_leaves(tail);
+    let (_, tail) = spans.split_at_mut(first);
+    sort_spans(tail);
 }
 
-/// Leaves one behind the other, in whatever width: `leaves` is what they say.
+/// Spans one behind the other, in whatever width: `spans` is what they say.
 pub(crate) trait Store: Drop {
     ghost use Rattle.std.specs.Prelude.{◌≡◌, ◌<◌, ◌≤◌, ◌++◌, ◌∷◌, [], List, length, slice_index_or, IsTrue, OnOk, OnErr, IfOk};
-    ghost use Rattle.gw_er7.specs.declared.leaves.Leaf.{Leaf};
-    ghost use Rattle.gw_er7.specs.own.Leaves.{AreSortedFrom};
+    ghost use Rattle.gw_er7.specs.declared.spans.TextSpan.{TextSpan};
+    ghost use Rattle.gw_er7.specs.own.Spans.{AreSortedFrom};
 
-    ghost leaves: { Self → List Leaf };
+    ghost spans: { Self → List TextSpan };
 
-    /// No leaf. It takes no memory.
+    /// No span. It takes no memory.
     fn new(alloc: Global) -> Self
-        ensures { leaves result ≡ [] };
+        ensures { spans result ≡ [] };
 
-    /// No leaf, with room for so many in the narrowest width.
+    /// No span, with capacity for `room` spans of the narrowest width.
     fn with_room(alloc: Global, room: usize) -> Result<Self, AllocError>
-        ensures { IfOk result (λ made. leaves made ≡ []) };
+        ensures { IfOk result (λ made. spans made ≡ []) };
 
-    /// Puts a leaf behind the others.
-    fn push(&mut self, leaf: &Leaf) -> Result<(), AllocError>
-        ensures ok { OnOk result (leaves self.new ≡ leaves self.old ++ leaf.now ∷ []) }
-        ensures err { OnErr result (leaves self.new ≡ leaves self.old) };
+    /// Puts a span behind the others.
+    fn push(&mut self, span: &TextSpan) -> Result<(), AllocError>
+        ensures ok { OnOk result (spans self.new ≡ spans self.old ++ span.now ∷ []) }
+        ensures err { OnErr result (spans self.new ≡ spans self.old) };
 
-    /// Puts the leaves from this number on in the order of their places. It takes no memory.
+    /// Puts the spans from this number on in the order of their places. It takes no memory.
     fn sort_from(&mut self, first: usize)
-        requires { first ≤ length (leaves self.old) }
-        ensures { AreSortedFrom (λ l. l.place) first (leaves self.old) (leaves self.new) };
+        requires { first ≤ length (spans self.old) }
+        ensures { AreSortedFrom (λ l. l.place) first (spans self.old) (spans self.new) };
 
-    /// Gives back the memory that the leaves don't take.
+    /// Gives back the memory that the spans don't take.
     fn fit(&mut self)
-        ensures { leaves self.new ≡ leaves self.old };
+        ensures { spans self.new ≡ spans self.old };
 
-    /// The same leaves once more, in memory that fits them.
+    /// The same spans once more, in memory that fits them.
     fn copy(&self, alloc: Global) -> Result<Self, AllocError>
-        ensures { IfOk result (λ copied. leaves copied ≡ leaves self.now) };
+        ensures { IfOk result (λ copied. spans copied ≡ spans self.now) };
 
-    /// Whether these are known to be the same leaves: only those of one width are compared. It takes no memory.
+    /// Whether these are known to be the same spans: only those of one width are compared. It takes no memory.
     fn are_alike(&self, other: &Self) -> bool
-        ensures { IsTrue result → leaves self.now ≡ leaves other.now };
+        ensures { IsTrue result → spans self.now ≡ spans other.now };
 
     fn len(&self) -> usize
-        ensures { result ≡ length (leaves self.now) };
+        ensures { result ≡ length (spans self.now) };
 
-    /// The leaf of this number, from 0.
-    fn at(&self, i: usize) -> Leaf
-        requires { i < length (leaves self.now) }
-        ensures { (other : Leaf) → slice_index_or (leaves self.now) i other ≡ result };
+    /// The span of this number, from 0.
+    fn at(&self, i: usize) -> TextSpan
+        requires { i < length (spans self.now) }
+        ensures { (other : TextSpan) → slice_index_or (spans self.now) i other ≡ result };
 }
 
 /// All in 48 bytes.
-impl Store for Vec<Leaf> {
-    ghost leaves = { λ v. v.items };
+impl Store for Vec<TextSpan> {
+    ghost spans = { λ v. v.items };
 
-    fn new(alloc: Global) -> Vec<Leaf> {
+    fn new(alloc: Global) -> Vec<TextSpan> {
         Vec::new(alloc)
     }
 
-    fn with_room(alloc: Global, room: usize) -> Result<Vec<Leaf>, AllocError> {
+    fn with_room(alloc: Global, room: usize) -> Result<Vec<TextSpan>, AllocError> {
         Ok(Vec::with_capacity(alloc, room)?)
     }
 
-    fn push(&mut self, leaf: &Leaf) -> Result<(), AllocError> {
-        self.push(*leaf)?;
+    fn push(&mut self, span: &TextSpan) -> Result<(), AllocError> {
+        self.push(*span)?;
         Ok(())
     }
 
     fn sort_from(&mut self, first: usize) {
-        sort_leaves_from(self, first);
+        sort_spans_from(self, first);
     }
 
     fn fit(&mut self) {
         self.shrink_to_fit();
     }
 
-    fn copy(&self, alloc: Global) -> Result<Vec<Leaf>, AllocError> {
+    fn copy(&self, alloc: Global) -> Result<Vec<TextSpan>, AllocError> {
         Ok(Vec::from_slice(alloc, self)?)
     }
 
-    fn are_alike(&self, other: &Vec<Leaf>) -> bool {
-        same_leaves(self, other)
+    fn are_alike(&self, other: &Vec<TextSpan>) -> bool {
+        same_spans(self, other)
     }
 
     fn len(&self) -> usize {
         self.len()
     }
 
-    fn at(&self, i: usize) -> Leaf {
+    fn at(&self, i: usize) -> TextSpan {
         self[i]
     }
 }
 
-/// Puts leaves behind others, in their width.
+/// Puts spans behind others, in their width.
 fn widen_into<N: Width, L: Store>(others: &mut L, narrow: &[N]) -> Result<(), AllocError>
-    ensures { OnOk result (L.leaves others.new ≡ L.leaves others.old ++ map N.said narrow.now) }
+    ensures { OnOk result (L.spans others.new ≡ L.spans others.old ++ map N.said narrow.now) }
 {
-    for leaf in narrow {
-        others.push(&leaf.widened())?;
+    for span in narrow {
+        others.push(&span.widened())?;
     }
     Ok(())
 }
 
-/// Leaves in two widths: all are in the narrow one, or none is.
+/// Spans in two widths: all are in the narrow one, or none is.
 #[derive(Drop)]
-pub(crate) struct Leaves<N: Width, L: Store> {
+pub(crate) struct Spans<N: Width, L: Store> {
     alloc: Global,
     narrow: Vec<N>,
     others: L,
 }
 
-impl<N: Width, L: Store> Model for Leaves<N, L> {
+impl<N: Width, L: Store> Model for Spans<N, L> {
     ghost use Rattle.std.specs.Prelude.{List};
     ghost use Rattle.std.specs.Coded.{coded_list};
-    ghost use Rattle.gw_er7.specs.declared.leaves.Leaf.{Leaf};
-    ghost use Rattle.gw_er7.specs.own.Leaves.{leaf_code, all_said, AreAlike};
+    ghost use Rattle.gw_er7.specs.declared.spans.TextSpan.{TextSpan};
+    ghost use Rattle.gw_er7.specs.own.Spans.{span_code, all_said, AreAlike};
 
-    ghost Value = { List Leaf };
+    ghost Value = { List TextSpan };
 
-    ghost coded = { coded_list leaf_code };
+    ghost coded = { coded_list span_code };
 
-    ghost view = { λ l. all_said N.said l.narrow.items (L.leaves l.others) };
+    ghost view = { λ l. all_said N.said l.narrow.items (L.spans l.others) };
 
-    ghost invariant = { λ l. AreAlike l.narrow.items (L.leaves l.others) };
+    ghost invariant = { λ l. AreAlike l.narrow.items (L.spans l.others) };
 }
 
-impl<N: Width, L: Store> Leaves<N, L> {
+impl<N: Width, L: Store> Spans<N, L> {
     ghost use Rattle.std.specs.Prelude.{◌≡◌, ◌++◌, ◌∷◌, [], OnOk, OnErr};
 
-    /// Puts a leaf behind the others that doesn't fit in the narrow width: none is narrow from now on.
-    fn push_wide(&mut self, leaf: &Leaf) -> Result<(), AllocError>
-        ensures ok { OnOk result (self.new ≡ self.old ++ leaf.now ∷ []) }
+    /// Puts a span behind the others that doesn't fit in the narrow width: none is narrow from now on.
+    fn push_wide(&mut self, span: &TextSpan) -> Result<(), AllocError>
+        ensures ok { OnOk result (self.new ≡ self.old ++ span.now ∷ []) }
         ensures err { OnErr result (self.new ≡ self.old) }
     {
         if self.narrow.is_empty() {
-            return self.others.push(leaf);
+            return self.others.push(span);
         }
         let mut others = L::new(self.alloc);
         widen_into(&mut others, &self.narrow)?;
-        others.push(leaf)?;
+        others.push(span)?;
         self.others = others;
         self.narrow = Vec::new(self.alloc);
         Ok(())
     }
 }
 
-impl<N: Width, L: Store> Store for Leaves<N, L> {
-    ghost leaves = { λ leaves. leaves };
+impl<N: Width, L: Store> Store for Spans<N, L> {
+    ghost spans = { λ spans. spans };
 
-    fn new(alloc: Global) -> Leaves<N, L> {
-        Leaves {
+    fn new(alloc: Global) -> Spans<N, L> {
+        Spans {
             alloc,
             narrow: Vec::new(alloc),
             others: L::new(alloc),
         }
     }
 
-    fn with_room(alloc: Global, room: usize) -> Result<Leaves<N, L>, AllocError> {
+    fn with_room(alloc: Global, room: usize) -> Result<Spans<N, L>, AllocError> {
         let narrow = Vec::with_capacity(alloc, room)?;
-        Ok(Leaves {
+        Ok(Spans {
             alloc,
             narrow,
             others: L::new(alloc),
         })
     }
 
-    fn push(&mut self, leaf: &Leaf) -> Result<(), AllocError> {
+    fn push(&mut self, span: &TextSpan) -> Result<(), AllocError> {
         if self.narrow.is_empty() && self.others.len() > 0 {
-            return self.others.push(leaf);
+            return self.others.push(span);
         }
-        let Some(narrow) = N::narrowed(*leaf) else {
-            return self.push_wide(leaf);
+        let Some(narrow) = N::narrowed(*span) else {
+            return self.push_wide(span);
         };
         self.narrow.push(narrow)?;
         Ok(())
@@ -391,7 +391,7 @@ impl<N: Width, L: Store> Store for Leaves<N, L> {
         if self.narrow.is_empty() {
             self.others.sort_from(first);
         } else {
-            sort_leaves_from(&mut self.narrow, first);
+            sort_spans_from(&mut self.narrow, first);
         }
     }
 
@@ -400,18 +400,18 @@ impl<N: Width, L: Store> Store for Leaves<N, L> {
         self.others.fit();
     }
 
-    fn copy(&self, alloc: Global) -> Result<Leaves<N, L>, AllocError> {
+    fn copy(&self, alloc: Global) -> Result<Spans<N, L>, AllocError> {
         let narrow = Vec::from_slice(alloc, &self.narrow)?;
         let others = self.others.copy(alloc)?;
-        Ok(Leaves {
+        Ok(Spans {
             alloc,
             narrow,
             others,
         })
     }
 
-    fn are_alike(&self, other: &Leaves<N, L>) -> bool {
-        same_leaves(&self.narrow, &other.narrow) && self.others.are_alike(&other.others)
+    fn are_alike(&self, other: &Spans<N, L>) -> bool {
+        same_spans(&self.narrow, &other.narrow) && self.others.are_alike(&other.others)
     }
 
     fn len(&self) -> usize {
@@ -421,7 +421,7 @@ impl<N: Width, L: Store> Store for Leaves<N, L> {
         self.narrow.len()
     }
 
-    fn at(&self, i: usize) -> Leaf {
+    fn at(&self, i: usize) -> TextSpan {
         if i < self.narrow.len() {
             return self.narrow[i].widened();
         }
@@ -429,8 +429,8 @@ impl<N: Width, L: Store> Store for Leaves<N, L> {
     }
 }
 
-/// The leaves of a message: all in 8 bytes, in 12, in 24, or in 48.
-pub(crate) type MessageLeaves = Leaves<
-    NarrowLeaf<u8, u16>,
-    Leaves<NarrowLeaf<u8, u32>, Leaves<NarrowLeaf<u32, u32>, Vec<Leaf>>>,
+/// The spans of a message: all in 8 bytes, in 12, in 24, or in 48.
+pub(crate) type MessageSpans = Spans<
+    NarrowSpan<u8, u16>,
+    Spans<NarrowSpan<u8, u32>, Spans<NarrowSpan<u32, u32>, Vec<TextSpan>>>,
 >;

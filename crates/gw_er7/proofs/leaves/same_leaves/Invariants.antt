@@ -1,9 +1,0 @@
-use Rattle.std.proofs.Common.{◌≡◌, ◌↔◌, drop, length}
-use Rattle.std.specs.List.{AllZip}
-use Rattle.gw_er7.proofs.leaves.same_leaves.Given as goal
-
-abbrev pub invariant-loop-i : goal.invariant-loop-i
-invariant-loop-i g l = record {
-  long : length l.leaves ≡ length l.others;
-  rest : AllZip (λ a b. g.N.Width.said a ≡ g.N.Width.said b) l.leaves l.others ↔ AllZip (λ a b. g.N.Width.said a ≡ g.N.Width.said b) (drop l.i l.leaves) (drop l.i l.others);
-}
