@@ -17,7 +17,8 @@ use gw_profile::{Card, FieldShape, Level, Node, Profile, Usage};
 use gw_resolve::{Item, Resolving, Rule, SegmentItem, nodes_within};
 use std::alloc::{AllocError, Global};
 
-/// A node that no item gives, by the numbers of the nodes that lead to it from the target's top on and each from 0, or a field of it that no rule gives; and the line of what should hold it.
+/// A node that no item gives, or a field of a node that no rule gives, and the line of what should hold it.
+/// The node is the path of node numbers, each from 0, from the top of the target.
 pub struct Gap {
     pub line: u32,
     pub at: Vec<usize>,

@@ -16,7 +16,7 @@ pub enum Event {
     Look,
     /// A message that was admitted arrives.
     Arrive(Arc<Conforming>),
-    /// A content arrives that was refused under this code (HL7 table 0357).
+    /// A message arrives that was refused under this code (HL7 table 0357).
     Refuse(u16),
     /// A plan is to take the place of the one in force.
     Swap(Arc<Plan>),

@@ -41,7 +41,11 @@ fn rows_of(map: &CheckedMap) -> &Map
 
 /// The one message that the map makes of the message of a tree by the map's source. It conforms to the map's target.
 ///
-/// It takes time by the occurrences that the map's items walk, by the rules that are made for each of them and by the texts that these read and put, times the logarithm of the values in a segment; how large the numbers of places are doesn't count. Where an item within another walks occurrences that don't stand within those of the other, each is walked once for each of the others: their numbers multiply, and the result may be larger than the message and the map together. The one error is allocation failure.
+/// It takes time by the occurrences that the map's items walk, by the rules made for each, and by the texts that these read and put.
+/// The factor is the logarithm of the values in a segment. How large the numbers of places are doesn't count.
+/// An item within another may walk occurrences outside those of the other. Then each is walked once for each of the others.
+/// Their numbers multiply, and the result may be larger than the message and the map together.
+/// The one error is allocation failure.
 pub fn translate(alloc: Global, map: &CheckedMap, tree: &Tree) -> Result<Message, AllocError>
     requires takes { profile_value tree.now.profile ≡ profile_value map.now.source }
     ensures means { IfOk result (λ made. Means (profile_value map.now.target) (resolved_map map.now) tree.now.message tree.now.tree made) }

@@ -1,4 +1,4 @@
-//! Streams cut into blocks, contents read and written, messages built.
+//! Streams cut into blocks, messages read, written and built.
 ghost use Rattle.std.specs.Prelude.{◌≡◌, ◌++◌, ◌∷◌, [], OnOk};
 ghost use Rattle.std.specs.FinMap as texts;
 ghost use Rattle.gw_er7.specs.Message.{numbers};
@@ -14,10 +14,10 @@ use std::test::Fail;
 const STREAM: &[u8] =
     b"\x0bMSH|^~\\&|LAB\rPID|||123||DOE^JOHN\r\x1c\r\r\n\x0bMSH|^~\\&|LAB\rPID|||123||DOE^JOHN\r\x1c\r";
 
-/// Its two contents, each with `;` behind it.
+/// Its two messages, each with `;` behind it.
 const BLOCKS: &[u8] = b"MSH|^~\\&|LAB\rPID|||123||DOE^JOHN\r;MSH|^~\\&|LAB\rPID|||123||DOE^JOHN\r;";
 
-/// A content, and its block behind a byte.
+/// Message bytes, and their block behind a byte.
 const CONTENT: &[u8] = b"MSH|^~\\&|LAB\r";
 
 const BLOCK: &[u8] = b"x\x0bMSH|^~\\&|LAB\r\x1c\r";

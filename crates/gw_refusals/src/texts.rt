@@ -93,7 +93,7 @@ fn texts_refused(rt: HostRuntime) -> Result<(), Fail> {
     Ok(())
 }
 
-/// A content that is validated, and the code of its breach, 0 where it conforms.
+/// Message bytes that are validated, and the code of their breach, 0 where they conform.
 #[derive(Clone, Copy)]
 struct Validated {
     content: &'static [u8],

@@ -3,7 +3,7 @@ use gw_mllp::{Decoder, FrameFault, is_content};
 use std::alloc::{AllocError, Global};
 use std::test::Fail;
 
-/// A gap, a content with a lone FS, CR LF between blocks, a content with VT and a last FS, an empty content.
+/// A gap, a block with a lone FS, CR LF between blocks, a block with VT and a last FS, an empty block.
 const STREAM: &[u8] = b"x\x0bA\x1cB\x1c\r\r\n\x0b\x0b\x1c\x1c\r\x0b\x1c\r";
 
 /// Feeds the stream, cut behind each byte whose bit is set.

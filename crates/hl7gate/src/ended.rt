@@ -46,7 +46,7 @@ pub(crate) enum Ended<'a> {
     Unwritten {
         file: String,
     },
-    /// The content on standard input isn't a message.
+    /// Standard input isn't a message.
     Message {
         fault: ReadFault,
     },

@@ -109,7 +109,7 @@ impl Read for Heard<'_> {
     }
 }
 
-/// Why a content that doesn't acknowledge its message doesn't. The message's control id isn't needed: where the content has a code, its control id is another.
+/// Why a block doesn't acknowledge its message. The message's control id isn't needed: where the block has a code, its control id is another.
 fn judged(alloc: Global, content: &[u8]) -> Unacknowledged {
     match read_ack(alloc, content, b"") {
         Err(AckFault::Memory) => Unacknowledged::Unknown,

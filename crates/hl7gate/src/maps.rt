@@ -196,7 +196,7 @@ pub(crate) fn check<'a, R: Files + AllocGlobal, O: Write, E: Write>(
     write_judged(rt.alloc(), &sides, &written, output, errors)
 }
 
-/// The tree of a content that conforms to a profile.
+/// The tree of message bytes that conform to a profile.
 fn tree_of<'a, R: AllocGlobal>(
     rt: &R,
     profile: &Arc<Profile>,
@@ -215,7 +215,7 @@ fn tree_of<'a, R: AllocGlobal>(
     }
 }
 
-/// The translation of a content.
+/// The translation of message bytes.
 fn translated<'a, R: AllocGlobal>(
     rt: &R,
     map: &CheckedMap,
@@ -237,7 +237,7 @@ fn write_message<'a, O: Write>(
     Ok(())
 }
 
-/// Writes the translation of the content on standard input, which has no frame, and answers the status.
+/// Writes the translation of the unframed message on standard input, and returns the status.
 fn write_translation<'a, R: AllocGlobal, I: Read, O: Write>(
     rt: &R,
     map: &CheckedMap,
@@ -287,7 +287,7 @@ fn translate_judged<'a, R: AllocGlobal, I: Read, O: Write, E: Write>(
     }
 }
 
-/// Prints the translation of the content on standard input. A refused map is reported before standard input is read. Returns the status.
+/// Prints the translation of the message on standard input. A refused map is reported before standard input is read. Returns the status.
 /// The files SOURCE, TARGET and MAP are each read and parsed before the next.
 pub(crate) fn translate<'a, R: Files + AllocGlobal, I: Read, O: Write, E: Write>(
     rt: &R,

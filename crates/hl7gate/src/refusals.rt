@@ -140,7 +140,7 @@ pub(crate) fn tell_plan<E: Write>(
     tell_refused(errors, subject, fault.number(), place, &fault)
 }
 
-/// Tells why the content on standard input is no message.
+/// Prints why standard input is no message.
 pub(crate) fn tell_message<E: Write>(errors: &mut E, fault: ReadFault) -> u8 {
     let subject = Subject {
         word: "message",
