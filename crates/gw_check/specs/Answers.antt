@@ -46,12 +46,12 @@ abbrev pub Judges : ProfileValue → ProfileValue → MapValue → judged.Judged
 Judges from to m (judged.TheVariants.Allowed is) = IsAllowed from to m is.items
 Judges from to m (judged.TheVariants.Refused f found) = IsBroken from to m f found.items
 
--- all failures, or want of memory; the map is handed back
+-- all failures, or an allocation failure; the map is returned
 abbrev pub IsTold : ProfileValue → ProfileValue → MapValue → Contents → refusals.Refusal → Type 0
 IsTold from to m given (refusals.TheVariants.Memory back) = back ≡ given
 IsTold from to m given (refusals.TheVariants.Rules first found back) = IsBroken from to m first found.items × (back ≡ given)
 
--- the least failing rule at its least line, or want of memory; the map is handed back
+-- the least failing rule at its least line, or an allocation failure; the map is returned
 abbrev pub IsRefusal : ProfileValue → ProfileValue → MapValue → Contents → faults.CheckFault → Type 0
 IsRefusal from to m given (faults.TheVariants.Memory back) = back ≡ given
 IsRefusal from to m given (faults.TheVariants.Rule rule line back) =

@@ -32,7 +32,7 @@ field_gaps line at rules f = gap_if line at (Some f.number) (is_asked f.usage f.
 abbrev pub node_gaps : ℕ → Position → Usage → Card → Items → List Gap
 node_gaps holder at usage card items = gap_if holder at None (is_asked usage card && has_no_item items)
 
--- the nodes from number j on, below this position, at a level whose items stand in the group, or the map, at this line
+-- the nodes from number j on, below this position, at a level whose items are in the group, or the map, at this line
 abbrev pub level_gaps : ℕ → Position → ℕ → Forest → Items → List Gap
 level_gaps holder above j nothing items = []
 level_gaps holder above j (segment s rest) items =
@@ -55,7 +55,7 @@ abbrev pub none_if : List Failure → List Gap → List Gap
 none_if [] found = found
 none_if (f ∷ failures) found = []
 
--- none are told where its labels can't be looked up
+-- none where its labels can't be looked up
 abbrev pub gaps : ProfileValue → ProfileValue → MapValue → List Gap
 gaps from to m =
     none_if (naming_failures from to m)

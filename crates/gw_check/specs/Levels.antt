@@ -11,7 +11,7 @@ use Rattle.gw_check.specs.Counts.{items_count}
 use Rattle.gw_resolve.specs.Failures.{Mark, Failure, at_line}
 use Rattle.gw_check.specs.Fields.{often_failures, segment_failures}
 
--- ---- the items of one node; items stand in the order of the nodes
+-- ---- the items of one node; items are in the order of the nodes
 
 abbrev pub is_of : ℕ → Option ℕ → Bool
 is_of j None = false
@@ -49,7 +49,7 @@ has_no_item (flat_item f items rest) = false
 abbrev pub node_failures : Mark → Usage → Card → Interval → Items → List Failure
 node_failures mark usage card count items = often_failures mark count usage card (has_no_item items)
 
--- the nodes from number j on, at a level whose items stand in the group, or the map, at this line
+-- the nodes from number j on, at a level whose items are in the group, or the map, at this line
 abbrev pub level_failures : List Element → ℕ → ℕ → Forest → Items → List Failure
 level_failures scope holder j nothing items = []
 level_failures scope holder j (segment s rest) items =

@@ -15,7 +15,7 @@ failures source target map =
     ++ items_failures source target (the_whole source.nodes ∷ []) target.nodes map.items
     ++ fails 9 (at_line map.line) (some_passed_over (items_read ([] ∷ []) map.items) map.drops [] 0 source.nodes)
 
--- the items stand in order, and no rule fails
+-- the items are in order, and no rule fails
 pub record IsTyped (source target : ProfileValue) (map : Resolved) : Type 0 where
   pub placed : are_placed target.nodes 0 map.items ≡ true
   pub none_fails : failures source target map ≡ []

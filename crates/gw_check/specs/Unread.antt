@@ -28,7 +28,7 @@ abbrev pub none_if : List Failure → List SourceField → List SourceField
 none_if [] fields = fields
 none_if (f ∷ failures) fields = []
 
--- the fields that a map passes over; none are told where its labels can't be looked up
+-- the fields that a map passes over; none where its labels can't be looked up
 abbrev pub unread : ProfileValue → ProfileValue → MapValue → List SourceField
 unread from to m = none_if (naming_failures from to m) (passed_over (items_read ([] ∷ []) (resolved from to m).items) (resolved from to m).drops [] 0 from.nodes)
 

@@ -1,4 +1,4 @@
--- The lines of a content, its delimiters and its segment lines (HL7 v2.5.1 chapter 2, sections 2.5.1 "Messages" and 2.5.4 "Message delimiters").
+-- The lines of a message's bytes, its delimiters and its segment lines (HL7 v2.5.1 chapter 2, sections 2.5.1 "Messages" and 2.5.4 "Message delimiters").
 use Rattle.std.specs.Prelude.{◌≡◌, ℕ, ◌+◌, ◌<◌, ◌≤◌, Bool, not, ◌&&◌, ◌||◌, ◌==◌, nat_le, if◌then◌else◌, List, [], ◌∷◌, length, Option, None, Some, slice_index}
 use Rattle.std.specs.List.{slice_split}
 use Rattle.gw_er7.specs.declared.delimiters.Delimiters.{Delimiters}
@@ -25,7 +25,7 @@ placed at ((b ∷ bs) ∷ ps) = record { at = at; bytes = b ∷ bs } ∷ placed 
 abbrev pub lines_from : ℕ → List ℕ → List Line
 lines_from at bytes = placed at (slice_split is_line_end bytes)
 
--- the parts of a content between line ends that are not empty
+-- the parts of the message bytes between line ends that are not empty
 abbrev pub lines : List ℕ → List Line
 lines content = lines_from 0 content
 

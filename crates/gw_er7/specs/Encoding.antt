@@ -1,4 +1,4 @@
--- The one content that a message is written as (HL7 v2.5.1 chapter 2, 2.6 "Message construction rules"): one CR ends each segment, each value is spelled by its canonical text, and no separator stands where it could be left out.
+-- The one text that a message is written as (HL7 v2.5.1 chapter 2, 2.6 "Message construction rules"): one CR ends each segment, each value is spelled by its canonical text, and no separator stands where it could be left out.
 use Rattle.std.specs.Prelude.{◌≡◌, ℕ, ◌+◌, ◌-◌, ◌<◌, ◌≤◌, ◌==◌, if◌then◌else◌, List, [], ◌∷◌, ◌++◌, drop}
 use Rattle.std.specs.List.{flat_map}
 use Rattle.gw_er7.specs.declared.place.Place.{Place}
@@ -56,7 +56,7 @@ WritesLines (l ∷ ls) (s ∷ ss) = WritesHeader l.bytes s × WritesOthers ls ss
 
 -- ---- the content
 
--- a content over |^~\& that reads as the message, the limit of segments set aside, and meets the rules of writing
+-- bytes over |^~\& that reads as the message, the limit of segments set aside, and meets the rules of writing
 pub record IsWriting (content : List ℕ) (message : List SegmentValue) : Type 0 where
   pub ended : content ≡ flat_map (λ l. l.bytes ++ 13 ∷ []) (lines content)
   pub faultless : (fault : ReadFault) → number fault < 7 → ¬ (Applies content fault)

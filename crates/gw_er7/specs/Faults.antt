@@ -1,4 +1,4 @@
--- Which fault a content has: the first of six kinds, in their order.
+-- Which fault message bytes have: the first of six kinds, in their order.
 use Rattle.std.specs.Prelude.{◌≡◌, ℕ, ◌<◌, false, not, List, [], length, drop, Some, position}
 use Rattle.gw_er7.specs.declared.delimiters.Delimiters.{Delimiters}
 use Rattle.gw_er7.specs.declared.fault.ReadFault.{ReadFault}
@@ -8,7 +8,7 @@ use Rattle.gw_er7.specs.Names.{is_header}
 use Rattle.gw_er7.specs.Numbers.{number}
 use Rattle.gw_er7.specs.Content.{Line, Begins, lines, header_line, is_allowed, is_delimited, delimiters_of, first_bad}
 
--- what a fault says of a content, whatever else is wrong with it
+-- what a fault says of the bytes, whatever else is wrong with them
 abbrev pub Applies : List ℕ → ReadFault → Type 0
 Applies content Memory = ⊥
 Applies content Empty = lines content ≡ []
@@ -27,12 +27,12 @@ pub record Faulty (content : List ℕ) (fault : ReadFault) : Type 0 where
 abbrev pub IsReadable : List ℕ → Type 0
 IsReadable content = (fault : ReadFault) → ¬ (Applies content fault)
 
--- what the tests of a content find: no fault, its first line and the bytes behind it
+-- what the tests of the bytes find: no fault, the first line and the bytes behind it
 pub record IsChecked (content : List ℕ) (d : Delimiters) (header : Line) (behind : List ℕ) : Type 0 where
   pub readable : IsReadable content
   pub begins : Begins 0 content header behind
   pub delimiters : d ≡ delimiters_of header.bytes
 
--- the content passes them, and this was told
+-- the bytes pass them, with this result
 abbrev pub Passes : List ℕ → Checked → Type 0
 Passes content k = IsChecked content k.delimiters (record { at = k.header.at; bytes = k.header.bytes.now }) k.header.behind.now

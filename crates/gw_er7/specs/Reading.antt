@@ -1,4 +1,4 @@
--- How a content reads as a message: fields, repetitions, components and subcomponents are the parts between separators (HL7 v2.5.1 chapter 2, 2.5.4 "Message delimiters").
+-- How bytes read as a message: fields, repetitions, components and subcomponents are the parts between separators (HL7 v2.5.1 chapter 2, 2.5.4 "Message delimiters").
 use Rattle.std.specs.Prelude.{◌≡◌, ℕ, ◌+◌, ◌-◌, ◌==◌, nat_lt, if◌then◌else◌, List, [], ◌∷◌, take, drop, slice_index_or}
 use Rattle.std.specs.List.{slice_split}
 use Rattle.gw_er7.specs.declared.delimiters.Delimiters.{Delimiters}
@@ -41,7 +41,7 @@ ReadsLines d [] ss = ⊥
 ReadsLines d (l ∷ ls) [] = ⊥
 ReadsLines d (l ∷ ls) (s ∷ ss) = ReadsHeader d l.bytes s × ReadsOthers d ls ss
 
--- a content without a fault reads as the segments of its lines
+-- bytes without a fault read as the segments of their lines
 pub record Reads (content : List ℕ) (message : List SegmentValue) : Type 0 where
   pub readable : IsReadable content
   pub segments : ReadsLines (delimiters_of (header_line (lines content))) (lines content) message

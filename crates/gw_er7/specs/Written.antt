@@ -24,7 +24,7 @@ abbrev pub last_number : List Entry → ℕ
 last_number [] = 0
 last_number (e ∷ es) = max (first_number e.0) (last_number es)
 
--- the bytes of the parts from the number m on, of which there are these many
+-- the bytes of `count` parts, from the number m on
 abbrev pub parts_from : (List Entry → List ℕ) → List Entry → ℕ → ℕ → List (List ℕ)
 parts_from inner es m zero = []
 parts_from inner es m (suc count) = inner (those m es) ∷ parts_from inner es (m + 1) count

@@ -1,4 +1,4 @@
-//! What holds of the definitions, for every text, content and message.
+//! What holds of the definitions, for every text and message.
 ghost use Rattle.std.specs.Prelude.{◌≡◌, ◌<◌, ◌≤◌, ◌↔◌, ◌⊎◌, IsTrue, length, map, drop, slice_index, List, ℕ, [], ◌∷◌, true, false, codes};
 ghost use Rattle.gw_er7.specs.declared.fault.ReadFault.{ReadFault};
 ghost use Rattle.gw_er7.specs.Text.{standard, canon, is_canonical, IsCanonical};
@@ -21,7 +21,7 @@ pub fn canonical_is_decided()
     ensures { (text : List ℕ) → IsTrue (is_canonical text) ↔ IsCanonical text }
 {}
 
-/// A content reads as one message, or has one fault, and not both.
+/// Bytes read as one message, or have one fault, and not both.
 #[tactic(auto, using(crate::proofs::Once::reads_once, crate::proofs::Faults::one_fault))]
 pub fn reads_once()
     ensures message { (content : List ℕ) (a b : List SegmentValue) → IsMessage a → IsMessage b → Reads content a → Reads content b → a ≡ b }
@@ -29,7 +29,7 @@ pub fn reads_once()
     ensures apart { (content : List ℕ) (a : List SegmentValue) (b : ReadFault) → Reads content a → ¬ (Faulty content b) }
 {}
 
-/// Each content of bytes reads as a message or has a fault.
+/// All bytes read as a message or have a fault.
 #[tactic(auto, using(crate::proofs::Total::answered))]
 pub fn reads_or_fails()
     ensures { (content : List ℕ) → ((k : ℕ) → slice_index content k < 256) →
@@ -42,13 +42,13 @@ pub fn written_is_read()
     ensures { (message : List SegmentValue) → IsMessage message → length message ≤ 10000 → Reads (written message) message }
 {}
 
-/// Behind the delimiters of its header line, no separator of a written content stands right before one of a higher level or the end of a line.
+/// Behind the delimiters of its header line, no separator of a written message stands right before one of a higher level or the end of a line.
 #[tactic(auto, using(crate::proofs::Writings::no_idle_written))]
 pub fn written_has_no_idle_separator()
     ensures { (message : List SegmentValue) → IsMessage message → HasNoIdle (drop 8 (written message)) }
 {}
 
-/// No other content that meets the rules of writing reads as a message than the one that is written for it.
+/// No other bytes that meet the rules of writing read as a message than those that are written for it.
 pub fn written_is_the_one()
     ensures { (content : List ℕ) → (message : List SegmentValue) → IsMessage message → (IsWriting content message ↔ (content ≡ written message)) }
 {}

@@ -1,4 +1,4 @@
-//! The lines of a content: its parts between CR and LF that aren't empty.
+//! The lines of a message: the parts of its bytes between CR and LF that aren't empty.
 ghost use Rattle.std.specs.Prelude.{◌≡◌, ℕ, ◌+◌, ◌-◌, ◌^◌, ◌≤◌, ◌<◌, [], ◌∷◌, None, Some, length, MatchOption, MatchResult};
 ghost use Rattle.std.specs.List.{slice_split};
 ghost use Rattle.gw_er7.specs.Content.{is_line_end, placed, lines_from, Begins, first_bad};
@@ -75,14 +75,14 @@ pub(crate) fn count_segments(field: u8, at: usize, bytes: &[u8]) -> Result<usize
     Ok(count)
 }
 
-/// The delimiters and the first line of a content without a fault.
+/// The delimiters and the first line of message bytes without a fault.
 #[derive(Clone, Copy)]
 pub(crate) struct Checked<'a> {
     pub(crate) delimiters: Delimiters,
     pub(crate) header: NextLine<'a>,
 }
 
-/// Tests a content for its faults, in their order.
+/// Tests message bytes for their faults, in order.
 pub(crate) fn check(content: &[u8]) -> Result<Checked<'_>, ReadFault>
     ensures { MatchResult result (Passes content.now) (Faulty content.now) }
 {

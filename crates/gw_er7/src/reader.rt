@@ -1,4 +1,4 @@
-//! How a content is read as a message (HL7 v2.5.1 chapter 2, sections 2.5.4 "Message delimiters" and 2.6 "Message construction rules").
+//! How bytes are read as a message (HL7 v2.5.1 chapter 2, sections 2.5.4 "Message delimiters" and 2.6 "Message construction rules").
 ghost use Rattle.std.specs.Prelude.{◌≡◌, ◌+◌, ◌-◌, ◌<◌, ◌≤◌, ◌∷◌, [], ◌^◌, drop, length, IfOk, OnOk, ◌⊎◌, IfErr, None, Err};
 ghost use Rattle.gw_er7.specs.declared.fault.ReadFault.{ReadFault};
 ghost use Rattle.gw_er7.specs.Content.{lines_from, first_bad};
@@ -97,8 +97,8 @@ fn take_segments(
     Ok((starts, taken))
 }
 
-/// The message of a content, whatever its delimiters and line ends.
-/// Each fault but `Memory` is found before anything is made, so a faulty content is never answered with `Memory`.
+/// Reads message bytes, whatever their delimiters and line ends.
+/// Each fault but `Memory` is found before anything is allocated, so faulty bytes never give `Memory`.
 pub fn read(alloc: Global, content: &[u8]) -> Result<Message, ReadFault>
     ensures ok { IfOk result (λ message. Reads content.now message) }
     ensures faulty { (fault : ReadFault) → Faulty content.now fault → result ≡ Err fault }
@@ -109,8 +109,8 @@ pub fn read(alloc: Global, content: &[u8]) -> Result<Message, ReadFault>
     Ok(Message::of(starts, taken.close()))
 }
 
-/// The message of a content that is handed over, as `read` gives it (HL7 v2.5.1 chapter 2, 2.5.4 and 2.6), with the same faults in the same order.
-/// On every error the content comes back as it was, beside the fault. A faulty content is never answered with `Memory`.
+/// Reads owned message bytes as `read` does (HL7 v2.5.1 chapter 2, 2.5.4 and 2.6), with the same faults in the same order.
+/// Every error returns the bytes as they were, beside the fault. Faulty bytes never give `Memory`.
 pub fn read_block(content: Vec<u8>) -> Result<Message, (ReadFault, Vec<u8>)>
     ensures ok { IfOk result (λ message. Reads content.items message) }
     ensures faulty { (fault : ReadFault) → Faulty content.items fault → result ≡ Err (fault, content) }

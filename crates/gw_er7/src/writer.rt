@@ -19,7 +19,7 @@ fn room_for(message: &Message) -> usize
     room
 }
 
-/// The content of a message over the delimiters `|^~\&`: a CR ends each segment, and no separator is written that could be left out. The one error is allocation failure.
+/// The bytes of a message over the delimiters `|^~\&`: a CR ends each segment, and no separator is written that could be left out. The one error is allocation failure.
 pub fn write(alloc: Global, message: &Message) -> Result<Vec<u8>, AllocError>
     ensures value { IfOk result (λ content. content.items ≡ written message.now) }
     ensures again { IfOk result (λ content. length message.now ≤ 10000 → Reads content.items message.now) }

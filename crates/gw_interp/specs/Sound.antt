@@ -1,4 +1,4 @@
--- What a yes of the checker means, and what a map makes of a message.
+-- What acceptance by the checker means, and what a map makes of a message.
 use Rattle.std.specs.Prelude.{◌≡◌, List, []}
 use Rattle.gw_er7.specs.Message.{SegmentValue, IsMessage}
 use Rattle.gw_profile.specs.Shapes.{ProfileValue}

@@ -22,7 +22,7 @@ comp_in mark number = record mark { comp = number }
 abbrev pub sub_in : Mark → ℕ → Mark
 sub_in mark number = record mark { sub = number }
 
--- where a leaf stands in its field
+-- the component and subcomponent of a leaf in its field
 abbrev pub leaf_mark : ℕ → At → Mark
 leaf_mark field a = sub_in (comp_in (field_mark field a.line) a.comp) a.sub
 

@@ -60,7 +60,7 @@ abbrev pub is_too_large : ℕ → ℕ → List ℕ → Bool
 is_too_large most_bytes most_lines text = nat_lt most_bytes (length text) || nat_lt most_lines (length (lines text))
 
 -- What lines spell that stand below others, the first of this number: the fault of the first line that has one, or what the whole makes of them.
--- The whole is told the number of the line after the last.
+-- The whole gets the number of the line after the last.
 abbrev pub spelled_below : {S X E : Type 0} → (ℕ → E) → Step S E → (S → ℕ → Result X E) → S → ℕ → List (List ℕ) → Result X E
 spelled_below broken step whole above number all =
     with_lines broken step above number all >>= λ last. whole last (number + length all)
@@ -86,7 +86,7 @@ Answers gives at (Err e) result = result ≡ Err e
 abbrev pub AnswersLines : {S X E : Type 0} → (ℕ → E) → Step S E → (S → ℕ → Result X E → Type 0) → S → List (List ℕ) → Result X E → Type 0
 AnswersLines broken step gives start all result = Answers gives (1 + length all) (with_lines broken step start 1 all) result
 
--- the same for a text, told whether it is too large
+-- the same for a text, by whether it is too large
 abbrev pub AnswersText : {S X E : Type 0} → E → (S → ℕ → Result X E → Type 0) → Bool → ℕ → Result S E → Result X E → Type 0
 AnswersText too_large gives true at lines result = result ≡ Err too_large
 AnswersText too_large gives false at lines result = Answers gives at lines result

@@ -46,7 +46,7 @@ abbrev pub LawfulRef : Bool → Ref → Type 0
 LawfulRef repeated (Field from place) = LawfulFieldPath from × LawfulPlace place
 LawfulRef repeated (Current place) = (repeated ≡ true) × LawfulPlace place
 
--- Constants are canonical texts that aren't empty; each table that is named stands in the map.
+-- Constants are canonical texts that aren't empty; each table that is named is in the map.
 abbrev pub LawfulLeaf : List (List ℕ) → Bool → Leaf → Type 0
 LawfulLeaf tables repeated (Const value) = is_value value ≡ true
 LawfulLeaf tables repeated (Copy ref) = LawfulRef repeated ref

@@ -89,7 +89,7 @@ table t = record { name = t.0.items; rows = t.1.rows; other = t.1.other }
 abbrev pub dropped : Dropped → DropValue
 dropped d = record { line = d.line; path = path d.path; field = d.field }
 
--- a map, with its items as they are lent
+-- a map, with its borrowed items
 pub record Contents : Type 0 where
   pub name : List ℕ
   pub source : List ℕ

@@ -1,4 +1,4 @@
--- The numbers by which faults are told.
+-- The numbers of the faults.
 use Rattle.std.specs.Prelude.{ℕ}
 use Rattle.gw_mllp.specs.declared.fault.FrameFault.{FrameFault}
 use Rattle.gw_mllp.specs.declared.fault.FrameFault.TheVariants.{Memory, TooLong, Truncated}

@@ -36,7 +36,7 @@ fn behind_start(bytes: &[u8]) -> Option<&[u8]>
     Some(inner)
 }
 
-/// Ends a content with a run up to the CR behind it, and leaves the FS and the CR out.
+/// Ends the content with a run up to the CR behind it, and leaves out the FS and the CR.
 pub(crate) fn end_content(content: &mut Vec<u8>, run: &[u8]) -> Result<(), AllocError>
     requires { EndsAt content.old.items run.now }
     ensures ok { OnOk result (content.new.items ++ 28 ∷ 13 ∷ [] ≡ content.old.items ++ run.now) }

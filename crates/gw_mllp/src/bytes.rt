@@ -1,4 +1,4 @@
-//! The bytes of a frame, and the limit of a content.
+//! The bytes of a frame, and the limit of a block's content.
 ghost use Rattle.std.specs.Prelude.{◌≡◌, ◌<◌, ◌-◌, ◌↔◌, length, slice_index, IsTrue};
 
 /// Begins a block.
@@ -10,7 +10,7 @@ pub(crate) const FS: u8 = 28;
 /// Follows the FS that ends a block.
 pub(crate) const CR: u8 = 13;
 
-/// The most bytes that a content may have.
+/// The most bytes that a block's content may have.
 pub(crate) const LIMIT: usize = 1_048_576;
 
 /// Whether FS is the last byte.

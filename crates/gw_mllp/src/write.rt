@@ -6,7 +6,7 @@ use crate::bytes::{CR, FS, VT};
 use crate::reach::find_end;
 use std::alloc::AllocError;
 
-/// Whether a block may have this content: FS CR stands nowhere in it. It takes no memory.
+/// Whether a block may have this content: it has no FS CR. It takes no memory.
 pub fn is_content(bytes: &[u8]) -> bool
     ensures { IsTrue result ↔ HasNoEnd bytes.now }
 {

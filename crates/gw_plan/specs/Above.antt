@@ -8,7 +8,7 @@ use Rattle.gw_check.specs.Kept.{CheckedValue}
 use Rattle.gw_plan.specs.Shapes.{MapBetween, named}
 use Rattle.gw_plan.specs.Held.{map_between}
 
--- the profiles and the maps in their order, as they are lent
+-- the borrowed profiles and maps, in their order
 pub record AboveHeld : Type 0 where
   pub profiles : List profiles.Contents
   pub maps : List CheckedValue

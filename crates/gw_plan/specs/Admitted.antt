@@ -59,7 +59,7 @@ pub record BreaksSo (plan : PlanHeld) (m : List SegmentValue) (breach : Breach) 
   pub least : IsLeast route.profile m breach
   pub fails : Conforms route.profile m → ⊥
 
--- why a message isn't admitted; it is handed back
+-- why a message isn't admitted; it is returned
 abbrev pub IsRefused : PlanHeld → List SegmentValue → refusals.Refusal → Type 0
 IsRefused plan m (refusals.TheVariants.Memory back) = back ≡ m
 IsRefused plan m (refusals.TheVariants.Route code back) = (routed (plan_value plan) m ≡ Err code) × (back ≡ m)

@@ -10,7 +10,7 @@ use Rattle.gw_check.specs.Kept.{CheckedValue}
 use Rattle.gw_plan.specs.Shapes.{ReceiverValue, MapBetween, Leg, RouteValue, PlanValue}
 use Rattle.gw_plan.specs.Routing.{header_text, is_accepted}
 
--- a route, with its profile and maps as they are lent
+-- a route, with its borrowed profile and maps
 pub record RouteHeld : Type 0 where
   pub code : List ℕ
   pub event : List ℕ

@@ -106,7 +106,7 @@ to_form words = do
   map ← name_at means
   with_all map.1 (Delivers receiver.0 map.0)
 
--- a line of so many words as its form has
+-- a line with as many words as its form has
 abbrev pub fixed_form : Word → List Word → Option Line
 fixed_form keyword words =
     if is_keyword (codes "plan") keyword then plan_form words

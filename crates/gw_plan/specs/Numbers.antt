@@ -1,4 +1,4 @@
--- The numbers and lines by which faults are told, and their order.
+-- The numbers and lines of faults, and their order.
 use Rattle.std.specs.Prelude.{ℕ, ◌==◌, Bool, ◌&&◌, ◌||◌, nat_lt, if◌then◌else◌, Option, Some, None}
 use Rattle.gw_plan.specs.declared.fault.PlanFault.{PlanFault}
 use Rattle.gw_plan.specs.declared.fault.PlanFault.TheVariants.{Memory, Syntax, Profile, Map, Check, Duplicate, UnknownName, WrongMap, TooLarge}

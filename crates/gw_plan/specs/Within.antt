@@ -3,7 +3,7 @@ use Rattle.std.specs.Prelude.{ℕ, ◌<◌, List, length}
 use Rattle.std.specs.List.{AllByRecursion}
 use Rattle.gw_plan.specs.Shapes.{Leg, RouteValue, PlanValue}
 
--- each leg goes to one of so many receivers
+-- each leg goes to one of this many receivers
 abbrev pub LegsWithin : ℕ → List Leg → Type 0
 LegsWithin count legs = AllByRecursion (λ l. l.0 < count) legs
 

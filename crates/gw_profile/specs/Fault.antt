@@ -126,7 +126,7 @@ part_tests at number lawful leaf parent names =
 abbrev pub begins_tests : List Line → ℕ → List (Bool × ProfileFault)
 begins_tests above at = (begun above, Syntax at) ∷ []
 
--- those of the line of a table, told whether one of its values stands there twice
+-- those of the line of a table, by whether one of its values is there twice
 abbrev pub told_table_tests : List Line → ℕ → List ℕ → Bool → List (Bool × ProfileFault)
 told_table_tests above at name repeats = (not (begun above), Syntax at) ∷ (is_among name (tables above) || repeats, Duplicate at) ∷ []
 

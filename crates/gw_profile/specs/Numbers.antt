@@ -1,4 +1,4 @@
--- The numbers by which faults are told.
+-- The numbers of the faults.
 use Rattle.std.specs.Prelude.{ℕ}
 use Rattle.gw_profile.specs.declared.fault.ProfileFault.{ProfileFault}
 use Rattle.gw_profile.specs.declared.fault.ProfileFault.TheVariants.{Memory, Syntax, Usage, Duplicate, UnknownTable, EmptyGroup, Ambiguous, Header, TooDeep, TooLarge}

@@ -144,7 +144,7 @@ said a = above a.lines.items
 abbrev pub Agreed : Above → Type 0
 Agreed a = Agrees a.parents (map table a.tables.entries) a.levels (said a)
 
--- a profile, with its nodes as they are lent
+-- a profile, with its borrowed nodes
 pub record Contents : Type 0 where
   pub name : List ℕ
   pub count : Count

@@ -12,7 +12,7 @@ use Rattle.gw_profile.specs.Fault.{least_field}
 use Rattle.gw_profile.specs.Shapes.{SubValue, CompValue, FieldValue, SegmentValue, GroupValue, TableValue, Forest, nothing, segment, group, ProfileValue}
 use Rattle.gw_profile.specs.Deterministic.{AtMost, NoName, Determined}
 
--- ---- what is said of one element
+-- ---- one element
 
 -- usage and cardinality agree: R is there at least once, RE and O may be left out, X never comes; min is at most max
 abbrev pub Agrees : Usage → Card → Type 0

@@ -20,7 +20,7 @@ after s release = after_giving s (next_of s)
 after s (room n) = record s { room = n }
 after s restart = record nothing_due { room = s.room }
 
--- What follows is said of the calls made so far on a new desk, the last call first; what was due, brought and given out before a restart counts no more
+-- What follows holds of the calls made so far on a new desk, the last call first; what was due, brought and given out before a restart counts no more
 
 -- the desk that they leave
 abbrev pub desk_after : {T : Type 0} → List (Call T) → DeskState T

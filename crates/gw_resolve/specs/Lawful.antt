@@ -1,4 +1,4 @@
--- What every map keeps, told of a map whose labels were looked up.
+-- What every map keeps, of a map whose labels were looked up.
 use Rattle.std.specs.Prelude.{◌≡◌, ℕ, ◌≤◌, Bool, true, false, List, map, IfSome}
 use Rattle.std.specs.List.{AllByRecursion}
 use Rattle.gw_er7.specs.Message.{first_field}

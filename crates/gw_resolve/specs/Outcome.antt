@@ -60,7 +60,7 @@ target_failures nodes j from = spec.target_failures nodes j (raw.with_item from 
 abbrev pub reached : Forest → ℕ → TheirItem → ℕ
 reached nodes j from = spec.node_or j nodes (spec.first_or (spec.labels (raw.with_item from nothing)))
 
--- behind so many failures stand some more, up to the kept ones: where there are any, those behind them are taken back
+-- behind the first failures come more, up to the kept ones: where there are any, those behind them are taken back
 abbrev pub Hides : List Failure → List Failure → ℕ → ℕ → Type 0
 Hides old new before kept =
     (first own later : List Told) → length first ≡ before → length (first ++ own) ≡ kept → failures old ≡ (first ++ own) ++ later → failures new ≡ first ++ or_later own later

@@ -9,7 +9,7 @@ use Rattle.gw_resolve.specs.Resolved.{Reference, Source, of_field, of_current, L
 use Rattle.gw_subjects.specs.Positions.{Position, position, walked, inner, inner_if}
 
 -- An element of a profile: a node, by the numbers of the nodes from the top on, or in it a field, a component, a subcomponent; 0 is said where the whole is meant.
--- Of what is read, so many of the numbers lead to what an item around it walks.
+-- Of what is read, the first `walked` numbers lead to what an item around it walks.
 pub record Spot : Type 0 where
   pub at : Position
   pub walked : ℕ
@@ -110,7 +110,7 @@ abbrev pub none_if : List Failure → List Site → List Site
 none_if [] found = found
 none_if (f ∷ failures) found = []
 
--- none are told where its labels can't be looked up
+-- none where its labels can't be looked up
 abbrev pub sites : ProfileValue → ProfileValue → MapValue → List Site
 sites from to m = none_if (naming_failures from to m) (items_sites ([] ∷ []) [] (resolved from to m).items)
 

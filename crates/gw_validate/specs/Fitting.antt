@@ -1,4 +1,4 @@
--- A message with the tree of a profile that it conforms to, and its occurrences as they are lent.
+-- A message with the tree of a profile that it conforms to, and its borrowed occurrences.
 use Rattle.std.specs.Prelude.{◌≡◌, ℕ, ◌<◌, List, length, Option, Some, None, slice_get}
 use Rattle.std.specs.List.{AllByRecursion}
 use Rattle.gw_er7.specs.Message.{SegmentValue}

@@ -18,7 +18,7 @@ abbrev pub IfFits : Verdict → (TreeValue → Type 0) → Type 0
 IfFits (verdict.Fits t) P = P t
 IfFits (verdict.Breaks b back) P = Unit {0}
 
--- what holds of the breach and the message that is handed back, where the verdict is one
+-- what holds of the breach and the returned message, where the verdict is one
 abbrev pub IfBreaks : Verdict → (Breach → List SegmentValue → Type 0) → Type 0
 IfBreaks (verdict.Fits t) P = Unit {0}
 IfBreaks (verdict.Breaks b back) P = P b back
@@ -29,7 +29,7 @@ pub record HasTree (p : ProfileValue) (m : List SegmentValue) (t : TreeValue) : 
   pub message : t.message ≡ m
   pub tree : IsTreeOf p m t.tree
 
--- the least breach of this message, which is handed back
+-- the least breach of this message, which is returned
 pub record HasBreach (p : ProfileValue) (m : List SegmentValue) (b : Breach) (back : List SegmentValue) : Type 0 where
   pub least : IsLeast p m b
   pub message : back ≡ m

@@ -39,6 +39,6 @@ abbrev pub numbered_or : Option ℕ → Tree → Occurrence
 numbered_or None t = row t
 numbered_or (Some n) t = number n
 
--- what an occurrence that is lent shows
+-- what a borrowed occurrence shows
 abbrev pub occurrence_of : OccValue → Occurrence
 occurrence_of o = numbered_or o.number o.tree

@@ -31,7 +31,7 @@ FirstChild is c = (tables : List TableValue) → c ≡ first_child (all_items ta
 abbrev pub ChildOf : Item → Option ℕ → Type 0
 ChildOf i c = (tables : List TableValue) → c ≡ first_child (with_item tables i no_items)
 
--- the items of node j are the first so many, whatever the map's tables are
+-- the items of node j are the first n, whatever the map's tables are
 pub record Leads (j : ℕ) (is : List Item) (n : ℕ) : Type 0 where
   pub within : n ≤ length is
   pub these : (tables : List TableValue) → all_items tables (take n is) ≡ its j (all_items tables is)

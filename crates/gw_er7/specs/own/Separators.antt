@@ -42,7 +42,7 @@ taken_by t = entries_of (held_in t)
 abbrev pub Keeps : SegmentTexts → SegmentTexts → Type 0
 Keeps old new = take (length (held_in old)) (held_in new) ≡ held_in old
 
--- no separator stands in it
+-- it has no separator
 abbrev pub IsClear : List ℕ → List ℕ → Type 0
 IsClear ts bytes = All (λ b. is_separator ts b ≡ false) bytes
 

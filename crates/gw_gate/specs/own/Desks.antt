@@ -39,7 +39,7 @@ HasRoomFor desks c = (r : ℕ) → delivers c r ≡ true → 0 < (desk_at desks 
 abbrev pub due_to : ConformingSeen → ℕ → ℕ → DeskState TranslatedSeen → DeskState TranslatedSeen
 due_to c n r s = if delivers c r then with_due s n else s
 
--- what is said of desks: something that is due at one of them wasn't given out, or nothing waits at any
+-- of desks: something that is due at one of them wasn't given out, or nothing waits at any
 abbrev pub Waits : (ℕ → DeskState TranslatedSeen) → Bool → Type 0
 Waits desk true = (r : ℕ) × ((desk r).released < length (desk r).due)
 Waits desk false = (r : ℕ) → length (desk r).due ≤ (desk r).released

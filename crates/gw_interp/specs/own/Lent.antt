@@ -1,4 +1,4 @@
--- Occurrences as the program lends them.
+-- Occurrences as the program borrows them.
 use Rattle.std.specs.Prelude.{◌≡◌, ℕ, List, [], ◌∷◌, map, reverse, Option, Some, None}
 use Rattle.std.specs.List.{AllByRecursion}
 use Rattle.gw_er7.specs.Message.{SegmentValue}
@@ -17,7 +17,7 @@ occurrence o = numbered o.number o.tree
 abbrev pub scope : List OccValue → List Occurrence
 scope os = reverse (map occurrence os)
 
--- lent by the tree of this message
+-- borrowed from the tree of this message
 abbrev pub AreOf : List SegmentValue → List OccValue → Type 0
 AreOf m os = AllByRecursion (λ o. o.message ≡ m) os
 

@@ -98,7 +98,7 @@ IsRepFilled w field rep leaves old new = AreMade (ℕ × ℕ) (rep_key field rep
 
 -- ---- rules
 
--- the texts that are meant may stand in the field, and none is a fault
+-- the texts that are meant may be in the field, and none is a fault
 pub record MayMakeBy (w : Walked) (making : Making) (field : ℕ) (old : List SegmentValue) : Type 0 where
   pub lawful : LawfulMaking making
   pub no_faults : NoFaultIn w making

@@ -41,7 +41,7 @@ lent_profile p = shared_profile p.now
 abbrev pub shared_map : Arc CheckedValue Global → MapBetween
 shared_map m = map_between (arc_value m)
 
--- a fault as it was found, which isn't want of memory
+-- a fault as it was found, which isn't an allocation failure
 abbrev pub IsLasting : {E : Type 0} → E → E → E → Type 0
 IsLasting memory fault found = (found ≡ fault) × (fault ≡ memory → ⊥)
 

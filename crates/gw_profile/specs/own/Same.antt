@@ -15,6 +15,6 @@ SameNode one other = (rest : Forest) → node_forest one rest ≡ node_forest ot
 abbrev pub group_of : GroupNode → GroupValue
 group_of g = record { label = g.label.items; usage = g.usage; card = g.card }
 
--- a table as it is lent
+-- a borrowed table
 abbrev pub lent_table : Bor (List ℕ) × Bor (List (Vec ℕ)) → TableValue
 lent_table t = record { name = t.0.now; values = map (λ v. v.items) t.1.now }

@@ -47,7 +47,7 @@ each_within scope line path items = walk_failures scope line path ++ where_so (h
 abbrev pub all_steps : List ℕ → List ℕ
 all_steps steps = steps
 
--- What is counted is what was counted below, so many times as the element comes.
+-- What is counted is what was counted below, times the element's own count.
 abbrev pub IsTimes : Element → Option TheFound → Option TheFound → Type 0
 IsTimes e below result = (f : Option Found) → found_value below ≡ saturated_found f → found_value result ≡ saturated_found (times_element e f)
 

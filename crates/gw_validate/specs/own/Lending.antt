@@ -1,4 +1,4 @@
--- Occurrences as they are lent.
+-- Borrowed occurrences.
 use Rattle.std.specs.Prelude.{ℕ, ◌<◌, List, length, Option, Some, None}
 use Rattle.gw_er7.specs.Message.{SegmentValue}
 use Rattle.gw_profile.specs.Seen.{forest}
