@@ -1,6 +1,6 @@
 use Rattle.gw_maplang.specs.Seen.{map_value}
 use Rattle.gw_check.proofs.Missing.{unread_of}
-use Rattle.gw_check.proofs.overlooked.unread.Goals as goal
+use Rattle.gw_check.proofs.overlooked.unused_fields.Goals as goal
 
 pub returns : goal.returns
 returns c =
