@@ -1,5 +1,6 @@
 -- What an acknowledgment says (HL7 v2.5.1 chapter 2, 2.15.8 "MSA").
-use Rattle.std.specs.Prelude.{◌≡◌, ◌⊎◌, ℕ, Bool, true, false, if◌then◌else◌, List, [], ◌∷◌, codes, bytes_eq, Result, Ok, Err, Option, None, Some}
+use Rattle.std.specs.Prelude.{◌≡◌, ◌⊎◌, ℕ, Bool, true, false, if◌then◌else◌, List, [], ◌∷◌, codes, bytes_eq}
+use Rattle.std.specs.Prelude.{Result, Ok, Err, Option, None, Some}
 use Rattle.gw_er7.specs.Message.{SegmentValue, IsMessage, text_of}
 use Rattle.gw_er7.specs.Reading.{Reads}
 use Rattle.gw_ack.specs.declared.receipt.Ack.{Ack}
@@ -21,7 +22,9 @@ first_named name (s ∷ ss) = if bytes_eq s.name name then Some s else first_nam
 
 -- the code that a text is
 abbrev pub code_in : List ℕ → Option Ack
-code_in text = if bytes_eq text (codes "AA") then Some AA else if bytes_eq text (codes "AE") then Some AE else if bytes_eq text (codes "AR") then Some AR else None
+code_in text =
+    if bytes_eq text (codes "AA") then Some AA else if bytes_eq text (codes "AE") then Some AE
+    else if bytes_eq text (codes "AR") then Some AR else None
 
 -- the code of an MSA, where it answers the message of this control id
 abbrev pub for_control : Option Ack → Bool → Result Ack AckFault
@@ -44,6 +47,6 @@ pub record Acknowledges (content control : List ℕ) (ack : Ack) : Type 0 where
   pub reads : Reads content message
   pub says : acknowledgment message control ≡ Ok ack
 
--- what was read is this, or memory was refused
+-- what was read is this, or an allocation failed
 abbrev pub IsRead : Result Ack AckFault → Result Ack AckFault → Type 0
 IsRead result said = (result ≡ Err Memory) ⊎ (result ≡ said)

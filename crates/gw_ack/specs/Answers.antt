@@ -28,12 +28,12 @@ field number parts = components number 1 parts
 
 -- a field that is a copy of a repetition
 abbrev pub copied : ℕ → List Entry → List Entry
-copied number leaves = map (λ e. (number ∷ 1 ∷ e.0, e.1)) leaves
+copied number es = map (λ e. (number ∷ 1 ∷ e.0, e.1)) es
 
 -- production, where the message doesn't say how it is to be processed
 abbrev pub or_production : List Entry → List Entry
 or_production [] = (1 ∷ 1 ∷ [], codes "P") ∷ []
-or_production (e ∷ leaves) = e ∷ leaves
+or_production (e ∷ es) = e ∷ es
 
 -- fields one after another
 abbrev pub table : List (List Entry) → List Entry
@@ -69,14 +69,15 @@ err location code = table (
 abbrev pub segment : List ℕ → List Entry → SegmentValue
 segment name rows = record { name = name; at = texts.from_entries rows }
 
--- the message that says no more than this acknowledgment code
-abbrev pub acknowledged : List ℕ → HeaderValue → List ℕ → ℕ → List SegmentValue
-acknowledged ack h stamp arrival = segment (codes "MSH") (msh h stamp arrival) ∷ segment (codes "MSA") (msa ack h.control) ∷ []
+-- the text of an acknowledgment code (table 0008)
+abbrev pub ack_text : Ack → List ℕ
+ack_text AA = codes "AA"
+ack_text AE = codes "AE"
+ack_text AR = codes "AR"
 
--- the message that reports a condition, under this acknowledgment code
-abbrev pub reported : List ℕ → HeaderValue → List ℕ → ℕ → List (List ℕ) → ℕ → List SegmentValue
-reported ack h stamp arrival location code =
-    segment (codes "MSH") (msh h stamp arrival) ∷ segment (codes "MSA") (msa ack h.control) ∷ segment (codes "ERR") (err location code) ∷ []
+-- the message that says no more than this acknowledgment code
+abbrev pub acknowledged : Ack → HeaderValue → List ℕ → ℕ → List SegmentValue
+acknowledged ack h stamp arrival = segment (codes "MSH") (msh h stamp arrival) ∷ segment (codes "MSA") (msa (ack_text ack) h.control) ∷ []
 
 -- the acknowledgment code of a reply
 abbrev pub ack_of : Reply → Ack
@@ -84,8 +85,12 @@ ack_of Accept = AA
 ack_of (Refuse breach) = AE
 ack_of (Reject code) = AR
 
+-- the ERR that reports why a message isn't accepted
+abbrev pub reason : Reply → List SegmentValue
+reason Accept = []
+reason (Refuse breach) = segment (codes "ERR") (err (location_of breach) (code_of breach.kind)) ∷ []
+reason (Reject code) = segment (codes "ERR") (err (location_for code) code) ∷ []
+
 -- The message that says a reply: it is accepted, or it breaks its profile, or there is no route for it, or it can't be read or taken.
 abbrev pub said_by : HeaderValue → List ℕ → ℕ → Reply → List SegmentValue
-said_by h stamp arrival Accept = acknowledged (codes "AA") h stamp arrival
-said_by h stamp arrival (Refuse breach) = reported (codes "AE") h stamp arrival (location_of breach) (code_of breach.kind)
-said_by h stamp arrival (Reject code) = reported (codes "AR") h stamp arrival (location_for code) code
+said_by h stamp arrival reply = acknowledged (ack_of reply) h stamp arrival ++ reason reply

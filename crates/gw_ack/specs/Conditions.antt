@@ -25,9 +25,9 @@ named name = if is_name name then name else []
 abbrev pub location_of : Breach → List (List ℕ)
 location_of b = named b.segment ∷ said b.sequence ∷ said b.field ∷ said b.rep ∷ said b.comp ∷ said b.sub ∷ []
 
--- a leaf of the message header
-abbrev pub header_leaf : List ℕ → List ℕ → List (List ℕ)
-header_leaf field comp = codes "MSH" ∷ codes "1" ∷ field ∷ codes "1" ∷ comp ∷ []
+-- a component of the message header
+abbrev pub header_place : List ℕ → List ℕ → List (List ℕ)
+header_place field comp = codes "MSH" ∷ codes "1" ∷ field ∷ codes "1" ∷ comp ∷ []
 
 -- the codes with which a message is rejected: message type, event, processing id, version, and what can't be read
 abbrev pub IsRejection : ℕ → Type 0
@@ -36,5 +36,5 @@ IsRejection code = (code ≡ 200) ⊎ (code ≡ 201) ⊎ (code ≡ 202) ⊎ (cod
 -- where each of them is found: MSH-9.1, MSH-9.2, MSH-11.1, MSH-12.1, and nowhere
 abbrev pub location_for : ℕ → List (List ℕ)
 location_for code =
-    if code == 200 then header_leaf (codes "9") (codes "1") else if code == 201 then header_leaf (codes "9") (codes "2") else if code == 202 then header_leaf (codes "11") (codes "1")
-    else if code == 203 then header_leaf (codes "12") (codes "1") else []
+    if code == 200 then header_place (codes "9") (codes "1") else if code == 201 then header_place (codes "9") (codes "2")
+    else if code == 202 then header_place (codes "11") (codes "1") else if code == 203 then header_place (codes "12") (codes "1") else []

@@ -26,7 +26,7 @@ pub record IsKeyed (count : ℕ) (e : Entry) : Type 0 where
   pub text : IsCanonical e.1
   pub some : e.1 ≢ []
 
--- the leaves of a repetition, by component and subcomponent, each at a place of its own
-pub record AreLeaves (leaves : List Entry) : Type 0 where
-  pub each : AllByRecursion (IsKeyed 2) leaves
-  pub distinct : Distinct leaves
+-- the texts of a repetition, by component and subcomponent, each at a place of its own
+pub record IsRepetition (texts : List Entry) : Type 0 where
+  pub each : AllByRecursion (IsKeyed 2) texts
+  pub distinct : Distinct texts

@@ -1,16 +1,13 @@
 -- Parts of the program, without where they lie in memory.
-use Rattle.std.specs.Prelude.{ℕ, List, [], ◌∷◌, map}
+use Rattle.std.specs.Prelude.{ℕ, List, map}
 use Rattle.std.specs.declared.vec.Vec.{Vec}
 use Rattle.gw_er7.specs.Entries.{Entry}
 use Rattle.gw_er7.specs.Message.{numbers}
-use Rattle.gw_ack.specs.declared.header.Leaf.{Leaf}
+use Rattle.gw_ack.specs.declared.header.HeaderText.{HeaderText}
 use Rattle.gw_ack.specs.declared.rows.Row.{Row}
 
-abbrev pub leaf : Leaf → Entry
-leaf l = (l.comp ∷ l.sub ∷ [], l.text.items)
-
-abbrev pub leaves : List Leaf → List Entry
-leaves = map leaf
+abbrev pub entries : List HeaderText → List Entry
+entries = map (λ t. (numbers t.place, t.text.items))
 
 abbrev pub row : Row → Entry
 row r = (numbers r.place, r.text.now)

@@ -2,7 +2,7 @@
 ghost use Rattle.std.specs.Prelude.{◌≡◌, IfOk, OnOk};
 ghost use Rattle.std.specs.List.{AllByRecursion};
 ghost use Rattle.gw_er7.specs.Text.{IsCanonical};
-ghost use Rattle.gw_ack.specs.Conditions.{condition, header_leaf, named, said, location_of, location_for};
+ghost use Rattle.gw_ack.specs.Conditions.{condition, header_place, named, said, location_of, location_for};
 ghost use Rattle.gw_ack.specs.Seen.{contents};
 
 use gw_er7::is_segment_name;
@@ -60,9 +60,9 @@ pub(crate) fn location_of(alloc: Global, breach: &Breach) -> Result<Vec<Vec<u8>>
     Ok(location)
 }
 
-/// A leaf of the message header, as a location.
-fn header_leaf(alloc: Global, field: &[u8], comp: &[u8]) -> Result<Vec<Vec<u8>>, AllocError>
-    ensures { IfOk result (λ location. contents location.items ≡ header_leaf field.now comp.now) }
+/// A component of the message header, as a location.
+fn header_place(alloc: Global, field: &[u8], comp: &[u8]) -> Result<Vec<Vec<u8>>, AllocError>
+    ensures { IfOk result (λ location. contents location.items ≡ header_place field.now comp.now) }
 {
     let mut location = Vec::new(alloc);
     location.push(Vec::from_slice(alloc, b"MSH")?)?;
@@ -73,15 +73,15 @@ fn header_leaf(alloc: Global, field: &[u8], comp: &[u8]) -> Result<Vec<Vec<u8>>,
     Ok(location)
 }
 
-/// Where the reason of a rejection stands.
+/// Where the reason of a rejection was found.
 pub(crate) fn location_for(alloc: Global, code: u16) -> Result<Vec<Vec<u8>>, AllocError>
     ensures { IfOk result (λ location. contents location.items ≡ location_for code) }
 {
     match code {
-        200 => header_leaf(alloc, b"9", b"1"),
-        201 => header_leaf(alloc, b"9", b"2"),
-        202 => header_leaf(alloc, b"11", b"1"),
-        203 => header_leaf(alloc, b"12", b"1"),
+        200 => header_place(alloc, b"9", b"1"),
+        201 => header_place(alloc, b"9", b"2"),
+        202 => header_place(alloc, b"11", b"1"),
+        203 => header_place(alloc, b"12", b"1"),
         _ => Ok(Vec::new(alloc)),
     }
 }

@@ -1,26 +1,36 @@
 //! Answers, as contents.
-ghost use Rattle.std.specs.Prelude.{◌≡◌, ◌∷◌, [], ℕ, codes, IfOk};
+ghost use Rattle.std.specs.Prelude.{◌≡◌, ◌<◌, ◌++◌, ◌∷◌, [], ℕ, codes, length, IfOk};
 ghost use Rattle.std.specs.Fmt.{decimal};
 ghost use Rattle.std.specs.List.{AllByRecursion};
-ghost use Rattle.gw_er7.specs.Message.{IsMessage};
-ghost use Rattle.gw_er7.specs.Reading.{Reads};
 ghost use Rattle.gw_er7.specs.Text.{IsCanonical};
 ghost use Rattle.gw_er7.specs.Written.{written};
 ghost use Rattle.gw_ack.specs.declared.receipt.Ack.TheVariants as ack;
 ghost use Rattle.gw_ack.specs.declared.reply.Reply.TheVariants.{Accept, Refuse, Reject};
 ghost use Rattle.gw_ack.specs.Acknowledged.{Acknowledges};
-ghost use Rattle.gw_ack.specs.Answers.{ack_of, acknowledged, segment, msh, msa, err, reported, said_by};
+ghost use Rattle.gw_ack.specs.Answers.{ack_of, ack_text, acknowledged, segment, msh, msa, err, reason, said_by};
 ghost use Rattle.gw_ack.specs.Conditions.{IsRejection};
 ghost use Rattle.gw_ack.specs.Seen.{contents, rows};
 
 use crate::condition::{condition, location_for, location_of};
 use crate::header::Header;
+use crate::receipt::Ack;
 use crate::reply::Reply;
 use crate::rows::{Row, add_field, add_segment, add_texts};
 use crate::stamp::Stamp;
 use gw_er7::{Builder, write};
 use gw_validate::Breach;
 use std::alloc::{AllocError, Global};
+
+/// The text of an acknowledgment code.
+fn code_text<'a>(ack: Ack) -> &'a [u8]
+    ensures { result.now ≡ ack_text ack }
+{
+    match ack {
+        Ack::AA => b"AA",
+        Ack::AE => b"AE",
+        Ack::AR => b"AR",
+    }
+}
 
 /// The rows of the answer's MSH, where `number` is its control id.
 fn msh<'a>(
@@ -70,16 +80,15 @@ fn err<'a>(
     Ok(table)
 }
 
-/// An answer of which MSH and MSA stand.
+/// The MSH and the MSA of an answer.
 fn begun(
     alloc: Global,
     header: &Header,
     stamp: &Stamp,
     arrival: u64,
-    code: &[u8],
+    ack: Ack,
 ) -> Result<Builder, AllocError>
-    requires { IsCanonical code.now }
-    ensures { IfOk result (λ builder. builder ≡ acknowledged code.now header.now stamp.now arrival) }
+    ensures { IfOk result (λ builder. builder ≡ acknowledged ack header.now stamp.now arrival) }
 {
     let number = format!(in alloc; "G{arrival}")?;
     let digits = stamp.digits();
@@ -87,36 +96,45 @@ fn begun(
     let mut builder = Builder::new(alloc);
     let msh = msh(alloc, header, digits, number.as_bytes())?;
     add_segment(&mut builder, *b"MSH", &msh)?;
-    let msa = msa(alloc, code, control)?;
+    let msa = msa(alloc, code_text(ack), control)?;
     add_segment(&mut builder, *b"MSA", &msa)?;
     Ok(builder)
 }
 
-/// The content of an answer that reports a condition.
-fn report(
+/// Adds an ERR to an answer.
+fn add_err(
     alloc: Global,
-    header: &Header,
-    stamp: &Stamp,
-    arrival: u64,
-    ack: &[u8],
+    builder: Builder,
     location: &[Vec<u8>],
     code: u16,
-) -> Result<Vec<u8>, AllocError>
-    requires ack { IsCanonical ack.now }
+) -> Result<Builder, AllocError>
+    requires some { 0 < length builder }
     requires location { AllByRecursion IsCanonical (contents location.now) }
-    ensures content { IfOk result (λ content. content.items ≡ written (reported ack.now header.now stamp.now arrival (contents location.now) code)) }
-    ensures message { IfOk result (λ content. IsMessage (reported ack.now header.now stamp.now arrival (contents location.now) code)) }
-    ensures reads { IfOk result (λ content. Reads content.items (reported ack.now header.now stamp.now arrival (contents location.now) code)) }
+    ensures { IfOk result (λ whole. whole ≡ builder ++ segment (codes "ERR") (err (contents location.now) code) ∷ []) }
 {
-    let mut builder = begun(alloc, header, stamp, arrival, ack)?;
+    let mut builder = builder;
     let number = format!(in alloc; "{code}")?;
     let err = err(alloc, location, number.as_bytes(), code)?;
     add_segment(&mut builder, *b"ERR", &err)?;
-    let message = builder.finish();
-    // (its clause says what every message keeps)
-    let _count = message.segment_count();
-    let content = write(alloc, &message)?;
-    Ok(content)
+    Ok(builder)
+}
+
+/// Adds the ERR that reports why a message isn't accepted.
+fn add_reason(alloc: Global, builder: Builder, reply: Reply) -> Result<Builder, AllocError>
+    requires { 0 < length builder }
+    ensures { IfOk result (λ whole. whole ≡ builder ++ reason reply) }
+{
+    match reply {
+        Reply::Accept => Ok(builder),
+        Reply::Refuse(breach) => {
+            let location = location_of(alloc, &breach)?;
+            add_err(alloc, builder, &location, breach.code())
+        }
+        Reply::Reject(code) => {
+            let location = location_for(alloc, code)?;
+            add_err(alloc, builder, &location, code)
+        }
+    }
 }
 
 /// The content of the answer that says this to the message with this header. `arrival` is its number. The one error is an allocation failure.
@@ -130,27 +148,12 @@ pub fn answer(
     ensures content { IfOk result (λ content. content.items ≡ written (said_by header.now stamp arrival reply)) }
     ensures read { IfOk result (λ content. Acknowledges content.items header.now.control (ack_of reply)) }
 {
-    match reply {
-        Reply::Accept => {
-            let builder = begun(alloc, header, &stamp, arrival, b"AA")?;
-            let message = builder.finish();
-            // (its clause says what every message keeps)
-            let _count = message.segment_count();
-            let content = write(alloc, &message)?;
-            Ok(content)
-        }
-        Reply::Refuse(breach) => {
-            let location = location_of(alloc, &breach)?;
-            let code = breach.code();
-            let content = report(alloc, header, &stamp, arrival, b"AE", &location, code)?;
-            Ok(content)
-        }
-        Reply::Reject(code) => {
-            let location = location_for(alloc, code)?;
-            let content = report(alloc, header, &stamp, arrival, b"AR", &location, code)?;
-            Ok(content)
-        }
-    }
+    let begun = begun(alloc, header, &stamp, arrival, reply.ack())?;
+    let message = add_reason(alloc, begun, reply)?.finish();
+    // (its clause says what every message keeps)
+    let _count = message.segment_count();
+    let content = write(alloc, &message)?;
+    Ok(content)
 }
 
 /// The content of the answer AA to a message that is accepted. The one error is an allocation failure.
@@ -180,7 +183,7 @@ pub fn error_ack(
     answer(alloc, header, stamp, arrival, Reply::Refuse(*breach))
 }
 
-/// The content of the answer AR, under one of the codes 200 (message type), 201 (event), 202 (processing id), 203 (version) and 207 (the content can't be read).
+/// The content of the answer AR under one of these codes: 200 (message type), 201 (event), 202 (processing id), 203 (version), 207 (unreadable).
 /// The one error is an allocation failure.
 pub fn reject_ack(
     alloc: Global,

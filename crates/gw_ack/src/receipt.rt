@@ -7,7 +7,7 @@ ghost use Rattle.gw_er7.specs.Reading.{Reads};
 ghost use Rattle.gw_ack.specs.declared.receipt.Ack.{Ack};
 ghost use Rattle.gw_ack.specs.Acknowledged.{Acknowledges, IsRead, acknowledgment, code_in, in_msa, number_of};
 
-use crate::header::first_leaf;
+use crate::header::first_text;
 use gw_er7::{Message, ReadFault, Segment, read, reads_once};
 use std::alloc::Global;
 use thiserror::Error;
@@ -74,10 +74,10 @@ fn code_in(text: &[u8]) -> Option<Ack>
 fn in_msa(msa: &Segment<'_>, control: &[u8]) -> Result<Ack, AckFault>
     ensures { result ≡ in_msa (Some msa.now) control.now }
 {
-    match code_in(first_leaf(msa, 1)) {
+    match code_in(first_text(msa, 1)) {
         None => Err(AckFault::NotAnAck),
         Some(ack) => {
-            if first_leaf(msa, 2) == control {
+            if first_text(msa, 2) == control {
                 Ok(ack)
             } else {
                 Err(AckFault::OtherMessage)
@@ -99,7 +99,10 @@ fn acknowledgment(message: &Message, control: &[u8]) -> Result<Ack, AckFault>
     Err(AckFault::NotAnAck)
 }
 
-/// Reads a content as the acknowledgment of the message of this control id (its MSH-10, first subcomponent). It looks at the first MSA alone: `NotAnAck` where there is none or its code is none of these, `OtherMessage` where it answers another message; `Unreadable` where the content is no message.
+/// Reads a content as the acknowledgment of the message of this control id (its MSH-10, first subcomponent). It looks at the first MSA alone.
+///
+/// The faults are `Unreadable` where the content is no message, `NotAnAck` where there is no MSA or its code is none of the three,
+/// `OtherMessage` where it answers another message, and `Memory`.
 pub fn read_ack(alloc: Global, content: &[u8], control: &[u8]) -> Result<Ack, AckFault>
     ensures read { (message : List SegmentValue) → IsMessage message → Reads content.now message → IsRead result (acknowledgment message control.now) }
     ensures acknowledged { (ack : Ack) → Acknowledges content.now control.now ack → IsRead result (Ok ack) }

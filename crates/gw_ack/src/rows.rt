@@ -1,13 +1,15 @@
 //! The rows of an answer's table, and the segment that they make.
 ghost use Rattle.std.specs.Prelude.{◌≡◌, ◌≤◌, ◌+◌, ◌++◌, ◌∷◌, [], length, map, OnOk};
 ghost use Rattle.std.specs.FinMap as texts;
-ghost use Rattle.gw_er7.specs.Message.{first_field};
+ghost use Rattle.gw_er7.specs.Message.{first_field, numbers};
 ghost use Rattle.gw_er7.specs.Building.{IsBegun};
+ghost use Rattle.gw_er7.specs.Written.{strip, those};
 ghost use Rattle.gw_ack.specs.Answers.{component, components, copied, field};
+ghost use Rattle.gw_ack.specs.Headers.{first_repetition};
 ghost use Rattle.gw_ack.specs.Rows.{AreRows};
-ghost use Rattle.gw_ack.specs.Seen.{contents, leaves, rows};
+ghost use Rattle.gw_ack.specs.Seen.{contents, entries, rows};
 
-use crate::header::Leaf;
+use crate::header::HeaderText;
 use gw_er7::{Builder, Place};
 use std::alloc::AllocError;
 
@@ -68,25 +70,46 @@ pub(crate) fn add_texts<'a>(
     Ok(())
 }
 
-/// Adds a field that is a copy of a repetition.
+/// Adds a text of the header to the copy of a field, where it is of repetition 1 of that field.
+fn add_copied<'a>(
+    table: &mut Vec<Row<'a>>,
+    number: usize,
+    from: usize,
+    found: &'a HeaderText,
+) -> Result<(), AllocError>
+    ensures { OnOk result (rows table.new.items
+        ≡ rows table.old.items ++ copied number (those 1 (strip from (numbers found.now.place) found.now.text.items))) }
+{
+    if found.place.field != from {
+        return Ok(());
+    }
+    if found.place.rep != 1 {
+        return Ok(());
+    }
+    let place = Place {
+        field: number,
+        rep: 1,
+        comp: found.place.comp,
+        sub: found.place.sub,
+    };
+    table.push(Row {
+        place,
+        text: &found.text,
+    })?;
+    Ok(())
+}
+
+/// Adds a field that is a copy of repetition 1 of a field of the header.
 pub(crate) fn add_copy<'a>(
     table: &mut Vec<Row<'a>>,
     number: usize,
-    found: &'a [Leaf],
+    texts: &'a [HeaderText],
+    from: usize,
 ) -> Result<(), AllocError>
-    ensures { OnOk result (rows table.new.items ≡ rows table.old.items ++ copied number (leaves found.now)) }
+    ensures { OnOk result (rows table.new.items ≡ rows table.old.items ++ copied number (first_repetition from (entries texts.now))) }
 {
-    for leaf in found {
-        let place = Place {
-            field: number,
-            rep: 1,
-            comp: leaf.comp,
-            sub: leaf.sub,
-        };
-        table.push(Row {
-            place,
-            text: &leaf.text,
-        })?;
+    for found in texts {
+        add_copied(table, number, from, found)?;
     }
     Ok(())
 }

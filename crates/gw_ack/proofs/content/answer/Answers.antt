@@ -1,35 +1,21 @@
-use Rattle.std.proofs.Common.{[], refl, ◌∙◌, arith}
-use Rattle.gw_ack.proofs.AnswerRows.{code_is_canonical, location_for_is_canonical}
-use Rattle.gw_ack.proofs.Says.{acknowledges}
+use Rattle.std.proofs.Common.{◌≡◌, ◌++◌, ◌∙◌, List, ap, arith}
+use Rattle.gw_er7.specs.Message.{SegmentValue}
+use Rattle.gw_ack.specs.Acknowledged.{acknowledgment}
+use Rattle.gw_ack.specs.Answers.{ack_of, msh, reason, said_by}
+use Rattle.gw_ack.proofs.Says.{few, says}
 use Rattle.gw_ack.proofs.content.answer.Goals as goal
 
-pub begun-requires : goal.begun-requires
-begun-requires c = code_is_canonical.0
-
-pub report-requires-clause-ack : goal.report-requires-clause-ack
-report-requires-clause-ack c = code_is_canonical.1
-
-pub report-requires-in-Reject-clause-ack : goal.report-requires-in-Reject-clause-ack
-report-requires-in-Reject-clause-ack c = code_is_canonical.2
-
-pub report-requires-in-Reject-clause-location : goal.report-requires-in-Reject-clause-location
-report-requires-in-Reject-clause-location c = rw (c.deref-in-Reject.ensures.value, c.in_ok-location-in-Reject.ensures) (location_for_is_canonical c.in-Reject.code)
-
-pub returns-in_ok-content-in-Accept-clause-read : goal.returns-in_ok-content-in-Accept-clause-read
-returns-in_ok-content-in-Accept-clause-read c =
-    let made = c.finish-message.ensures ∙ c.in_ok-builder-in-Accept.ensures in
-    rw c.in-Accept.is
-    (acknowledges c.in_ok-content-in-Accept.content.items c.args.header.now.control _ _ 65 _ [] c.finish-message.result made refl
-    c.segment_count-count.ensures.message (c.in_ok-content-in-Accept.ensures.again (rw made (omega arith))))
-
-pub returns-in_ok-content-in-Refuse-clause-read : goal.returns-in_ok-content-in-Refuse-clause-read
-returns-in_ok-content-in-Refuse-clause-read c =
-    rw c.in-Refuse.is
-    (acknowledges c.in_ok-content-in-Refuse.content.items c.args.header.now.control _ _ 65 _ _ _ refl refl c.in_ok-content-in-Refuse.ensures.message
-    c.in_ok-content-in-Refuse.ensures.reads)
-
-pub returns-in_ok-content-in-Reject-clause-read : goal.returns-in_ok-content-in-Reject-clause-read
-returns-in_ok-content-in-Reject-clause-read c =
-    rw c.in-Reject.is
-    (acknowledges c.in_ok-content-in-Reject.content.items c.args.header.now.control _ _ 65 _ _ _ refl refl c.in_ok-content-in-Reject.ensures.message
-    c.in_ok-content-in-Reject.ensures.reads)
+pub returns-clause-read : goal.returns-clause-read
+returns-clause-read c =
+    let few = few c.args.reply in
+    let header = c.args.header.now in
+    let first = rw c.ack.ensures at c.in_ok-begun.ensures in
+    let made : c.finish-message.result ≡ said_by header c.args.stamp c.args.arrival c.args.reply =
+    c.finish-message.ensures ∙ c.in_ok-add_reason.ensures ∙ ap (λ (ss : List SegmentValue). ss ++ reason c.args.reply) first in
+    record {
+      message = c.finish-message.result;
+      lawful = c.segment_count-count.ensures.message;
+      reads = c.in_ok-content.ensures.again (rw made (omega arith));
+      says = ap (λ (m : List SegmentValue). acknowledgment m header.control) made
+          ∙ says (msh header c.args.stamp c.args.arrival) header.control (reason c.args.reply) (ack_of c.args.reply);
+    }

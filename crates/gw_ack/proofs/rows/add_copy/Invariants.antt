@@ -1,7 +1,9 @@
 use Rattle.std.proofs.Common.{◌≡◌, ◌++◌, take}
 use Rattle.gw_ack.specs.Answers.{copied}
-use Rattle.gw_ack.specs.Seen.{leaves, rows}
+use Rattle.gw_ack.specs.Headers.{first_repetition}
+use Rattle.gw_ack.specs.Seen.{entries, rows}
 use Rattle.gw_ack.proofs.rows.add_copy.Given as goal
 
-abbrev pub invariant-loop-leaf : goal.invariant-loop-leaf
-invariant-loop-leaf l = rows l.table.items ≡ rows l.fn.table.items ++ copied l.number (leaves (take l.leaf-index l.found))
+abbrev pub invariant-loop-found : goal.invariant-loop-found
+invariant-loop-found l =
+    rows l.table.items ≡ rows l.fn.table.items ++ copied l.number (first_repetition l.from (entries (take l.found-index l.texts)))

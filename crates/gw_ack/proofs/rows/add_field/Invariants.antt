@@ -4,4 +4,4 @@ use Rattle.gw_ack.specs.Seen.{rows}
 use Rattle.gw_ack.proofs.rows.add_field.Given as goal
 
 abbrev pub invariant-loop-i : goal.invariant-loop-i
-invariant-loop-i l = rows l.table.items ≡ rows l.fn.table.items ++ field l.number (take l.i (map (λ part. part.now) l.parts))
+invariant-loop-i l = rows l.table.items ≡ rows l.fn.table.items ++ field l.number (map (λ part. part.now) (take l.i l.parts))
