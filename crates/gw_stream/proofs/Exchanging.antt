@@ -1,5 +1,5 @@
 -- Exchanges, seen through what their judge keeps.
-use Rattle.std.proofs.Common.{◌≡◌, ℕ, ◌+◌, List, Option, length, [], ◌∷◌, ◌++◌, Result}
+use Rattle.std.proofs.Common.{ℕ, ◌+◌, List, Option, length, Result}
 use Rattle.gw_mllp.specs.Stream.{Tail}
 use Rattle.gw_stream.specs.declared.counts.Counts.{Counts}
 use Rattle.gw_stream.specs.declared.fault.RunFault.{RunFault}

@@ -6,6 +6,5 @@ pub mod Exchanging
 pub mod Walking
 pub mod Gathering
 pub mod Unique
-pub mod Enclosing
-pub mod Bundling
+pub mod Preparing
 pub mod Serving

@@ -1,13 +1,16 @@
 -- What is sent to writers, in order.
-use Rattle.std.proofs.Common.{◌≡◌, ◌<◌, ◌||◌, ◌↔◌, ℕ, zero, suc, Result, Ok, Err, OnOk, OnErr, IsErrOf, IsTrue, ◌+◌, take, drop, Bool, true, false, List, Option, None, length, [], ◌∷◌, ◌++◌, map, arith, rules, subst, sym, ap, ◌∙◌, refl, append_assoc, append-nil}
+use Rattle.std.proofs.Common.{◌≡◌, ◌<◌, ◌||◌, ◌↔◌, ℕ, zero, suc, Result, Ok, Err, OnErr, IsErrOf, IsTrue, ◌+◌, take, drop, Bool, true, false}
+use Rattle.std.proofs.Common.{List, Option, None, get_or, set, length, [], ◌∷◌, ◌++◌, map, arith, subst, sym, ap, ◌∙◌, refl, append_assoc, append-nil}
 use Rattle.std.proofs.KnownBytes.{Appends-nil, Appends-trans}
-use Rattle.std.proofs.lemmas.List.{length-map, map-append, take_more, take-append-drop}
-use Rattle.std.proofs.Math.Dec.{eqb-suc-suc, eqb-suc-zero, eqb-zero-suc}
+use Rattle.std.proofs.Math.Bool.{or-false}
+use Rattle.std.proofs.lemmas.Bool.{cond_both, eqb-true, eqb-false, false_from_ne_true, or_parts}
+use Rattle.std.proofs.lemmas.List.{get_or-map, get_or-set_other, get_or-set_same, length-map, map-append, map-set, take_more, take-append-drop}
 use Rattle.std.specs.Io.KnownBytes.{Appends}
-use Rattle.std.specs.List.{AllByRecursion, list_any}
+use Rattle.std.specs.List.{list_any}
 use Rattle.std.specs.Prelude.{slice_index_or, slice_set, ◌==◌, if◌then◌else◌}
 use Rattle.gw_stream.specs.declared.fault.RunFault.{RunFault}
-use Rattle.gw_stream.specs.Posts.{Whom, sender, receiver, is_same, Post, bytes_to, Known, held_by, Sends, IsBeginning, none, part, whole, SendsSome, all_held, SendsOut, SendsSomeOut}
+use Rattle.gw_stream.specs.Posts.{Whom, sender, receiver, is_same, Post, bytes_to, Known, held_by, Sends, IsBeginning, none, part, whole, SendsSome}
+use Rattle.gw_stream.specs.Posts.{all_held, SendsOut, SendsSomeOut}
 use Rattle.gw_stream.specs.Sent.{BeginsWith, SendsPart}
 
 -- ---- posts, one after another
@@ -48,30 +51,15 @@ cut whom bytes front is = part (record { whom = whom; bytes = bytes }) [] front 
 
 -- ---- the receivers' writers
 
-pub out_join : (ps qs : List Post) (a b c : List (Option (List ℕ))) → SendsOut ps a b → SendsOut qs b c → SendsOut (ps ++ qs) a c
-out_join ps qs a b c p q to_sender = sends_join ps qs (all_held to_sender a) (all_held to_sender b) (all_held to_sender c) (p to_sender) (q to_sender)
-
-pub some_out_behind : (ps qs : List Post) (a b c : List (Option (List ℕ))) → SendsOut ps a b → SendsSomeOut qs b c → SendsSomeOut (ps ++ qs) a c
-some_out_behind ps qs a b c p q = record { sent = ps ++ q.sent; begins = begins_behind ps q.sent qs q.begins; sends = out_join ps q.sent a b c p q.sends }
-
-pub some_out_more : (ps qs : List Post) (a b : List (Option (List ℕ))) → SendsSomeOut ps a b → SendsSomeOut (ps ++ qs) a b
-some_out_more ps qs a b p = record { sent = p.sent; begins = begins_more p.sent ps qs p.begins; sends = p.sends }
-
-nothing_below : (i : ℕ) → i < 0 → ⊥
-nothing_below i lt = omega arith
-
 -- one writer's bytes grow
-at_set : (olds : List (Option (List ℕ))) (r t : ℕ) (new : Option (List ℕ)) (bytes : List ℕ) → r < length olds → Appends (slice_index_or olds r None) new bytes
+at_set : (olds : List (Option (List ℕ))) (r t : ℕ) (new : Option (List ℕ)) (bytes : List ℕ) → r < length olds
+    → Appends (slice_index_or olds r None) new bytes
     → Appends (slice_index_or olds t None) (slice_index_or (slice_set olds r new) t None) (if t == r then bytes else [])
-at_set [] r t new bytes lt grows = absurd (nothing_below r lt)
-at_set (o ∷ os) zero zero new bytes lt grows = grows
-at_set (o ∷ os) zero (suc t) new bytes lt grows =
-    subst (λ b. Appends (slice_index_or os t None) (slice_index_or os t None) (if b then bytes else [])) (sym (eqb-suc-zero t))
-    (Appends-nil (slice_index_or os t None))
-at_set (o ∷ os) (suc r) zero new bytes lt grows = subst (λ b. Appends o o (if b then bytes else [])) (sym (eqb-zero-suc r)) (Appends-nil o)
-at_set (o ∷ os) (suc r) (suc t) new bytes lt grows =
-    subst (λ b. Appends (slice_index_or os t None) (slice_index_or (slice_set os r new) t None) (if b then bytes else [])) (sym (eqb-suc-suc t r))
-    (at_set os r t new bytes (omega arith) grows)
+at_set olds r t new bytes lt grows =
+    cond_both (t == r) bytes [] (Appends (get_or olds t None) (get_or (set olds r new) t None))
+    (λ is. subst (λ (k : ℕ). Appends (get_or olds k None) (get_or (set olds r new) k None) bytes) (sym (eqb-true t r is))
+    (rw (get_or-set_same olds r new None lt) grows))
+    (λ isnt. rw (get_or-set_other olds r t new None (eqb-false t r isnt)) (Appends-nil (get_or olds t None)))
 
 out_at : (olds : List (Option (List ℕ))) (r : ℕ) (new : Option (List ℕ)) (bytes : List ℕ) → r < length olds → Appends (slice_index_or olds r None) new bytes
     → SendsOut (record { whom = receiver r; bytes = bytes } ∷ []) olds (slice_set olds r new)
@@ -80,32 +68,22 @@ out_at olds r new bytes lt grows to_sender (receiver t) =
     subst (Appends (slice_index_or olds t None) (slice_index_or (slice_set olds r new) t None)) (sym (append-nil (if t == r then bytes else [])))
     (at_set olds r t new bytes lt grows)
 
-map_set : {A B : Type 0} (f : A → B) (xs : List A) (i : ℕ) (x : A) → map f (slice_set xs i x) ≡ slice_set (map f xs) i (f x)
-map_set f [] i x = refl
-map_set f (y ∷ ys) zero x = refl
-map_set f (y ∷ ys) (suc i) x = ap (λ l. f y ∷ l) (map_set f ys i x)
-
-map_index : {A B : Type 0} (f : A → B) (xs : List A) (i : ℕ) (d : A) (e : B) → i < length xs → slice_index_or (map f xs) i e ≡ f (slice_index_or xs i d)
-map_index f [] i d e lt = absurd (nothing_below i lt)
-map_index f (y ∷ ys) zero d e lt = refl
-map_index f (y ∷ ys) (suc i) d e lt = map_index f ys i d e (omega arith)
-
 -- the bytes that the writer of this number holds grew
 pub sends_to : {W : Type 0} (held : W → Option (List ℕ)) (outs : List W) (r : ℕ) (d new : W) (bytes : List ℕ) → r < length outs
     → Appends (held (slice_index_or outs r d)) (held new) bytes
     → SendsOut (record { whom = receiver r; bytes = bytes } ∷ []) (map held outs) (map held (slice_set outs r new))
 sends_to held outs r d new bytes lt grows =
     let within : r < length (map held outs) = subst (λ n. r < n) (sym (length-map outs held)) lt in
-    subst (SendsOut (record { whom = receiver r; bytes = bytes } ∷ []) (map held outs)) (sym (map_set held outs r new))
-    (out_at (map held outs) r (held new) bytes within (subst (λ k. Appends k (held new) bytes) (sym (map_index held outs r d None lt)) grows))
+    subst (SendsOut (record { whom = receiver r; bytes = bytes } ∷ []) (map held outs)) (sym (map-set held outs r new))
+    (out_at (map held outs) r (held new) bytes within (subst (λ k. Appends k (held new) bytes) (sym (get_or-map held outs r d None lt)) grows))
 
 pub sends_some_to : {W : Type 0} (held : W → Option (List ℕ)) (outs : List W) (r : ℕ) (d new : W) (bytes : List ℕ) → r < length outs
     → SendsPart (held (slice_index_or outs r d)) (held new) bytes
     → SendsSomeOut (record { whom = receiver r; bytes = bytes } ∷ []) (map held outs) (map held (slice_set outs r new))
-sends_some_to held outs r d new bytes lt p = record {
+sends_some_to held outs r d new bytes lt p to_sender = record {
   sent = record { whom = receiver r; bytes = p.0 } ∷ [];
   begins = cut (receiver r) bytes p.0 p.2;
-  sends = sends_to held outs r d new p.0 lt p.1;
+  sends = sends_to held outs r d new p.0 lt p.1 to_sender;
 }
 
 -- ---- the posts of a list, up to an item and from it on
@@ -116,62 +94,31 @@ posts_taken f xs i x lt is = ap (map f) (take_more xs i x lt ∙ ap (λ y. take 
 
 pub out_next : {A : Type 0} (f : A → Post) (xs : List A) (i : ℕ) (x : A) (a b c : List (Option (List ℕ))) → i < length xs → x ≡ slice_index_or xs i x
     → SendsOut (map f (take i xs)) a b → SendsOut (f x ∷ []) b c → SendsOut (map f (take (i + 1) xs)) a c
-out_next f xs i x a b c lt is p q = subst (λ l. SendsOut l a c) (sym (posts_taken f xs i x lt is)) (out_join (map f (take i xs)) (f x ∷ []) a b c p q)
+out_next f xs i x a b c lt is p q held =
+    subst (λ l. Sends l (all_held held a) (all_held held c)) (sym (posts_taken f xs i x lt is))
+    (sends_join (map f (take i xs)) (f x ∷ []) (all_held held a) (all_held held b) (all_held held c) (p held) (q held))
 
 pub some_out_next : {A : Type 0} (f : A → Post) (xs : List A) (i : ℕ) (x : A) (a b c : List (Option (List ℕ))) → i < length xs → x ≡ slice_index_or xs i x
     → SendsOut (map f (take i xs)) a b → SendsSomeOut (f x ∷ []) b c → SendsSomeOut (map f xs) a c
-some_out_next f xs i x a b c lt is p q =
-    let front = map f (take (i + 1) xs) in
+some_out_next f xs i x a b c lt is p q held =
     let rest = map f (drop (i + 1) xs) in
-    let all : front ++ rest ≡ map f xs = sym (map-append f (take (i + 1) xs) (drop (i + 1) xs)) ∙ ap (map f) (take-append-drop (i + 1) xs) in
-    let some : SendsSomeOut front a c =
-    subst (λ l. SendsSomeOut l a c) (sym (posts_taken f xs i x lt is)) (some_out_behind (map f (take i xs)) (f x ∷ []) a b c p q) in
-    subst (λ l. SendsSomeOut l a c) all (some_out_more front rest a c some)
-
--- each passes, and so does the one at a place
-pub each_at : {A : Type 0} (P : A → Type 0) (xs : List A) (i : ℕ) (x : A) → i < length xs → x ≡ slice_index_or xs i x → AllByRecursion P xs → P x
-each_at P [] i x lt is all = absurd (nothing_below i lt)
-each_at P (y ∷ ys) zero x lt is all = subst P (sym is) all.0
-each_at P (y ∷ ys) (suc i) x lt is all = each_at P ys i x (omega arith) is all.1
+    let all : (map f (take i xs) ++ f x ∷ []) ++ rest ≡ map f xs =
+    ap (λ l. l ++ rest) (sym (posts_taken f xs i x lt is)) ∙ sym (map-append f (take (i + 1) xs) (drop (i + 1) xs))
+    ∙ ap (map f) (take-append-drop (i + 1) xs) in
+    subst (λ l. SendsSome l (all_held held a) (all_held held c)) all
+    (some_more (map f (take i xs) ++ f x ∷ []) rest (all_held held a) (all_held held c)
+    (some_behind (map f (take i xs)) (f x ∷ []) (all_held held a) (all_held held b) (all_held held c) (p held) (q held)))
 
 -- ---- which writers failed
-
-pub or_first : (a b : Bool) → a || b ≡ false → a ≡ false
-or_first true b e = e
-or_first false b e = refl
-
-pub or_second : (a b : Bool) → a || b ≡ false → b ≡ false
-or_second true b e = search rules
-or_second false b e = e
-
-or_false : (a : Bool) → a || false ≡ a
-or_false true = refl
-or_false false = refl
-
-pub none_at : {W : Type 0} (failed : W → Bool) (outs : List W) (r : ℕ) (d : W) → list_any failed outs ≡ false → r < length outs
-    → failed (slice_index_or outs r d) ≡ false
-none_at failed [] r d works lt = absurd (nothing_below r lt)
-none_at failed (w ∷ ws) zero d works lt = or_first (failed w) (list_any failed ws) works
-none_at failed (w ∷ ws) (suc r) d works lt = none_at failed ws r d (or_second (failed w) (list_any failed ws) works) (omega arith)
 
 -- the one that was written to, alone
 pub any_set : {W : Type 0} (failed : W → Bool) (outs : List W) (r : ℕ) (new : W) → list_any failed outs ≡ false → r < length outs
     → list_any failed (slice_set outs r new) ≡ failed new
-any_set failed [] r new works lt = absurd (nothing_below r lt)
-any_set failed (w ∷ ws) zero new works lt = ap (λ b. failed new || b) (or_second (failed w) (list_any failed ws) works) ∙ or_false (failed new)
+any_set failed [] r new works lt = absurd (omega arith)
+any_set failed (w ∷ ws) zero new works lt = ap (λ b. failed new || b) (or_parts (failed w) _ works).1 ∙ or-false (failed new)
 any_set failed (w ∷ ws) (suc r) new works lt =
-    ap (λ b. b || list_any failed (slice_set ws r new))
-    (or_first (failed w) (list_any failed ws) works) ∙ any_set failed ws r new (or_second (failed w) (list_any failed ws) works) (omega arith)
-
--- ---- what follows from what was answered
-
-pub on_ok : {T E P Q : Type 0} (r : Result T E) → (P → Q) → OnOk r P → OnOk r Q
-on_ok (Ok x) f p = f p
-on_ok (Err e) f p = tt
-
-pub on_err : {T E P Q : Type 0} (r : Result T E) → (P → Q) → OnErr r P → OnErr r Q
-on_err (Ok x) f p = tt
-on_err (Err e) f p = f p
+    ap (λ b. b || list_any failed (slice_set ws r new)) (or_parts (failed w) _ works).0
+    ∙ any_set failed ws r new (or_parts (failed w) _ works).1 (omega arith)
 
 -- ---- the receivers first, and then the sender
 
@@ -194,15 +141,8 @@ sender_in_part ps olds news old new bytes out p =
     some_behind ps (record { whom = sender; bytes = bytes } ∷ []) (all_held old olds) (all_held old news) (all_held new news) (out old)
     (record { sent = record { whom = sender; bytes = p.0 } ∷ []; begins = cut sender bytes p.0 p.2; sends = sends_to_sender news old new p.0 p.1 })
 
-pub sender_not_yet : (ps qs : List Post) (olds news : List (Option (List ℕ))) (held : Option (List ℕ)) → SendsSomeOut ps olds news
-    → SendsSome (ps ++ qs) (all_held held olds) (all_held held news)
-sender_not_yet ps qs olds news held p =
-    some_more ps qs (all_held held olds) (all_held held news) (record { sent = p.sent; begins = p.begins; sends = p.sends held })
-
 pub none_failed : (a b : Bool) → a ≡ false → b ≡ false → IsTrue (a || b) → ⊥
-none_failed true b p q is = search rules
-none_failed false true p q is = search rules
-none_failed false false p q is = search rules
+none_failed a b p q is = cc
 
 -- ---- what was sent in order is, for each, a beginning of what is meant for it
 
@@ -226,5 +166,4 @@ err_gives (Err e) p = p
 
 -- what was done well wasn't done by a device that failed
 pub not_failed : {T : Type 0} (r : Result T RunFault) (x : T) (fault : RunFault) (failed : Bool) → r ≡ Ok x → IsErrOf r fault ↔ IsTrue failed → failed ≡ false
-not_failed r x fault true is exactly = let err : Ok x ≡ Err fault = sym is ∙ exactly.1 refl in search rules
-not_failed r x fault false is exactly = refl
+not_failed r x fault failed is exactly = false_from_ne_true failed (λ t. let z : ⊥ = cc (exactly.1 t) in z)

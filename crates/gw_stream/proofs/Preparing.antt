@@ -29,8 +29,8 @@ use Rattle.gw_stream.specs.declared.delivery.Delivery as program
 use Rattle.gw_stream.specs.declared.under_plan.UnderPlan.{UnderPlan}
 use Rattle.gw_stream.specs.Answers.{Answer, IsSettled, Message}
 use Rattle.gw_stream.specs.Counted.{with_answer, with_one}
-use Rattle.gw_stream.specs.own.Prepared.{ArePrepared, AreWithin, IsPrepared, Prepares, PlanSettles, ServesNot, ServesOne, cut, post, posts}
-use Rattle.gw_stream.specs.Posts.{Known, Post, Sends, SendsSome, Whom, receiver, sender}
+use Rattle.gw_stream.specs.own.Prepared.{ArePrepared, IsPrepared, Prepares, PlanSettles, ServesNot, ServesOne, cut, post, posts}
+use Rattle.gw_stream.specs.Posts.{Known, Sends, SendsSome, Whom, receiver, sender}
 use Rattle.gw_stream.specs.Served as served
 use Rattle.gw_stream.specs.Served.{AreDeliveries, Delivery, IsDelivery, IsServing, Serving, delivered, posts_of, receivers_of}
 

@@ -2,18 +2,16 @@
 use Rattle.std.proofs.Common.{◌≡◌, ℕ, List, Option, None, Some, refl, sym, ap, subst, ◌∙◌}
 use Rattle.gw_ack.specs.declared.reply.Reply.{Reply}
 use Rattle.gw_ack.specs.declared.reply.Reply.TheVariants.{Accept, Refuse, Reject}
-use Rattle.gw_ack.specs.Answers.{ack_of, said_by}
 use Rattle.gw_er7.specs.declared.fault.ReadFault.{ReadFault}
 use Rattle.gw_er7.specs.Faults.{Faulty}
 use Rattle.gw_er7.specs.Message.{SegmentValue, IsMessage}
 use Rattle.gw_er7.specs.Reading.{Reads}
-use Rattle.gw_er7.specs.Written.{written}
 use Rattle.gw_profile.specs.Shapes.{ProfileValue}
 use Rattle.gw_profile.specs.Deterministic.{Name}
 use Rattle.gw_validate.specs.declared.breach.Breach.{Breach}
 use Rattle.gw_validate.specs.Broken.{Breaks, IsLeast}
 use Rattle.gw_validate.specs.Conforming.{Conforms}
-use Rattle.gw_stream.specs.Answers.{Answer, IsAnswer, IsReadAs, IsSaid, Message, Validated, header_for, readable, unreadable}
+use Rattle.gw_stream.specs.Answers.{Answer, IsAnswer, IsReadAs, IsSaid, Message, Validated, readable, unreadable}
 
 -- what the layers below say of a content and a message
 pub record Once (p : ProfileValue) (content : List ℕ) : Type 0 where
@@ -37,18 +35,19 @@ one_reading p content _ _ o (unreadable f x) (readable m lawful reads) = absurd 
 one_reading p content _ _ o (readable m lawful reads) (unreadable g y) = absurd (o.apart m g reads y)
 one_reading p content _ _ o (readable m lawful reads) (readable n also again) = ap Some (o.message m n lawful also reads again)
 
-one_said : (p : ProfileValue) (content : List ℕ) (what : Option Message) (r s : Reply) → Once p content → IsSaid (Validated p) what r → IsSaid (Validated p) what s → r ≡ s
+one_said : (p : ProfileValue) (content : List ℕ) (what : Option Message) (r s : Reply) → Once p content → IsSaid (Validated p) what r
+    → IsSaid (Validated p) what s → r ≡ s
 one_said p content None r s o x y = x ∙ sym y
 one_said p content (Some m) r s o x y = one_reply p content m r s o x y
 
-pub one_answer_of : (p : ProfileValue) (stamp content : List ℕ) (number : ℕ) (a b : Answer) → Once p content → IsAnswer (Validated p) stamp number content a → IsAnswer (Validated p) stamp number content b → a ≡ b
+pub one_answer_of : (p : ProfileValue) (stamp content : List ℕ) (number : ℕ) (a b : Answer) → Once p content
+    → IsAnswer (Validated p) stamp number content a → IsAnswer (Validated p) stamp number content b → a ≡ b
 one_answer_of p stamp content number a b o x y =
     let what : x.what ≡ y.what = one_reading p content x.what y.what o x.is_read y.is_read in
     let said = subst (λ w. IsSaid (Validated p) w x.outcome.reply) what x.settles.said in
     let reply : x.outcome.reply ≡ y.outcome.reply = one_said p content y.what x.outcome.reply y.outcome.reply o said y.settles.said in
-    let code = x.code ∙ ap ack_of reply ∙ sym y.code in
-    let spelled = x.spelled ∙ ap (λ w. written (said_by (header_for w) x.outcome.stamp x.outcome.number x.outcome.reply)) what
-    ∙ ap (λ s. written (said_by (header_for y.what) s x.outcome.number x.outcome.reply)) (x.settles.stamp_is ∙ sym y.settles.stamp_is)
-    ∙ ap (λ n. written (said_by (header_for y.what) y.outcome.stamp n x.outcome.reply)) (x.settles.number_is ∙ sym y.settles.number_is)
-    ∙ ap (λ r. written (said_by (header_for y.what) y.outcome.stamp y.outcome.number r)) reply ∙ sym y.spelled in
-    ap (λ k. record { code = k; content = a.content }) code ∙ ap (λ k. record { code = b.code; content = k }) spelled
+    let stamp = x.settles.stamp_is ∙ sym y.settles.stamp_is in
+    let same_number = x.settles.number_is ∙ sym y.settles.number_is in
+    let code : a.code ≡ b.code = cc in
+    let content : a.content ≡ b.content = cc in
+    ap (λ k. record { code = k; content = a.content }) code ∙ ap (λ k. record { code = b.code; content = k }) content

@@ -1,14 +1,17 @@
 -- A run over a stream, block by block.
-use Rattle.std.proofs.Common.{◌≡◌, ◌<◌, ◌≤◌, ◌+◌, ℕ, List, Option, length, [], ◌∷◌, ◌++◌, arith, rules, subst, sym, ap, ◌∙◌, refl, append_assoc, append-nil, IfSome, Some, None, length-append, map}
-use Rattle.std.proofs.lemmas.Grind.{common_steps}
+use Rattle.std.proofs.Common.{◌≡◌, ◌<◌, ◌≤◌, ◌+◌, ℕ, List, Option, Err, length, [], ◌∷◌, ◌++◌, arith, rules, subst, sym, ap, ◌∙◌, refl, IfSome, Some, None}
+use Rattle.std.proofs.Common.{append_assoc, append-nil, length-append}
+use Rattle.std.proofs.lemmas.List.{length-map}
 use Rattle.std.proofs.KnownBytes.{Consumes-trans, Consumes-whole}
 use Rattle.std.specs.Io.KnownBytes.{Consumes, IsAtEnd}
 use Rattle.std.specs.List.{flat_map}
 use Rattle.gw_mllp.specs.Stream.{Blocks, Has, IsFed, Overlong, Between, Within, Tail, LongAfter, Part, spelled, content_of}
+use Rattle.gw_stream.specs.declared.counts.Counts.{Counts}
 use Rattle.gw_stream.specs.declared.fault.RunFault.{RunFault}
-use Rattle.gw_stream.specs.declared.fault.RunFault.TheVariants.{Frame, Turns, Write}
+use Rattle.gw_stream.specs.declared.fault.RunFault.TheVariants.{Frame, Memory, Read, Turns, Write}
 use Rattle.gw_stream.specs.Reading.{ReadTimes, ReadsTooOften}
-use Rattle.gw_stream.specs.Streams.{HasFirst}
+use Rattle.gw_stream.specs.Streams.{Ends, HasFirst}
+use Rattle.gw_stream.specs.Streams as streams
 use Rattle.gw_stream.specs.Walked.{Place, Walks, Goes, EndsAt, Stops, WithinReads, memory, read, too_long, truncated, turns}
 
 -- ---- a stream has no more blocks than bytes
@@ -21,13 +24,10 @@ parts_few (p ∷ parts) =
     let ih = parts_few parts in
     omega arith
 
-map_length : (parts : List Part) → length (map content_of parts) ≡ length parts
-map_length parts = grind (arith, common_steps)
-
 blocks_few : (stream : List ℕ) (blocks : List (List ℕ)) (left : Option (List ℕ)) → Blocks stream blocks left → length blocks ≤ length stream
 blocks_few stream blocks left p =
     let e : length stream ≡ length (flat_map spelled p.parts) + length p.rest = ap length p.whole ∙ length-append (flat_map spelled p.parts) p.rest in
-    let f : length blocks ≡ length p.parts = ap length p.contents ∙ map_length p.parts in
+    let f : length blocks ≡ length p.parts = ap length p.contents ∙ length-map p.parts content_of in
     let g = parts_few p.parts in
     omega arith
 
@@ -80,13 +80,6 @@ goes_nowhere here left reads given w = subst (Walks left reads here) (sym (appen
 
 -- ---- ends
 
-pub ends_from : (here there : Place) (tail : Tail) → Goes here there [] → EndsAt there tail → EndsAt here tail
-ends_from here there tail goes ends left reads given w = ends left reads given (subst (Walks left reads there) (append-nil given) (goes left reads given w))
-
-pub goes_on : (here mid there : Place) → Goes here mid [] → Goes mid there [] → Goes here there []
-goes_on here mid there first then left reads given w =
-    subst (λ l. Walks left reads there l) (append-nil (given ++ [])) (then left reads (given ++ []) (first left reads given w))
-
 -- nothing waits
 all_given : (here : Place) (left : Option (List ℕ)) (reads : ℕ) (given : List (List ℕ)) (w : Walks left reads here given) → here.blocks.decoder.waiting ≡ []
     → Has w.taken given here.blocks.decoder.tail
@@ -101,26 +94,25 @@ ends_at here after tail none is eats end left reads given w =
     Consumes-whole left after w.taken (λ stream. Has stream given tail)
     (subst (Consumes left after) (append-nil w.taken) (Consumes-trans left here.left after w.taken [] w.takes eats)) end has
 
-long_more : (stream more : List ℕ) (blocks : List (List ℕ)) → LongAfter stream blocks → LongAfter (stream ++ more) blocks
-long_more stream more blocks p = record {
-  front = p.front;
-  more = p.more ++ more;
-  whole = ap (λ l. l ++ more) p.whole ∙ append_assoc p.front p.more more;
-  left = p.left;
-  cut = p.cut;
-  long = p.long;
-}
-
-long_whole : (left rest : Option (List ℕ)) (taken : List ℕ) (given : List (List ℕ)) → Consumes left rest taken → LongAfter taken given
-    → IfSome left (λ stream. LongAfter stream given)
-long_whole None rest taken given takes long = tt
-long_whole (Some stream) None taken given takes long = absurd takes
-long_whole (Some stream) (Some more) taken given takes long = subst (λ l. LongAfter l given) (sym takes) (long_more taken more given long)
+-- what holds of what was taken, and of whatever comes behind it, holds of the stream
+consumed : (P : List ℕ → Type 0) (left rest : Option (List ℕ)) (taken : List ℕ) → Consumes left rest taken → ((more : List ℕ) → P (taken ++ more))
+    → IfSome left P
+consumed P None rest taken takes each = tt
+consumed P (Some stream) None taken takes each = absurd takes
+consumed P (Some stream) (Some more) taken takes each = subst P (sym takes) (each more)
 
 -- the stream is Long
 pub ends_long : (here : Place) → here.blocks.decoder.waiting ≡ [] → here.blocks.decoder.tail ≡ Overlong → EndsAt here Overlong
 ends_long here none over left reads given w =
-    long_whole left here.left w.taken given w.takes (subst (λ t. Has w.taken given t) over (all_given here left reads given w none))
+    let long : LongAfter w.taken given = subst (λ t. Has w.taken given t) over (all_given here left reads given w none) in
+    consumed (λ stream. LongAfter stream given) left here.left w.taken w.takes (λ more. record {
+      front = long.front;
+      more = long.more ++ more;
+      whole = ap (λ l. l ++ more) long.whole ∙ append_assoc long.front long.more more;
+      left = long.left;
+      cut = long.cut;
+      long = long.long;
+    })
 
 -- ---- a run that stops in between
 
@@ -139,10 +131,8 @@ first_of stream more blocks others Overlong p = record {
 pub first_whole : (left rest : Option (List ℕ)) (taken : List ℕ) (blocks others : List (List ℕ)) (tail : Tail) → Consumes left rest taken
     → Has taken (blocks ++ others) tail
     → IfSome left (λ stream. HasFirst stream blocks)
-first_whole None rest taken blocks others tail takes has = tt
-first_whole (Some stream) None taken blocks others tail takes has = absurd takes
-first_whole (Some stream) (Some more) taken blocks others tail takes has =
-    subst (λ l. HasFirst l blocks) (sym takes) (first_of taken more blocks others tail has)
+first_whole left rest taken blocks others tail takes has =
+    consumed (λ stream. HasFirst stream blocks) left rest taken takes (λ more. first_of taken more blocks others tail has)
 
 -- what was given first are the first blocks of the stream
 pub walk_first : (left : Option (List ℕ)) (reads : ℕ) (here : Place) (given done others : List (List ℕ)) → Walks left reads here given
@@ -154,12 +144,10 @@ walk_first left reads here given done others w is =
 
 pub long_enough : (left rest : Option (List ℕ)) (taken : List ℕ) (most : ℕ) → Consumes left rest taken → most ≤ length taken
     → IfSome left (λ stream. most ≤ length stream)
-long_enough None rest taken most takes many = tt
-long_enough (Some stream) None taken most takes many = absurd takes
-long_enough (Some stream) (Some more) taken most takes many =
-    let e : length stream ≡ length taken + length more = ap length takes ∙ length-append taken more in omega arith
+long_enough left rest taken most takes many =
+    consumed (λ stream. most ≤ length stream) left rest taken takes (λ more. omega (arith, length-append taken more))
 
--- after so many reads the stream has as many bytes
+-- after 1,000,000 reads the stream has as many bytes
 pub walk_turns : (left : Option (List ℕ)) (reads : ℕ) (here : Place) (given : List (List ℕ)) → Walks left reads here given → 1000000 ≤ here.blocks.turns
     → IfSome left (λ stream. 1000000 ≤ length stream)
 walk_turns left reads here given w all = let many = w.many in long_enough left here.left w.taken 1000000 w.takes (omega arith)
@@ -183,28 +171,23 @@ pub within_once : (here : Place) (after : ℕ) → here.blocks.turns < 1000000 �
 within_once here after early one left reads given w small =
     let there : here.reads ≡ reads + here.blocks.turns = w.counted (omega arith) in let more = one (omega arith) in omega arith
 
-pub within_from : (here there : Place) (after : ℕ) → Goes here there [] → WithinReads there after → WithinReads here after
-within_from here there after goes within left reads given w =
-    within left reads given (subst (Walks left reads there) (append-nil given) (goes left reads given w))
-
 -- ---- faults
 
-pub stops_from : (here there end : Place) (fault : RunFault) → Goes here there [] → Stops there end fault → Stops here end fault
-stops_from here there end _ goes memory = memory
-stops_from here there end _ goes read = read
-stops_from here there end _ goes (too_long ends) = too_long (ends_from here there Overlong goes ends)
-stops_from here there end _ goes (truncated t ends) = truncated t (ends_from here there (Within t) goes ends)
-stops_from here there end _ goes (turns more all) = turns (goes_on here there end goes more) all
+-- how a run ends that stops so, by what is known of it at each end
+pub stop_ends : (All : Tail → Counts → Type 0) (Part : RunFault → Type 0) (here there : Place) (c : Counts) (fault : RunFault)
+    → ((tail : Tail) → EndsAt here tail → All tail c) → Part Memory → Part Read → Part Turns → Stops here there fault → Ends All Part (Err fault)
+stop_ends All Part here there c _ all on_memory on_read on_turns memory = streams.memory on_memory
+stop_ends All Part here there c _ all on_memory on_read on_turns read = streams.read on_read
+stop_ends All Part here there c _ all on_memory on_read on_turns (too_long ends) = streams.too_long c (all Overlong ends)
+stop_ends All Part here there c _ all on_memory on_read on_turns (truncated t ends) = streams.truncated t c (all (Within t) ends)
+stop_ends All Part here there c _ all on_memory on_read on_turns (turns goes more) = streams.turns on_turns
 
 pub stops_turns : (left : Option (List ℕ)) (reads : ℕ) (here there : Place) (given : List (List ℕ)) (fault : RunFault) → Walks left reads here given
     → Stops here there fault → fault ≡ Turns → ReadsTooOften left reads there.reads
-stops_turns left reads here there given _ w memory is = search rules
-stops_turns left reads here there given _ w read is = search rules
-stops_turns left reads here there given _ w (too_long ends) is = search rules
-stops_turns left reads here there given _ w (truncated t ends) is = search rules
 stops_turns left reads here there given _ w (turns goes all) is =
     let walks = goes left reads given w in
     record { counted = walk_counted left reads there (given ++ []) walks all; many = walk_turns left reads there (given ++ []) walks all }
+stops_turns left reads here there given _ w stops is = search rules
 
 pub stops_within : (here there : Place) (t : List ℕ) (fault : RunFault) → fault ≡ Frame 3 → EndsAt here (Within t) → Stops here there fault
 stops_within here there t fault is ends = subst (Stops here there) (sym is) (truncated t ends)
@@ -212,7 +195,4 @@ stops_within here there t fault is ends = subst (Stops here there) (sym is) (tru
 -- a fault of reading isn't one of writing
 pub stops_not_write : (here there : Place) (fault : RunFault) → Stops here there fault → fault ≡ Write → ⊥
 stops_not_write here there _ memory is = search rules
-stops_not_write here there _ read is = search rules
-stops_not_write here there _ (too_long ends) is = search rules
-stops_not_write here there _ (truncated t ends) is = search rules
-stops_not_write here there _ (turns goes all) is = search rules
+stops_not_write here there _ stops is = search rules

@@ -67,7 +67,5 @@ all_held to_sender to_receivers = record { to_sender = to_sender; to_receivers =
 abbrev pub SendsOut : List Post → List (Option (List ℕ)) → List (Option (List ℕ)) → Type 0
 SendsOut posts old new = (to_sender : Option (List ℕ)) → Sends posts (all_held to_sender old) (all_held to_sender new)
 
-pub record SendsSomeOut (posts : List Post) (old new : List (Option (List ℕ))) : Type 0 where
-  pub sent : List Post
-  pub begins : IsBeginning sent posts
-  pub sends : SendsOut sent old new
+abbrev pub SendsSomeOut : List Post → List (Option (List ℕ)) → List (Option (List ℕ)) → Type 0
+SendsSomeOut posts old new = (to_sender : Option (List ℕ)) → SendsSome posts (all_held to_sender old) (all_held to_sender new)

@@ -1,3 +1,3 @@
 -- The program's own words: no public contract rests on them.
-pub mod Bundled
+pub mod Prepared
 pub mod Gathered

@@ -1,5 +1,5 @@
 //! The blocks of a stream, read one by one.
-ghost use Rattle.std.specs.Prelude.{◌≡◌, ◌≢◌, ◌↔◌, ◌≤◌, ◌<◌, ◌+◌, ◌∷◌, ◌++◌, [], ℕ, List, Option, OnOk, OnErr, IfOk, IfErr, IfSome, IfNone, IsTrue, IsErrOf, false, true, Ok};
+ghost use Rattle.std.specs.Prelude.{◌≡◌, ◌≢◌, ◌↔◌, ◌<◌, ◌+◌, ◌∷◌, [], ℕ, List, Option, OnOk, OnErr, IfErr, IfSome, IfNone, IsTrue, IsErrOf, false, true, Ok};
 ghost use Rattle.gw_mllp.specs.Stream.{Between, IsFed, Within, Overlong};
 ghost use Rattle.gw_stream.specs.Walked.{EndsAt, Goes, Stops, Walks, WithinReads, at, place};
 
@@ -9,16 +9,16 @@ use gw_mllp::{Decoder, FrameFault};
 use std::alloc::{AllocError, Global};
 
 /// The most reads of a run.
-const READS: usize = 1_000_000;
+const MAX_READS: usize = 1_000_000;
 
 /// The most bytes of a read.
-const PIECE: usize = 65_536;
+const READ_SIZE: usize = 65_536;
 
 /// Reads a stream, and gives its blocks one by one.
 #[derive(Drop)]
 pub(crate) struct BlockReader {
     decoder: Decoder,
-    buffer: [u8; PIECE],
+    buffer: [u8; READ_SIZE],
     turns: usize,
 }
 
@@ -53,7 +53,7 @@ impl BlockReader {
     {
         BlockReader {
             decoder: Decoder::new(alloc),
-            buffer: [0u8; PIECE],
+            buffer: [0u8; READ_SIZE],
             turns: 0,
         }
     }
@@ -84,7 +84,7 @@ impl BlockReader {
         if self.decoder.at_end() == Err(FrameFault::TooLong) {
             return Err(RunFault::Frame(2));
         }
-        if self.turns >= READS {
+        if self.turns >= MAX_READS {
             return Err(RunFault::Turns);
         }
         let Ok(count) = reader.read(&mut self.buffer) else {
@@ -101,27 +101,5 @@ impl BlockReader {
         };
         self.turns += 1;
         Ok(true)
-    }
-
-    /// The next block of the stream, or that it has no more. The faults are those of `fill`.
-    pub(crate) fn next<R: Source>(&mut self, reader: &mut R) -> Result<Option<Vec<u8>>, RunFault>
-        requires works { R.has_failed reader.old ≡ false }
-        ensures goes { IfOk result (λ r. IfSome r (λ content.
-            Goes (place R.remaining R.reads reader.old self.old) (place R.remaining R.reads reader.new self.new) (content.items ∷ []))) }
-        ensures end { IfOk result (λ r. IfNone r (EndsAt (place R.remaining R.reads reader.old self.old) Between)) }
-        ensures stops { IfErr result (Stops (place R.remaining R.reads reader.old self.old) (place R.remaining R.reads reader.new self.new)) }
-        ensures most { WithinReads (place R.remaining R.reads reader.old self.old) (R.reads reader.new) }
-        ensures read { IsErrOf result RunFault.Read ↔ IsTrue (R.has_failed reader.new) }
-    {
-        'pieces: loop {
-            if let Some(content) = self.ready() {
-                return Ok(Some(content));
-            }
-            match self.fill(reader) {
-                Ok(true) => continue,
-                Ok(false) => return Ok(None),
-                Err(fault) => return Err(fault),
-            }
-        }
     }
 }

@@ -20,7 +20,11 @@ pub(crate) struct Delivery {
 }
 
 /// The delivery of an admitted message to one receiver of its route.
-fn prepare_delivery(alloc: Global, conforming: &Arc<Conforming>, receiver: usize) -> Result<Delivery, AllocError>
+fn prepare_delivery(
+    alloc: Global,
+    conforming: &Arc<Conforming>,
+    receiver: usize,
+) -> Result<Delivery, AllocError>
     requires { IsOf (arc_value conforming.now) receiver }
     ensures { (route : RouteValue) → routed (plan_value (arc_value conforming.now).plan) (arc_value conforming.now).tree.message ≡ Ok route
         → IfOk result (IsPrepared (arc_value conforming.now).tree.message route receiver) }

@@ -1,18 +1,19 @@
 //! Runs over bytes: streams of framed messages, answered through any reader and writer that can fail.
 //!
-//! [`answer_blocks`] answers each block of a stream as a [`Judge`] settles it, [`answer_stream`] by one profile (MLLP Release 1; HL7 v2.5.1 chapter 2, 2.9.2: original mode).
+//! [`answer_blocks`] answers each block of a stream as a [`Judge`] settles it, [`answer_stream`] by one profile
+//! (MLLP Release 1; HL7 v2.5.1 chapter 2, 2.9.2: original mode).
 //! [`serve_once`] answers each block of a stream under a plan, and sends its receivers what the plan makes of it.
 #![tactic(auto)]
 
 mod block_reader;
 mod by_profile;
 mod counts;
+mod delivery;
 mod exchange;
 mod fault;
 mod frame;
 mod judge;
 pub mod laws;
-mod parcel;
 mod reads;
 mod run;
 mod send;

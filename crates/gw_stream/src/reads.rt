@@ -1,5 +1,5 @@
 //! A reader of std as a source.
-use crate::source::{Failed, Source, TRIES};
+use crate::source::{Failed, MAX_TRIES, Source};
 use std::io::{ErrorKind, Read};
 
 /// A reader of std as a source. A read that a signal interrupts is made again.
@@ -40,7 +40,7 @@ impl<R: Read> Source for Reads<R> {
 
     fn read(&mut self, buf: &mut [u8]) -> Result<usize, Failed> {
         self.reads = self.reads.saturating_add(1);
-        'tries: for _try in 0..TRIES {
+        'tries: for _try in 0..MAX_TRIES {
             match self.reader.read(buf) {
                 Ok(count) => {
                     self.failed = false;

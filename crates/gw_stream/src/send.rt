@@ -2,11 +2,11 @@
 ghost use Rattle.std.specs.Prelude.{◌≡◌, ◌↔◌, ◌<◌, ◌∷◌, [], IsTrue, IsErr, OnOk, OnErr, false, length, map};
 ghost use Rattle.std.specs.List.{list_any};
 ghost use Rattle.std.specs.Io.KnownBytes.{Appends};
-ghost use Rattle.gw_stream.specs.own.Bundled.{AreWithin, post, posts};
+ghost use Rattle.gw_stream.specs.own.Prepared.{AreWithin, post, posts};
 ghost use Rattle.gw_stream.specs.Posts.{Sends, SendsOut, SendsSome, SendsSomeOut, known, receiver, some_failed};
 ghost use Rattle.gw_stream.specs.Sent.{SendsPart};
 
-use crate::parcel::Parcel;
+use crate::delivery::Delivery;
 use crate::sink::Sink;
 use crate::source::Failed;
 
@@ -43,37 +43,37 @@ fn send_to<W: Sink>(outs: &mut Vec<W>, number: usize, bytes: &[u8]) -> Result<()
 }
 
 /// Writes the receivers' blocks in order.
-fn send_parcels<W: Sink>(outs: &mut Vec<W>, parcels: &[Parcel]) -> Result<(), Failed>
-    requires within { AreWithin (length outs.old.items) parcels.now }
+fn send_deliveries<W: Sink>(outs: &mut Vec<W>, deliveries: &[Delivery]) -> Result<(), Failed>
+    requires within { AreWithin (length outs.old.items) deliveries.now }
     requires works { list_any W.has_failed outs.old.items ≡ false }
     ensures count { length outs.new.items ≡ length outs.old.items }
-    ensures ok { OnOk result (SendsOut (map post parcels.now) (map W.contents outs.old.items) (map W.contents outs.new.items)) }
-    ensures part { OnErr result (SendsSomeOut (map post parcels.now) (map W.contents outs.old.items) (map W.contents outs.new.items)) }
+    ensures ok { OnOk result (SendsOut (map post deliveries.now) (map W.contents outs.old.items) (map W.contents outs.new.items)) }
+    ensures part { OnErr result (SendsSomeOut (map post deliveries.now) (map W.contents outs.old.items) (map W.contents outs.new.items)) }
     ensures failed { IsTrue (list_any W.has_failed outs.new.items) ↔ IsErr result }
 {
-    'parcels: for parcel in parcels {
-        send_to(outs, parcel.receiver, &parcel.block)?;
+    'deliveries: for delivery in deliveries {
+        send_to(outs, delivery.receiver, &delivery.block)?;
     }
     Ok(())
 }
 
 /// Writes the receivers' blocks in order, and then the answer's. Each goes out in one write where its writer takes it.
-pub(crate) fn send_bundle<A: Sink, W: Sink>(
+pub(crate) fn send_outcome<A: Sink, W: Sink>(
     answers: &mut A,
     outs: &mut Vec<W>,
-    parcels: &[Parcel],
+    deliveries: &[Delivery],
     block: &[u8],
 ) -> Result<(), Failed>
     requires answers { A.has_failed answers.old ≡ false }
     requires outs { list_any W.has_failed outs.old.items ≡ false }
-    requires within { AreWithin (length outs.old.items) parcels.now }
+    requires within { AreWithin (length outs.old.items) deliveries.now }
     ensures count { length outs.new.items ≡ length outs.old.items }
-    ensures ok { OnOk result (Sends (posts parcels.now block.now)
+    ensures ok { OnOk result (Sends (posts deliveries.now block.now)
         (known A.contents W.contents answers.old outs.old.items) (known A.contents W.contents answers.new outs.new.items)) }
-    ensures part { OnErr result (SendsSome (posts parcels.now block.now)
+    ensures part { OnErr result (SendsSome (posts deliveries.now block.now)
         (known A.contents W.contents answers.old outs.old.items) (known A.contents W.contents answers.new outs.new.items)) }
     ensures failed { IsTrue (some_failed A.has_failed W.has_failed answers.new outs.new.items) ↔ IsErr result }
 {
-    send_parcels(outs, parcels)?;
+    send_deliveries(outs, deliveries)?;
     send_all(answers, block)
 }

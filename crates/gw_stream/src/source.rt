@@ -5,7 +5,7 @@ ghost use Rattle.std.specs.Io.KnownBytes.{ReadConsumes};
 ghost use Rattle.gw_stream.specs.Reading.{ReadTimes};
 
 /// How often a call is made where a signal interrupts it.
-pub(crate) const TRIES: usize = 1_000;
+pub(crate) const MAX_TRIES: usize = 1_000;
 
 /// The device failed.
 #[derive(Clone, Copy, Debug, PartialEq, Eq)]

@@ -4,7 +4,7 @@ ghost use Rattle.std.specs.Arc.{arc_value};
 ghost use Rattle.std.specs.List.{All, list_any};
 ghost use Rattle.gw_plan.specs.Held.{plan_value};
 ghost use Rattle.gw_stream.specs.Answers.{ValidatedBy};
-ghost use Rattle.gw_stream.specs.own.Bundled.{ServesNot, ServesOne};
+ghost use Rattle.gw_stream.specs.own.Prepared.{ServesNot, ServesOne};
 ghost use Rattle.gw_stream.specs.Counted.{IsTotal};
 ghost use Rattle.gw_stream.specs.Exchanges.{AnswersAll, AnswersPart};
 ghost use Rattle.gw_stream.specs.Posts.{known, some_failed};
@@ -19,7 +19,7 @@ use crate::exchange::exchange;
 use crate::fault::RunFault;
 use crate::frame::framed;
 use crate::run::answer_blocks;
-use crate::send::send_bundle;
+use crate::send::send_outcome;
 use crate::sink::Sink;
 use crate::source::{Failed, Source};
 use crate::under_plan::UnderPlan;
@@ -85,10 +85,10 @@ fn serve_content<A: Sink, W: Sink>(
     let Ok(block) = framed(alloc, &answer.content) else {
         return Err(RunFault::Memory);
     };
-    match send_bundle(answers, outs, &judge.parcels, &block) {
+    match send_outcome(answers, outs, &judge.deliveries, &block) {
         Ok(()) => {
             counts.add(answer.code);
-            counts.add_sent(judge.parcels.len());
+            counts.add_sent(judge.deliveries.len());
             Ok(())
         }
         Err(Failed) => Err(RunFault::Write),
@@ -132,22 +132,25 @@ pub fn serve_once<R: Source, A: Sink, W: Sink>(
     let Ok(plan) = Arc::new(alloc, plan) else {
         return Err(RunFault::Memory);
     };
-    let parcels = Vec::new(alloc);
+    let deliveries = Vec::new(alloc);
     let mut judge = UnderPlan {
         plan,
         stamp,
-        parcels,
+        deliveries,
     };
     'each: loop {
-        match blocks.next(reader) {
-            Ok(Some(content)) => {
+        match blocks.ready() {
+            Some(content) => {
                 match serve_content(alloc, &mut judge, &mut counts, content, answers, outs) {
                     Ok(()) => continue,
                     Err(fault) => return Err(fault),
                 }
             }
-            Ok(None) => return Ok(counts),
-            Err(fault) => return Err(fault),
+            None => match blocks.fill(reader) {
+                Ok(true) => continue,
+                Ok(false) => return Ok(counts),
+                Err(fault) => return Err(fault),
+            },
         }
     }
 }

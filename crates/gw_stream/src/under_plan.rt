@@ -4,10 +4,10 @@ ghost use Rattle.std.specs.Arc.{arc_value};
 ghost use Rattle.gw_plan.specs.Held.{plan_value};
 ghost use Rattle.gw_stream.specs.Answers.{IsSaid};
 ghost use Rattle.gw_stream.specs.Served.{Routed};
-ghost use Rattle.gw_stream.specs.own.Bundled.{AreWithin, Packs};
+ghost use Rattle.gw_stream.specs.own.Prepared.{AreWithin, Prepares};
 
+use crate::delivery::{Delivery, prepare_deliveries};
 use crate::judge::{Judge, Outcome};
-use crate::parcel::{Parcel, parcels};
 use gw_ack::{INTERNAL, Reply, Stamp};
 use gw_er7::Message;
 use gw_plan::{Plan, Refusal, admit};
@@ -19,7 +19,7 @@ use std::sync::Arc;
 pub(crate) struct UnderPlan {
     pub(crate) plan: Arc<Plan>,
     pub(crate) stamp: Stamp,
-    pub(crate) parcels: Vec<Parcel>,
+    pub(crate) deliveries: Vec<Delivery>,
 }
 
 // What is said under a plan to what was read, and what receivers are sent of it.
@@ -27,9 +27,9 @@ fn served(
     alloc: Global,
     plan: &Arc<Plan>,
     what: Option<Message>,
-) -> Result<(Reply, Vec<Parcel>), AllocError>
+) -> Result<(Reply, Vec<Delivery>), AllocError>
     ensures said { IfOk result (λ r. IsSaid (Routed (plan_value (arc_value plan.now))) what r.0) }
-    ensures packs { IfOk result (λ r. Packs (plan_value (arc_value plan.now)) what r.0 r.1.items) }
+    ensures prepares { IfOk result (λ r. Prepares (plan_value (arc_value plan.now)) what r.0 r.1.items) }
     ensures within { IfOk result (λ r. AreWithin (length (arc_value plan.now).receivers) r.1.items) }
 {
     let Some(message) = what else {
@@ -37,8 +37,8 @@ fn served(
     };
     match admit(alloc, plan, 0, message) {
         Ok(conforming) => {
-            let parcels = parcels(alloc, &conforming)?;
-            Ok((Reply::Accept, parcels))
+            let deliveries = prepare_deliveries(alloc, &conforming)?;
+            Ok((Reply::Accept, deliveries))
         }
         Err(Refusal::Memory(_message)) => Err(AllocError),
         Err(Refusal::Route(code, _message)) => Ok((Reply::Reject(code), Vec::new(alloc))),
@@ -47,7 +47,7 @@ fn served(
 }
 
 impl Judge for UnderPlan {
-    ghost use Rattle.gw_stream.specs.own.Bundled.{PlanSettles};
+    ghost use Rattle.gw_stream.specs.own.Prepared.{PlanSettles};
 
     ghost settles = { PlanSettles };
 
@@ -59,8 +59,8 @@ impl Judge for UnderPlan {
         number: u64,
         what: Option<Message>,
     ) -> Result<Outcome, AllocError> {
-        let (reply, parcels) = served(alloc, &self.plan, what)?;
-        self.parcels = parcels;
+        let (reply, deliveries) = served(alloc, &self.plan, what)?;
+        self.deliveries = deliveries;
         Ok(Outcome {
             reply,
             number,

@@ -1,6 +1,6 @@
 //! A writer of std as a sink.
 use crate::sink::Sink;
-use crate::source::{Failed, TRIES};
+use crate::source::{Failed, MAX_TRIES};
 use std::io::{ErrorKind, Write};
 
 /// A writer of std as a sink. A write that a signal interrupts is made again.
@@ -35,7 +35,7 @@ impl<W: Write> Sink for Writes<W> {
     }
 
     fn write(&mut self, buf: &[u8]) -> Result<usize, Failed> {
-        'tries: for _try in 0..TRIES {
+        'tries: for _try in 0..MAX_TRIES {
             match self.writer.write(buf) {
                 Ok(count) => {
                     let stuck = count == 0 && !buf.is_empty();

@@ -1,7 +1,6 @@
 -- How a run that gathers its answers comes on.
-use Rattle.std.specs.Prelude.{◌≡◌, ℕ, ◌+◌, Bool, true, false, List, ◌++◌, map, Option}
+use Rattle.std.specs.Prelude.{◌≡◌, ℕ, ◌+◌, Bool, true, false, List, ◌++◌, length, map, Option}
 use Rattle.std.specs.Io.KnownBytes.{Appends}
-use Rattle.std.specs.Arc.{arc_value}
 use Rattle.gw_mllp.specs.Stream.{block}
 use Rattle.gw_stream.specs.declared.by_profile.ByProfile.{ByProfile}
 use Rattle.gw_stream.specs.declared.counts.Counts.{Counts}
@@ -10,7 +9,7 @@ use Rattle.gw_stream.specs.declared.fault.RunFault.{RunFault}
 use Rattle.gw_stream.specs.declared.fault.RunFault.TheVariants.{Memory, Write}
 use Rattle.gw_stream.specs.declared.judge.Outcome.{Outcome}
 use Rattle.gw_stream.specs.Answers.{Answer, IsSaidUnder, IsSettled, Message, ValidatedBy}
-use Rattle.gw_stream.specs.Counted.{nothing, with_answer}
+use Rattle.gw_stream.specs.Counted.{IsTotal, nothing, with_answer}
 use Rattle.gw_stream.specs.Exchanges.{Exchange, Exchanges, blocks_of, content_of, with_answers}
 use Rattle.gw_stream.specs.Sent.{SendsPart}
 use Rattle.gw_stream.specs.Walked.{Place, Walks}
@@ -47,3 +46,5 @@ module _ {S : Type 0} (Settles : S → S → ℕ → Option Message → Outcome 
     pub written : Appends before after sent
     pub whole : blocks_of done ≡ sent ++ gathered
     pub counted : counts ≡ with_answers done nothing
+    pub number : counts.answered ≡ length done
+    pub total : IsTotal counts

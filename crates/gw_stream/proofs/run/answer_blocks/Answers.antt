@@ -1,6 +1,8 @@
 use Rattle.std.proofs.Common.{◌≡◌, ◌+◌, rules, arith, ap, ◌∙◌}
 use Rattle.gw_stream.proofs.Counting.{one_more}
-use Rattle.gw_stream.proofs.Gathering.{gathers_begin, gathers_go, gathers_sent, gathers_on, gathers_unsent, gathers_cut, gathers_end, gathers_stop, gathers_total, gathers_room, gathers_turns, last_not_read}
+use Rattle.gw_stream.proofs.Gathering.{gathers_begin, gathers_go, gathers_sent, gathers_on, gathers_unsent, gathers_cut, gathers_end, gathers_stop}
+use Rattle.gw_stream.proofs.Gathering.{gathers_room, last_not_read}
+use Rattle.gw_stream.proofs.Walking.{stops_turns}
 use Rattle.gw_stream.proofs.run.answer_blocks.Goals as goal
 
 pub each-init : goal.each-init
@@ -12,7 +14,7 @@ each-init g c = record {
 }
 
 pub gather-requires-clause-total : goal.gather-requires-clause-total
-gather-requires-clause-total g c = gathers_total g.J.Judge.settles g.J.Judge.breaks _ _ _ _ _ _ _ _ _ c.each.invariant.gathered
+gather-requires-clause-total g c = c.each.invariant.gathered.total
 
 pub gather-requires-clause-room : goal.gather-requires-clause-room
 gather-requires-clause-room g c =
@@ -31,7 +33,8 @@ pub each-preserved-in-Ok : goal.each-preserved-in-Ok
 each-preserved-in-Ok g c = record {
   reads = c.each.invariant.reads;
   writes = c.each.invariant.writes;
-  gathered = gathers_go g.J.Judge.settles g.J.Judge.breaks _ _ _ _ _ _ _ _ _ _ _ _ _ _ c.each.invariant.gathered (c.in-Some.ensures.goes _ _) c.in-Ok.ensures.ok;
+  gathered = gathers_go g.J.Judge.settles g.J.Judge.breaks _ _ _ _ _ _ _ _ _ _ _ _ _ _ c.each.invariant.gathered (c.in-Some.ensures.goes _ _)
+      c.in-Ok.ensures.ok;
 }
 
 pub returns-in-Err-clause-ends : goal.returns-in-Err-clause-ends
@@ -80,7 +83,7 @@ returns-in-Err-fill-clause-ends g c =
 pub returns-in-Err-fill-clause-turns : goal.returns-in-Err-fill-clause-turns
 returns-in-Err-fill-clause-turns g c err =
     let stops = rw c.in-None.ensures.none.1 at c.in-Err-fill.ensures.stops in
-    gathers_turns g.J.Judge.settles g.J.Judge.breaks _ _ _ _ _ _ _ _ _ _ _ c.each.invariant.gathered stops (search rules)
+    stops_turns _ _ _ _ _ _ c.each.invariant.gathered.walks stops (search rules)
 
 pub returns-in-Err-fill-clause-most : goal.returns-in-Err-fill-clause-most
 returns-in-Err-fill-clause-most g c =

@@ -1,15 +1,16 @@
-use Rattle.gw_stream.proofs.Posting.{sends_to, sends_some_to, any_set, on_ok, on_err}
+use Rattle.std.proofs.lemmas.Result.{on_ok_weaker, on_err_weaker}
+use Rattle.gw_stream.proofs.Posting.{sends_to, sends_some_to, any_set}
 use Rattle.gw_stream.proofs.send.send_to.Goals as goal
 
 pub returns-clause-ok : goal.returns-clause-ok
 returns-clause-ok g c =
     let sent = rw c.index_mut.ensures.value at c.send_all.ensures.ok in
-    on_ok _ (sends_to _ _ _ _ _ _ c.requires.within) sent
+    on_ok_weaker _ (sends_to _ _ _ _ _ _ c.requires.within) sent
 
 pub returns-clause-part : goal.returns-clause-part
 returns-clause-part g c =
     let sent = rw c.index_mut.ensures.value at c.send_all.ensures.part in
-    on_err _ (sends_some_to _ _ _ _ _ _ c.requires.within) sent
+    on_err_weaker _ (sends_some_to _ _ _ _ _ _ c.requires.within) sent
 
 pub returns-clause-failed : goal.returns-clause-failed
 returns-clause-failed g c =

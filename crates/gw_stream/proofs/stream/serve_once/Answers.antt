@@ -1,12 +1,14 @@
-use Rattle.std.proofs.Common.{◌≡◌, ◌+◌, rules, refl, arith, ap, ◌∙◌, length}
+use Rattle.std.proofs.Common.{◌≡◌, ◌+◌, rules, refl, arith, ap, ◌∙◌}
+use Rattle.std.proofs.lemmas.Bool.{or_parts}
 use Rattle.std.proofs.lemmas.List.Folds.{list_any_none}
 use Rattle.std.specs.Arc.{arc_value}
 use Rattle.gw_plan.specs.Held.{plan_value}
 use Rattle.gw_stream.specs.Counted.{nothing}
 use Rattle.gw_stream.specs.Posts.{known}
-use Rattle.gw_stream.proofs.Posting.{none_failed, not_failed, or_first, or_second}
-use Rattle.gw_stream.proofs.Serving.{not_of_reading, one_more, serves_begins, serves_cut, serves_end, serves_goes, serves_memory, serves_room, serves_stop, serves_total, serves_turns}
-use Rattle.gw_stream.proofs.Walking.{stops_not_write}
+use Rattle.gw_stream.proofs.Counting.{one_more}
+use Rattle.gw_stream.proofs.Posting.{none_failed, not_failed}
+use Rattle.gw_stream.proofs.Serving.{not_of_reading, serves_begins, serves_cut, serves_end, serves_goes, serves_memory, serves_on, serves_room, serves_stop}
+use Rattle.gw_stream.proofs.Walking.{stops_not_write, stops_turns}
 use Rattle.gw_stream.proofs.stream.serve_once.Goals as goal
 
 pub returns-in_default-clause-ends : goal.returns-in_default-clause-ends
@@ -32,73 +34,85 @@ each-init g c = record {
 }
 
 pub serve_content-requires-clause-total : goal.serve_content-requires-clause-total
-serve_content-requires-clause-total g c = serves_total _ _ _ _ _ _ _ _ c.each.invariant.serves
+serve_content-requires-clause-total g c = c.each.invariant.serves.total
 
 pub serve_content-requires-clause-room : goal.serve_content-requires-clause-room
 serve_content-requires-clause-room g c =
-    let goes = rw c.in-Ok-Some.field-0-is at c.in-Ok-Some.ensures.goes in
-    let room = serves_room _ _ _ _ _ _ _ _ _ _ c.each.invariant.serves goes in
+    let room = serves_room _ _ _ _ _ _ _ _ _ _ c.each.invariant.serves (c.in-Some.ensures.goes _ _) in
     omega arith
 
-pub each-smaller : goal.each-smaller
-each-smaller g c =
-    let goes = rw c.in-Ok-Some.field-0-is at c.in-Ok-Some.ensures.goes in
-    let room = serves_room _ _ _ _ _ _ _ _ _ _ c.each.invariant.serves goes in
+pub each-smaller-in-Ok-serve_content : goal.each-smaller-in-Ok-serve_content
+each-smaller-in-Ok-serve_content g c =
+    let room = serves_room _ _ _ _ _ _ _ _ _ _ c.each.invariant.serves (c.in-Some.ensures.goes _ _) in
     let one = c.in-Ok-serve_content.ensures.ok in
-    let more = one_more one.serving.answer.code (length one.serving.deliveries) c.each.counts in
-    let same : c.serve_content.new.counts.answered ≡ c.each.counts.answered + 1 = ap (λ x. x.answered) one.counted ∙ more in
+    let more : c.serve_content.new.counts.answered ≡ c.each.counts.answered + 1 =
+    ap (λ x. x.answered) one.counted ∙ one_more one.serving.answer.code c.each.counts in
+    let turns = c.ready.ensures.turns in
     omega arith
 
-pub each-preserved : goal.each-preserved
-each-preserved g c =
-    let goes = rw c.in-Ok-Some.field-0-is at c.in-Ok-Some.ensures.goes in
+pub each-preserved-in-Ok-serve_content : goal.each-preserved-in-Ok-serve_content
+each-preserved-in-Ok-serve_content g c =
     let one = rw (c.each.invariant.plan, c.each.invariant.stamp) at c.in-Ok-serve_content.ensures.ok in
-    let none = not_failed _ _ _ _ c.in-Ok-serve_content.is c.serve_content.ensures.write in
+    let none = or_parts _ _ (not_failed _ _ _ _ c.in-Ok-serve_content.is c.serve_content.ensures.write) in
     record {
-      reads = not_failed _ _ _ _ c.in-Ok-Some.is c.next.ensures.read;
-      answers = or_first _ _ none;
-      outs = or_second _ _ none;
+      reads = c.each.invariant.reads;
+      answers = none.0;
+      outs = none.1;
       writers = c.serve_content.ensures.count ∙ c.each.invariant.writers;
       plan = ap arc_value c.in-Ok-serve_content.ensures.plan ∙ c.each.invariant.plan;
       stamp = c.in-Ok-serve_content.ensures.stamp ∙ c.each.invariant.stamp;
-      serves = serves_goes _ _ _ _ _ _ _ _ _ _ _ _ c.each.invariant.serves goes one;
+      serves = serves_goes _ _ _ _ _ _ _ _ _ _ _ _ c.each.invariant.serves (c.in-Some.ensures.goes _ _) one;
     }
 
-pub returns-in-Err-serve_content-clause-ends : goal.returns-in-Err-serve_content-clause-ends
-returns-in-Err-serve_content-clause-ends g c =
-    let goes = rw c.in-Ok-Some.field-0-is at c.in-Ok-Some.ensures.goes in
-    let none = rw (c.each.invariant.plan, c.each.invariant.stamp) at c.in-Err-serve_content.ensures.err in
-    serves_cut _ _ _ _ _ _ _ _ _ _ _ _ c.each.invariant.serves goes none
-
-pub returns-in-Err-serve_content-clause-read : goal.returns-in-Err-serve_content-clause-read
-returns-in-Err-serve_content-clause-read g c =
-    let works = not_failed _ _ _ _ c.in-Ok-Some.is c.next.ensures.read in
-    (λ err. absurd ((not_of_reading _ _ _ _ _ _ _ c.in-Err-serve_content.ensures.err).0 (search rules)), λ failed. search rules)
-
-pub returns-in-Err-serve_content-clause-turns : goal.returns-in-Err-serve_content-clause-turns
-returns-in-Err-serve_content-clause-turns g c err = absurd ((not_of_reading _ _ _ _ _ _ _ c.in-Err-serve_content.ensures.err).1 (search rules))
-
-pub returns-in-Err-serve_content-clause-most : goal.returns-in-Err-serve_content-clause-most
-returns-in-Err-serve_content-clause-most g c = c.next.ensures.most _ _ _ c.each.invariant.serves.walks
-
-pub returns-in-Ok-None-clause-ends : goal.returns-in-Ok-None-clause-ends
-returns-in-Ok-None-clause-ends g c =
-    let ends = rw c.in-Ok-None.field-0-is at c.in-Ok-None.ensures.end in serves_end _ _ _ _ _ _ _ _ c.each.invariant.serves ends
-
-pub returns-in-Ok-None-clause-most : goal.returns-in-Ok-None-clause-most
-returns-in-Ok-None-clause-most g c = c.next.ensures.most _ _ _ c.each.invariant.serves.walks
-
 pub returns-in-Err-clause-ends : goal.returns-in-Err-clause-ends
-returns-in-Err-clause-ends g c = serves_stop _ _ _ _ _ _ _ _ _ _ c.each.invariant.serves c.in-Err.ensures.stops
+returns-in-Err-clause-ends g c =
+    let none = rw (c.each.invariant.plan, c.each.invariant.stamp) at c.in-Err.ensures.err in
+    serves_cut _ _ _ _ _ _ _ _ _ _ _ _ c.each.invariant.serves (c.in-Some.ensures.goes _ _) none
 
-pub returns-in-Err-clause-write : goal.returns-in-Err-clause-write
-returns-in-Err-clause-write g c = (
-  λ err. absurd (stops_not_write _ _ _ c.in-Err.ensures.stops (search rules)),
+pub returns-in-Err-clause-read : goal.returns-in-Err-clause-read
+returns-in-Err-clause-read g c = (λ err. absurd ((not_of_reading _ _ _ _ _ _ _ c.in-Err.ensures.err).0 (search rules)), λ failed. search rules)
+
+pub returns-in-Err-clause-turns : goal.returns-in-Err-clause-turns
+returns-in-Err-clause-turns g c err = absurd ((not_of_reading _ _ _ _ _ _ _ c.in-Err.ensures.err).1 (search rules))
+
+pub each-preserved : goal.each-preserved
+each-preserved g c =
+    let fills = rw c.in-None.ensures.none.1 at c.fill.ensures.goes in
+    record {
+      reads = search rules;
+      answers = c.each.invariant.answers;
+      outs = c.each.invariant.outs;
+      writers = c.each.invariant.writers;
+      plan = c.each.invariant.plan;
+      stamp = c.each.invariant.stamp;
+      serves = serves_on _ _ _ _ _ _ _ _ _ c.each.invariant.serves (fills (search rules));
+    }
+
+pub returns-in-Ok-false-clause-ends : goal.returns-in-Ok-false-clause-ends
+returns-in-Ok-false-clause-ends g c =
+    let ends = rw c.in-None.ensures.none.1 at c.fill.ensures.end in
+    serves_end _ _ _ _ _ _ _ _ c.each.invariant.serves (ends (search rules))
+
+pub returns-in-Ok-false-clause-most : goal.returns-in-Ok-false-clause-most
+returns-in-Ok-false-clause-most g c =
+    let most = rw c.in-None.ensures.none.1 at c.fill.ensures.most in most _ _ _ c.each.invariant.serves.walks
+
+pub returns-in-Err-fill-clause-ends : goal.returns-in-Err-fill-clause-ends
+returns-in-Err-fill-clause-ends g c =
+    let stops = rw c.in-None.ensures.none.1 at c.in-Err-fill.ensures.stops in
+    serves_stop _ _ _ _ _ _ _ _ _ _ c.each.invariant.serves stops
+
+pub returns-in-Err-fill-clause-write : goal.returns-in-Err-fill-clause-write
+returns-in-Err-fill-clause-write g c = (
+  λ err. absurd (stops_not_write _ _ _ c.in-Err-fill.ensures.stops (search rules)),
   λ failed. absurd (none_failed _ _ c.each.invariant.answers c.each.invariant.outs failed),
 )
 
-pub returns-in-Err-clause-turns : goal.returns-in-Err-clause-turns
-returns-in-Err-clause-turns g c err = serves_turns _ _ _ _ _ _ _ _ _ _ c.each.invariant.serves c.in-Err.ensures.stops (search rules)
+pub returns-in-Err-fill-clause-turns : goal.returns-in-Err-fill-clause-turns
+returns-in-Err-fill-clause-turns g c err =
+    let stops = rw c.in-None.ensures.none.1 at c.in-Err-fill.ensures.stops in
+    stops_turns _ _ _ _ _ _ c.each.invariant.serves.walks stops (search rules)
 
-pub returns-in-Err-clause-most : goal.returns-in-Err-clause-most
-returns-in-Err-clause-most g c = c.next.ensures.most _ _ _ c.each.invariant.serves.walks
+pub returns-in-Err-fill-clause-most : goal.returns-in-Err-fill-clause-most
+returns-in-Err-fill-clause-most g c =
+    let most = rw c.in-None.ensures.none.1 at c.fill.ensures.most in most _ _ _ c.each.invariant.serves.walks

@@ -1,8 +1,8 @@
-use Rattle.std.proofs.Common.{◌≡◌, ◌-◌, false, length}
+use Rattle.std.proofs.Common.{◌≡◌, ◌+◌, ◌-◌, false, length}
 use Rattle.std.specs.Arc.{arc_value}
 use Rattle.std.specs.List.{list_any}
 use Rattle.gw_plan.specs.Held.{plan_value}
-use Rattle.gw_stream.specs.own.Bundled.{ServesSoFar}
+use Rattle.gw_stream.specs.own.Prepared.{ServesSoFar}
 use Rattle.gw_stream.specs.Posts.{known}
 use Rattle.gw_stream.specs.Walked.{place}
 use Rattle.gw_stream.proofs.stream.serve_once.Given as goal
@@ -24,4 +24,4 @@ invariant-each g l =
     }
 
 abbrev pub decreases-each : goal.decreases-each
-decreases-each g l = 65536000000 - l.counts.answered
+decreases-each g l = (65536000000 - l.counts.answered) + (1000000 - l.blocks.turns)

@@ -1,14 +1,14 @@
 use Rattle.std.proofs.Common.{rules, refl, arith}
 use Rattle.std.proofs.lemmas.Grind.{common_steps}
 use Rattle.gw_stream.specs.Walked.{memory, read, too_long, turns}
-use Rattle.gw_stream.proofs.Walking.{ends_long, ends_at, goes_nowhere, goes_read, stops_within, within_here, within_once}
+use Rattle.gw_stream.proofs.Walking.{ends_long, ends_at, goes_nowhere, goes_read, stops_within}
 use Rattle.gw_stream.proofs.block_reader.BlockReader.fill.Goals as goal
 
 pub returns-then-eq-clause-stops : goal.returns-then-eq-clause-stops
 returns-then-eq-clause-stops g c = too_long (ends_long _ c.requires.none (search rules))
 
-pub returns-then-self-ge-READS-clause-stops : goal.returns-then-self-ge-READS-clause-stops
-returns-then-self-ge-READS-clause-stops g c = turns (goes_nowhere _) (search rules)
+pub returns-then-self-ge-MAX_READS-clause-stops : goal.returns-then-self-ge-MAX_READS-clause-stops
+returns-then-self-ge-MAX_READS-clause-stops g c = turns (goes_nowhere _) (search rules)
 
 pub returns-in_default-clause-stops : goal.returns-in_default-clause-stops
 returns-in_default-clause-stops g c = read
