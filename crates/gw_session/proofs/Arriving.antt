@@ -1,5 +1,7 @@
 -- How a message arrives.
-use Rattle.std.proofs.Common.{◌≡◌, ◌≤◌, ◌+◌, ℕ, List, [], ◌∷◌, ◌++◌, Option, None, Some, Result, Ok, Err, IfOk, OnErr, refl, sym, ap, subst, ◌∙◌, arith, append_assoc, append-nil}
+use Rattle.std.proofs.Common.{◌≡◌, ◌≤◌, ◌+◌, ℕ, List, [], ◌∷◌, ◌++◌, Option, None, Some, Result, IfOk, OnErr, refl, sym, ap, subst, ◌∙◌, arith}
+use Rattle.std.proofs.Common.{append_assoc, append-nil}
+use Rattle.std.proofs.lemmas.Result.{IfOk-weaker, on_err_weaker}
 use Rattle.gw_er7.specs.Message.{SegmentValue}
 use Rattle.gw_gate.specs.Journal.{WasAccepted}
 use Rattle.gw_gate.specs.Parts.{PlanSeen, ConformingSeen}
@@ -9,10 +11,10 @@ use Rattle.gw_ack.specs.declared.reply.Reply.{Reply}
 use Rattle.gw_ack.specs.declared.reply.Reply.TheVariants.{Accept, Reject}
 use Rattle.gw_crew.specs.Notes.{NoteSeen, Looked, WasStale, WasFull, Added}
 use Rattle.gw_crew.specs.own.Turns.{Adds}
-use Rattle.gw_session.specs.declared.doors.Turn.{Turn}
-use Rattle.gw_session.specs.Sessions.{Decides, HasCode, IsCutShort, IsTurn, Tries}
+use Rattle.gw_session.specs.declared.doors.NumberedReply.{NumberedReply}
+use Rattle.gw_session.specs.Sessions.{Decides, HasCode, IsCutShort, IsOutcome, Judged, Tries}
 use Rattle.gw_session.specs.Sessions as sessions
-use Rattle.gw_session.specs.own.Steps.{Asks, CameSeen, Taken, Back, NoRoom, ComesTo, CutsShort, EndsIn, JudgementSeen, MayLook, OnceMore, Settles}
+use Rattle.gw_session.specs.own.Steps.{Asks, Taken, Back, NoRoom, ComesTo, CutsShort, EndsIn, JudgementSeen, MayLook, OnceMore, Settles}
 use Rattle.gw_session.specs.own.Steps as steps
 
 abbrev Message : Type 0
@@ -20,29 +22,27 @@ Message = List SegmentValue
 
 -- ---- notes, one after another
 
-joined : (old mid new more others : List NoteSeen) → mid ≡ old ++ more → new ≡ mid ++ others → new ≡ old ++ (more ++ others)
-joined old mid new more others first then = then ∙ ap (λ l. l ++ others) first ∙ append_assoc old more others
+adds_both : (P Q R : List NoteSeen → Type 0) (old mid new : List NoteSeen) → ((more others : List NoteSeen) → P more → Q others → R (more ++ others))
+    → Adds P old mid → Adds Q mid new → Adds R old new
+adds_both P Q R old mid new to first then = record {
+  more = first.more ++ then.more;
+  holds = to first.more then.more first.holds then.holds;
+  noted = then.noted ∙ ap (λ l. l ++ then.more) first.noted ∙ append_assoc old first.more then.more;
+}
+
+adds_same : (P R : List NoteSeen → Type 0) (old mid new : List NoteSeen) → ((more : List NoteSeen) → P more → R more) → Adds P old mid → new ≡ mid
+    → Adds R old new
+adds_same P R old mid new to adds same = record { more = adds.more; holds = to adds.more adds.holds; noted = same ∙ adds.noted }
 
 pub adds_none : (P : List NoteSeen → Type 0) (old new : List NoteSeen) → P [] → new ≡ old → Adds P old new
 adds_none P old new holds same = record { more = []; holds = holds; noted = same ∙ sym (append-nil old) }
 
--- ---- a refusal
-
 -- what was to be said, and its last note
-pub ends_turn : (what : Option Message) (before last : List NoteSeen) (asked said : Reply) (number : ℕ) → Decides what before asked
-    → EndsIn asked number said last → IsTurn what (before ++ last) number said
-ends_turn what before last asked said number decides (steps.refused at arrival code has) = sessions.turned_away what before asked at arrival code decides has
-ends_turn what before last asked said number decides steps.full = sessions.no_room what before asked decides
-
-pub ended_so : (what : Option Message) (old mid new before : List NoteSeen) (asked said : Reply) (number : ℕ) → mid ≡ old ++ before → Decides what before asked
-    → Adds (EndsIn asked number said) mid new → Adds (λ notes. IsTurn what notes number said) old new
-ended_so what old mid new before asked said number noted decides ends = record {
-  more = before ++ ends.more;
-  holds = ends_turn what before ends.more asked said number decides ends.holds;
-  noted = joined old mid new before ends.more noted ends.noted;
-}
-
--- ---- a look
+ends_outcome : (what : Option Message) (before last : List NoteSeen) (asked said : Reply) (number : ℕ) → Decides what before asked
+    → EndsIn asked number said last → IsOutcome what (before ++ last) number said
+ends_outcome what before last asked said number decides (steps.refused at arrival code has) =
+    sessions.turned_away what before asked at arrival code decides has
+ends_outcome what before last asked said number decides steps.full = sessions.no_room what before asked decides
 
 pub looked_only : (version : ℕ) (plan : PlanSeen) (old new : List NoteSeen) → new ≡ old ++ Looked version plan ∷ [] → Adds MayLook old new
 looked_only version plan old new noted = record { more = Looked version plan ∷ []; holds = steps.looked version plan; noted = noted }
@@ -51,59 +51,36 @@ looked_only version plan old new noted = record { more = Looked version plan ∷
 
 module _ (m : Message) where
   -- what is to be said after three stale arrivals at most and this look
-  decided : (k : ℕ) (tried notes : List NoteSeen) (asked : Reply) (code : ℕ) → k ≤ 3 → Tries m k tried → Asks m (steps.Refused asked code) notes
-      → Decides (Some m) (tried ++ notes) asked
-  decided k tried notes asked code few tries asks =
-      subst (λ l. Decides (Some m) (tried ++ l) asked) (sym asks.is) (sessions.judged m k tried asks.version asks.plan asked few tries asks.judges.0)
-
-  accepts : (c : ConformingSeen) (k : ℕ) (tried notes : List NoteSeen) → k ≤ 3 → Tries m k tried → Asks m (steps.Admitted c) notes
-      → Decides (Some m) (tried ++ notes) Accept
-  accepts c k tried notes few tries asks =
-      subst (λ l. Decides (Some m) (tried ++ l) Accept) (sym asks.is) (sessions.judged m k tried asks.version asks.plan Accept few tries asks.judges.judged)
+  decided : (k : ℕ) (tried notes : List NoteSeen) (asked : Reply) (version : ℕ) (plan : PlanSeen) → k ≤ 3 → Tries m k tried
+      → notes ≡ Looked version plan ∷ [] → Judged plan.text m asked → Decides (Some m) (tried ++ notes) asked
+  decided k tried notes asked version plan few tries is says =
+      subst (λ l. Decides (Some m) (tried ++ l) asked) (sym is) (sessions.judged m k tried version plan asked few tries says)
 
   pub settles_refused : (asked said : Reply) (code number : ℕ) (old mid new : List NoteSeen) → Adds (Asks m (steps.Refused asked code)) old mid
       → Adds (EndsIn asked number said) mid new → Adds (Settles m number said) old new
-  settles_refused asked said code number old mid new asks ends = record {
-    more = asks.more ++ ends.more;
-    holds = λ k tried few tries. subst (λ l. IsTurn (Some m) l number said) (append_assoc tried asks.more ends.more)
-        (ends_turn (Some m) (tried ++ asks.more) ends.more asked said number (decided k tried asks.more asked code few tries asks.holds) ends.holds);
-    noted = joined old mid new asks.more ends.more asks.noted ends.noted;
-  }
+  settles_refused asked said code number old mid new =
+      adds_both (Asks m (steps.Refused asked code)) (EndsIn asked number said) (Settles m number said) old mid new (λ more others asks ends k tried few tries.
+      subst (λ l. IsOutcome (Some m) l number said) (append_assoc tried more others)
+      (ends_outcome (Some m) (tried ++ more) others asked said number
+      (decided k tried more asked asks.version asks.plan few tries asks.is asks.judges.0) ends))
 
   -- a look and an acceptance
-  taken_notes : (c : ConformingSeen) (arrival : ℕ) (looks came : List NoteSeen) (k : ℕ) (tried : List NoteSeen) → k ≤ 3 → Tries m k tried
-      → Asks m (steps.Admitted c) looks → steps.IsTaken c arrival came → IsTurn (Some m) (tried ++ (looks ++ came)) arrival Accept
-  taken_notes c arrival looks came k tried few tries asks is =
-      let both : looks ++ came ≡ Looked asks.version asks.plan ∷ Added is.at (WasAccepted is.n arrival c) ∷ [] =
-      ap (λ l. l ++ came) asks.is ∙ ap (λ l. Looked asks.version asks.plan ∷ l) is.is in
-      subst (λ l. IsTurn (Some m) (tried ++ l) arrival Accept) (sym both)
-      (sessions.taken m k tried asks.version asks.plan is.at is.n arrival c few tries asks.judges.judged asks.judges.arrival)
-
   pub settles_taken : (c : ConformingSeen) (arrival : ℕ) (old mid new : List NoteSeen) → Adds (Asks m (steps.Admitted c)) old mid
       → Adds (ComesTo c (Taken arrival)) mid new → Adds (Settles m arrival Accept) old new
-  settles_taken c arrival old mid new asks came = record {
-    more = asks.more ++ came.more;
-    holds = λ k tried few tries. taken_notes c arrival asks.more came.more k tried few tries asks.holds came.holds;
-    noted = joined old mid new asks.more came.more asks.noted came.noted;
-  }
+  settles_taken c arrival old mid new =
+      adds_both (Asks m (steps.Admitted c)) (ComesTo c (Taken arrival)) (Settles m arrival Accept) old mid new (λ more others asks came k tried few tries.
+      subst (λ l. IsOutcome (Some m) (tried ++ l) arrival Accept)
+      (sym (ap (λ l. l ++ others) asks.is ∙ ap (λ l. Looked asks.version asks.plan ∷ l) came.is))
+      (sessions.taken m k tried asks.version asks.plan came.at came.n arrival c few tries asks.judges.judged asks.judges.arrival))
 
-  full_notes : (c : ConformingSeen) (number : ℕ) (said : Reply) (looks came : List NoteSeen) (k : ℕ) (tried : List NoteSeen) → number ≡ 0 → said ≡ Reject 207
-      → k ≤ 3 → Tries m k tried → Asks m (steps.Admitted c) looks → came ≡ WasFull ∷ [] → IsTurn (Some m) (tried ++ (looks ++ came)) number said
-  full_notes c number said looks came k tried zero internal few tries asks is =
-      let so : IsTurn (Some m) ((tried ++ looks) ++ came) 0 (Reject 207) =
-      subst (λ l. IsTurn (Some m) ((tried ++ looks) ++ l) 0 (Reject 207)) (sym is)
-      (sessions.no_room (Some m) (tried ++ looks) Accept (accepts c k tried looks few tries asks)) in
-      subst (λ n. IsTurn (Some m) (tried ++ (looks ++ came)) n said) (sym zero)
-      (subst (λ r. IsTurn (Some m) (tried ++ (looks ++ came)) 0 r) (sym internal)
-      (subst (λ l. IsTurn (Some m) l 0 (Reject 207)) (append_assoc tried looks came) so))
-
-  pub settles_full : (c : ConformingSeen) (number : ℕ) (said : Reply) (old mid new : List NoteSeen) → number ≡ 0 → said ≡ Reject 207
-      → Adds (Asks m (steps.Admitted c)) old mid → Adds (ComesTo c NoRoom) mid new → Adds (Settles m number said) old new
-  settles_full c number said old mid new zero internal asks came = record {
-    more = asks.more ++ came.more;
-    holds = λ k tried few tries. full_notes c number said asks.more came.more k tried zero internal few tries asks.holds came.holds;
-    noted = joined old mid new asks.more came.more asks.noted came.noted;
-  }
+  pub settles_full : (c : ConformingSeen) (old mid new : List NoteSeen) → Adds (Asks m (steps.Admitted c)) old mid
+      → Adds (ComesTo c NoRoom) mid new → Adds (Settles m 0 (Reject 207)) old new
+  settles_full c old mid new =
+      adds_both (Asks m (steps.Admitted c)) (ComesTo c NoRoom) (Settles m 0 (Reject 207)) old mid new (λ more others asks came k tried few tries.
+      subst (λ l. IsOutcome (Some m) l 0 (Reject 207)) (append_assoc tried more others)
+      (subst (λ l. IsOutcome (Some m) ((tried ++ more) ++ l) 0 (Reject 207)) (sym came)
+      (sessions.no_room (Some m) (tried ++ more) Accept
+      (decided k tried more Accept asks.version asks.plan few tries asks.is asks.judges.judged))))
 
   -- a look and a stale arrival
   stale_notes : (c back : ConformingSeen) (looks came : List NoteSeen) → Asks m (steps.Admitted c) looks → steps.IsBack c back came → (k : ℕ)
@@ -114,16 +91,13 @@ module _ (m : Message) where
       subst (λ l. Tries m (k + 1) (tried ++ l)) (sym both)
       (sessions.stale k tried asks.version is.version asks.plan c tries asks.judges.arrival)
 
-  pub once_more : (c d : ConformingSeen) (back : Message) (old mid new : List NoteSeen) → Adds (Asks m (steps.Admitted c)) old mid
-      → Adds (ComesTo c (Back d)) mid new → d.message ≡ message_seen back → Adds (OnceMore m back) old new
-  once_more c d back old mid new asks came seen = record {
-    more = asks.more ++ came.more;
-    holds = record {
-      same = same_messages back m (sym seen ∙ ap (λ x. x.message) came.holds.same ∙ asks.holds.judges.arrival.message);
-      tries = stale_notes c d asks.more came.more asks.holds came.holds;
-    };
-    noted = joined old mid new asks.more came.more asks.noted came.noted;
-  }
+  pub once_more : (c d : ConformingSeen) (back : Message) (old mid new : List NoteSeen) → d.message ≡ message_seen back
+      → Adds (Asks m (steps.Admitted c)) old mid → Adds (ComesTo c (Back d)) mid new → Adds (OnceMore m back) old new
+  once_more c d back old mid new seen =
+      adds_both (Asks m (steps.Admitted c)) (ComesTo c (Back d)) (OnceMore m back) old mid new (λ more others asks came. record {
+        same = same_messages back m (sym seen ∙ ap (λ x. x.message) came.same ∙ asks.judges.arrival.message);
+        tries = stale_notes c d more others asks came;
+      })
 
   -- ---- one arrival that breaks off
 
@@ -133,63 +107,54 @@ module _ (m : Message) where
   cut_look looks (steps.looked version plan) k tried few tries = sessions.looked m k tried version plan few tries
 
   pub cuts_at_look : (old new : List NoteSeen) → Adds MayLook old new → Adds (CutsShort m) old new
-  cuts_at_look old new looks = record { more = looks.more; holds = cut_look looks.more looks.holds; noted = looks.noted }
-
-  cut_asked : (judgement : JudgementSeen) (looks : List NoteSeen) → Asks m judgement looks → CutsShort m looks
-  cut_asked judgement looks asks k tried few tries =
-      subst (λ l. IsCutShort (Some m) (tried ++ l)) (sym asks.is) (sessions.looked m k tried asks.version asks.plan few tries)
+  cuts_at_look old new looks = adds_same MayLook (CutsShort m) old new new cut_look looks refl
 
   pub cuts_after_look : (judgement : JudgementSeen) (old mid new : List NoteSeen) → Adds (Asks m judgement) old mid → new ≡ mid
       → Adds (CutsShort m) old new
-  cuts_after_look judgement old mid new asks same =
-      record { more = asks.more; holds = cut_asked judgement asks.more asks.holds; noted = same ∙ asks.noted }
+  cuts_after_look judgement old mid new =
+      adds_same (Asks m judgement) (CutsShort m) old mid new (λ looks asks k tried few tries.
+      subst (λ l. IsCutShort (Some m) (tried ++ l)) (sym asks.is) (sessions.looked m k tried asks.version asks.plan few tries))
 
   pub cuts_after_stale : (c d : ConformingSeen) (old mid new : List NoteSeen) → Adds (Asks m (steps.Admitted c)) old mid
       → Adds (ComesTo c (Back d)) mid new → Adds (CutsShort m) old new
-  cuts_after_stale c d old mid new asks came = record {
-    more = asks.more ++ came.more;
-    holds = λ k tried few tries. sessions.tried m (k + 1) (tried ++ (asks.more ++ came.more)) (omega arith)
-        (stale_notes c d asks.more came.more asks.holds came.holds k tried tries);
-    noted = joined old mid new asks.more came.more asks.noted came.noted;
-  }
+  cuts_after_stale c d old mid new =
+      adds_both (Asks m (steps.Admitted c)) (ComesTo c (Back d)) (CutsShort m) old mid new (λ more others asks came k tried few tries.
+      sessions.tried m (k + 1) (tried ++ (more ++ others)) (omega arith) (stale_notes c d more others asks came k tried tries))
 
   -- ---- all arrivals
 
   pub tries_none : (old : List NoteSeen) → Adds (Tries m 0) old old
   tries_none old = adds_none (Tries m 0) old old sessions.untried refl
 
-  gives_up : (number : ℕ) (said : Reply) (old mid new : List NoteSeen) → Adds (Tries m 4) old mid → Adds (EndsIn (Reject 207) number said) mid new
-      → Adds (λ notes. IsTurn (Some m) notes number said) old new
-  gives_up number said old mid new tries ends =
-      ended_so (Some m) old mid new tries.more (Reject 207) said number tries.noted (sessions.given_up m tries.more tries.holds) ends
-
-  cut_at_last : (old mid new : List NoteSeen) → Adds (Tries m 4) old mid → new ≡ mid → Adds (IsCutShort (Some m)) old new
-  cut_at_last old mid new tries same = record {
-    more = tries.more;
-    holds = sessions.tried m 4 tries.more (omega arith) tries.holds;
-    noted = same ∙ tries.noted;
-  }
-
-  pub if_gives_up : {E : Type 0} (r : Result Turn E) (k : ℕ) (old mid new : List NoteSeen) → k ≡ 4 → Adds (Tries m k) old mid
-      → IfOk r (λ turn. Adds (EndsIn (Reject 207) turn.number turn.reply) mid new)
-      → IfOk r (λ turn. Adds (λ notes. IsTurn (Some m) notes turn.number turn.reply) old new)
-  if_gives_up (Ok turn) k old mid new four tries ends =
-      gives_up turn.number turn.reply old mid new (subst (λ n. Adds (Tries m n) old mid) four tries) ends
-  if_gives_up (Err e) k old mid new four tries ends = tt
+  pub if_gives_up : {E : Type 0} (r : Result NumberedReply E) (k : ℕ) (old mid new : List NoteSeen) → k ≡ 4 → Adds (Tries m k) old mid
+      → IfOk r (λ settled. Adds (EndsIn (Reject 207) settled.number settled.reply) mid new)
+      → IfOk r (λ settled. Adds (λ notes. IsOutcome (Some m) notes settled.number settled.reply) old new)
+  if_gives_up r k old mid new four tries =
+      IfOk-weaker r (λ settled. Adds (EndsIn (Reject 207) settled.number settled.reply) mid new)
+      (λ settled. Adds (λ notes. IsOutcome (Some m) notes settled.number settled.reply) old new) (λ settled.
+      adds_both (Tries m 4) (EndsIn (Reject 207) settled.number settled.reply) (λ notes. IsOutcome (Some m) notes settled.number settled.reply) old mid new
+      (λ more others given ends.
+      ends_outcome (Some m) more others (Reject 207) settled.reply settled.number (sessions.given_up m more given) ends)
+      (subst (λ n. Adds (Tries m n) old mid) four tries))
 
   pub unless_gives_up : {T E : Type 0} (r : Result T E) (k : ℕ) (old mid new : List NoteSeen) → k ≡ 4 → Adds (Tries m k) old mid → OnErr r (new ≡ mid)
       → OnErr r (Adds (IsCutShort (Some m)) old new)
-  unless_gives_up (Ok x) k old mid new four tries same = tt
-  unless_gives_up (Err e) k old mid new four tries same = cut_at_last old mid new (subst (λ n. Adds (Tries m n) old mid) four tries) same
+  unless_gives_up r k old mid new four tries =
+      on_err_weaker r
+      (adds_same (Tries m 4) (IsCutShort (Some m)) old mid new (λ more given. sessions.tried m 4 more (omega arith) given)
+      (subst (λ n. Adds (Tries m n) old mid) four tries))
 
 -- ---- what can't be read
 
 -- it is refused at once
-pub if_unreadable : {E : Type 0} (r : Result Turn E) (old new : List NoteSeen) → IfOk r (λ turn. Adds (EndsIn (Reject 207) turn.number turn.reply) old new)
-    → IfOk r (λ turn. Adds (λ notes. IsTurn None notes turn.number turn.reply) old new)
-if_unreadable (Ok turn) old new ends = ended_so None old old new [] (Reject 207) turn.reply turn.number (sym (append-nil old)) sessions.no_message ends
-if_unreadable (Err e) old new ends = tt
+pub if_unreadable : {E : Type 0} (r : Result NumberedReply E) (old new : List NoteSeen)
+    → IfOk r (λ settled. Adds (EndsIn (Reject 207) settled.number settled.reply) old new)
+    → IfOk r (λ settled. Adds (λ notes. IsOutcome None notes settled.number settled.reply) old new)
+if_unreadable r old new =
+    IfOk-weaker r (λ settled. Adds (EndsIn (Reject 207) settled.number settled.reply) old new)
+    (λ settled. Adds (λ notes. IsOutcome None notes settled.number settled.reply) old new) (λ settled given.
+    adds_same (EndsIn (Reject 207) settled.number settled.reply) (λ notes. IsOutcome None notes settled.number settled.reply) old new new (λ more ends.
+    ends_outcome None [] more (Reject 207) settled.reply settled.number sessions.no_message ends) given refl)
 
 pub unless_unreadable : {T E : Type 0} (r : Result T E) (old new : List NoteSeen) → OnErr r (new ≡ old) → OnErr r (Adds (IsCutShort None) old new)
-unless_unreadable (Ok x) old new same = tt
-unless_unreadable (Err e) old new same = adds_none (IsCutShort None) old new (sessions.at_once None) same
+unless_unreadable r old new = on_err_weaker r (adds_none (IsCutShort None) old new (sessions.at_once None))

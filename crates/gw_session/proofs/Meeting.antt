@@ -9,7 +9,7 @@ use Rattle.gw_stream.specs.Streams.{Ends}
 use Rattle.gw_stream.proofs.Exchanging.{ends_seen}
 use Rattle.gw_crew.specs.Notes.{NoteSeen}
 use Rattle.gw_crew.specs.own.Turns.{Adds}
-use Rattle.gw_session.specs.Sessions.{Breaks, IsCutShort, IsTurn, SessionAll, SessionPart, Settles}
+use Rattle.gw_session.specs.Sessions.{Breaks, IsCutShort, IsOutcome, SessionAll, SessionPart, Settles}
 use Rattle.gw_session.specs.own.Steps.{SameStamps}
 
 -- stamps that can be given are so from the first on
@@ -17,14 +17,14 @@ pub same_stamps : (Before Mid After : List ℕ → Type 0) → SameStamps Before
 same_stamps Before Mid After first then stamp = (λ given. (first stamp).0 ((then stamp).0 given), λ given. (then stamp).1 ((first stamp).1 given))
 
 pub settled_so : (Gives : List ℕ → Type 0) (old new : List NoteSeen) (place : ℕ) (what : Option (List SegmentValue)) (outcome : Outcome)
-    → Adds (λ notes. IsTurn what notes outcome.number outcome.reply) old new → Gives outcome.stamp → Settles Gives old new place what outcome
-settled_so Gives old new place what outcome turn given = record { notes = turn.more; turn = turn.holds; noted = turn.noted; given = given }
+    → Adds (λ notes. IsOutcome what notes outcome.number outcome.reply) old new → Gives outcome.stamp → Settles Gives old new place what outcome
+settled_so Gives old new place what outcome settled given = record { notes = settled.more; is_outcome = settled.holds; noted = settled.noted; given = given }
 
 -- the same by what gave its stamps at first
 pub settled_as : (Gives Given : List ℕ → Type 0) (old new : List NoteSeen) (place : ℕ) (what : Option (List SegmentValue)) (outcome : Outcome)
     → SameStamps Gives Given → Settles Given old new place what outcome → Settles Gives old new place what outcome
 settled_as Gives Given old new place what outcome same is =
-    record { notes = is.notes; turn = is.turn; noted = is.noted; given = (same outcome.stamp).0 is.given }
+    record { notes = is.notes; is_outcome = is.is_outcome; noted = is.noted; given = (same outcome.stamp).0 is.given }
 
 pub broken_so : (old new : List NoteSeen) (what : Option (List SegmentValue)) → Adds (IsCutShort what) old new → Breaks old new what
 broken_so old new what cut = record { notes = cut.more; cut = cut.holds; noted = cut.noted }

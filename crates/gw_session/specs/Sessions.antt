@@ -37,7 +37,7 @@ pub record IsArrival (m : List SegmentValue) (version : ℕ) (plan : PlanSeen) (
   pub message : c.message ≡ message_seen m
   pub under : IsTrue (is_under c version plan)
 
--- so many times the plan was looked up, and the message, admitted under it, was stale when it arrived
+-- this many times the plan was looked up, and the message, admitted under it, was stale when it arrived
 pub data Tries (m : List SegmentValue) : ℕ → List NoteSeen → Type 0 where
   untried : Tries m 0 []
   stale : (k : ℕ) (notes : List NoteSeen) (v w : ℕ) (plan : PlanSeen) (c : ConformingSeen) → Tries m k notes → IsArrival m v plan c
@@ -51,16 +51,16 @@ pub data Decides : Option (List SegmentValue) → List NoteSeen → Reply → Ty
       → Judged plan.text m reply → Decides (Some m) (tried ++ Looked v plan ∷ []) reply
   given_up : (m : List SegmentValue) (tried : List NoteSeen) → Tries m 4 tried → Decides (Some m) tried (Reject 207)
 
--- The notes of a block, with its number and what is said: the message was accepted, under the plan that was looked up last, and this is said under the number of
--- its arrival; or a refusal was noted, under the code of what is said; or the journal had no room.
-pub data IsTurn : Option (List SegmentValue) → List NoteSeen → ℕ → Reply → Type 0 where
+-- The outcome of a block: its notes, its number and what is said. The message was accepted, under the plan that was looked up last, and this is said under
+-- the number of its arrival; or a refusal was noted, under the code of what is said; or the journal had no room.
+pub data IsOutcome : Option (List SegmentValue) → List NoteSeen → ℕ → Reply → Type 0 where
   taken : (m : List SegmentValue) (k : ℕ) (tried : List NoteSeen) (v : ℕ) (plan : PlanSeen) (at n arrival : ℕ) (c : ConformingSeen) → k ≤ 3 → Tries m k tried
       → Judged plan.text m Accept → IsArrival m v plan c
-      → IsTurn (Some m) (tried ++ Looked v plan ∷ Added at (WasAccepted n arrival c) ∷ []) arrival Accept
+      → IsOutcome (Some m) (tried ++ Looked v plan ∷ Added at (WasAccepted n arrival c) ∷ []) arrival Accept
   turned_away : (what : Option (List SegmentValue)) (before : List NoteSeen) (reply : Reply) (at arrival code : ℕ) → Decides what before reply
-      → HasCode reply code → IsTurn what (before ++ Added at (WasRefused arrival code) ∷ []) arrival reply
+      → HasCode reply code → IsOutcome what (before ++ Added at (WasRefused arrival code) ∷ []) arrival reply
   no_room : (what : Option (List SegmentValue)) (before : List NoteSeen) (reply : Reply) → Decides what before reply
-      → IsTurn what (before ++ WasFull ∷ []) 0 (Reject 207)
+      → IsOutcome what (before ++ WasFull ∷ []) 0 (Reject 207)
 
 -- the first notes of a block whose answer isn't made
 pub data IsCutShort : Option (List SegmentValue) → List NoteSeen → Type 0 where
@@ -74,7 +74,7 @@ pub data IsCutShort : Option (List SegmentValue) → List NoteSeen → Type 0 wh
 -- A block is settled: its notes were added, and its answer has the number that they say, and a stamp that can be given.
 pub record Settles (Gives : List ℕ → Type 0) (old new : List NoteSeen) (place : ℕ) (what : Option (List SegmentValue)) (outcome : Outcome) : Type 0 where
   pub notes : List NoteSeen
-  pub turn : IsTurn what notes outcome.number outcome.reply
+  pub is_outcome : IsOutcome what notes outcome.number outcome.reply
   pub noted : new ≡ old ++ notes
   pub given : Gives outcome.stamp
 

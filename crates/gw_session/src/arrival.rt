@@ -3,10 +3,10 @@ ghost use Rattle.std.specs.Prelude.{◌≡◌, IfOk, OnErr, Some};
 ghost use Rattle.std.specs.Arc.{arc_value};
 ghost use Rattle.gw_crew.specs.own.Turns.{Adds};
 ghost use Rattle.gw_gate.specs.Seen.{plan_seen};
-ghost use Rattle.gw_session.specs.Sessions.{IsCutShort, IsTurn};
+ghost use Rattle.gw_session.specs.Sessions.{IsCutShort, IsOutcome};
 ghost use Rattle.gw_session.specs.own.Steps.{Asks, Attempts, CutsShort, Judges, MayLook, attempt_seen, judgement_seen};
 
-use crate::doors::{Came, Current, Turn, arrive, look, refuse, without_room};
+use crate::doors::{ArriveReply, CurrentPlan, NumberedReply, arrive, look, refuse};
 use gw_ack::{INTERNAL, Reply};
 use gw_crew::Door;
 use gw_er7::Message;
@@ -15,7 +15,7 @@ use std::alloc::{AllocError, Global};
 use std::sync::Arc;
 
 /// How often a message arrives that is stale each time.
-const TRIES: usize = 4;
+const MAX_TRIES: usize = 4;
 
 // What the plan in force says of a message: it is admitted, or what is said to it, with the condition's code.
 #[derive(Drop)]
@@ -27,12 +27,12 @@ enum Judgement {
 // What came of an arrival: it is settled, or the message was stale, and comes back.
 #[derive(Drop)]
 enum Attempt {
-    Done(Turn),
+    Done(NumberedReply),
     Stale(Message),
 }
 
 // What the plan in force says of a message.
-fn judge(alloc: Global, current: &Current, message: Message) -> Result<Judgement, AllocError>
+fn judge(alloc: Global, current: &CurrentPlan, message: Message) -> Result<Judgement, AllocError>
     ensures { IfOk result (λ judgement. Judges message current.now.version (plan_seen (arc_value current.now.plan)) (judgement_seen judgement)) }
 {
     current.plan.is_spelled();
@@ -63,12 +63,15 @@ fn try_once<D: Door>(alloc: Global, door: &mut D, message: Message) -> Result<At
     match ask(alloc, door, message)? {
         Judgement::Refused(why, code) => Ok(Attempt::Done(refuse(door, why, code)?)),
         Judgement::Admitted(conforming) => match arrive(door, conforming)? {
-            Came::Accepted(number) => Ok(Attempt::Done(Turn {
+            ArriveReply::Accepted(number) => Ok(Attempt::Done(NumberedReply {
                 number,
                 reply: Reply::Accept,
             })),
-            Came::Full => Ok(Attempt::Done(without_room())),
-            Came::Stale(conforming) => Ok(Attempt::Stale(conforming.message().copy(alloc)?)),
+            ArriveReply::Full => Ok(Attempt::Done(NumberedReply {
+                number: 0,
+                reply: Reply::Reject(INTERNAL),
+            })),
+            ArriveReply::Stale(conforming) => Ok(Attempt::Stale(conforming.message().copy(alloc)?)),
         },
     }
 }
@@ -78,14 +81,15 @@ fn arrive_in_time<D: Door>(
     alloc: Global,
     door: &mut D,
     message: Message,
-) -> Result<Turn, AllocError>
-    ensures turn { IfOk result (λ turn. Adds (λ notes. IsTurn (Some message) notes turn.number turn.reply) (D.noted door.old) (D.noted door.new)) }
+) -> Result<NumberedReply, AllocError>
+    ensures settled { IfOk result (λ settled.
+        Adds (λ notes. IsOutcome (Some message) notes settled.number settled.reply) (D.noted door.old) (D.noted door.new)) }
     ensures err { OnErr result (Adds (IsCutShort (Some message)) (D.noted door.old) (D.noted door.new)) }
 {
     let mut message = message;
-    'tries: for _try in 0..TRIES {
+    'tries: for _try in 0..MAX_TRIES {
         match try_once(alloc, door, message)? {
-            Attempt::Done(turn) => return Ok(turn),
+            Attempt::Done(settled) => return Ok(settled),
             Attempt::Stale(back) => message = back,
         }
     }
@@ -97,8 +101,8 @@ pub(crate) fn settle<D: Door>(
     alloc: Global,
     door: &mut D,
     what: Option<Message>,
-) -> Result<Turn, AllocError>
-    ensures turn { IfOk result (λ turn. Adds (λ notes. IsTurn what notes turn.number turn.reply) (D.noted door.old) (D.noted door.new)) }
+) -> Result<NumberedReply, AllocError>
+    ensures settled { IfOk result (λ settled. Adds (λ notes. IsOutcome what notes settled.number settled.reply) (D.noted door.old) (D.noted door.new)) }
     ensures err { OnErr result (Adds (IsCutShort what) (D.noted door.old) (D.noted door.new)) }
 {
     match what {

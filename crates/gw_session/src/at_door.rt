@@ -29,10 +29,10 @@ impl<D: Door, C: Clock> Judge for AtDoor<'_, D, C> {
         _number: u64,
         what: Option<Message>,
     ) -> Result<Outcome, AllocError> {
-        let turn = settle(alloc, self.door, what)?;
+        let settled = settle(alloc, self.door, what)?;
         Ok(Outcome {
-            reply: turn.reply,
-            number: turn.number,
+            reply: settled.reply,
+            number: settled.number,
             stamp: self.clock.stamp(),
         })
     }

@@ -10,14 +10,14 @@ use Rattle.gw_gate.specs.Replies.{ReplySeen, IsCurrent, IsAccepted, IsStale, IsR
 use Rattle.gw_gate.specs.Seen.{plan_seen}
 use Rattle.gw_gate.specs.Values.{conforming_at}
 use Rattle.gw_crew.specs.Notes.{NoteSeen, Looked, WasStale, WasFull, Added}
-use Rattle.gw_session.specs.declared.doors.Current.{Current}
-use Rattle.gw_session.specs.declared.doors.Came.{Came}
-use Rattle.gw_session.specs.declared.doors.Came.TheVariants as came
+use Rattle.gw_session.specs.declared.doors.CurrentPlan.{CurrentPlan}
+use Rattle.gw_session.specs.declared.doors.ArriveReply.{ArriveReply}
+use Rattle.gw_session.specs.declared.doors.ArriveReply.TheVariants as replied
 use Rattle.gw_session.specs.declared.arrival.Judgement.{Judgement}
 use Rattle.gw_session.specs.declared.arrival.Judgement.TheVariants as judgement
 use Rattle.gw_session.specs.declared.arrival.Attempt.{Attempt}
 use Rattle.gw_session.specs.declared.arrival.Attempt.TheVariants as attempt
-use Rattle.gw_session.specs.Sessions.{HasCode, IsArrival, IsCutShort, IsTurn, Judged, Tries}
+use Rattle.gw_session.specs.Sessions.{HasCode, IsArrival, IsCutShort, IsOutcome, Judged, Tries}
 
 -- ---- what a door replies
 
@@ -26,24 +26,24 @@ abbrev pub current_of : ReplySeen → Option (ℕ × PlanSeen)
 current_of (IsCurrent version plan) = Some (version, plan)
 current_of given = None
 
-abbrev pub current_seen : Current → ℕ × PlanSeen
+abbrev pub current_seen : CurrentPlan → ℕ × PlanSeen
 current_seen c = (c.version, plan_seen (arc_value c.plan))
 
 -- what came of an arrival
-pub data CameSeen : Type 0 where
-  Taken : (arrival : ℕ) → CameSeen
-  Back : (conforming : ConformingSeen) → CameSeen
-  NoRoom : CameSeen
+pub data ArriveSeen : Type 0 where
+  Taken : (arrival : ℕ) → ArriveSeen
+  Back : (conforming : ConformingSeen) → ArriveSeen
+  NoRoom : ArriveSeen
 
-abbrev pub came_seen : Came → CameSeen
-came_seen (came.Accepted arrival) = Taken arrival
-came_seen (came.Stale c) = Back (conforming_at c)
-came_seen came.Full = NoRoom
+abbrev pub arrive_seen : ArriveReply → ArriveSeen
+arrive_seen (replied.Accepted arrival) = Taken arrival
+arrive_seen (replied.Stale c) = Back (conforming_at c)
+arrive_seen replied.Full = NoRoom
 
-abbrev pub came_of : ReplySeen → CameSeen
-came_of (IsAccepted n arrival) = Taken arrival
-came_of (IsStale version c) = Back c
-came_of given = NoRoom
+abbrev pub arrive_of : ReplySeen → ArriveSeen
+arrive_of (IsAccepted n arrival) = Taken arrival
+arrive_of (IsStale version c) = Back c
+arrive_of given = NoRoom
 
 -- the number of an arrival, in the reply to Refuse
 abbrev pub arrival_of : ReplySeen → Option ℕ
@@ -65,7 +65,7 @@ pub record IsBack (c back : ConformingSeen) (notes : List NoteSeen) : Type 0 whe
   pub is : notes ≡ WasStale version c ∷ []
 
 -- what is noted of an arrival
-abbrev pub ComesTo : ConformingSeen → CameSeen → List NoteSeen → Type 0
+abbrev pub ComesTo : ConformingSeen → ArriveSeen → List NoteSeen → Type 0
 ComesTo c (Taken arrival) notes = IsTaken c arrival notes
 ComesTo c (Back back) notes = IsBack c back notes
 ComesTo c NoRoom notes = notes ≡ WasFull ∷ []
@@ -119,7 +119,7 @@ attempt_seen (attempt.Stale message) = Again message
 
 -- after three stale arrivals at most, it is settled with these notes
 abbrev pub Settles : List SegmentValue → ℕ → Reply → List NoteSeen → Type 0
-Settles m number said notes = (k : ℕ) (tried : List NoteSeen) → k ≤ 3 → Tries m k tried → IsTurn (Some m) (tried ++ notes) number said
+Settles m number said notes = (k : ℕ) (tried : List NoteSeen) → k ≤ 3 → Tries m k tried → IsOutcome (Some m) (tried ++ notes) number said
 
 -- it was stale once more, and comes back
 pub record OnceMore (m back : List SegmentValue) (notes : List NoteSeen) : Type 0 where

@@ -5,8 +5,8 @@ use Rattle.gw_session.proofs.arrival.arrive_in_time.Goals as goal
 pub tries-init : goal.tries-init
 tries-init g c = record { same = refl; tries = tries_none _ _ }
 
-pub returns-clause-turn : goal.returns-clause-turn
-returns-clause-turn g c =
+pub returns-clause-settled : goal.returns-clause-settled
+returns-clause-settled g c =
     let four : c.tries._try ≡ 4 = omega arith in if_gives_up _ c.refuse.result _ _ _ _ four c.tries.invariant.tries c.refuse.ensures.refused
 
 pub returns-clause-err : goal.returns-clause-err

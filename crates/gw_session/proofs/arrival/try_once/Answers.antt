@@ -18,7 +18,7 @@ returns-in_err-number-in-Admitted-clause-err g c =
 pub returns-in_err-copy-in-Stale-clause-err : goal.returns-in_err-copy-in-Stale-clause-err
 returns-in_err-copy-in-Stale-clause-err g c =
     let asks = rw c.in-Admitted.is at c.in_ok-why.ensures.asked in
-    let came = rw c.in-Stale.is at c.in_ok-number-in-Admitted.ensures.came in
+    let came = rw c.in-Stale.is at c.in_ok-number-in-Admitted.ensures.replied in
     err_gives _ (cuts_after_stale _ _ _ _ _ _ asks came)
 
 pub refuse-requires : goal.refuse-requires
@@ -31,18 +31,18 @@ returns-in_ok-refuse-in-Refused-clause-tried g c =
 pub returns-in-Accepted-clause-tried : goal.returns-in-Accepted-clause-tried
 returns-in-Accepted-clause-tried g c =
     let asks = rw c.in-Admitted.is at c.in_ok-why.ensures.asked in
-    let came = rw c.in-Accepted.is at c.in_ok-number-in-Admitted.ensures.came in
+    let came = rw c.in-Accepted.is at c.in_ok-number-in-Admitted.ensures.replied in
     settles_taken _ _ _ _ _ _ asks came
 
 pub returns-in-Full-clause-tried : goal.returns-in-Full-clause-tried
 returns-in-Full-clause-tried g c =
     let asks = rw c.in-Admitted.is at c.in_ok-why.ensures.asked in
-    let came = rw c.in-Full.is at c.in_ok-number-in-Admitted.ensures.came in
-    settles_full _ _ _ _ _ _ _ c.without_room.ensures.number c.without_room.ensures.reply asks came
+    let came = rw c.in-Full.is at c.in_ok-number-in-Admitted.ensures.replied in
+    settles_full _ _ _ _ _ asks came
 
 pub returns-in_ok-copy-in-Stale-clause-tried : goal.returns-in_ok-copy-in-Stale-clause-tried
 returns-in_ok-copy-in-Stale-clause-tried g c =
     let asks = rw c.in-Admitted.is at c.in_ok-why.ensures.asked in
-    let came = rw c.in-Stale.is at c.in_ok-number-in-Admitted.ensures.came in
+    let came = rw c.in-Stale.is at c.in_ok-number-in-Admitted.ensures.replied in
     let seen = ap message_seen (sym (c.in_ok-copy-in-Stale.ensures ∙ c.message.ensures ∙ ap (λ x. x.tree.message) c.deref.ensures)) in
-    once_more _ _ _ _ _ _ _ asks came seen
+    once_more _ _ _ _ _ _ _ seen asks came

@@ -1,5 +1,5 @@
-use Rattle.gw_session.proofs.Asking.{came_so}
+use Rattle.gw_session.proofs.Asking.{arrive_noted}
 use Rattle.gw_session.proofs.doors.arrive.Goals as goal
 
-pub returns-in-Ok-clause-came : goal.returns-in-Ok-clause-came
-returns-in-Ok-clause-came g c = came_so _ _ _ _ _ c.came_in.ensures c.in-Ok.ensures
+pub returns-in-Ok-clause-replied : goal.returns-in-Ok-clause-replied
+returns-in-Ok-clause-replied g c = arrive_noted _ _ _ _ _ c.arrive_reply.ensures c.in-Ok.ensures
