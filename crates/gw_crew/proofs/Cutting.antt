@@ -2,8 +2,7 @@
 use Rattle.std.proofs.Common.{◌≡◌, List, Option, Ok, sym, subst, ◌∙◌, append-nil}
 use Rattle.gw_gate.specs.Journal.{Journal}
 use Rattle.gw_gate.specs.Replies as event
-use Rattle.gw_gate.specs.Replies.{ReplySeen, IsCurrent, IsAccepted, IsStale, IsRefused, IsSwapped, IsUnlike, IsJob, IsIdle, IsKept, IsRepeat, IsStranger}
-use Rattle.gw_gate.specs.Replies.{IsIssued, IsDone, IsOut, IsNothing, IsPending, IsClosed, IsFull, closed_by}
+use Rattle.gw_gate.specs.Replies.{ReplySeen, IsPending, IsClosed, closed_by}
 use Rattle.gw_crew.specs.Cutting.{Cuts, closed, pending}
 use Rattle.gw_crew.specs.Notes.{NoteSeen, Notes}
 
@@ -15,22 +14,7 @@ record Cut (given : ReplySeen) (old new : List NoteSeen) : Type 0 where
 cut : (given : ReplySeen) (old new : List NoteSeen) → Notes event.Cuts given old new → Cut given old new
 cut IsPending old new noted = record { gives = pending new noted; same = noted.notes ∙ append-nil old }
 cut (IsClosed chapter) old new noted = record { gives = closed chapter new noted; same = noted.notes ∙ append-nil old }
-cut (IsCurrent v p) old new noted = absurd noted.answers
-cut (IsAccepted n arrival) old new noted = absurd noted.answers
-cut (IsStale v c) old new noted = absurd noted.answers
-cut (IsRefused arrival) old new noted = absurd noted.answers
-cut (IsSwapped v) old new noted = absurd noted.answers
-cut (IsUnlike p) old new noted = absurd noted.answers
-cut (IsJob n r c) old new noted = absurd noted.answers
-cut IsIdle old new noted = absurd noted.answers
-cut IsKept old new noted = absurd noted.answers
-cut (IsRepeat t) old new noted = absurd noted.answers
-cut (IsStranger t) old new noted = absurd noted.answers
-cut IsIssued old new noted = absurd noted.answers
-cut IsDone old new noted = absurd noted.answers
-cut (IsOut n t) old new noted = absurd noted.answers
-cut IsNothing old new noted = absurd noted.answers
-cut (IsFull e) old new noted = absurd noted.answers
+cut given old new noted = absurd noted.answers
 
 pub cuts_so : (given : ReplySeen) (o : Option Journal) (old new : List NoteSeen) → o ≡ closed_by given → Notes event.Cuts given old new → Cuts old (Ok o) new
 cuts_so given o old new is noted = subst (λ x. Cuts old (Ok x) new) (sym is) (cut given old new noted).gives

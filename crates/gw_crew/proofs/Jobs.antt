@@ -1,17 +1,17 @@
 -- In a lawful journal each pair that was issued is due, so its job goes to a receiver of its message's route.
-use Rattle.std.proofs.Common.{◌≡◌, ◌==◌, ◌<◌, ◌+◌, ℕ, zero, suc, Bool, true, false, if◌then◌else◌, List, [], ◌∷◌, ◌++◌, Option, None, Some, map, length}
-use Rattle.std.proofs.Common.{slice_get, refl, sym, ap, subst, ◌∙◌, arith, append-nil}
-use Rattle.std.specs.Prelude.{not, find, filter, cond, ◌||◌}
-use Rattle.std.specs.List.{list_any, AllByRecursion}
-use Rattle.std.proofs.lemmas.Option.{none-some}
-use Rattle.std.proofs.lemmas.Grind.{common_steps}
-use Rattle.gw_gate.specs.Parts.{MessageSeen, ConformingSeen, TranslatedSeen, delivers, is_under, same_receivers}
-use Rattle.gw_gate.specs.Journal.{EntrySeen, WasAccepted, WasRefused, WasSwapped, WasTaken, WasKept, WasIssued, WasOut, Start, Journal, Acceptance, Pair, pair}
-use Rattle.gw_gate.specs.Journal.{accepted, acceptance, due, is_due, issued, jobs, released, current, next_number, next_arrival, kept}
-use Rattle.gw_gate.specs.Replies.{EventSeen, Looks, Arrives, Refuses, Swaps, Takes, Puts, Reissues, Releases, Cuts, IsAccepted, IsStale, IsSwapped}
-use Rattle.gw_gate.specs.Replies.{IsUnlike, IsStranger, IsRepeat, IsKept, IsDone, IsIssued, IsPending, IsClosed, job_with, job_of, is_stranger, is_kept, out_with, out_of, reply_to}
-use Rattle.gw_gate.specs.Replies.{added, most}
-use Rattle.gw_gate.specs.Chapters.{is_pending}
+use Rattle.std.proofs.Common.{◌≡◌, ◌==◌, ◌<◌, ◌+◌, ℕ, Bool, true, false, if◌then◌else◌, List, [], ◌∷◌, ◌++◌, Option, None, Some, All, map, slice_get, get_or}
+use Rattle.std.proofs.Common.{refl, sym, ap, subst, ◌∙◌, arith, append-nil}
+use Rattle.std.specs.Prelude.{not, find, filter, cond, ◌||◌, ◌&&◌, ⊤}
+use Rattle.std.specs.List.{list_any}
+use Rattle.std.proofs.lemmas.Bool.{eq-eqb, ne_eqb, eqb-true, or_left, or_right}
+use Rattle.std.proofs.lemmas.List.Elements.{All-append, All-cons, All-from_get_or, All-get_or, All-map, All-nil, All-weaker}
+use Rattle.std.proofs.lemmas.List.Folds.{list_any-append, list_any_at}
+use Rattle.std.proofs.lemmas.Option.{get_or_from_slice_get, slice_get_within}
+use Rattle.gw_gate.specs.Parts.{MessageSeen, ConformingSeen, TranslatedSeen, delivers}
+use Rattle.gw_gate.specs.Journal.{EntrySeen, WasAccepted, WasKept, WasIssued, Start, Journal, Acceptance, Pair, pair, accepted, acceptance, due, is_due, issued}
+use Rattle.gw_gate.specs.Replies.{EventSeen, Arrives, Refuses, Swaps, Takes, Puts, Reissues, Releases, ReplySeen, IsAccepted, IsRefused, IsSwapped, IsJob}
+use Rattle.gw_gate.specs.Replies.{IsOut}
+use Rattle.gw_gate.specs.Replies.{IsStranger, IsRepeat, IsKept, IsDone, IsIssued, is_kept, is_of, reply_to, added, most}
 use Rattle.gw_gate.specs.Lawful.{Lawful, empty, more, IsLawful}
 use Rattle.gw_gate.specs.Headline.{CountFrom, IsTranslated}
 use Rattle.gw_gate.proofs.Journals.{due-append}
@@ -19,26 +19,54 @@ use Rattle.gw_gate.proofs.Entering.{issued-append}
 use Rattle.gw_gate.proofs.Releasing.{journal, some_is, unlimited}
 use Rattle.gw_gate.proofs.Numbering.{n_of, lawful_numbers}
 
--- ---- numbers in lists
+-- ---- what is kept or issued again was due
 
-any_left : (n : ℕ) (xs ys : List ℕ) → list_any (λ m. m == n) xs ≡ true → list_any (λ m. m == n) (xs ++ ys) ≡ true
-any_left n [] ys is = absurd (let no : false ≡ true = is in cc)
-any_left n (x ∷ xs) ys is =
-    (elim (x == n) as (λ b. (b || list_any (λ m. m == n) xs) ≡ true → (b || list_any (λ m. m == n) (xs ++ ys)) ≡ true) [
-      | true ↦ λ e. refl
-      | false ↦ λ e. any_left n xs ys e
-    ]) is
+abbrev pub was_due : List EntrySeen → EntrySeen → Bool
+was_due h (WasKept n t) = is_due h n t.receiver
+was_due h (WasIssued n r) = is_due h n r
+was_due h e = true
 
-any_right : (n : ℕ) (xs ys : List ℕ) → list_any (λ m. m == n) ys ≡ true → list_any (λ m. m == n) (xs ++ ys) ≡ true
-any_right n [] ys is = is
-any_right n (x ∷ xs) ys is =
-    elim (x == n) as (λ b. (b || list_any (λ m. m == n) (xs ++ ys)) ≡ true) [
-      | true ↦ refl
-      | false ↦ any_right n xs ys is
-    ]
+abbrev due_if : List EntrySeen → Option EntrySeen → Bool
+due_if h None = true
+due_if h (Some e) = was_due h e
 
-same_self : (n : ℕ) → (n == n) ≡ true
-same_self n = grind (arith, common_steps)
+-- other events add other entries
+abbrev IsOther : EventSeen → Type 0
+IsOther (Puts n t) = ⊥
+IsOther (Reissues n r) = ⊥
+IsOther event = ⊤
+
+others : (h : List EntrySeen) (event : EventSeen) (given : ReplySeen) → IsOther event → due_if h (added event given) ≡ true
+others h (Puts n t) given is = absurd is
+others h (Reissues n r) given is = absurd is
+others h (Arrives c) (IsAccepted n arrival) is = refl
+others h (Refuses code) (IsRefused arrival) is = refl
+others h (Swaps plan) (IsSwapped v) is = refl
+others h Takes (IsJob n r c) is = refl
+others h (Releases r) (IsOut n t) is = refl
+others h event given is = refl
+
+module _ (h : List EntrySeen) (n : ℕ) where
+  put : (t : TranslatedSeen) (due of kept : Bool) → is_due h n t.receiver ≡ due
+      → due_if h (added (Puts n t) (if not (due && of) then IsStranger (Some t) else if kept then IsRepeat t else IsKept)) ≡ true
+  put t true true false is = is
+  put t true true true is = refl
+  put t true false kept is = refl
+  put t false of kept is = refl
+
+  reissued : (r : ℕ) (due kept : Bool) → is_due h n r ≡ due
+      → due_if h (added (Reissues n r) (if not due then IsStranger None else if kept then IsDone else IsIssued)) ≡ true
+  reissued r true false is = is
+  reissued r true true is = refl
+  reissued r false kept is = refl
+
+pub added_due : (j : Journal) (event : EventSeen) (e : EntrySeen) → added event (reply_to j event) ≡ Some e → was_due j.entries e ≡ true
+added_due j event e is = sym (ap (due_if j.entries) is) ∙ by event
+  where
+    by : (event : EventSeen) → due_if j.entries (added event (reply_to j event)) ≡ true
+    by (Puts n t) = put j.entries n t (is_due j.entries n t.receiver) (is_of t (acceptance j.entries n)) (is_kept j.entries n t.receiver) refl
+    by (Reissues n r) = reissued j.entries n r (is_due j.entries n r) (is_kept j.entries n r) refl
+    by event = others j.entries event (reply_to j event) tt
 
 -- ---- pairs that are due
 
@@ -46,114 +74,29 @@ abbrev pub IsDue : List EntrySeen → Pair → Type 0
 IsDue h p = is_due h p.n p.receiver ≡ true
 
 due_stays : (g h : List EntrySeen) (p : Pair) → IsDue g p → IsDue (g ++ h) p
-due_stays g h p is = ap (list_any (λ m. m == p.n)) (due-append g h p.receiver) ∙ any_left p.n (due g p.receiver) (due h p.receiver) is
-
-all_stay : (g h : List EntrySeen) (ps : List Pair) → AllByRecursion (IsDue g) ps → AllByRecursion (IsDue (g ++ h)) ps
-all_stay g h [] all = tt
-all_stay g h (p ∷ ps) all = (due_stays g h p all.0, all_stay g h ps all.1)
-
-all_join : (h : List EntrySeen) (ps qs : List Pair) → AllByRecursion (IsDue h) ps → AllByRecursion (IsDue h) qs → AllByRecursion (IsDue h) (ps ++ qs)
-all_join h [] qs all rest = rest
-all_join h (p ∷ ps) qs all rest = (all.0, all_join h ps qs all.1 rest)
+due_stays g h p is =
+    ap (list_any (λ m. m == p.n)) (due-append g h p.receiver) ∙ list_any-append (λ m. m == p.n) (due g p.receiver) (due h p.receiver) ∙ or_left _ _ is
 
 -- what was accepted last is due to each receiver of its route
 due_last : (h : List EntrySeen) (n arrival : ℕ) (c : ConformingSeen) (r : ℕ) → delivers c r ≡ true → IsDue (h ++ WasAccepted n arrival c ∷ []) (pair n r)
 due_last h n arrival c r goes =
-    let e = WasAccepted n arrival c in
+    let e : List EntrySeen = WasAccepted n arrival c ∷ [] in
     let new : Acceptance = record { n = n; conforming = c } in
-    let one : list_any (λ m. m == n) (due (e ∷ []) r) ≡ true = ap (λ b. list_any (λ m. m == n) (map n_of (cond b (new ∷ []) []))) goes ∙ ap (λ b. b || false)
-    (same_self n) in
-    ap (list_any (λ m. m == n)) (due-append h (e ∷ []) r) ∙ any_right n (due h r) (due (e ∷ []) r) one
-
-all_due : (h : List EntrySeen) (n arrival : ℕ) (c : ConformingSeen) (rs : List ℕ) → AllByRecursion (λ r. delivers c r ≡ true) rs
-    → AllByRecursion (IsDue (h ++ WasAccepted n arrival c ∷ [])) (map (pair n) rs)
-all_due h n arrival c [] all = tt
-all_due h n arrival c (r ∷ rs) all = (due_last h n arrival c r all.0, all_due h n arrival c rs all.1)
-
--- each receiver of a route is one of them
-all_among : (front rs : List ℕ) → AllByRecursion (λ r. list_any (λ to. to == r) (front ++ rs) ≡ true) rs
-all_among front [] = tt
-all_among front (r ∷ rs) = (
-  any_right r front (r ∷ rs) (ap (λ b. b || list_any (λ to. to == r) rs) (same_self r)),
-  subst (λ l. AllByRecursion (λ q. list_any (λ to. to == q) l ≡ true) rs) (regroup front r rs) (all_among (front ++ r ∷ []) rs),
-)
-  where
-    regroup : (front : List ℕ) (r : ℕ) (rs : List ℕ) → (front ++ r ∷ []) ++ rs ≡ front ++ r ∷ rs
-    regroup [] r rs = refl
-    regroup (x ∷ xs) r rs = ap (λ l. x ∷ l) (regroup xs r rs)
-
--- ---- each entry
+    let one : list_any (λ m. m == n) (due e r) ≡ true = ap (λ b. list_any (λ m. m == n) (map n_of (cond b (new ∷ []) []))) goes
+    ∙ or_left _ false (eq-eqb n n refl) in
+    ap (list_any (λ m. m == n)) (due-append h e r) ∙ list_any-append (λ m. m == n) (due h r) (due e r) ∙ or_right _ _ one
 
 -- the pairs that an entry issues are due with it
-abbrev Issues : List EntrySeen → EntrySeen → Type 0
-Issues h e = AllByRecursion (IsDue (h ++ e ∷ [])) (issued (e ∷ []))
-
-not_not : (b : Bool) → not b ≡ false → b ≡ true
-not_not true is = refl
-not_not false is = absurd (let no : true ≡ false = is in cc)
-
-took : (h : List EntrySeen) (o : Option Pair) (e : EntrySeen) → added Takes (job_of h o) ≡ Some e → Issues h e
-took h None e is = absurd (none-some e is)
-took h (Some p) e is = with_found (acceptance h p.n) is
-  where
-    with_found : (a : Option Acceptance) → added Takes (job_with p a) ≡ Some e → Issues h e
-    with_found None x = absurd (none-some e x)
-    with_found (Some a) x = subst (Issues h) (some_is (WasTaken p.n p.receiver) e x) tt
-
-gave : (h : List EntrySeen) (r : ℕ) (o : Option ℕ) (e : EntrySeen) → added (Releases r) (out_of h r o) ≡ Some e → Issues h e
-gave h r None e is = absurd (none-some e is)
-gave h r (Some n) e is = with_kept (kept h n r) is
-  where
-    with_kept : (o : Option TranslatedSeen) → added (Releases r) (out_with n o) ≡ Some e → Issues h e
-    with_kept None x = absurd (none-some e x)
-    with_kept (Some t) x = subst (Issues h) (some_is (WasOut n r t) e x) tt
-
-issues : (j : Journal) (event : EventSeen) (e : EntrySeen) → added event (reply_to j event) ≡ Some e → Issues j.entries e
-issues j Looks e is = absurd (none-some e is)
-issues j (Arrives c) e is =
-    let v = (current j).number in
-    (elim (is_under c v (current j).plan) as
-    (λ b. added (Arrives c) (if b then IsAccepted (next_number j) (next_arrival j) else IsStale v c) ≡ Some e → Issues j.entries e) [
-      | true ↦ λ x. subst (Issues j.entries) (some_is (WasAccepted (next_number j) (next_arrival j) c) e x)
-          (subst (AllByRecursion (IsDue (j.entries ++ WasAccepted (next_number j) (next_arrival j) c ∷ [])))
-          (sym (append-nil (map (pair (next_number j)) c.receivers)))
-          (all_due j.entries (next_number j) (next_arrival j) c c.receivers (all_among [] c.receivers)))
-      | false ↦ λ x. absurd (none-some e x)
-    ]) is
-issues j (Refuses code) e is = subst (Issues j.entries) (some_is (WasRefused (next_arrival j) code) e is) tt
-issues j (Swaps p) e is =
-    let v = (current j).number + 1 in
-    (elim (same_receivers p j.start.plan) as (λ b. added (Swaps p) (if b then IsSwapped v else IsUnlike p) ≡ Some e → Issues j.entries e) [
-      | true ↦ λ x. subst (Issues j.entries) (some_is (WasSwapped v p) e x) tt
-      | false ↦ λ x. absurd (none-some e x)
-    ]) is
-issues j Takes e is = took j.entries (slice_get (issued j.entries) (jobs j.entries)) e is
-issues j (Puts n t) e is =
-    (elim (is_stranger j.entries n t) as
-    (λ b. added (Puts n t) (if b then IsStranger (Some t) else if is_kept j.entries n t.receiver then IsRepeat t else IsKept) ≡ Some e → Issues j.entries e) [
-      | true ↦ λ x. absurd (none-some e x)
-      | false ↦ elim (is_kept j.entries n t.receiver) as (λ b. added (Puts n t) (if b then IsRepeat t else IsKept) ≡ Some e → Issues j.entries e) [
-        | true ↦ λ x. absurd (none-some e x)
-        | false ↦ λ x. subst (Issues j.entries) (some_is (WasKept n t) e x) tt
-      ]
-    ]) is
-issues j (Reissues n r) e is =
-    (elim (not (is_due j.entries n r)) as
-    (λ b. not (is_due j.entries n r) ≡ b → added (Reissues n r) (if b then IsStranger None else if is_kept j.entries n r then IsDone else IsIssued) ≡ Some e
-    → Issues j.entries e) [
-      | true ↦ λ due x. absurd (none-some e x)
-      | false ↦ λ due. elim (is_kept j.entries n r) as (λ b. added (Reissues n r) (if b then IsDone else IsIssued) ≡ Some e → Issues j.entries e) [
-        | true ↦ λ x. absurd (none-some e x)
-        | false ↦ λ x. subst (Issues j.entries) (some_is (WasIssued n r) e x)
-            (due_stays j.entries (WasIssued n r ∷ []) (pair n r) (not_not (is_due j.entries n r) due), tt)
-      ]
-    ]) refl is
-issues j (Releases r) e is = gave j.entries r (slice_get (due j.entries r) (length (released j.entries r))) e is
-issues j Cuts e is =
-    (elim (is_pending j) as (λ b. added Cuts (if b then IsPending else IsClosed j) ≡ Some e → Issues j.entries e) [
-      | true ↦ λ x. absurd (none-some e x)
-      | false ↦ λ x. absurd (none-some e x)
-    ]) is
+issues : (h : List EntrySeen) (e : EntrySeen) → was_due h e ≡ true → All (IsDue (h ++ e ∷ [])) (issued (e ∷ []))
+issues h (WasAccepted n arrival c) is =
+    let P = IsDue (h ++ WasAccepted n arrival c ∷ []) in
+    subst (All P) (sym (append-nil (map (pair n) c.receivers))) (All-map P (pair n) c.receivers
+    (All-from_get_or (λ r. P (pair n r)) c.receivers 0
+    (λ i lt. let r = get_or c.receivers i 0 in due_last h n arrival c r (list_any_at (λ to. to == r) c.receivers i 0 lt (eq-eqb r r refl)))))
+issues h (WasIssued n r) is =
+    let P = IsDue (h ++ WasIssued n r ∷ []) in
+    All-cons P (pair n r) [] (due_stays h (WasIssued n r ∷ []) (pair n r) is) (All-nil P)
+issues h e is = All-nil (IsDue (h ++ e ∷ []))
 
 -- ---- all entries
 
@@ -166,15 +109,12 @@ pub record Found (n r : ℕ) (xs : List Acceptance) : Type 0 where
 abbrev pub among : ℕ → ℕ → List Acceptance → Bool
 among n r xs = list_any (λ m. m == n) (map n_of (filter (λ a. delivers a.conforming r) xs))
 
-differs : (m n : ℕ) → n < m → (m == n) ≡ false
-differs m n lt = grind (arith, common_steps)
-
 -- numbers that count on from above it have it nowhere
 none_later : (first n r : ℕ) (xs : List Acceptance) → n < first → CountFrom first (map n_of xs) → among n r xs ≡ false
 none_later first n r [] lt all = refl
 none_later first n r (x ∷ xs) lt all =
     let rest = none_later (first + 1) n r xs (omega arith) all.1 in
-    let here : (x.n == n) ≡ false = differs x.n n (let is = all.0 in omega (arith, is)) in
+    let here : (x.n == n) ≡ false = ne_eqb x.n n (λ e. let is = all.0 in omega (arith, is, e)) in
     elim (delivers x.conforming r) as
     (λ b. list_any (λ m. m == n) (map n_of (cond b (x ∷ filter (λ a. delivers a.conforming r) xs) (filter (λ a. delivers a.conforming r) xs))) ≡ false) [
       | true ↦ ap (λ b. b || among n r xs) here ∙ rest
@@ -195,29 +135,25 @@ found_goes first n r (x ∷ xs) all is = by (x.n == n) (delivers x.conforming r)
     by : (same goes : Bool) → (x.n == n) ≡ same → delivers x.conforming r ≡ goes → (among n r xs ≡ true → Found n r xs) → Found n r (x ∷ xs)
     by true true e g found = record { by = x; found = ap (λ b. cond b (Some x) (find (λ a. a.n == n) xs)) e; goes = g }
     by true false e g found =
-        let this : x.n ≡ n = grind (arith, common_steps) in
+        let this = eqb-true x.n n e in
         let none = none_later (first + 1) n r xs (let a = all.0 in omega (arith, a, this)) all.1 in
         let rest : among n r xs ≡ true = sym (ap later g) ∙ is in
         absurd (let no : false ≡ true = sym none ∙ rest in cc)
     by false true e g found = further e (ap (λ b. b || among n r xs) (sym e) ∙ sym (ap later g) ∙ is) found
     by false false e g found = further e (sym (ap later g) ∙ is) found
 
-none_there : (k : ℕ) → slice_get (let none : List Pair = [] in none) k ≡ None
-none_there k = grind (arith, common_steps)
-
-pub all_at : (h : List EntrySeen) (ps : List Pair) (k : ℕ) (p : Pair) → AllByRecursion (IsDue h) ps → slice_get ps k ≡ Some p → IsDue h p
-all_at h [] k p all is = absurd (none-some p (sym (none_there k) ∙ is))
-all_at h (q ∷ ps) zero p all is = subst (IsDue h) (some_is q p is) all.0
-all_at h (q ∷ ps) (suc k) p all is = all_at h ps k p all.1 is
+pub all_at : (h : List EntrySeen) (ps : List Pair) (k : ℕ) (p : Pair) → All (IsDue h) ps → slice_get ps k ≡ Some p → IsDue h p
+all_at h ps k p all is = subst (IsDue h) (get_or_from_slice_get ps k p p is) (All-get_or (IsDue h) ps k p (slice_get_within ps k p is) all)
 
 module _ (Means : List ℕ → MessageSeen → ℕ → MessageSeen → Type 0) where
   -- each pair that was issued is due
-  pub all_issued : (start : Start) (h : List EntrySeen) → Lawful (IsTranslated Means) start h → AllByRecursion (IsDue h) (issued h)
-  all_issued start h empty = tt
+  pub all_issued : (start : Start) (h : List EntrySeen) → Lawful (IsTranslated Means) start h → All (IsDue h) (issued h)
+  all_issued start h empty = All-nil (IsDue [])
   all_issued start h (more g event e lawful fact adds) =
-      subst (AllByRecursion (IsDue (g ++ e ∷ []))) (sym (issued-append g (e ∷ [])))
-      (all_join (g ++ e ∷ []) (issued g) (issued (e ∷ [])) (all_stay g (e ∷ []) (issued g) (all_issued start g lawful))
-      (issues (journal start g) event e (unlimited most (journal start g) event (reply_to (journal start g) event) e adds)))
+      let P = IsDue (g ++ e ∷ []) in
+      let due = added_due (journal start g) event e (unlimited most (journal start g) event (reply_to (journal start g) event) e adds) in
+      subst (All P) (sym (issued-append g (e ∷ []))) (All-append P (issued g) (issued (e ∷ []))
+      (All-weaker (IsDue g) P (λ p. due_stays g (e ∷ []) p) (issued g) (all_issued start g lawful)) (issues g e due))
 
   -- the job of a pair goes to a receiver of its message's route
   pub job_goes : (j : Journal) (k : ℕ) (p : Pair) (a : Acceptance) → IsLawful (IsTranslated Means) j → slice_get (issued j.entries) k ≡ Some p

@@ -1,13 +1,15 @@
 -- A gate's reply is one of its event's row.
 use Rattle.std.proofs.Common.{◌≡◌, ◌+◌, ℕ, Bool, true, false, if◌then◌else◌, List, Option, None, Some, slice_get, length, refl}
 use Rattle.std.specs.Prelude.{not, is_some, nat_le, ◌&&◌}
-use Rattle.gw_gate.specs.Parts.{MessageSeen, TranslatedSeen, is_under, same_receivers}
-use Rattle.gw_gate.specs.Journal.{EntrySeen, Journal, Acceptance, Pair, acceptance, due, is_due, issued, jobs, kept, released, current, next_number}
-use Rattle.gw_gate.specs.Journal.{next_arrival}
-use Rattle.gw_gate.specs.Replies.{EventSeen, Looks, Arrives, Refuses, Swaps, Takes, Puts, Reissues, Releases, Cuts, ReplySeen, IsAccepted, IsStale, IsSwapped}
-use Rattle.gw_gate.specs.Replies.{IsUnlike, IsStranger, IsRepeat, IsKept, IsDone, IsIssued, IsPending, IsClosed, IsFull, job_with, job_of, is_stranger, is_kept, out_with, out_of}
-use Rattle.gw_gate.specs.Replies.{reply_to, reply, limited, added, most}
+use Rattle.std.proofs.lemmas.Bool.{and_parts, cond_both, false≢true}
 use Rattle.gw_gate.specs.Chapters.{is_pending}
+use Rattle.gw_gate.specs.Parts.{MessageSeen, is_under, same_receivers}
+use Rattle.gw_gate.specs.Journal.{EntrySeen, Journal, Acceptance, Pair, acceptance, current, due, is_due, issued, jobs, kept, next_arrival, next_number}
+use Rattle.gw_gate.specs.Journal.{released}
+use Rattle.gw_gate.specs.Replies.{EventSeen, Looks, Arrives, Refuses, Swaps, Takes, Puts, Reissues, Releases, Cuts, ReplySeen, IsAccepted, IsStale, IsSwapped}
+use Rattle.gw_gate.specs.Replies.{IsUnlike, IsStranger, IsRepeat, IsKept, IsDone, IsIssued, IsPending, IsClosed, IsFull, job_with, job_of, is_stranger, is_kept}
+use Rattle.gw_gate.specs.Replies.{out_with, out_of}
+use Rattle.gw_gate.specs.Replies.{reply_to, reply, limited, added, most}
 use Rattle.gw_gate.specs.Lawful.{IsLawful}
 use Rattle.gw_gate.specs.Headline.{IsTranslated}
 use Rattle.gw_crew.specs.Notes.{Answers}
@@ -15,35 +17,18 @@ use Rattle.gw_crew.proofs.Jobs.{job_goes}
 
 -- Full comes only where an entry would be added
 full_answers : (event : EventSeen) (given : ReplySeen) → is_some (added event given) ≡ true → Answers event (IsFull event)
-full_answers Looks given is = absurd (let no : false ≡ true = is in cc)
-full_answers (Arrives c) given is = refl
-full_answers (Refuses code) given is = refl
-full_answers (Swaps p) given is = refl
-full_answers Takes given is = refl
-full_answers (Puts n t) given is = refl
-full_answers (Reissues n r) given is = refl
-full_answers (Releases r) given is = refl
-full_answers Cuts given is = absurd (let no : false ≡ true = is in cc)
-
-first_true : (a b : Bool) → (a && b) ≡ true → a ≡ true
-first_true true b is = refl
-first_true false b is = absurd (let no : false ≡ true = is in cc)
+full_answers Looks given is = absurd (false≢true is)
+full_answers Cuts given is = absurd (false≢true is)
+full_answers event given is = refl
 
 limited_answers : (limit : ℕ) (j : Journal) (event : EventSeen) (given : ReplySeen) → Answers event given → Answers event (limited limit j event given)
 limited_answers limit j event given row =
-    (elim (is_some (added event given) && nat_le limit (length j.entries)) as
-    (λ b. (is_some (added event given) && nat_le limit (length j.entries)) ≡ b → Answers event (if b then IsFull event else given)) [
-      | true ↦ λ is. full_answers event given (first_true (is_some (added event given)) (nat_le limit (length j.entries)) is)
-      | false ↦ λ is. row
-    ]) refl
+    cond_both (is_some (added event given) && nat_le limit (length j.entries)) _ _ (Answers event) (λ is. full_answers event given (and_parts _ _ is).0)
+    (λ is. row)
 
 gives_out : (h : List EntrySeen) (r : ℕ) (o : Option ℕ) → Answers (Releases r) (out_of h r o)
 gives_out h r None = tt
-gives_out h r (Some n) = with_kept (kept h n r)
-  where
-    with_kept : (o : Option TranslatedSeen) → Answers (Releases r) (out_with n o)
-    with_kept None = tt
-    with_kept (Some t) = tt
+gives_out h r (Some n) = elim (kept h n r) as (λ o. Answers (Releases r) (out_with n o)) [ None ↦ tt | Some t ↦ tt ]
 
 module _ (Means : List ℕ → MessageSeen → ℕ → MessageSeen → Type 0) where
   gives_job : (j : Journal) (k : ℕ) → IsLawful (IsTranslated Means) j → (o : Option Pair) → slice_get (issued j.entries) k ≡ o
@@ -58,26 +43,22 @@ module _ (Means : List ℕ → MessageSeen → ℕ → MessageSeen → Type 0) w
   row : (j : Journal) (event : EventSeen) → IsLawful (IsTranslated Means) j → Answers event (reply_to j event)
   row j Looks lawful = tt
   row j (Arrives c) lawful =
-      elim (is_under c (current j).number (current j).plan) as
-      (λ b. Answers (Arrives c) (if b then IsAccepted (next_number j) (next_arrival j) else IsStale (current j).number c)) [ true ↦ tt | false ↦ refl ]
+      let v = (current j).number in
+      cond_both (is_under c v (current j).plan) (IsAccepted (next_number j) (next_arrival j)) (IsStale v c) (Answers (Arrives c)) (λ is. tt) (λ is. refl)
   row j (Refuses code) lawful = tt
   row j (Swaps p) lawful =
-      elim (same_receivers p j.start.plan) as (λ b. Answers (Swaps p) (if b then IsSwapped ((current j).number + 1) else IsUnlike p))
-      [ true ↦ tt | false ↦ refl ]
+      cond_both (same_receivers p j.start.plan) (IsSwapped ((current j).number + 1)) (IsUnlike p) (Answers (Swaps p)) (λ is. tt) (λ is. refl)
   row j Takes lawful = gives_job j (jobs j.entries) lawful (slice_get (issued j.entries) (jobs j.entries)) refl
   row j (Puts n t) lawful =
-      elim (is_stranger j.entries n t) as
-      (λ b. Answers (Puts n t) (if b then IsStranger (Some t) else if is_kept j.entries n t.receiver then IsRepeat t else IsKept)) [
-        | true ↦ refl
-        | false ↦ elim (is_kept j.entries n t.receiver) as (λ b. Answers (Puts n t) (if b then IsRepeat t else IsKept)) [ true ↦ refl | false ↦ tt ]
-      ]
+      let kept = is_kept j.entries n t.receiver in
+      cond_both (is_stranger j.entries n t) (IsStranger (Some t)) (if kept then IsRepeat t else IsKept) (Answers (Puts n t)) (λ is. refl)
+      (λ is. cond_both kept (IsRepeat t) IsKept (Answers (Puts n t)) (λ is. refl) (λ is. tt))
   row j (Reissues n r) lawful =
-      elim (not (is_due j.entries n r)) as (λ b. Answers (Reissues n r) (if b then IsStranger None else if is_kept j.entries n r then IsDone else IsIssued)) [
-        | true ↦ refl
-        | false ↦ elim (is_kept j.entries n r) as (λ b. Answers (Reissues n r) (if b then IsDone else IsIssued)) [ true ↦ tt | false ↦ tt ]
-      ]
+      let kept = is_kept j.entries n r in
+      cond_both (not (is_due j.entries n r)) (IsStranger None) (if kept then IsDone else IsIssued) (Answers (Reissues n r)) (λ is. refl)
+      (λ is. cond_both kept IsDone IsIssued (Answers (Reissues n r)) (λ is. tt) (λ is. tt))
   row j (Releases r) lawful = gives_out j.entries r (slice_get (due j.entries r) (length (released j.entries r)))
-  row j Cuts lawful = elim (is_pending j) as (λ b. Answers Cuts (if b then IsPending else IsClosed j)) [ true ↦ tt | false ↦ tt ]
+  row j Cuts lawful = cond_both (is_pending j) IsPending (IsClosed j) (Answers Cuts) (λ is. tt) (λ is. tt)
 
   -- the reply of a lawful journal
   pub answers : (j : Journal) (event : EventSeen) → IsLawful (IsTranslated Means) j → Answers event (reply j event)

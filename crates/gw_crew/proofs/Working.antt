@@ -1,16 +1,13 @@
 -- A worker's rounds.
 use Rattle.std.proofs.Common.{◌≡◌, ◌≤◌, ◌<◌, ◌+◌, ℕ, Bool, true, false, List, [], ◌∷◌, ◌++◌, Option, None, Some, length, refl, sym, ap, subst, ◌∙◌, arith}
 use Rattle.std.proofs.Common.{append_assoc, append-nil, length-append}
-use Rattle.std.specs.Prelude.{not}
 use Rattle.gw_gate.specs.Journal.{WasTaken, WasKept}
 use Rattle.gw_gate.specs.Parts.{TranslatedSeen}
-use Rattle.gw_gate.specs.Replies.{Puts, ReplySeen, IsCurrent, IsAccepted, IsStale, IsRefused, IsSwapped, IsUnlike, IsJob, IsIdle, IsKept, IsRepeat, IsStranger}
-use Rattle.gw_gate.specs.Replies.{IsIssued, IsDone, IsOut, IsNothing, IsPending, IsClosed, IsFull}
-use Rattle.gw_crew.specs.declared.workers.Became.{Became}
-use Rattle.gw_crew.specs.declared.workers.Became.TheVariants as became
+use Rattle.gw_gate.specs.Replies.{Puts, ReplySeen, IsKept, IsRepeat, IsStranger, IsFull}
+use Rattle.gw_crew.specs.declared.workers.PutReply.{PutReply}
 use Rattle.gw_crew.specs.Notes.{NoteSeen, WasFull, WasIdle, Added, Notes}
-use Rattle.gw_crew.specs.Works.{Rounds, no_round, kept, dropped, waited, Ends, idle, full, full_in_hand, stopped, InHand, empty, job, Worked, Works, Breaks}
-use Rattle.gw_crew.specs.own.Turns.{Finishes, is_kept, is_dropped, is_full, is_stopped, Turn, keeps, drops, waits, ends, Adds, Put, became_of}
+use Rattle.gw_crew.specs.Works.{Rounds, no_round, kept, dropped, waited, Ends, full_in_hand, stopped, InHand, job, Worked, Works, Breaks}
+use Rattle.gw_crew.specs.own.Turns.{Finishes, is_kept, is_dropped, is_full, is_stopped, Turn, keeps, drops, waits, ends, Adds, Put, put_reply}
 use Rattle.gw_stream.specs.declared.counts.Counts.{Counts}
 use Rattle.gw_stream.specs.Counted.{nothing}
 
@@ -51,22 +48,18 @@ Next notes k (Some x) s more = Onward notes k x s more
 
 next_of : (notes : List NoteSeen) (k : ℕ) (o : Option ℕ) (s : Bool) (more : List NoteSeen) → Turn o s more → Next notes k o s more
 next_of notes k o s more (keeps at later n t) = record { rounds = kept notes k at later n t; running = refl; some = omega arith; few = omega arith }
-next_of notes k o s more (drops at n r) =
-    record {
-      rounds = λ was. subst (Rounds (notes ++ Added at (WasTaken n r) ∷ [])) (let e : k ≡ k + 0 = omega arith in e) (dropped notes k at n r was);
-      running
-          = refl;
-      some = omega arith;
-      few = omega arith;
-    }
-next_of notes k o s more waits =
-    record {
-      rounds = λ was. subst (Rounds (notes ++ WasIdle ∷ [])) (let e : k ≡ k + 0 = omega arith in e) (waited notes k was);
-      running = refl;
-      some = omega
-          arith;
-      few = omega arith;
-    }
+next_of notes k o s more (drops at n r) = record {
+  rounds = λ was. subst (Rounds (notes ++ Added at (WasTaken n r) ∷ [])) (let e : k ≡ k + 0 = omega arith in e) (dropped notes k at n r was);
+  running = refl;
+  some = omega arith;
+  few = omega arith;
+}
+next_of notes k o s more waits = record {
+  rounds = λ was. subst (Rounds (notes ++ WasIdle ∷ [])) (let e : k ≡ k + 0 = omega arith in e) (waited notes k was);
+  running = refl;
+  some = omega arith;
+  few = omega arith;
+}
 next_of notes k o s more (ends stop last is) = is
 
 -- the rounds go on
@@ -121,71 +114,24 @@ worked_few old mid k was =
 
 -- ---- what the functions of a worker tell
 
-pub put_so : (n r : ℕ) (t : TranslatedSeen) (given : ReplySeen) (b : Became) (old new : List NoteSeen) → t.receiver ≡ r → b ≡ became_of given
+pub put_so : (n r : ℕ) (t : TranslatedSeen) (given : ReplySeen) (b : PutReply) (old new : List NoteSeen) → t.receiver ≡ r → b ≡ put_reply given
     → Notes (Puts n t) given old new → Put n r b old new
 put_so n r t given b old new to is noted = subst (λ x. Put n r x old new) (sym is) (by given noted)
   where
-    by : (given : ReplySeen) → Notes (Puts n t) given old new → Put n r (became_of given) old new
-    by (IsCurrent v p) noted = absurd noted.answers
-    by (IsAccepted m arrival) noted = absurd noted.answers
-    by (IsStale v c) noted = absurd noted.answers
-    by (IsRefused arrival) noted = absurd noted.answers
-    by (IsSwapped v) noted = absurd noted.answers
-    by (IsUnlike p) noted = absurd noted.answers
-    by (IsJob m q c) noted = absurd noted.answers
-    by IsIdle noted = absurd noted.answers
+    by : (given : ReplySeen) → Notes (Puts n t) given old new → Put n r (put_reply given) old new
     by IsKept noted = record { t = t; receiver = to; at = noted.at; noted = noted.notes }
     by (IsRepeat u) noted = record { t = t; receiver = to; at = noted.at; noted = noted.notes }
     by (IsStranger u) noted = record { t = t; receiver = to; at = noted.at; noted = noted.notes }
-    by IsIssued noted = absurd noted.answers
-    by IsDone noted = absurd noted.answers
-    by (IsOut m u) noted = absurd noted.answers
-    by IsNothing noted = absurd noted.answers
-    by IsPending noted = absurd noted.answers
-    by (IsClosed chapter) noted = absurd noted.answers
     by (IsFull e) noted = record { t = t; receiver = to; at = noted.at; noted = noted.notes }
+    by given noted = absurd noted.answers
 
-pub stops_so : (n r : ℕ) (s : Bool) (old : List NoteSeen) → s ≡ true → Adds (Finishes n r None s) old old
-stops_so n r s old is = record { more = []; holds = subst (λ b. Finishes n r None b []) (sym is) is_stopped; noted = sym (append-nil old) }
-
-pub keeps_so : (n r : ℕ) (s : Bool) (old new : List NoteSeen) → s ≡ false → Put n r became.Kept old new → Adds (Finishes n r (Some 1) s) old new
-keeps_so n r s old new is put = record {
-  more = Added put.at (WasKept n put.t) ∷ [];
-  holds = subst (λ b. Finishes n r (Some 1) b (Added put.at (WasKept n put.t) ∷ [])) (sym is) (is_kept put.at put.t put.receiver);
-  noted = put.noted;
-}
-
-pub drops_so : (n r : ℕ) (s : Bool) (old new : List NoteSeen) → s ≡ false → Put n r became.Dropped old new → Adds (Finishes n r (Some 0) s) old new
-drops_so n r s old new is put = record { more = []; holds = subst (λ b. Finishes n r (Some 0) b []) (sym is) is_dropped; noted = put.noted }
-
-pub fills_so : (n r : ℕ) (s : Bool) (old new : List NoteSeen) → s ≡ false → Put n r became.Full old new → Adds (Finishes n r None s) old new
-fills_so n r s old new is put = record { more = WasFull ∷ []; holds = subst (λ b. Finishes n r None b (WasFull ∷ [])) (sym is) is_full; noted = put.noted }
-
-pub empty_so : (old new : List NoteSeen) → new ≡ old → Adds (InHand None) old new
-empty_so old new is = record { more = []; holds = empty; noted = is ∙ sym (append-nil old) }
+-- notes that a round added, by whether its pause was stopped
+pub adds : (Holds : Bool → List NoteSeen → Type 0) (s b : Bool) (old new more : List NoteSeen) → s ≡ b → Holds b more → new ≡ old ++ more
+    → Adds (Holds s) old new
+adds Holds s b old new more is holds noted = record { more = more; holds = subst (λ x. Holds x more) (sym is) holds; noted = noted }
 
 pub hand_so : (old mid new : List NoteSeen) (at n r : ℕ) → mid ≡ old ++ Added at (WasTaken n r) ∷ [] → new ≡ mid → Adds (InHand (Some (n, r))) old new
 hand_so old mid new at n r took is = record { more = Added at (WasTaken n r) ∷ []; holds = job at n r; noted = is ∙ took }
-
-pub full_turn : (s : Bool) (old new : List NoteSeen) → s ≡ false → new ≡ old ++ WasFull ∷ [] → Adds (Turn None s) old new
-full_turn s old new is noted =
-    record { more = WasFull ∷ []; holds = subst (λ b. Turn None b (WasFull ∷ [])) (sym is) (ends false (WasFull ∷ []) full); noted = noted }
-
-pub idle_turn : (s : Bool) (old mid new : List NoteSeen) → s ≡ false → mid ≡ old ++ WasIdle ∷ [] → new ≡ mid → Adds (Turn None s) old new
-idle_turn s old mid new is noted same =
-    record { more = WasIdle ∷ []; holds = subst (λ b. Turn None b (WasIdle ∷ [])) (sym is) (ends false (WasIdle ∷ []) idle); noted = same ∙ noted }
-
-pub waits_turn : (s : Bool) (old mid new : List NoteSeen) → s ≡ false → mid ≡ old ++ WasIdle ∷ [] → new ≡ mid → Adds (Turn (Some 0) s) old new
-waits_turn s old mid new is noted same =
-    record { more = WasIdle ∷ []; holds = subst (λ b. Turn (Some 0) b (WasIdle ∷ [])) (sym is) waits; noted = same ∙ noted }
-
-pub not_false : (b : Bool) → not b ≡ false → b ≡ true
-not_false true is = refl
-not_false false is = absurd (let no : true ≡ false = is in cc)
-
-pub not_true : (b : Bool) → not b ≡ true → b ≡ false
-not_true false is = refl
-not_true true is = absurd (let no : false ≡ true = is in cc)
 
 abbrev with_put : ℕ → Counts → Counts
 with_put p c = record c { put = p }

@@ -63,12 +63,6 @@ pub record Carries (r : ℕ) (stream before after : Option (List ℕ)) (old new 
 
 -- ---- faults
 
--- what ends a courier that carries the message of this number: a fault of its line, which is told by the number, or another
-abbrev pub told_as : ℕ → RunFault → RunFault
-told_as n Memory = Memory
-told_as n Turns = Turns
-told_as n fault = Line n
-
 -- How the line fails behind these blocks: the writer or the reader failed, or the stream has no block more, or it isn't the acknowledgment of this control id.
 pub data Fails (writer reader : Bool) (stream : Option (List ℕ)) (blocks : List (List ℕ)) (control : List ℕ) : Type 0 where
   write : writer ≡ true → Fails writer reader stream blocks control
@@ -110,7 +104,7 @@ pub record Hand (r n : ℕ) (control : List ℕ) (blocks : List (List ℕ)) (bef
   pub begins : BeginsWith (block (written message)) part
   pub wrote : Appends between after part
 
--- A courier's rounds were noted, and what it had in hand when the fault came; or no message could be given out for want of memory.
+-- A courier's rounds were noted, and what it had in hand when the fault came; or an allocation failed and no message was given out.
 pub data Breaks (r : ℕ) (writer reader : Bool) (first reads : ℕ) (stream before after : Option (List ℕ)) (old new : List NoteSeen) : RunFault → Type 0 where
   empty_handed : (blocks : List (List ℕ)) (counts : Counts) → writer ≡ false → reader ≡ false → Carried r before after old new blocks counts
       → Breaks r writer reader first reads stream before after old new Memory

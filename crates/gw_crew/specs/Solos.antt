@@ -1,5 +1,5 @@
 -- A gate for one thread.
-use Rattle.std.specs.Prelude.{◌≡◌, ℕ, Bool, true, false, List, Option, None, Some, Result, MatchResult}
+use Rattle.std.specs.Prelude.{◌≡◌, ℕ, Bool, true, false, List, Option, None, Some, Result, Ok, Err, MatchResult}
 use Rattle.std.specs.Option.{option_map}
 use Rattle.gw_gate.specs.Journal.{Journal, end}
 use Rattle.gw_gate.specs.Replies.{EventSeen, Looks, Arrives, Releases, Replied}
@@ -55,3 +55,15 @@ pub record Stayed (before : Journal) (event back : EventSeen) (after : Journal) 
 abbrev pub StepsOnce : Journal → EventSeen → Result (Reply × Option Note) Event → Journal → Type 0
 StepsOnce before event result after =
     MatchResult result (λ r. Stepped before event (reply_seen r.0) (option_map note_seen r.1) after) (λ back. Stayed before event (event_seen back) after)
+
+-- ---- its note is kept
+
+-- the reply of a step, or the event that came back
+abbrev pub reply_in : Result (Reply × Option Note) Event → Result Reply Event
+reply_in (Ok answer) = Ok answer.0
+reply_in (Err event) = Err event
+
+-- the note that it left
+abbrev pub note_in : Result (Reply × Option Note) Event → Option NoteSeen
+note_in (Ok answer) = option_map note_seen answer.1
+note_in (Err event) = None

@@ -28,11 +28,11 @@ pub data Swaps (text : List ℕ) (old : List NoteSeen) : Result ℕ SwapFault �
   refused : (refusal : _) → spelled text ≡ Err refusal → Swaps text old (Err (fault.Plan refusal)) old
   memory : Swaps text old (Err fault.Memory) old
 
--- what a reply to a swap tells
-abbrev pub told : ReplySeen → Result ℕ SwapFault
-told (IsSwapped v) = Ok v
-told (IsUnlike plan) = Err fault.Unlike
-told given = Err fault.Full
+-- the answer to a swap, by the reply
+abbrev pub swap_reply : ReplySeen → Result ℕ SwapFault
+swap_reply (IsSwapped v) = Ok v
+swap_reply (IsUnlike plan) = Err fault.Unlike
+swap_reply given = Err fault.Full
 
 -- why there is no plan to swap in: an allocation failure, or the text's fault
 abbrev pub IsRefused : List ℕ → SwapFault → Type 0

@@ -1,7 +1,7 @@
-//! What tells the time.
+//! The time of an answer.
 use gw_ack::Stamp;
 
-/// What tells the time of an answer.
+/// A clock, which gives the stamp of an answer.
 pub trait Clock {
     ghost use Rattle.std.specs.Prelude.{◌≡◌, ◌↔◌, ℕ, List};
 

@@ -7,7 +7,7 @@ ghost use Rattle.gw_mllp.specs.Stream.{block};
 ghost use Rattle.gw_stream.specs.declared.fault.RunFault.TheVariants.{Memory};
 ghost use Rattle.gw_crew.specs.Carries.{Breaks, Carries, Sent, Unsent, Unwritten, with_sent};
 ghost use Rattle.gw_crew.specs.Streams.{spot};
-ghost use Rattle.gw_crew.specs.own.Turns.{Adds, Comes, GaveOut, Waits, given_of, given_seen, out_seen};
+ghost use Rattle.gw_crew.specs.own.Turns.{Adds, Comes, GaveOut, Waits, release_reply, release_reply_seen, out_seen};
 ghost use Rattle.std.specs.Option.{option_map};
 
 use crate::blocks::answered;
@@ -21,33 +21,33 @@ use gw_stream::{Counts, RunFault, Sink, Source, block_of, send_all};
 use std::alloc::Global;
 use std::sync::Arc;
 
-// What was given out for a receiver.
+// A reply to Release.
 #[derive(Drop)]
-enum Given {
+enum ReleaseReply {
     Out(u64, Arc<Translated>),
     Nothing,
     Full,
 }
 
-// What a reply to Release gives.
-fn given_in(reply: Reply) -> Given
-    ensures { given_seen result ≡ given_of (reply_seen reply) }
+// Reads a reply to Release.
+fn release_reply(reply: Reply) -> ReleaseReply
+    ensures { release_reply_seen result ≡ release_reply (reply_seen reply) }
 {
     match reply {
-        Reply::Out { n, translated } => Given::Out(n, translated),
-        Reply::Nothing => Given::Nothing,
-        _ => Given::Full,
+        Reply::Out { n, translated } => ReleaseReply::Out(n, translated),
+        Reply::Nothing => ReleaseReply::Nothing,
+        _ => ReleaseReply::Full,
     }
 }
 
 // Asks for what is next for a receiver.
-fn release<D: Door>(door: &mut D, receiver: usize) -> Result<Given, RunFault>
-    ensures gave { IfOk result (λ g. GaveOut receiver (given_seen g) (D.noted door.old) (D.noted door.new)) }
+fn release<D: Door>(door: &mut D, receiver: usize) -> Result<ReleaseReply, RunFault>
+    ensures gave { IfOk result (λ g. GaveOut receiver (release_reply_seen g) (D.noted door.old) (D.noted door.new)) }
     ensures err { OnErr result (D.noted door.new ≡ D.noted door.old) }
     ensures memory { IfErr result (λ e. e ≡ Memory) }
 {
     match door.call(Event::Release(receiver)) {
-        Ok(reply) => Ok(given_in(reply)),
+        Ok(reply) => Ok(release_reply(reply)),
         Err(_) => Err(RunFault::Memory),
     }
 }
@@ -114,9 +114,9 @@ fn next<D: Door>(door: &mut D, receiver: usize) -> Result<Option<(u64, Arc<Trans
 {
     'waits: loop {
         match release(door, receiver)? {
-            Given::Out(n, translated) => return Ok(Some((n, translated))),
-            Given::Full => return Ok(None),
-            Given::Nothing => {}
+            ReleaseReply::Out(n, translated) => return Ok(Some((n, translated))),
+            ReleaseReply::Full => return Ok(None),
+            ReleaseReply::Nothing => {}
         }
         // (each turn leaves a note, and no more notes than this can be)
         let _noted = door.notes().len();

@@ -1,4 +1,4 @@
-//! A way to a gate.
+//! A handle of a gate.
 use crate::note::Note;
 use gw_gate::{Event, Reply};
 
@@ -13,7 +13,7 @@ pub enum Phase {
     NoResults,
 }
 
-/// A way to a gate, which notes the replies in order.
+/// A handle of a gate, which notes the replies in order.
 pub trait Door {
     ghost use Rattle.std.specs.Prelude.{◌≡◌, List};
     ghost use Rattle.gw_gate.specs.Values.{event_seen, answer_seen};
@@ -27,7 +27,8 @@ pub trait Door {
     fn call(&mut self, event: Event) -> Result<Reply, Event>
         ensures { Calls (noted self.old) (event_seen event) (answer_seen result) (noted self.new) };
 
-    /// Waits for an entry since the last call. False is to say that the phase was reached without one; no clause rests on it.
+    /// Waits until there may be something for this handle: for `NoArrivals` a pair to be taken, for `NoResults` a result to be given out.
+    /// False says that the phase was reached first. No clause rests on the answer.
     fn wait(&mut self, phase: Phase) -> bool
         ensures { noted self.new ≡ noted self.old };
 

@@ -1,4 +1,4 @@
-//! Who works at a gate: doors through which it is asked and which note what it replied, workers, couriers, swaps of plans, and chapters that are closed.
+//! The parties that work at a gate: doors (handles that note the replies), workers, couriers, swaps of plans, and cuts that close a chapter.
 //!
 //! All of them rest on the law of [`Door`] alone.
 #![tactic(auto)]
@@ -20,6 +20,6 @@ pub use cuts::cut;
 pub use door::{Door, Phase};
 pub use note::{Note, Receipt};
 pub use pause::Pause;
-pub use solo::{Solo, room_for, step};
+pub use solo::{Solo, keep, room_for, step};
 pub use swaps::{SwapFault, swap};
 pub use workers::worker;

@@ -1,10 +1,10 @@
-//! A gate for one thread.
-ghost use Rattle.std.specs.Prelude.{◌≡◌, ◌≢◌, ◌≤◌, ◌+◌, IsTrue, IfOk, IfErr, OnErr, map, vec_len, vec_capacity};
-ghost use Rattle.std.specs.Option.{option_map};
+//! A gate for one thread, and the noted step of a gate.
+ghost use Rattle.std.specs.Prelude.{◌≡◌, ◌≢◌, ◌≤◌, ◌+◌, ◌++◌, IsTrue, IfOk, OnErr, is_some, vec_len, vec_capacity};
+ghost use Rattle.std.specs.Option.{option_map, option_to_list};
 ghost use Rattle.gw_gate.specs.Replies.{Cuts};
 ghost use Rattle.gw_gate.specs.Values.{event_seen, reply_seen};
 ghost use Rattle.gw_crew.specs.Seen.{note_seen, notes_seen};
-ghost use Rattle.gw_crew.specs.Solos.{StepsOnce, asked_for, event_of, is_copied, plain_by};
+ghost use Rattle.gw_crew.specs.Solos.{StepsOnce, asked_for, event_of, is_copied, note_in, plain_by, reply_in};
 
 use crate::door::{Door, Phase};
 use crate::note::{Note, Receipt};
@@ -13,7 +13,7 @@ use std::alloc::{AllocError, Global};
 use std::marker::Model;
 use std::sync::Arc;
 
-/// A gate for one thread, with the notes of its replies.
+/// A handle that owns its gate, for one thread, with the notes of its replies.
 pub struct Solo {
     gate: Gate,
     notes: Vec<Note>,
@@ -110,10 +110,31 @@ pub fn step(gate: &mut Gate, event: Event) -> Result<(Reply, Option<Note>), Even
     }
 }
 
+/// Keeps the note that a step left, for which there is room, and gives its reply. It takes no memory.
+pub fn keep(
+    notes: &mut Vec<Note>,
+    answer: Result<(Reply, Option<Note>), Event>,
+) -> Result<Reply, Event>
+    requires { IsTrue (is_some (note_in answer)) → vec_len notes.old + 1 ≤ vec_capacity notes.old }
+    ensures reply { result ≡ reply_in answer }
+    ensures notes { notes_seen notes.new.items ≡ notes_seen notes.old.items ++ option_to_list (note_in answer) }
+{
+    match answer {
+        Err(event) => Err(event),
+        Ok((reply, note)) => match note {
+            None => Ok(reply),
+            Some(note) => {
+                notes.push_reserved(note);
+                Ok(reply)
+            }
+        },
+    }
+}
+
 impl Solo {
     ghost use Rattle.std.specs.Prelude.{◌≡◌, []};
 
-    /// A door to the gate, with no note. It takes no memory.
+    /// A handle of this gate, which has noted nothing. It takes no memory.
     pub fn new(alloc: Global, gate: Gate) -> Self
         ensures { result ≡ record { gate = gate; notes = [] } }
     {
@@ -157,16 +178,8 @@ impl Door for Solo {
         if !room_for(&mut self.notes, &event) {
             return Err(event);
         }
-        match step(&mut self.gate, event) {
-            Err(event) => Err(event),
-            Ok((reply, note)) => match note {
-                None => Ok(reply),
-                Some(note) => {
-                    self.notes.push_reserved(note);
-                    Ok(reply)
-                }
-            },
-        }
+        let answer = step(&mut self.gate, event);
+        keep(&mut self.notes, answer)
     }
 
     /// Nobody else adds an entry, so it doesn't wait.

@@ -4,7 +4,7 @@ ghost use Rattle.std.specs.Arc.{arc_value};
 ghost use Rattle.gw_gate.specs.Values.{reply_seen};
 ghost use Rattle.gw_plan.specs.Held.{plan_value};
 ghost use Rattle.gw_plan.specs.Whole.{spelled};
-ghost use Rattle.gw_crew.specs.Swapping.{IsRefused, Swaps, number_of, told};
+ghost use Rattle.gw_crew.specs.Swapping.{IsRefused, Swaps, number_of, swap_reply};
 
 use crate::door::Door;
 use gw_gate::{Event, Reply};
@@ -60,9 +60,9 @@ fn parsed(alloc: Global, text: &[u8]) -> Result<Arc<Plan>, SwapFault>
     }
 }
 
-// What the reply to a swap tells.
-fn told(reply: &Reply) -> Result<u64, SwapFault>
-    ensures { result ≡ told (reply_seen reply.now) }
+// Reads a reply to Swap.
+fn swap_reply(reply: &Reply) -> Result<u64, SwapFault>
+    ensures { result ≡ swap_reply (reply_seen reply.now) }
 {
     match reply {
         Reply::Swapped { version } => Ok(*version),
@@ -72,14 +72,14 @@ fn told(reply: &Reply) -> Result<u64, SwapFault>
 }
 
 /// Swaps in the plan that the text spells, in one event, and gives its version.
-/// Else it says why the text is no plan, that its receivers aren't the gate's, that the journal is full, or that an allocation failed.
+/// The fault says why the text is no plan, that its receivers aren't the gate's, that the journal is full, or that an allocation failed.
 pub fn swap<D: Door>(alloc: Global, door: &mut D, text: &[u8]) -> Result<u64, SwapFault>
     ensures { Swaps text.now (D.noted door.old) result (D.noted door.new) }
 {
     match parsed(alloc, text) {
         Err(fault) => Err(fault),
         Ok(plan) => match door.call(Event::Swap(plan)) {
-            Ok(reply) => told(&reply),
+            Ok(reply) => swap_reply(&reply),
             Err(_) => Err(SwapFault::Memory),
         },
     }

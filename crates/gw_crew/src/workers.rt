@@ -4,7 +4,7 @@ ghost use Rattle.std.specs.Arc.{arc_value};
 ghost use Rattle.gw_gate.specs.Values.{reply_seen};
 ghost use Rattle.gw_plan.specs.Admitted.{IsOf};
 ghost use Rattle.gw_stream.specs.declared.fault.RunFault.TheVariants.{Memory};
-ghost use Rattle.gw_crew.specs.own.Turns.{Adds, Finishes, Put, Took, Turn, became_of, taken_of, taken_seen};
+ghost use Rattle.gw_crew.specs.own.Turns.{Adds, Finishes, Put, Took, Turn, put_reply, take_reply, take_reply_seen};
 ghost use Rattle.gw_crew.specs.Works.{Breaks, InHand, Works};
 
 use crate::door::{Door, Phase};
@@ -15,7 +15,7 @@ use gw_stream::{Counts, RunFault};
 use std::alloc::Global;
 use std::sync::Arc;
 
-// Want of memory, with the job that the worker had, if it had one: its number and receiver.
+// An allocation failure, with the job that the worker had, if it had one: its number and receiver.
 type Fault = (RunFault, Option<(u64, usize)>);
 
 // A job: the number, the receiver and the message.
@@ -26,66 +26,66 @@ struct Job {
     conforming: Arc<Conforming>,
 }
 
-// What was given to be worked on.
+// A reply to Take.
 #[derive(Drop)]
-enum Taken {
+enum TakeReply {
     Job(Job),
     Idle,
     Full,
 }
 
-// What became of a job.
+// A reply to Put.
 #[derive(Clone, Copy)]
-enum Became {
+enum PutReply {
     Kept,
     Dropped,
     Full,
 }
 
-// What a reply to Take gives.
-fn taken_in(reply: Reply) -> Taken
-    ensures { taken_seen result ≡ taken_of (reply_seen reply) }
+// Reads a reply to Take.
+fn take_reply(reply: Reply) -> TakeReply
+    ensures { take_reply_seen result ≡ take_reply (reply_seen reply) }
 {
     match reply {
         Reply::Job {
             n,
             receiver,
             conforming,
-        } => Taken::Job(Job {
+        } => TakeReply::Job(Job {
             n,
             receiver,
             conforming,
         }),
-        Reply::Idle => Taken::Idle,
-        _ => Taken::Full,
+        Reply::Idle => TakeReply::Idle,
+        _ => TakeReply::Full,
     }
 }
 
-// What a reply to Put makes of a job.
-fn became_in(reply: &Reply) -> Became
-    ensures { result ≡ became_of (reply_seen reply.now) }
+// Reads a reply to Put.
+fn put_reply(reply: &Reply) -> PutReply
+    ensures { result ≡ put_reply (reply_seen reply.now) }
 {
     match reply {
-        Reply::Kept => Became::Kept,
-        Reply::Full(_) => Became::Full,
-        _ => Became::Dropped,
+        Reply::Kept => PutReply::Kept,
+        Reply::Full(_) => PutReply::Full,
+        _ => PutReply::Dropped,
     }
 }
 
 // Asks for the next job.
-fn take<D: Door>(door: &mut D) -> Result<Taken, RunFault>
-    ensures took { IfOk result (λ t. Took (taken_seen t) (D.noted door.old) (D.noted door.new)) }
+fn take<D: Door>(door: &mut D) -> Result<TakeReply, RunFault>
+    ensures took { IfOk result (λ t. Took (take_reply_seen t) (D.noted door.old) (D.noted door.new)) }
     ensures err { OnErr result (D.noted door.new ≡ D.noted door.old) }
     ensures memory { IfErr result (λ e. e ≡ Memory) }
 {
     match door.call(Event::Take) {
-        Ok(reply) => Ok(taken_in(reply)),
+        Ok(reply) => Ok(take_reply(reply)),
         Err(_) => Err(RunFault::Memory),
     }
 }
 
 // Brings the result of a job.
-fn put<D: Door>(alloc: Global, door: &mut D, job: &Job) -> Result<Became, RunFault>
+fn put<D: Door>(alloc: Global, door: &mut D, job: &Job) -> Result<PutReply, RunFault>
     requires { IsOf (arc_value job.now.conforming) job.now.receiver }
     ensures put { IfOk result (λ b. Put job.now.n job.now.receiver b (D.noted door.old) (D.noted door.new)) }
     ensures err { OnErr result (D.noted door.new ≡ D.noted door.old) }
@@ -96,7 +96,7 @@ fn put<D: Door>(alloc: Global, door: &mut D, job: &Job) -> Result<Became, RunFau
         n: job.n,
         translated,
     }) {
-        Ok(reply) => Ok(became_in(&reply)),
+        Ok(reply) => Ok(put_reply(&reply)),
         Err(_) => Err(RunFault::Memory),
     }
 }
@@ -117,9 +117,9 @@ fn finish<D: Door, P: Pause>(
         return Ok(None);
     }
     match put(alloc, door, job)? {
-        Became::Kept => Ok(Some(1)),
-        Became::Dropped => Ok(Some(0)),
-        Became::Full => Ok(None),
+        PutReply::Kept => Ok(Some(1)),
+        PutReply::Dropped => Ok(Some(0)),
+        PutReply::Full => Ok(None),
     }
 }
 
@@ -132,15 +132,15 @@ fn turn<D: Door, P: Pause>(alloc: Global, door: &mut D, pause: &mut P) -> Result
 {
     match take(door) {
         Err(fault) => Err((fault, None)),
-        Ok(Taken::Full) => Ok(None),
-        Ok(Taken::Idle) => {
+        Ok(TakeReply::Full) => Ok(None),
+        Ok(TakeReply::Idle) => {
             if door.wait(Phase::NoArrivals) {
                 Ok(Some(0))
             } else {
                 Ok(None)
             }
         }
-        Ok(Taken::Job(job)) => match finish(alloc, door, pause, &job) {
+        Ok(TakeReply::Job(job)) => match finish(alloc, door, pause, &job) {
             Ok(kept) => Ok(kept),
             Err(fault) => Err((fault, Some((job.n, job.receiver)))),
         },
@@ -150,7 +150,7 @@ fn turn<D: Door, P: Pause>(alloc: Global, door: &mut D, pause: &mut P) -> Result
 /// Takes jobs, and puts what each is translated to, until there is none; then it waits for arrivals, and goes on. It counts the results that were kept.
 /// A result that isn't kept is dropped. Where the gate is full, or the pause says so, it ends without a fault.
 ///
-/// The one fault is want of memory, with the number and receiver of the job that it had, if it had one.
+/// The one fault is an allocation failure, with the number and receiver of the job that it had, if it had one.
 pub fn worker<D: Door, P: Pause>(
     alloc: Global,
     door: &mut D,

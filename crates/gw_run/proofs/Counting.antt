@@ -1,30 +1,22 @@
 -- Entries are counted as they are noted.
-use Rattle.std.proofs.Common.{◌≡◌, ◌+◌, ℕ, Bool, true, false, if◌then◌else◌, List, [], ◌∷◌, ◌++◌, Option, None, Some, length, refl, sym, ap, ◌∙◌, arith, length-append}
+use Rattle.std.proofs.Common.{◌≡◌, ◌+◌, ℕ, Bool, true, false, if◌then◌else◌, List, [], ◌∷◌, ◌++◌, Option, None, Some, length, refl, sym, ap, ◌∙◌, arith}
+use Rattle.std.proofs.Common.{length-append}
 use Rattle.std.specs.Prelude.{Result, Ok, Err}
-use Rattle.std.specs.Option.{option_map}
-use Rattle.std.proofs.lemmas.List.{map-append}
+use Rattle.std.specs.Option.{option_to_list}
+use Rattle.std.proofs.lemmas.List.Elements.{filter_map-append}
 use Rattle.std.proofs.lemmas.Option.{none-some}
 use Rattle.gw_gate.specs.Chapters.{is_pending}
 use Rattle.gw_gate.specs.Journal.{EntrySeen, Journal, end}
 use Rattle.gw_gate.specs.Replies.{EventSeen, Releases, Cuts, added, with_added, left_by, closed_by, limited, most, reply}
-use Rattle.gw_gate.specs.Replies.{ReplySeen, IsCurrent}
-use Rattle.gw_gate.specs.Replies.{IsNothing, IsPending, IsClosed}
+use Rattle.gw_gate.specs.Replies.{ReplySeen, IsCurrent, IsNothing, IsPending, IsClosed}
 use Rattle.gw_gate.specs.declared.event.Event.{Event}
 use Rattle.gw_gate.specs.declared.event.Reply.{Reply}
 use Rattle.gw_crew.specs.declared.note.Note.{Note}
-use Rattle.gw_crew.specs.Notes.{NoteSeen, Added, Answers, plain_note, note_or}
-use Rattle.gw_crew.specs.Seen.{note_seen, notes_seen}
+use Rattle.gw_crew.specs.Notes.{NoteSeen, Answers, plain_note, note_or, receipt_of}
 use Rattle.gw_crew.specs.Solos.{StepsOnce, Stepped}
 use Rattle.gw_run.specs.Passes.{receipts}
 use Rattle.gw_run.specs.own.Steps.{added_by, counted_by}
-use Rattle.gw_run.proofs.Fitting.{some_is}
-
--- ---- notes
-
-pub receipts-append : (xs ys : List NoteSeen) → receipts (xs ++ ys) ≡ receipts xs ++ receipts ys
-receipts-append [] ys = refl
-receipts-append (Added at e ∷ xs) ys = ap (λ l. record { at = at; entry = e } ∷ l) (receipts-append xs ys)
-receipts-append (note ∷ xs) ys = receipts-append xs ys
+use Rattle.gw_gate.proofs.Releasing.{some_is}
 
 plain_adds_none : (event : EventSeen) (given : ReplySeen) → added_by (plain_note event given) ≡ 0
 plain_adds_none event (IsCurrent v p) = refl
@@ -42,14 +34,16 @@ closes_this j c is = by (is_pending j) (ap closed_by is)
     by false e = some_is c j e
 
 -- a journal that was closed takes its entries with it, and all are counted on
-ends_with : (j : Journal) (event : EventSeen) (given : ReplySeen) → Answers event given → given ≡ reply j event → end (left_by j event given) ≡ end (with_added j (added event given))
+ends_with : (j : Journal) (event : EventSeen) (given : ReplySeen) → Answers event given → given ≡ reply j event
+    → end (left_by j event given) ≡ end (with_added j (added event given))
 ends_with j Cuts (IsClosed chapter) row is =
     let same : end chapter ≡ end j = ap end (closes_this j chapter is) in
     omega (arith, same)
 ends_with j event (IsClosed chapter) row is = absurd row
 ends_with j event given row is = refl
 
-grows : (j : Journal) (o : Option EntrySeen) (k : ℕ) (plain : Option NoteSeen) → added_by plain ≡ 0 → end (with_added j o) ≡ end j + added_by (note_or k plain o)
+grows : (j : Journal) (o : Option EntrySeen) (k : ℕ) (plain : Option NoteSeen) → added_by plain ≡ 0
+    → end (with_added j o) ≡ end j + added_by (note_or k plain o)
 grows j None k plain none = omega (arith, none)
 grows j (Some e) k plain none = let long = length-append j.entries (e ∷ []) in omega (arith, long)
 
@@ -67,23 +61,10 @@ pub step_grows : (before after : Journal) (event : EventSeen) (result : Result (
 step_grows before after event (Ok answer) step = stepped_grows before after event _ _ step
 step_grows before after event (Err back) step = let same = ap end step.after_is in omega (arith, same)
 
--- ---- a pass
-
--- the receipts of notes with one more
-pub one_more : (items more : List Note) (n : Note) → more ≡ items ++ n ∷ []
-    → length (receipts (notes_seen more)) ≡ length (receipts (notes_seen items)) + added_by (Some (note_seen n))
-one_more items more n is =
-    ap (λ l. length (receipts (notes_seen l))) is
-    ∙ ap (λ l. length (receipts l)) (map-append note_seen items (n ∷ []))
-    ∙ ap length (receipts-append (notes_seen items) (note_seen n ∷ []))
-    ∙ length-append (receipts (notes_seen items)) (receipts (note_seen n ∷ []))
-
--- a share that counted the notes counts one more
-pub counts_on : (items same more : List Note) (n : Note) (was now : ℕ) (answer : Result (Reply × Option Note) Event) (reply : Reply) (left : Option Note)
-    → was ≡ length (receipts (notes_seen items)) → now ≡ was + counted_by answer → answer ≡ Ok (reply, left) → left ≡ Some n → same ≡ items → more ≡ same ++ n ∷ []
-    → now ≡ length (receipts (notes_seen more))
-counts_on items same more n was now answer reply left counted amount is some kept added =
-    let by : counted_by answer ≡ added_by (Some (note_seen n)) = ap counted_by is ∙ ap (λ o. added_by (option_map note_seen o)) some in
-    let grown = one_more same more n added in
-    let stays : length (receipts (notes_seen same)) ≡ length (receipts (notes_seen items)) = ap (λ l. length (receipts (notes_seen l))) kept in
-    omega (arith, counted, amount, by, grown, stays)
+-- a share that counted the notes counts those of a step too
+pub counts_on : (old mid new : List NoteSeen) (left : Option NoteSeen) (was now : ℕ) → was ≡ length (receipts old) → now ≡ was + added_by left
+    → mid ≡ old → new ≡ mid ++ option_to_list left → now ≡ length (receipts new)
+counts_on old mid new left was now counted amount same more =
+    let both = ap (λ l. length (receipts l)) (more ∙ ap (λ l. l ++ option_to_list left) same)
+    ∙ ap length (filter_map-append receipt_of old (option_to_list left)) in
+    omega (arith, both, length-append (receipts old) (receipts (option_to_list left)))

@@ -1,6 +1,5 @@
 -- From which number of its own entries on a note fits a chapter.
 use Rattle.std.proofs.Common.{◌≡◌, ◌≢◌, ℕ, ◌+◌, ◌-◌, ◌<◌, ◌≤◌, ◌==◌, ◌&&◌, ◌⊎◌, inl, inr, Bool, true, false, List, length, Some, slice_get, sym, ap, ◌∙◌, arith}
-use Rattle.std.specs.Prelude.{unwrap_or}
 use Rattle.std.specs.List.{list_any, range_with_len}
 use Rattle.std.proofs.lemmas.List.{length-take}
 use Rattle.std.proofs.lemmas.Bool.{cases_eq, cases_lt}
@@ -8,6 +7,7 @@ use Rattle.gw_reorder.proofs.Places.{equals, differs}
 use Rattle.gw_gate.specs.Parts.{PlanSeen}
 use Rattle.gw_gate.specs.Journal.{Journal, current}
 use Rattle.gw_gate.specs.Replies.{most}
+use Rattle.gw_gate.proofs.Releasing.{some_is}
 use Rattle.gw_crew.specs.Notes.{WasFull}
 use Rattle.gw_run.specs.Settled.{fits}
 use Rattle.gw_run.specs.Turns.{Passes, HoldsFrom, is_within}
@@ -22,9 +22,6 @@ place_is v first start same le = omega (arith, same, le)
 
 abbrev pub suits : Journal → ℕ → (PlanSeen → Bool) → ℕ → Bool
 suits j v test k = ((current (begun j k)).number == v) && test (current (begun j k)).plan
-
-pub some_is : {X : Type 0} (x y : X) → Some x ≡ Some y → x ≡ y
-some_is x y e = ap (λ o. unwrap_or o x) e
 
 module _ (j : Journal) (swaps : List ℕ) (seen : List PlanSeen) (tells : PlansAt j swaps seen) (v : ℕ) (test : PlanSeen → Bool) where
   -- where w is the version's place among the plans
@@ -49,7 +46,8 @@ module _ (j : Journal) (swaps : List ℕ) (seen : List PlanSeen) (tells : PlansA
             suits_same k i there same ∙ ap test (sym here) ∙ suited ∙ sym (equals i w same)
         by k i there (inr other) = suits_other k i there other ∙ sym (differs i w other)
 
-    pub suits_never : ((p : PlanSeen) → slice_get seen w ≡ Some p → test p ≡ false) → (low high : ℕ) → list_any (suits j v test) (range_with_len low (high + 1 - low)) ≡ false
+    pub suits_never : ((p : PlanSeen) → slice_get seen w ≡ Some p → test p ≡ false) → (low high : ℕ)
+        → list_any (suits j v test) (range_with_len low (high + 1 - low)) ≡ false
     suits_never none low high = none_between (suits j v test) low high (λ k a b. at k (passed swaps tells.rising k))
       where
         by : (k i : ℕ) → Passes swaps k i → (i ≡ w) ⊎ (i ≢ w) → suits j v test k ≡ false
@@ -88,16 +86,13 @@ module _ (j : Journal) where
   not_more k = let l = length-take k j.entries in omega (arith, l)
 
   pub never_full : length j.entries < most → (low high : ℕ) → full_between j low high ≡ false
-  never_full less low high = none_between (λ k. fits (begun j k) WasFull) low high (λ k a b. differs (length (begun j k).entries) most (λ e. let n = not_many k in omega (arith, n, e)))
+  never_full less low high = none_between (λ k. fits (begun j k) WasFull) low high
+      (λ k a b. differs (length (begun j k).entries) most (λ e. let n = not_many k in omega (arith, n, e)))
 
   pub then_full : most ≤ length j.entries → (low high : ℕ) → low ≤ most → full_between j low high ≡ is_within high (Some most)
   then_full more low high early =
       first_between (λ k. fits (begun j k) WasFull) low high most early (equals (length (begun j most).entries) most (few most more))
       (λ k a b. differs (length (begun j k).entries) most (λ e. let n = not_more k in omega (arith, n, e)))
-
-  pub still_full : length j.entries ≡ most → (low high : ℕ) → most < low → full_between j low high ≡ is_within high (Some low)
-  still_full is low high late =
-      first_between (λ k. fits (begun j k) WasFull) low high low (omega arith) (equals (length (begun j low).entries) most (many low (omega arith) ∙ is)) (λ k a b. absurd (omega arith))
 
   pub over_full : most < length j.entries → (low high : ℕ) → most < low → full_between j low high ≡ false
   over_full more low high late = none_between (λ k. fits (begun j k) WasFull) low high (λ k a b. by k a (cases_lt k (length j.entries)))

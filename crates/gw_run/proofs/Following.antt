@@ -1,17 +1,19 @@
 -- The chapters, one after another, and what was gathered of them.
-use Rattle.std.proofs.Common.{◌≡◌, ℕ, zero, suc, ◌+◌, ◌-◌, ◌<◌, ◌≤◌, ◌&&◌, ◌⊎◌, inl, inr, Bool, true, false, List, [], ◌∷◌, ◌++◌, length, get_or, drop, take, Some, slice_get, refl, sym, ap, subst, ◌∙◌, arith, length-append, append-nil, append_assoc}
+use Rattle.std.proofs.Common.{◌≡◌, ℕ, zero, suc, ◌+◌, ◌-◌, ◌<◌, ◌≤◌, ◌&&◌, ◌⊎◌, inl, inr, Bool, true, false, List, [], ◌∷◌, ◌++◌, length, get_or, drop, take}
+use Rattle.std.proofs.Common.{Some, slice_get, refl, sym, ap, subst, ◌∙◌, arith, length-append, append-nil}
 use Rattle.std.specs.Prelude.{◌↔◌, IsTrue, cond, count_by, nat_le}
-use Rattle.std.proofs.lemmas.Grind.{common_steps}
-use Rattle.std.proofs.lemmas.Bool.{cases_lt, false≢true}
+use Rattle.std.proofs.Math.Bool.{and-false}
+use Rattle.std.proofs.lemmas.Grind.{common_steps, flat_map-append}
+use Rattle.std.proofs.lemmas.Bool.{cases_lt, false≢true, le-leb, lt-leb}
 use Rattle.std.specs.List.Sorted.{IsStrictlyIncreasing}
 use Rattle.std.proofs.lemmas.List.Sums.{count_by-le-length, sum_by-append, sum_by-cons}
-use Rattle.std.proofs.lemmas.Option.{slice_get_past}
+use Rattle.std.proofs.lemmas.Option.{gets, slice_get_past}
 use Rattle.gw_gate.specs.Chapters.{all_entries}
 use Rattle.gw_gate.proofs.Entering.{as_long}
 use Rattle.gw_gate.specs.Entries.{entries_seen, start_seen}
 use Rattle.gw_gate.specs.Journal.{EntrySeen, WasAccepted, WasRefused, Start, Journal, accepted, arrivals, current, end, start_after}
 use Rattle.gw_gate.specs.Parts.{PlanSeen}
-use Rattle.std.proofs.lemmas.List.{take_all}
+use Rattle.std.proofs.lemmas.List.{take-append-drop, take_all, take_more}
 use Rattle.gw_run.specs.Report.{is_of}
 use Rattle.gw_run.specs.Turns.{Passes}
 use Rattle.gw_run.specs.declared.report.Kind.{Kind}
@@ -29,7 +31,8 @@ pub record Next (js : List Journal) (i : ℕ) (part : Part) : Type 0 where
   pub more : drop i js ≡ j ∷ drop (i + 1) js
   pub tells : TellsPart j part
 
-pub next_part : (js : List Journal) (parts : List Part) (i : ℕ) (part : Part) → TellsAll js parts → i < length parts → part ≡ get_or parts i part → Next js i part
+pub next_part : (js : List Journal) (parts : List Part) (i : ℕ) (part : Part) → TellsAll js parts → i < length parts → part ≡ get_or parts i part
+    → Next js i part
 next_part [] [] i part all lt is = absurd (omega arith)
 next_part [] (p ∷ parts) i part all lt is = absurd all
 next_part (j ∷ js) [] i part all lt is = absurd all
@@ -47,7 +50,8 @@ all_passed (j ∷ js) [] i all le = absurd all
 all_passed (j ∷ js) (p ∷ parts) zero all le = absurd (omega arith)
 all_passed (j ∷ js) (p ∷ parts) (suc i) all le = all_passed js parts i all.1 (omega arith)
 
-pub tells_more : (js : List Journal) (parts : List Part) (j : Journal) (part : Part) → TellsAll js parts → TellsPart j part → TellsAll (js ++ j ∷ []) (parts ++ part ∷ [])
+pub tells_more : (js : List Journal) (parts : List Part) (j : Journal) (part : Part) → TellsAll js parts → TellsPart j part
+    → TellsAll (js ++ j ∷ []) (parts ++ part ∷ [])
 tells_more [] [] j part all this = (this, tt)
 tells_more [] (p ∷ parts) j part all this = absurd all
 tells_more (k ∷ js) [] j part all this = absurd all
@@ -93,18 +97,12 @@ entries_few (j ∷ js) go = let e = ends_at j js go in omega (arith, e)
 -- ---- where an entry stands
 
 get_front : {X : Type 0} (xs ys : List X) (k : ℕ) → k < length xs → slice_get (xs ++ ys) k ≡ slice_get xs k
-get_front [] ys k lt = absurd (omega arith)
-get_front (x ∷ xs) ys zero lt = refl
-get_front (x ∷ xs) ys (suc k) lt = get_front xs ys k (omega arith)
+get_front xs ys k lt = grind (arith, common_steps, gets)
 
 get_back : {X : Type 0} (xs ys : List X) (k : ℕ) → length xs ≤ k → slice_get (xs ++ ys) k ≡ slice_get ys (k - length xs)
 get_back [] ys k le = let same : k ≡ k - 0 = omega arith in ap (slice_get ys) same
 get_back (x ∷ xs) ys zero le = absurd (omega arith)
 get_back (x ∷ xs) ys (suc k) le = let same : k - length xs ≡ suc k - length (x ∷ xs) = omega arith in get_back xs ys k (omega arith) ∙ ap (slice_get ys) same
-
-and_false : (b : Bool) → (b && false) ≡ false
-and_false true = refl
-and_false false = refl
 
 module _ (j : Journal) (js : List Journal) (at : ℕ) (e : EntrySeen) where
   -- an entry below the end of the first chapter stands in it or nowhere
@@ -113,7 +111,7 @@ module _ (j : Journal) (js : List Journal) (at : ℕ) (e : EntrySeen) where
     where
       by : (at < j.start.entries) ⊎ (j.start.entries ≤ at) → stands (j ∷ js) at e ≡ stands (j ∷ []) at e
       by (inl before) =
-          let no : nat_le j.start.entries at ≡ false = grind (arith, common_steps) in
+          let no = lt-leb j.start.entries at before in
           ap (λ b. b && is_same e (slice_get (j.entries ++ all_entries js) (at - j.start.entries))) no
           ∙ sym (ap (λ b. b && is_same e (slice_get (j.entries ++ []) (at - j.start.entries))) no)
       by (inr above) =
@@ -127,7 +125,7 @@ module _ (j : Journal) (js : List Journal) (at : ℕ) (e : EntrySeen) where
     where
       behind : stands (j ∷ js) at e ≡ is_same e (slice_get (all_entries js) (at - end j))
       behind =
-          let first : nat_le j.start.entries at ≡ true = grind (arith, common_steps) in
+          let first = le-leb j.start.entries at (omega (arith, le)) in
           let k : at - j.start.entries - length j.entries ≡ at - end j = omega arith in
           ap (λ b. b && is_same e (slice_get (j.entries ++ all_entries js) (at - j.start.entries))) first
           ∙ ap (is_same e) (get_back j.entries (all_entries js) (at - j.start.entries) (omega (arith, le)) ∙ ap (slice_get (all_entries js)) k)
@@ -135,14 +133,15 @@ module _ (j : Journal) (js : List Journal) (at : ℕ) (e : EntrySeen) where
       by : (ks : List Journal) → GoOn (j ∷ ks) → is_same e (slice_get (all_entries ks) (at - end j)) ≡ stands ks at e
       by [] on =
           ap (is_same e) (slice_get_past (all_entries []) (at - end j) (omega arith))
-          ∙ sym (ap (λ o. nat_le 0 at && is_same e o) (slice_get_past (all_entries []) (at - 0) (omega arith)) ∙ and_false (nat_le 0 at))
+          ∙ sym (ap (λ o. nat_le 0 at && is_same e o) (slice_get_past (all_entries []) (at - 0) (omega arith)) ∙ and-false (nat_le 0 at))
       by (k ∷ ks) on =
           let next : k.start.entries ≡ end j = ap (λ s. s.entries) on.0 in
-          let first : nat_le k.start.entries at ≡ true = grind (arith, common_steps) in
-          sym (ap (λ b. b && is_same e (slice_get (all_entries (k ∷ ks)) (at - k.start.entries))) first ∙ ap (λ n. is_same e (slice_get (all_entries (k ∷ ks)) (at - n))) next)
+          let first = le-leb k.start.entries at (omega (arith, le, next)) in
+          sym (ap (λ b. b && is_same e (slice_get (all_entries (k ∷ ks)) (at - k.start.entries))) first
+          ∙ ap (λ n. is_same e (slice_get (all_entries (k ∷ ks)) (at - n))) next)
 
 pub none_stand : (at : ℕ) (e : EntrySeen) → stands [] at e ≡ false
-none_stand at e = ap (λ o. nat_le 0 at && is_same e o) (slice_get_past (all_entries []) (at - 0) (omega arith)) ∙ and_false (nat_le 0 at)
+none_stand at e = ap (λ o. nat_le 0 at && is_same e o) (slice_get_past (all_entries []) (at - 0) (omega arith)) ∙ and-false (nat_le 0 at)
 
 -- ---- one that follows another
 
@@ -156,7 +155,8 @@ pub record Pair (js : List Journal) (i : ℕ) (part next : Part) : Type 0 where
   pub starts : start_seen next.start.now ≡ k.start
   pub follows : GoOn js → start_seen next.start.now ≡ start_after j
 
-pub pair_at : (js : List Journal) (parts : List Part) (i : ℕ) (part next : Part) → TellsAll js parts → 1 ≤ i → i < length parts → part ≡ get_or parts (i - 1) part → next ≡ get_or parts i next
+pub pair_at : (js : List Journal) (parts : List Part) (i : ℕ) (part next : Part) → TellsAll js parts → 1 ≤ i → i < length parts
+    → part ≡ get_or parts (i - 1) part → next ≡ get_or parts i next
     → Pair js i part next
 pair_at js parts i part next all some lt is then =
     let one = next_part js parts (i - 1) part all (omega (arith, some, lt)) is in
@@ -170,11 +170,13 @@ pair_at js parts i part next all some lt is then =
       then = two.more;
       tells = one.tells;
       starts = two.tells.start_is;
-      follows = λ go. (let on : GoOn (one.j ∷ two.j ∷ drop (i + 1) js) = subst (λ (l : List Journal). GoOn l) (more ∙ ap (λ l. one.j ∷ l) two.more) (go_from (i - 1) js go) in
+      follows = λ go. (let on : GoOn (one.j ∷ two.j ∷ drop (i + 1) js) = subst (λ (l : List Journal). GoOn l) (more ∙ ap (λ l. one.j ∷ l) two.more)
+          (go_from (i - 1) js go) in
           two.tells.start_is ∙ on.0);
     }
 
-pub go_between : (js : List Journal) (i : ℕ) (part next : Part) (pair : Pair js i part next) → start_seen next.start.now ≡ start_after pair.j → GoOn (drop (i + 1 - 1) js) → GoOn (drop (i - 1) js)
+pub go_between : (js : List Journal) (i : ℕ) (part next : Part) (pair : Pair js i part next) → start_seen next.start.now ≡ start_after pair.j
+    → GoOn (drop (i + 1 - 1) js) → GoOn (drop (i - 1) js)
 go_between js i part next pair follows go =
     let same : i + 1 - 1 ≡ i = omega arith in
     let here : GoOn (drop i js) = subst (λ n. GoOn (drop n js)) same go in
@@ -215,7 +217,7 @@ arrived_count (WasRefused arrival code ∷ h) = let e = counts Arrived (WasRefus
 arrived_count (x ∷ h) = let e = counts Arrived x h in omega (arith, e, arrived_count h)
 
 module _ (j : Journal) (part : Part) (tells : TellsPart j part) where
-  module _ (turn : ℕ) (there : Passes part.past.swaps.items (length part.entries.now) turn) where
+  module _ (turn : ℕ) (there : Passes part.history.swaps.items (length part.entries.now) turn) where
     whole : take (length part.entries.now) j.entries ≡ j.entries
     whole = take_all (length part.entries.now) j.entries (let l = ap length tells.entries_are ∙ as_long part.entries.now in omega (arith, l))
 
@@ -226,7 +228,7 @@ module _ (j : Journal) (part : Part) (tells : TellsPart j part) where
         let first : part.start.now.version ≡ j.start.version = ap (λ s. s.version) tells.start_is in
         omega (arith, number, same, first)
 
-    pub plan_is : slice_get (plans_at part.past.plans.items) turn ≡ Some (start_after j).plan
+    pub plan_is : slice_get (plans_at part.history.plans.items) turn ≡ Some (start_after j).plan
     plan_is = tells.tells.plans.plan (length part.entries.now) turn there ∙ ap (λ h. Some (current (record j { entries = h })).plan) whole
 
   pub acceptances_are : (start_after j).acceptances ≡ part.start.now.acceptances + count_by (is_of Accepted) (entries_seen part.entries.now)
@@ -242,12 +244,14 @@ module _ (j : Journal) (part : Part) (tells : TellsPart j part) where
       omega (arith, first, count)
 
 -- how many of the swaps the whole chapter passed, as they are borrowed
-pub passed_there : (j : Journal) (part : Part) → TellsPart j part → (lent : List ℕ) (turn : ℕ) → lent ≡ part.past.swaps.items
-    → (IsStrictlyIncreasing lent → Passes lent (length part.entries.now) turn) → Passes part.past.swaps.items (length part.entries.now) turn
+pub passed_there : (j : Journal) (part : Part) → TellsPart j part → (lent : List ℕ) (turn : ℕ) → lent ≡ part.history.swaps.items
+    → (IsStrictlyIncreasing lent → Passes lent (length part.entries.now) turn) → Passes part.history.swaps.items (length part.entries.now) turn
 passed_there j part tells lent turn same is =
-    subst (λ (l : List ℕ). Passes l (length part.entries.now) turn) same (is (subst (λ (l : List ℕ). IsStrictlyIncreasing l) (sym same) tells.tells.plans.rising))
+    subst (λ (l : List ℕ). Passes l (length part.entries.now) turn) same
+    (is (subst (λ (l : List ℕ). IsStrictlyIncreasing l) (sym same) tells.tells.plans.rising))
 
-pub starts_so : (j : Journal) (v : ℕ) (p : PlanSeen) (a r e : ℕ) → v ≡ (start_after j).version → p ≡ (start_after j).plan → a ≡ (start_after j).acceptances → r ≡ (start_after j).arrivals → e ≡ (start_after j).entries
+pub starts_so : (j : Journal) (v : ℕ) (p : PlanSeen) (a r e : ℕ) → v ≡ (start_after j).version → p ≡ (start_after j).plan → a ≡ (start_after j).acceptances
+    → r ≡ (start_after j).arrivals → e ≡ (start_after j).entries
     → (let s : Start = record { version = v; plan = p; acceptances = a; arrivals = r; entries = e } in s) ≡ start_after j
 starts_so j v p a r e version plan acceptances arrived entries =
     λ i. record { version = version i; plan = plan i; acceptances = acceptances i; arrivals = arrived i; entries = entries i }
@@ -257,15 +261,14 @@ pub denies : {P Q : Type 0} (b : Bool) → b ≡ false → (IsTrue b ↔ P) → 
 denies b fails exact implied = (λ t. absurd (false≢true t), λ q. sym fails ∙ exact.1 (implied q))
 
 pub take_next : {X : Type 0} (xs : List X) (i : ℕ) (x : X) → i < length xs → x ≡ get_or xs i x → take (i + 1) xs ≡ take i xs ++ x ∷ []
-take_next [] i x lt is = absurd (omega arith)
-take_next (y ∷ xs) zero x lt is = ap (λ z. z ∷ []) (sym is)
-take_next (y ∷ xs) (suc i) x lt is = let next : suc i + 1 ≡ suc (i + 1) = omega arith in ap (λ n. take n (y ∷ xs)) next ∙ ap (λ l. y ∷ l) (take_next xs i x (omega arith) is)
+take_next xs i x lt is = take_more xs i x lt ∙ ap (λ y. take i xs ++ y ∷ []) (sym is)
 
 -- the chapters that were closed, one more of them
 pub tells_next : (js : List Journal) (parts new : List Part) (i : ℕ) (j : Journal) (part : Part) → i < length js → j ≡ get_or js i j → new ≡ parts ++ part ∷ []
     → TellsAll (take i js) parts → TellsPart j part → TellsAll (take (i + 1) js) new
 tells_next js parts new i j part lt is added all this =
-    subst (TellsAll (take (i + 1) js)) (sym added) (subst (λ l. TellsAll l (parts ++ part ∷ [])) (sym (take_next js i j lt is)) (tells_more (take i js) parts j part all this))
+    subst (TellsAll (take (i + 1) js)) (sym added) (subst (λ l. TellsAll l (parts ++ part ∷ [])) (sym (take_next js i j lt is))
+    (tells_more (take i js) parts j part all this))
 
 -- and the open one behind them
 pub tells_end : (js : List Journal) (parts new : List Part) (i : ℕ) (j : Journal) (part : Part) → length js ≤ i → new ≡ parts ++ part ∷ []
@@ -275,23 +278,19 @@ tells_end js parts new i j part le added all this =
 
 -- ---- entries that are counted, part by part
 
-pub entries_next : (parts : List Part) (i : ℕ) (part : Part) → i < length parts → part ≡ get_or parts i part → entries_of (take (i + 1) parts) ≡ entries_of (take i parts) ++ entries_seen part.entries.now
-entries_next [] i part lt is = absurd (omega arith)
-entries_next (p ∷ parts) zero part lt is = append-nil (entries_seen p.entries.now) ∙ ap (λ (q : Part). entries_seen q.entries.now) (sym is)
-entries_next (p ∷ parts) (suc i) part lt is =
-    let next : suc i + 1 ≡ suc (i + 1) = omega arith in
-    ap (λ n. entries_of (take n (p ∷ parts))) next
-    ∙ ap (λ l. entries_seen p.entries.now ++ l) (entries_next parts i part (omega arith) is)
-    ∙ sym (append_assoc (entries_seen p.entries.now) (entries_of (take i parts)) (entries_seen part.entries.now))
+abbrev entries_in : Part → List EntrySeen
+entries_in part = entries_seen part.entries.now
+
+pub entries_next : (parts : List Part) (i : ℕ) (part : Part) → i < length parts → part ≡ get_or parts i part
+    → entries_of (take (i + 1) parts) ≡ entries_of (take i parts) ++ entries_in part
+entries_next parts i part lt is =
+    ap entries_of (take_next parts i part lt is) ∙ flat_map-append entries_in (take i parts) (part ∷ [])
+    ∙ ap (λ l. entries_of (take i parts) ++ l) (append-nil (entries_in part))
 
 few_until : (parts : List Part) (i : ℕ) → length (entries_of (take i parts)) ≤ length (entries_of parts)
-few_until parts zero = omega arith
-few_until [] (suc i) = omega arith
-few_until (p ∷ parts) (suc i) =
-    let rest = few_until parts i in
-    let a = length-append (entries_seen p.entries.now) (entries_of (take i parts)) in
-    let b = length-append (entries_seen p.entries.now) (entries_of parts) in
-    omega (arith, rest, a, b)
+few_until parts i =
+    let both = ap length (sym (ap entries_of (take-append-drop i parts)) ∙ flat_map-append entries_in (take i parts) (drop i parts)) in
+    omega (arith, both, length-append (entries_of (take i parts)) (entries_of (drop i parts)))
 
 -- how many are of a kind, with those of one part more
 pub count_next : (kind : Kind) (parts : List Part) (i : ℕ) (part : Part) (all x : ℕ) → i < length parts → part ≡ get_or parts i part

@@ -1,12 +1,14 @@
 -- What one pass has receipts of is what was given out.
-use Rattle.std.proofs.Common.{◌≡◌, ◌≢◌, ℕ, zero, suc, ◌+◌, ◌-◌, ◌<◌, ◌≤◌, ◌==◌, ◌&&◌, ◌⊎◌, inl, inr, Bool, true, false, if◌then◌else◌, List, [], ◌∷◌, ◌++◌, length, map, drop, Some, slice_get, refl, sym, ap, subst, ◌∙◌, arith}
+use Rattle.std.proofs.Common.{◌≡◌, ◌≢◌, ℕ, zero, suc, ◌+◌, ◌-◌, ◌<◌, ◌≤◌, ◌==◌, ◌&&◌, ◌⊎◌, inl, inr, Bool, true, false, if◌then◌else◌, List, [], ◌∷◌, ◌++◌}
+use Rattle.std.proofs.Common.{map, drop, Some, slice_get, length, refl, sym, ap, subst, ◌∙◌, arith}
 use Rattle.std.specs.Prelude.{cond, nat_le, flat_map, is_some}
 use Rattle.std.specs.List.{list_all, range_with_len}
-use Rattle.std.proofs.lemmas.Grind.{common_steps}
-use Rattle.std.proofs.lemmas.Bool.{cases_eq, cases_lt, false≢true, false_from_ne_true}
+use Rattle.std.proofs.lemmas.Grind.{flat_map-append}
+use Rattle.std.proofs.lemmas.Bool.{and_from, and_parts, cases_eq, eqb-true, false_from_ne_true, false≢true, leb-true, ne_eqb, true_from_ne_false}
+use Rattle.std.proofs.lemmas.List.Folds.{list_all-append, list_all_at}
+use Rattle.std.proofs.lemmas.List.FromFn.{get_or-range_with_len, length-range_with_len}
 use Rattle.std.proofs.lemmas.List.Sums.{sum_by-cons, sum_by-append}
 use Rattle.std.proofs.lemmas.Option.{slice_get_within}
-use Rattle.gw_reorder.proofs.Places.{differs, equal_numbers}
 use Rattle.gw_gate.specs.Parts.{same_translated}
 use Rattle.gw_gate.specs.Chapters.{all_entries}
 use Rattle.gw_gate.specs.Journal.{EntrySeen, WasOut, Journal, Release, released}
@@ -17,37 +19,6 @@ use Rattle.gw_run.specs.Passes.{receipts}
 use Rattle.gw_run.specs.Settled.{Settled, agrees, first_of, fits_between, having, is_same, last_end, next_at, stands}
 use Rattle.gw_run.proofs.Following.{ends_all}
 use Rattle.gw_run.specs.Given.{NoneGiven, are_same, entry_of, given_by, given_out, same_release}
-
--- ---- tests
-
-and_first : (a b : Bool) → (a && b) ≡ true → a ≡ true
-and_first true b is = refl
-and_first false b is = is
-
-and_second : (a b : Bool) → (a && b) ≡ true → b ≡ true
-and_second true b is = is
-and_second false b is = absurd (false≢true is)
-
-and_both : (a b : Bool) → a ≡ true → b ≡ true → (a && b) ≡ true
-and_both true b one two = two
-and_both false b one two = one
-
-outer_two : (a b c : Bool) → (a && b && c) ≡ true → (a && c) ≡ true
-outer_two true true c is = is
-outer_two true false c is = absurd (false≢true is)
-outer_two false b c is = is
-
-middle : (a b c : Bool) → (a && b && c) ≡ true → b ≡ true
-middle true true c is = refl
-middle true false c is = is
-middle false b c is = absurd (false≢true is)
-
-le_of : (a b : ℕ) → nat_le a b ≡ true → a ≤ b
-le_of a b is = by (cases_lt b a)
-  where
-    by : (b < a) ⊎ (a ≤ b) → a ≤ b
-    by (inl less) = let no : nat_le a b ≡ false = grind (arith, common_steps) in absurd (false≢true (sym no ∙ is))
-    by (inr le) = le
 
 -- ---- entries that give something out
 
@@ -71,13 +42,20 @@ out_some e h r is none = by (released (e ∷ []) r) is (sym (released-append (e 
 
 -- the same entries give out the same
 same_out : (e f : EntrySeen) (r : ℕ) → same_entry e f ≡ true → are_same (released (e ∷ []) r) (released (f ∷ []) r) ≡ true
-same_out (WasOut m at u) (WasOut n to t) r is = by (at == r) (to == r) (ap (λ q. q == r) (equal_numbers at to (middle (m == n) (at == to) (same_translated u t) is)))
+same_out (WasOut m at u) (WasOut n to t) r is = by (at == r) (to == r) (ap (λ q. q == r) (eqb-true at to first.1))
   where
-    one : same_release (record { n = m; translated = u }) (record { n = n; translated = t }) ≡ true
-    one = outer_two (m == n) (at == to) (same_translated u t) is
+    both : (((m == n) && (at == to)) ≡ true) × (same_translated u t ≡ true)
+    both = and_parts ((m == n) && (at == to)) (same_translated u t) is
 
-    by : (b d : Bool) → b ≡ d → are_same (if b then record { n = m; translated = u } ∷ [] else []) (if d then record { n = n; translated = t } ∷ [] else []) ≡ true
-    by true true e = and_both (same_release (record { n = m; translated = u }) (record { n = n; translated = t })) true one refl
+    first : ((m == n) ≡ true) × ((at == to) ≡ true)
+    first = and_parts (m == n) (at == to) both.0
+
+    one : same_release (record { n = m; translated = u }) (record { n = n; translated = t }) ≡ true
+    one = and_from (m == n) (same_translated u t) first.0 both.1
+
+    by : (b d : Bool) → b ≡ d → are_same (if b then record { n = m; translated = u } ∷ [] else [])
+        (if d then record { n = n; translated = t } ∷ [] else []) ≡ true
+    by true true e = and_from (same_release (record { n = m; translated = u }) (record { n = n; translated = t })) true one refl
     by true false e = absurd (false≢true (sym e))
     by false true e = absurd (false≢true e)
     by false false e = refl
@@ -90,12 +68,14 @@ same_append [] [] gs hs one rest = rest
 same_append [] (y ∷ ys) gs hs one rest = absurd (false≢true one)
 same_append (x ∷ xs) [] gs hs one rest = absurd (false≢true one)
 same_append (x ∷ xs) (y ∷ ys) gs hs one rest =
-    and_both (same_release x y) (are_same (xs ++ gs) (ys ++ hs)) (and_first (same_release x y) (are_same xs ys) one)
-    (same_append xs ys gs hs (and_second (same_release x y) (are_same xs ys) one) rest)
+    let both = and_parts (same_release x y) (are_same xs ys) one in
+    and_from (same_release x y) (are_same (xs ++ gs) (ys ++ hs)) both.0 (same_append xs ys gs hs both.1 rest)
 
-heads : (e f : EntrySeen) (g h : List EntrySeen) (r : ℕ) → same_entry e f ≡ true → are_same (released g r) (released h r) ≡ true → are_same (released (e ∷ g) r) (released (f ∷ h) r) ≡ true
+heads : (e f : EntrySeen) (g h : List EntrySeen) (r : ℕ) → same_entry e f ≡ true → are_same (released g r) (released h r) ≡ true
+    → are_same (released (e ∷ g) r) (released (f ∷ h) r) ≡ true
 heads e f g h r is rest =
-    ap (λ l. are_same l (released (f ∷ h) r)) (released-append (e ∷ []) g r) ∙ ap (are_same (released (e ∷ []) r ++ released g r)) (released-append (f ∷ []) h r)
+    ap (λ l. are_same l (released (f ∷ h) r)) (released-append (e ∷ []) g r)
+    ∙ ap (are_same (released (e ∷ []) r ++ released g r)) (released-append (f ∷ []) h r)
     ∙ same_append (released (e ∷ []) r) (released (f ∷ []) r) (released g r) (released h r) (same_out e f r is) rest
 
 some_alike : (xs ys : List Release) → are_same xs ys ≡ true → is_some (slice_get xs 0) ≡ is_some (slice_get ys 0)
@@ -119,19 +99,20 @@ abbrev StandIn : List EntrySeen → ℕ → List ReceiptSeen → Type 0
 StandIn h low [] = Unit {0}
 StandIn h low (x ∷ all) = (is_same x.entry (slice_get h (x.at - low)) ≡ true) × StandIn h low all
 
-rising : (js : List Journal) (low : ℕ) (notes : List NoteSeen) → agrees js low notes ≡ true → Rising low (receipts notes)
-rising js low [] is = tt
-rising js low (Added at e ∷ notes) is =
-    let here = and_first (nat_le low at && stands js at e) (agrees js (at + 1) notes) is in
-    (le_of low at (and_first (nat_le low at) (stands js at e) here), rising js (at + 1) notes (and_second (nat_le low at && stands js at e) (agrees js (at + 1) notes) is))
-rising js low (note ∷ notes) is = rising js low notes (and_second (fits_between js low (next_at (last_end 0 js) notes) note) (agrees js low notes) is)
+-- the receipts of notes that agree
+record Receipts (js : List Journal) (low : ℕ) (all : List ReceiptSeen) : Type 0 where
+  up : Rising low all
+  stand : StandIn (all_entries js) (first_of js) all
 
-standing : (js : List Journal) (low : ℕ) (notes : List NoteSeen) → agrees js low notes ≡ true → StandIn (all_entries js) (first_of js) (receipts notes)
-standing js low [] is = tt
-standing js low (Added at e ∷ notes) is =
-    let here = and_first (nat_le low at && stands js at e) (agrees js (at + 1) notes) is in
-    (and_second (nat_le (first_of js) at) (is_same e (slice_get (all_entries js) (at - first_of js))) (and_second (nat_le low at) (stands js at e) here), standing js (at + 1) notes (and_second (nat_le low at && stands js at e) (agrees js (at + 1) notes) is))
-standing js low (note ∷ notes) is = standing js low notes (and_second (fits_between js low (next_at (last_end 0 js) notes) note) (agrees js low notes) is)
+agreed : (js : List Journal) (low : ℕ) (notes : List NoteSeen) → agrees js low notes ≡ true → Receipts js low (receipts notes)
+agreed js low [] is = record { up = tt; stand = tt }
+agreed js low (Added at e ∷ notes) is =
+    let here = and_parts (nat_le low at && stands js at e) (agrees js (at + 1) notes) is in
+    let this = and_parts (nat_le low at) (stands js at e) here.0 in
+    let there = and_parts (nat_le (first_of js) at) (is_same e (slice_get (all_entries js) (at - first_of js))) this.1 in
+    let rest = agreed js (at + 1) notes here.1 in
+    record { up = (leb-true low at this.0, rest.up); stand = (there.1, rest.stand) }
+agreed js low (note ∷ notes) is = agreed js low notes (and_parts (fits_between js low (next_at (last_end 0 js) notes) note) (agrees js low notes) is).1
 
 lower : (m n : ℕ) (all : List ReceiptSeen) → m ≤ n → Rising n all → Rising m all
 lower m n [] le up = tt
@@ -164,7 +145,8 @@ having_cons : (x : ReceiptSeen) (all : List ReceiptSeen) (k : ℕ) → having (x
 having_cons x all k = sum_by-cons (λ (y : ReceiptSeen). cond (y.at == k) 1 0) x all
 
 having_other : (x : ReceiptSeen) (all : List ReceiptSeen) (k : ℕ) → x.at ≢ k → having all k ≡ 0 → having (x ∷ all) k ≡ 0
-having_other x all k other none = having_cons x all k ∙ ap (λ b. cond b 1 0 + having all k) (differs x.at k other) ∙ (let same : 0 + having all k ≡ having all k = omega arith in same) ∙ none
+having_other x all k other none = having_cons x all k ∙ ap (λ b. cond b 1 0 + having all k) (ne_eqb x.at k other)
+    ∙ (let same : 0 + having all k ≡ having all k = omega arith in same) ∙ none
 
 having_before : (m : ℕ) (all : List ReceiptSeen) (k : ℕ) → Rising m all → k < m → having all k ≡ 0
 having_before m [] k up lt = refl
@@ -179,20 +161,25 @@ Told r h low all = (k : ℕ) (e : EntrySeen) → slice_get h k ≡ Some e → is
 told_next : (r : ℕ) (e : EntrySeen) (h : List EntrySeen) (low : ℕ) (all : List ReceiptSeen) → Told r (e ∷ h) low all → Told r h (low + 1) all
 told_next r e h low all told k f at out none = told (suc k) f at out (let next : low + suc k ≡ low + 1 + k = omega arith in ap (having all) next ∙ none)
 
-told_past : (r : ℕ) (e : EntrySeen) (h : List EntrySeen) (low : ℕ) (x : ReceiptSeen) (all : List ReceiptSeen) → x.at ≡ low → Told r (e ∷ h) low (x ∷ all) → Told r h (low + 1) all
+told_past : (r : ℕ) (e : EntrySeen) (h : List EntrySeen) (low : ℕ) (x : ReceiptSeen) (all : List ReceiptSeen) → x.at ≡ low → Told r (e ∷ h) low (x ∷ all)
+    → Told r h (low + 1) all
 told_past r e h low x all here told k f at out none =
-    told (suc k) f at out (having_other x all (low + suc k) (λ same. omega (arith, here, same)) (let next : low + suc k ≡ low + 1 + k = omega arith in ap (having all) next ∙ none))
+    told (suc k) f at out (having_other x all (low + suc k) (λ same. omega (arith, here, same)) (let next : low + suc k ≡ low + 1 + k = omega arith in
+    ap (having all) next ∙ none))
 
 not_out : (r : ℕ) (e : EntrySeen) (h : List EntrySeen) (low : ℕ) (all : List ReceiptSeen) → Told r (e ∷ h) low all → having all low ≡ 0 → is_out e r ≡ false
-not_out r e h low all told none = false_from_ne_true (is_out e r) (λ out. told 0 e refl out (let here : low + 0 ≡ low = omega arith in ap (having all) here ∙ none))
+not_out r e h low all told none = false_from_ne_true (is_out e r)
+    (λ out. told 0 e refl out (let here : low + 0 ≡ low = omega arith in ap (having all) here ∙ none))
 
 -- its receipts tell of the same releases as the entries do
-one_tells : (r : ℕ) (h : List EntrySeen) (low : ℕ) (all : List ReceiptSeen) → Rising low all → StandIn h low all → Told r h low all → are_same (given_by all r) (released h r) ≡ true
+one_tells : (r : ℕ) (h : List EntrySeen) (low : ℕ) (all : List ReceiptSeen) → Rising low all → StandIn h low all → Told r h low all
+    → are_same (given_by all r) (released h r) ≡ true
 one_tells r [] low [] up is told = refl
 one_tells r [] low (x ∷ all) up is told = absurd (false≢true is.0)
 one_tells r (e ∷ h) low [] up is told =
     subst (λ l. are_same [] l ≡ true) (sym (calm e h r (not_out r e h low [] told refl))) (one_tells r h (low + 1) [] tt tt (told_next r e h low [] told))
-one_tells r (e ∷ h) low (x ∷ all) up is told = by (λ on s t. one_tells r h (low + 1) all on s t) (λ on s t. one_tells r h (low + 1) (x ∷ all) on s t) (cases_eq x.at low)
+one_tells r (e ∷ h) low (x ∷ all) up is told = by (λ on s t. one_tells r h (low + 1) all on s t) (λ on s t. one_tells r h (low + 1) (x ∷ all) on s t)
+    (cases_eq x.at low)
   where
     by : (Rising (low + 1) all → StandIn h (low + 1) all → Told r h (low + 1) all → are_same (given_by all r) (released h r) ≡ true)
         → (Rising (low + 1) (x ∷ all) → StandIn h (low + 1) (x ∷ all) → Told r h (low + 1) (x ∷ all) → are_same (given_by (x ∷ all) r) (released h r) ≡ true)
@@ -223,48 +210,35 @@ none_told r base k h e (x ∷ all) at out is none = by (λ n. none_told r base k
 
     by : (given_by all r ≡ [] → having all (base + k) ≡ 0) → (b : Bool) → is_out x.entry r ≡ b → having (x ∷ all) (base + k) ≡ 0
     by rest true told = absurd (out_some x.entry (map entry_of all) r told none)
-    by rest false quiet = having_other x all (base + k) (λ same. false≢true (sym quiet ∙ kind same ∙ out)) (rest (sym (calm x.entry (map entry_of all) r quiet) ∙ none))
+    by rest false quiet = having_other x all (base + k) (λ same. false≢true (sym quiet ∙ kind same ∙ out))
+        (rest (sym (calm x.entry (map entry_of all) r quiet) ∙ none))
 
 having-append : (xs ys : List ReceiptSeen) (k : ℕ) → having (xs ++ ys) k ≡ having xs k + having ys k
 having-append xs ys k = sum_by-append (λ (y : ReceiptSeen). cond (y.at == k) 1 0) xs ys
 
-others_quiet : (js : List Journal) (since r k : ℕ) (e : EntrySeen) (passes : List (List NoteSeen)) → slice_get (all_entries js) k ≡ Some e → is_out e r ≡ true
-    → list_all (agrees js since) passes ≡ true → NoneGiven r passes → having (flat_map receipts passes) (first_of js + k) ≡ 0
+others_quiet : (js : List Journal) (since r k : ℕ) (e : EntrySeen) (passes : List (List NoteSeen)) → slice_get (all_entries js) k ≡ Some e
+    → is_out e r ≡ true → list_all (agrees js since) passes ≡ true → NoneGiven r passes → having (flat_map receipts passes) (first_of js + k) ≡ 0
 others_quiet js since r k e [] at out each none = refl
 others_quiet js since r k e (notes ∷ passes) at out each none =
-    let here = none_told r (first_of js) k (all_entries js) e (receipts notes) at out (standing js since notes (and_first (agrees js since notes) (list_all (agrees js since) passes) each)) none.0 in
-    let rest = others_quiet js since r k e passes at out (and_second (agrees js since notes) (list_all (agrees js since) passes) each) none.1 in
-    having-append (receipts notes) (flat_map receipts passes) (first_of js + k) ∙ (let sum : having (receipts notes) (first_of js + k) + having (flat_map receipts passes) (first_of js + k) ≡ 0 = omega (arith, here, rest) in sum)
+    let both = and_parts (agrees js since notes) (list_all (agrees js since) passes) each in
+    let here = none_told r (first_of js) k (all_entries js) e (receipts notes) at out (agreed js since notes both.0).stand none.0 in
+    let rest = others_quiet js since r k e passes at out both.1 none.1 in
+    let sum = having-append (receipts notes) (flat_map receipts passes) (first_of js + k) in
+    omega (arith, here, rest, sum)
 
 -- ---- all passes
 
 having_all : (before after : List (List NoteSeen)) (notes : List NoteSeen) (k : ℕ)
-    → having (flat_map receipts (before ++ notes ∷ after)) k ≡ having (flat_map receipts before) k + (having (receipts notes) k + having (flat_map receipts after) k)
-having_all [] after notes k = having-append (receipts notes) (flat_map receipts after) k ∙ (let same : having (receipts notes) k + having (flat_map receipts after) k ≡ 0 + (having (receipts notes) k + having (flat_map receipts after) k) = omega arith in same)
-having_all (x ∷ before) after notes k =
-    let rest = having_all before after notes k in
-    let one = having-append (receipts x) (flat_map receipts (before ++ notes ∷ after)) k in
-    let two = having-append (receipts x) (flat_map receipts before) k in
-    omega (arith, rest, one, two)
-
-all_first : (test : List NoteSeen → Bool) (before after : List (List NoteSeen)) (notes : List NoteSeen) → list_all test (before ++ notes ∷ after) ≡ true → list_all test before ≡ true
-all_first test [] after notes is = refl
-all_first test (x ∷ before) after notes is =
-    and_both (test x) (list_all test before) (and_first (test x) (list_all test (before ++ notes ∷ after)) is)
-    (all_first test before after notes (and_second (test x) (list_all test (before ++ notes ∷ after)) is))
-
-all_rest : (test : List NoteSeen → Bool) (before after : List (List NoteSeen)) (notes : List NoteSeen) → list_all test (before ++ notes ∷ after) ≡ true → list_all test (notes ∷ after) ≡ true
-all_rest test [] after notes is = is
-all_rest test (x ∷ before) after notes is = all_rest test before after notes (and_second (test x) (list_all test (before ++ notes ∷ after)) is)
+    → having (flat_map receipts (before ++ notes ∷ after)) k ≡ having
+    (flat_map receipts before) k + (having (receipts notes) k + having (flat_map receipts after) k)
+having_all before after notes k =
+    ap (λ l. having l k) (flat_map-append receipts before (notes ∷ after)) ∙ having-append (flat_map receipts before) (flat_map receipts (notes ∷ after)) k
+    ∙ ap (λ n. having (flat_map receipts before) k + n) (having-append (receipts notes) (flat_map receipts after) k)
 
 all_at : (test : ℕ → Bool) (since n p : ℕ) → p < n → list_all test (range_with_len since n) ≡ true → test (since + p) ≡ true
-all_at test since zero p lt is = absurd (omega arith)
-all_at test since (suc n) zero lt is =
-    let here : since ≡ since + 0 = omega arith in
-    ap test (sym here) ∙ and_first (test since) (list_all test (range_with_len (since + 1) n)) is
-all_at test since (suc n) (suc p) lt is =
-    let next : since + suc p ≡ since + 1 + p = omega arith in
-    ap test next ∙ all_at test (since + 1) n p (omega arith) (and_second (test since) (list_all test (range_with_len (since + 1) n)) is)
+all_at test since n p lt is =
+    true_from_ne_false (test (since + p)) (λ fails. false≢true (sym (list_all_at test (range_with_len since n) p 0
+    (omega (arith, lt, length-range_with_len since n)) (ap test (get_or-range_with_len since n p 0 lt) ∙ fails)) ∙ is))
 
 get_drop : (d k : ℕ) (h : List EntrySeen) → slice_get (drop d h) k ≡ slice_get h (d + k)
 get_drop zero k h = let same : k ≡ 0 + k = omega arith in ap (slice_get h) same
@@ -272,32 +246,43 @@ get_drop (suc d) k [] = refl
 get_drop (suc d) k (e ∷ h) = let next : suc (d + k) ≡ suc d + k = omega arith in get_drop d k h ∙ ap (slice_get (e ∷ h)) next
 
 -- where one pass alone has receipts of what was given out for a receiver, it has them of all of it, in order
-pub one_courier : (js : List Journal) (since r : ℕ) (before after : List (List NoteSeen)) (notes : List NoteSeen) → Settled js since (before ++ notes ∷ after) → NoneGiven r before → NoneGiven r after
+pub one_courier : (js : List Journal) (since r : ℕ) (before after : List (List NoteSeen)) (notes : List NoteSeen) → Settled js since (before ++ notes ∷ after)
+    → NoneGiven r before → NoneGiven r after
     → are_same (given_out notes r) (released (drop (since - first_of js) (all_entries js)) r) ≡ true
 one_courier js since r before after notes settled first last =
-    let d = since - first_of js in
-    let le = le_of (first_of js) since settled.from in
-    let here : first_of js + d ≡ since = omega (arith, le) in
-    let rest = all_rest (agrees js since) before after notes settled.each in
-    let mine = and_first (agrees js since notes) (list_all (agrees js since) after) rest in
-    let theirs = and_second (agrees js since notes) (list_all (agrees js since) after) rest in
-    let up = rising js since notes mine in
-    let in_window = window d (first_of js) (all_entries js) (receipts notes) (subst (λ m. Rising m (receipts notes)) (sym here) up) (standing js since notes mine) in
-    one_tells r (drop d (all_entries js)) since (receipts notes) up (subst (λ m. StandIn (drop d (all_entries js)) m (receipts notes)) here in_window) told
+    one_tells r (drop d (all_entries js)) since (receipts notes) own.up (subst (λ m. StandIn (drop d (all_entries js)) m (receipts notes)) here in_window) told
   where
-    told : Told r (drop (since - first_of js) (all_entries js)) since (receipts notes)
+    d : ℕ
+    d = since - first_of js
+
+    le : first_of js ≤ since
+    le = leb-true (first_of js) since settled.from
+
+    here : first_of js + d ≡ since
+    here = omega (arith, le)
+
+    each : (list_all (agrees js since) before ≡ true) × (list_all (agrees js since) (notes ∷ after) ≡ true)
+    each = and_parts _ _ (sym (list_all-append (agrees js since) before (notes ∷ after)) ∙ settled.each)
+
+    mine : (agrees js since notes ≡ true) × (list_all (agrees js since) after ≡ true)
+    mine = and_parts (agrees js since notes) (list_all (agrees js since) after) each.1
+
+    own : Receipts js since (receipts notes)
+    own = agreed js since notes mine.0
+
+    in_window : StandIn (drop d (all_entries js)) (first_of js + d) (receipts notes)
+    in_window = window d (first_of js) (all_entries js) (receipts notes) (subst (λ m. Rising m (receipts notes)) (sym here) own.up) own.stand
+
+    told : Told r (drop d (all_entries js)) since (receipts notes)
     told k e at out none =
-        let d = since - first_of js in
         let at_all : slice_get (all_entries js) (d + k) ≡ Some e = sym (get_drop d k (all_entries js)) ∙ at in
         let within = slice_get_within (all_entries js) (d + k) e at_all in
-        let le = le_of (first_of js) since settled.from in
         let sum = ends_all js settled.follow in
-        let number : first_of js + (d + k) ≡ since + k = omega (arith, le) in
-        let b = others_quiet js since r (d + k) e before at_all out (all_first (agrees js since) before after notes settled.each) first in
-        let a = others_quiet js since r (d + k) e after at_all out (and_second (agrees js since notes) (list_all (agrees js since) after) (all_rest (agrees js since) before after notes settled.each)) last in
-        let b_here : having (flat_map receipts before) (since + k) ≡ 0 = ap (having (flat_map receipts before)) (sym number) ∙ b in
-        let a_here : having (flat_map receipts after) (since + k) ≡ 0 = ap (having (flat_map receipts after)) (sym number) ∙ a in
+        let number : first_of js + (d + k) ≡ since + k = omega (arith, here) in
+        let b = ap (having (flat_map receipts before)) (sym number) ∙ others_quiet js since r (d + k) e before at_all out each.0 first in
+        let a = ap (having (flat_map receipts after)) (sym number) ∙ others_quiet js since r (d + k) e after at_all out mine.1 last in
         let all = having_all before after notes (since + k) in
-        let one = equal_numbers (having (flat_map receipts (before ++ notes ∷ after)) (since + k)) 1
-        (all_at (λ q. having (flat_map receipts (before ++ notes ∷ after)) q == 1) since (last_end 0 js - since) k (omega (arith, within, sum, le)) settled.all) in
-        omega (arith, all, one, b_here, a_here, none)
+        let one = eqb-true (having (flat_map receipts (before ++ notes ∷ after)) (since + k)) 1
+        (all_at (λ q. having (flat_map receipts (before ++ notes ∷ after)) q == 1) since (last_end 0 js - since) k
+        (omega (arith, within, sum, here)) settled.all) in
+        omega (arith, all, one, b, a, none)

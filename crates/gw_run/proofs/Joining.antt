@@ -1,8 +1,7 @@
 -- The receipts of all passes, put together.
-use Rattle.std.proofs.Common.{◌≡◌, ℕ, ◌+◌, ◌≤◌, List, [], ◌∷◌, ◌++◌, length, ap, subst, ◌∙◌, arith, zero-add}
-use Rattle.std.proofs.lemmas.List.Sums.{sum_by-append}
-use Rattle.gw_gate.specs.own.Books.{journal_of}
-use Rattle.gw_gate.specs.Journal.{EntrySeen, Journal, Start, end}
+use Rattle.std.proofs.Common.{◌≡◌, ℕ, ◌+◌, ◌≤◌, List, [], ◌∷◌, ◌++◌, length, ap, subst, arith}
+use Rattle.std.proofs.lemmas.List.Sums.{sum_by_push}
+use Rattle.gw_gate.specs.Journal.{Journal, end}
 use Rattle.gw_crew.specs.Notes.{NoteSeen}
 use Rattle.gw_run.specs.Passes.{PassSeen, part_count, receipt_count, receipts}
 use Rattle.gw_run.specs.Settled.{GoOn, Settled, last_end}
@@ -10,12 +9,9 @@ use Rattle.gw_run.specs.declared.parts.Part.{Part}
 use Rattle.gw_run.specs.own.Tellings.{TellsAll, entries_of}
 use Rattle.gw_run.proofs.Following.{ends_open, entries_are, entries_few}
 
--- a journal by its start and its entries
-pub as_journal : (s : Start) (h : List EntrySeen) (j : Journal) → s ≡ j.start → h ≡ j.entries → journal_of s h ≡ j
-as_journal s h j started entered = λ i. record { start = started i; entries = entered i }
-
 -- settled notes, of the same chapters
-pub settled_as : (js : List Journal) (j k : Journal) (s t : ℕ) (notes : List (List NoteSeen)) → j ≡ k → s ≡ t → Settled (js ++ j ∷ []) s notes → Settled (js ++ k ∷ []) t notes
+pub settled_as : (js : List Journal) (j k : Journal) (s t : ℕ) (notes : List (List NoteSeen)) → j ≡ k → s ≡ t → Settled (js ++ j ∷ []) s notes
+    → Settled (js ++ k ∷ []) t notes
 settled_as js j k s t notes same since is = subst (λ x. Settled (js ++ k ∷ []) x notes) since (subst (λ x. Settled (js ++ x ∷ []) s notes) same is)
 
 -- the passes began before the end
@@ -31,7 +27,7 @@ few_in_all js j parts tells go =
     omega (arith, few, last, same)
 
 pub parts_more : (passes : List PassSeen) (pass : PassSeen) → part_count (passes ++ pass ∷ []) ≡ part_count passes + pass.parts
-parts_more passes pass = sum_by-append (λ (p : PassSeen). p.parts) passes (pass ∷ []) ∙ ap (λ n. part_count passes + n) (zero-add pass.parts)
+parts_more passes pass = sum_by_push (λ (p : PassSeen). p.parts) passes pass
 
 pub receipts_more : (passes : List PassSeen) (pass : PassSeen) → receipt_count (passes ++ pass ∷ []) ≡ receipt_count passes + length (receipts pass.notes)
-receipts_more passes pass = sum_by-append (λ (p : PassSeen). length (receipts p.notes)) passes (pass ∷ []) ∙ ap (λ n. receipt_count passes + n) (zero-add (length (receipts pass.notes)))
+receipts_more passes pass = sum_by_push (λ (p : PassSeen). length (receipts p.notes)) passes pass

@@ -8,7 +8,6 @@ pub mod Meeting
 pub mod Prefixes
 pub mod Telling
 pub mod Joining
-pub mod Reaching
 pub mod Dues
 pub mod Ordering
 pub mod Chaining

@@ -1,9 +1,9 @@
 -- Journals with one entry more.
-use Rattle.std.proofs.Common.{◌≡◌, ℕ, zero, suc, ◌+◌, ◌<◌, ◌≤◌, ◌⊎◌, inl, inr, Bool, true, false, if◌then◌else◌, List, [], ◌∷◌, ◌++◌, length, map, take, get_or, Some, refl, sym, ap, ◌∙◌, arith, length-append}
+use Rattle.std.proofs.Common.{◌≡◌, ℕ, zero, suc, ◌+◌, ◌<◌, ◌≤◌, ◌⊎◌, inl, inr, Bool, true, false, if◌then◌else◌, List, [], ◌∷◌, ◌++◌, length, map, take, get_or}
+use Rattle.std.proofs.Common.{Some, refl, sym, ap, ◌∙◌, arith, length-append}
 use Rattle.std.specs.Prelude.{nat_le, replicate, slice_get}
-use Rattle.std.proofs.lemmas.Bool.{cases_lt}
-use Rattle.std.proofs.lemmas.Grind.{common_steps}
-use Rattle.std.proofs.lemmas.List.{map-append, take_all}
+use Rattle.std.proofs.lemmas.Bool.{cases_lt, le-leb, lt-leb}
+use Rattle.std.proofs.lemmas.List.{map-append, map_more, take-map, take_all}
 use Rattle.std.proofs.lemmas.Option.{slice_get-get_or, slice_get_past}
 use Rattle.gw_gate.specs.declared.event.Entry.{Entry}
 use Rattle.gw_gate.specs.Parts.{PlanSeen}
@@ -22,19 +22,14 @@ use Rattle.gw_run.specs.Turns.{TurnsAt, TurnsTo}
 use Rattle.gw_run.proofs.Ordering.{numbered, until}
 use Rattle.gw_run.proofs.Turning.{turns_done}
 
-pub entry_next : (entries : List Entry) (k : ℕ) (e : Entry) → k < length entries → e ≡ get_or entries k e → take (k + 1) (entries_seen entries) ≡ take k (entries_seen entries) ++ entry_seen e ∷ []
-entry_next [] k e lt is = absurd (omega arith)
-entry_next (x ∷ entries) zero e lt is = ap (λ y. entry_seen y ∷ []) (sym is)
-entry_next (x ∷ entries) (suc k) e lt is =
-    let next : suc k + 1 ≡ suc (k + 1) = omega arith in
-    ap (λ n. take n (entries_seen (x ∷ entries))) next ∙ ap (λ l. entry_seen x ∷ l) (entry_next entries k e (omega arith) is)
+pub seen_next : (entries : List Entry) (k : ℕ) (e : Entry) → k < length entries → e ≡ get_or entries k e
+    → entries_seen (take (k + 1) entries) ≡ entries_seen (take k entries) ++ entry_seen e ∷ []
+seen_next entries k e lt is = map_more entry_seen entries k e lt ∙ ap (λ x. entries_seen (take k entries) ++ entry_seen x ∷ []) (sym is)
 
-pub seen_next : (entries : List Entry) (k : ℕ) (e : Entry) → k < length entries → e ≡ get_or entries k e → entries_seen (take (k + 1) entries) ≡ entries_seen (take k entries) ++ entry_seen e ∷ []
-seen_next [] k e lt is = absurd (omega arith)
-seen_next (x ∷ entries) zero e lt is = ap (λ y. entry_seen y ∷ []) (sym is)
-seen_next (x ∷ entries) (suc k) e lt is =
-    let next : suc k + 1 ≡ suc (k + 1) = omega arith in
-    ap (λ n. entries_seen (take n (x ∷ entries))) next ∙ ap (λ l. entry_seen x ∷ l) (seen_next entries k e (omega arith) is)
+pub entry_next : (entries : List Entry) (k : ℕ) (e : Entry) → k < length entries → e ≡ get_or entries k e
+    → take (k + 1) (entries_seen entries) ≡ take k (entries_seen entries) ++ entry_seen e ∷ []
+entry_next entries k e lt is =
+    take-map entry_seen (k + 1) entries ∙ seen_next entries k e lt is ∙ ap (λ l. l ++ entry_seen e ∷ []) (sym (take-map entry_seen k entries))
 
 -- ---- plans
 
@@ -85,22 +80,24 @@ pub few_taken : (e : EntrySeen) (all more k : ℕ) → all ≤ k → more ≡ jo
 few_taken e all more k few is = omega (arith, few, is, one_job e)
 
 -- every pair was taken
-pub idle_is : (h : List EntrySeen) → AreLawful h → (k all taken : ℕ) → all ≡ length (issued (take k h)) → taken ≡ jobs (take k h) → waits_none h k ≡ nat_le all taken
+pub idle_is : (h : List EntrySeen) → AreLawful h → (k all taken : ℕ) → all ≡ length (issued (take k h)) → taken ≡ jobs (take k h)
+    → waits_none h k ≡ nat_le all taken
 idle_is h lawful k all taken are is = by (cases_lt (jobs g) (length (issued g))) ∙ ap (λ n. nat_le n (jobs g)) (sym are) ∙ ap (nat_le all) (sym is)
   where
     g : List EntrySeen
     g = take k h
 
-    by : (jobs (take k h) < length (issued (take k h))) ⊎ (length (issued (take k h)) ≤ jobs (take k h)) → waits_none h k ≡ nat_le (length (issued (take k h))) (jobs (take k h))
+    by : (jobs (take k h) < length (issued (take k h))) ⊎ (length (issued (take k h)) ≤ jobs (take k h))
+        → waits_none h k ≡ nat_le (length (issued (take k h))) (jobs (take k h))
     by (inl lt) =
         let p = get_or (issued g) (jobs g) (pair 0 0) in
         let at : slice_get (issued g) (jobs g) ≡ Some p = slice_get-get_or (issued g) (jobs g) (pair 0 0) lt in
         let due = all_at g (issued g) (jobs g) p (all_issued Makes lawful.start g (until lawful.start h lawful.lawful k)) at in
         let found = found_goes lawful.start.acceptances p.n p.receiver (accepted g) (numbered h lawful k) due in
-        let some : nat_le (length (issued g)) (jobs g) ≡ false = grind (arith, common_steps) in
+        let some = lt-leb (length (issued g)) (jobs g) lt in
         ap (λ o. is_idle (job_of g o)) at ∙ ap (λ a. is_idle (job_with p a)) found.found ∙ sym some
     by (inr le) =
-        let none : nat_le (length (issued g)) (jobs g) ≡ true = grind (arith, common_steps) in
+        let none = le-leb (length (issued g)) (jobs g) le in
         ap (λ o. is_idle (job_of g o)) (slice_get_past (issued g) (jobs g) le) ∙ sym none
 
 pub idle_all : (h : List EntrySeen) (ats : List ℕ) → TurnsTo (waits_none h) (length h) ats → TurnsAt (waits_none h) ats

@@ -12,11 +12,12 @@ use Rattle.gw_gate.proofs.Journals.{last_stands, plan_stays}
 use Rattle.gw_gate.proofs.Numbering.{lawful_numbers}
 use Rattle.gw_run.specs.Gathers.{swaps_in}
 use Rattle.gw_run.specs.Owing.{gives_none, waits_none}
-use Rattle.gw_run.specs.declared.past.Past.{Past}
-use Rattle.gw_run.specs.own.Joins.{PlansAt, of_receiver, plans_at}
+use Rattle.gw_run.specs.declared.history.History.{History}
+use Rattle.gw_run.specs.own.Joins.{PlansAt, plans_at}
+use Rattle.gw_run.specs.own.Queues.{queue_at}
 use Rattle.gw_run.specs.own.Tellings.{Tells}
 use Rattle.gw_run.specs.Turns.{CountsTo, TurnsAt}
-use Rattle.gw_run.proofs.Fitting.{some_is}
+use Rattle.gw_gate.proofs.Releasing.{some_is}
 use Rattle.gw_run.proofs.Turning.{counts_done}
 
 abbrev number : Version → ℕ
@@ -40,7 +41,8 @@ module _ (s : Start) (h : List EntrySeen) where
       (plan_stays s (take k h) (drop k h) (swaps_in h k) (current (journal_of s (take k h)))
       (last_stands (record { number = s.version; plan = s.plan }) (swapped (take k h))))
 
-  pub tells_plans : IsLawful (IsTranslated Makes) (journal_of s h) → (swaps : List ℕ) (seen : List PlanSeen) → CountsTo (swaps_in h) (length h) swaps → seen ≡ map plan (plans (journal_of s h)) → PlansAt (journal_of s h) swaps seen
+  pub tells_plans : IsLawful (IsTranslated Makes) (journal_of s h) → (swaps : List ℕ) (seen : List PlanSeen) → CountsTo (swaps_in h) (length h) swaps
+      → seen ≡ map plan (plans (journal_of s h)) → PlansAt (journal_of s h) swaps seen
   tells_plans lawful swaps seen counts are =
       let at = counts_done (swaps_in h) (length h) swaps (λ k le. ap (λ l. length (swapped l)) (same_past h k (length h) le (omega arith))) counts in
       let numbers = lawful_numbers Makes (journal_of s h) lawful in
@@ -50,20 +52,22 @@ module _ (s : Start) (h : List EntrySeen) where
             (let e = count_at s.version (plans (journal_of s h)) (swaps_in h k) (current (journal_of s (take k h))) numbers.plans (current_at k) in
             let i_is = at k i there in omega (arith, e, i_is));
         plan = λ k i there.
-            ap (λ l. slice_get l i) are ∙ slice_get-map plan (plans (journal_of s h)) i ∙ ap (λ n. option_map plan (slice_get (plans (journal_of s h)) n)) (sym (at k i there)) ∙ ap (option_map plan) (current_at k);
+            ap (λ l. slice_get l i) are ∙ slice_get-map plan (plans (journal_of s h)) i
+            ∙ ap (λ n. option_map plan (slice_get (plans (journal_of s h)) n)) (sym (at k i there)) ∙ ap (option_map plan) (current_at k);
       }
 
 -- ---- all of it
 
-pub tells_all : (s : Start) (h : List EntrySeen) → IsLawful (IsTranslated Makes) (journal_of s h) → (n : ℕ) → n ≡ length h → (past : Past) → past.start ≡ s.entries → past.last ≡ s.entries + n → past.version ≡ s.version → past.entries ≡ n
-    → CountsTo (swaps_in h) n past.swaps.items → plans_at past.plans.items ≡ map plan (plans (journal_of s h)) → TurnsAt (waits_none h) past.idle.items
-    → ((r : ℕ) → TurnsAt (gives_none h r) (of_receiver past.nothing.items r)) → Tells (journal_of s h) past
-tells_all s h lawful n long past start last version entries swaps are idle nothing = record {
+pub tells_all : (s : Start) (h : List EntrySeen) → IsLawful (IsTranslated Makes) (journal_of s h) → (n : ℕ) → n ≡ length h → (history : History)
+    → history.start ≡ s.entries → history.last ≡ s.entries + n → history.version ≡ s.version → history.entries ≡ n
+    → CountsTo (swaps_in h) n history.swaps.items → plans_at history.plans.items ≡ map plan (plans (journal_of s h)) → TurnsAt (waits_none h) history.idle.items
+    → ((r : ℕ) → TurnsAt (gives_none h r) (queue_at history.queues.items r).turns) → Tells (journal_of s h) history
+tells_all s h lawful n long history start last version entries swaps are idle nothing = record {
   start = start;
   last = last ∙ ap (λ k. s.entries + k) long;
   version = version;
   entries = entries ∙ long;
-  plans = tells_plans s h lawful past.swaps.items (plans_at past.plans.items) (subst (λ n. CountsTo (swaps_in h) n past.swaps.items) long swaps) are;
+  plans = tells_plans s h lawful history.swaps.items (plans_at history.plans.items) (subst (λ n. CountsTo (swaps_in h) n history.swaps.items) long swaps) are;
   idle = idle;
   nothing = nothing;
 }

@@ -1,11 +1,12 @@
 -- First numbers at which a test holds.
-use Rattle.std.proofs.Common.{◌≡◌, ◌≢◌, ℕ, zero, suc, ◌+◌, ◌-◌, ◌<◌, ◌≤◌, ◌%◌, ◌⊎◌, inl, inr, Bool, true, false, List, [], ◌∷◌, ◌++◌, length, get_or, None, Some, Ok, Err, refl, sym, ap, subst, ◌∙◌, arith, length-append}
+use Rattle.std.proofs.Common.{◌≡◌, ◌≢◌, ℕ, zero, suc, ◌+◌, ◌-◌, ◌<◌, ◌≤◌, ◌%◌, ◌⊎◌, inl, inr, Bool, true, false, List, [], ◌∷◌, ◌++◌, length, get_or, None}
+use Rattle.std.proofs.Common.{Some, Ok, Err, refl, sym, ap, subst, ◌∙◌, arith, length-append}
 use Rattle.std.specs.Prelude.{nat_le, not, ◌||◌, slice_get}
 use Rattle.std.specs.List.{list_any, range_with_len}
 use Rattle.std.specs.List.Sorted.{IsStrictlyIncreasing, IsBinarySearchResult}
 use Rattle.std.specs.Ordering.{nat_cmp}
-use Rattle.std.proofs.lemmas.Grind.{common_steps}
-use Rattle.std.proofs.lemmas.Bool.{cases_lt, false≢true}
+use Rattle.std.proofs.lemmas.List.{get_or_append_left, get_or_push}
+use Rattle.std.proofs.lemmas.Bool.{cases_lt, false≢true, le-leb, lt-leb}
 use Rattle.std.proofs.lemmas.Option.{slice_get-get_or, slice_get_past}
 use Rattle.std.proofs.lemmas.List.Folds.{list_any_at}
 use Rattle.std.proofs.lemmas.List.FromFn.{length-range_with_len, get_or-range_with_len}
@@ -19,8 +20,10 @@ use Rattle.gw_run.specs.Turns.{Passes, is_even, is_within, CountsTo, RiseTo, Tur
 
 pub some_between : (test : ℕ → Bool) (low high k : ℕ) → low ≤ k → k ≤ high → test k ≡ true → list_any test (range_with_len low (high + 1 - low)) ≡ true
 some_between test low high k above below holds =
-    let place : get_or (range_with_len low (high + 1 - low)) (k - low) 0 ≡ k = (let e = get_or-range_with_len low (high + 1 - low) (k - low) 0 (omega arith) in omega (arith, e)) in
-    list_any_at test (range_with_len low (high + 1 - low)) (k - low) 0 (let l = length-range_with_len low (high + 1 - low) in omega (arith, l)) (ap test place ∙ holds)
+    let place : get_or (range_with_len low (high + 1 - low)) (k - low) 0 ≡ k =
+    (let e = get_or-range_with_len low (high + 1 - low) (k - low) 0 (omega arith) in omega (arith, e)) in
+    list_any_at test (range_with_len low (high + 1 - low)) (k - low) 0 (let l = length-range_with_len low (high + 1 - low) in omega (arith, l)) (ap test place
+    ∙ holds)
 
 none_from : (test : ℕ → Bool) (low n : ℕ) → ((k : ℕ) → low ≤ k → k < low + n → test k ≡ false) → list_any test (range_with_len low n) ≡ false
 none_from test low zero none = refl
@@ -28,16 +31,18 @@ none_from test low (suc n) none =
     let first : test low ≡ false = none low (omega arith) (omega arith) in
     ap (λ b. b || list_any test (range_with_len (low + 1) n)) first ∙ none_from test (low + 1) n (λ k above below. none k (omega arith) (omega arith))
 
-pub none_between : (test : ℕ → Bool) (low high : ℕ) → ((k : ℕ) → low ≤ k → k ≤ high → test k ≡ false) → list_any test (range_with_len low (high + 1 - low)) ≡ false
+pub none_between : (test : ℕ → Bool) (low high : ℕ) → ((k : ℕ) → low ≤ k → k ≤ high → test k ≡ false)
+    → list_any test (range_with_len low (high + 1 - low)) ≡ false
 none_between test low high none = none_from test low (high + 1 - low) (λ k above below. none k above (omega arith))
 
 -- where k is the first number from low on at which the test holds, it holds up to high just where k is at most high
-pub first_between : (test : ℕ → Bool) (low high k : ℕ) → low ≤ k → test k ≡ true → ((p : ℕ) → low ≤ p → p < k → test p ≡ false) → list_any test (range_with_len low (high + 1 - low)) ≡ is_within high (Some k)
+pub first_between : (test : ℕ → Bool) (low high k : ℕ) → low ≤ k → test k ≡ true → ((p : ℕ) → low ≤ p → p < k → test p ≡ false)
+    → list_any test (range_with_len low (high + 1 - low)) ≡ is_within high (Some k)
 first_between test low high k above holds before = by (cases_lt high k)
   where
     by : (high < k) ⊎ (k ≤ high) → list_any test (range_with_len low (high + 1 - low)) ≡ nat_le k high
-    by (inl past) = let far : nat_le k high ≡ false = grind (arith, common_steps) in none_between test low high (λ p a b. before p a (omega arith)) ∙ sym far
-    by (inr within) = let near : nat_le k high ≡ true = grind (arith, common_steps) in some_between test low high k above within holds ∙ sym near
+    by (inl past) = none_between test low high (λ p a b. before p a (omega arith)) ∙ sym (lt-leb k high past)
+    by (inr within) = some_between test low high k above within holds ∙ sym (le-leb k high within)
 
 -- ---- a test that turns
 
@@ -86,11 +91,14 @@ passes_until : (ats : List ℕ) (low i k : ℕ) → Passes ats low i → low ≤
 passes_until ats low i k was le next = record { few = was.few; before = λ p lt. (let b = was.before p lt in omega (arith, b)); after = next }
 
 -- where an even number of them was passed, a test that turns there holds
-pub even_here : (test : ℕ → Bool) (ats : List ℕ) (low high count : ℕ) → TurnsAt test ats → Passes ats low count → is_even count ≡ true → list_any test (range_with_len low (high + 1 - low)) ≡ is_within high (Some low)
-even_here test ats low high count turns here even = first_between test low high low (omega arith) (turns.tells low count here ∙ even) (λ p a b. absurd (omega arith))
+pub even_here : (test : ℕ → Bool) (ats : List ℕ) (low high count : ℕ) → TurnsAt test ats → Passes ats low count → is_even count ≡ true
+    → list_any test (range_with_len low (high + 1 - low)) ≡ is_within high (Some low)
+even_here test ats low high count turns here even = first_between test low high low (omega arith) (turns.tells low count here ∙ even)
+    (λ p a b. absurd (omega arith))
 
 -- else it holds from the next of them on
-pub even_next_at : (test : ℕ → Bool) (ats : List ℕ) (low high count : ℕ) → TurnsAt test ats → Passes ats low count → is_even count ≡ false → list_any test (range_with_len low (high + 1 - low)) ≡ is_within high (slice_get ats count)
+pub even_next_at : (test : ℕ → Bool) (ats : List ℕ) (low high count : ℕ) → TurnsAt test ats → Passes ats low count → is_even count ≡ false
+    → list_any test (range_with_len low (high + 1 - low)) ≡ is_within high (slice_get ats count)
 even_next_at test ats low high count turns here odd = by (cases_lt count (length ats))
   where
     later : (k : ℕ) → low ≤ k → ((p : ℕ) → count ≤ p → p < length ats → k < get_or ats p 0) → test k ≡ false
@@ -119,14 +127,17 @@ module _ (ats : List ℕ) (rising : IsStrictlyIncreasing ats) (k : ℕ) where
       at below p lt (inl past) le = after p (omega arith) lt
       at below p lt (inr here) le = let same : n ≡ p = omega arith in subst (λ q. k < get_or ats q 0) same below
 
-      by : (k < get_or ats n 0) ⊎ (get_or ats n 0 ≤ k) → (((p : ℕ) → n ≤ p → p < length ats → k < get_or ats p 0) → (i : ℕ) × Passes ats k i) → (i : ℕ) × Passes ats k i
+      by : (k < get_or ats n 0) ⊎ (get_or ats n 0 ≤ k) → (((p : ℕ) → n ≤ p → p < length ats → k < get_or ats p 0) → (i : ℕ) × Passes ats k i)
+          → (i : ℕ) × Passes ats k i
       by (inl below) less = less (λ p le lt. at below p lt (cases_lt n p) le)
-      by (inr within) less = (suc n, record { few = few; before = λ p lt. (let b = rising_weakly ats rising p n (omega arith) (omega arith) in omega (arith, b)); after = after })
+      by (inr within) less =
+          (suc n, record { few = few; before = λ p lt. (let b = rising_weakly ats rising p n (omega arith) (omega arith) in omega (arith, b)); after = after })
 
   pub passed : (i : ℕ) × Passes ats k i
   passed = passed_below (length ats) (omega arith) (λ p le lt. absurd (omega arith))
 
-pub with_past : (test : ℕ → Bool) (ats : List ℕ) (low high count v : ℕ) → HoldsFrom test v ats → Passes ats low count → v < count → list_any test (range_with_len low (high + 1 - low)) ≡ is_within high None
+pub with_past : (test : ℕ → Bool) (ats : List ℕ) (low high count v : ℕ) → HoldsFrom test v ats → Passes ats low count → v < count
+    → list_any test (range_with_len low (high + 1 - low)) ≡ is_within high None
 with_past test ats low high count v holds here past = none_between test low high (λ k a b. at k a (passed ats holds.rising k))
   where
     at : (k : ℕ) → low ≤ k → ((i : ℕ) × Passes ats k i) → test k ≡ false
@@ -136,7 +147,8 @@ with_past test ats low high count v holds here past = none_between test low high
         by (inl less) = let f = here.few in let b = here.before i less in let c = there.after i (omega arith) (omega arith) in absurd (omega (arith, b, c))
         by (inr more) = λ e. omega arith
 
-pub with_later : (test : ℕ → Bool) (ats : List ℕ) (low high count v : ℕ) → HoldsFrom test v ats → Passes ats low count → count < v → list_any test (range_with_len low (high + 1 - low)) ≡ is_within high (slice_get ats (v - 1))
+pub with_later : (test : ℕ → Bool) (ats : List ℕ) (low high count v : ℕ) → HoldsFrom test v ats → Passes ats low count → count < v
+    → list_any test (range_with_len low (high + 1 - low)) ≡ is_within high (slice_get ats (v - 1))
 with_later test ats low high count v holds here more = by (cases_lt (v - 1) (length ats))
   where
     below : (k i : ℕ) → Passes ats k i → i < v → test k ≡ false
@@ -156,13 +168,17 @@ with_later test ats low high count v holds here more = by (cases_lt (v - 1) (len
     by (inl within) =
         let above = here.after (v - 1) (omega arith) within in
         let next : v - 1 + 1 ≡ v = omega arith in
-        first_between test low high (get_or ats (v - 1) 0) (omega (arith, above)) (holds.tells (get_or ats (v - 1) 0) (v - 1 + 1) (passes_at ats (v - 1) holds.rising within) ∙ equals (v - 1 + 1) v next)
+        first_between test low high (get_or ats (v - 1) 0) (omega (arith, above))
+        (holds.tells (get_or ats (v - 1) 0) (v - 1 + 1) (passes_at ats (v - 1) holds.rising within) ∙ equals (v - 1 + 1) v next)
         (λ k a lt. before within k lt (passed ats holds.rising k))
         ∙ ap (is_within high) (sym (slice_get-get_or ats (v - 1) 0 within))
-    by (inr past) = none_between test low high (λ k a b. beyond past k (passed ats holds.rising k)) ∙ ap (is_within high) (sym (slice_get_past ats (v - 1) past))
+    by (inr past) = none_between test low high (λ k a b. beyond past k (passed ats holds.rising k))
+        ∙ ap (is_within high) (sym (slice_get_past ats (v - 1) past))
 
-pub with_here : (test : ℕ → Bool) (ats : List ℕ) (low high count v : ℕ) → HoldsFrom test v ats → Passes ats low count → v ≡ count → list_any test (range_with_len low (high + 1 - low)) ≡ is_within high (Some low)
-with_here test ats low high count v holds here is = first_between test low high low (omega arith) (holds.tells low count here ∙ equals count v (sym is)) (λ p a b. absurd (omega arith))
+pub with_here : (test : ℕ → Bool) (ats : List ℕ) (low high count v : ℕ) → HoldsFrom test v ats → Passes ats low count → v ≡ count
+    → list_any test (range_with_len low (high + 1 - low)) ≡ is_within high (Some low)
+with_here test ats low high count v holds here is = first_between test low high low (omega arith) (holds.tells low count here ∙ equals count v (sym is))
+    (λ p a b. absurd (omega arith))
 
 -- ---- so far
 
@@ -173,21 +189,15 @@ rise_push m at ats is was = record {
 }
   where
     by : (p : ℕ) → (p < length ats) ⊎ (length ats ≤ p) → p < length (ats ++ at ∷ []) → get_or (ats ++ at ∷ []) p 0 ≤ at
-    by p (inl within) lt = let b = was.below p within in let e : get_or (ats ++ at ∷ []) p 0 ≡ get_or ats p 0 = grind (arith, common_steps) in omega (arith, b, e, is)
+    by p (inl within) lt = let b = was.below p within in let e = get_or_append_left ats (at ∷ []) 0 p within in omega (arith, b, e, is)
     by p (inr past) lt =
         let l = length-append ats (at ∷ []) in
         let same : p ≡ length ats = omega (arith, l) in
-        let e : get_or (ats ++ at ∷ []) p 0 ≡ at = grind (arith, common_steps) in
+        let e = get_or_push ats at 0 p (sym same) in
         omega (arith, e)
 
 pub rise_stay : (m at : ℕ) (ats : List ℕ) → at ≡ m + 1 → RiseTo m ats → RiseTo at ats
 rise_stay m at ats is was = record { rising = was.rising; below = λ p lt. (let b = was.below p lt in omega (arith, b, is)) }
-
-pushed_at : (ats : List ℕ) (at : ℕ) → get_or (ats ++ at ∷ []) (length ats) 0 ≡ at
-pushed_at ats at = grind (arith, common_steps)
-
-pushed_before : (ats : List ℕ) (at p : ℕ) → p < length ats → get_or (ats ++ at ∷ []) p 0 ≡ get_or ats p 0
-pushed_before ats at p lt = grind (arith, common_steps)
 
 -- how many are passed below the last of them, and at it
 pushed_below : (ats : List ℕ) (at k i : ℕ) → k < at → Passes (ats ++ at ∷ []) k i → Passes ats k i
@@ -195,12 +205,13 @@ pushed_below ats at k i lt there =
     let few : i ≤ length ats = by (cases_lt (length ats) i) in
     record {
       few = few;
-      before = λ p less. (let b = there.before p less in let e = pushed_before ats at p (omega (arith, few)) in omega (arith, b, e));
-      after = λ p le within. (let l = length-append ats (at ∷ []) in let b = there.after p le (omega (arith, l)) in let e = pushed_before ats at p within in omega (arith, b, e));
+      before = λ p less. (let b = there.before p less in let e = get_or_append_left ats (at ∷ []) 0 p (omega (arith, few)) in omega (arith, b, e));
+      after = λ p le within. (let l = length-append ats (at ∷ []) in let b = there.after p le (omega (arith, l)) in
+          let e = get_or_append_left ats (at ∷ []) 0 p within in omega (arith, b, e));
     }
   where
     by : (length ats < i) ⊎ (i ≤ length ats) → i ≤ length ats
-    by (inl more) = let b = there.before (length ats) more in let e = pushed_at ats at in absurd (omega (arith, b, e, lt))
+    by (inl more) = let b = there.before (length ats) more in let e = get_or_push ats at 0 (length ats) refl in absurd (omega (arith, b, e, lt))
     by (inr is) = is
 
 all_passed : (m : ℕ) (ats : List ℕ) (k i : ℕ) → m ≤ k → ((p : ℕ) → p < length ats → get_or ats p 0 ≤ m) → Passes ats k i → i ≡ length ats
@@ -215,7 +226,8 @@ passes_all m ats below = record { few = omega arith; before = below; after = λ 
 
 -- generic over what is told of a number and how many are passed there
 module _ (Told : ℕ → ℕ → Type 0) where
-  pub told_stay : (m at : ℕ) (ats : List ℕ) → at ≡ m + 1 → RiseTo m ats → ((k i : ℕ) → k ≤ m → Passes ats k i → Told k i) → Told at (length ats) → (k i : ℕ) → k ≤ at → Passes ats k i → Told k i
+  pub told_stay : (m at : ℕ) (ats : List ℕ) → at ≡ m + 1 → RiseTo m ats → ((k i : ℕ) → k ≤ m → Passes ats k i → Told k i) → Told at (length ats) → (k i : ℕ)
+      → k ≤ at → Passes ats k i → Told k i
   told_stay m at ats is rise was now k i le there = by (cases_lt m k)
     where
       by : (m < k) ⊎ (k ≤ m) → Told k i
@@ -225,7 +237,8 @@ module _ (Told : ℕ → ℕ → Type 0) where
           subst (λ x. Told x i) here (subst (Told at) (sym all) now)
       by (inr within) = was k i within there
 
-  pub told_push : (m at : ℕ) (ats : List ℕ) → at ≡ m + 1 → RiseTo m ats → ((k i : ℕ) → k ≤ m → Passes ats k i → Told k i) → Told at (length ats + 1) → (k i : ℕ) → k ≤ at → Passes (ats ++ at ∷ []) k i → Told k i
+  pub told_push : (m at : ℕ) (ats : List ℕ) → at ≡ m + 1 → RiseTo m ats → ((k i : ℕ) → k ≤ m → Passes ats k i → Told k i) → Told at (length ats + 1) → (k i : ℕ)
+      → k ≤ at → Passes (ats ++ at ∷ []) k i → Told k i
   told_push m at ats is rise was now k i le there = by (cases_lt m k)
     where
       by : (m < k) ⊎ (k ≤ m) → Told k i
@@ -238,7 +251,11 @@ module _ (Told : ℕ → ℕ → Type 0) where
       by (inr within) = was k i within (pushed_below ats at k i (omega arith) there)
 
 pub turns_stay : (test : ℕ → Bool) (m at : ℕ) (ats : List ℕ) → at ≡ m + 1 → test at ≡ is_even (length ats) → TurnsTo test m ats → TurnsTo test at ats
-turns_stay test m at ats is same was = record { rise = rise_stay m at ats is was.rise; tells = told_stay (λ k i. test k ≡ is_even i) m at ats is was.rise was.tells same }
+turns_stay test m at ats is same was = record {
+  rise = rise_stay m at ats is was.rise;
+  tells = told_stay
+      (λ k i. test k ≡ is_even i) m at ats is was.rise was.tells same;
+}
 
 pub counts_stay : (f : ℕ → ℕ) (m at : ℕ) (ats : List ℕ) → at ≡ m + 1 → f at ≡ f m + 0 → CountsTo f m ats → CountsTo f at ats
 counts_stay f m at ats is same was =
@@ -255,12 +272,14 @@ pub turns_done : (test : ℕ → Bool) (m : ℕ) (ats : List ℕ) → ((k : ℕ)
 turns_done test m ats ends was = record { rising = was.rise.rising; tells = λ k i there. by k i there (cases_lt m k) }
   where
     by : (k i : ℕ) → Passes ats k i → (m < k) ⊎ (k ≤ m) → test k ≡ is_even i
-    by k i there (inl past) = ends k (omega arith) ∙ was.tells m (length ats) (omega arith) (passes_all m ats was.rise.below) ∙ ap is_even (sym (all_passed m ats k i (omega arith) was.rise.below there))
+    by k i there (inl past) = ends k (omega arith) ∙ was.tells m (length ats) (omega arith) (passes_all m ats was.rise.below)
+        ∙ ap is_even (sym (all_passed m ats k i (omega arith) was.rise.below there))
     by k i there (inr within) = was.tells k i within there
 
 pub counts_done : (f : ℕ → ℕ) (m : ℕ) (ats : List ℕ) → ((k : ℕ) → m ≤ k → f k ≡ f m) → CountsTo f m ats → (k i : ℕ) → Passes ats k i → f k ≡ i
 counts_done f m ats ends was k i there = by (cases_lt m k)
   where
     by : (m < k) ⊎ (k ≤ m) → f k ≡ i
-    by (inl past) = ends k (omega arith) ∙ was.tells m (length ats) (omega arith) (passes_all m ats was.rise.below) ∙ sym (all_passed m ats k i (omega arith) was.rise.below there)
+    by (inl past) = ends k (omega arith) ∙ was.tells m (length ats) (omega arith) (passes_all m ats was.rise.below)
+        ∙ sym (all_passed m ats k i (omega arith) was.rise.below there)
     by (inr within) = was.tells k i within there

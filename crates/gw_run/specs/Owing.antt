@@ -1,5 +1,6 @@
--- What waited when a lawful journal had its first entries: pairs to be taken, and at a receiver's desk, which keeps here of a translation only that there is one.
-use Rattle.std.specs.Prelude.{ℕ, ◌<◌, ◌==◌, ⊤, Bool, if◌then◌else◌, List, All, map, length, take, slice_get, Option, None, Some, option_map}
+-- What waited when a lawful journal had its first entries: pairs to be taken, and at a receiver's desk, which keeps here of a translation only that there is
+-- one.
+use Rattle.std.specs.Prelude.{ℕ, ◌<◌, ◌==◌, ⊤, Bool, if◌then◌else◌, List, [], ◌∷◌, All, map, length, take, slice_get, option_map}
 use Rattle.gw_reorder.specs.State.{DeskState, with_due}
 use Rattle.gw_reorder.specs.Calls.{after_holding, after_giving, next_of}
 use Rattle.gw_reorder.specs.own.Standing.{Stands}
@@ -49,7 +50,16 @@ abbrev pub MayEnter : EntrySeen → Desk → Type 0
 MayEnter (WasAccepted n arrival c) s = All (λ m. m < n) s.due
 MayEnter e s = ⊤
 
--- the receiver for which an entry keeps a translation
-abbrev pub kept_for : EntrySeen → Option ℕ
-kept_for (WasKept n t) = Some t.receiver
-kept_for e = None
+-- the receivers that an entry concerns
+abbrev pub concerned : EntrySeen → List ℕ
+concerned (WasAccepted n arrival c) = c.receivers
+concerned (WasKept n t) = t.receiver ∷ []
+concerned (WasOut n to t) = to ∷ []
+concerned e = []
+
+-- the desk of one of them after the entry
+abbrev pub entered : EntrySeen → Desk → Desk
+entered (WasAccepted n arrival c) s = with_due s n
+entered (WasKept n t) s = after_holding s n tt
+entered (WasOut n to t) s = after_giving s (next_of s)
+entered e s = s

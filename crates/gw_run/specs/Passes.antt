@@ -33,7 +33,7 @@ part_count passes = sum_by (λ pass. pass.parts) passes
 abbrev pub receipt_count : List PassSeen → ℕ
 receipt_count passes = sum_by (λ pass. length (receipts pass.notes)) passes
 
--- they have every part of a ledger that is cut into so many
+-- they have every part of a ledger of this many
 pub record HaveAll (parts : ℕ) (passes : List PassSeen) : Type 0 where
   pub some : 0 < length passes
   pub every : part_count passes ≡ parts

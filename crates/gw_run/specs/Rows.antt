@@ -22,11 +22,11 @@ other_worker = Added 3 (WasTaken 1 0) ∷ WasIdle ∷ Added 4 (WasKept 1 (made 1
 abbrev pub idle_worker : List NoteSeen
 idle_worker = WasIdle ∷ Added 3 (WasTaken 1 0) ∷ Added 4 (WasKept 1 (made 11)) ∷ []
 
--- it tells of what the other one did too
+-- it has a receipt of what the other one did too
 abbrev pub boasting_worker : List NoteSeen
 boasting_worker = Added 3 (WasTaken 1 0) ∷ WasIdle ∷ Added 4 (WasKept 1 (made 11)) ∷ Added 5 (WasKept 0 (made 10)) ∷ []
 
--- it tells of another result
+-- it has a receipt of another result
 abbrev pub lying_worker : List NoteSeen
 lying_worker = Added 3 (WasTaken 1 0) ∷ WasIdle ∷ Added 4 (WasKept 1 (made 12)) ∷ []
 
@@ -40,7 +40,7 @@ through_swap =
     Looked 0 first_plan ∷ Added 0 (WasAccepted 0 1 (message 10)) ∷ Added 1 (WasSwapped 1 second_plan) ∷ WasStale 1 (message 11) ∷ Looked 1 second_plan
     ∷ Added 2 (WasTaken 0 0) ∷ WasIdle ∷ WasNothing 0 ∷ Added 3 (WasKept 0 (made 10)) ∷ Added 4 (WasOut 0 0 (made 10)) ∷ WasNothing 0 ∷ []
 
--- the opening plan is told of though another was swapped in
+-- the opening plan is noted though another was swapped in
 abbrev pub late_look : List NoteSeen
 late_look = Added 1 (WasSwapped 1 second_plan) ∷ Looked 0 first_plan ∷ []
 

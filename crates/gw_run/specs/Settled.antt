@@ -1,5 +1,6 @@
 -- Whether the notes of finished passes agree with the chapters of a gate's journal.
-use Rattle.std.specs.Prelude.{◌≡◌, ⊤, ℕ, ◌+◌, ◌-◌, ◌==◌, nat_le, Bool, true, false, not, ◌&&◌, IsTrue, List, [], ◌∷◌, ◌++◌, flat_map, count_by, length, map, take, slice_get}
+use Rattle.std.specs.Prelude.{◌≡◌, ⊤, ℕ, ◌+◌, ◌-◌, ◌==◌, nat_le, Bool, true, false, not, ◌&&◌, IsTrue, List, [], ◌∷◌, ◌++◌, flat_map, count_by, length, map}
+use Rattle.std.specs.Prelude.{take, slice_get}
 use Rattle.std.specs.Prelude.{Option, None, Some, bytes_eq}
 use Rattle.std.specs.List.{list_any, list_all, range_with_len}
 use Rattle.gw_gate.specs.Parts.{is_under}

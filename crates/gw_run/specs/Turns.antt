@@ -3,7 +3,7 @@ use Rattle.std.specs.Prelude.{◌≡◌, ℕ, ◌+◌, ◌-◌, ◌%◌, ◌<◌
 use Rattle.std.specs.List.{list_any, range_with_len}
 use Rattle.std.specs.List.Sorted.{IsStrictlyIncreasing}
 
--- just so many of the rising numbers are at most k
+-- just i of the rising numbers are at most k
 pub record Passes (ats : List ℕ) (k i : ℕ) : Type 0 where
   pub few : i ≤ length ats
   pub before : (p : ℕ) → p < i → get_or ats p 0 ≤ k
@@ -43,7 +43,7 @@ pub record TurnsTo (test : ℕ → Bool) (m : ℕ) (ats : List ℕ) : Type 0 whe
   pub rise : RiseTo m ats
   pub tells : (k i : ℕ) → k ≤ m → Passes ats k i → test k ≡ is_even i
 
--- up to m just so many of these are passed as f counts
+-- up to m just as many of these are passed as f counts
 pub record CountsTo (f : ℕ → ℕ) (m : ℕ) (ats : List ℕ) : Type 0 where
   pub rise : RiseTo m ats
   pub tells : (k i : ℕ) → k ≤ m → Passes ats k i → f k ≡ i

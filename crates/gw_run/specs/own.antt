@@ -1,4 +1,5 @@
 -- The program's own words: no public contract rests on them.
+pub mod Queues
 pub mod Joins
 pub mod Tellings
 pub mod Steps

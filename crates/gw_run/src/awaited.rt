@@ -1,11 +1,11 @@
-//! What threads wait for at a gate behind its lock.
+//! What passes wait for at a locked gate.
 use gw_crew::{Note, Phase};
 use gw_gate::{Event, Reply, receiver_count};
 
-// How many conditions there are for those who wait for results: the receivers whose numbers leave the same rest share one.
+// How many conditions there are for passes that wait for results. Receivers whose numbers leave the same rest share one.
 pub(crate) const ROW: usize = 16;
 
-// What a step is to those who wait.
+// What a step means to passes that wait.
 #[derive(Clone, Copy)]
 pub(crate) enum News {
     // This many pairs were issued.
@@ -21,7 +21,7 @@ pub(crate) enum News {
 }
 
 impl News {
-    // By the answer to an event, the pairs that the event issues where it issues any, and the receiver that it names.
+    // The news of an answer to an event that issues this many pairs, if it issues any, and names this receiver.
     pub(crate) fn of(
         answer: &Result<(Reply, Option<Note>), Event>,
         pairs: usize,
@@ -55,7 +55,7 @@ pub(crate) fn receiver_of(event: &Event) -> usize {
     }
 }
 
-// What a pass met last that it may wait for: the receiver for which there was nothing, and how many results its condition had been told then.
+// The last `Nothing` of a pass: its receiver, and how many results had been kept for that receiver's condition by then.
 #[derive(Clone, Copy)]
 pub(crate) struct Missed {
     pub(crate) receiver: usize,
@@ -71,7 +71,7 @@ impl Missed {
     }
 }
 
-// The pairs that were issued and not taken, from when every pair was taken on, and how many results were kept for each condition.
+// How many pairs were issued and not taken since the last `Idle`, and how many results were kept for each condition.
 #[derive(Drop)]
 pub(crate) struct Awaited {
     pairs: usize,
@@ -86,7 +86,7 @@ impl Awaited {
         }
     }
 
-    // One step more, of a pass that missed this.
+    // Counts one step of a pass, and keeps its last `Nothing`.
     pub(crate) fn enter(&mut self, news: News, missed: &mut Missed) {
         match news {
             News::Issued(pairs) => self.pairs = self.pairs.saturating_add(pairs),
@@ -104,7 +104,7 @@ impl Awaited {
         }
     }
 
-    // Whether there may be something for a pass that missed this and waits for what comes before the phase.
+    // Whether there may be something for a pass with this last `Nothing`, which waits until the phase.
     pub(crate) fn has(&self, missed: Missed, phase: Phase) -> bool {
         if phase == Phase::NoArrivals {
             return self.pairs > 0;

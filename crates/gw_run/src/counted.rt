@@ -30,7 +30,7 @@ impl<L: Ledger> Model for Counted<L> {
     ghost invariant = { λ c. c.since + c.book.total ≡ end c.gate };
 }
 
-// How many entries a note tells of.
+// How many entries a note is the receipt of.
 fn entries_in(note: &Option<Note>) -> u64
     ensures { result ≡ added_by (option_map note_seen note.now) }
 {

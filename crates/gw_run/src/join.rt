@@ -6,11 +6,11 @@ ghost use Rattle.gw_run.specs.Passes.{AreCounted, HaveAll, part_count, receipt_c
 ghost use Rattle.gw_run.specs.Report.{report_of};
 ghost use Rattle.gw_run.specs.Settled.{AreSettled};
 
+use crate::audit::is_settled;
 use crate::counted::Counted;
 use crate::parts::parts_of;
 use crate::pass::Receipts;
 use crate::report::Report;
-use crate::settling::is_settled;
 use gw_gate::Chapter;
 use gw_stream::RunFault;
 use std::alloc::Global;

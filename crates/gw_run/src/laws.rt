@@ -1,5 +1,6 @@
-//! Rows of the definitions of settled notes, and of what is owed.
-ghost use Rattle.std.specs.Prelude.{◌≡◌, ◌-◌, ℕ, List, drop, [], ◌∷◌, ◌++◌, None, Some, true, false, flat_map, map, length, nat_le, replicate};
+//! Rows of the definitions of settled notes, and of what waits for a receiver.
+ghost use Rattle.std.specs.Prelude.{◌≡◌, ◌-◌, ℕ, List, drop, [], ◌∷◌, ◌++◌, None, Some, true, false};
+ghost use Rattle.std.specs.Prelude.{flat_map, map, length, nat_le, replicate};
 ghost use Rattle.std.specs.List.{range_with_len};
 ghost use Rattle.gw_gate.specs.Chapters.{all_entries};
 ghost use Rattle.gw_gate.specs.Journal.{Journal, WasKept, end, from, released, start_after};
@@ -21,7 +22,7 @@ pub fn workers_settle()
     ensures since { Settled (worked ∷ []) 2 (one_worker ∷ other_worker ∷ []) }
 {}
 
-/// They don't where an entry is told of by none or by two, where a worker denies a job that waited, or tells of another result.
+/// They don't where an entry has no receipt or two, where a worker denies a job that waited, or has a receipt of another result.
 pub fn workers_deny()
     ensures by_none { are_all 0 (end worked) (flat_map receipts (one_worker ∷ other_worker ∷ [])) ≡ false }
     ensures by_two { are_all 2 (end worked) (flat_map receipts (one_worker ∷ boasting_worker ∷ [])) ≡ false }

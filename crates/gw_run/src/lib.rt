@@ -1,26 +1,26 @@
 //! A gate behind its lock, and all that works at it.
 //!
 //! Threads step a [`LockedGate`] one event at a time, each through a [`Pass`] of its own, which notes the replies.
-//! What works at any door, and streams, are told of here too, for those who need no other crate of their layers.
+//! It also hands on what works at any door, and streams, for callers that need no other crate of these layers.
 #![tactic(auto)]
 
-mod agreeing;
+mod audit;
 mod awaited;
 mod counted;
-mod gathering;
+mod delivery_queue;
+mod history;
+mod job_index;
 mod join;
 pub mod laws;
 mod locked;
-mod marks;
-mod owed;
+mod note_check;
 mod parts;
 mod pass;
-mod past;
+mod plan_index;
 mod plans;
-mod queue;
+mod receipt_counts;
 mod report;
-mod settling;
-mod turns;
+mod turning_points;
 
 pub use counted::Counted;
 pub use gw_crew::{

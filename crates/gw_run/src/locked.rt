@@ -24,7 +24,7 @@ pub struct LockedGate<L: Ledger> {
     kept: [Condvar; ROW],
 }
 
-// A condition for the receivers whose numbers leave the same rest, for each rest.
+// One condition for each rest, shared by the receivers whose numbers leave it.
 fn row() -> [Condvar; ROW] {
     [
         Condvar::new(),
@@ -75,7 +75,7 @@ impl<L: Ledger> LockedGate<L> {
         Pass::new(alloc, self, rt, share)
     }
 
-    /// From here on nothing comes any more that may not come in this phase; who waits for it is woken. It takes no memory.
+    /// Moves the gate on to this phase, and wakes all who wait. It takes no memory.
     pub fn close<R: Wait>(&self, rt: &R, phase: Phase) {
         let mut locked = self.inner.lock(rt);
         if locked.phase < phase {
@@ -95,7 +95,7 @@ impl<L: Ledger> LockedGate<L> {
         counted
     }
 
-    // One step under the lock, with its note, of a pass that missed this. An entry is counted in the share.
+    // One step under the lock, with its note, of a pass with this last `Nothing`. An entry is counted in the share.
     pub(crate) fn step<R: Wait>(
         &self,
         rt: &R,
@@ -119,7 +119,7 @@ impl<L: Ledger> LockedGate<L> {
         answer
     }
 
-    // Wakes one who waits for each pair that was issued, or those who wait for a result of this receiver.
+    // Wakes one worker for each pair that was issued, or all who wait for a result of this receiver.
     fn wake(&self, news: News) {
         match news {
             News::Issued(pairs) => self.wake_workers(pairs),
@@ -134,12 +134,12 @@ impl<L: Ledger> LockedGate<L> {
         }
     }
 
-    // Wakes those who wait for a pair where a pass ends, which may have been woken for one that it didn't take.
+    // Wakes all who wait for a pair: the pass that ends may have been woken for one that it didn't take.
     pub(crate) fn left(&self) {
         self.issued.notify_all();
     }
 
-    // Waits for what may come before the phase, unless there may be something for a pass that missed this, or the phase was reached.
+    // Waits until the phase, unless there may be something for a pass with this last `Nothing`, or the phase was reached.
     pub(crate) fn wait<R: Wait>(&self, rt: &R, missed: Missed, phase: Phase) -> bool {
         let locked = self.inner.lock(rt);
         if locked.awaited.has(missed, phase) {

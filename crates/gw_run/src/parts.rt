@@ -9,10 +9,10 @@ ghost use Rattle.gw_gate.specs.Meaning.{Makes};
 ghost use Rattle.gw_run.specs.Settled.{GoOn, first_of, last_end};
 ghost use Rattle.gw_run.specs.own.Tellings.{TellsAll, TellsPart};
 
-use crate::past::{Past, plan_at};
+use crate::history::{History, plan_at};
 use crate::plans::are_same;
 use crate::report::{Kind, count};
-use crate::turns::passed;
+use crate::turning_points::passed;
 use gw_gate::{Chapter, Entry, Gate, Start};
 use std::alloc::{AllocError, Global};
 
@@ -21,7 +21,7 @@ use std::alloc::{AllocError, Global};
 pub(crate) struct Part<'a> {
     pub(crate) start: &'a Start,
     pub(crate) entries: &'a [Entry],
-    pub(crate) past: Past,
+    pub(crate) history: History,
 }
 
 // A chapter with what is gathered of it.
@@ -34,11 +34,11 @@ fn part_of<'a>(
     requires few { end (journal_of (start_seen start.now) (entries_seen entries.now)) < 2 ^ 64 }
     ensures { IfOk result (λ part. TellsPart (journal_of (start_seen start.now) (entries_seen entries.now)) part) }
 {
-    let past = Past::of(alloc, start, entries)?;
+    let history = History::of(alloc, start, entries)?;
     Ok(Part {
         start,
         entries,
-        past,
+        history,
     })
 }
 
@@ -87,8 +87,8 @@ fn is_above(from: u64, count: u64, to: u64) -> bool
 fn is_next(part: &Part, next: &Start) -> bool
     ensures { (j : Journal) → TellsPart j part.now → IsTrue result ↔ (start_seen next.now ≡ start_after j) }
 {
-    let turn = passed(&part.past.swaps, part.entries.len()) as u64;
-    let Some(plan) = plan_at(&part.past.plans, turn) else {
+    let turn = passed(&part.history.swaps, part.entries.len()) as u64;
+    let Some(plan) = plan_at(&part.history.plans, turn) else {
         return false;
     };
     if !is_above(part.start.version, turn, next.version) {
@@ -105,7 +105,7 @@ fn is_next(part: &Part, next: &Start) -> bool
     if !is_above(part.start.arrivals, arrived, next.arrivals) {
         return false;
     }
-    next.entries == part.past.last as u64
+    next.entries == part.history.last as u64
 }
 
 // Whether each chapter starts where the one before it ended.
@@ -127,7 +127,7 @@ pub(crate) fn first_of(parts: &[Part]) -> usize
     ensures { (js : List Journal) → TellsAll js parts.now → result ≡ first_of js }
 {
     match parts.first() {
-        Some(part) => part.past.start,
+        Some(part) => part.history.start,
         None => 0,
     }
 }
@@ -138,7 +138,7 @@ pub(crate) fn last_of(parts: &[Part]) -> usize
 {
     let mut last = 0;
     for part in parts {
-        last = part.past.last;
+        last = part.history.last;
     }
     last
 }

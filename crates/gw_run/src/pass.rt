@@ -1,18 +1,18 @@
-//! A thread's way to a locked gate, and what is left of it.
+//! A thread's handle of a locked gate, and what it leaves.
 ghost use Rattle.std.specs.Prelude.{◌≡◌, ◌<◌, []};
 ghost use Rattle.gw_run.specs.Passes.{IsCounted};
 ghost use Rattle.gw_crew.specs.Seen.{notes_seen};
 
 use crate::awaited::Missed;
 use crate::locked::LockedGate;
-use gw_crew::{Door, Note, Phase, room_for};
+use gw_crew::{Door, Note, Phase, keep, room_for};
 use gw_gate::{Event, Reply};
 use std::alloc::Global;
 use std::marker::Model;
 use std::sync::Wait;
 use std::sync::ledger::{Ledger, Share};
 
-/// A thread's way to a locked gate. Its share counts the receipts among its notes.
+/// A thread's handle of a locked gate. Its share of the ledger counts the receipts among its notes.
 #[derive(Drop)]
 pub struct Pass<'a, L: Ledger, R: Wait> {
     gate: &'a LockedGate<L>,
@@ -114,7 +114,7 @@ impl<'a, L: Ledger, R: Wait> Door for Pass<'a, L, R> {
 
     ghost noted = { λ p. p.notes };
 
-    /// One step of the gate under the lock. The reply is the one that a lawful journal gives; that it is this gate's, as it was then, no clause can say.
+    /// One step of the gate under the lock. The reply is the one that a lawful journal gives. No clause says that it is this gate's journal.
     /// An entry is noted with its receipt, and counted by the share. An error is an allocation failure: the event comes back.
     fn call(&mut self, event: Event) -> Result<Reply, Event>
         ensures reply { IfOk result (λ reply. IsReplyTo (event_seen event) (reply_seen reply)) }
@@ -128,20 +128,11 @@ impl<'a, L: Ledger, R: Wait> Door for Pass<'a, L, R> {
         let answer = self
             .gate
             .step(self.rt, event, &mut self.share, &mut self.missed);
-        match answer {
-            Err(event) => Err(event),
-            Ok((reply, note)) => match note {
-                None => Ok(reply),
-                Some(note) => {
-                    self.notes.push_reserved(note);
-                    Ok(reply)
-                }
-            },
-        }
+        keep(&mut self.notes, answer)
     }
 
-    /// True at once where an entry was added that its caller may act on: for `NoArrivals` a pair that was issued and isn't taken,
-    /// for `NoResults` a result that was kept for the receiver of its last Release. Else false where the phase was reached, else true after a sleep.
+    /// True at once where there may be something for its caller: for `NoArrivals` a pair that was issued and isn't taken,
+    /// for `NoResults` a result that was kept for the receiver of its last `Nothing`. Else false where the phase was reached, else true after a sleep.
     fn wait(&mut self, phase: Phase) -> bool
         ensures { self.new ≡ self.old }
     {

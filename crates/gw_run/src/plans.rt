@@ -2,7 +2,7 @@
 ghost use Rattle.std.specs.Prelude.{◌≡◌, ◌↔◌, IsTrue};
 ghost use Rattle.gw_gate.specs.Seen.{plan_seen};
 
-use crate::past::have_same_text;
+use crate::history::have_same_text;
 use gw_plan::Plan;
 
 // Whether the plans have the same text, and so the same receivers.

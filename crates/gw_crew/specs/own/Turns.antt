@@ -5,10 +5,10 @@ use Rattle.gw_gate.specs.Journal.{WasTaken, WasKept, WasOut}
 use Rattle.gw_gate.specs.Parts.{ConformingSeen, TranslatedSeen, delivers}
 use Rattle.gw_gate.specs.Replies.{ReplySeen, IsJob, IsIdle, IsKept, IsOut, IsNothing, IsFull}
 use Rattle.gw_gate.specs.Seen.{Translated, conforming_seen, translated_seen}
-use Rattle.gw_crew.specs.declared.workers.Taken as worker
-use Rattle.gw_crew.specs.declared.workers.Became.{Became}
-use Rattle.gw_crew.specs.declared.workers.Became.TheVariants as became
-use Rattle.gw_crew.specs.declared.couriers.Given as courier
+use Rattle.gw_crew.specs.declared.workers.TakeReply as worker
+use Rattle.gw_crew.specs.declared.workers.PutReply.{PutReply}
+use Rattle.gw_crew.specs.declared.workers.PutReply.TheVariants as reply
+use Rattle.gw_crew.specs.declared.couriers.ReleaseReply as courier
 use Rattle.gw_crew.specs.Notes.{NoteSeen, WasFull, WasIdle, WasNothing, Added}
 use Rattle.gw_crew.specs.Works.{Ends}
 use Rattle.gw_crew.specs.Carries as carries
@@ -17,50 +17,50 @@ use Rattle.std.specs.declared.sync.Arc.{Arc}
 
 -- ---- what a worker is given
 
-pub data TakenSeen : Type 0 where
-  IsTaken : (n r : ℕ) → (conforming : ConformingSeen) → TakenSeen
-  NoneLeft : TakenSeen
-  NoRoom : TakenSeen
+pub data TakeReplySeen : Type 0 where
+  IsTaken : (n r : ℕ) → (conforming : ConformingSeen) → TakeReplySeen
+  NoneLeft : TakeReplySeen
+  NoRoom : TakeReplySeen
 
-abbrev pub taken_seen : worker.Taken → TakenSeen
-taken_seen (worker.TheVariants.Job job) = IsTaken job.n job.receiver (conforming_seen (arc_value job.conforming))
-taken_seen worker.TheVariants.Idle = NoneLeft
-taken_seen worker.TheVariants.Full = NoRoom
+abbrev pub take_reply_seen : worker.TakeReply → TakeReplySeen
+take_reply_seen (worker.TheVariants.Job job) = IsTaken job.n job.receiver (conforming_seen (arc_value job.conforming))
+take_reply_seen worker.TheVariants.Idle = NoneLeft
+take_reply_seen worker.TheVariants.Full = NoRoom
 
-abbrev pub taken_of : ReplySeen → TakenSeen
-taken_of (IsJob n r c) = IsTaken n r c
-taken_of IsIdle = NoneLeft
-taken_of given = NoRoom
+abbrev pub take_reply : ReplySeen → TakeReplySeen
+take_reply (IsJob n r c) = IsTaken n r c
+take_reply IsIdle = NoneLeft
+take_reply given = NoRoom
 
 -- a job goes to a receiver of its message's route
-abbrev pub Goes : TakenSeen → Type 0
+abbrev pub Goes : TakeReplySeen → Type 0
 Goes (IsTaken n r c) = IsTrue (delivers c r)
 Goes taken = ⊤
 
 -- what is noted of it
-abbrev pub taken_notes : ℕ → TakenSeen → List NoteSeen
-taken_notes at (IsTaken n r c) = Added at (WasTaken n r) ∷ []
-taken_notes at NoneLeft = WasIdle ∷ []
-taken_notes at NoRoom = WasFull ∷ []
+abbrev pub take_notes : ℕ → TakeReplySeen → List NoteSeen
+take_notes at (IsTaken n r c) = Added at (WasTaken n r) ∷ []
+take_notes at NoneLeft = WasIdle ∷ []
+take_notes at NoRoom = WasFull ∷ []
 
-pub record Took (taken : TakenSeen) (old new : List NoteSeen) : Type 0 where
+pub record Took (taken : TakeReplySeen) (old new : List NoteSeen) : Type 0 where
   pub goes : Goes taken
   pub at : ℕ
-  pub noted : new ≡ old ++ taken_notes at taken
+  pub noted : new ≡ old ++ take_notes at taken
 
 -- ---- what becomes of its result
 
-abbrev pub became_of : ReplySeen → Became
-became_of IsKept = became.Kept
-became_of (IsFull back) = became.Full
-became_of given = became.Dropped
+abbrev pub put_reply : ReplySeen → PutReply
+put_reply IsKept = reply.Kept
+put_reply (IsFull back) = reply.Full
+put_reply given = reply.Dropped
 
-abbrev pub put_notes : ℕ → ℕ → TranslatedSeen → Became → List NoteSeen
-put_notes at n t became.Kept = Added at (WasKept n t) ∷ []
-put_notes at n t became.Full = WasFull ∷ []
-put_notes at n t became.Dropped = []
+abbrev pub put_notes : ℕ → ℕ → TranslatedSeen → PutReply → List NoteSeen
+put_notes at n t reply.Kept = Added at (WasKept n t) ∷ []
+put_notes at n t reply.Full = WasFull ∷ []
+put_notes at n t reply.Dropped = []
 
-pub record Put (n r : ℕ) (became : Became) (old new : List NoteSeen) : Type 0 where
+pub record Put (n r : ℕ) (became : PutReply) (old new : List NoteSeen) : Type 0 where
   pub t : TranslatedSeen
   pub receiver : t.receiver ≡ r
   pub at : ℕ
@@ -90,30 +90,30 @@ pub record Adds (Holds : List NoteSeen → Type 0) (old new : List NoteSeen) : T
 
 -- ---- what a courier is given
 
-pub data GivenSeen : Type 0 where
-  IsGiven : (n : ℕ) → (translated : TranslatedSeen) → GivenSeen
-  NoneKept : GivenSeen
-  NoSpace : GivenSeen
+pub data ReleaseReplySeen : Type 0 where
+  IsGiven : (n : ℕ) → (translated : TranslatedSeen) → ReleaseReplySeen
+  NoneKept : ReleaseReplySeen
+  NoSpace : ReleaseReplySeen
 
-abbrev pub given_seen : courier.Given → GivenSeen
-given_seen (courier.TheVariants.Out n t) = IsGiven n (translated_seen (arc_value t))
-given_seen courier.TheVariants.Nothing = NoneKept
-given_seen courier.TheVariants.Full = NoSpace
+abbrev pub release_reply_seen : courier.ReleaseReply → ReleaseReplySeen
+release_reply_seen (courier.TheVariants.Out n t) = IsGiven n (translated_seen (arc_value t))
+release_reply_seen courier.TheVariants.Nothing = NoneKept
+release_reply_seen courier.TheVariants.Full = NoSpace
 
-abbrev pub given_of : ReplySeen → GivenSeen
-given_of (IsOut n t) = IsGiven n t
-given_of IsNothing = NoneKept
-given_of given = NoSpace
+abbrev pub release_reply : ReplySeen → ReleaseReplySeen
+release_reply (IsOut n t) = IsGiven n t
+release_reply IsNothing = NoneKept
+release_reply given = NoSpace
 
 -- what is noted of it
-abbrev pub given_notes : ℕ → ℕ → GivenSeen → List NoteSeen
-given_notes at r (IsGiven n t) = Added at (WasOut n r t) ∷ []
-given_notes at r NoneKept = WasNothing r ∷ []
-given_notes at r NoSpace = WasFull ∷ []
+abbrev pub release_notes : ℕ → ℕ → ReleaseReplySeen → List NoteSeen
+release_notes at r (IsGiven n t) = Added at (WasOut n r t) ∷ []
+release_notes at r NoneKept = WasNothing r ∷ []
+release_notes at r NoSpace = WasFull ∷ []
 
-pub record GaveOut (r : ℕ) (given : GivenSeen) (old new : List NoteSeen) : Type 0 where
+pub record GaveOut (r : ℕ) (given : ReleaseReplySeen) (old new : List NoteSeen) : Type 0 where
   pub at : ℕ
-  pub noted : new ≡ old ++ given_notes at r given
+  pub noted : new ≡ old ++ release_notes at r given
 
 -- that many times nothing was given out
 pub data Waits (r : ℕ) : List NoteSeen → Type 0 where

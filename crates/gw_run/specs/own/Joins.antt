@@ -1,17 +1,16 @@
 -- What is gathered of a chapter and of notes, which says whether they are settled.
-use Rattle.std.specs.Prelude.{◌≡◌, ℕ, ◌+◌, ◌-◌, ◌<◌, ◌≤◌, min, nat_le, nat_lt, if◌then◌else◌, Bool, true, false, not, IsTrue, ◌&&◌, List, [], ◌∷◌, ◌++◌, length, get_or, slice_get, map, take, Option, None, Some}
+use Rattle.std.specs.Prelude.{◌≡◌, ℕ, ◌+◌, ◌-◌, ◌<◌, ◌≤◌, min, nat_le, nat_lt, if◌then◌else◌, Bool, true, false, not, IsTrue, ◌&&◌, List, [], ◌∷◌, ◌++◌, length}
+use Rattle.std.specs.Prelude.{get_or, slice_get, map, take, Option, None, Some}
 use Rattle.std.specs.List.Sorted.{IsStrictlyIncreasing}
 use Rattle.std.specs.Arc.{arc_value}
 use Rattle.std.specs.declared.alloc.Global.{Global}
 use Rattle.std.specs.declared.sync.Arc.{Arc}
-use Rattle.std.specs.declared.vec.Vec.{Vec}
 use Rattle.gw_plan.specs.declared.plan.Plan.{Plan}
 use Rattle.gw_gate.specs.Parts.{PlanSeen}
 use Rattle.gw_gate.specs.Seen.{plan_seen}
-use Rattle.gw_gate.specs.Journal.{EntrySeen, Journal, current, kept}
+use Rattle.gw_gate.specs.Journal.{Journal, current}
 use Rattle.gw_gate.specs.Replies.{Takes, Releases, reply_to}
 use Rattle.gw_crew.specs.Notes.{NoteSeen, Added, ReceiptSeen}
-use Rattle.gw_run.specs.Owing.{gives_none}
 use Rattle.gw_run.specs.Settled.{agrees, fits, fits_at, having, is_idle, is_nothing, last_end, next_at}
 use Rattle.gw_run.specs.Turns.{IsFirstFrom, Passes, TurnsAt}
 
@@ -67,7 +66,8 @@ meets_after js (Some s) notes = meets js s.0 s.1 notes
 
 -- how notes that are no receipts are followed, by the first number at which they fit
 abbrev pub FollowsBy : ℕ → ℕ → Option ℕ → Option (ℕ × ℕ) → Type 0
-FollowsBy low need first after = (js : List Journal) (note : NoteSeen) (notes : List NoteSeen) → IsFirst js low note first → IsTrue (not (is_receipt note)) → meets js low need (note ∷ notes) ≡ meets_after js after notes
+FollowsBy low need first after = (js : List Journal) (note : NoteSeen) (notes : List NoteSeen) → IsFirst js low note first → IsTrue (not (is_receipt note))
+    → meets js low need (note ∷ notes) ≡ meets_after js after notes
 
 -- ---- what is gathered of a chapter, by the numbers of its own entries
 
@@ -84,22 +84,6 @@ IdleAt j ats = TurnsAt (λ k. is_idle (reply_to (begun j k) Takes)) ats
 -- at which of them there begins or ceases to be nothing to be given out for a receiver
 abbrev pub NothingAt : Journal → ℕ → List ℕ → Type 0
 NothingAt j r ats = TurnsAt (λ k. is_nothing (reply_to (begun j k) (Releases r))) ats
-
-abbrev pub or_none : Option (Vec ℕ Global) → List ℕ
-or_none None = []
-or_none (Some ats) = ats.items
-
-abbrev pub of_receiver : List (Vec ℕ Global) → ℕ → List ℕ
-of_receiver all r = or_none (slice_get all r)
-
--- each of these receivers has the numbers at which there begins or ceases to be nothing to be given out for it
-abbrev pub AreRight : List EntrySeen → List (Vec ℕ Global) → Type 0
-AreRight h nothing = (r : ℕ) → r < length nothing → TurnsAt (gives_none h r) (of_receiver nothing r)
-
--- and for no other receiver anything was kept by the first k entries
-pub record Covers (h : List EntrySeen) (k : ℕ) (nothing : List (Vec ℕ Global)) : Type 0 where
-  pub right : AreRight h nothing
-  pub rest : (r : ℕ) → length nothing ≤ r → (n : ℕ) → kept (take k h) n r ≡ None
 
 abbrev pub plans_at : List (Arc Plan Global) → List PlanSeen
 plans_at all = map (λ p. plan_seen (arc_value p)) all

@@ -5,7 +5,7 @@ use Rattle.gw_reorder.proofs.Places.{equals, equal_numbers}
 use Rattle.gw_gate.specs.Seen.{plan_seen}
 use Rattle.gw_gate.specs.Journal.{start_after}
 use Rattle.gw_run.specs.own.Joins.{plans_at}
-use Rattle.gw_run.proofs.Fitting.{some_is}
+use Rattle.gw_gate.proofs.Releasing.{some_is}
 use Rattle.gw_run.proofs.Following.{acceptances_are, arrivals_are, denies, passed_there, plan_is, starts_so, version_is}
 use Rattle.gw_run.proofs.parts.is_next.Goals as goal
 
@@ -13,7 +13,8 @@ pub returns-in_default : goal.returns-in_default
 returns-in_default c j tells =
     let part = c.args.part.now in
     let there = passed_there j part tells _ c.passed-turn.result c.deref.ensures.value c.passed-turn.ensures in
-    let none : None ≡ slice_get (plans_at part.past.plans.items) c.passed-turn.result = c.in_default.ensures ∙ ap (λ l. slice_get (plans_at l) c.passed-turn.result) c.deref-2.ensures.value in
+    let none : None ≡ slice_get (plans_at part.history.plans.items) c.passed-turn.result =
+    c.in_default.ensures ∙ ap (λ l. slice_get (plans_at l) c.passed-turn.result) c.deref-2.ensures.value in
     absurd (none-some (start_after j).plan (none ∙ plan_is j part tells c.passed-turn.result there))
 
 pub returns-then-not-is_above : goal.returns-then-not-is_above
@@ -27,7 +28,8 @@ returns-then-not-are_same c j tells =
     let part = c.args.part.now in
     let there = passed_there j part tells _ c.passed-turn.result c.deref.ensures.value c.passed-turn.ensures in
     let q = plan_seen (arc_value c.in-Some.plan.now) in
-    let here : Some q ≡ slice_get (plans_at part.past.plans.items) c.passed-turn.result = c.in-Some.ensures ∙ ap (λ l. slice_get (plans_at l) c.passed-turn.result) c.deref-2.ensures.value in
+    let here : Some q ≡ slice_get (plans_at part.history.plans.items) c.passed-turn.result =
+    c.in-Some.ensures ∙ ap (λ l. slice_get (plans_at l) c.passed-turn.result) c.deref-2.ensures.value in
     let last : q ≡ (start_after j).plan = some_is q (start_after j).plan (here ∙ plan_is j part tells c.passed-turn.result there) in
     denies c.are_same.result c.if-not-are_same.true c.are_same.ensures
     (λ e. ap plan_seen c.deref-3.ensures ∙ last ∙ sym (ap (λ s. s.plan) e) ∙ sym (ap plan_seen c.deref-4.ensures))
@@ -50,13 +52,15 @@ returns c j tells =
     let next = c.args.next.now in
     let there = passed_there j part tells _ c.passed-turn.result c.deref.ensures.value c.passed-turn.ensures in
     let q = plan_seen (arc_value c.in-Some.plan.now) in
-    let here : Some q ≡ slice_get (plans_at part.past.plans.items) c.passed-turn.result = c.in-Some.ensures ∙ ap (λ l. slice_get (plans_at l) c.passed-turn.result) c.deref-2.ensures.value in
+    let here : Some q ≡ slice_get (plans_at part.history.plans.items) c.passed-turn.result =
+    c.in-Some.ensures ∙ ap (λ l. slice_get (plans_at l) c.passed-turn.result) c.deref-2.ensures.value in
     let last : q ≡ (start_after j).plan = some_is q (start_after j).plan (here ∙ plan_is j part tells c.passed-turn.result there) in (
       λ t. starts_so j next.version (plan_seen (arc_value next.plan)) next.acceptances next.arrivals next.entries
           (c.is_above.ensures.0 c.if-not-is_above.false ∙ sym (version_is j part tells c.passed-turn.result there))
           (sym (ap plan_seen c.deref-4.ensures) ∙ sym (c.are_same.ensures.0 c.if-not-are_same.false) ∙ ap plan_seen c.deref-3.ensures ∙ last)
-          (c.is_above-2.ensures.0 c.if-not-is_above-2.false ∙ ap (λ n. part.start.now.acceptances + n) c.count-accepted.ensures ∙ sym (acceptances_are j part tells))
+          (c.is_above-2.ensures.0 c.if-not-is_above-2.false ∙ ap (λ n. part.start.now.acceptances + n) c.count-accepted.ensures
+          ∙ sym (acceptances_are j part tells))
           (c.is_above-3.ensures.0 c.if-not-is_above-3.false ∙ ap (λ n. part.start.now.arrivals + n) c.count-arrived.ensures ∙ sym (arrivals_are j part tells))
-          (equal_numbers next.entries part.past.last t ∙ tells.tells.last),
-      λ e. equals next.entries part.past.last (ap (λ s. s.entries) e ∙ sym tells.tells.last),
+          (equal_numbers next.entries part.history.last t ∙ tells.tells.last),
+      λ e. equals next.entries part.history.last (ap (λ s. s.entries) e ∙ sym tells.tells.last),
     )

@@ -9,4 +9,5 @@ loop-chapter-preserved c =
 
 pub returns : goal.returns
 returns c =
-    tells_end c.args.chapters.now _ _ c.loop-chapter.chapter-index c.args.gate.now c.in_ok-open.open (search rules) c.in_ok-push-2.ensures.items c.loop-chapter.invariant c.in_ok-open.ensures
+    tells_end c.args.chapters.now _ _ c.loop-chapter.chapter-index c.args.gate.now c.in_ok-open.open
+    (search rules) c.in_ok-push-2.ensures.items c.loop-chapter.invariant c.in_ok-open.ensures
