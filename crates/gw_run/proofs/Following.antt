@@ -17,7 +17,7 @@ use Rattle.std.proofs.lemmas.List.{take-append-drop, take_all, take_more}
 use Rattle.gw_run.specs.Report.{is_of}
 use Rattle.gw_run.specs.Turns.{Passes}
 use Rattle.gw_run.specs.declared.report.Kind.{Kind}
-use Rattle.gw_run.specs.declared.report.Kind.TheVariants.{Accepted, Arrived}
+use Rattle.gw_run.specs.declared.report.Kind.TheVariants.{Accepted, Any, Arrived}
 use Rattle.gw_run.specs.own.Joins.{begun, plans_at}
 use Rattle.gw_run.specs.Settled.{GoOn, first_of, is_same, last_end, stands}
 use Rattle.gw_run.specs.declared.parts.Part.{Part}
@@ -205,6 +205,10 @@ go_last js parts i all le = by (cases_lt 0 i)
 counts : (kind : Kind) (e : EntrySeen) (h : List EntrySeen) → count_by (is_of kind) (e ∷ h) ≡ cond (is_of kind e) 1 0 + count_by (is_of kind) h
 counts kind e h = sum_by-cons (λ (x : EntrySeen). cond (is_of kind x) 1 0) e h
 
+pub count_any : (h : List EntrySeen) → count_by (is_of Any) h ≡ length h
+count_any [] = refl
+count_any (e ∷ h) = let one = counts Any e h in omega (arith, one, count_any h)
+
 accepted_count : (h : List EntrySeen) → length (accepted h) ≡ count_by (is_of Accepted) h
 accepted_count [] = refl
 accepted_count (WasAccepted n arrival c ∷ h) = let e = counts Accepted (WasAccepted n arrival c) h in omega (arith, e, accepted_count h)
@@ -303,15 +307,3 @@ count_next kind parts i part all x lt is was more =
 
 pub count_few : (kind : Kind) (parts : List Part) (i k : ℕ) → k ≡ count_by (is_of kind) (entries_of (take i parts)) → k ≤ length (entries_of parts)
 count_few kind parts i k is = let a = count_by-le-length (is_of kind) (entries_of (take i parts)) in let b = few_until parts i in omega (arith, a, b, is)
-
--- how many there are
-pub length_next : (parts : List Part) (i : ℕ) (part : Part) (all x : ℕ) → i < length parts → part ≡ get_or parts i part
-    → all ≡ length (entries_of (take i parts)) → x ≡ length part.entries.now → all + x ≡ length (entries_of (take (i + 1) parts))
-length_next parts i part all x lt is was more =
-    let next = ap length (entries_next parts i part lt is) in
-    let both = length-append (entries_of (take i parts)) (entries_seen part.entries.now) in
-    let own = as_long part.entries.now in
-    omega (arith, next, both, own, was, more)
-
-pub length_few : (parts : List Part) (i k : ℕ) → k ≡ length (entries_of (take i parts)) → k ≤ length (entries_of parts)
-length_few parts i k is = let b = few_until parts i in omega (arith, b, is)

@@ -22,7 +22,7 @@ pub struct Report {
     pub entries: u64,
 }
 
-// A kind of entries that are counted by themselves.
+// A kind of entries that are counted.
 #[derive(Clone, Copy)]
 pub(crate) enum Kind {
     Accepted,
@@ -30,6 +30,7 @@ pub(crate) enum Kind {
     Arrived,
     Kept,
     Released,
+    Any,
 }
 
 // Whether an entry is of this kind.
@@ -42,6 +43,7 @@ fn is_of(kind: Kind, entry: &Entry) -> bool
         Kind::Arrived => matches!(entry, Entry::Accepted { .. } | Entry::Refused { .. }),
         Kind::Kept => matches!(entry, Entry::Kept { .. }),
         Kind::Released => matches!(entry, Entry::Out { .. }),
+        Kind::Any => true,
     }
 }
 
@@ -70,20 +72,9 @@ fn count_all(kind: Kind, parts: &[Part]) -> u64
     all
 }
 
-// How many entries the parts have.
-fn length_all(parts: &[Part]) -> u64
-    requires { length (entries_of parts.now) < 2 ^ 64 }
-    ensures { result ≡ length (entries_of parts.now) }
-{
-    let mut all = 0;
-    for part in parts {
-        all += part.entries.len() as u64;
-    }
-    all
-}
-
 impl Report {
     // What is reported of the entries of the parts.
+    #[tactic(auto, using(crate::proofs::Following::count_any))]
     pub(crate) fn of(parts: &[Part]) -> Self
         requires { length (entries_of parts.now) < 2 ^ 64 }
         ensures { result ≡ report_of (entries_of parts.now) }
@@ -93,7 +84,7 @@ impl Report {
             refused: count_all(Kind::Refused, parts),
             kept: count_all(Kind::Kept, parts),
             released: count_all(Kind::Released, parts),
-            entries: length_all(parts),
+            entries: count_all(Kind::Any, parts),
         }
     }
 }
