@@ -1,7 +1,7 @@
 -- Entries are counted as they are noted.
 use Rattle.std.proofs.Common.{◌≡◌, ◌+◌, ℕ, Bool, true, false, if◌then◌else◌, List, [], ◌∷◌, ◌++◌, Option, None, Some, length, refl, sym, ap, ◌∙◌, arith}
-use Rattle.std.proofs.Common.{length-append}
-use Rattle.std.specs.Prelude.{Result, Ok, Err}
+use Rattle.std.proofs.Common.{length-append, subst}
+use Rattle.std.specs.Prelude.{IfOk, Result, Ok, Err}
 use Rattle.std.specs.Option.{option_to_list}
 use Rattle.std.proofs.lemmas.List.Elements.{filter_map-append}
 use Rattle.std.proofs.lemmas.Option.{none-some}
@@ -9,13 +9,14 @@ use Rattle.gw_gate.specs.Chapters.{is_pending}
 use Rattle.gw_gate.specs.Journal.{EntrySeen, Journal, end}
 use Rattle.gw_gate.specs.Replies.{EventSeen, Releases, Cuts, added, with_added, left_by, closed_by, limited, most, reply}
 use Rattle.gw_gate.specs.Replies.{ReplySeen, IsCurrent, IsNothing, IsPending, IsClosed}
+use Rattle.gw_gate.specs.Values.{reply_seen}
 use Rattle.gw_gate.specs.declared.event.Event.{Event}
 use Rattle.gw_gate.specs.declared.event.Reply.{Reply}
 use Rattle.gw_crew.specs.declared.note.Note.{Note}
 use Rattle.gw_crew.specs.Notes.{NoteSeen, Answers, plain_note, note_or, receipt_of}
-use Rattle.gw_crew.specs.Solos.{StepsOnce, Stepped}
-use Rattle.gw_run.specs.Passes.{receipts}
-use Rattle.gw_run.specs.own.Steps.{added_by, counted_by}
+use Rattle.gw_crew.specs.Solos.{StepsOnce, Stepped, reply_in}
+use Rattle.gw_run.specs.Passes.{IsReplyTo, receipts}
+use Rattle.gw_run.specs.own.Steps.{StepsSomewhere, added_by, counted_by}
 use Rattle.gw_gate.proofs.Releasing.{some_is}
 
 plain_adds_none : (event : EventSeen) (given : ReplySeen) → added_by (plain_note event given) ≡ 0
@@ -68,3 +69,13 @@ counts_on old mid new left was now counted amount same more =
     let both = ap (λ l. length (receipts l)) (more ∙ ap (λ l. l ++ option_to_list left) same)
     ∙ ap length (filter_map-append receipt_of old (option_to_list left)) in
     omega (arith, both, length-append (receipts old) (receipts (option_to_list left)))
+
+-- the reply of a step is that of a lawful journal
+pub replies : (event : EventSeen) (answer : Result (Reply × Option Note) Event) (result : Result Reply Event) → StepsSomewhere event answer
+    → result ≡ reply_in answer
+    → IfOk result (λ given. IsReplyTo event (reply_seen given))
+replies event answer result steps is = subst (λ r. IfOk r (λ given. IsReplyTo event (reply_seen given))) (sym is) (by answer steps)
+  where
+    by : (answer : Result (Reply × Option Note) Event) → StepsSomewhere event answer → IfOk (reply_in answer) (λ given. IsReplyTo event (reply_seen given))
+    by (Ok r) steps = record { journal = steps.before; lawful = steps.lawful; reply_is = steps.step.replied.reply_is }
+    by (Err back) steps = tt

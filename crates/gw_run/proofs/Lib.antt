@@ -1,6 +1,5 @@
 pub mod Crossing
 pub mod Counting
-pub mod Calling
 pub mod Turning
 pub mod Fitting
 pub mod Marking

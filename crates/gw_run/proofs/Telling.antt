@@ -11,12 +11,8 @@ use Rattle.gw_gate.specs.Meaning.{Makes}
 use Rattle.gw_gate.proofs.Journals.{last_stands, plan_stays}
 use Rattle.gw_gate.proofs.Numbering.{lawful_numbers}
 use Rattle.gw_run.specs.Gathers.{swaps_in}
-use Rattle.gw_run.specs.Owing.{gives_none, waits_none}
-use Rattle.gw_run.specs.declared.history.History.{History}
-use Rattle.gw_run.specs.own.Joins.{PlansAt, plans_at}
-use Rattle.gw_run.specs.own.Queues.{queue_at}
-use Rattle.gw_run.specs.own.Tellings.{Tells}
-use Rattle.gw_run.specs.Turns.{CountsTo, TurnsAt}
+use Rattle.gw_run.specs.own.Joins.{PlansAt}
+use Rattle.gw_run.specs.Turns.{CountsTo}
 use Rattle.gw_gate.proofs.Releasing.{some_is}
 use Rattle.gw_run.proofs.Turning.{counts_done}
 
@@ -55,19 +51,3 @@ module _ (s : Start) (h : List EntrySeen) where
             ap (λ l. slice_get l i) are ∙ slice_get-map plan (plans (journal_of s h)) i
             ∙ ap (λ n. option_map plan (slice_get (plans (journal_of s h)) n)) (sym (at k i there)) ∙ ap (option_map plan) (current_at k);
       }
-
--- ---- all of it
-
-pub tells_all : (s : Start) (h : List EntrySeen) → IsLawful (IsTranslated Makes) (journal_of s h) → (n : ℕ) → n ≡ length h → (history : History)
-    → history.start ≡ s.entries → history.last ≡ s.entries + n → history.version ≡ s.version → history.entries ≡ n
-    → CountsTo (swaps_in h) n history.swaps.items → plans_at history.plans.items ≡ map plan (plans (journal_of s h)) → TurnsAt (waits_none h) history.idle.items
-    → ((r : ℕ) → TurnsAt (gives_none h r) (queue_at history.queues.items r).turns) → Tells (journal_of s h) history
-tells_all s h lawful n long history start last version entries swaps are idle nothing = record {
-  start = start;
-  last = last ∙ ap (λ k. s.entries + k) long;
-  version = version;
-  entries = entries ∙ long;
-  plans = tells_plans s h lawful history.swaps.items (plans_at history.plans.items) (subst (λ n. CountsTo (swaps_in h) n history.swaps.items) long swaps) are;
-  idle = idle;
-  nothing = nothing;
-}

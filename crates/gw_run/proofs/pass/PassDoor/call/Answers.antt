@@ -2,8 +2,7 @@ use Rattle.std.proofs.Common.{rules, ◌∙◌, refl, ap}
 use Rattle.gw_crew.specs.Seen.{notes_seen}
 use Rattle.gw_crew.proofs.Soloing.{kept, not_cut}
 use Rattle.gw_run.specs.Passes.{PassSeen}
-use Rattle.gw_run.proofs.Calling.{replies}
-use Rattle.gw_run.proofs.Counting.{counts_on}
+use Rattle.gw_run.proofs.Counting.{counts_on, replies}
 use Rattle.gw_run.proofs.pass.PassDoor.call.Goals as goal
 
 pub keep-requires : goal.keep-requires
