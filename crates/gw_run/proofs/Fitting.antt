@@ -2,7 +2,7 @@
 use Rattle.std.proofs.Common.{◌≡◌, ◌≢◌, ℕ, ◌+◌, ◌-◌, ◌<◌, ◌≤◌, ◌==◌, ◌&&◌, ◌⊎◌, inl, inr, Bool, true, false, List, length, Some, slice_get, sym, ap, ◌∙◌, arith}
 use Rattle.std.specs.List.{list_any, range_with_len}
 use Rattle.std.proofs.lemmas.List.{length-take}
-use Rattle.std.proofs.lemmas.Bool.{cases_eq, cases_lt}
+use Rattle.std.proofs.lemmas.Bool.{cases_eq}
 use Rattle.gw_reorder.proofs.Places.{equals, differs}
 use Rattle.gw_gate.specs.Parts.{PlanSeen}
 use Rattle.gw_gate.specs.Journal.{Journal, current}
@@ -73,30 +73,15 @@ abbrev pub full_between : Journal → ℕ → ℕ → Bool
 full_between j low high = list_any (λ k. fits (begun j k) WasFull) (range_with_len low (high + 1 - low))
 
 module _ (j : Journal) where
-  many : (k : ℕ) → length j.entries ≤ k → length (begun j k).entries ≡ length j.entries
-  many k le = let l = length-take k j.entries in omega (arith, l)
-
-  few : (k : ℕ) → k ≤ length j.entries → length (begun j k).entries ≡ k
-  few k le = let l = length-take k j.entries in omega (arith, l)
-
-  not_many : (k : ℕ) → length (begun j k).entries ≤ length j.entries
-  not_many k = let l = length-take k j.entries in omega (arith, l)
-
-  not_more : (k : ℕ) → length (begun j k).entries ≤ k
-  not_more k = let l = length-take k j.entries in omega (arith, l)
-
   pub never_full : length j.entries < most → (low high : ℕ) → full_between j low high ≡ false
   never_full less low high = none_between (λ k. fits (begun j k) WasFull) low high
-      (λ k a b. differs (length (begun j k).entries) most (λ e. let n = not_many k in omega (arith, n, e)))
+      (λ k a b. differs (length (begun j k).entries) most (λ e. omega (arith, length-take k j.entries, e)))
 
   pub then_full : most ≤ length j.entries → (low high : ℕ) → low ≤ most → full_between j low high ≡ is_within high (Some most)
   then_full more low high early =
-      first_between (λ k. fits (begun j k) WasFull) low high most early (equals (length (begun j most).entries) most (few most more))
-      (λ k a b. differs (length (begun j k).entries) most (λ e. let n = not_more k in omega (arith, n, e)))
+      first_between (λ k. fits (begun j k) WasFull) low high most early (equals (length (begun j most).entries) most (omega (arith, length-take most j.entries, more)))
+      (λ k a b. differs (length (begun j k).entries) most (λ e. omega (arith, length-take k j.entries, e)))
 
   pub over_full : most < length j.entries → (low high : ℕ) → most < low → full_between j low high ≡ false
-  over_full more low high late = none_between (λ k. fits (begun j k) WasFull) low high (λ k a b. by k a (cases_lt k (length j.entries)))
-    where
-      by : (k : ℕ) → low ≤ k → (k < length j.entries) ⊎ (length j.entries ≤ k) → fits (begun j k) WasFull ≡ false
-      by k a (inl within) = differs (length (begun j k).entries) most (λ e. let n = few k (omega arith) in omega (arith, n, e))
-      by k a (inr past) = differs (length (begun j k).entries) most (λ e. let n = many k past in omega (arith, n, e))
+  over_full more low high late = none_between (λ k. fits (begun j k) WasFull) low high
+      (λ k a b. differs (length (begun j k).entries) most (λ e. omega (arith, length-take k j.entries, e, more, late, a)))

@@ -100,9 +100,7 @@ get_front : {X : Type 0} (xs ys : List X) (k : ℕ) → k < length xs → slice_
 get_front xs ys k lt = grind (arith, common_steps, gets)
 
 get_back : {X : Type 0} (xs ys : List X) (k : ℕ) → length xs ≤ k → slice_get (xs ++ ys) k ≡ slice_get ys (k - length xs)
-get_back [] ys k le = let same : k ≡ k - 0 = omega arith in ap (slice_get ys) same
-get_back (x ∷ xs) ys zero le = absurd (omega arith)
-get_back (x ∷ xs) ys (suc k) le = let same : k - length xs ≡ suc k - length (x ∷ xs) = omega arith in get_back xs ys k (omega arith) ∙ ap (slice_get ys) same
+get_back xs ys k le = grind (arith, common_steps, gets)
 
 module _ (j : Journal) (js : List Journal) (at : ℕ) (e : EntrySeen) where
   -- an entry below the end of the first chapter stands in it or nowhere

@@ -3,12 +3,12 @@ use Rattle.std.proofs.Common.{◌≡◌, ◌≢◌, ℕ, zero, suc, ◌+◌, ◌
 use Rattle.std.proofs.Common.{map, drop, Some, slice_get, length, refl, sym, ap, subst, ◌∙◌, arith}
 use Rattle.std.specs.Prelude.{cond, nat_le, flat_map, is_some}
 use Rattle.std.specs.List.{list_all, range_with_len}
-use Rattle.std.proofs.lemmas.Grind.{flat_map-append}
+use Rattle.std.proofs.lemmas.Grind.{common_steps, flat_map-append}
 use Rattle.std.proofs.lemmas.Bool.{and_from, and_parts, cases_eq, eqb-true, false_from_ne_true, false≢true, leb-true, ne_eqb, true_from_ne_false}
 use Rattle.std.proofs.lemmas.List.Folds.{list_all-append, list_all_at}
 use Rattle.std.proofs.lemmas.List.FromFn.{get_or-range_with_len, length-range_with_len}
 use Rattle.std.proofs.lemmas.List.Sums.{sum_by-cons, sum_by-append}
-use Rattle.std.proofs.lemmas.Option.{slice_get_within}
+use Rattle.std.proofs.lemmas.Option.{gets, slice_get_within}
 use Rattle.gw_gate.specs.Parts.{same_translated}
 use Rattle.gw_gate.specs.Chapters.{all_entries}
 use Rattle.gw_gate.specs.Journal.{EntrySeen, WasOut, Journal, Release, released}
@@ -241,9 +241,7 @@ all_at test since n p lt is =
     (omega (arith, lt, length-range_with_len since n)) (ap test (get_or-range_with_len since n p 0 lt) ∙ fails)) ∙ is))
 
 get_drop : (d k : ℕ) (h : List EntrySeen) → slice_get (drop d h) k ≡ slice_get h (d + k)
-get_drop zero k h = let same : k ≡ 0 + k = omega arith in ap (slice_get h) same
-get_drop (suc d) k [] = refl
-get_drop (suc d) k (e ∷ h) = let next : suc (d + k) ≡ suc d + k = omega arith in get_drop d k h ∙ ap (slice_get (e ∷ h)) next
+get_drop d k h = grind (arith, common_steps, gets)
 
 -- where one pass alone has receipts of what was given out for a receiver, it has them of all of it, in order
 pub one_courier : (js : List Journal) (since r : ℕ) (before after : List (List NoteSeen)) (notes : List NoteSeen) → Settled js since (before ++ notes ∷ after)
