@@ -44,6 +44,9 @@ first_between test low high k above holds before = by (cases_lt high k)
     by (inl past) = none_between test low high (λ p a b. before p a (omega arith)) ∙ sym (lt-leb k high past)
     by (inr within) = some_between test low high k above within holds ∙ sym (le-leb k high within)
 
+pub first_here : (test : ℕ → Bool) (low high : ℕ) → test low ≡ true → list_any test (range_with_len low (high + 1 - low)) ≡ is_within high (Some low)
+first_here test low high holds = first_between test low high low (omega arith) holds (λ p a b. absurd (omega arith))
+
 -- ---- a test that turns
 
 even_next : (i : ℕ) → is_even i ≡ false → is_even (i + 1) ≡ true
@@ -90,13 +93,7 @@ passes_at ats p rising lt = record {
 passes_until : (ats : List ℕ) (low i k : ℕ) → Passes ats low i → low ≤ k → ((p : ℕ) → i ≤ p → p < length ats → k < get_or ats p 0) → Passes ats k i
 passes_until ats low i k was le next = record { few = was.few; before = λ p lt. (let b = was.before p lt in omega (arith, b)); after = next }
 
--- where an even number of them was passed, a test that turns there holds
-pub even_here : (test : ℕ → Bool) (ats : List ℕ) (low high count : ℕ) → TurnsAt test ats → Passes ats low count → is_even count ≡ true
-    → list_any test (range_with_len low (high + 1 - low)) ≡ is_within high (Some low)
-even_here test ats low high count turns here even = first_between test low high low (omega arith) (turns.tells low count here ∙ even)
-    (λ p a b. absurd (omega arith))
-
--- else it holds from the next of them on
+-- where an odd number of them was passed, a test that turns there holds from the next of them on
 pub even_next_at : (test : ℕ → Bool) (ats : List ℕ) (low high count : ℕ) → TurnsAt test ats → Passes ats low count → is_even count ≡ false
     → list_any test (range_with_len low (high + 1 - low)) ≡ is_within high (slice_get ats count)
 even_next_at test ats low high count turns here odd = by (cases_lt count (length ats))
@@ -174,11 +171,6 @@ with_later test ats low high count v holds here more = by (cases_lt (v - 1) (len
         ∙ ap (is_within high) (sym (slice_get-get_or ats (v - 1) 0 within))
     by (inr past) = none_between test low high (λ k a b. beyond past k (passed ats holds.rising k))
         ∙ ap (is_within high) (sym (slice_get_past ats (v - 1) past))
-
-pub with_here : (test : ℕ → Bool) (ats : List ℕ) (low high count v : ℕ) → HoldsFrom test v ats → Passes ats low count → v ≡ count
-    → list_any test (range_with_len low (high + 1 - low)) ≡ is_within high (Some low)
-with_here test ats low high count v holds here is = first_between test low high low (omega arith) (holds.tells low count here ∙ equals count v (sym is))
-    (λ p a b. absurd (omega arith))
 
 -- ---- so far
 
