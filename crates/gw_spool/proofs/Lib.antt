@@ -1,0 +1,7 @@
+mod Moments
+mod Ends
+mod Crash
+mod Ways
+mod Past
+mod Entries
+mod Sound

@@ -1,0 +1,6 @@
+pub mod Device
+pub mod File
+pub mod State
+pub mod Memory
+pub mod Numbers
+pub mod own
