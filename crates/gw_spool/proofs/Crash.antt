@@ -1,5 +1,6 @@
 -- What a crash leaves in each step of a call.
-use Rattle.std.proofs.Common.{◌≡◌, ◌⊎◌, inl, inr, ⊎_elim, refl, ℕ, ◌+◌, ◌-◌, ◌≤◌, List, [], ◌∷◌, ◌++◌, length, get_or, take, drop, sym, ◌∙◌, ap, subst, arith, append_assoc, length-append, length-drop, take-append-drop}
+use Rattle.std.proofs.Common.{◌≡◌, inl, inr, refl, ℕ, ◌+◌, ◌-◌, List, [], ◌∷◌, ◌++◌, length, get_or, take, drop}
+use Rattle.std.proofs.Common.{sym, ◌∙◌, ap, subst, arith, append_assoc, length-append, length-drop, take-append-drop}
 use Rattle.std.proofs.lemmas.Bool.{cases_eq}
 use Rattle.std.proofs.lemmas.List.{take_at, drop_at, drop_more, take_all, drop_all, append-nil}
 use Rattle.gw_spool.specs.Device.{IsWritten, Torn, Cut, Only}
@@ -43,7 +44,8 @@ module _ (front bytes : List ℕ) (at : ℕ) (size : at ≡ length front) where
   pub torn_gate : (c : List ℕ) → Torn at 1 staged c → c ≡ front ++ get_or c at 0 ∷ bytes
   torn_gate c torn =
       let gate = get_or c at 0 in
-      let rest : drop at c ≡ gate ∷ bytes = drop_more c at 0 (omega (arith, torn.no_shorter, size, length-append front (0 ∷ bytes))) ∙ ap (λ (l : List ℕ). gate ∷ l) (torn.after ∙ behind_gate) in
+      let rest : drop at c ≡ gate ∷ bytes = drop_more c at 0 (omega (arith, torn.no_shorter, size, length-append front (0 ∷ bytes)))
+      ∙ ap (λ (l : List ℕ). gate ∷ l) (torn.after ∙ behind_gate) in
       sym (take-append-drop at c) ∙ ap (λ (l : List ℕ). l ++ drop at c) (torn.before ∙ before_gate) ∙ ap (λ (l : List ℕ). front ++ l) rest
 
   pub written_gate : (c : List ℕ) → IsWritten at (1 ∷ []) staged c → c ≡ front ++ 1 ∷ bytes
@@ -69,8 +71,10 @@ module _ {D : Type 0} (seen : D → List ℕ) (may_leave : D → List ℕ → Ty
       inl (has_shut old 0 (drop (end + 1) c) c (omega arith) rests.short
       (torn_behind (blocks old) tail end rests.ends n c (subst (λ f. Torn (end + 1) n f c) rests.file torn)))
 
-  pub first_done : (c : List ℕ) → IsWritten (end + 1) tail (seen device) c → c ≡ staged (blocks old) tail end rests.ends
-  first_done c written = written_behind (blocks old) tail end rests.ends c (subst (λ f. IsWritten (end + 1) tail f c) rests.file written)
+  pub first_done : (given c : List ℕ) → given ≡ tail → IsWritten (end + 1) given (seen device) c → c ≡ staged (blocks old) tail end rests.ends
+  first_done given c is written =
+      let here : IsWritten (end + 1) tail (seen device) c = subst (λ g. IsWritten (end + 1) g (seen device) c) is written in
+      written_behind (blocks old) tail end rests.ends c (subst (λ f. IsWritten (end + 1) tail f c) rests.file here)
 
   -- the gate open: all entries
   opened : (c : List ℕ) → c ≡ blocks old ++ 1 ∷ tail → c ≡ at_rest (old ++ more)
@@ -93,10 +97,18 @@ module _ {D : Type 0} (seen : D → List ℕ) (may_leave : D → List ℕ → Ty
 
   pub end_is : end + length tail ≡ length (blocks (old ++ more))
   end_is =
-      omega (arith, rests.ends, ap length (blocks-append old more), length-append (blocks old) (blocks more), ap length (tail_of bytes more spells), length-append (blocks more) (0 ∷ []))
+      let batch_size = ap length (tail_of bytes more spells) in
+      let both = length-append (blocks old) (blocks more) in
+      omega (arith, rests.ends, ap length (blocks-append old more), both, batch_size, length-append (blocks more) (0 ∷ []))
 
-  pub all_rest : (new : D) (next : ℕ) → seen new ≡ at_rest (old ++ more) → next ≡ end + length tail → Only (seen new) (may_leave new) → IsAtRest seen may_leave new next (old ++ more)
-  all_rest new next file is durable = record { file = file; short = short-append old more rests.short spells.short; ends = is ∙ end_is; durable = durable }
+  pub all_rest : (new : D) (given : List ℕ) → seen new ≡ at_rest (old ++ more) → given ≡ tail → Only (seen new) (may_leave new)
+      → IsAtRest seen may_leave new (end + length given) (old ++ more)
+  all_rest new given file is durable = record {
+    file = file;
+    short = short-append old more rests.short spells.short;
+    ends = ap (λ (g : List ℕ). end + length g) is ∙ end_is;
+    durable = durable;
+  }
 
 -- ---- a repair
 
@@ -105,7 +117,8 @@ module _ (file : List ℕ) (at : ℕ) (entries : List Entry) (up : UpTo file at 
   pub cut_keeps : (c : List ℕ) → Cut at file c → Has entries c
   cut_keeps c cut = record {
     end = take (length c - length (blocks entries)) up.has.end;
-    whole = sym cut.front ∙ ap (λ (l : List ℕ). take (length c) l) up.has.whole ∙ take_past (blocks entries) up.has.end (length c) (length c - length (blocks entries)) (omega (arith, cut.no_shorter, up.here));
+    whole = sym cut.front ∙ ap (λ (l : List ℕ). take (length c) l) up.has.whole
+        ∙ take_past (blocks entries) up.has.end (length c) (length c - length (blocks entries)) (omega (arith, cut.no_shorter, up.here));
     short = up.has.short;
     unsynced = front_unsynced (length c - length (blocks entries)) up.has.end up.has.unsynced;
   }
@@ -129,7 +142,9 @@ module _ (file : List ℕ) (at : ℕ) (entries : List Entry) (up : UpTo file at 
 
 first_torn : (entries : List Entry) (c : List ℕ) → AreShort entries → Torn 0 1 (at_rest entries) c → HasEither entries [] c
 first_torn entries [] short torn = inr (record { end = []; whole = refl; short = tt; unsynced = tt })
-first_torn [] (gate ∷ rest) short torn = inr (record { end = gate ∷ rest; whole = refl; short = tt; unsynced = at_most_one (gate ∷ rest) (omega (arith, torn.no_longer)) })
+first_torn [] (gate ∷ rest) short torn =
+    let one = at_most_one (gate ∷ rest) (omega (arith, torn.no_longer)) in
+    inr (record { end = gate ∷ rest; whole = refl; short = tt; unsynced = one })
 first_torn (e ∷ entries) (gate ∷ rest) short torn = elim (cases_eq gate 1) [
   | inl is_open ↦ inl (has_shut (e ∷ entries) 0 [] (gate ∷ rest) (omega arith) short (ap (λ (g : ℕ). g ∷ rest) is_open ∙ ap (λ (l : List ℕ). 1 ∷ l) torn.after))
   | inr is_shut ↦ inr (has_shut [] gate rest (gate ∷ rest) is_shut tt refl)

@@ -1,7 +1,8 @@
 -- Ends of files that were not synced.
-use Rattle.std.proofs.Common.{◌≡◌, ◌≢◌, ℕ, zero, suc, ◌+◌, ◌-◌, ◌≤◌, List, [], ◌∷◌, ◌++◌, length, take, drop, refl, sym, ◌∙◌, ap, subst, arith, length-append, append_assoc}
-use Rattle.std.proofs.lemmas.List.{append-nil, length-take}
-use Rattle.gw_spool.specs.File.{Entry, Record, Acknowledgment, body, blocks, AreShort, IsUnsynced, Has, after, after_all}
+use Rattle.std.proofs.Common.{◌≡◌, ◌≢◌, ℕ, zero, suc, ◌+◌, ◌≤◌, List, [], ◌∷◌, ◌++◌, length, take, refl, sym, ◌∙◌, ap}
+use Rattle.std.proofs.Common.{arith, append_assoc}
+use Rattle.std.proofs.lemmas.List.{length-take}
+use Rattle.gw_spool.specs.File.{Entry, body, blocks, AreShort, IsUnsynced, after, after_all}
 
 pub shut : (gate : ℕ) (more : List ℕ) → gate ≢ 1 → IsUnsynced (gate ∷ more)
 shut gate [] differs = tt

@@ -1,15 +1,20 @@
 -- How a file is read, entry by entry.
-use Rattle.std.proofs.Common.{◌≡◌, ◌≢◌, ℕ, ◌+◌, ◌-◌, ◌<◌, ◌≤◌, ◌^◌, List, [], ◌∷◌, ◌++◌, length, refl, sym, ◌∙◌, ap, arith, length-append, append_assoc}
+use Rattle.std.proofs.Common.{◌≡◌, ◌≢◌, ℕ, ◌-◌, ◌<◌, List, [], ◌∷◌, ◌++◌, length, refl, sym, ◌∙◌, ap, arith}
+use Rattle.std.proofs.Common.{length-append, append_assoc, take, drop, take-append-drop}
 use Rattle.std.proofs.lemmas.List.{append-nil}
 use Rattle.std.specs.Prelude.{Bool, true, false, not, nat_eq, MatchBool}
 use Rattle.std.specs.Cmp.Lexicographic.{told_text}
 use lib.Pointwise.{pointwise}
 use Rattle.sha2.specs.Sha256.{sha256}
 use Rattle.sha2.proofs.Facts256.{length-sha256}
-use Rattle.gw_spool.specs.File.{Entry, Record, Acknowledgment, item, body, blocks, AreShort, IsUnsynced, HasNoEntry, IsDamagedAt, after, after_all}
+use Rattle.gw_spool.specs.File.{Entry, Record, Acknowledgment, item, body, blocks, IsUnsynced, HasNoEntry, IsDamagedAt, after}
 use Rattle.gw_spool.specs.own.Steps.{BeginsItem, Begins, IsReadTo, IsRead}
 use Rattle.gw_spool.proofs.Ends.{blocks-append, short-append, after-append}
 use Rattle.gw_spool.proofs.Ways.{fronts, one_begin}
+
+pub cut_at : (n : ℕ) (whole front back : List ℕ) → front ≡ take n whole → back ≡ drop n whole → front ++ back ≡ whole
+cut_at n whole front back is rest =
+    ap (λ (l : List ℕ). l ++ back) is ∙ ap (λ (l : List ℕ). take n whole ++ l) rest ∙ take-append-drop n whole
 
 -- an item that is shorter than a digest is no record's
 pub too_short : (bytes more : List ℕ) → length more < 32 → more ≡ sha256 bytes ++ bytes → ⊥
@@ -44,7 +49,8 @@ no_entry_at_all bytes none e more short is = none (item e) more (record { whole 
 pub read_nothing : (file : List ℕ) → IsReadTo file file []
 read_nothing file = record { entries = []; whole = refl; short = tt; waits = refl }
 
-pub read_more : (file rest behind : List ℕ) (waiting next : List (List ℕ)) (e : Entry) → IsReadTo file rest waiting → Begins rest e behind → next ≡ after waiting e → IsReadTo file behind next
+pub read_more : (file rest behind : List ℕ) (waiting next : List (List ℕ)) (e : Entry) → IsReadTo file rest waiting → Begins rest e behind
+    → next ≡ after waiting e → IsReadTo file behind next
 read_more file rest behind waiting next e read begins is = record {
   entries = read.entries ++ e ∷ [];
   whole = read.whole ∙ ap (λ (l : List ℕ). blocks read.entries ++ l) begins.whole
@@ -61,7 +67,8 @@ shorter rest behind e begins = omega (arith, ap length begins.whole, length-appe
 pub place : (file rest : List ℕ) (waiting : List (List ℕ)) (read : IsReadTo file rest waiting) → length file - length rest ≡ length (blocks read.entries)
 place file rest waiting read = omega (arith, ap length read.whole, length-append (blocks read.entries) rest)
 
-pub read_whole : (file rest : List ℕ) (waiting : List (List ℕ)) (end : ℕ) → IsReadTo file rest waiting → end ≡ length file - length rest → IsUnsynced rest → IsRead file waiting end
+pub read_whole : (file rest : List ℕ) (waiting : List (List ℕ)) (end : ℕ) → IsReadTo file rest waiting → end ≡ length file - length rest
+    → IsUnsynced rest → IsRead file waiting end
 read_whole file rest waiting end read is unsynced = record {
   entries = read.entries;
   up = record {
@@ -71,7 +78,8 @@ read_whole file rest waiting end read is unsynced = record {
   waits = read.waits;
 }
 
-pub damage : (file rest : List ℕ) (waiting : List (List ℕ)) (at : ℕ) → IsReadTo file rest waiting → at ≡ length file - length rest → (IsUnsynced rest → ⊥) → HasNoEntry rest → IsDamagedAt at file
+pub damage : (file rest : List ℕ) (waiting : List (List ℕ)) (at : ℕ) → IsReadTo file rest waiting → at ≡ length file - length rest
+    → (IsUnsynced rest → ⊥) → HasNoEntry rest → IsDamagedAt at file
 damage file rest waiting at read is synced none = record {
   entries = read.entries;
   rest = rest;

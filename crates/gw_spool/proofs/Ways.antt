@@ -1,12 +1,14 @@
 -- A file is read in one way.
-use Rattle.std.proofs.Common.{◌≡◌, ◌≢◌, inl, inr, ℕ, zero, suc, ◌+◌, ◌-◌, ◌<◌, ◌≤◌, ◌^◌, List, [], ◌∷◌, ◌++◌, length, take, drop, refl, sym, ◌∙◌, ap, subst, arith, length-append, append_assoc}
+use Rattle.std.proofs.Common.{◌≡◌, ℕ, ◌<◌, ◌^◌, List, [], ◌∷◌, ◌++◌, length, take, drop}
+use Rattle.std.proofs.Common.{refl, sym, ◌∙◌, ap, subst, arith, length-append, append_assoc}
 use Rattle.std.specs.Int.{w32, to_be_bytes, from_be_bytes}
-use Rattle.std.proofs.lemmas.List.{take_at, drop_at, append_cancel_left, append_cancel_right}
+use Rattle.std.proofs.lemmas.List.{take_at, drop_at}
 use Rattle.std.proofs.lemmas.Nat.{from_be_bytes-to_be_bytes_4}
 use Rattle.sha2.specs.Sha256.{sha256}
 use Rattle.sha2.proofs.Facts256.{length-sha256}
-use Rattle.gw_spool.specs.File.{Entry, Record, Acknowledgment, item, body, blocks, AreShort, IsUnsynced, Has, HasNoEntry, Keeps, KeepsAs, IsDamagedAt, after_all}
-use Rattle.gw_spool.specs.own.Steps.{BeginsItem, Begins}
+use Rattle.gw_spool.specs.File.{Entry, Record, Acknowledgment, item, body, blocks, AreShort, IsUnsynced, Has, Keeps}
+use Rattle.gw_spool.specs.File.{KeepsAs, IsDamagedAt, after_all}
+use Rattle.gw_spool.specs.own.Steps.{BeginsItem}
 
 -- two lists whose fronts are xs long
 pub fronts : (n : ℕ) (a b x y : List ℕ) → length a ≡ n → length b ≡ n → a ++ x ≡ b ++ y → (a ≡ b) × (x ≡ y)
@@ -23,7 +25,8 @@ pub one_item : (i j x y : List ℕ) → length i < 2 ^ 32 → length j < 2 ^ 32 
 one_item i j x y short fits same =
     let split = fronts 4 (to_be_bytes w32 (length i)) (to_be_bytes w32 (length j)) (i ++ x) (j ++ y) refl refl
     (sym (append_assoc (to_be_bytes w32 (length i)) i x) ∙ same ∙ append_assoc (to_be_bytes w32 (length j)) j y) in
-    let size : length i ≡ length j = sym (from_be_bytes-to_be_bytes_4 (length i) short) ∙ ap (from_be_bytes w32) split.0 ∙ from_be_bytes-to_be_bytes_4 (length j) fits in
+    let size : length i ≡ length j = sym (from_be_bytes-to_be_bytes_4 (length i) short) ∙ ap (from_be_bytes w32) split.0
+    ∙ from_be_bytes-to_be_bytes_4 (length j) fits in
     fronts (length j) i j x y size refl split.1
 
 pub one_begin : (bytes i j x y : List ℕ) → BeginsItem bytes i x → BeginsItem bytes j y → (i ≡ j) × (x ≡ y)
@@ -69,7 +72,9 @@ one_row (a ∷ xs) (b ∷ ys) x y short fits stops ends same =
 
 pub one_way : (file : List ℕ) (xs ys : List Entry) → Has xs file → Has ys file → xs ≡ ys
 one_way file xs ys first second =
-    (one_row xs ys first.end second.end first.short second.short (unsynced_stops first.end first.unsynced) (unsynced_stops second.end second.unsynced) (sym first.whole ∙ second.whole)).0
+    let stops = unsynced_stops first.end first.unsynced in
+    let ends = unsynced_stops second.end second.unsynced in
+    (one_row xs ys first.end second.end first.short second.short stops ends (sym first.whole ∙ second.whole)).0
 
 pub one_keeping : (file : List ℕ) (these those : List (List ℕ)) → Keeps these file → Keeps those file → these ≡ those
 one_keeping file these those first second =
@@ -78,12 +83,15 @@ one_keeping file these those first second =
 pub not_both : (file : List ℕ) (records : List (List ℕ)) (at : ℕ) → Keeps records file → IsDamagedAt at file → ⊥
 not_both file records at keeps damaged =
     let h = keeps.has in
-    let rest = one_row keeps.entries damaged.entries h.end damaged.rest h.short damaged.short (unsynced_stops h.end h.unsynced) damaged.no_entry (sym h.whole ∙ damaged.whole) in
+    let stops = unsynced_stops h.end h.unsynced in
+    let same = sym h.whole ∙ damaged.whole in
+    let rest = one_row keeps.entries damaged.entries h.end damaged.rest h.short damaged.short stops damaged.no_entry same in
     damaged.synced (subst IsUnsynced rest.1 h.unsynced)
 
 pub one_place : (file : List ℕ) (at other : ℕ) → IsDamagedAt at file → IsDamagedAt other file → at ≡ other
 one_place file at other first second =
-    let rest = one_row first.entries second.entries first.rest second.rest first.short second.short first.no_entry second.no_entry (sym first.whole ∙ second.whole) in
+    let rest = one_row first.entries second.entries first.rest second.rest first.short second.short first.no_entry second.no_entry (sym first.whole
+    ∙ second.whole) in
     first.here ∙ ap (λ (l : List Entry). length (blocks l)) rest.0 ∙ sym second.here
 
 -- a file with the same entries keeps the same records

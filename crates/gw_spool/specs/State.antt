@@ -1,5 +1,5 @@
 -- What a spool holds, and what its calls leave.
-use Rattle.std.specs.Prelude.{◌≡◌, ◌⊎◌, ℕ, Bool, true, false, ◌<◌, ◌^◌, List, [], ◌∷◌, ◌++◌, length, drop}
+use Rattle.std.specs.Prelude.{◌≡◌, ◌⊎◌, ℕ, Bool, true, false, ◌<◌, ◌^◌, List, [], ◌∷◌, ◌++◌, length}
 
 -- the device, the records that are synced and not acknowledged, those that are not yet synced, and whether the device has failed
 pub record SpoolState (D : Type 0) : Type 0 where

@@ -62,7 +62,8 @@ pub trait Device {
     fn write_at(&mut self, at: usize, bytes: &[u8]) -> Result<(), DeviceFault>
         requires { at ≤ length (seen self.old) }
         ensures written { OnOk result (IsWritten at bytes.now (seen self.old) (seen self.new)) }
-        ensures crash { Follows (Torn at (length bytes.now)) (may_leave self.old) (may_leave self.new) }
+        ensures crash { Follows (Torn at (length bytes.now))
+            (may_leave self.old) (may_leave self.new) }
         ensures time { Elapses moment left_since may_leave self.old self.new }
         ensures cause { HasCause (faults self.old) (faults self.new) result };
 

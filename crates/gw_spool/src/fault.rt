@@ -16,7 +16,7 @@ pub enum SpoolFault {
     /// The device has failed, in this call or in an earlier one. Nothing more is asked of it: open the file again.
     #[error("the disk has failed")]
     Device,
-    /// The file has 2^60 bytes.
+    /// The file has more than 2^60 bytes.
     #[error("the file has no room")]
     Full,
     /// The record has more than 2^31 bytes.

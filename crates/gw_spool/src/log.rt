@@ -53,9 +53,11 @@ pub(crate) fn put<D: Device>(device: &mut D, end: usize, bytes: &[u8]) -> Result
     requires within { end < length (D.seen device.old) }
     requires durable { Only (D.seen device.old) (D.may_leave device.old) }
     requires some { 1 ≤ length bytes.now }
-    ensures put { (old more : List Entry) → IsAtRest D.seen D.may_leave device.old end old → Spells bytes.now more →
+    ensures put { (old more : List Entry) →
+        IsAtRest D.seen D.may_leave device.old end old → Spells bytes.now more →
         IfOk result (λ next. IsAtRest D.seen D.may_leave device.new next (old ++ more)) }
-    ensures any_moment { (old more : List Entry) → IsAtRest D.seen D.may_leave device.old end old → Spells bytes.now more →
+    ensures any_moment { (old more : List Entry) →
+        IsAtRest D.seen D.may_leave device.old end old → Spells bytes.now more →
         LeavesOnly D.moment D.left_since device.old device.new (HasEither old (old ++ more)) }
     ensures failed { IsErrOf result DeviceFault.Failed → D.faults device.old < D.faults device.new }
 {
@@ -84,7 +86,8 @@ pub(crate) fn repair<D: Device>(device: &mut D, end: usize) -> Result<(), Device
 pub(crate) fn clear<D: Device>(device: &mut D) -> Result<(), DeviceFault>
     requires durable { Only (D.seen device.old) (D.may_leave device.old) }
     ensures cleared { OnOk result (IsAtRest D.seen D.may_leave device.new 0 []) }
-    ensures any_moment { (end : ℕ) (old : List Entry) → IsAtRest D.seen D.may_leave device.old end old →
+    ensures any_moment { (end : ℕ) (old : List Entry) →
+        IsAtRest D.seen D.may_leave device.old end old →
         LeavesOnly D.moment D.left_since device.old device.new (HasEither old []) }
     ensures failed { IsErrOf result DeviceFault.Failed → D.faults device.old < D.faults device.new }
 {

@@ -52,7 +52,8 @@ fn replace(
 ) -> Result<(), AllocError>
     ensures ok { OnOk result (bytes.new.items ≡ next.items) }
     ensures err { OnErr result (bytes.new.items ≡ bytes.old.items) }
-    ensures past { OnOk result (contents past.new.items ≡ contents past.old.items ++ bytes.old.items ∷ []) }
+    ensures past { OnOk result
+        (contents past.new.items ≡ contents past.old.items ++ bytes.old.items ∷ []) }
     ensures past_err { OnErr result (past.new.items ≡ past.old.items) }
 {
     past.push(bytes.to_vec(alloc)?)?;

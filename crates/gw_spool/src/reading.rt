@@ -59,7 +59,8 @@ fn record_of(item: &[u8]) -> Option<&[u8]>
 
 // The first entry, as its record or as none where it is an acknowledgment, and what stands behind it.
 fn first_entry(bytes: &[u8]) -> Option<(Option<&[u8]>, &[u8])>
-    ensures some { IfSome result (λ p. Begins bytes.now (entry_of (option_map (λ bytes. bytes.now) p.0)) p.1.now) }
+    ensures some { IfSome result (λ p.
+        Begins bytes.now (entry_of (option_map (λ r. r.now) p.0)) p.1.now) }
     ensures none { IfNone result (HasNoEntry bytes.now) }
 {
     let (item, rest) = first_item(bytes)?;

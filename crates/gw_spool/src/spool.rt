@@ -90,7 +90,8 @@ fn read_all<D: Device>(alloc: Global, device: &mut D) -> Result<Vec<u8>, DeviceF
     ensures bytes { IfOk result (λ bytes. bytes.items ≡ D.seen device.old) }
     ensures seen { D.seen device.new ≡ D.seen device.old }
     ensures durable { Only (D.seen device.old) (D.may_leave device.new) }
-    ensures any_moment { LeavesOnly D.moment D.left_since device.old device.new (λ c. c ≡ D.seen device.old) }
+    ensures any_moment { LeavesOnly D.moment D.left_since device.old device.new
+        (λ c. c ≡ D.seen device.old) }
     ensures later { D.faults device.old ≤ D.faults device.new }
     ensures failed { IsErrOf result DeviceFault.Failed → D.faults device.old < D.faults device.new }
 {
@@ -103,10 +104,14 @@ fn open_file<D: Device>(
     device: &mut D,
 ) -> Result<(VecDeque<Vec<u8>>, usize), SpoolFault>
     requires { Only (D.seen device.old) (D.may_leave device.old) }
-    ensures opened { IfOk result (λ r. IsOpened D.seen D.may_leave (D.seen device.old) device.new r.1 (records_of r.0.items)) }
-    ensures any_moment { LeavesOnly D.moment D.left_since device.old device.new (KeepsAs (D.seen device.old)) }
-    ensures damaged { (at : ℕ) → IsErrOf result (SpoolFault.Damaged at) → IsDamagedAt at (D.seen device.old) }
-    ensures untouched { (at : ℕ) → IsErrOf result (SpoolFault.Damaged at) → Only (D.seen device.old) (D.may_leave device.new) }
+    ensures opened { IfOk result (λ r.
+        IsOpened D.seen D.may_leave (D.seen device.old) device.new r.1 (records_of r.0.items)) }
+    ensures any_moment { LeavesOnly D.moment D.left_since device.old device.new
+        (KeepsAs (D.seen device.old)) }
+    ensures damaged { (at : ℕ) →
+        IsErrOf result (SpoolFault.Damaged at) → IsDamagedAt at (D.seen device.old) }
+    ensures untouched { (at : ℕ) → IsErrOf result (SpoolFault.Damaged at) →
+        Only (D.seen device.old) (D.may_leave device.new) }
     ensures failed { IsErrOf result SpoolFault.Device → D.faults device.old < D.faults device.new }
     ensures not_full { IsErrOf result SpoolFault.Full → ⊥ }
     ensures not_long { IsErrOf result SpoolFault.TooLong → ⊥ }
@@ -138,7 +143,8 @@ impl<D: Device> Spool<D> {
             e.0 ≡ SpoolFault.Damaged at → IsDamagedAt at (D.seen device)) }
         ensures untouched { IfErr result (λ e. (at : ℕ) →
             e.0 ≡ SpoolFault.Damaged at → Only (D.seen device) (D.may_leave e.1)) }
-        ensures failed { IfErr result (λ e. e.0 ≡ SpoolFault.Device → D.faults device < D.faults e.1) }
+        ensures failed { IfErr result (λ e.
+            e.0 ≡ SpoolFault.Device → D.faults device < D.faults e.1) }
         ensures not_full { IfErr result (λ e. e.0 ≢ SpoolFault.Full) }
         ensures not_long { IfErr result (λ e. e.0 ≢ SpoolFault.TooLong) }
     {
@@ -184,19 +190,20 @@ impl<D: Device> Spool<D> {
     pub fn sync(&mut self) -> Result<(), SpoolFault>
         ensures ok { OnOk result (Stands self.new (all_of self.old) []) }
         ensures err { OnErr result (SameRecords self.old self.new) }
-        ensures safe { self.new.broken ≡ false → AllKeep self.new.kept (D.may_leave self.new.device) }
+        ensures safe { self.new.broken ≡ false →
+            AllKeep self.new.kept (D.may_leave self.new.device) }
 
         // A crash at any moment leaves what was synced, or that with all that was appended.
         ensures any_moment { self.old.broken ≡ false →
             LeavesOnly D.moment D.left_since self.old.device self.new.device
             (KeepsEither self.old.kept (all_of self.old)) }
-        ensures failed { IsErrOf result SpoolFault.Device →
-            Breaks D.faults self.old self.new }
+        ensures failed { IsErrOf result SpoolFault.Device → Breaks D.faults self.old self.new }
         ensures unbroken { OnErr result ((self.new ≡ self.old) ⊎ (self.new.broken ≡ true)) }
         ensures full { IsErrOf result SpoolFault.Full ↔
             ((self.old.broken ≡ false) × (self.old.appended ≢ []) × IsFull (D.seen self.old.device)) }
         ensures at_full { IsErrOf result SpoolFault.Full → self.new ≡ self.old }
-        ensures broken { self.old.broken ≡ true → IsErrOf result SpoolFault.Device × (self.new ≡ self.old) }
+        ensures broken { self.old.broken ≡ true →
+            IsErrOf result SpoolFault.Device × (self.new ≡ self.old) }
         ensures not_long { IsErrOf result SpoolFault.TooLong → ⊥ }
         ensures not_damaged { (at : ℕ) → IsErrOf result (SpoolFault.Damaged at) → ⊥ }
     {
@@ -229,7 +236,8 @@ impl<D: Device> Spool<D> {
     pub fn acknowledge(&mut self) -> Result<(), SpoolFault>
         ensures ok { OnOk result (Stands self.new (drop 1 self.old.kept) self.old.appended) }
         ensures err { OnErr result (SameRecords self.old self.new) }
-        ensures safe { self.new.broken ≡ false → AllKeep self.new.kept (D.may_leave self.new.device) }
+        ensures safe { self.new.broken ≡ false →
+            AllKeep self.new.kept (D.may_leave self.new.device) }
 
         // A crash at any moment leaves what was synced, with the first record or without.
         ensures any_moment { self.old.broken ≡ false →
@@ -240,7 +248,8 @@ impl<D: Device> Spool<D> {
         ensures full { IsErrOf result SpoolFault.Full ↔
             ((self.old.broken ≡ false) × (self.old.kept ≢ []) × IsFull (D.seen self.old.device)) }
         ensures at_full { IsErrOf result SpoolFault.Full → self.new ≡ self.old }
-        ensures broken { self.old.broken ≡ true → IsErrOf result SpoolFault.Device × (self.new ≡ self.old) }
+        ensures broken { self.old.broken ≡ true →
+            IsErrOf result SpoolFault.Device × (self.new ≡ self.old) }
         ensures not_long { IsErrOf result SpoolFault.TooLong → ⊥ }
         ensures not_damaged { (at : ℕ) → IsErrOf result (SpoolFault.Damaged at) → ⊥ }
     {
@@ -271,14 +280,16 @@ impl<D: Device> Spool<D> {
         ensures ok { OnOk result (Stands self.new self.old.kept self.old.appended) }
         ensures renewed { OnOk result (self.old.kept ≡ [] → D.seen self.new.device ≡ 0 ∷ []) }
         ensures err { OnErr result (SameRecords self.old self.new) }
-        ensures safe { self.new.broken ≡ false → AllKeep self.new.kept (D.may_leave self.new.device) }
+        ensures safe { self.new.broken ≡ false →
+            AllKeep self.new.kept (D.may_leave self.new.device) }
 
         // A crash at any moment leaves the same records.
         ensures any_moment { self.old.broken ≡ false →
             LeavesOnly D.moment D.left_since self.old.device self.new.device (Keeps self.old.kept) }
         ensures failed { IsErrOf result SpoolFault.Device → Breaks D.faults self.old self.new }
         ensures unbroken { OnErr result ((self.new ≡ self.old) ⊎ (self.new.broken ≡ true)) }
-        ensures broken { self.old.broken ≡ true → IsErrOf result SpoolFault.Device × (self.new ≡ self.old) }
+        ensures broken { self.old.broken ≡ true →
+            IsErrOf result SpoolFault.Device × (self.new ≡ self.old) }
         ensures not_full { IsErrOf result SpoolFault.Full → ⊥ }
         ensures not_long { IsErrOf result SpoolFault.TooLong → ⊥ }
         ensures not_damaged { (at : ℕ) → IsErrOf result (SpoolFault.Damaged at) → ⊥ }

@@ -1,5 +1,4 @@
-use Rattle.std.proofs.Common.{◌≡◌, ◌<◌, length, refl, arith, rules}
-use Rattle.gw_spool.specs.own.Steps.{Begins, entry_of}
+use Rattle.std.proofs.Common.{refl, arith, rules}
 use Rattle.gw_spool.proofs.Entries.{read_more, read_whole, shorter}
 use Rattle.gw_spool.proofs.reading.read_entries.Goals as goal
 

@@ -1,5 +1,5 @@
-use Rattle.std.proofs.Common.{◌≡◌, ◌++◌, take, drop, sym, ◌∙◌, ap, take-append-drop}
-use Rattle.gw_spool.proofs.Entries.{too_short, digest_split, differ}
+use Rattle.std.proofs.Common.{sym, ◌∙◌}
+use Rattle.gw_spool.proofs.Entries.{cut_at, too_short, digest_split, differ}
 use Rattle.gw_spool.proofs.reading.record_of.Goals as goal
 
 pub returns-then-item-lt-DIGEST-clause-none : goal.returns-then-item-lt-DIGEST-clause-none
@@ -7,6 +7,9 @@ returns-then-item-lt-DIGEST-clause-none c = λ bytes is. too_short bytes _ c.if-
 
 pub returns-then-ne-clause-none : goal.returns-then-ne-clause-none
 returns-then-ne-clause-none c = λ bytes is.
-    let whole = ap (λ l. l ++ c.split_at.result.1.now) c.split_at.ensures.front ∙ ap (λ l. take 32 c.args.item.now ++ l) c.split_at.ensures.back ∙ take-append-drop 32 c.args.item.now in
-    let same = digest_split c.split_at.result.0.now c.split_at.result.1.now bytes c.split_at.ensures.front_len (whole ∙ is) in
-    absurd (differ c.split_at.result.0.now c.as_slice.result.now (sym c.if-ne.true ∙ c.ne.ensures) (same ∙ sym c.digest_of.ensures ∙ sym c.as_slice.ensures))
+    let digest = c.split_at.result.0.now in
+    let back = c.split_at.result.1.now in
+    let whole = cut_at 32 c.args.item.now digest back c.split_at.ensures.front c.split_at.ensures.back in
+    let same = digest_split digest back bytes c.split_at.ensures.front_len (whole ∙ is) in
+    let told = sym c.if-ne.true ∙ c.ne.ensures in
+    absurd (differ digest c.as_slice.result.now told (same ∙ sym c.digest_of.ensures ∙ sym c.as_slice.ensures))

@@ -1,5 +1,5 @@
-use Rattle.std.proofs.Common.{◌≡◌, sym, ◌∙◌, subst, List, ℕ}
-use Rattle.gw_spool.specs.own.Steps.{UpTo, IsRead}
+use Rattle.std.proofs.Common.{sym, ◌∙◌, subst}
+use Rattle.gw_spool.specs.own.Steps.{UpTo}
 use Rattle.gw_spool.proofs.Moments.{weaker, joined}
 use Rattle.gw_spool.proofs.Sound.{as_it_was, up_keeps}
 use Rattle.gw_spool.proofs.spool.open_file.Goals as goal

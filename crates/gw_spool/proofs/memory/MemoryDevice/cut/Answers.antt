@@ -1,4 +1,3 @@
-use Rattle.std.proofs.Common.{◌∙◌, sym}
 use Rattle.gw_spool.proofs.Past.{elapses_push}
 use Rattle.gw_spool.proofs.memory.MemoryDevice.cut.Goals as goal
 

@@ -1,4 +1,4 @@
-use Rattle.std.proofs.Common.{◌≡◌, ◌++◌, ◌∷◌, [], List, ℕ, drop, sym, ◌∙◌, ap}
+use Rattle.std.proofs.Common.{◌++◌, ◌∷◌, [], sym, ◌∙◌, ap}
 use Rattle.gw_spool.specs.File.{Acknowledgment}
 use Rattle.gw_spool.specs.own.Steps.{records_of}
 use Rattle.gw_spool.proofs.Moments.{weaker}
@@ -8,7 +8,7 @@ use Rattle.gw_spool.proofs.spool.Spool.acknowledge.Goals as goal
 pub invariant_of-self : goal.invariant_of-self
 invariant_of-self g c = λ whole.
     let s = c.self.invariant whole in
-    let now : records_of c.pop_front.new.self.items ≡ drop 1 (records_of c.self.inside.kept.items) = ap records_of c.pop_front.ensures.rest ∙ records_drop c.self.inside.kept.items in
+    let now = ap records_of c.pop_front.ensures.rest ∙ records_drop c.self.inside.kept.items in
     record {
       entries = s.entries ++ Acknowledgment ∷ [];
       rests = c.in-Ok.ensures.put s.entries (Acknowledgment ∷ []) s.rests one_acknowledgment;
@@ -20,15 +20,18 @@ invariant_of-self g c = λ whole.
 pub returns-in-Ok-clause-safe : goal.returns-in-Ok-clause-safe
 returns-in-Ok-clause-safe g c = λ whole.
     let s = c.self.invariant whole in
-    let now : records_of c.pop_front.new.self.items ≡ drop 1 (records_of c.self.inside.kept.items) = ap records_of c.pop_front.ensures.rest ∙ records_drop c.self.inside.kept.items in
-    rest_keeps _ _ _ _ _ _ (c.in-Ok.ensures.put s.entries (Acknowledgment ∷ []) s.rests one_acknowledgment) (kept_less _ s.entries s.keeps ∙ sym now)
+    let now = ap records_of c.pop_front.ensures.rest ∙ records_drop c.self.inside.kept.items in
+    let rests = c.in-Ok.ensures.put s.entries (Acknowledgment ∷ []) s.rests one_acknowledgment in
+    rest_keeps _ _ _ _ _ _ rests (kept_less _ s.entries s.keeps ∙ sym now)
 
 pub returns-in-Ok-clause-any_moment : goal.returns-in-Ok-clause-any_moment
 returns-in-Ok-clause-any_moment g c = rw (← c.self.view_is) (λ whole.
     let s = c.self.invariant whole in
-    weaker _ _ _ _ _ _ (λ f has. keeps_either _ _ _ _ f s.keeps (kept_less _ s.entries s.keeps) has) (c.put.ensures.any_moment s.entries (Acknowledgment ∷ []) s.rests one_acknowledgment))
+    let crash = c.put.ensures.any_moment s.entries (Acknowledgment ∷ []) s.rests one_acknowledgment in
+    weaker _ _ _ _ _ _ (λ f. keeps_either _ _ _ _ f s.keeps (kept_less _ s.entries s.keeps)) crash)
 
 pub returns-in-Err-clause-any_moment : goal.returns-in-Err-clause-any_moment
 returns-in-Err-clause-any_moment g c = rw (← c.self.view_is) (λ whole.
     let s = c.self.invariant whole in
-    weaker _ _ _ _ _ _ (λ f has. keeps_either _ _ _ _ f s.keeps (kept_less _ s.entries s.keeps) has) (c.put.ensures.any_moment s.entries (Acknowledgment ∷ []) s.rests one_acknowledgment))
+    let crash = c.put.ensures.any_moment s.entries (Acknowledgment ∷ []) s.rests one_acknowledgment in
+    weaker _ _ _ _ _ _ (λ f. keeps_either _ _ _ _ f s.keeps (kept_less _ s.entries s.keeps)) crash)

@@ -1,4 +1,4 @@
-use Rattle.std.proofs.Common.{◌≡◌, ◌++◌, ◌∷◌, [], List, ℕ, sym, ◌∙◌, ap, subst, map, rules, arith}
+use Rattle.std.proofs.Common.{◌≡◌, ◌++◌, ◌∷◌, [], List, ℕ, sym, ◌∙◌, ap, subst, map}
 use Rattle.std.proofs.lemmas.List.{map-append}
 use Rattle.gw_spool.specs.File.{Record, AreShort, blocks}
 use Rattle.gw_spool.specs.own.Steps.{records_of}

@@ -1,5 +1,4 @@
-use Rattle.std.proofs.Common.{◌≡◌, [], List, ℕ, Bool, true, sym, ◌∙◌, rules}
-use Rattle.gw_spool.specs.own.Steps.{records_of}
+use Rattle.std.proofs.Common.{◌≡◌, [], true, sym, ◌∙◌, rules}
 use Rattle.gw_spool.proofs.Moments.{weaker}
 use Rattle.gw_spool.proofs.Sound.{rest_keeps, cleared_keeps, none_left}
 use Rattle.gw_spool.proofs.spool.Spool.renew.Goals as goal
@@ -13,10 +12,12 @@ pub returns-in-Ok-clause-any_moment : goal.returns-in-Ok-clause-any_moment
 returns-in-Ok-clause-any_moment g c = rw (← c.self.view_is) (λ whole.
     let s = c.self.invariant whole in
     let empty : c.is_empty.result ≡ true = search rules in
-    weaker _ _ _ _ _ _ (λ f has. cleared_keeps _ s.entries f s.keeps (none_left c.self.inside.kept (sym c.is_empty.ensures ∙ empty)) has) (c.clear.ensures.any_moment _ s.entries s.rests))
+    let none = none_left c.self.inside.kept (sym c.is_empty.ensures ∙ empty) in
+    weaker _ _ _ _ _ _ (λ f. cleared_keeps _ s.entries f s.keeps none) (c.clear.ensures.any_moment _ s.entries s.rests))
 
 pub returns-in-Err-clause-any_moment : goal.returns-in-Err-clause-any_moment
 returns-in-Err-clause-any_moment g c = rw (← c.self.view_is) (λ whole.
     let s = c.self.invariant whole in
     let empty : c.is_empty.result ≡ true = search rules in
-    weaker _ _ _ _ _ _ (λ f has. cleared_keeps _ s.entries f s.keeps (none_left c.self.inside.kept (sym c.is_empty.ensures ∙ empty)) has) (c.clear.ensures.any_moment _ s.entries s.rests))
+    let none = none_left c.self.inside.kept (sym c.is_empty.ensures ∙ empty) in
+    weaker _ _ _ _ _ _ (λ f. cleared_keeps _ s.entries f s.keeps none) (c.clear.ensures.any_moment _ s.entries s.rests))
