@@ -123,7 +123,8 @@ fn open_file<D: Device>(
 }
 
 impl<D: Device> Spool<D> {
-    ghost use Rattle.std.specs.Prelude.{◌≡◌, ◌≢◌, ◌↔◌, ◌⊎◌, ◌<◌, ◌^◌, [], false, true, ℕ, List, slice_get, length, drop, option_map, IfOk, IfErr, IsErrOf, OnOk, OnErr};
+    ghost use Rattle.std.specs.Prelude.{◌≡◌, ◌≢◌, ◌↔◌, ◌⊎◌, ◌<◌, ◌^◌, [], false, true, ℕ, List};
+    ghost use Rattle.std.specs.Prelude.{slice_get, length, drop, option_map, IfOk, IfErr, IsErrOf, OnOk, OnErr};
     ghost use Rattle.gw_spool.specs.Device.{LeavesOnly, Only};
     ghost use Rattle.gw_spool.specs.File.{Keeps, KeepsAs, KeepsEither, AllKeep, IsDamagedAt};
     ghost use Rattle.gw_spool.specs.State.{Breaks, Stands, SameRecords, all_of, with_appended, IsFull};

@@ -66,8 +66,8 @@ pub record IsRead (file : List ℕ) (waiting : List (List ℕ)) (end : ℕ) : Ty
   pub waits : after_all [] entries ≡ waiting
 
 -- what the fields of a spool are to each other while its device stands
-pub record IsSound {D : Type 0} (seen : D → List ℕ) (may_leave : D → List ℕ
-    → Type 0) (device : D) (end : ℕ) (kept appended : List (List ℕ)) (pending : List ℕ) : Type 0 where
+pub record IsSound {D : Type 0} (seen : D → List ℕ) (may_leave : D → List ℕ → Type 0)
+    (device : D) (end : ℕ) (kept appended : List (List ℕ)) (pending : List ℕ) : Type 0 where
   pub entries : List Entry
   pub rests : IsAtRest seen may_leave device end entries
   pub keeps : after_all [] entries ≡ kept
@@ -87,8 +87,8 @@ Refuses file fault.Full = ⊥
 Refuses file fault.TooLong = ⊥
 
 -- a device whose file was read and repaired: its entries end here, and these records wait
-pub record IsOpened {D : Type 0} (seen : D → List ℕ) (may_leave : D → List ℕ
-    → Type 0) (file : List ℕ) (device : D) (end : ℕ) (waiting : List (List ℕ)) : Type 0 where
+pub record IsOpened {D : Type 0} (seen : D → List ℕ) (may_leave : D → List ℕ → Type 0)
+    (file : List ℕ) (device : D) (end : ℕ) (waiting : List (List ℕ)) : Type 0 where
   pub entries : List Entry
   pub has : Has entries file
   pub rests : IsAtRest seen may_leave device end entries
