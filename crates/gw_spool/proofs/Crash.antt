@@ -1,6 +1,7 @@
 -- What a crash leaves in each step of a call.
-use Rattle.std.proofs.Common.{◌≡◌, inl, inr, refl, ℕ, ◌+◌, ◌-◌, List, [], ◌∷◌, ◌++◌, length, get_or, take, drop}
+use Rattle.std.proofs.Common.{◌≡◌, inl, inr, refl, ℕ, ◌+◌, ◌-◌, ◌≤◌, min, List, [], ◌∷◌, ◌++◌, length, get_or, take, drop}
 use Rattle.std.proofs.Common.{sym, ◌∙◌, ap, subst, arith, append_assoc, length-append, length-drop, take-append-drop}
+use Rattle.std.proofs.Math.Nat.{le-min}
 use Rattle.std.proofs.lemmas.Bool.{cases_eq}
 use Rattle.std.proofs.lemmas.List.{take_at, drop_at, drop_more, take_all, drop_all, append-nil}
 use Rattle.gw_spool.specs.Device.{IsWritten, Torn, Cut, Only}
@@ -113,12 +114,15 @@ module _ {D : Type 0} (seen : D → List ℕ) (may_leave : D → List ℕ → Ty
 -- ---- a repair
 
 module _ (file : List ℕ) (at : ℕ) (entries : List Entry) (up : UpTo file at entries) where
+  floor : length (blocks entries) ≤ min at (length file)
+  floor = le-min (omega (arith, up.here)) (omega (arith, ap length up.has.whole, length-append (blocks entries) up.has.end))
+
   -- any cut keeps the entries
   pub cut_keeps : (c : List ℕ) → Cut at file c → Has entries c
   cut_keeps c cut = record {
     end = take (length c - length (blocks entries)) up.has.end;
     whole = sym cut.front ∙ ap (λ (l : List ℕ). take (length c) l) up.has.whole
-        ∙ take_past (blocks entries) up.has.end (length c) (length c - length (blocks entries)) (omega (arith, cut.no_shorter, up.here));
+        ∙ take_past (blocks entries) up.has.end (length c) (length c - length (blocks entries)) (omega (arith, cut.no_shorter, floor));
     short = up.has.short;
     unsynced = front_unsynced (length c - length (blocks entries)) up.has.end up.has.unsynced;
   }

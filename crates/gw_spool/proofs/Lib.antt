@@ -5,3 +5,4 @@ mod Ways
 mod Past
 mod Entries
 mod Sound
+pub mod Mirrored

@@ -1,5 +1,5 @@
 -- What a disk is: what its calls do to a file, and what a crash may leave of it between two syncs.
-use Rattle.std.specs.Prelude.{◌<◌, ◌≡◌, ◌⊎◌, ℕ, ◌+◌, ◌≤◌, max, List, ◌++◌, length, take, drop, Result, IsErrOf}
+use Rattle.std.specs.Prelude.{◌<◌, ◌≡◌, ◌⊎◌, ℕ, ◌+◌, ◌≤◌, min, max, List, ◌++◌, length, take, drop, Result, IsErrOf}
 use Rattle.gw_spool.specs.declared.device.DeviceFault.{DeviceFault}
 use Rattle.gw_spool.specs.declared.device.DeviceFault.TheVariants.{Failed}
 
@@ -14,9 +14,9 @@ pub record Torn (at n : ℕ) (old new : List ℕ) : Type 0 where
   pub no_shorter : length old ≤ length new
   pub no_longer : length new ≤ max (length old) (at + n)
 
--- a cut to n bytes that a crash may stop: some length between
+-- a cut to n bytes that a crash may stop, or one that did not happen: some length between
 pub record Cut (n : ℕ) (old new : List ℕ) : Type 0 where
-  pub no_shorter : n ≤ length new
+  pub no_shorter : min n (length old) ≤ length new
   pub front : take (length new) old ≡ new
 
 -- each new outcome of a crash is an old outcome after a step

@@ -4,3 +4,4 @@ pub mod State
 pub mod Memory
 pub mod Numbers
 pub mod own
+pub mod Mirrors

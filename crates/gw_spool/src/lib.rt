@@ -9,12 +9,14 @@ mod fault;
 pub mod laws;
 mod log;
 mod memory;
+mod mirror;
 mod reading;
 mod spool;
 
 pub use device::{Device, DeviceFault};
 pub use fault::SpoolFault;
 pub use memory::Memory;
+pub use mirror::{Calls, Mirror};
 pub use spool::Spool;
 
 #[cfg(test)]
