@@ -6,4 +6,5 @@ pub mod Swapping
 pub mod Cutting
 pub mod Streams
 pub mod Carries
+pub mod Releases
 pub mod own

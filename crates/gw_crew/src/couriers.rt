@@ -7,7 +7,8 @@ ghost use Rattle.gw_mllp.specs.Stream.{block};
 ghost use Rattle.gw_stream.specs.declared.fault.RunFault.TheVariants.{Memory};
 ghost use Rattle.gw_crew.specs.Carries.{Breaks, Carries, Sent, Unsent, Unwritten, with_sent};
 ghost use Rattle.gw_crew.specs.Streams.{spot};
-ghost use Rattle.gw_crew.specs.own.Turns.{Adds, Comes, GaveOut, Waits, release_reply, release_reply_seen, out_seen};
+ghost use Rattle.gw_crew.specs.own.Turns.{Adds, Comes, Waits, out_seen};
+ghost use Rattle.gw_crew.specs.Releases.{GaveOut, release_reply, release_reply_seen};
 ghost use Rattle.std.specs.Option.{option_map};
 
 use crate::blocks::answered;
@@ -21,9 +22,9 @@ use gw_stream::{Counts, RunFault, Sink, Source, block_of, send_all};
 use std::alloc::Global;
 use std::sync::Arc;
 
-// A reply to Release.
+/// What a gate replies to Release: the number and translation that it gives out, nothing, or that the journal is full.
 #[derive(Drop)]
-enum ReleaseReply {
+pub enum ReleaseReply {
     Out(u64, Arc<Translated>),
     Nothing,
     Full,
@@ -40,8 +41,8 @@ fn release_reply(reply: Reply) -> ReleaseReply
     }
 }
 
-// Asks for what is next for a receiver.
-fn release<D: Door>(door: &mut D, receiver: usize) -> Result<ReleaseReply, RunFault>
+/// Asks for what is next for a receiver. The one fault is `Memory`.
+pub fn release<D: Door>(door: &mut D, receiver: usize) -> Result<ReleaseReply, RunFault>
     ensures gave { IfOk result (λ g. GaveOut receiver (release_reply_seen g) (D.noted door.old) (D.noted door.new)) }
     ensures err { OnErr result (D.noted door.new ≡ D.noted door.old) }
     ensures memory { IfErr result (λ e. e ≡ Memory) }
@@ -68,8 +69,8 @@ fn send<W: Sink>(alloc: Global, message: &Message, writer: &mut W, n: u64) -> Re
     }
 }
 
-// Writes the block of the message of this number, and reads its acknowledgment.
-fn carry<R: Source, W: Sink>(
+/// Writes the block of the message of this number, and reads its acknowledgment. The faults are those of a courier.
+pub fn carry<R: Source, W: Sink>(
     alloc: Global,
     decoder: &mut Decoder,
     reader: &mut R,

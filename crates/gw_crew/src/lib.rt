@@ -15,7 +15,7 @@ mod swaps;
 mod workers;
 
 pub use clock::Clock;
-pub use couriers::courier;
+pub use couriers::{ReleaseReply, carry, courier, release};
 pub use cuts::cut;
 pub use door::{Door, Phase};
 pub use note::{Note, Receipt};

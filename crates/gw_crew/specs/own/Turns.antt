@@ -3,12 +3,11 @@ use Rattle.std.specs.Prelude.{◌≡◌, ℕ, Bool, true, false, List, [], ◌�
 use Rattle.std.specs.Arc.{arc_value}
 use Rattle.gw_gate.specs.Journal.{WasTaken, WasKept, WasOut}
 use Rattle.gw_gate.specs.Parts.{ConformingSeen, TranslatedSeen, delivers}
-use Rattle.gw_gate.specs.Replies.{ReplySeen, IsJob, IsIdle, IsKept, IsOut, IsNothing, IsFull}
+use Rattle.gw_gate.specs.Replies.{ReplySeen, IsJob, IsIdle, IsKept, IsFull}
 use Rattle.gw_gate.specs.Seen.{Translated, conforming_seen, translated_seen}
 use Rattle.gw_crew.specs.declared.workers.TakeReply as worker
 use Rattle.gw_crew.specs.declared.workers.PutReply.{PutReply}
 use Rattle.gw_crew.specs.declared.workers.PutReply.TheVariants as reply
-use Rattle.gw_crew.specs.declared.couriers.ReleaseReply as courier
 use Rattle.gw_crew.specs.Notes.{NoteSeen, WasFull, WasIdle, WasNothing, Added}
 use Rattle.gw_crew.specs.Works.{Ends}
 use Rattle.gw_crew.specs.Carries as carries
@@ -89,31 +88,6 @@ pub record Adds (Holds : List NoteSeen → Type 0) (old new : List NoteSeen) : T
   pub noted : new ≡ old ++ more
 
 -- ---- what a courier is given
-
-pub data ReleaseReplySeen : Type 0 where
-  IsGiven : (n : ℕ) → (translated : TranslatedSeen) → ReleaseReplySeen
-  NoneKept : ReleaseReplySeen
-  NoSpace : ReleaseReplySeen
-
-abbrev pub release_reply_seen : courier.ReleaseReply → ReleaseReplySeen
-release_reply_seen (courier.TheVariants.Out n t) = IsGiven n (translated_seen (arc_value t))
-release_reply_seen courier.TheVariants.Nothing = NoneKept
-release_reply_seen courier.TheVariants.Full = NoSpace
-
-abbrev pub release_reply : ReplySeen → ReleaseReplySeen
-release_reply (IsOut n t) = IsGiven n t
-release_reply IsNothing = NoneKept
-release_reply given = NoSpace
-
--- what is noted of it
-abbrev pub release_notes : ℕ → ℕ → ReleaseReplySeen → List NoteSeen
-release_notes at r (IsGiven n t) = Added at (WasOut n r t) ∷ []
-release_notes at r NoneKept = WasNothing r ∷ []
-release_notes at r NoSpace = WasFull ∷ []
-
-pub record GaveOut (r : ℕ) (given : ReleaseReplySeen) (old new : List NoteSeen) : Type 0 where
-  pub at : ℕ
-  pub noted : new ≡ old ++ release_notes at r given
 
 -- that many times nothing was given out
 pub data Waits (r : ℕ) : List NoteSeen → Type 0 where
