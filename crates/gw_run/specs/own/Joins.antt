@@ -1,5 +1,5 @@
 -- What is gathered of a chapter and of notes, which says whether they are settled.
-use Rattle.std.specs.Prelude.{◌≡◌, ℕ, ◌+◌, ◌-◌, ◌<◌, ◌≤◌, min, nat_le, nat_lt, if◌then◌else◌, Bool, true, false, not, IsTrue, ◌&&◌, List, [], ◌∷◌, ◌++◌, length}
+use Rattle.std.specs.Prelude.{◌≡◌, ℕ, ◌+◌, ◌-◌, ◌<◌, min, nat_le, nat_lt, if◌then◌else◌, Bool, true, false, not, IsTrue, ◌&&◌, List, ◌∷◌, ◌++◌, length}
 use Rattle.std.specs.Prelude.{get_or, slice_get, map, take, Option, None, Some}
 use Rattle.std.specs.List.Sorted.{IsStrictlyIncreasing}
 use Rattle.std.specs.Arc.{arc_value}
