@@ -17,7 +17,7 @@ PLAN = (TOP / "examples/hospital.plan").read_text()
 BLOCK = re.compile(rb"\x0b.*?\x1c\r", re.S)
 MESSAGES, ANSWERS = (BLOCK.findall(it.read_bytes()) for it in (DAY, DAY.with_suffix(".stdout")))
 LEFT = {name: BLOCK.findall((DAY.with_suffix(".left") / f"{name}.mllp").read_bytes()) for name in ("WARDS", "ARCHIVE")}
-# Words of the messages that no line tells: of patients, their kin and their results.
+# Words of the messages that no line may show: of patients, their kin and their results.
 SECRETS = {it for line in re.findall(rb"(?:PID|NK1|OBX|NTE)\|[^\r]*", DAY.read_bytes()) for it in re.findall(r"[A-Za-z0-9]{5,}", line.decode())}
 SECONDS = 20
 
@@ -136,7 +136,7 @@ class Receiver:
         return b"\x0bMSH|^~\\&|||||||ACK|R%d|P|2.5.1\rMSA|%s|%s\r\x1c\r" % (at, self.codes[(at - 1) % len(self.codes)], control)
 
     def wait(self, count):
-        """Waits until so many blocks came."""
+        """Waits until this many blocks came."""
         with self.news:
             self.news.wait_for(lambda: len(self.blocks) >= count, max(0, self.until - time.monotonic()))
 
@@ -193,7 +193,7 @@ class Trial:
                 self.news.notify_all()
 
     def wait(self, name, pattern):
-        """The first line of this form, when it is told."""
+        """The first line of this form, once it is printed."""
         told = self.told[name]
         first = lambda: next(filter(None, (re.fullmatch(pattern, it) for it in told)), None)
         with self.news:
@@ -221,7 +221,7 @@ class Trial:
         same_blocks("answers", [stated_once(it, numbered) for it in stated], [told_once(self.since, it or b"", numbered) for it in got])
 
     def end(self, status, out, err, sent=LEFT):
-        """Waits for the end, and compares what was sent and what was told: of each who is spoken of the lines in their order, and a fault last of all."""
+        """Waits for the end, and compares what was sent and what was printed: the lines of each session and receiver in their order, and a fault last of all."""
         try:
             self.process.wait(max(0.01, self.until - time.monotonic()))
         except subprocess.TimeoutExpired:

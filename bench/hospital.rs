@@ -1,7 +1,7 @@
 //! `hospital PROGRAM EXAMPLES FOLDER ROUNDS`: runs the plan of a hospital over its laboratory's reports, each of which goes to two receivers, and validates the same stream
 //! by the laboratory's profile; and prints what both took.
 //!
-//! Times are processor seconds (user and system) of the best of so many rounds.
+//! Times are processor seconds (user and system) of the best of ROUNDS rounds.
 mod taken;
 
 use std::io::{self, Write};

@@ -83,7 +83,7 @@ pub fn next_block(reader: &mut impl BufRead, block: &mut Vec<u8>) -> Outcome<boo
     Ok(block.last() == Some(&FS))
 }
 
-/// A client: writes a message each period from `begin` on, and lets so many wait for their answers at most. Gives the milliseconds that each answer took.
+/// A client: writes a message each period from `begin` on, while fewer than a limit wait for their answers. Returns the milliseconds of each answer.
 ///
 /// A message that is held up by those before it has waited since it was due. That the client itself is woken late isn't counted.
 pub fn play(
@@ -114,7 +114,7 @@ pub fn play(
     Ok(taken)
 }
 
-/// A receiver: takes one connection, and acknowledges so many messages at once. Gives the time of the last, and the connection, which stands.
+/// A receiver: takes one connection, and acknowledges this many messages at once. Returns the time of the last, and the connection, still open.
 pub fn receive(listener: &TcpListener, due: usize) -> Outcome<(Instant, TcpStream)> {
     let (mut line, _) = listener.accept()?;
     line.set_nodelay(true)?;

@@ -15,7 +15,7 @@ const LINES: usize = 10_000;
 /// The most values and lines that one table of a profile is given here.
 const VALUES: usize = 100_000;
 
-/// A map with its profiles, and a content that it translates if there is one.
+/// A map with its profiles, and message bytes that it translates, if there are some.
 struct Case {
     source: String,
     target: String,
@@ -76,7 +76,7 @@ fn same(profile: String) -> Case {
     case(profile.clone(), profile, map)
 }
 
-/// So many optional segments behind MSH, each with so many fields.
+/// This many optional segments after MSH, each with this many fields.
 fn wide(segments: usize, fields: usize) -> String {
     let mut profile = String::from("profile WIDE\nsegment MSH R 1..1\n");
     for n in 0..segments {
@@ -88,7 +88,7 @@ fn wide(segments: usize, fields: usize) -> String {
     profile
 }
 
-/// So many optional groups behind MSH, each with one segment.
+/// This many optional groups after MSH, each with one segment.
 fn groups(count: usize) -> String {
     let mut profile = String::from("profile WIDE\nsegment MSH R 1..1\n");
     for n in 0..count {
@@ -99,7 +99,7 @@ fn groups(count: usize) -> String {
     profile
 }
 
-/// So many items that all walk the last of so many segments.
+/// This many items that all walk the last of this many segments.
 fn last_of(segments: usize) -> Case {
     let last = segment(segments - 1);
     let mut map = String::from("map LAST from WIDE to MANY\nsegment MSH from MSH\n");
@@ -139,7 +139,7 @@ fn length(n: usize, own: bool) -> String {
     }
 }
 
-/// A profile whose ZAA-1 has so many required subcomponents, each with a length of its own if that is said.
+/// A profile whose ZAA-1 has this many required subcomponents, each with a length of its own on request.
 fn subcomponents(name: &str, count: usize, table: &str, own: bool) -> String {
     let mut profile = format!(
         "profile {name}\n{table}segment MSH R 1..1\nsegment ZAA R 1..1\n  field 1 R 1..1\n"
@@ -156,7 +156,7 @@ fn subcomponents(name: &str, count: usize, table: &str, own: bool) -> String {
     profile
 }
 
-/// A table of so many values, the last first where it is turned.
+/// A table of this many values, in reverse order on request.
 fn table(count: usize, turned: bool) -> String {
     let mut line = String::from("table CODES");
     for n in 0..count {
@@ -167,7 +167,7 @@ fn table(count: usize, turned: bool) -> String {
     line
 }
 
-/// So many leaves for as many required subcomponents, each with a value of a table of so many, if of any: read and asked at a length of its own, if that is said.
+/// This many leaves for as many required subcomponents, each with a value of a table of this many, if of any. Each has a length of its own on request.
 fn leaves(count: usize, values: usize, turned: bool, own: bool) -> Case {
     let tables = |turned| match values {
         0 => String::new(),

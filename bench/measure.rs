@@ -1,7 +1,7 @@
-//! `measure PROGRAM BASELINE PROFILES TRAFFIC ROUNDS`: runs the program and the baseline, with owned texts and with lent ones, over each stream, compares their answers, and prints what they took.
+//! `measure PROGRAM BASELINE PROFILES TRAFFIC ROUNDS`: runs the program and the baseline, with owned texts and with borrowed ones, over each stream, compares their answers, and prints what they took.
 //!
 //! It reads no file whole: a child's peak counts what its parent had when it began.
-//! Times are processor seconds (user and system) of the best of so many rounds, which other work on the machine disturbs less than the clock's.
+//! Times are processor seconds (user and system) of the best of ROUNDS rounds, which other work on the machine disturbs less than the clock's.
 mod taken;
 
 use std::fs::File;

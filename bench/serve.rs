@@ -2,7 +2,7 @@
 //! that acknowledge at once, and runs the same plan over the same streams; and prints what both took. Clients await the answers that `run` gave.
 //! A relay is measured beside it, which does the network's part alone (relay.rs): this program itself, by other words.
 //!
-//! Speeds are by the clock, since a service has many threads; each figure is the least that so many rounds took.
+//! Speeds are by the clock, since a service has many threads; each figure is the least of ROUNDS rounds.
 mod loopback;
 mod relay;
 mod taken;
@@ -27,10 +27,10 @@ const RECEIVERS: [&str; 2] = ["wards", "archive"];
 /// Sessions and workers of a service.
 const CREWS: [[usize; 2]; 4] = [[1, 1], [1, 4], [8, 1], [8, 4]];
 
-/// So many messages of a client that doesn't stop for each answer wait for theirs at most.
+/// At most this many messages of a pipelining client wait for their answers.
 const WINDOW: usize = 64;
 
-/// So many messages are sent at half load.
+/// This many messages are sent at half load.
 const PACED: usize = 5_000;
 
 /// The program with its first words, its files, and how often it is measured.

@@ -73,7 +73,7 @@ pub fn end(child: &Child, begun: Instant) -> io::Result<Taken> {
     })
 }
 
-/// The least that so many runs took.
+/// The least time of this many runs.
 pub fn best(rounds: usize, mut once: impl FnMut() -> io::Result<Taken>) -> io::Result<Taken> {
     let mut best = once()?;
     for _ in 1..rounds {

@@ -271,7 +271,7 @@ fn order(dice: &mut Dice, i: u64) -> String {
     )
 }
 
-/// A laboratory report (ORU^R01) of so many orders, each of so many results.
+/// A laboratory report (ORU^R01) of this many orders, each of this many results.
 fn report(dice: &mut Dice, number: u64, orders: u64, results: u64) -> String {
     let slip = slip(dice);
     let mut text = header(dice, "LAB", "ORU^R01^ORU_R01", number);

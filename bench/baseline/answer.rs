@@ -74,7 +74,7 @@ fn location(breach: &Breach) -> String {
     location
 }
 
-/// The answer of this number to a content, and whether it is AA.
+/// The answer of this number to message bytes, and whether it is AA.
 pub fn answer<'a, M: Message<'a>>(
     profile: &Profile,
     stamp: &str,

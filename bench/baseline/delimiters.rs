@@ -10,7 +10,7 @@ pub struct Delimiters {
     pub subcomponent: u8,
 }
 
-/// Whether the byte may stand in a content.
+/// Whether a message may have the byte.
 pub fn is_allowed(byte: &u8) -> bool {
     *byte >= 0x20 || matches!(byte, b'\t' | b'\r' | b'\n')
 }
@@ -65,7 +65,7 @@ fn push_plainly(text: &mut Vec<u8>, byte: u8) {
     }
 }
 
-/// The canonical text of a raw value, lent where it is the raw value.
+/// The canonical text of a raw value, borrowed where it is the raw value.
 pub fn canonical<'a>(delimiters: &Delimiters, raw: &'a [u8]) -> Cow<'a, [u8]> {
     let is_plain = |byte: &u8| *byte != delimiters.escape && !is_special(*byte);
     if raw.iter().all(is_plain) {

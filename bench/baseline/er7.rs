@@ -1,4 +1,4 @@
-//! ER7 with owned texts: a content as a message of nested vectors, each text a vector of its own (HL7 v2.5.1 chapter 2, 2.5 to 2.7).
+//! ER7 with owned texts: message bytes as a message of nested vectors, each text a vector of its own (HL7 v2.5.1 chapter 2, 2.5 to 2.7).
 use crate::delimiters::{canonical, delimiters_of, is_allowed, is_named, Delimiters};
 use crate::message::{Message, Unreadable};
 use crate::profile::{Comp, Field as FieldShape, Profile, Usage};

@@ -1,4 +1,4 @@
-//! ER7 with lent texts: one vector of the values that are present, each with its place, whose texts are slices of the content wherever they can be.
+//! ER7 with borrowed texts: one vector of the values that are present, each with its place, whose texts are slices of the content wherever they can be.
 //! Validation walks the shapes and the values side by side.
 use crate::delimiters::{canonical, delimiters_of, is_allowed, is_named, Delimiters};
 use crate::message::{Message, Unreadable};

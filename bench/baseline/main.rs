@@ -1,6 +1,6 @@
 //! `baseline PROFILE STAMP [lending]`: answers each message of a stream on standard input by a profile, as `hl7gate validate` does, in plain Rust.
 //!
-//! As a programmer writes it who doesn't think of speed (`er7`), or with texts that are lent by the content (`lending`).
+//! As a programmer writes it who doesn't think of speed (`er7`), or with texts borrowed from the message bytes (`lending`).
 mod answer;
 mod delimiters;
 mod er7;

@@ -7,7 +7,7 @@ use crate::validate::Found;
 pub struct Unreadable;
 
 pub trait Message<'a>: Sized {
-    /// The message of a content.
+    /// The message of these bytes.
     fn read(content: &'a [u8]) -> Result<Self, Unreadable>;
 
     fn segment_count(&self) -> usize;

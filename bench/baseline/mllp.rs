@@ -71,7 +71,7 @@ fn end_of_block(content: &[u8], bytes: &[u8]) -> Option<usize> {
     None
 }
 
-/// A content as a block.
+/// Message bytes as a block.
 pub fn block(content: &[u8]) -> Vec<u8> {
     let mut block = Vec::with_capacity(content.len() + 3);
     block.push(VT);
