@@ -1,4 +1,4 @@
-//! A stamp's digits, pair by pair.
+//! The digits of a time stamp, pair by pair.
 ghost use Rattle.std.specs.Prelude.{◌≡◌, ◌<◌, slice_index};
 ghost use Rattle.gw_ack.specs.Stamps.{IsDigit, IsStamp};
 ghost use Rattle.gw_civil.specs.Civil.{two, stamped};
@@ -6,9 +6,9 @@ ghost use Rattle.gw_civil.specs.Civil.{two, stamped};
 use gw_ack::Stamp;
 use jiff::civil::DateTime;
 
-/// What is made of a civil date and time.
+/// Conversion from a civil date and time.
 pub trait FromCivil: Sized {
-    /// The value of a civil date and time, where its year isn't negative.
+    /// The value of a civil date and time, if its year isn't negative.
     fn from_civil(at: &DateTime) -> Option<Self>;
 }
 
@@ -50,7 +50,7 @@ impl FromCivil for Stamp {
     ghost use Rattle.std.specs.Prelude.{◌≡◌, ◌↔◌, ℕ, pos, IsSome, IfSome};
     ghost use Rattle.gw_civil.specs.Civil.{stamped};
 
-    /// The stamp of these digits. jiff's years end with 9999. It takes no memory.
+    /// The stamp of a date and time, if its year isn't negative. jiff's years end with 9999. It takes no memory.
     fn from_civil(at: &DateTime) -> Option<Stamp>
         ensures some { IsSome result ↔ ((year : ℕ) × (at.now.date.year ≡ pos year)) }
         ensures digits { IfSome result (λ stamp. (year : ℕ) → at.now.date.year ≡ pos year

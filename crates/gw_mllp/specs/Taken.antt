@@ -7,7 +7,7 @@ use Rattle.gw_mllp.specs.declared.tail.Tail.TheVariants as variants
 use Rattle.gw_mllp.specs.declared.reach.Reach.{Reach}
 use Rattle.gw_mllp.specs.declared.reach.Reach.TheVariants as reach
 
--- a tail without where it lies in memory
+-- a tail, wherever it is in memory
 abbrev pub tail_view : rust.Tail → Tail
 tail_view variants.Between = Between
 tail_view (variants.Within content) = Within content.items
@@ -70,7 +70,7 @@ Taken stream blocks Between = Blocks stream blocks None
 Taken stream blocks (Within t) = Blocks stream blocks (Some t) × (content_len t ≤ 1048576)
 Taken stream blocks Overlong = LongAfter stream blocks
 
--- The run takes any stream that stands at the old place to the new one, and adds these blocks.
+-- The run takes any stream from the old place to the new one, and adds these blocks.
 abbrev pub Goes : List (List ℕ) → Tail → List ℕ → List (List ℕ) → Tail → Type 0
 Goes made tail run made' tail' = (stream : List ℕ) (given : List (List ℕ)) → Taken stream (given ++ made) tail → Taken (stream ++ run) (given ++ made') tail'
 
@@ -88,6 +88,6 @@ pub record Adds (waiting : List (List ℕ)) (tail : Tail) (run : List ℕ) (wait
   pub waits : waiting' ≡ waiting ++ made
   pub goes : Goes [] tail run made tail'
 
--- the same of blocks and a tail as they lie in memory
+-- the same of blocks and a tail as they are in memory
 abbrev pub TakesOn : {Z : Type 0} → List (Vec ℕ Z) → Tail → List ℕ → List (Vec ℕ Z) → rust.Tail → Type 0
 TakesOn waiting tail run waiting' tail' = Adds (contents waiting) tail run (contents waiting') (tail_view tail')

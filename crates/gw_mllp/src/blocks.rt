@@ -36,7 +36,7 @@ fn behind_start(bytes: &[u8]) -> Option<&[u8]>
     Some(inner)
 }
 
-/// Ends the content with a run up to the CR behind it, and leaves out the FS and the CR.
+/// Appends a run that ends with FS CR to the content, without these two bytes. The FS may be the last byte of the content.
 pub(crate) fn end_content(content: &mut Vec<u8>, run: &[u8]) -> Result<(), AllocError>
     requires { EndsAt content.old.items run.now }
     ensures ok { OnOk result (content.new.items ++ 28 ∷ 13 ∷ [] ≡ content.old.items ++ run.now) }
@@ -50,7 +50,7 @@ pub(crate) fn end_content(content: &mut Vec<u8>, run: &[u8]) -> Result<(), Alloc
     Ok(())
 }
 
-/// Takes the bytes up to the end of the next block, and says where the stream has come to and what is left of them.
+/// Reads the bytes up to the end of the next block. Returns where the stream is then, and the bytes that are left.
 fn take_block<'a>(
     alloc: Global,
     made: &mut VecDeque<Vec<u8>>,
@@ -74,7 +74,7 @@ fn take_block<'a>(
     }
 }
 
-/// Takes a piece that follows a block or a gap: makes the blocks that end in it, and says where the stream has come to.
+/// Reads a piece that follows a block or a gap: makes the blocks that end in it, and returns where the stream is then.
 pub(crate) fn take_blocks(
     alloc: Global,
     made: &mut VecDeque<Vec<u8>>,

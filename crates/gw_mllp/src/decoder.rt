@@ -12,14 +12,14 @@ use std::collections::VecDeque;
 use std::marker::Model;
 use std::mem;
 
-/// Takes a stream in pieces, and gives its blocks.
+/// Reads a stream in pieces of any size, and returns its blocks.
 pub struct Decoder {
     alloc: Global,
     waiting: VecDeque<Vec<u8>>,
     tail: Tail,
 }
 
-// (by hand, so that no crate above proves again how its fields are dropped)
+// Written out, so that no crate above proves again how its fields are dropped.
 impl Drop for Decoder {
     fn drop(self) {
         let Decoder {
@@ -39,7 +39,7 @@ impl Model for Decoder {
     ghost view = { λ d. record { waiting = contents d.waiting.items; tail = tail_view d.tail } };
 }
 
-/// Takes a piece that follows a block or a gap, and adds the blocks that end in it.
+/// Reads a piece that follows a block or a gap, and adds the blocks that end in it.
 fn add_blocks(
     alloc: Global,
     waiting: &mut VecDeque<Vec<u8>>,
@@ -55,7 +55,7 @@ fn add_blocks(
     Ok(tail)
 }
 
-/// Ends the open block with the run, and takes what follows it.
+/// Ends the open block with the run, and reads the bytes that follow it.
 fn end_block(
     alloc: Global,
     waiting: &mut VecDeque<Vec<u8>>,
@@ -96,9 +96,10 @@ impl Decoder {
         }
     }
 
-    /// Takes the next piece of the stream. On `Memory` nothing has changed, and the piece may be fed again. After `TooLong` each call answers so; the blocks that had ended before are still given.
+    /// Reads the next piece of the stream. On `Memory` nothing has changed, and the piece may be fed again. After `TooLong` each further call
+    /// fails with it; the blocks that ended before are still returned.
     pub fn feed(&mut self, piece: &[u8]) -> Result<(), FrameFault>
-        // However the stream was cut, the decoder then stands at the stream with this piece at its end.
+        // However the stream was cut, the decoder is then at the end of the stream with this piece.
         ensures fed { result ≢ Err FrameFault.Memory → IsFed piece.now self.old self.new }
         ensures ok { OnOk result (self.new.tail ≢ Overlong) }
         ensures too_long { IsErrOf result FrameFault.TooLong → self.new.tail ≡ Overlong }
@@ -113,7 +114,7 @@ impl Decoder {
         }
     }
 
-    /// Takes the next piece of the stream, however long the open block gets.
+    /// Reads the next piece of the stream, however long the open block gets.
     fn take(&mut self, piece: &[u8]) -> Result<(), FrameFault>
         ensures ok { OnOk result (Adds self.old.waiting self.old.tail piece.now self.new.waiting self.new.tail) }
         ensures err { OnErr result (self.new ≡ self.old) }
@@ -138,7 +139,7 @@ impl Decoder {
         }
     }
 
-    /// Takes the next piece of the stream behind an open block.
+    /// Reads the next piece of the stream within an open block.
     fn take_within(&mut self, piece: &[u8]) -> Result<(), FrameFault>
         requires { (t : List ℕ) × (self.old.tail ≡ Within t) }
         ensures ok { OnOk result (Adds self.old.waiting self.old.tail piece.now self.new.waiting self.new.tail) }
@@ -165,7 +166,7 @@ impl Decoder {
         }
     }
 
-    /// Gives the next block that has ended. It takes no memory.
+    /// Returns the next block that has ended. It takes no memory.
     pub fn next_block(&mut self) -> Option<Vec<u8>>
         ensures given { IfSome result (λ block. HasGiven block.items self.old self.new) }
         ensures some { IfSome result (λ block. self.old ≡ record self.new { waiting = block.items ∷ self.new.waiting }) }

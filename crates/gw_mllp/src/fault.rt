@@ -1,17 +1,17 @@
-//! Why a stream cannot be read on.
+//! Why a stream can't be read on.
 ghost use Rattle.std.specs.Prelude.{◌≡◌};
 ghost use Rattle.gw_mllp.specs.declared.fault.FrameFault.TheVariants.{Memory};
 
 use std::alloc::{AllocError, AllocFailed};
 use thiserror::Error;
 
-/// Why a stream cannot be read on.
+/// Why a stream can't be read on.
 #[derive(Clone, Copy, Debug, PartialEq, Eq, Error)]
 pub enum FrameFault {
-    /// A growth was refused. The piece was not taken, and may be fed again.
+    /// An allocation failed. The piece was not read, and may be fed again.
     #[error("out of memory")]
     Memory,
-    /// The open block holds more than 1,048,576 content bytes. The stream stays refused.
+    /// The open block has more than 1,048,576 content bytes. Nothing more of the stream is read.
     #[error("a block is longer than 1,048,576 bytes")]
     TooLong,
     /// The stream ends within a block.

@@ -1,4 +1,4 @@
-//! What holds of the definitions.
+//! Laws on the definitions.
 ghost use Rattle.std.specs.Prelude.{◌≡◌, ◌↔◌, List, ℕ, Option};
 ghost use Rattle.gw_mllp.specs.Stream.{Blocks, Held, IsLong, Overlong, Stands};
 
@@ -8,12 +8,12 @@ pub fn one_cut()
         Blocks stream blocks left → Blocks stream others right → (blocks ≡ others) × (left ≡ right) }
 {}
 
-/// What a decoder holds is a function of the stream that it was fed and of the blocks that it has given, however the stream was cut.
+/// However the stream was cut, it and the blocks that were returned determine what a decoder holds.
 pub fn one_decoder()
     ensures { (stream : List ℕ) (given : List (List ℕ)) (a b : Held) → Stands stream given a → Stands stream given b → a ≡ b }
 {}
 
-/// A decoder has come to a block that is longer than allowed exactly where the stream is Long.
+/// A decoder is in a block that is too long exactly where the stream has such a block.
 pub fn long_exactly()
     ensures { (stream : List ℕ) (given : List (List ℕ)) (held : Held) → Stands stream given held → (held.tail ≡ Overlong) ↔ IsLong stream }
 {}

@@ -9,7 +9,7 @@ use memchr::{memchr, memmem};
 
 /// How far an open block reaches into the bytes that come next.
 pub(crate) enum Reach<'a> {
-    /// It is still open behind all of them.
+    /// It is still open after all of them.
     Open,
     /// It is longer than allowed.
     TooLong,
@@ -17,7 +17,7 @@ pub(crate) enum Reach<'a> {
     Ends(&'a [u8], &'a [u8]),
 }
 
-/// The index of the first FS CR. Most short pieces have no CR, which is seen at once.
+/// The index of the first FS CR. Most short pieces have no CR, so that is tested first.
 pub(crate) fn find_end(bytes: &[u8]) -> Option<usize>
     ensures { FindsNeedle bytes.now (28 ∷ 13 ∷ []) 0 result }
 {
@@ -25,7 +25,7 @@ pub(crate) fn find_end(bytes: &[u8]) -> Option<usize>
     memmem::find(bytes, &[FS, CR])
 }
 
-/// Whether FS is the content's last byte, and CR the first byte of these.
+/// Whether the content ends in FS, and these bytes begin with CR.
 fn is_ended_by(content: &[u8], bytes: &[u8]) -> bool
     ensures { IsTrue result ↔ Straddles content.now bytes.now }
 {
@@ -35,7 +35,7 @@ fn is_ended_by(content: &[u8], bytes: &[u8]) -> bool
     }
 }
 
-/// How many of the bytes the block takes that begins with this content, where it ends within them.
+/// The number of these bytes that belong to the block, with its FS CR, if it ends within them. `content` is what it has so far.
 fn end_of(content: &[u8], bytes: &[u8]) -> Option<usize>
     ensures within { IfSome result (λ n. n ≤ length bytes.now) }
     ensures ends { IfSome result (λ n. EndsAt content.now (take n bytes.now)) }
@@ -50,7 +50,7 @@ fn end_of(content: &[u8], bytes: &[u8]) -> Option<usize>
     }
 }
 
-/// How many bytes the content and these bytes have, without one last FS.
+/// The length of the content and these bytes together, without one last FS.
 fn content_len(content: &[u8], bytes: &[u8]) -> usize
     ensures { result ≡ content_len (content.now ++ bytes.now) }
 {
@@ -59,7 +59,7 @@ fn content_len(content: &[u8], bytes: &[u8]) -> usize
     if ends_in_fs(last) { len - 1 } else { len }
 }
 
-/// The byte that is the whole piece, as a slow line gives it, where it neither ends the block nor makes it too long.
+/// The byte of a piece of one byte, if it neither ends the block nor makes it too long. A slow line brings such pieces.
 pub(crate) fn lone_byte(content: &[u8], piece: &[u8]) -> Option<u8>
     ensures { IfSome result (λ byte. IsLone content.now piece.now byte) }
 {
@@ -69,7 +69,7 @@ pub(crate) fn lone_byte(content: &[u8], piece: &[u8]) -> Option<u8>
     }
 }
 
-/// How far the block that begins with this content reaches into the bytes.
+/// How far the block that has this content so far reaches into the bytes.
 pub(crate) fn reach_into<'a>(content: &[u8], bytes: &'a [u8]) -> Reach<'a>
     ensures { Reaches content.now bytes.now result }
 {

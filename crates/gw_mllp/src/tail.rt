@@ -1,6 +1,6 @@
-//! Where a stream has come to.
+//! Where the end of a stream is.
 
-/// Where a stream has come to.
+/// Where the end of the stream so far is.
 #[derive(Drop)]
 pub(crate) enum Tail {
     /// Between two blocks.

@@ -6,14 +6,14 @@ use crate::bytes::{CR, FS, VT};
 use crate::reach::find_end;
 use std::alloc::AllocError;
 
-/// Whether a block may have this content: it has no FS CR. It takes no memory.
+/// Whether a block may have this content: whether it has no FS CR. It takes no memory.
 pub fn is_content(bytes: &[u8]) -> bool
     ensures { IsTrue result ↔ HasNoEnd bytes.now }
 {
     find_end(bytes).is_none()
 }
 
-/// Appends a message without FS CR as one block. On allocation failure nothing was written.
+/// Appends message bytes without FS CR as one block. If an allocation fails, nothing is written.
 pub fn write_block(out: &mut Vec<u8>, content: &[u8]) -> Result<(), AllocError>
     requires { HasNoEnd content.now }
     ensures ok { OnOk result (out.new.items ≡ out.old.items ++ block content.now) }

@@ -6,7 +6,7 @@ use Rattle.gw_reorder.specs.declared.desk.Status.TheVariants.{Waiting, Repeat, S
 use Rattle.gw_reorder.specs.declared.desk.Held as held
 use Rattle.gw_reorder.specs.declared.desk.Held.{Held}
 
--- where the number stands among those due
+-- the place of the number among those due
 abbrev pub place_of : {T : Type 0} → DeskState T → ℕ → Option ℕ
 place_of s n = position (λ m. m == n) s.due
 
@@ -61,7 +61,7 @@ kept_pair (Some n) (Some (Some x)) = Some (n, x)
 abbrev pub next_of : {T : Type 0} → DeskState T → Option (ℕ × T)
 next_of s = kept_pair (slice_get s.due s.released) (slice_get s.kept 0)
 
--- what giving out leaves: one more number was released, and its value is gone
+-- what `release` leaves: one more number was released, and its value is gone
 abbrev pub after_giving : {T : Type 0} → DeskState T → Option (ℕ × T) → DeskState T
 after_giving s None = s
 after_giving s (Some given) = record s { released = s.released + 1; kept = drop 1 s.kept }

@@ -1,10 +1,10 @@
--- Lists of calls on a desk, and what is given out by them.
+-- Lists of calls on a desk, and what they release.
 use Rattle.std.specs.Prelude.{ℕ, List, Option, None, Some, [], ◌∷◌, ◌++◌, ◌≡◌, ◌==◌, ◌&&◌, if◌then◌else◌, is_some, option_map, position, slice_get, length, take, map, All}
 use Rattle.std.specs.Option.{option_to_list}
 use Rattle.gw_reorder.specs.State.{DeskState, nothing_due, with_due}
 use Rattle.gw_reorder.specs.Calls.{after_holding, next_of, after_giving}
 
--- A call that changes a desk: a number is due; a value is brought for a number; what is next is given out; the room changes; nothing is due from here on
+-- A call that changes a desk: a number is due; a value is brought for a number; what is next is released; the room changes; the desk is emptied
 pub data Call (T : Type 0) : Type 0 where
   due : ℕ → Call T
   hold : ℕ → T → Call T
@@ -20,7 +20,7 @@ after s release = after_giving s (next_of s)
 after s (room n) = record s { room = n }
 after s restart = record nothing_due { room = s.room }
 
--- What follows holds of the calls made so far on a new desk, the last call first; what was due, brought and given out before a restart counts no more
+-- What follows holds of the calls made so far on a new desk, the last call first; what was due, brought and released before a restart counts no more
 
 -- the desk that they leave
 abbrev pub desk_after : {T : Type 0} → List (Call T) → DeskState T
@@ -36,7 +36,7 @@ due_in (release ∷ before) = due_in before
 due_in (room n ∷ before) = due_in before
 due_in (restart ∷ before) = []
 
--- the numbers that were given out with their values, in the order in which they were
+-- the numbers that were released with their values, in the order in which they were
 abbrev pub given_in : {T : Type 0} → List (Call T) → List (ℕ × T)
 given_in [] = []
 given_in (due n ∷ before) = given_in before
@@ -68,7 +68,7 @@ abbrev pub with_its_value : {T : Type 0} → (ℕ → Option T) → Option ℕ �
 with_its_value kept None = None
 with_its_value kept (Some n) = option_map (λ x. (n, x)) (kept n)
 
--- The numbers given out are the first of those due, in order, so each once; each went with the value that was kept for it; and the next to go is the first of the others, as soon as a value is kept for it
+-- The numbers released are the first of those due, in order, so each once; each went with the value that was kept for it; and the next to go is the first of the others, as soon as a value is kept for it
 pub record IsGivenInOrder {T : Type 0} (calls : List (Call T)) : Type 0 where
   pub numbers : map (λ given. given.0) (given_in calls) ≡ take (length (given_in calls)) (due_in calls)
   pub values : All (λ given. kept_for calls given.0 ≡ Some given.1) (given_in calls)

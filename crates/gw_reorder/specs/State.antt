@@ -13,7 +13,7 @@ pub record DeskState (T : Type 0) : Type 0 where
 abbrev pub nothing_due : {T : Type 0} → DeskState T
 nothing_due = record { due = []; released = 0; kept = []; room = 0 }
 
--- the same but for the room
+-- the same except for the room
 pub record SameButRoom {T : Type 0} (old new : DeskState T) : Type 0 where
   pub due : new.due ≡ old.due
   pub released : new.released ≡ old.released

@@ -1,10 +1,10 @@
-//! A desk: what is due, by rising numbers, and the values that were brought and not yet given out.
+//! A queue that releases values in the order of their numbers.
 use crate::search::place_among;
 use std::alloc::{AllocError, Global};
 use std::collections::VecDeque;
 use std::marker::Model;
 
-/// What a number is to a desk.
+/// The state of a number at a desk.
 #[derive(Clone, Copy, Debug, PartialEq, Eq)]
 pub enum Status {
     /// It is due, and no value was kept for it.
@@ -15,7 +15,7 @@ pub enum Status {
     Stranger,
 }
 
-/// What became of a value that was brought.
+/// What `hold` did with a value.
 #[derive(Drop)]
 pub enum Held<T: Drop> {
     /// It is kept.
@@ -26,7 +26,9 @@ pub enum Held<T: Drop> {
     Stranger(T),
 }
 
-/// What is due, by its numbers, and what was brought of it and not yet released: the values are in a window, each at the place of its number.
+/// A queue that releases values in the order of their numbers. Numbers become due in rising order, and values come in any order.
+///
+/// `waiting` has a slot for each due number that wasn't released yet.
 #[derive(Drop)]
 pub struct Desk<T: Drop> {
     due: Vec<u64>,
@@ -56,7 +58,7 @@ impl<T: Drop> Desk<T> {
     ghost use Rattle.gw_reorder.specs.State.{SameButRoom, nothing_due, with_due};
     ghost use Rattle.gw_reorder.specs.Calls.{status_of, held_as, after_holding, next_of, after_giving};
 
-    /// Nothing is due, and there is no room yet.
+    /// An empty desk: nothing is due, and there is no room yet.
     pub fn new(alloc: Global) -> Self
         ensures { result ≡ nothing_due }
     {
@@ -67,7 +69,7 @@ impl<T: Drop> Desk<T> {
         }
     }
 
-    /// Makes room for one due number and its value. After a refused growth there is the room that there was.
+    /// Makes room for one more due number and its value. If an allocation fails, the room stays as it was.
     pub fn reserve(&mut self) -> Result<(), AllocError>
         ensures ok { OnOk result (0 < self.new.room) }
         ensures err { OnErr result (self.old.room ≡ 0) }
@@ -90,7 +92,7 @@ impl<T: Drop> Desk<T> {
         self.due.len() < self.due.capacity() && self.waiting.len() < self.waiting.capacity()
     }
 
-    /// The number is due from now on. It is above all that are due, and there is room for it. It takes no memory.
+    /// Makes a number due. It is above all that became due before, and there is room for it. It takes no memory.
     pub fn due(&mut self, n: u64)
         requires room { 0 < self.old.room }
         requires above { All (λ m. m < n) self.old.due }
@@ -100,7 +102,7 @@ impl<T: Drop> Desk<T> {
         self.waiting.push_back_reserved(None);
     }
 
-    /// What the number is: whether `hold` would keep a value for it.
+    /// The state of the number: whether `hold` would keep a value for it.
     pub fn status(&self, n: u64) -> Status
         ensures { result ≡ status_of self.now n }
     {
@@ -116,7 +118,7 @@ impl<T: Drop> Desk<T> {
         }
     }
 
-    /// Keeps the value of a number that waits for one; any other is returned. Its capacity was reserved before its number was due, so nothing is allocated.
+    /// Keeps the value of a number that waits for one, and returns any other. The room was made before the number was due, so nothing is allocated.
     pub fn hold(&mut self, n: u64, value: T) -> Held<T>
         ensures answer { result ≡ held_as (status_of self.old n) value }
         ensures left { self.new ≡ after_holding self.old n value }
@@ -135,7 +137,7 @@ impl<T: Drop> Desk<T> {
         Held::Kept
     }
 
-    /// What `release` would give.
+    /// What `release` would return.
     pub fn peek(&self) -> Option<(u64, &T)>
         ensures { option_map (λ given. (given.0, given.1.now)) result ≡ next_of self.now }
     {
@@ -145,14 +147,14 @@ impl<T: Drop> Desk<T> {
         Some((self.due[self.released], value))
     }
 
-    /// Whether something that is due wasn't given out. It takes no memory.
+    /// Whether a due number wasn't released yet. It takes no memory.
     pub fn waits(&self) -> bool
         ensures { result ≡ nat_lt self.now.released (length self.now.due) }
     {
         self.released < self.due.len()
     }
 
-    /// From here on nothing is due, as at a new desk, and the room stays. It takes no memory.
+    /// Empties the desk: nothing is due, as at a new one, and the room stays. It takes no memory.
     pub fn restart(&mut self)
         ensures same { SameButRoom nothing_due self.new }
         ensures room { self.old.room ≤ self.new.room }
@@ -162,7 +164,7 @@ impl<T: Drop> Desk<T> {
         self.released = 0;
     }
 
-    /// Gives out the least due number that was not released, with the value that was kept for it. The value leaves the desk.
+    /// Removes and returns the value of the least due number that wasn't released, with the number. `None` where no value is kept for it.
     pub fn release(&mut self) -> Option<(u64, T)>
         ensures given { result ≡ next_of self.old }
         ensures left { SameButRoom (after_giving self.old result) self.new }

@@ -1,6 +1,7 @@
-//! Gives out values in the order of the numbers that are due, each once, in whatever order they come.
+//! Releases values in the order of their numbers, each once, in whatever order they come.
 //!
-//! A [`Desk`] knows which numbers are due, in rising order, and keeps a value for each of them until its turn: what was accepted first is given out first.
+//! A [`Desk`] knows which numbers are due, in rising order, and keeps a value for each of them until its turn.
+//! So what was accepted first is delivered first.
 #![tactic(auto)]
 
 mod desk;

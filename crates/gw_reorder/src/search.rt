@@ -3,7 +3,7 @@
 ghost use Rattle.std.specs.Prelude.{◌≡◌, ◌==◌, position};
 ghost use Rattle.std.specs.List.Sorted.{IsStrictlyIncreasing};
 
-/// Where the number stands among numbers that rise.
+/// The index of the number among rising numbers.
 pub(crate) fn place_among(due: &[u64], n: u64) -> Option<usize>
     requires rising { IsStrictlyIncreasing due.now }
     ensures { result ≡ position (λ m. m == n) due.now }
