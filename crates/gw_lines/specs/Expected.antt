@@ -1,10 +1,10 @@
--- What stands at a line that is no line of its form.
+-- What is found at a line that fits no pattern of its language.
 use Rattle.std.specs.Prelude.{ℕ, ◌-◌, if◌then◌else◌, List, [], ◌∷◌, Option, slice_get}
 use Rattle.std.specs.List.{before_first}
 use Rattle.std.specs.Option.{option_map}
 use Rattle.gw_lines.specs.Words.{lines, without_last, is_blank}
 
--- the first word of a line as it stands there, whether the line is lawful or not
+-- the first word of a line as it is written, whether the line is lawful or not
 abbrev pub keyword_of : List ℕ → List ℕ
 keyword_of [] = []
 keyword_of (b ∷ bytes) = if is_blank b then keyword_of bytes else before_first is_blank (b ∷ bytes)

@@ -21,7 +21,7 @@ abbrev pub ◌>>=◌ : {A B E : Type 0} → Result A E → (A → Result B E) �
 
 -- ---- lines
 
--- What a line does below others: from what stands above, its number and its words to what stands then, or the line's fault.
+-- What a line does: from the state before it, its number and its words to the state after it, or the line's fault.
 abbrev pub Step : Type 0 → Type 0 → Type 0
 Step S E = S → ℕ → List Word → Result S E
 
@@ -59,7 +59,7 @@ accepted broken takes above number lines = with_lines broken (adding takes) abov
 abbrev pub is_too_large : ℕ → ℕ → List ℕ → Bool
 is_too_large most_bytes most_lines text = nat_lt most_bytes (length text) || nat_lt most_lines (length (lines text))
 
--- What lines spell that stand below others, the first of this number: the fault of the first line that has one, or what the whole makes of them.
+-- What lines spell that come after others, the first of this number: the fault of the first line that has one, or what the whole makes of them.
 -- The whole gets the number of the line after the last.
 abbrev pub spelled_below : {S X E : Type 0} → (ℕ → E) → Step S E → (S → ℕ → Result X E) → S → ℕ → List (List ℕ) → Result X E
 spelled_below broken step whole above number all =
@@ -82,7 +82,7 @@ abbrev pub Answers : {S X E : Type 0} → (S → ℕ → Result X E → Type 0) 
 Answers gives at (Ok last) result = gives last at result
 Answers gives at (Err e) result = result ≡ Err e
 
--- the same for these lines from the first on, that come below what stands at the start
+-- the same for these lines from the first on, from the state at the start
 abbrev pub AnswersLines : {S X E : Type 0} → (ℕ → E) → Step S E → (S → ℕ → Result X E → Type 0) → S → List (List ℕ) → Result X E → Type 0
 AnswersLines broken step gives start all result = Answers gives (1 + length all) (with_lines broken step start 1 all) result
 

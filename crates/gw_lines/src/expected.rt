@@ -1,4 +1,4 @@
-//! What was expected at a line that is no line of its form.
+//! What was expected at a line that fits no pattern of its language.
 ghost use Rattle.std.specs.Prelude.{◌≡◌, map, slice_get, IfOk};
 ghost use Rattle.std.specs.Option.{option_map};
 ghost use Rattle.gw_lines.specs.Words.{without_last};
@@ -10,10 +10,10 @@ use std::alloc::{AllocError, Global};
 use std::fmt;
 use std::fmt::{Display, Formatter, Write};
 
-// No more of a line is shown.
-const MOST_SHOWN: usize = 100;
+// At most this many bytes of a line are shown.
+const MAX_SHOWN: usize = 100;
 
-/// The pattern of the lines that may stand at a line, and what stands there.
+/// The pattern of the lines that are allowed at a place, and the line that was found there.
 #[derive(Clone, Copy, Drop)]
 pub struct Expected<'a> {
     pub pattern: &'a [u8],
@@ -22,7 +22,7 @@ pub struct Expected<'a> {
 
 impl<'a> Display for Expected<'a> {
     fn fmt<W: Write>(&self, f: &mut Formatter<W>) -> fmt::Result {
-        let shown = self.found.get(..MOST_SHOWN).unwrap_or(self.found);
+        let shown = self.found.get(..MAX_SHOWN).unwrap_or(self.found);
         write!(
             f,
             "expected: {}, found: \"{}\"",
@@ -32,7 +32,7 @@ impl<'a> Display for Expected<'a> {
     }
 }
 
-/// The first word of a line as it stands there, whether the line is lawful or not. It takes no memory.
+/// The first word of a line as it is written, whether the line is lawful or not. It takes no memory.
 pub fn keyword_of(line: &[u8]) -> &[u8]
     ensures { result.now ≡ keyword_of line.now }
 {
@@ -44,7 +44,7 @@ pub fn keyword_of(line: &[u8]) -> &[u8]
     &[]
 }
 
-/// The line of this number, from 1, without its end; nothing behind the last.
+/// The line of this number, from 1, without its end. `None` behind the last line.
 pub fn line_at(alloc: Global, text: &[u8], at: u32) -> Result<Option<&[u8]>, AllocError>
     ensures { IfOk result (λ line. option_map (λ l. l.now) line ≡ line_at text.now at) }
 {

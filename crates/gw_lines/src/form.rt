@@ -1,4 +1,4 @@
-//! Text forms: what takes the lines of a text in turn, and then gives the value of the whole.
+//! Text forms: parsers that take the lines of a text in turn, and then return the value of the whole.
 ghost use Rattle.std.specs.Prelude.{◌≡◌, ◌≤◌, ◌<◌, ◌+◌, ◌^◌, ℕ, List, Result, map, length, if◌then◌else◌, Err};
 ghost use Rattle.gw_lines.specs.Words.{words, lines};
 ghost use Rattle.gw_lines.specs.Reading.{Gives, AnswersLines, AnswersText, with_line, with_lines, is_too_large, Unless};
@@ -7,7 +7,7 @@ use crate::lines::lines_of;
 use crate::words::{Word, words_of};
 use std::alloc::{AllocError, Global};
 
-/// Why a text is refused, as far as all forms of text know it.
+/// The faults that every text form has. Each form adds its own.
 pub trait TextFault: Drop {
     ghost use Rattle.std.specs.Prelude.{◌≡◌, ℕ};
 
@@ -17,7 +17,7 @@ pub trait TextFault: Drop {
 
     ghost too_large: { Self };
 
-    /// Memory ran out.
+    /// An allocation failed.
     fn memory() -> Self
         ensures { result ≡ memory };
 
@@ -30,7 +30,7 @@ pub trait TextFault: Drop {
         ensures { result ≡ too_large };
 }
 
-/// What takes the lines of one form of text in turn.
+/// A parser of one text form, line by line.
 pub trait Form<'a>: Drop {
     ghost use Rattle.std.specs.Prelude.{◌≡◌, ℕ, List, Result, map};
     ghost use Rattle.gw_lines.specs.Words.{Word as SpecWord};
@@ -41,13 +41,13 @@ pub trait Form<'a>: Drop {
 
     type Fault: TextFault;
 
-    // What a line makes of what stands above it.
+    // The state after a line, by the state before it.
     ghost step: { Step Self Self.Fault };
 
-    // What the whole may answer, after its last line.
+    // Which results `finish` may return, by the state after the last line.
     ghost gives: { Self → ℕ → Result Self.Value Self.Fault → Type 0 };
 
-    /// Takes the words of a line.
+    /// Adds a line, by its words.
     fn take(self, at: u32, words: &[Word<'a>]) -> Result<Self, Self::Fault>
         ensures { Gives Self.Fault.memory (λ next. next) result (step self at (map word words.now)) };
 
@@ -56,7 +56,7 @@ pub trait Form<'a>: Drop {
         ensures { gives self at result };
 }
 
-/// Takes a line: the value with it, or the fault of the line, or allocation failure.
+/// Adds a line. Returns the parser with it, or the fault of the line, or the allocation failure.
 pub fn take_line<'a, F: Form<'a>>(
     alloc: Global,
     form: F,
@@ -77,7 +77,8 @@ pub fn take_line<'a, F: Form<'a>>(
     }
 }
 
-/// Takes these lines, of which the first has this number: the value with all of them, or the fault of the first faulty one, or allocation failure.
+/// Adds these lines, numbered from `first` on. Returns the parser with all of them, or the fault of the first faulty one, or the allocation
+/// failure.
 pub fn take_lines<'a, F: Form<'a>>(
     alloc: Global,
     form: F,
@@ -113,7 +114,7 @@ fn finish_lines<'a, F: Form<'a>>(
     }
 }
 
-/// The value of a text within the limits of bytes and lines; else that it is too large, or the fault of its first faulty line or of its end, or allocation failure.
+/// Parses a text. Returns its value, or its first fault: it is too large, a line is faulty, or its end is. Or the allocation failure.
 pub fn read_text<'a, F: Form<'a>>(
     alloc: Global,
     form: F,

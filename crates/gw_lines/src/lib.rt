@@ -1,4 +1,4 @@
-//! Texts of numbered lines of words.
+//! The line format that profiles, maps and plans share: numbered lines of words.
 #![tactic(auto)]
 
 mod expected;

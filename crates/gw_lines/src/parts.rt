@@ -1,4 +1,4 @@
-//! Parts of a line, word by word: each gives what it spells with the words behind it.
+//! Parts of a line, word by word. Each function returns what the first words spell, with the words that follow.
 ghost use Rattle.std.specs.Prelude.{◌≡◌, ◌≤◌, map, IfOk};
 ghost use Rattle.std.specs.Option.{option_map};
 ghost use Rattle.gw_lines.specs.Seen.{word};
@@ -36,7 +36,7 @@ pub fn segment_at<'a, 'w>(words: &'w [Word<'a>]) -> Option<([u8; 3], &'w [Word<'
     Some((name, more))
 }
 
-/// A number from 1 to the greatest, without needless zeros.
+/// A number from 1 to `high`, without needless zeros.
 pub fn number_at<'a, 'w>(high: u32, words: &'w [Word<'a>]) -> Option<(u32, &'w [Word<'a>])>
     requires { high ≤ 999999 }
     ensures { option_map (λ w. (w.0, map word w.1.now)) result ≡ spec.number_at high (map word words.now) }
@@ -55,7 +55,7 @@ pub fn range_at<'a, 'w>(words: &'w [Word<'a>]) -> Option<((u32, Option<u32>), &'
     Some((range, more))
 }
 
-/// A value: a canonical text that is not empty.
+/// A value: a canonical text that isn't empty.
 pub fn value_at<'a, 'w>(words: &'w [Word<'a>]) -> Option<(&'a [u8], &'w [Word<'a>])>
     ensures { option_map (λ w. (w.0.now, map word w.1.now)) result ≡ spec.value_at (map word words.now) }
 {
@@ -64,7 +64,7 @@ pub fn value_at<'a, 'w>(words: &'w [Word<'a>]) -> Option<(&'a [u8], &'w [Word<'a
     Some((value, more))
 }
 
-/// The words behind this keyword, where it is the first word.
+/// The words after this keyword, if it is the first word.
 pub fn behind<'a, 'w>(keyword: &[u8], words: &'w [Word<'a>]) -> Option<&'w [Word<'a>]>
     ensures { option_map (λ more. map word more.now) result ≡ spec.behind keyword.now (map word words.now) }
 {
@@ -79,7 +79,7 @@ pub fn behind<'a, 'w>(keyword: &[u8], words: &'w [Word<'a>]) -> Option<&'w [Word
     }
 }
 
-// The values that these words are.
+// The values of these words, if each is one.
 fn values<'a>(alloc: Global, words: &[Word<'a>]) -> Result<Option<Vec<&'a [u8]>>, AllocError>
     ensures { IfOk result (λ found. option_map (λ v. map (λ b. b.now) v.items) found ≡ spec.values (map word words.now)) }
 {
@@ -93,7 +93,7 @@ fn values<'a>(alloc: Global, words: &[Word<'a>]) -> Result<Option<Vec<&'a [u8]>>
     Ok(Some(values))
 }
 
-/// One value at least, and no other word.
+/// The values of these words, if there is at least one word and each is a value.
 pub fn some_values<'a>(
     alloc: Global,
     words: &[Word<'a>],

@@ -1,4 +1,4 @@
-//! What words spell.
+//! Names, numbers and ranges that words spell.
 ghost use Rattle.std.specs.Prelude.{◌≡◌, ◌≤◌, ◌<◌, IsTrue, MatchOption, if◌then◌else◌, Some, None};
 ghost use Rattle.std.specs.List.{list_all, position};
 ghost use Rattle.gw_er7.specs.Names as Names;
@@ -32,7 +32,7 @@ fn is_digit(byte: u8) -> bool
     byte.is_ascii_digit()
 }
 
-// The name of a segment, where these bytes are one.
+// These bytes as the name of a segment, if they are one.
 fn segment_name(bytes: &[u8]) -> Option<[u8; 3]>
     ensures { result ≡ (if Names.is_name bytes.now then Some bytes.now else None) }
 {
@@ -58,7 +58,7 @@ fn is_decimal(bytes: &[u8]) -> bool
     }
 }
 
-// The value of these digits; none where it is above every bound.
+// The value of these digits; `None` where it is above every bound.
 fn value_of(digits: &[u8]) -> Option<u32>
     requires { IsTrue (is_decimal digits.now) }
     ensures { MatchOption result (999999 < decimal 0 digits.now) (λ n. n ≡ decimal 0 digits.now) }
@@ -95,7 +95,7 @@ fn first_dot(bytes: &[u8]) -> Option<usize>
     bytes.iter().position(|byte| *byte == b'.')
 }
 
-// A number up to 9999, or `*` for none.
+// A number up to 9999, or `*` for no upper bound.
 fn greatest(bytes: &[u8]) -> Option<Option<u32>>
     ensures { result ≡ greatest bytes.now }
 {

@@ -1,4 +1,4 @@
-//! Values of a line: canonical texts that are not empty.
+//! Values of a line: canonical texts that aren't empty.
 ghost use Rattle.std.specs.Prelude.{◌≡◌};
 ghost use Rattle.std.specs.Option.{option_map};
 ghost use Rattle.gw_lines.specs.Seen.{word};
@@ -13,7 +13,7 @@ fn is_value(bytes: &[u8]) -> bool
     !bytes.is_empty() && is_canonical(bytes)
 }
 
-/// The bytes of a word, between its quotes where it has some. It takes no memory.
+/// The bytes of a word; of a quoted one those between the quotes. It takes no memory.
 pub fn bytes_of<'a>(from: Word<'a>) -> &'a [u8]
     ensures { result.now ≡ bytes_of (word from.entry) }
 {
@@ -23,7 +23,7 @@ pub fn bytes_of<'a>(from: Word<'a>) -> &'a [u8]
     }
 }
 
-/// The value that a word is: a canonical text that is not empty.
+/// The value that a word is: a canonical text that isn't empty.
 pub fn value_bytes<'a>(from: Word<'a>) -> Option<&'a [u8]>
     ensures { option_map (λ bytes. bytes.now) result ≡ value_bytes (word from.entry) }
 {

@@ -131,11 +131,11 @@ open_segment s = option_map (λ o. record { least = o.least; fields = o.fields.k
 abbrev pub open_rule : Option Held.OpenRule.OpenRule → Option Fault.OpenRule
 open_rule r = option_map (λ o. record { repeated = o.repeated; places = o.places.keys }) r
 
-abbrev pub standing : List Spec.Line → Held.Standing.Standing
-standing above = record { in_table = Fault.in_table above; has_item = Fault.has_item above; depth = Fault.depth above; hollow = Fault.hollow above }
+abbrev pub open_parts : List Spec.Line → Held.OpenParts.OpenParts
+open_parts above = record { in_table = Fault.in_table above; has_item = Fault.has_item above; depth = Fault.depth above; hollow = Fault.hollow above }
 
-abbrev pub StandingFollows : Held.Standing.Standing → Held.Standing.Standing → Spec.Line → Type 0
-StandingFollows old new l = (above : List Spec.Line) → old ≡ standing above → new ≡ standing (l ∷ above)
+abbrev pub OpenPartsFollow : Held.OpenParts.OpenParts → Held.OpenParts.OpenParts → Spec.Line → Type 0
+OpenPartsFollow old new l = (above : List Spec.Line) → old ≡ open_parts above → new ≡ open_parts (l ∷ above)
 
 -- few enough groups and flats are open
 abbrev pub HasRoom : ℕ → Spec.Line → Type 0
@@ -159,8 +159,8 @@ IsNewPlace held (Spec.At l) = Fault.is_placed l.place held ≡ false
 IsNewPlace held line = Unit {0}
 
 -- what is kept beside the lines agrees with them
-pub record Agrees (held : Held.Standing.Standing) (tables : List TableValue) (segment : Option Fault.OpenSegment) (rule : Option Fault.OpenRule) (lines : List Spec.Line) : Type 0 where
-  pub has_standing : held ≡ standing lines
+pub record Agrees (held : Held.OpenParts.OpenParts) (tables : List TableValue) (segment : Option Fault.OpenSegment) (rule : Option Fault.OpenRule) (lines : List Spec.Line) : Type 0 where
+  pub has_open_parts : held ≡ open_parts lines
   pub has_tables : tables ≡ Fault.tables lines
   pub has_segment : segment ≡ Fault.open_segment lines
   pub has_rule : rule ≡ Fault.open_rule lines

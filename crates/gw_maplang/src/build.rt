@@ -1,4 +1,4 @@
-//! Building of a map from its lines.
+//! Builds a map from its lines, from the last to the first.
 ghost use Rattle.std.specs.Prelude.{◌≡◌, map, reverse, IfOk, OnOk, Some, None};
 ghost use Rattle.gw_maplang.specs.own.Building.{Stands, Grows, parts_of, levels_of, all_behind, IsSegment, IsEach, head_value};
 ghost use Rattle.gw_maplang.specs.Seen.{line, rule, leaf_value, dropped, all_items, now, items_of, path, path_some};
@@ -11,7 +11,7 @@ use crate::rule::{BuildRule, Dropped, LeafRule, RepeatRule, Rule};
 use std::alloc::{AllocError, Global};
 use std::mem;
 
-// What the lines below spell, each list from its last item on.
+// The parts that the lines below the current one spell, each list in reverse order. A part goes to the line that opens it.
 #[derive(Drop)]
 struct Below {
     leaves: Vec<LeafRule>,
@@ -21,7 +21,7 @@ struct Below {
     drops: Vec<Dropped>,
 }
 
-/// What the first line says.
+/// The first line: its number, and the names of the map and of its two profiles.
 #[derive(Drop)]
 pub(crate) struct Head {
     pub(crate) line: u32,
@@ -30,7 +30,7 @@ pub(crate) struct Head {
     pub(crate) target: Vec<u8>,
 }
 
-/// The items of a map, and what it leaves out.
+/// The items and the `drop` lines of a map.
 #[derive(Drop)]
 pub(crate) struct Built {
     pub(crate) items: Vec<Item>,
@@ -91,7 +91,7 @@ fn add_segment(
     Ok(())
 }
 
-// The leaf of a rule's own line, or those below it.
+// The leaf of the rule's own line, else the leaves of the lines below it.
 fn own_or(own: Vec<LeafRule>, below: Vec<LeafRule>) -> Vec<LeafRule>
     ensures { map leaf_value result.items ≡ spec.own_or (map leaf_value own.items) (map leaf_value below.items) }
 {
@@ -153,7 +153,7 @@ fn add_leaf(below: &mut Below, made: LeafRule) -> Result<(), AllocError>
     Ok(())
 }
 
-// Takes the items behind the next end.
+// Takes the items that follow the `end` of the current group.
 fn take_next(alloc: Global, behind: &mut Vec<Vec<Item>>) -> Vec<Item>
     ensures next { all_items (reverse result.items) ≡ spec.next (all_behind behind.old.items) }
     ensures past { all_behind behind.new.items ≡ spec.past (all_behind behind.old.items) }
@@ -174,7 +174,7 @@ fn flat_item(line: u32, from: Vec<Vec<u8>>, items: Vec<Item>) -> Item
     })
 }
 
-/// A group of these items.
+/// A group with these items.
 pub(crate) fn group_item(line: u32, label: Vec<u8>, from: Vec<Vec<u8>>, items: Vec<Item>) -> Item
     ensures { IsEach result line (Some label.items) (path from) items.items }
 {
@@ -324,7 +324,7 @@ pub(crate) fn head_of(alloc: Global, lines: &[Line]) -> Result<Head, AllocError>
     }
 }
 
-/// What these lines spell.
+/// The items and `drop` lines that these lines spell.
 pub(crate) fn build(alloc: Global, lines: Vec<Line>) -> Result<Built, AllocError>
     ensures items { IfOk result (λ b. all_items b.items.items ≡ (spec.levels (map line lines.entry.items)).here) }
     ensures drops { IfOk result (λ b. map dropped b.drops.items ≡ spec.drops (map line lines.entry.items)) }

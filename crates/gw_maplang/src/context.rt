@@ -1,9 +1,9 @@
-//! What the lines above leave open.
+//! What the lines so far leave open: tables, segments, rules, groups and flats.
 ghost use Rattle.std.specs.Prelude.{◌≡◌, ◌∷◌, [], ◌++◌, map, IfOk, OnOk, false};
 ghost use Rattle.gw_maplang.specs.Fault as spec;
 ghost use Rattle.gw_maplang.specs.Lawful.{table_names, firsts};
 ghost use Rattle.gw_maplang.specs.Shapes.{row_of};
-ghost use Rattle.gw_maplang.specs.Seen.{line, now, rule, table, open_segment, open_rule, StandingFollows, HasRoom, IsNewTable, IsNewField, IsNewPlace};
+ghost use Rattle.gw_maplang.specs.Seen.{line, now, rule, table, open_segment, open_rule, OpenPartsFollow, HasRoom, IsNewTable, IsNewField, IsNewPlace};
 
 use crate::form::Line;
 use crate::parts::least_field;
@@ -12,71 +12,72 @@ use crate::table::Table;
 use indexmap::{IndexMap, IndexSet};
 use std::alloc::{AllocError, Global};
 
-/// Whether a row would belong to a table, whether some item stands, how many groups and flats are open, and whether a flat is open that has no item so far.
+/// What is open: whether a row would belong to a table, and how many groups and flats are open. `has_item`: there was an item.
+/// `hollow`: the innermost open part is a flat that has no item so far.
 #[derive(Clone, Copy, Drop)]
-pub(crate) struct Standing {
+pub(crate) struct OpenParts {
     pub(crate) in_table: bool,
     pub(crate) has_item: bool,
     pub(crate) depth: u32,
     pub(crate) hollow: bool,
 }
 
-pub(crate) const NOTHING_STANDS: Standing = Standing {
+pub(crate) const NOTHING_OPEN: OpenParts = OpenParts {
     in_table: false,
     has_item: false,
     depth: 0,
     hollow: false,
 };
 
-/// A segment that may have rules below it: the least number of a field, and the fields that have one.
+/// A segment that may have rules below it: the least number of a field, and the fields that have a rule.
 #[derive(Drop)]
 pub(crate) struct OpenSegment {
     pub(crate) least: u32,
     pub(crate) fields: IndexSet<u32>,
 }
 
-/// A rule that may have leaves below it: whether it is one for each repetition, and the places that have one.
+/// A rule that may have leaves below it: whether it is a `repeat`, and the places that have a leaf.
 #[derive(Drop)]
 pub(crate) struct OpenRule {
     pub(crate) repeated: bool,
     pub(crate) places: IndexSet<LeafPlace>,
 }
 
-/// What stands below a line.
-pub(crate) fn standing_below(held: Standing, whole: &Line) -> Standing
+/// What is open after this line.
+pub(crate) fn open_parts_below(held: OpenParts, whole: &Line) -> OpenParts
     requires { HasRoom held.depth (line whole.now) }
-    ensures { StandingFollows held result (line whole.now) }
+    ensures { OpenPartsFollow held result (line whole.now) }
 {
     let held_in_table = held.in_table;
-    let held = Standing {
+    let held = OpenParts {
         in_table: false,
         ..held
     };
     match whole {
-        Line::Table(_) => Standing {
+        Line::Table(_) => OpenParts {
             in_table: true,
             ..held
         },
-        Line::Rows(_, _) => Standing {
+        Line::Rows(_, _) => OpenParts {
             in_table: held_in_table,
             ..held
         },
-        Line::Else(_) => Standing {
+        Line::Else(_) => OpenParts {
             in_table: held_in_table,
             ..held
         },
-        Line::Segment(_, _, _) => Standing {
+        Line::Segment(_, _, _) => OpenParts {
             has_item: true,
             hollow: false,
             ..held
         },
-        Line::Each(_, label, _) => Standing {
+        Line::Each(_, label, _) => OpenParts {
             has_item: true,
             depth: held.depth + 1,
             hollow: label.is_none(),
             ..held
         },
-        Line::End => Standing {
+        Line::End => OpenParts {
             depth: held.depth.saturating_sub(1),
             hollow: false,
             ..held
@@ -98,7 +99,7 @@ fn with_field(field: u32, held: &mut Option<OpenSegment>) -> Result<(), AllocErr
     }
 }
 
-/// The segment to which a rule below this line would belong.
+/// Updates the segment to which a rule would belong.
 pub(crate) fn segment_below(
     alloc: Global,
     held: &mut Option<OpenSegment>,
@@ -124,7 +125,7 @@ pub(crate) fn segment_below(
     }
 }
 
-// The rule as it is open right below its line.
+// The rule as it is open right after its line. A rule with a leaf of its own takes no other.
 fn opened(alloc: Global, made: &Rule) -> Option<OpenRule>
     ensures { open_rule result ≡ spec.opened (rule made.now).making }
 {
@@ -159,7 +160,7 @@ fn with_place(place: LeafPlace, held: &mut Option<OpenRule>) -> Result<(), Alloc
     }
 }
 
-/// The rule to which a leaf below this line would belong.
+/// Updates the rule to which a leaf would belong.
 pub(crate) fn rule_below(
     alloc: Global,
     held: &mut Option<OpenRule>,
@@ -198,7 +199,7 @@ pub(crate) fn has_row(tables: &IndexMap<Vec<u8>, Table>, first: &[u8]) -> bool
     }
 }
 
-/// Whether the last table says what stands for a value without a row.
+/// Whether the last table has an `else` line.
 pub(crate) fn has_other(tables: &IndexMap<Vec<u8>, Table>) -> bool
     ensures { result ≡ spec.is_said (spec.last_table (map table tables.now.entries)).other }
 {
@@ -208,7 +209,7 @@ pub(crate) fn has_other(tables: &IndexMap<Vec<u8>, Table>) -> bool
     }
 }
 
-// Puts a new table behind the others.
+// Appends a new table.
 fn put_table(
     alloc: Global,
     tables: &mut IndexMap<Vec<u8>, Table>,
@@ -222,7 +223,7 @@ fn put_table(
     Ok(())
 }
 
-// Puts a new row into the last table.
+// Appends a new row to the last table.
 fn put_row(
     alloc: Global,
     tables: &mut IndexMap<Vec<u8>, Table>,
@@ -238,7 +239,7 @@ fn put_row(
     }
 }
 
-// Puts into the last table what stands for a value without a row.
+// Sets the value of the last table's `else` line.
 fn put_other(
     alloc: Global,
     tables: &mut IndexMap<Vec<u8>, Table>,
@@ -252,7 +253,7 @@ fn put_other(
     }
 }
 
-/// Takes the tables below a line.
+/// Updates the tables by this line.
 pub(crate) fn tables_below(
     alloc: Global,
     tables: &mut IndexMap<Vec<u8>, Table>,

@@ -1,4 +1,4 @@
-//! The forms of a map's lines.
+//! The line patterns of a map.
 ghost use Rattle.std.specs.Prelude.{◌≡◌, map, IfOk, Some, None};
 ghost use Rattle.std.specs.Option.{option_map};
 ghost use Rattle.gw_lines.specs.Seen.{word};
@@ -13,7 +13,7 @@ use crate::rule::{
 use gw_lines::{Word, behind, bytes_of, first_word, name_at, number_at};
 use std::alloc::{AllocError, Global};
 
-/// A line of a map. A rule has the leaf of its own line alone. No label stands for `flat`.
+/// A line of a map. A rule has only the leaf of its own line. An `each` line without a label is a `flat`.
 #[derive(Drop)]
 pub(crate) enum Line<'a> {
     Begins(u32, &'a [u8], &'a [u8], &'a [u8]),
@@ -226,7 +226,7 @@ fn own_leaves(alloc: Global, at: u32, words: &[Word]) -> Result<Option<Vec<LeafR
     Ok(Some(leaves))
 }
 
-// The line, where no word is left.
+// The line, if no word is left.
 fn with_all<'a>(words: &[Word<'a>], whole: Line<'a>) -> Option<Line<'a>>
     ensures { option_map line result ≡ with_all (map word words.now) (line whole.entry) }
 {
@@ -494,7 +494,7 @@ fn keyword_form<'a>(
     rule_form(alloc, at, keyword, more)
 }
 
-/// The line that these words are; `at` is its number.
+/// The line that these words spell; `at` is its number.
 pub(crate) fn form<'a>(
     alloc: Global,
     at: u32,

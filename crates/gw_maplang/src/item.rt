@@ -1,8 +1,8 @@
-//! What a map makes of the segments and groups of a message.
+//! The items of a map: what it makes of the segments and groups of a message.
 
 use crate::rule::Rule;
 
-/// One segment of the target for each occurrence to which the path leads.
+/// `segment LABEL from PATH`: one segment of the target for each occurrence to which the path leads.
 #[derive(Drop)]
 pub struct FromItem {
     pub line: u32,
@@ -11,7 +11,7 @@ pub struct FromItem {
     pub rules: Vec<Rule>,
 }
 
-/// One segment of the target.
+/// `segment LABEL always`: one segment of the target.
 #[derive(Drop)]
 pub struct AlwaysItem {
     pub line: u32,
@@ -19,7 +19,7 @@ pub struct AlwaysItem {
     pub rules: Vec<Rule>,
 }
 
-/// One group of the target for each occurrence to which the path leads.
+/// `group LABEL each PATH`: one group of the target for each occurrence to which the path leads.
 #[derive(Drop)]
 #[cycle(item)]
 pub struct GroupItem {
@@ -29,7 +29,7 @@ pub struct GroupItem {
     pub items: Vec<Item>,
 }
 
-/// What the items give for each occurrence to which the path leads, without a group.
+/// `flat each PATH`: its items for each occurrence to which the path leads, without a group around them.
 #[derive(Drop)]
 #[cycle(item)]
 pub struct FlatItem {
@@ -38,7 +38,7 @@ pub struct FlatItem {
     pub items: Vec<Item>,
 }
 
-/// An item of a map: a segment made from one that is walked or always, or what is made for each occurrence, in a group of the target or without one.
+/// An item of a map: a segment, or items that are made for each occurrence, with a group of the target around them or without one.
 #[derive(Drop)]
 #[cycle(item)]
 pub enum Item {

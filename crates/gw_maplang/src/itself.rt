@@ -1,4 +1,4 @@
-//! The map that makes of each message of a profile the message itself.
+//! The map from a profile to itself, which copies each message.
 ghost use Rattle.std.specs.Prelude.{◌≡◌, ◌∷◌, [], map, reverse, IfOk, OnOk, Some};
 ghost use Rattle.gw_profile.specs.Line.{is_forbidden};
 ghost use Rattle.gw_profile.specs.Seen.{field as field_value, forest, profile_value};
@@ -31,7 +31,7 @@ fn copy_of(alloc: Global, bytes: &[u8]) -> Result<Vec<u8>, AllocError>
     Vec::from_slice(alloc, bytes)
 }
 
-// The path of this label alone.
+// The path of one label.
 fn path_to(alloc: Global, label: &[u8]) -> Result<Vec<Vec<u8>>, AllocError>
     ensures { IfOk result (λ p. path p ≡ label.now ∷ []) }
 {
@@ -41,7 +41,7 @@ fn path_to(alloc: Global, label: &[u8]) -> Result<Vec<Vec<u8>>, AllocError>
     Ok(all)
 }
 
-// A copy of the field.
+// A rule that copies the field.
 fn same_field(alloc: Global, label: &[u8], number: u32) -> Result<Rule, AllocError>
     ensures { IfOk result (λ r. rule r ≡ spec.copy_rule label.now number) }
 {
@@ -56,7 +56,7 @@ fn same_field(alloc: Global, label: &[u8], number: u32) -> Result<Rule, AllocErr
     }))
 }
 
-// Copies of the fields that are not X.
+// Rules that copy the fields that aren't X.
 fn field_rules(alloc: Global, label: &[u8], fields: &[FieldShape]) -> Result<Vec<Rule>, AllocError>
     ensures { IfOk result (λ v. map rule v.items ≡ spec.field_rules label.now (map field_value fields.now)) }
 {
@@ -70,7 +70,7 @@ fn field_rules(alloc: Global, label: &[u8], fields: &[FieldShape]) -> Result<Vec
     Ok(rules)
 }
 
-// The segment from itself, unless it is X.
+// The item that copies the segment, unless it is X.
 fn same_segment(alloc: Global, segment: &SegNode) -> Result<Option<Item>, AllocError>
     ensures { IfOk result (λ item. IsSameSegment item segment.now) }
 {
@@ -115,7 +115,7 @@ fn same_item(alloc: Global, node: &Node) -> Result<Option<Item>, AllocError>
     }
 }
 
-// The items for these nodes; they are gone through from the last to the first.
+// The items that copy these nodes. The nodes are walked from the last to the first.
 #[cycle(same)]
 fn same_items(alloc: Global, nodes: &[Node]) -> Result<Vec<Item>, AllocError>
     ensures { IfOk result (λ v. all_items v.items ≡ spec.same_items (forest nodes.now)) }
@@ -131,7 +131,8 @@ fn same_items(alloc: Global, nodes: &[Node]) -> Result<Vec<Item>, AllocError>
     Ok(items)
 }
 
-/// The map from the profile to itself: each segment from itself with a copy of each listed field that is not X, each group from itself, X segments left out. Every line is 0. The one error is allocation failure.
+/// The map from the profile to itself. It makes each segment and group from itself, and copies each listed field. X segments and X fields
+/// are left out. Every line number is 0. The one error is allocation failure.
 pub fn identity(alloc: Global, profile: &Profile) -> Result<Map, AllocError>
     ensures { IfOk result (λ m. map_value m ≡ spec.identity (profile_value profile.now)) }
 {

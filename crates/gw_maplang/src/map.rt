@@ -22,7 +22,7 @@ pub struct Map {
     pub(crate) drops: Vec<Dropped>,
 }
 
-// (by hand, so that no crate above proves again how its fields are dropped)
+// Written out, so that no crate above proves again how its fields are dropped.
 impl Drop for Map {
     fn drop(self) {
         let Map {
@@ -77,14 +77,14 @@ impl Map {
         self.name.as_slice()
     }
 
-    /// The name of the profile that the messages are of. It takes no memory.
+    /// The name of the profile of the messages that it translates. It takes no memory.
     pub fn source(&self) -> &[u8]
         ensures { result.now ≡ self.now.source }
     {
         self.source.as_slice()
     }
 
-    /// The name of the profile that the translations are of. It takes no memory.
+    /// The name of the profile of the translations. It takes no memory.
     pub fn target(&self) -> &[u8]
         ensures { result.now ≡ self.now.target }
     {
@@ -106,7 +106,7 @@ impl Map {
         self.items.as_slice()
     }
 
-    /// What is left out on purpose, in order. It takes no memory.
+    /// The `drop` lines, in order: what is left out on purpose. It takes no memory.
     pub fn drops(&self) -> &[Dropped]
         ensures { map dropped result.now ≡ self.now.drops }
     {

@@ -1,4 +1,4 @@
-//! Parts of a word: paths, fields, places and what they join to.
+//! Parts of a word: paths, fields and places.
 ghost use Rattle.std.specs.Prelude.{◌≡◌, ◌≤◌, ◌==◌, map, IfOk};
 ghost use Rattle.std.specs.List.{list_all, slice_split, before_first, position};
 ghost use Rattle.std.specs.Option.{option_map};
@@ -18,8 +18,8 @@ fn first_at(end: u8, bytes: &[u8]) -> Option<usize>
     bytes.iter().position(|byte| *byte == end)
 }
 
-// What stands before the first such byte.
-fn up_to(end: u8, bytes: &[u8]) -> &[u8]
+// The bytes before the first such byte; all if there is none.
+fn before_first_byte(end: u8, bytes: &[u8]) -> &[u8]
     ensures { result.now ≡ before_first (λ b. b == end) bytes.now }
 {
     match first_at(end, bytes) {
@@ -28,8 +28,8 @@ fn up_to(end: u8, bytes: &[u8]) -> &[u8]
     }
 }
 
-// What stands behind the first such byte, where there is one.
-fn past(end: u8, bytes: &[u8]) -> Option<&[u8]>
+// The bytes after the first such byte, if there is one.
+fn after_first_byte(end: u8, bytes: &[u8]) -> Option<&[u8]>
     ensures { now result ≡ spec.behind_first (λ b. b == end) bytes.now }
 {
     for (i, byte) in bytes.iter().enumerate() {
@@ -68,7 +68,7 @@ fn copies(alloc: Global, labels: &[&[u8]]) -> Result<Vec<Vec<u8>>, AllocError>
     Ok(all)
 }
 
-/// Labels joined by slashes.
+/// A path: labels joined by slashes.
 pub(crate) fn path_of(alloc: Global, bytes: &[u8]) -> Result<Option<Vec<Vec<u8>>>, AllocError>
     ensures { IfOk result (λ p. path_some p ≡ spec.path_of bytes.now) }
 {
@@ -114,10 +114,10 @@ fn field_of(path: &[Vec<u8>], bytes: &[u8]) -> Option<u32>
 pub(crate) fn field_path(alloc: Global, bytes: &[u8]) -> Result<Option<FieldPath>, AllocError>
     ensures { IfOk result (λ f. option_map field_path f ≡ spec.field_path bytes.now) }
 {
-    let Some(path) = path_of(alloc, up_to(b'-', bytes))? else {
+    let Some(path) = path_of(alloc, before_first_byte(b'-', bytes))? else {
         return Ok(None);
     };
-    let Some(more) = past(b'-', bytes) else {
+    let Some(more) = after_first_byte(b'-', bytes) else {
         return Ok(None);
     };
     let Some(field) = field_of(&path, more) else {
@@ -135,12 +135,12 @@ fn sub_of(said: Option<&[u8]>) -> Option<u32>
     }
 }
 
-/// A component, and a subcomponent where one is said.
+/// A component, and a subcomponent; subcomponent 1 if none is given.
 pub(crate) fn place_of(bytes: &[u8]) -> Option<LeafPlace>
     ensures { result ≡ spec.place_of bytes.now }
 {
-    let comp = number(1, 99, up_to(b'.', bytes))?;
-    let sub = sub_of(past(b'.', bytes))?;
+    let comp = number(1, 99, before_first_byte(b'.', bytes))?;
+    let sub = sub_of(after_first_byte(b'.', bytes))?;
     Some(LeafPlace { comp, sub })
 }
 
@@ -156,10 +156,10 @@ fn place_or_first(said: Option<&[u8]>) -> Option<LeafPlace>
 fn field_ref(alloc: Global, bytes: &[u8]) -> Result<Option<Ref>, AllocError>
     ensures { IfOk result (λ r. ref_some r ≡ spec.field_ref bytes.now) }
 {
-    let Some(from) = field_path(alloc, up_to(b'.', bytes))? else {
+    let Some(from) = field_path(alloc, before_first_byte(b'.', bytes))? else {
         return Ok(None);
     };
-    let Some(place) = place_or_first(past(b'.', bytes)) else {
+    let Some(place) = place_or_first(after_first_byte(b'.', bytes)) else {
         return Ok(None);
     };
     Ok(Some(Ref::Field(from, place)))
@@ -174,7 +174,7 @@ fn current(place: Option<LeafPlace>) -> Option<Ref>
     }
 }
 
-/// Where a text is taken from.
+/// The source of a text.
 pub(crate) fn ref_of(alloc: Global, bytes: &[u8]) -> Result<Option<Ref>, AllocError>
     ensures { IfOk result (λ r. ref_some r ≡ spec.ref_of bytes.now) }
 {
@@ -201,14 +201,14 @@ fn dropped_field(path: &[Vec<u8>], said: Option<&[u8]>) -> Option<Option<u32>>
     }
 }
 
-/// What is left out on purpose.
+/// What a `drop` line leaves out.
 pub(crate) fn drop_of(alloc: Global, line: u32, bytes: &[u8]) -> Result<Option<Dropped>, AllocError>
     ensures { IfOk result (λ d. option_map dropped d ≡ spec.drop_of line bytes.now) }
 {
-    let Some(path) = path_of(alloc, up_to(b'-', bytes))? else {
+    let Some(path) = path_of(alloc, before_first_byte(b'-', bytes))? else {
         return Ok(None);
     };
-    let Some(field) = dropped_field(&path, past(b'-', bytes)) else {
+    let Some(field) = dropped_field(&path, after_first_byte(b'-', bytes)) else {
         return Ok(None);
     };
     Ok(Some(Dropped { line, path, field }))

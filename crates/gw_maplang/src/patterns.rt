@@ -1,11 +1,11 @@
-//! What was expected at a line that is no line of a map.
+//! What was expected at a line that fits no pattern of a map.
 ghost use Rattle.std.specs.Prelude.{◌≡◌, IfOk};
 ghost use Rattle.gw_maplang.specs.Patterns as spec;
 
 use gw_lines::{Expected, keyword_of, line_at};
 use std::alloc::{AllocError, Global};
 
-// The pattern of the lines of items with this keyword, or all keywords where it is none.
+// The pattern of the item lines with this keyword; all keywords for any other word.
 fn item_pattern(keyword: &[u8]) -> &'static [u8]
     ensures { result.now ≡ spec.item_pattern keyword.now }
 {
@@ -27,7 +27,7 @@ fn item_pattern(keyword: &[u8]) -> &'static [u8]
     b"map, table, row, else, segment, copy, first, repeat, build, at, group, flat, end or drop"
 }
 
-// The pattern of the lines of rules and items with this keyword, or all keywords where it is none.
+// The pattern of the rule and item lines with this keyword; all keywords for any other word.
 fn rule_pattern(keyword: &[u8]) -> &'static [u8]
     ensures { result.now ≡ spec.rule_pattern keyword.now }
 {
@@ -49,7 +49,7 @@ fn rule_pattern(keyword: &[u8]) -> &'static [u8]
     item_pattern(keyword)
 }
 
-// The pattern of the lines with this keyword, or all keywords where it is none.
+// The pattern of the lines with this keyword; all keywords for any other word.
 fn pattern(keyword: &[u8]) -> &'static [u8]
     ensures { result.now ≡ spec.pattern keyword.now }
 {
@@ -68,7 +68,8 @@ fn pattern(keyword: &[u8]) -> &'static [u8]
     rule_pattern(keyword)
 }
 
-/// What was expected at the line of this number, from 1, of a text that is no map: the pattern of its keyword, or the keywords that there are; behind the last line what is missing. The one error is allocation failure.
+/// What was expected at the line of this number, from 1, of a text that is no map: the pattern of its keyword, or all keywords.
+/// Behind the last line it is what is missing. The one error is allocation failure.
 pub fn expected(alloc: Global, text: &[u8], at: u32) -> Result<Expected<'_>, AllocError>
     ensures { IfOk result (λ e. (e.pattern.now, e.found.now) ≡ spec.expected text.now at) }
 {

@@ -1,4 +1,4 @@
-//! Reading of a map, line by line.
+//! Parses a map, line by line.
 ghost use Rattle.std.specs.Prelude.{◌≡◌, ◌∷◌, ◌||◌, ◌&&◌, [], not, map, IfOk, OnOk, false};
 ghost use Rattle.std.specs.List.{list_any};
 ghost use Rattle.gw_lines.specs.Seen.{word};
@@ -14,8 +14,8 @@ ghost use Rattle.gw_maplang.specs.Seen.{line, above, rule, leaf, leaf_value, tab
 ghost use Rattle.gw_maplang.specs.Whole.{whole, is_unclosed, map_of};
 
 use crate::context::{
-    NOTHING_STANDS, OpenRule, OpenSegment, Standing, has_other, has_row, knows, rule_below,
-    segment_below, standing_below, tables_below,
+    NOTHING_OPEN, OpenParts, OpenRule, OpenSegment, has_other, has_row, knows, open_parts_below,
+    rule_below, segment_below, tables_below,
 };
 use crate::fault::MapFault;
 use crate::form::{Line, form};
@@ -29,14 +29,14 @@ use indexmap::IndexMap;
 use std::alloc::{AllocError, Global};
 use std::marker::Model;
 
-const MOST_NESTED: u32 = 16;
+const MAX_NESTED: u32 = 16;
 
-/// The lines of a map so far.
+/// The lines of a map so far, with what they leave open.
 #[derive(Drop)]
 pub(crate) struct Reader<'a> {
     alloc: Global,
     lines: Vec<Line<'a>>,
-    standing: Standing,
+    open_parts: OpenParts,
     tables: IndexMap<Vec<u8>, Table>,
     segment: Option<OpenSegment>,
     rule: Option<OpenRule>,
@@ -51,7 +51,7 @@ impl<'a> Model for Reader<'a> {
 
     ghost view = { λ r. above r.lines.items };
 
-    ghost invariant = { λ r. Agrees r.standing (map table r.tables.entries) (open_segment r.segment) (open_rule r.rule) (above r.lines.items) };
+    ghost invariant = { λ r. Agrees r.open_parts (map table r.tables.entries) (open_segment r.segment) (open_rule r.rule) (above r.lines.items) };
 }
 
 fn is_value(bytes: &[u8]) -> bool
@@ -180,7 +180,7 @@ impl<'a> Reader<'a> {
         Reader {
             alloc,
             lines: Vec::new(alloc),
-            standing: NOTHING_STANDS,
+            open_parts: NOTHING_OPEN,
             tables: IndexMap::new(alloc),
             segment: None,
             rule: None,
@@ -200,7 +200,7 @@ impl<'a> Reader<'a> {
     fn table_fault(&self, at: u32, name: &[u8]) -> Option<MapFault>
         ensures { result ≡ first_of (spec.table_tests self.now at name.now) }
     {
-        if self.lines.is_empty() || self.standing.has_item {
+        if self.lines.is_empty() || self.open_parts.has_item {
             return Some(MapFault::Syntax(at));
         }
         if knows(&self.tables, name) {
@@ -212,7 +212,7 @@ impl<'a> Reader<'a> {
     fn row_fault(&self, at: u32, first: &[u8], second: &[u8]) -> Option<MapFault>
         ensures { result ≡ first_of (spec.row_tests self.now at (row_of first.now second.now)) }
     {
-        if !self.standing.in_table {
+        if !self.open_parts.in_table {
             return Some(MapFault::Syntax(at));
         }
         if !(is_value(first) && is_value(second)) {
@@ -227,7 +227,7 @@ impl<'a> Reader<'a> {
     fn else_fault(&self, at: u32, value: &[u8]) -> Option<MapFault>
         ensures { result ≡ first_of (spec.else_tests self.now at value.now) }
     {
-        if !self.standing.in_table {
+        if !self.open_parts.in_table {
             return Some(MapFault::Syntax(at));
         }
         if !is_value(value) {
@@ -292,7 +292,7 @@ impl<'a> Reader<'a> {
         if self.lines.is_empty() {
             return Some(MapFault::Syntax(at));
         }
-        if self.standing.depth >= MOST_NESTED {
+        if self.open_parts.depth >= MAX_NESTED {
             return Some(MapFault::TooDeep(at));
         }
         None
@@ -301,7 +301,7 @@ impl<'a> Reader<'a> {
     fn end_fault(&self, at: u32) -> Option<MapFault>
         ensures { result ≡ first_of (spec.end_tests self.now at) }
     {
-        if self.standing.depth == 0 || self.standing.hollow {
+        if self.open_parts.depth == 0 || self.open_parts.hollow {
             Some(MapFault::Syntax(at))
         } else {
             None
@@ -311,14 +311,14 @@ impl<'a> Reader<'a> {
     fn drop_fault(&self, at: u32) -> Option<MapFault>
         ensures { result ≡ first_of (spec.drop_tests self.now at) }
     {
-        if self.lines.is_empty() || self.standing.depth != 0 {
+        if self.lines.is_empty() || self.open_parts.depth != 0 {
             Some(MapFault::Syntax(at))
         } else {
             None
         }
     }
 
-    // The fault of a line below these.
+    // The fault of the next line.
     fn fault_of(&self, at: u32, whole: &Line<'a>) -> Option<MapFault>
         ensures { result ≡ first_of (spec.tests self.now at (line whole.now)) }
     {
@@ -336,14 +336,14 @@ impl<'a> Reader<'a> {
         }
     }
 
-    // Whether some group or flat is open, or nothing was said.
+    // Whether a group or flat is open, or there was no line.
     fn is_unclosed(&self) -> bool
         ensures { result ≡ is_unclosed self.now }
     {
-        self.lines.is_empty() || self.standing.depth != 0
+        self.lines.is_empty() || self.open_parts.depth != 0
     }
 
-    // The line that the words are below these, or its fault.
+    // The next line by its words, or its fault.
     fn tested(&self, at: u32, words: &[Word<'a>]) -> Result<Line<'a>, MapFault>
         ensures { Gives fault.Memory line result (spec.takes self.now at (map word words.now)) }
     {
@@ -356,7 +356,7 @@ impl<'a> Reader<'a> {
         }
     }
 
-    // Takes a line in.
+    // Appends a line that has no fault.
     fn add(self, whole: Line<'a>) -> Result<Reader<'a>, AllocError>
         requires { Taken spec.grammar self (line whole) }
         ensures { IfOk result (λ new. new ≡ line whole.entry ∷ self.entry) }
@@ -364,12 +364,12 @@ impl<'a> Reader<'a> {
         let Reader {
             alloc,
             mut lines,
-            standing,
+            open_parts,
             mut tables,
             mut segment,
             mut rule,
         } = self;
-        let standing = standing_below(standing, &whole);
+        let open_parts = open_parts_below(open_parts, &whole);
         take_in(
             alloc,
             &mut lines,
@@ -381,14 +381,14 @@ impl<'a> Reader<'a> {
         Ok(Reader {
             alloc,
             lines,
-            standing,
+            open_parts,
             tables,
             segment,
             rule,
         })
     }
 
-    // The map that these lines spell, where no part is open.
+    // The map that these lines spell. No group or flat is open.
     fn into_map(self) -> Result<Map, AllocError>
         requires { is_unclosed self ≡ false }
         ensures { IfOk result (λ m. map_value m ≡ map_of self.entry) }
@@ -403,7 +403,7 @@ impl<'a> Reader<'a> {
     }
 }
 
-// Takes a line in: what it puts into the tables, what it opens, and the line.
+// Appends a line, and updates what is open.
 fn take_in<'a>(
     alloc: Global,
     lines: &mut Vec<Line<'a>>,
@@ -425,7 +425,7 @@ fn take_in<'a>(
     Ok(())
 }
 
-// What a line puts into the tables, and what it opens.
+// Updates the tables and what is open by a line.
 fn open_below(
     alloc: Global,
     tables: &mut IndexMap<Vec<u8>, Table>,

@@ -1,27 +1,27 @@
-//! What a map makes of the fields of a segment.
+//! The rules of a map: what it makes of the fields of a segment.
 
-/// A field of the segment to which these labels lead.
+/// A field of the source, by the path of its segment.
 #[derive(Drop)]
 pub struct FieldPath {
     pub path: Vec<Vec<u8>>,
     pub field: u32,
 }
 
-/// A component and a subcomponent.
+/// A component and a subcomponent of a field.
 #[derive(Clone, Copy, PartialEq, Eq, Hash, Debug, Drop)]
 pub struct LeafPlace {
     pub comp: u32,
     pub sub: u32,
 }
 
-/// Where a text is taken from: from the first repetition of a field, or from the current one.
+/// The source of a text: the first repetition of a field, or the current repetition of a `repeat`.
 #[derive(Drop)]
 pub enum Ref {
     Field(FieldPath, LeafPlace),
     Current(LeafPlace),
 }
 
-/// What gives the text of one place: itself, a text of the source, or the row of a table for it.
+/// What makes one text of the target: a constant, a text of the source, or a table's row for a text of the source.
 #[derive(Drop)]
 pub enum Leaf {
     Const(Vec<u8>),
@@ -29,7 +29,7 @@ pub enum Leaf {
     Lookup(Vec<u8>, Ref),
 }
 
-/// What gives the text of this place.
+/// A leaf, and the place in the field that it fills.
 #[derive(Drop)]
 pub struct LeafRule {
     pub line: u32,
@@ -37,7 +37,7 @@ pub struct LeafRule {
     pub leaf: Leaf,
 }
 
-/// A field that is taken as it is.
+/// A field that is copied as it is.
 #[derive(Drop)]
 pub struct CopyRule {
     pub line: u32,
@@ -45,7 +45,7 @@ pub struct CopyRule {
     pub from: FieldPath,
 }
 
-/// A field that is made anew for each repetition of another.
+/// `repeat`: a field with one made repetition for each repetition of a source field.
 #[derive(Drop)]
 pub struct RepeatRule {
     pub line: u32,
@@ -54,7 +54,7 @@ pub struct RepeatRule {
     pub leaves: Vec<LeafRule>,
 }
 
-/// A field of one repetition that is made anew.
+/// `build`: a field of one repetition that leaves make.
 #[derive(Drop)]
 pub struct BuildRule {
     pub line: u32,
@@ -62,7 +62,7 @@ pub struct BuildRule {
     pub leaves: Vec<LeafRule>,
 }
 
-/// What makes a field of the target.
+/// A rule: what makes a field of the target.
 #[derive(Drop)]
 pub enum Rule {
     CopyField(CopyRule),
@@ -71,7 +71,7 @@ pub enum Rule {
     Build(BuildRule),
 }
 
-/// What is left out on purpose: a segment or group, or one field of a segment.
+/// A `drop` line: a segment, a group, or one field of a segment that is left out on purpose.
 #[derive(Drop)]
 pub struct Dropped {
     pub line: u32,

@@ -8,7 +8,7 @@ use indexmap::IndexMap;
 use std::alloc::{AllocError, Global};
 use std::marker::Model;
 
-/// The rows of a table, in order and each first value once, and what stands for every other. A value is looked up by its hash.
+/// A table: rows in order, each first value once, and the value of its `else` line for all others. A value is looked up by its hash.
 #[derive(Drop)]
 pub struct Table {
     pub(crate) rows: IndexMap<Vec<u8>, Vec<u8>>,
@@ -36,7 +36,7 @@ impl Table {
         }
     }
 
-    /// Puts a new row behind the others.
+    /// Appends a new row.
     pub(crate) fn put_row(
         &mut self,
         alloc: Global,
@@ -52,7 +52,7 @@ impl Table {
         Ok(())
     }
 
-    /// Says what stands for a value without a row.
+    /// Sets the value of the `else` line.
     pub(crate) fn put_other(&mut self, alloc: Global, value: &[u8]) -> Result<(), AllocError>
         ensures { OnOk result (self.new ≡ record { rows = self.old.rows; other = Some value.now }) }
     {
@@ -75,7 +75,7 @@ impl Table {
         &self.rows
     }
 
-    /// What stands for a value without a row. It takes no memory.
+    /// The value of the `else` line, for values without a row. It takes no memory.
     pub fn other(&self) -> Option<&[u8]>
         ensures { now result ≡ self.now.other }
     {

@@ -13,7 +13,7 @@ use crate::table::Table;
 use indexmap::IndexMap;
 use std::alloc::{AllocError, Global};
 
-/// The map that these lines spell, where no part is open.
+/// The map that these lines spell. No group or flat is open.
 pub(crate) fn map_of(
     alloc: Global,
     lines: Vec<Line>,

@@ -127,11 +127,11 @@ abbrev pub begins_tests : List Line → ℕ → List (Bool × ProfileFault)
 begins_tests above at = (begun above, Syntax at) ∷ []
 
 -- those of the line of a table, by whether one of its values is there twice
-abbrev pub told_table_tests : List Line → ℕ → List ℕ → Bool → List (Bool × ProfileFault)
-told_table_tests above at name repeats = (not (begun above), Syntax at) ∷ (is_among name (tables above) || repeats, Duplicate at) ∷ []
+abbrev pub table_line_tests : List Line → ℕ → List ℕ → Bool → List (Bool × ProfileFault)
+table_line_tests above at name repeats = (not (begun above), Syntax at) ∷ (is_among name (tables above) || repeats, Duplicate at) ∷ []
 
 abbrev pub table_tests : List Line → ℕ → List ℕ → List (List ℕ) → List (Bool × ProfileFault)
-table_tests above at name values = told_table_tests above at name (has_repeat values)
+table_tests above at name values = table_line_tests above at name (has_repeat values)
 
 abbrev pub segment_tests : List Line → ℕ → List ℕ → Option declared.Usage → Card → List (Bool × ProfileFault)
 segment_tests above at label usage card =

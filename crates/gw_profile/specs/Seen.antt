@@ -12,7 +12,7 @@ use Rattle.std.specs.Option.{option_map}
 use denote.Ref.{Bor}
 use Rattle.gw_profile.specs.declared.form.Line as declared
 use Rattle.gw_profile.specs.declared.context as Held
-use Rattle.gw_profile.specs.declared.reader.Above.{Above}
+use Rattle.gw_profile.specs.declared.reader.ReaderState.{ReaderState}
 use Rattle.gw_profile.specs.Fault as Fault
 use Rattle.std.specs.Global.{Vec}
 use Rattle.indexmap.specs.IndexSet.{IndexSet}
@@ -138,10 +138,10 @@ pub record Agrees (held : Held.Parents.Parents) (tables : List TableValue) (labe
   pub taken : AllTaken Fault.grammar lines
 
 -- the lines that a reader holds, the last first
-abbrev pub said : Above → List Spec.Line
+abbrev pub said : ReaderState → List Spec.Line
 said a = above a.lines.items
 
-abbrev pub Agreed : Above → Type 0
+abbrev pub Agreed : ReaderState → Type 0
 Agreed a = Agrees a.parents (map table a.tables.entries) a.levels (said a)
 
 -- a profile, with its borrowed nodes

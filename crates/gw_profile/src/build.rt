@@ -1,4 +1,4 @@
-//! Building of a profile from its lines.
+//! Builds a profile from its lines, from the last to the first.
 ghost use Rattle.std.specs.Prelude.{◌≡◌, ◌∷◌, [], map, reverse, IfOk, OnOk, unwrap_or, if◌then◌else◌, Some};
 ghost use Rattle.gw_profile.specs.declared.shape.Usage.TheVariants.{O};
 ghost use Rattle.gw_profile.specs.Shapes.{segment};
@@ -16,7 +16,7 @@ use crate::shape::{Card, CompShape, Count, FieldShape, SubShape, Usage};
 use std::alloc::{AllocError, Global};
 use std::mem;
 
-// What the lines below spell, each list from its last item on.
+// The parts that the lines below the current one spell, each list in reverse order. A part goes to the line that opens it.
 #[derive(Drop)]
 struct Below {
     subs: Vec<SubShape>,
@@ -27,7 +27,7 @@ struct Below {
     empty: Option<u32>,
 }
 
-/// The name, the count and the nodes of a profile, with the line of its first group that may be empty.
+/// The name, the count and the nodes of a profile, with the line of its first group that may be empty, if one may.
 #[derive(Drop)]
 pub(crate) struct Built {
     pub(crate) name: Vec<u8>,
@@ -221,7 +221,7 @@ fn add_sub(
     Ok(())
 }
 
-// Takes the nodes behind the next end.
+// Takes the nodes that follow the `end` of the current group.
 fn take_next(alloc: Global, behind: &mut Vec<Vec<Node>>) -> Vec<Node>
     ensures next { forest (reverse result.items) ≡ spec.next (forests behind.old.items) }
     ensures past { forests behind.new.items ≡ spec.past (forests behind.old.items) }
@@ -232,7 +232,7 @@ fn take_next(alloc: Global, behind: &mut Vec<Vec<Node>>) -> Vec<Node>
     }
 }
 
-// The first group that may be empty, with one before the others.
+// The line of the first group that may be empty, where a group of line `at` comes before those of `held`.
 fn empty_below(at: u32, nodes: &[Node], held: Option<u32>) -> Option<u32>
     ensures { result ≡ (if is_optional (forest nodes.now) then Some at else held) }
 {
@@ -337,7 +337,7 @@ fn name_of<'a>(lines: &[Line<'a>]) -> &'a [u8]
     }
 }
 
-// What lengths count where this is the second line.
+// What lengths count, if this is the second line.
 fn said_count(whole: &Line) -> Count
     ensures { result ≡ spec.said_count (line whole.now) }
 {
@@ -347,7 +347,7 @@ fn said_count(whole: &Line) -> Count
     }
 }
 
-// What the lengths of these lines count.
+// What lengths count in a profile of these lines.
 fn count_of(lines: &[Line]) -> Count
     ensures { result ≡ spec.count_of (map line lines.now) }
 {
@@ -358,7 +358,7 @@ fn count_of(lines: &[Line]) -> Count
     }
 }
 
-/// What these lines spell.
+/// The profile that these lines spell.
 pub(crate) fn build(alloc: Global, lines: &[Line]) -> Result<Built, AllocError>
     ensures value { IfOk result (λ b. built b ≡ (spec.name_of (map line lines.now), spec.count_of (map line lines.now), (spec.nodes (map line lines.now)).here)) }
     ensures empty { IfOk result (λ b. b.empty ≡ empty_group (map line lines.now)) }

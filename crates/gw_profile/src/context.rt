@@ -1,4 +1,4 @@
-//! What the lines above leave open.
+//! What the lines so far leave open: parents, tables and labels.
 ghost use Rattle.std.specs.Prelude.{◌≡◌, ◌∷◌, [], ◌++◌, map, IfOk, OnOk, false};
 ghost use Rattle.gw_lines.specs.Reading.{first_of};
 ghost use Rattle.gw_profile.specs.Fault as spec;
@@ -12,7 +12,7 @@ use indexmap::{IndexMap, IndexSet};
 use std::alloc::{AllocError, Global};
 use std::mem;
 
-/// A line that may have lines below it.
+/// A line that may have parts below it: whether it takes none (`shut`), their least number, and the last number so far.
 #[derive(Clone, Copy, Drop)]
 pub(crate) struct Parent {
     pub(crate) shut: bool,
@@ -20,7 +20,7 @@ pub(crate) struct Parent {
     pub(crate) last: u32,
 }
 
-/// The lines to which a field, a component and a subcomponent line would belong.
+/// The lines to which a field, a component or a subcomponent line would belong.
 #[derive(Clone, Copy, Drop)]
 pub(crate) struct Parents {
     pub(crate) segment: Option<Parent>,
@@ -56,7 +56,7 @@ fn with_part(number: u32, held: Option<Parent>) -> Option<Parent>
     }
 }
 
-/// The parents below a line.
+/// The parents after this line.
 pub(crate) fn parents_below(held: Parents, whole: &Line) -> Parents
     ensures { ParentsFollow held result (line whole.now) }
 {
@@ -97,7 +97,7 @@ pub(crate) fn parents_below(held: Parents, whole: &Line) -> Parents
     }
 }
 
-/// The table of a table line, where no value stands twice.
+/// The table of a table line, if no value occurs twice.
 pub(crate) fn made(alloc: Global, whole: &Line) -> Result<Option<Table>, AllocError>
     ensures { IfOk result (λ found. found ≡ made (line whole.now)) }
 {
@@ -114,7 +114,7 @@ pub(crate) fn knows(tables: &IndexMap<Vec<u8>, Table>, name: &[u8]) -> bool
     tables.contains_key(name)
 }
 
-// Puts a new table behind the others.
+// Appends a new table.
 fn put_table(
     alloc: Global,
     tables: &mut IndexMap<Vec<u8>, Table>,
@@ -129,7 +129,7 @@ fn put_table(
     Ok(())
 }
 
-/// Puts the table of this line behind the others.
+/// Appends the table of this line, if it is a table line.
 pub(crate) fn tables_below(
     alloc: Global,
     tables: &mut IndexMap<Vec<u8>, Table>,
@@ -150,7 +150,7 @@ pub(crate) fn tables_below(
     }
 }
 
-/// The labels of the nodes so far in the innermost open group, and in each level around it, the nearest last.
+/// The labels so far in the innermost open group, and in each level around it, the nearest last.
 #[derive(Drop)]
 pub(crate) struct Levels<'a> {
     pub(crate) labels: IndexSet<&'a [u8]>,
@@ -164,7 +164,7 @@ pub(crate) fn has_label(labels: &IndexSet<&[u8]>, label: &[u8]) -> bool
     labels.contains(label)
 }
 
-// Puts a new label behind the others.
+// Adds a new label.
 fn put_label<'a>(labels: &mut IndexSet<&'a [u8]>, label: &'a [u8]) -> Result<(), AllocError>
     requires { spec.is_among label.now (now_all labels.old.keys) ≡ false }
     ensures { OnOk result (now_all labels.new.keys ≡ now_all labels.old.keys ++ label.now ∷ []) }
@@ -173,7 +173,7 @@ fn put_label<'a>(labels: &mut IndexSet<&'a [u8]>, label: &'a [u8]) -> Result<(),
     Ok(())
 }
 
-// The labels of the level around the innermost.
+// Takes the labels of the nearest level around the current one.
 fn take_outer<'a>(alloc: Global, outer: &mut Vec<IndexSet<&'a [u8]>>) -> IndexSet<&'a [u8]>
     ensures { record { labels = now_all result.keys; outer = outer_labels outer.new.items } ≡ spec.outside (outer_labels outer.old.items) }
 {
@@ -202,7 +202,7 @@ fn close_group<'a>(alloc: Global, held: &mut Levels<'a>)
     let _closed = mem::replace(&mut held.labels, labels);
 }
 
-/// Brings the levels below a line.
+/// Updates the levels by this line.
 pub(crate) fn levels_below<'a>(
     alloc: Global,
     held: &mut Levels<'a>,

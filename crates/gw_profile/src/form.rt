@@ -1,4 +1,4 @@
-//! The forms of a profile's lines.
+//! The line patterns of a profile.
 ghost use Rattle.std.specs.Prelude.{◌≡◌, ◌≤◌, map, IfOk};
 ghost use Rattle.std.specs.Option.{option_map};
 ghost use Rattle.gw_lines.specs.Seen.{word};
@@ -10,7 +10,7 @@ use crate::shape::{Card, Usage};
 use gw_lines::{Word, behind, first_word, name_at, number_at, some_values};
 use std::alloc::{AllocError, Global};
 
-/// What a line says of a leaf.
+/// The options `len` and `table` of a line.
 #[derive(Clone, Copy, Drop)]
 pub(crate) struct LeafOptions<'a> {
     pub(crate) len: Option<u32>,
@@ -31,7 +31,7 @@ pub(crate) enum Line<'a> {
     Counts,
 }
 
-// The usage of these bytes; an inner nothing for C and CE.
+// The usage of these bytes. `Some(None)` for C and CE.
 fn usage_of(bytes: &[u8]) -> Option<Option<Usage>>
     ensures { result ≡ spec.usage_of bytes.now }
 {
@@ -113,7 +113,7 @@ fn card_at<'a, 'w>(words: &'w [Word<'a>]) -> Option<(Card, &'w [Word<'a>])>
     Some((card, more))
 }
 
-// The label of a segment, and whether it is its own.
+// The label of a segment, and whether `as` gives it.
 fn label_at<'a, 'w>(
     other: &'a [u8],
     words: &'w [Word<'a>],
@@ -216,7 +216,7 @@ fn leaf_options<'a>(usage: Option<Usage>, words: &[Word<'a>]) -> Option<Option<L
     options(usage, said, more)
 }
 
-// The line, where no word is left.
+// The line, if no word is left.
 fn with_all<'a>(words: &[Word<'a>], whole: Line<'a>) -> Option<Line<'a>>
     ensures { option_map line result ≡ with_all (map word words.now) (line whole.entry) }
 {
@@ -342,7 +342,7 @@ fn keyword_form<'a>(
     Ok(None)
 }
 
-/// The line that these words are; `at` is its number.
+/// The line that these words spell; `at` is its number.
 pub(crate) fn form<'a>(
     alloc: Global,
     at: u32,

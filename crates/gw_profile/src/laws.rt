@@ -1,4 +1,4 @@
-//! What holds of the definitions.
+//! Laws on the definitions.
 ghost use Rattle.std.specs.Prelude.{◌≡◌, ◌↔◌, [], ℕ, List, Ok, Err, Some, None};
 ghost use Rattle.gw_profile.specs.Shapes.{Forest, ProfileValue};
 ghost use Rattle.gw_profile.specs.LookAhead.{ambiguous};
@@ -23,7 +23,7 @@ pub fn spelled_is_well_formed()
     ensures { (text : List ℕ) (p : ProfileValue) → spelled text ≡ Ok p → WellFormed p }
 {}
 
-/// A worked profile, and two texts that spell it; one whose lengths count characters, and a text that says so too late.
+/// Worked examples: two texts that spell one profile, a profile whose lengths count characters, and a text that says so too late.
 pub fn worked_profile()
     ensures spelled { spelled worked_text ≡ Ok worked }
     ensures out { spelled worked_out ≡ Ok worked }

@@ -1,4 +1,4 @@
-//! How long texts are.
+//! The length of a text.
 ghost use Rattle.std.specs.Prelude.{◌≡◌, count_by};
 ghost use Rattle.gw_profile.specs.Lengths as spec;
 

@@ -9,7 +9,7 @@ use indexmap::IndexMap;
 use std::alloc::{AllocError, Global};
 use std::marker::Model;
 
-/// The nodes of one level of a profile: a label is looked up by its hash, and each node has the level within it.
+/// The nodes of one level of a profile, with the level within each. A label is looked up by its hash.
 #[derive(Drop)]
 pub struct Level<'p> {
     nodes: &'p [Node],
@@ -50,7 +50,7 @@ fn label_of(node: &Node) -> &[u8]
     }
 }
 
-// Keeps a number for a label, in the place of one that was kept before.
+// Sets the number for a label, and replaces an earlier one.
 fn put_number<'p>(
     numbers: &mut IndexMap<&'p [u8], usize>,
     label: &'p [u8],
@@ -62,7 +62,7 @@ fn put_number<'p>(
     Ok(())
 }
 
-// The numbers of the nodes by their labels, from the last node to the first.
+// The numbers of the nodes by their labels. It goes from the last node to the first, so the first of a label is kept.
 fn numbers_of<'p>(alloc: Global, nodes: &'p [Node]) -> Result<IndexMap<&'p [u8], usize>, AllocError>
     ensures { IfOk result (λ numbers. Numbers numbers.entries nodes.now) }
 {
@@ -85,7 +85,7 @@ fn nothing_within<'p>(alloc: Global) -> Level<'p>
     }
 }
 
-// The level of what is within a node.
+// The level within a node.
 #[cycle(index)]
 fn within<'p>(alloc: Global, node: &'p Node) -> Result<Level<'p>, AllocError>
     ensures { IfOk result (λ made. forest made ≡ inner node.now) }
@@ -96,7 +96,7 @@ fn within<'p>(alloc: Global, node: &'p Node) -> Result<Level<'p>, AllocError>
     }
 }
 
-// For each node the level of what is within it.
+// The level within each node.
 #[cycle(index)]
 fn each_within<'p>(alloc: Global, nodes: &'p [Node]) -> Result<Vec<Level<'p>>, AllocError>
     ensures { IfOk result (λ below. map forest below.items ≡ map inner nodes.now) }
@@ -128,7 +128,7 @@ impl<'p> Level<'p> {
     ghost use Rattle.gw_profile.specs.Seen.{forest};
     ghost use Rattle.gw_profile.specs.Labels as spec;
 
-    /// The level of the nodes at the top of a profile, with all that is within them. It takes time by the number of nodes. The one error is allocation failure.
+    /// The top level of a profile, with all levels within it. It takes time linear in the number of nodes. The one error is allocation failure.
     pub fn of(alloc: Global, profile: &'p Profile) -> Result<Level<'p>, AllocError>
         ensures { IfOk result (λ made. made ≡ profile.now.nodes) }
     {
@@ -149,7 +149,7 @@ impl<'p> Level<'p> {
         self.numbers.get(label).copied()
     }
 
-    /// The level within the node of this number, None where there is no such node. It takes no memory.
+    /// The level within the node of this number; `None` where there is no such node. It takes no memory.
     pub fn within(&self, number: usize) -> Option<&Level<'p>>
         ensures { spec.nodes_in result ≡ spec.within (forest self.now) number }
     {

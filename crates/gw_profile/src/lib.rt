@@ -1,4 +1,4 @@
-//! Message profiles.
+//! Message profiles (HL7 v2.5.1 chapter 2, 2.12): their text form and their rules.
 #![tactic(auto)]
 
 mod build;

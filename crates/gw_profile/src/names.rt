@@ -8,7 +8,7 @@ use crate::node::Node;
 use std::alloc::{AllocError, Global};
 use std::collections::HashSet;
 
-// Adds the names of the segments at a node.
+// Adds the names of the segments at and below a node.
 #[cycle(add)]
 fn add_node(names: &mut HashSet<[u8; 3]>, node: &Node) -> Result<(), AllocError>
     ensures { OnOk result (Adds names.old names.new (node_forest node.now nothing)) }
@@ -35,7 +35,7 @@ fn add_names(names: &mut HashSet<[u8; 3]>, nodes: &[Node]) -> Result<(), AllocEr
     Ok(())
 }
 
-/// The names of the segments at these nodes.
+/// The names of the segments at and below these nodes.
 pub(crate) fn names_of(alloc: Global, nodes: &[Node]) -> Result<HashSet<[u8; 3]>, AllocError>
     ensures { IfOk result (λ names. Holds names (forest nodes.now)) }
 {

@@ -1,11 +1,11 @@
-//! What was expected at a line that is no line of a profile.
+//! What was expected at a line that fits no pattern of a profile.
 ghost use Rattle.std.specs.Prelude.{◌≡◌, IfOk};
 ghost use Rattle.gw_profile.specs.Patterns as spec;
 
 use gw_lines::{Expected, keyword_of, line_at};
 use std::alloc::{AllocError, Global};
 
-// The pattern of the lines with this keyword, or all keywords where it is none.
+// The pattern of the lines with this keyword; all keywords for any other word.
 fn pattern(keyword: &[u8]) -> &'static [u8]
     ensures { result.now ≡ spec.pattern keyword.now }
 {
@@ -39,7 +39,8 @@ fn pattern(keyword: &[u8]) -> &'static [u8]
     b"profile, count, table, segment, field, comp, sub, group or end"
 }
 
-/// What was expected at the line of this number, from 1, of a text that is no profile: the pattern of its keyword, or the keywords that there are; behind the last line what is missing. The one error is allocation failure.
+/// What was expected at the line of this number, from 1, of a text that is no profile: the pattern of its keyword, or all keywords.
+/// Behind the last line it is what is missing. The one error is allocation failure.
 pub fn expected(alloc: Global, text: &[u8], at: u32) -> Result<Expected<'_>, AllocError>
     ensures { IfOk result (λ e. (e.pattern.now, e.found.now) ≡ spec.expected text.now at) }
 {

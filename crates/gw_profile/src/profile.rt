@@ -16,7 +16,8 @@ use std::alloc::{AllocError, Global};
 use std::collections::HashSet;
 use std::marker::Model;
 
-/// A message profile: what its lengths count, its tables in order, its tree of segments and groups, and the names of its segments. It is well formed by its type.
+/// A message profile: what its lengths count, its tables, its tree of segments and groups, and the names of its segments.
+/// It is well formed by its type.
 pub struct Profile {
     name: Vec<u8>,
     count: Count,
@@ -25,7 +26,7 @@ pub struct Profile {
     names: HashSet<[u8; 3]>,
 }
 
-// (by hand, so that no crate above proves again how its fields are dropped)
+// Written out, so that no crate above proves again how its fields are dropped.
 impl Drop for Profile {
     fn drop(self) {
         let Profile {
@@ -99,7 +100,7 @@ impl Profile {
         self.nodes.as_slice()
     }
 
-    /// Whether a segment of this name stands somewhere in the profile. It takes no memory, and looks the name up by its hash.
+    /// Whether a segment of this name is anywhere in the profile. It takes no memory, and looks the name up by its hash.
     pub fn knows(&self, name: [u8; 3]) -> bool
         ensures { result ≡ stands (forest self.now.nodes) name }
     {

@@ -1,4 +1,4 @@
-//! Reading of a profile, line by line.
+//! Parses a profile, line by line.
 ghost use Rattle.std.specs.Prelude.{◌≡◌, ◌∷◌, [], map, IfOk, OnOk};
 ghost use Rattle.gw_lines.specs.Seen.{word};
 ghost use Rattle.gw_lines.specs.Reading.{Gives, first_of, adding};
@@ -27,17 +27,17 @@ use indexmap::{IndexMap, IndexSet};
 use std::alloc::{AllocError, Global};
 use std::marker::Model;
 
-const MOST_NESTED: usize = 8;
+const MAX_NESTED: usize = 8;
 
 /// The lines of a profile so far.
 #[derive(Drop)]
 pub(crate) struct Reader<'a> {
-    above: Above<'a>,
+    state: ReaderState<'a>,
 }
 
-// The lines, with what they leave open.
+// The lines so far, with what they leave open.
 #[derive(Drop)]
-struct Above<'a> {
+struct ReaderState<'a> {
     alloc: Global,
     lines: Vec<Line<'a>>,
     parents: Parents,
@@ -59,9 +59,9 @@ impl<'a> Model for Reader<'a> {
 
     ghost Value = { List Line };
 
-    ghost view = { λ r. said r.above };
+    ghost view = { λ r. said r.state };
 
-    ghost invariant = { λ r. Agreed r.above };
+    ghost invariant = { λ r. Agreed r.state };
 }
 
 impl<'a> Reader<'a> {
@@ -70,7 +70,7 @@ impl<'a> Reader<'a> {
         ensures { result ≡ [] }
     {
         Reader {
-            above: Above {
+            state: ReaderState {
                 alloc,
                 lines: Vec::new(alloc),
                 parents: NO_PARENTS,
@@ -84,7 +84,7 @@ impl<'a> Reader<'a> {
     }
 }
 
-impl<'a> Above<'a> {
+impl<'a> ReaderState<'a> {
     fn begins_fault(&self, at: u32) -> Option<ProfileFault>
         ensures { result ≡ first_of (spec.begins_tests (said self.now) at) }
     {
@@ -97,7 +97,7 @@ impl<'a> Above<'a> {
 
     fn table_fault(&self, at: u32, name: &[u8], repeats: bool) -> Option<ProfileFault>
         requires { Agreed self.now }
-        ensures { result ≡ first_of (spec.told_table_tests (said self.now) at name.now repeats) }
+        ensures { result ≡ first_of (spec.table_line_tests (said self.now) at name.now repeats) }
     {
         if self.lines.is_empty() {
             return Some(ProfileFault::Syntax(at));
@@ -149,7 +149,7 @@ impl<'a> Above<'a> {
         if has_label(&self.levels.labels, label) {
             return Some(ProfileFault::Duplicate(at));
         }
-        if self.levels.outer.len() >= MOST_NESTED {
+        if self.levels.outer.len() >= MAX_NESTED {
             return Some(ProfileFault::TooDeep(at));
         }
         None
@@ -176,7 +176,7 @@ impl<'a> Above<'a> {
         }
     }
 
-    // The fault of a line below these; `found` is its table.
+    // The fault of the next line; `found` is its table.
     fn fault_of(&self, at: u32, whole: &Line<'a>, found: &Option<Table>) -> Option<ProfileFault>
         requires agreed { Agreed self.now }
         requires found { found.now ≡ made (line whole.now) }
@@ -218,7 +218,7 @@ impl<'a> Above<'a> {
         }
     }
 
-    // The line that the words are below these, with its table, or its fault.
+    // The next line by its words, with its table, or its fault.
     fn tested(&self, at: u32, words: &[Word<'a>]) -> Result<Tested<'a>, ProfileFault>
         requires { Agreed self.now }
         ensures line { Gives fault.Memory (λ (t : Tested). line t.whole) result (spec.takes (said self.now) at (map word words.now)) }
@@ -234,7 +234,7 @@ impl<'a> Above<'a> {
         }
     }
 
-    // Takes in a line that has no fault.
+    // Appends a line that has no fault.
     fn take_in(&mut self, tested: Tested<'a>) -> Result<(), AllocError>
         requires found { tested.found ≡ made (line tested.whole) }
         requires taken { Taken spec.grammar (said self.old) (line tested.whole) }
@@ -250,7 +250,7 @@ impl<'a> Above<'a> {
         Ok(())
     }
 
-    // Takes the words of a line.
+    // Appends the line of these words.
     fn take(&mut self, at: u32, words: &[Word<'a>]) -> Result<(), ProfileFault>
         requires { Agreed self.old }
         ensures lines { Gives fault.Memory (λ _. said self.new) result (adding spec.takes (said self.old) at (map word words.now)) }
@@ -261,7 +261,7 @@ impl<'a> Above<'a> {
         Ok(())
     }
 
-    // Whether some group is open, or nothing was said.
+    // Whether a group is open, or there was no line.
     fn is_unclosed(&self) -> bool
         requires { Agreed self.now }
         ensures { result ≡ is_unclosed (said self.now) }
@@ -269,7 +269,7 @@ impl<'a> Above<'a> {
         self.lines.is_empty() || !self.levels.outer.is_empty()
     }
 
-    // What the lines spell; `at` is the number of the line after the last.
+    // The profile that the lines spell; `at` is the number of the line after the last.
     fn ruled(&self, at: u32) -> Result<Built, ProfileFault>
         requires { Agreed self.now }
         ensures { Gives fault.Memory (λ b. built_value b (kept (said self.now))) result (whole (said self.now) at) }
@@ -304,21 +304,21 @@ impl<'a> Form<'a> for Reader<'a> {
     ghost gives = { λ above at result. Gives fault.Memory profile_value result (whole above at) };
 
     fn take(self, at: u32, words: &[Word<'a>]) -> Result<Reader<'a>, ProfileFault> {
-        let Reader { mut above } = self;
-        above.take(at, words)?;
-        Ok(Reader { above })
+        let Reader { mut state } = self;
+        state.take(at, words)?;
+        Ok(Reader { state })
     }
 
     fn finish(self, at: u32) -> Result<Profile, ProfileFault> {
-        let Reader { above } = self;
+        let Reader { state } = self;
         let Built {
             name,
             count,
             nodes,
             ..
-        } = above.ruled(at)?;
-        let alloc = above.alloc;
-        let profile = Profile::of(alloc, name, count, above.into_tables(), nodes)?;
+        } = state.ruled(at)?;
+        let alloc = state.alloc;
+        let profile = Profile::of(alloc, name, count, state.into_tables(), nodes)?;
         Ok(profile)
     }
 }

@@ -18,7 +18,7 @@ impl Node {
     ghost use Rattle.std.specs.Prelude.{◌≡◌};
     ghost use Rattle.gw_profile.specs.Nodes.{card_of};
 
-    /// How often the node may come.
+    /// How often the node may occur.
     pub fn card(&self) -> Card
         ensures { result ≡ card_of self.now }
     {
@@ -29,7 +29,7 @@ impl Node {
     }
 }
 
-/// Whether no node has a min of at least 1.
+/// Whether each node may be absent.
 pub(crate) fn is_optional(nodes: &[Node]) -> bool
     ensures { result ≡ spec.is_optional (forest nodes.now) }
 {
@@ -72,7 +72,7 @@ fn add_first(out: &mut Vec<[u8; 3]>, nodes: &[Node]) -> Result<(), AllocError>
     Ok(())
 }
 
-// Puts these names among the others.
+// Adds these names to the set.
 fn put_names(held: &mut IndexSet<[u8; 3]>, names: &[[u8; 3]]) -> Result<(), AllocError>
     ensures { OnOk result (Joins names.now held.old.keys held.new.keys) }
 {
@@ -82,7 +82,7 @@ fn put_names(held: &mut IndexSet<[u8; 3]>, names: &[[u8; 3]]) -> Result<(), Allo
     Ok(())
 }
 
-// The names that can begin a group again.
+// The names that can begin one more occurrence of a group.
 fn again(alloc: Global, card: Card, first: &[[u8; 3]]) -> Result<IndexSet<[u8; 3]>, AllocError>
     ensures { IfOk result (λ names. Joins (if line_of.allows card.max 2 then first.now else []) [] names.keys) }
 {
@@ -94,7 +94,7 @@ fn again(alloc: Global, card: Card, first: &[[u8; 3]]) -> Result<IndexSet<[u8; 3
     Ok(names)
 }
 
-// Takes back what was put behind the others.
+// Restores `near` from the last set of `far`.
 fn take_back(near: &mut IndexSet<[u8; 3]>, far: &mut Vec<IndexSet<[u8; 3]>>)
     ensures { TakesBack far.old.items near.new far.new.items }
 {
@@ -103,7 +103,7 @@ fn take_back(near: &mut IndexSet<[u8; 3]>, far: &mut Vec<IndexSet<[u8; 3]>>)
     }
 }
 
-// Forgets the names behind a node that has to come.
+// Clears the names that can follow, if the node has to occur.
 fn forget(alloc: Global, min: u32, follow: &mut IndexSet<[u8; 3]>)
     ensures { follow.new.keys ≡ (if min == 0 then follow.old.keys else []) }
 {
@@ -113,7 +113,7 @@ fn forget(alloc: Global, min: u32, follow: &mut IndexSet<[u8; 3]>)
     *follow = IndexSet::new(alloc);
 }
 
-// Puts the names that can begin a node to those of its later siblings, where it need not come.
+// The names that can come before the node: those that can begin it, and those of its later siblings if it may be absent.
 fn put_before(alloc: Global, node: &Node, follow: &mut IndexSet<[u8; 3]>) -> Result<(), AllocError>
     ensures { OnOk result (Joins (node_spec.first_of_node node.now) (if (node_spec.card_of node.now).min == 0 then follow.old.keys else []) follow.new.keys) }
 {
@@ -196,7 +196,7 @@ fn with_shared(name: [u8; 3], is_shared: bool, found: Option<[u8; 3]>) -> Option
     found
 }
 
-// Whether more than the least number may come.
+// Whether a node may occur more often than `min`.
 fn is_open(card: Card) -> bool
     ensures { result ≡ line_of.allows card.max (card.min + 1) }
 {
@@ -220,7 +220,7 @@ fn clash(
     None
 }
 
-// The least name of a node that one name of look-ahead does not determine, else the one that was found behind it.
+// The ambiguous name of a node, else the one that was found in a later node.
 fn or_else(name: Option<[u8; 3]>, found: Option<[u8; 3]>) -> Option<[u8; 3]>
     ensures { result ≡ spec.or_else name found }
 {
@@ -230,15 +230,17 @@ fn or_else(name: Option<[u8; 3]>, found: Option<[u8; 3]>) -> Option<[u8; 3]>
     }
 }
 
-// From which set on the names can come behind a node, by the node behind it.
+// The first set of `far` whose names can come before a node of this `min` and all that follows.
 fn passed(min: u32, start: usize, far: &[IndexSet<[u8; 3]>]) -> usize
     ensures { result ≡ (if min == 0 then start else length far.now) }
 {
     if min == 0 { start } else { far.len() }
 }
 
-/// The least name of the first node that one name of look-ahead does not determine, where a name of `follow`, or of the sets of `far` from this number on, can come behind these nodes.
-/// The nodes are gone through from the last to the first, and `follow` takes the names of the later siblings; those of the levels around stay in their sets.
+/// The least ambiguous name of the first node for which one name of look-ahead isn't enough.
+///
+/// The names that can follow these nodes are those of `follow`, and of the sets of `far` from `start` on. The nodes are walked from the last
+/// to the first, and `follow` gets the names of later siblings. Those of the levels around stay in their sets.
 #[cycle(ambiguous)]
 pub(crate) fn ambiguous(
     alloc: Global,
@@ -307,7 +309,7 @@ fn group_ambiguous(
     inner_ambiguous(alloc, nodes, &mut again, near, far, start)
 }
 
-// The same of the nodes of a group, behind which the names of `again` can come, and those behind the group.
+// The same for the nodes of a group. They can be followed by the names of `again`, and by those that can follow the group.
 #[cycle(ambiguous)]
 fn inner_ambiguous(
     alloc: Global,

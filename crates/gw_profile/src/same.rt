@@ -1,4 +1,4 @@
-//! Whether two profiles are one.
+//! Whether two profiles are equal.
 ghost use Rattle.std.specs.Prelude.{◌≡◌, ◌↔◌, IsTrue, map, slice_get};
 ghost use Rattle.std.specs.Option.{option_map};
 ghost use Rattle.gw_profile.specs.Seen.{segment_value, table, forest};
@@ -17,7 +17,7 @@ fn same_usage(one: Usage, other: Usage) -> bool
     one == other
 }
 
-/// Whether these are the same count.
+/// Whether the counts are equal.
 pub(crate) fn same_count(one: Count, other: Count) -> bool
     ensures { IsTrue result ↔ (one ≡ other) }
 {
@@ -105,7 +105,7 @@ fn is_segment(one: &SegNode, node: &Node) -> bool
     }
 }
 
-// Whether label, usage and cardinality are the same.
+// Whether label, usage and cardinality are equal.
 fn same_head(one: &GroupNode, other: &GroupNode) -> bool
     ensures { IsTrue result ↔ (group_of one.now ≡ group_of other.now) }
 {
@@ -143,7 +143,7 @@ fn same_node(one: &Node, other: &Node) -> bool
     }
 }
 
-/// Whether these are the same nodes.
+/// Whether the nodes are equal.
 #[cycle(same)]
 pub(crate) fn same_nodes(nodes: &[Node], others: &[Node]) -> bool
     ensures { IsTrue result ↔ (forest nodes.now ≡ forest others.now) }
@@ -167,7 +167,7 @@ fn table_at(tables: &IndexMap<Vec<u8>, Table>, i: usize) -> Option<(&[u8], &[Vec
     Some((name.as_slice(), held.values()))
 }
 
-// Whether these are the same table.
+// Whether the tables are equal.
 fn same_table(one: (&[u8], &[Vec<u8>]), other: (&[u8], &[Vec<u8>])) -> bool
     ensures { IsTrue result ↔ (lent_table one.entry ≡ lent_table other.entry) }
 {
@@ -177,7 +177,7 @@ fn same_table(one: (&[u8], &[Vec<u8>]), other: (&[u8], &[Vec<u8>])) -> bool
     are_same(one.1, other.1)
 }
 
-// Whether these are the same table, or none.
+// Whether the tables are equal, or both absent.
 fn same_some(one: Option<(&[u8], &[Vec<u8>])>, other: Option<(&[u8], &[Vec<u8>])>) -> bool
     ensures { IsTrue result ↔ (option_map lent_table one.entry ≡ option_map lent_table other.entry) }
 {
@@ -190,7 +190,7 @@ fn same_some(one: Option<(&[u8], &[Vec<u8>])>, other: Option<(&[u8], &[Vec<u8>])
     }
 }
 
-/// Whether these are the same tables in the same order.
+/// Whether these are equal tables in the same order.
 pub(crate) fn same_tables(
     tables: &IndexMap<Vec<u8>, Table>,
     others: &IndexMap<Vec<u8>, Table>,

@@ -1,4 +1,4 @@
-//! What a profile asks of the fields of a segment.
+//! What a profile demands of the fields of a segment.
 
 /// Whether an element is required, required but may be empty, optional or forbidden.
 #[derive(Clone, Copy, PartialEq, Eq, Debug, Drop)]
@@ -9,7 +9,7 @@ pub enum Usage {
     X,
 }
 
-/// How often an element may come.
+/// The cardinality of an element: how often it may occur.
 #[derive(Clone, Copy, PartialEq, Eq, Debug, Drop)]
 pub struct Card {
     pub min: u32,

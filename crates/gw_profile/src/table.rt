@@ -21,7 +21,7 @@ impl Model for Table {
     ghost view = { λ t. map (λ v. v.items) t.values.keys };
 }
 
-// Puts a copy of the value behind the others; whether it is new.
+// Appends a copy of the value, if it is new; whether it was.
 fn put(alloc: Global, values: &mut IndexSet<Vec<u8>>, value: &[u8]) -> Result<bool, AllocError>
     ensures new { IfOk result (λ new. new ≡ not (is_among value.now (map (λ v. v.items) values.old.keys))) }
     ensures put { IfOk result (λ new. new ≡ true → map (λ v. v.items) values.new.keys ≡ map (λ v. v.items) values.old.keys ++ value.now ∷ []) }
@@ -32,7 +32,7 @@ fn put(alloc: Global, values: &mut IndexSet<Vec<u8>>, value: &[u8]) -> Result<bo
 }
 
 impl Table {
-    /// The table of these values; none where one stands twice.
+    /// The table of these values; `None` if one occurs twice.
     pub(crate) fn of(alloc: Global, values: &[&[u8]]) -> Result<Option<Table>, AllocError>
         ensures { IfOk result (λ made. made ≡ (if has_repeat (now_all values.now) then None else Some (now_all values.now))) }
     {

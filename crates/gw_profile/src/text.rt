@@ -1,4 +1,4 @@
-//! The profile of a text.
+//! Parsing of a profile.
 ghost use Rattle.gw_lines.specs.Reading.{Gives};
 ghost use Rattle.gw_profile.specs.declared.fault.ProfileFault.TheVariants as fault;
 ghost use Rattle.gw_profile.specs.Seen.{profile_value};
@@ -10,13 +10,13 @@ use crate::reader::Reader;
 use gw_lines::read_text;
 use std::alloc::Global;
 
-const MOST_BYTES: usize = 1_048_576;
+const MAX_BYTES: usize = 1_048_576;
 
-const MOST_LINES: usize = 10_000;
+const MAX_LINES: usize = 10_000;
 
-/// The profile that the text spells, or its one fault.
+/// Parses a profile. Returns it, or the first fault of the text.
 pub fn parse(alloc: Global, text: &[u8]) -> Result<Profile, ProfileFault>
     ensures { Gives fault.Memory profile_value result (spelled text.now) }
 {
-    read_text(alloc, Reader::new(alloc), MOST_BYTES, MOST_LINES, text)
+    read_text(alloc, Reader::new(alloc), MAX_BYTES, MAX_LINES, text)
 }

@@ -1,4 +1,4 @@
-//! The rules of the whole profile, after all of its lines.
+//! The rules on the whole profile, after all of its lines.
 ghost use Rattle.std.specs.Prelude.{◌≡◌, map, not};
 ghost use Rattle.std.specs.List.{list_all};
 ghost use Rattle.gw_lines.specs.Reading.{Gives};
@@ -87,7 +87,7 @@ fn is_headed(lines: &[Line]) -> bool
     false
 }
 
-// Whether what these lines spell keeps the rules of the whole.
+// The fault of the whole profile that these lines spell, if it has one.
 fn keep_rules(alloc: Global, lines: &[Line], spelled: &Built) -> Result<(), ProfileFault>
     ensures { KeepsRules (map line lines.now) spelled.now result }
 {
@@ -110,7 +110,7 @@ fn keep_rules(alloc: Global, lines: &[Line], spelled: &Built) -> Result<(), Prof
     }
 }
 
-/// What these lines spell, from the first on, or the fault of the whole.
+/// The profile that these lines spell, or the fault of the whole.
 pub(crate) fn ruled(alloc: Global, lines: &[Line]) -> Result<Built, ProfileFault>
     ensures { Gives fault.Memory (λ b. built_value b (tables_of (map line lines.now))) result (spec.ruled (map line lines.now)) }
 {

@@ -6,10 +6,10 @@ use Rattle.gw_maplang.specs.Seen.{line, HasRoom, IsNewTable, IsNewField, IsNewPl
 use Rattle.gw_maplang.proofs.Kept.{new_table, new_field, new_place, has_room}
 use Rattle.gw_maplang.proofs.reader.Reader.add.Goals as goal
 
-pub standing_below-standing-requires : goal.standing_below-standing-requires
-standing_below-standing-requires c =
+pub open_parts_below-open_parts-requires : goal.open_parts_below-open_parts-requires
+open_parts_below-open_parts-requires c =
     subst (λ (d : ℕ). HasRoom d (line c.args.whole))
-    (sym (ap (λ (s : Held.Standing.Standing). s.depth) c.self.invariant.has_standing ∙ ap Fault.depth c.self.view_is)) (has_room _ (line c.args.whole) c.requires)
+    (sym (ap (λ (s : Held.OpenParts.OpenParts). s.depth) c.self.invariant.has_open_parts ∙ ap Fault.depth c.self.view_is)) (has_room _ (line c.args.whole) c.requires)
 
 pub take_in-requires-clause-table : goal.take_in-requires-clause-table
 take_in-requires-clause-table c =

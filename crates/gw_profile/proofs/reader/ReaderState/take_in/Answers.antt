@@ -2,7 +2,7 @@ use Rattle.std.proofs.Common.{ap}
 use Rattle.gw_profile.specs.Fault as Fault
 use Rattle.gw_profile.specs.Seen.{line}
 use Rattle.gw_profile.proofs.Kept.{new_table, new_label}
-use Rattle.gw_profile.proofs.reader.Above.take_in.Goals as goal
+use Rattle.gw_profile.proofs.reader.ReaderState.take_in.Goals as goal
 
 pub tables_below-requires-clause-new : goal.tables_below-requires-clause-new
 tables_below-requires-clause-new c =

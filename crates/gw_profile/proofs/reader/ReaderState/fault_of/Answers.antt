@@ -6,7 +6,7 @@ use Rattle.gw_profile.specs.declared.form.Line as declared
 use Rattle.gw_profile.specs.Fault.{begun, tables, is_among, tests}
 use Rattle.gw_profile.specs.Seen.{line, made, now_all, said}
 use Rattle.gw_profile.proofs.Kept.{table_told}
-use Rattle.gw_profile.proofs.reader.Above.fault_of.Goals as goal
+use Rattle.gw_profile.proofs.reader.ReaderState.fault_of.Goals as goal
 
 pub returns-in-Table : goal.returns-in-Table
 returns-in-Table c =

@@ -2,7 +2,7 @@ use Rattle.std.proofs.Common.{map, ◌∙◌, sym, ap, List}
 use Rattle.gw_profile.specs.declared.form.Line as declared
 use Rattle.gw_profile.specs.Seen.{line, above, said}
 use Rattle.gw_profile.proofs.Ruled.{ruled_whole}
-use Rattle.gw_profile.proofs.reader.Above.ruled.Goals as goal
+use Rattle.gw_profile.proofs.reader.ReaderState.ruled.Goals as goal
 
 pub returns : goal.returns
 returns c =
