@@ -10,11 +10,11 @@ use Rattle.gw_maplang.specs.Shapes.{TableValue}
 use Rattle.gw_interp.specs.declared.items.Part.{Part}
 use Rattle.gw_interp.specs.declared.items.Part.TheVariants.{OneSegment, Level}
 use Rattle.gw_interp.specs.Occurrences.{Occurrence, level_at, children, below}
-use Rattle.gw_interp.specs.own.Lent.{occurrence, scope}
+use Rattle.gw_interp.specs.own.Borrowed.{occurrence, scope}
 use Rattle.gw_interp.specs.own.Filling.{message_of}
 use Rattle.gw_interp.specs.own.Ready.{MayBegin, Adds}
 use Rattle.gw_interp.specs.own.Parts.{part_names, PartGives, names_within, MayWithin, GivesWithin, each_names, MayEach, EachGives}
-use Rattle.gw_interp.proofs.Lending.{drop_level, level_children, length_level}
+use Rattle.gw_interp.proofs.Borrowing.{drop_level, level_children, length_level}
 use Rattle.gw_interp.proofs.Naming.{given_names}
 use Rattle.gw_interp.proofs.Trees.{all_left}
 use Rattle.gw_interp.proofs.Giving.{names_of, each_one, IsWalkDone, none_walked, next_begins, next_walked, all_walked}

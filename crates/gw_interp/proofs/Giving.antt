@@ -10,7 +10,7 @@ use Rattle.gw_interp.specs.Meaning.{ForEach}
 use Rattle.gw_interp.specs.own.Ready.{IsOtherName, AreNames, MayBegin, Adds}
 use Rattle.gw_interp.proofs.Trees.{all_left, all_right}
 use Rattle.gw_interp.proofs.Naming.{names_each}
-use Rattle.gw_interp.proofs.Lending.{flat_two}
+use Rattle.gw_interp.proofs.Borrowing.{flat_two}
 
 abbrev pub names_of : List SegmentValue → List (List ℕ)
 names_of = map (λ (s : SegmentValue). s.name)

@@ -18,7 +18,7 @@ use Rattle.gw_resolve.specs.Resolved.{Items, no_items, group_item, flat_item}
 use Rattle.gw_resolve.specs.Seen.{place, with_item, all_items}
 use Rattle.gw_resolve.proofs.Rows.{group_items, flat_items}
 use Rattle.gw_interp.specs.Occurrences.{Occurrence, at_place}
-use Rattle.gw_interp.specs.own.Lent.{scope}
+use Rattle.gw_interp.specs.own.Borrowed.{scope}
 use Rattle.gw_interp.specs.own.Filling.{message_of}
 use Rattle.gw_interp.specs.Meaning.{ForEach, Give}
 use Rattle.gw_interp.specs.own.Ready.{MayGive, names_given, MayBegin, Adds}

@@ -28,7 +28,7 @@ pub mod Bounded
 pub mod Tabled
 pub mod Existing
 pub mod Makes
-mod Lending
+mod Borrowing
 mod ReadTexts
 mod Fills
 mod PutInTurn

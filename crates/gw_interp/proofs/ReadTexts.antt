@@ -10,8 +10,8 @@ use Rattle.gw_validate.specs.Fitting.{OccValue, numbered, segment_of}
 use Rattle.gw_validate.specs.Conforming as conforming
 use Rattle.gw_interp.specs.Occurrences.{Occurrence, texts_of_first}
 use Rattle.gw_interp.specs.Meaning.{InFirst}
-use Rattle.gw_interp.specs.own.Lent as lent
-use Rattle.gw_interp.specs.own.Lent.{occurrence, IsFirstOf}
+use Rattle.gw_interp.specs.own.Borrowed as lent
+use Rattle.gw_interp.specs.own.Borrowed.{occurrence, IsFirstOf}
 use Rattle.gw_interp.proofs.Shaped.{text_there}
 use Rattle.gw_interp.specs.own.Sourced.{texts_of, IsFirstRep}
 

@@ -13,7 +13,7 @@ use Rattle.gw_maplang.specs.Seen.{map_value}
 use Rattle.gw_resolve.specs.Resolved.{Items}
 use Rattle.gw_check.specs.Kept.{CheckedValue, resolved_map, IsChecked}
 use Rattle.gw_interp.specs.Occurrences.{Occurrence}
-use Rattle.gw_interp.specs.own.Lent.{scope}
+use Rattle.gw_interp.specs.own.Borrowed.{scope}
 use Rattle.gw_interp.specs.own.Filling.{message_of}
 use Rattle.gw_interp.specs.Meaning.{Give, Means}
 use Rattle.gw_interp.specs.own.Ready.{MayGive, names_given, MayBegin, Adds}

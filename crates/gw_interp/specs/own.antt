@@ -1,5 +1,5 @@
 -- The program's own words: no public contract rests on them.
-pub mod Lent
+pub mod Borrowed
 pub mod Sourced
 pub mod Putting
 pub mod Filling

@@ -1,4 +1,4 @@
-//! Fields of the source, copied to fields of the last segment.
+//! Copies fields of the source to fields of the last segment.
 ghost use Rattle.std.specs.Prelude.{◌≡◌, OnOk};
 ghost use Rattle.gw_interp.specs.own.Making.{MayCopyRep, IsRepCopied, Copies, MayMakeField, IsFieldMade};
 
@@ -13,7 +13,7 @@ pub(crate) struct ValuePath {
     pub(crate) rep: usize,
 }
 
-/// Copies the texts of a repetition. It takes time by their number.
+/// Copies the texts of a repetition. It takes time linear in their number.
 pub(crate) fn copy_rep(
     builder: &mut Builder,
     segment: &Segment<'_>,
@@ -36,7 +36,7 @@ pub(crate) fn copy_rep(
     Ok(())
 }
 
-/// Copies the texts of a field, each repetition to that of its number. It takes time by their number.
+/// Copies the texts of a field, each repetition to the one of its number. It takes time linear in the number of texts.
 pub(crate) fn copy_reps(
     builder: &mut Builder,
     segment: &Segment<'_>,

@@ -1,8 +1,8 @@
-//! Leaves put at a repetition of a field.
+//! Fills a repetition of a field from leaves.
 ghost use Rattle.std.specs.Prelude.{◌≡◌, ◌<◌, length, None, OnOk, map};
 ghost use Rattle.std.specs.FinMap as texts;
 ghost use Rattle.gw_resolve.specs.Seen.{at_leaf};
-ghost use Rattle.gw_interp.specs.own.Lent.{AreOf};
+ghost use Rattle.gw_interp.specs.own.Borrowed.{AreOf};
 ghost use Rattle.gw_interp.specs.own.Putting.{last_name, last_texts};
 ghost use Rattle.gw_interp.specs.own.Filling.{message_of, read_by, key_of, MayHold, IsHeld, MayFill, AreFilled};
 ghost use Rattle.gw_interp.specs.own.Making.{MayFillRep, IsRepFilled};
@@ -44,7 +44,7 @@ fn put_leaf<'a>(
     }
 }
 
-// Puts the texts of leaves at a repetition of a field of the last segment.
+// Puts the texts of leaves at their places in a repetition of a field of the last segment.
 fn put_leaves<'a>(
     rows: &'a Map,
     reading: &Reading<'_, 'a>,
@@ -63,7 +63,7 @@ fn put_leaves<'a>(
     Ok(())
 }
 
-/// Puts the texts of leaves at all places of a repetition, where none is.
+/// Fills an empty repetition with the texts of leaves.
 pub(crate) fn fill_rep<'a>(
     rows: &'a Map,
     reading: &Reading<'_, 'a>,

@@ -1,4 +1,4 @@
-//! What the items of a map give, in their order.
+//! What the items of a map make, in their order.
 ghost use Rattle.std.specs.Prelude.{◌≡◌, [], ◌∷◌, unwrap_or, OnOk};
 ghost use Rattle.gw_er7.specs.Building.{IsBegun};
 ghost use Rattle.gw_profile.specs.Shapes.{nothing};
@@ -7,7 +7,7 @@ ghost use Rattle.gw_resolve.specs.Places.{child, name_of};
 ghost use Rattle.gw_resolve.specs.Resolved.{no_items};
 ghost use Rattle.gw_resolve.specs.Seen.{with_item, all_items};
 ghost use Rattle.gw_interp.specs.Occurrences.{below};
-ghost use Rattle.gw_interp.specs.own.Lent.{occurrence, scope as walked_in, AreOf};
+ghost use Rattle.gw_interp.specs.own.Borrowed.{occurrence, scope as walked_in, AreOf};
 ghost use Rattle.gw_interp.specs.own.Filling.{message_of};
 ghost use Rattle.gw_interp.specs.own.Ready.{MayBegin, Adds};
 ghost use Rattle.gw_interp.specs.own.Parts.{items_names, MayItems, ItemsGive, found_at, node_name, segments_names};
@@ -23,16 +23,16 @@ use gw_resolve::{Item, ScopePath, SegmentItem, nodes_within};
 use gw_validate::Occ;
 use std::alloc::AllocError;
 
-/// What is made within each occurrence at a place, for these nodes of the target.
+/// What is made within each occurrence at a place. The nodes are those of the target's level.
 #[derive(Drop)]
 pub(crate) enum Part<'a> {
     /// The segment of an item.
     OneSegment(&'a [Node], &'a SegmentItem),
-    /// What items give.
+    /// What several items make.
     Level(&'a [Node], &'a [Item]),
 }
 
-// The name of a node that is a segment.
+// The name of a node, if it is a segment.
 fn name_of_node(node: &Node) -> Option<[u8; 3]>
     ensures { unwrap_or result [] ≡ name_of (child (node_forest node.now nothing) 0) }
 {
@@ -42,7 +42,7 @@ fn name_of_node(node: &Node) -> Option<[u8; 3]>
     }
 }
 
-// The name of the segment of this number.
+// The name of the node of this number, if it is a segment.
 fn name_at(nodes: &[Node], number: usize) -> Option<[u8; 3]>
     ensures { unwrap_or result [] ≡ name_of (child (forest nodes.now) number) }
 {
@@ -52,7 +52,7 @@ fn name_at(nodes: &[Node], number: usize) -> Option<[u8; 3]>
     }
 }
 
-// A segment for the target's node of an item.
+// Makes the segment of an item.
 fn put_one<'a>(
     rows: &'a Map,
     scope: &[Occ<'a>],
@@ -73,7 +73,7 @@ fn put_one<'a>(
     put_segment(rows, scope, builder, name, &item.rules)
 }
 
-// Makes a part, where these occurrences are walked.
+// Makes a part within the occurrences of `scope`.
 #[cycle(items)]
 fn put_part<'a>(
     rows: &'a Map,
@@ -95,7 +95,7 @@ fn put_part<'a>(
     }
 }
 
-// Makes a part within an occurrence, which is walked meanwhile, and no longer.
+// Makes a part within one more occurrence, which is in scope only meanwhile.
 #[cycle(items)]
 fn enter<'a>(
     rows: &'a Map,
@@ -120,7 +120,7 @@ fn enter<'a>(
     put
 }
 
-// Makes a part within each of the occurrences where the steps lead from this one.
+// Makes a part within each occurrence to which the steps lead from this one.
 #[cycle(items)]
 fn put_below<'a>(
     rows: &'a Map,
@@ -154,7 +154,7 @@ fn put_below<'a>(
     }
 }
 
-// Makes a part within each of the occurrences at a place, in the order of the message.
+// Makes a part within each occurrence at a place, in the order of the message.
 #[cycle(items)]
 fn put_each<'a>(
     rows: &'a Map,
@@ -177,7 +177,7 @@ fn put_each<'a>(
     }
 }
 
-// The segments of an item.
+// Makes the segments of an item.
 #[cycle(items)]
 fn put_segments<'a>(
     rows: &'a Map,
@@ -203,7 +203,7 @@ fn put_segments<'a>(
     }
 }
 
-// What one item gives.
+// Makes what one item makes.
 #[cycle(items)]
 fn put_item<'a>(
     rows: &'a Map,
@@ -233,7 +233,7 @@ fn put_item<'a>(
     }
 }
 
-/// Puts what the items of a level give behind the segments of the builder.
+/// Appends what the items of a level make to the builder.
 #[cycle(items)]
 pub(crate) fn put_items<'a>(
     rows: &'a Map,

@@ -1,4 +1,4 @@
-//! What a map makes of a message, and what the checker's yes says of it.
+//! Translation of a message by a checked map, and the law of what acceptance by the checker means.
 #![tactic(auto)]
 
 mod copying;

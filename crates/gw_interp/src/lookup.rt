@@ -7,7 +7,7 @@ ghost use Rattle.gw_resolve.specs.Naming.{no_rows};
 ghost use Rattle.gw_leaves.specs.Leaves.{given};
 ghost use Rattle.gw_resolve.specs.Seen.{leaf as seen_leaf};
 ghost use Rattle.gw_validate.specs.Breaches.{is_null};
-ghost use Rattle.gw_interp.specs.own.Lent.{AreOf};
+ghost use Rattle.gw_interp.specs.own.Borrowed.{AreOf};
 ghost use Rattle.gw_interp.specs.Meaning.{look_up};
 ghost use Rattle.gw_interp.specs.own.Sourced.{walks, LeafGives};
 
@@ -21,7 +21,7 @@ fn is_null(text: &[u8]) -> bool
     text == b"\"\"".as_slice()
 }
 
-// What the rows of a table give for a text.
+// The value that a table has for a text: that of its row, else that of its `else` line.
 fn given<'a>(table: &'a Table, text: &[u8]) -> Option<&'a [u8]>
     ensures { now result ≡ given table.now text.now }
 {
@@ -31,7 +31,7 @@ fn given<'a>(table: &'a Table, text: &[u8]) -> Option<&'a [u8]>
     }
 }
 
-// What the table of this name gives for a text: an absent one stays absent, and "" stays "".
+// The value that the table of this name has for a text. An absent text stays absent, and `""` stays `""`.
 fn look_up<'a>(map: &'a Map, name: &[u8], text: &'a [u8]) -> Option<&'a [u8]>
     ensures { now result ≡ look_up (unwrap_or (table_of name.now map.now.tables) no_rows) text.now }
 {
@@ -44,7 +44,7 @@ fn look_up<'a>(map: &'a Map, name: &[u8], text: &'a [u8]) -> Option<&'a [u8]>
     }
 }
 
-/// The text of a leaf, empty where it is absent; none where the rows of its table give nothing for what is read. It takes no memory.
+/// The text of a leaf, empty where it is absent. `None` if its table has nothing for what is read. It takes no memory.
 pub(crate) fn leaf_text<'a>(
     map: &'a Map,
     reading: &Reading<'_, 'a>,

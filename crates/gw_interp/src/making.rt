@@ -1,8 +1,8 @@
-//! Fields of the last segment, made by their rules.
+//! Makes the fields of the last segment by their rules.
 ghost use Rattle.std.specs.Prelude.{OnOk};
 ghost use Rattle.gw_resolve.specs.Resolved.{copy, first, repeat, build};
 ghost use Rattle.gw_resolve.specs.Seen.{reference, rule as seen_rule};
-ghost use Rattle.gw_interp.specs.own.Lent.{AreOf};
+ghost use Rattle.gw_interp.specs.own.Borrowed.{AreOf};
 ghost use Rattle.gw_interp.specs.own.Filling.{message_of};
 ghost use Rattle.gw_interp.specs.own.Making.{seen_from, in_repetition, at_leaves, MayFillRep, IsRepFilled, MayMakeBy, IsMadeBy, MayMakeRule, IsRuleMade};
 
@@ -15,7 +15,7 @@ use gw_resolve::{At, Making, Reference, Rule};
 use gw_validate::Occ;
 use std::alloc::AllocError;
 
-// Makes a field as another.
+// Makes a field as a copy of another.
 fn make_copy(
     scope: &[Occ<'_>],
     builder: &mut Builder,
@@ -32,7 +32,7 @@ fn make_copy(
     copy_reps(builder, &segment, from.field as usize, field)
 }
 
-// Makes a field as the first repetition of another.
+// Makes a field as a copy of the first present repetition of another.
 fn make_first(
     scope: &[Occ<'_>],
     builder: &mut Builder,
@@ -54,7 +54,7 @@ fn make_first(
     copy_rep(builder, &segment, spot, ValuePath { field, rep: 1 })
 }
 
-// Makes one repetition of leaves.
+// Makes a field of one repetition from leaves.
 fn make_build<'a>(
     rows: &'a Map,
     scope: &[Occ<'a>],
@@ -73,7 +73,7 @@ fn make_build<'a>(
     fill_rep(rows, &reading, builder, leaves, field, 1)
 }
 
-// Makes a repetition of leaves for that of the same number of another field, of this segment.
+// Makes a repetition from leaves, for the one of the same number of a source field.
 fn make_rep<'a>(
     rows: &'a Map,
     scope: &[Occ<'a>],
@@ -95,7 +95,7 @@ fn make_rep<'a>(
     fill_rep(rows, &reading, builder, leaves, field, rep)
 }
 
-// Makes a repetition of leaves for each repetition of another field that is there.
+// Makes a repetition from leaves for each present repetition of a source field.
 fn make_repeat<'a>(
     rows: &'a Map,
     scope: &[Occ<'a>],

@@ -1,10 +1,10 @@
-//! The texts at the sources of a map.
+//! Reads the texts at a map's sources.
 ghost use Rattle.std.specs.Prelude.{◌≡◌, ℕ, ◌<◌, ◌≤◌, List};
 ghost use Rattle.gw_er7.specs.Message.{SegmentValue, text_of};
 ghost use Rattle.gw_er7.specs.Presence.{RepAt, IsLast};
 ghost use Rattle.gw_resolve.specs.Seen.{place as seen_place, source as seen_source};
 ghost use Rattle.gw_interp.specs.Occurrences.{texts_at};
-ghost use Rattle.gw_interp.specs.own.Lent.{scope as walked, AreOf};
+ghost use Rattle.gw_interp.specs.own.Borrowed.{scope as walked, AreOf};
 ghost use Rattle.gw_interp.specs.Meaning.{InFirst, SourceMeans};
 ghost use Rattle.gw_interp.specs.own.Sourced.{texts_of, IsFirstRep, current_texts, walks};
 
@@ -22,14 +22,14 @@ pub(crate) struct Repetition<'a> {
     pub(crate) rep: usize,
 }
 
-/// What is read: the occurrences that are walked, the innermost last, and the repetition that is walked.
+/// Where a rule reads: the occurrences that are walked, the innermost last, and the current repetition of a `repeat`.
 #[derive(Drop)]
 pub(crate) struct Reading<'s, 'a> {
     pub(crate) scope: &'s [Occ<'a>],
     pub(crate) current: Option<Repetition<'a>>,
 }
 
-/// The segment at a place, where one is there. It takes no memory.
+/// The segment at a place, if there is one. It takes no memory.
 pub(crate) fn segment_at<'a>(scope: &[Occ<'a>], place: &ScopePath) -> Option<Segment<'a>>
     ensures { (m : List SegmentValue) → AreOf m scope.now → texts_of result ≡ texts_at m (walked scope.now) (seen_place place.now) }
 {
@@ -39,7 +39,8 @@ pub(crate) fn segment_at<'a>(scope: &[Occ<'a>], place: &ScopePath) -> Option<Seg
     }
 }
 
-/// The first repetition of a field that is present behind this one, up to the last. It takes time by the logarithm of the segment's values.
+/// The first present repetition of a field after this one. The last present one is `last`.
+/// It takes time logarithmic in the number of the segment's values.
 pub(crate) fn next_rep(segment: &Segment<'_>, field: usize, after: usize, last: usize) -> usize
     requires last { IsLast (RepAt segment.now.at field) last }
     requires after { after < last }
@@ -59,7 +60,7 @@ pub(crate) fn next_rep(segment: &Segment<'_>, field: usize, after: usize, last: 
     segment.value(at).place.rep
 }
 
-/// The first repetition of a field that is present.
+/// The first present repetition of a field.
 pub(crate) fn first_rep(segment: &Segment<'_>, field: usize) -> Option<usize>
     ensures { IsFirstRep segment.now.at field result }
 {
@@ -82,7 +83,7 @@ fn text_at<'a>(segment: &Segment<'a>, field: usize, rep: usize, at: LeafPlace) -
     })
 }
 
-// The text of a subcomponent in the first present repetition of a field, empty where there is none.
+// The text of a subcomponent in the first present repetition of a field; empty if there is none.
 fn first_text<'a>(segment: &Option<Segment<'a>>, field: u32, at: LeafPlace) -> &'a [u8]
     ensures { InFirst (texts_of segment.now) field at.comp at.sub result.now }
 {
@@ -95,7 +96,7 @@ fn first_text<'a>(segment: &Option<Segment<'a>>, field: u32, at: LeafPlace) -> &
     text_at(segment, field as usize, rep, at)
 }
 
-// The text of a subcomponent in the repetition that is walked.
+// The text of a subcomponent in the current repetition.
 fn current_text<'a>(current: &Option<Repetition<'a>>, at: LeafPlace) -> &'a [u8]
     ensures { result.now ≡ current_texts current.now at.comp at.sub }
 {

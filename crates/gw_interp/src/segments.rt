@@ -1,8 +1,8 @@
-//! Segments made by their rules.
+//! Makes segments by their rules.
 ghost use Rattle.std.specs.Prelude.{◌≡◌, OnOk, map, ◌∷◌, []};
 ghost use Rattle.gw_er7.specs.Building.{IsBegun};
 ghost use Rattle.gw_resolve.specs.Seen.{rule as seen_rule};
-ghost use Rattle.gw_interp.specs.own.Lent.{AreOf};
+ghost use Rattle.gw_interp.specs.own.Borrowed.{AreOf};
 ghost use Rattle.gw_interp.specs.Meaning.{IsImage, IsOne};
 ghost use Rattle.gw_interp.specs.own.Filling.{message_of};
 ghost use Rattle.gw_interp.specs.own.Ready.{MayImage, MayBegin, Adds};
@@ -32,7 +32,7 @@ fn make_rules<'a>(
     Ok(())
 }
 
-/// Puts a segment of this name behind the others, made by rules.
+/// Appends a segment of this name, made by its rules.
 pub(crate) fn put_segment<'a>(
     rows: &'a Map,
     scope: &[Occ<'a>],

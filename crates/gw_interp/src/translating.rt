@@ -1,4 +1,4 @@
-//! Translation: what a checked map makes of a message.
+//! Translates a message by a checked map.
 ghost use Rattle.std.specs.Prelude.{◌≡◌, IfOk, None};
 ghost use Rattle.gw_er7.specs.Message.{IsMessage};
 ghost use Rattle.gw_profile.specs.Seen.{profile_value};
@@ -16,36 +16,36 @@ use gw_maplang::Map;
 use gw_validate::{Occ, Tree};
 use std::alloc::{AllocError, Global};
 
-// The whole message as an occurrence, and what its tree keeps.
+// The whole message as an occurrence, with what its tree's type says of it.
 fn root_of(tree: &Tree) -> Occ<'_>
     ensures root { result ≡ record { message = tree.now.message; number = None; tree = tree.now.tree } }
     ensures tree { IsTreeOf (profile_value tree.now.profile) tree.now.message tree.now.tree }
     ensures conforms { Conforms (profile_value tree.now.profile) tree.now.message }
     ensures message { IsMessage tree.now.message }
 {
-    // (its clause says what every message keeps)
+    // Called for its clause, which says what every message keeps.
     let _segments = tree.message().segment_count();
     tree.root()
 }
 
-// The map, and what each map keeps.
+// The map, with what its type says of it.
 fn rows_of(map: &CheckedMap) -> &Map
     ensures map { result.now ≡ map.now.map }
     ensures lawful { Lawful (map_value map.now.map) }
 {
     let rows = map.map();
-    // (its clause says what every map keeps)
+    // Called for its clause, which says what every map keeps.
     let _items = rows.items();
     rows
 }
 
-/// The one message that the map makes of the message of a tree by the map's source. It conforms to the map's target.
+/// Translates a message. `tree` is its tree by the map's source. The result is the one message that the map makes of it, and it conforms to
+/// the map's target. The one error is allocation failure.
 ///
-/// It takes time by the occurrences that the map's items walk, by the rules made for each, and by the texts that these read and put.
-/// The factor is the logarithm of the values in a segment. How large the numbers of places are doesn't count.
-/// An item within another may walk occurrences outside those of the other. Then each is walked once for each of the others.
-/// Their numbers multiply, and the result may be larger than the message and the map together.
-/// The one error is allocation failure.
+/// The time grows with the occurrences that the map's items walk, with the rules made for each, and with the texts that these read and put.
+/// The factor is the logarithm of the number of values in a segment. The size of the numbers of places doesn't matter.
+/// An inner item may walk occurrences outside those of the item around it. Then it walks them once for each of the outer ones.
+/// So the numbers multiply, and the result may be larger than the message and the map together.
 pub fn translate(alloc: Global, map: &CheckedMap, tree: &Tree) -> Result<Message, AllocError>
     requires takes { profile_value tree.now.profile ≡ profile_value map.now.source }
     ensures means { IfOk result (λ made. Means (profile_value map.now.target) (resolved_map map.now) tree.now.message tree.now.tree made) }

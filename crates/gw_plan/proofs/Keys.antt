@@ -171,7 +171,7 @@ none_len t (y ∷ xs) e = by (t y) e (none_len t xs)
     by true e next = absurd (cc)
     by false e next = ap (λ n. 1 + n) (next e) ∙ omega arith
 
--- a word that is put has the number that is told
+-- a word that is put has the number that is given
 put_at : (words : List (Vec ℕ)) (word : Vec ℕ) → at word.items (grown words word) ≡ Some (position_or_len (λ k. bytes_eq word.items k.items) words)
 put_at words word = by (list_any (λ k. bytes_eq word.items k.items) words) refl
   where

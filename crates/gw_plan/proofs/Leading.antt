@@ -9,7 +9,7 @@ use Rattle.gw_plan.specs.declared.fault.PlanFault.{PlanFault}
 use Rattle.gw_plan.specs.declared.fault.PlanFault.TheVariants.{Syntax, Duplicate, UnknownName, WrongMap}
 use Rattle.gw_plan.specs.Shapes.{MapBetween, RouteValue, named}
 use Rattle.gw_plan.specs.Held.{RouteHeld, map_between, route_value, longer, leg}
-use Rattle.gw_plan.specs.Above.{BeginsAt, named_profile}
+use Rattle.gw_plan.specs.Declarations.{BeginsAt, named_profile}
 use Rattle.gw_plan.specs.own.SoFar.{StandsAmong}
 use Rattle.gw_plan.specs.Draft.{Draft, receiver_number, map_named, goes, with_leg, with_map, delivered}
 use Rattle.std.proofs.lemmas.List.{map-append}

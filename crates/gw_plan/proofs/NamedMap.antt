@@ -20,15 +20,15 @@ use Rattle.gw_profile.proofs.Shaped.{any, gives, map_gives, either_gives, with_a
 use Rattle.gw_plan.specs.declared.fault.PlanFault.TheVariants.{Duplicate}
 use Rattle.gw_plan.specs.Shapes.{MapBetween}
 use Rattle.gw_profile.specs.Shapes.{ProfileValue}
-use Rattle.gw_plan.specs.Above.{named_map}
-use Rattle.gw_plan.specs.Inner.{Inner, MapHead, text, broken, common, first_said, name_behind, sides_at, map_head_of, map_head, map_again, map_unknown, head_faults, map_faults_beside}
+use Rattle.gw_plan.specs.Declarations.{named_map}
+use Rattle.gw_plan.specs.Inner.{Inner, MapHeader, text, broken, common, first_said, name_behind, profiles_at, map_header_of, map_header, duplicate_map, unknown_profile, header_faults, map_faults_beside}
 use Rattle.gw_plan.proofs.Rejoined.{rejoined}
 use Rattle.gw_plan.proofs.FirstLines.{First, first_taken, turned, keyword_gives}
 use Rattle.gw_plan.proofs.Earliest.{none_of_both, none_beside}
 
 -- the words that say the name of a map
 abbrev Says : List Word → Line → Type 0
-Says ws (Begins at name source target) = (n : ℕ) → map_head_of (n, ws) ≡ Some (record { line = n; name = name; source = source; target = target })
+Says ws (Begins at name source target) = (n : ℕ) → map_header_of (n, ws) ≡ Some (record { line = n; name = name; source = source; target = target })
 Says ws (Table name) = Unit {0}
 Says ws (Rows row) = Unit {0}
 Says ws (Else value) = Unit {0}
@@ -51,20 +51,20 @@ name_behind_is : (keyword : List ℕ) (ws more : List Word) (name : List ℕ × 
 name_behind_is keyword ws more name b n = ap (λ (o : Option (List Word)). o >>= λ more. name_at more) b ∙ n
 
 sides_are : (ws : List Word) (source target : List ℕ × List Word) → name_behind (codes "from") ws ≡ Some source → name_behind (codes "to") source.1 ≡ Some target → target.1 ≡ []
-    → sides_at ws ≡ Some (source.0, target.0)
+    → profiles_at ws ≡ Some (source.0, target.0)
 sides_are ws source target s t none =
     ap (λ (o : Option (List ℕ × List Word)). o >>= λ source. name_behind (codes "to") source.1 >>= λ target. with_all target.1 (source.0, target.0)) s
     ∙ ap (λ (o : Option (List ℕ × List Word)). o >>= λ target. with_all target.1 (source.0, target.0)) t
     ∙ ap (λ ws. with_all ws (source.0, target.0)) none
 
-head_is : (n : ℕ) (ws : List Word) (name : List ℕ × List Word) (source target : List ℕ) → name_behind (codes "map") ws ≡ Some name → sides_at name.1 ≡ Some (source, target)
-    → map_head_of (n, ws) ≡ Some (record { line = n; name = name.0; source = source; target = target })
+head_is : (n : ℕ) (ws : List Word) (name : List ℕ × List Word) (source target : List ℕ) → name_behind (codes "map") ws ≡ Some name → profiles_at name.1 ≡ Some (source, target)
+    → map_header_of (n, ws) ≡ Some (record { line = n; name = name.0; source = source; target = target })
 head_is n ws name source target e s =
-    ap (λ (o : Option (List ℕ × List Word)). o >>= λ name. sides_at name.1 >>= λ sides. Some (heading n name.0 sides)) e
-    ∙ ap (λ (o : Option (List ℕ × List ℕ)). o >>= λ sides. Some (heading n name.0 sides)) s
+    ap (λ (o : Option (List ℕ × List Word)). o >>= λ name. profiles_at name.1 >>= λ named_profiles. Some (heading n name.0 named_profiles)) e
+    ∙ ap (λ (o : Option (List ℕ × List ℕ)). o >>= λ named_profiles. Some (heading n name.0 named_profiles)) s
   where
-    heading : ℕ → List ℕ → List ℕ × List ℕ → MapHead
-    heading n name sides = record { line = n; name = name; source = sides.0; target = sides.1 }
+    heading : ℕ → List ℕ → List ℕ × List ℕ → MapHeader
+    heading n name named_profiles = record { line = n; name = name; source = named_profiles.0; target = named_profiles.1 }
 
 begins_says : (at : ℕ) (w : Word) (more : List Word) → is_keyword (codes "map") w ≡ true → IfSome (map_form at more) (Says (w ∷ more))
 begins_says at w more k =
@@ -135,19 +135,19 @@ some_said [] closed e = cc
 some_said (line ∷ all) closed e = cc
 
 -- a head, as the first lines say it, with this name
-pub record Headed (said : Option MapHead) (name : List ℕ) : Type 0 where
-  pub heading : MapHead
+pub record Headed (said : Option MapHeader) (name : List ℕ) : Type 0 where
+  pub heading : MapHeader
   pub is : said ≡ Some heading
   pub name_is : heading.name ≡ name
 
-headed : (n : ℕ) (text : List (List ℕ)) (all : List Line) → First grammar n text all → Headed (first_said n text >>= map_head_of) (head (reverse all)).name
+headed : (n : ℕ) (text : List (List ℕ)) (all : List Line) → First grammar n text all → Headed (first_said n text >>= map_header_of) (head (reverse all)).name
 headed n text all f =
     let t = taken_by grammar [] f.at f.spelling f.line f.taken in
     let b = first_begins f.at f.line t.1 in
     let says : Says f.spelling (Begins b.at b.name b.source b.target) = subst (Says f.spelling) b.is (subst (λ o. IfSome o (Says f.spelling)) t.0 (form_says f.at f.spelling)) in
     record {
       heading = record { line = f.number; name = b.name; source = b.source; target = b.target };
-      is = ap (λ o. o >>= map_head_of) f.said ∙ says f.number;
+      is = ap (λ o. o >>= map_header_of) f.said ∙ says f.number;
       name_is = sym (ap (λ ls. (head (reverse ls)).name) f.all_are ∙ ap (λ ls. (head ls).name) (turned f.others f.line) ∙ ap (λ (l : Line). (head (l ∷ reverse f.others)).name) b.is);
     }
 
@@ -162,7 +162,7 @@ whole_is all at v e = by (is_unclosed all) refl e
         ok : {x y : MapValue} → ◌≡◌ {A = Result MapValue MapFault} (Ok x) (Ok y) → x ≡ y
         ok k = cc
 
-named_so : (p : Inner) (v : MapValue) → spelled (text p) ≡ Ok v → broken (p.at + 1) p.lines ≡ None → Headed (map_head p) v.name
+named_so : (p : Inner) (v : MapValue) → spelled (text p) ≡ Ok v → broken (p.at + 1) p.lines ≡ None → Headed (map_header p) v.name
 named_so p v e unbroken =
     let a = spelled_accepts takes Syntax whole most_bytes most_lines TooLarge (text p) v e in
     let w = whole_is a.all (1 + length (lines (text p))) v a.value in
@@ -180,7 +180,7 @@ again_none (Some x) at k = absurd (cc)
 -- no map above has the name of one that is taken
 pub map_is_new : (ps : List ProfileValue) (ms : List MapBetween) (p : Inner) (v : MapValue) → spelled (text p) ≡ Ok v → map_faults_beside ps ms p ≡ None → named_map v.name ms ≡ None
 map_is_new ps ms p v e none =
-    let both = none_of_both (common p) (head_faults ps ms (map_head p)) none in
+    let both = none_of_both (common p) (header_faults ps ms (map_header p)) none in
     let h = named_so p v e (none_beside p both.0) in
-    let heads = none_of_both (map_again ms h.heading) (map_unknown ps h.heading) (ap (head_faults ps ms) (sym h.is) ∙ both.1) in
-    ap (λ name. named_map name ms) (sym h.name_is) ∙ again_none (named_map h.heading.name ms) h.heading.line heads.0
+    let headers = none_of_both (duplicate_map ms h.heading) (unknown_profile ps h.heading) (ap (header_faults ps ms) (sym h.is) ∙ both.1) in
+    ap (λ name. named_map name ms) (sym h.name_is) ∙ again_none (named_map h.heading.name ms) h.heading.line headers.0

@@ -17,15 +17,15 @@ use Rattle.gw_profile.specs.Whole.{is_unclosed, spelled}
 use Rattle.gw_profile.proofs.Spelling.{spelled_read}
 use Rattle.gw_profile.proofs.Shaped.{any, gives, either_gives, with_all_is}
 use Rattle.gw_plan.specs.declared.fault.PlanFault.TheVariants.{Duplicate}
-use Rattle.gw_plan.specs.Above.{named_profile}
-use Rattle.gw_plan.specs.Inner.{Inner, text, broken, common, first_said, profile_head_of, profile_head, profile_again, profile_faults_beside}
+use Rattle.gw_plan.specs.Declarations.{named_profile}
+use Rattle.gw_plan.specs.Inner.{Inner, text, broken, common, first_said, profile_header_of, profile_header, duplicate_profile, profile_faults_beside}
 use Rattle.gw_plan.proofs.Rejoined.{rejoined}
 use Rattle.gw_plan.proofs.FirstLines.{First, first_taken, turned, keyword_gives}
 use Rattle.gw_plan.proofs.Earliest.{none_of_both, none_beside}
 
 -- the words that say the name of a profile
 abbrev Says : List Word → Line → Type 0
-Says ws (Begins name) = (at : ℕ) → profile_head_of (at, ws) ≡ Some (at, name)
+Says ws (Begins name) = (at : ℕ) → profile_header_of (at, ws) ≡ Some (at, name)
 Says ws (Table name values) = Unit {0}
 Says ws (Segment name label renamed usage card) = Unit {0}
 Says ws (Field number usage card leaf) = Unit {0}
@@ -86,15 +86,15 @@ some_said [] closed e = cc
 some_said (line ∷ all) closed e = cc
 
 -- what the first line says of a profile
-headed : (n : ℕ) (text : List (List ℕ)) (all : List Line) → First grammar n text all → (at : ℕ) × ((first_said n text >>= profile_head_of) ≡ Some (at, name_of (reverse all)))
+headed : (n : ℕ) (text : List (List ℕ)) (all : List Line) → First grammar n text all → (at : ℕ) × ((first_said n text >>= profile_header_of) ≡ Some (at, name_of (reverse all)))
 headed n text all f =
     let t = taken_by grammar [] f.at f.spelling f.line f.taken in
     let b = first_begins f.at f.line t.1 in
     let says : Says f.spelling (Begins b.0) = subst (Says f.spelling) b.1 (subst (λ o. IfSome o (Says f.spelling)) t.0 (form_says f.at f.spelling)) in
     let named : name_of (reverse all) ≡ b.0 = ap (λ ls. name_of (reverse ls)) f.all_are ∙ ap name_of (turned f.others f.line) ∙ ap (λ (l : Line). name_of (l ∷ reverse f.others)) b.1 in
-    (f.number, ap (λ o. o >>= profile_head_of) f.said ∙ says f.number ∙ ap (λ name. Some (f.number, name)) (sym named))
+    (f.number, ap (λ o. o >>= profile_header_of) f.said ∙ says f.number ∙ ap (λ name. Some (f.number, name)) (sym named))
 
-named_so : (p : Inner) (v : ProfileValue) → spelled (text p) ≡ Ok v → broken (p.at + 1) p.lines ≡ None → (at : ℕ) × (profile_head p ≡ Some (at, v.name))
+named_so : (p : Inner) (v : ProfileValue) → spelled (text p) ≡ Ok v → broken (p.at + 1) p.lines ≡ None → (at : ℕ) × (profile_header p ≡ Some (at, v.name))
 named_so p v e whole =
     let a = spelled_read (text p) v e in
     let accepts = subst (λ (ls : List (List ℕ)). accepted Syntax takes [] 1 ls ≡ Ok a.0.all) (rejoined (p.at + 1) p.lines whole) a.0.accepts in
@@ -107,9 +107,9 @@ named_so p v e whole =
 -- no profile above has the name of one that is taken
 pub profile_is_new : (ps : List ProfileValue) (p : Inner) (v : ProfileValue) → spelled (text p) ≡ Ok v → profile_faults_beside ps p ≡ None → named_profile v.name ps ≡ None
 profile_is_new ps p v e none =
-    let both = none_of_both (common p) (profile_again ps (profile_head p)) none in
+    let both = none_of_both (common p) (duplicate_profile ps (profile_header p)) none in
     let h = named_so p v e (none_beside p both.0) in
-    again_none (named_profile v.name ps) h.0 (ap (profile_again ps) (sym h.1) ∙ both.1)
+    again_none (named_profile v.name ps) h.0 (ap (duplicate_profile ps) (sym h.1) ∙ both.1)
   where
     again_none : (o : Option ProfileValue) (at : ℕ) → (if is_some o then Some (Duplicate at) else None) ≡ None → o ≡ None
     again_none None at k = refl

@@ -92,7 +92,7 @@ all_lookup {A} P receiver (l ∷ es) x all e = by (nat_eq receiver l.0) e (all_l
     by true e next = subst P (some_same e) all.0
     by false e next = next e
 
--- a map that is lent is that of the receiver
+-- a map that is borrowed is that of the receiver
 pub map_found : {M V : Type 0} (f : M → V) (receiver : ℕ) (es : List (ℕ × M)) (result : Option (Bor M)) → option_copied result ≡ lookup (nat_eq receiver) es
     → option_map (λ (m : Bor M). f m.now) result ≡ lookup (nat_eq receiver) (map (λ (l : ℕ × M). (l.0, f l.1)) es)
 map_found f receiver es None e = ap (option_map f) e ∙ lookup_map f receiver es

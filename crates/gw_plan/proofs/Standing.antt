@@ -17,7 +17,7 @@ use Rattle.gw_maplang.specs.Seen as maps
 use Rattle.gw_check.specs.Kept.{CheckedValue}
 use Rattle.gw_plan.specs.Shapes.{MapBetween, named}
 use Rattle.gw_plan.specs.Held.{map_between}
-use Rattle.gw_plan.specs.Above.{IsAbove, BeginsAt, named_profile, named_map}
+use Rattle.gw_plan.specs.Declarations.{AreDeclared, BeginsAt, named_profile, named_map}
 use Rattle.gw_plan.specs.own.Made.{IsCheckedSo, IsTaken}
 use Rattle.gw_plan.proofs.Keys.{some_same}
 
@@ -63,7 +63,7 @@ lookup_named {A} {B} {P} f g name_of name (e ∷ es) keyed =
     by true h = refl
     by false h = h
 
--- what a look-up lends is what has the name
+-- what a look-up borrows is what has the name
 pub lent_named : {A B P : Type 0} (f : B → P) (g : A → B) (name_of : P → List ℕ) (name : List ℕ) (es : List (Vec ℕ × A)) (result : Option (Bor A)) → Keyed f g name_of es
     → option_copied result ≡ lookup (λ k. bytes_eq name k.items) es → option_map (λ (x : Bor A). f (g x.now)) result ≡ named name_of name (map f (map (λ e. g e.1) es))
 lent_named f g name_of name es None keyed e = ap (option_map (λ x. f (g x))) e ∙ lookup_named f g name_of name es keyed
@@ -111,8 +111,8 @@ begins_still : (ps : List (List ℕ × profiles.Contents)) (name : List ℕ) (p 
 begins_still ps name p m h =
     rw map-append (named_more (λ (p : ProfileValue). p.name) m.source.name (Held ps) (profile_value p ∷ []) (profile_value m.source) h)
 
-pub profile_added : (ps : List (List ℕ × profiles.Contents)) (ms : List (List ℕ × CheckedValue)) (name : List ℕ) (p : profiles.Contents) → name ≡ p.name → IsAbove ps ms
-    → IsAbove (ps ++ (name, p) ∷ []) ms
+pub profile_added : (ps : List (List ℕ × profiles.Contents)) (ms : List (List ℕ × CheckedValue)) (name : List ℕ) (p : profiles.Contents) → name ≡ p.name → AreDeclared ps ms
+    → AreDeclared (ps ++ (name, p) ∷ []) ms
 profile_added ps ms name p e is = record {
   profile_names = all_push (λ (e : List ℕ × profiles.Contents). e.0 ≡ e.1.name) ps (name, p) is.profile_names e;
   map_names = is.map_names;
@@ -122,7 +122,7 @@ profile_added ps ms name p e is = record {
 }
 
 pub map_added : (ps : List (List ℕ × profiles.Contents)) (ms : List (List ℕ × CheckedValue)) (name : List ℕ) (m : CheckedValue) → name ≡ m.map.name
-    → BeginsAt (map (λ p. profile_value p.1) ps) m → IsAbove ps ms → IsAbove ps (ms ++ (name, m) ∷ [])
+    → BeginsAt (map (λ p. profile_value p.1) ps) m → AreDeclared ps ms → AreDeclared ps (ms ++ (name, m) ∷ [])
 map_added ps ms name m e begins is = record {
   profile_names = is.profile_names;
   map_names = all_push (λ (e : List ℕ × CheckedValue). e.0 ≡ e.1.map.name) ms (name, m) is.map_names e;
@@ -136,12 +136,12 @@ same_key name_of xs e none = ap (λ name. named name_of name xs) e ∙ none
 
 -- the entries with a profile that is new
 pub profile_put : {A : Type 0} (g : A → profiles.Contents) (es new : List (Vec ℕ × A)) (ms : List (List ℕ × CheckedValue)) (key : Vec ℕ) (x : A) → key.items ≡ (g x).name
-    → IsAbove (map (λ e. (e.0.items, g e.1)) es) ms → named_profile (g x).name (map profile_value (map (λ e. g e.1) es)) ≡ None
+    → AreDeclared (map (λ e. (e.0.items, g e.1)) es) ms → named_profile (g x).name (map profile_value (map (λ e. g e.1) es)) ≡ None
     → new ≡ insert_entry (λ k l. bytes_eq k.items l.items) es key x → new ≡ es ++ (key, x) ∷ []
 profile_put g es new ms key x e is none put = put ∙ inserted profile_value g (λ (p : ProfileValue). p.name) es key x is.profile_names (same_key (λ (p : ProfileValue). p.name) _ e none)
 
 pub profile_kept : {A : Type 0} (g : A → profiles.Contents) (es new : List (Vec ℕ × A)) (ms : List (List ℕ × CheckedValue)) (key : Vec ℕ) (x : A) → key.items ≡ (g x).name → new ≡ es ++ (key, x) ∷ []
-    → IsAbove (map (λ e. (e.0.items, g e.1)) es) ms → IsAbove (map (λ e. (e.0.items, g e.1)) new) ms
+    → AreDeclared (map (λ e. (e.0.items, g e.1)) es) ms → AreDeclared (map (λ e. (e.0.items, g e.1)) new) ms
 profile_kept g es new ms key x e put is = rw put (rw map-append (profile_added (map (λ e. (e.0.items, g e.1)) es) ms key.items (g x) e is))
 
 pub one_more : {A B : Type 0} (g : A → B) (es new : List (Vec ℕ × A)) (key : Vec ℕ) (x : A) → new ≡ es ++ (key, x) ∷ [] → map (λ e. g e.1) new ≡ map (λ e. g e.1) es ++ g x ∷ []
@@ -149,14 +149,14 @@ one_more {A} g es new key x put = ap (map (λ (e : Vec ℕ × A). g e.1)) put �
 
 -- the same with a map
 pub map_put : {A : Type 0} (g : A → CheckedValue) (es new : List (Vec ℕ × A)) (ps : List (List ℕ × profiles.Contents)) (key : Vec ℕ) (x : A) → key.items ≡ (g x).map.name
-    → IsAbove ps (map (λ e. (e.0.items, g e.1)) es) → named_map (g x).map.name (map map_between (map (λ e. g e.1) es)) ≡ None
+    → AreDeclared ps (map (λ e. (e.0.items, g e.1)) es) → named_map (g x).map.name (map map_between (map (λ e. g e.1) es)) ≡ None
     → new ≡ insert_entry (λ k l. bytes_eq k.items l.items) es key x → new ≡ es ++ (key, x) ∷ []
 map_put g es new ps key x e is none put = put ∙ inserted map_between g (λ (b : MapBetween). b.map.name) es key x is.map_names (same_key (λ (b : MapBetween). b.map.name) _ e none)
 
 pub map_kept : {A B : Type 0} (f : B → profiles.Contents) (g : A → CheckedValue) (qs : List (Vec ℕ × B)) (es new : List (Vec ℕ × A)) (key : Vec ℕ) (x : A) → key.items ≡ (g x).map.name
     → new ≡ es ++ (key, x) ∷ []
-    → BeginsAt (map profile_value (map (λ e. f e.1) qs)) (g x) → IsAbove (map (λ e. (e.0.items, f e.1)) qs) (map (λ e. (e.0.items, g e.1)) es)
-    → IsAbove (map (λ e. (e.0.items, f e.1)) qs) (map (λ e. (e.0.items, g e.1)) new)
+    → BeginsAt (map profile_value (map (λ e. f e.1) qs)) (g x) → AreDeclared (map (λ e. (e.0.items, f e.1)) qs) (map (λ e. (e.0.items, g e.1)) es)
+    → AreDeclared (map (λ e. (e.0.items, f e.1)) qs) (map (λ e. (e.0.items, g e.1)) new)
 map_kept f g qs es new key x e put begins is =
     let held = subst (λ (ps : List ProfileValue). BeginsAt ps (g x)) (sym (held_values profile_value f qs)) begins in
     rw put (rw map-append (map_added (map (λ e. (e.0.items, f e.1)) qs) (map (λ e. (e.0.items, g e.1)) es) key.items (g x) e held is))

@@ -27,7 +27,7 @@ nothing =
 abbrev pub closed : Draft → Draft
 closed d = record d { routes = d.routes ++ option_to_list d.current; current = None }
 
--- ---- what stands above
+-- ---- what was declared above
 
 abbrev pub profile_named : Draft → List ℕ → Option ProfileValue
 profile_named d name = named (λ p. p.name) name d.profiles
@@ -63,7 +63,7 @@ with_versions d accepted = record (closed d) { versions = d.versions ++ accepted
 abbrev pub with_processing : Draft → List (List ℕ) → Draft
 with_processing d accepted = record (closed d) { processing = d.processing ++ accepted }
 
--- the profile stands above
+-- the profile was declared above
 abbrev pub with_profile : Draft → ℕ → List ℕ → List ℕ → Option ProfileValue → Result Draft PlanFault
 with_profile d at code event None = Err (UnknownName at)
 with_profile d at code event (Some profile) =
@@ -74,14 +74,14 @@ abbrev pub with_route : Draft → ℕ → List ℕ → List ℕ → Option Profi
 with_route d at code event found =
     if list_any (is_for code event) d.routes then Err (Duplicate at) else with_profile d at code event found
 
--- the map, where it stands above, begins at the profile of the route
+-- the map, if it was declared above, begins at the profile of the route
 abbrev pub with_map : Draft → ℕ → RouteValue → ℕ → Option MapBetween → Result Draft PlanFault
 with_map d at route receiver None = Err (UnknownName at)
 with_map d at route receiver (Some by) =
     if bytes_eq by.source.name route.profile.name then Ok (record d { current = Some (record route { legs = route.legs ++ (receiver, by) ∷ [] }) })
     else Err (WrongMap at)
 
--- the receiver, where it stands above, isn't one of the route's so far
+-- the receiver, if it was declared above, isn't one of the route's so far
 abbrev pub with_leg : Draft → ℕ → RouteValue → Option ℕ → Option MapBetween → Result Draft PlanFault
 with_leg d at route None by = Err (UnknownName at)
 with_leg d at route (Some receiver) by =

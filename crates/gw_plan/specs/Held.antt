@@ -1,4 +1,4 @@
--- What the program holds of a plan, and what it stands for.
+-- What the program holds of a plan, and what it means.
 use Rattle.std.specs.Prelude.{◌≡◌, ℕ, Bool, false, nat_eq, if◌then◌else◌, List, [], ◌∷◌, ◌++◌, map, slice_get, Some, Result, Ok, Err}
 use Rattle.std.specs.List.{AllByRecursion, list_any}
 use denote.Ref.{Bor}
@@ -51,9 +51,9 @@ pub record IsNewLeg (receiver : ℕ) (by : CheckedValue) (r : RouteHeld) : Type 
   pub source : profile_value by.source ≡ profile_value r.profile
 
 -- a route that was found, or the code that was answered
-abbrev pub lent : Result (Bor RouteHeld) ℕ → Result RouteValue ℕ
-lent (Ok r) = Ok (route_value r.now)
-lent (Err code) = Err code
+abbrev pub borrowed_route : Result (Bor RouteHeld) ℕ → Result RouteValue ℕ
+borrowed_route (Ok r) = Ok (route_value r.now)
+borrowed_route (Err code) = Err code
 
 -- the tests of version and processing id, for a route of this number
 abbrev pub tested : Bool → Bool → ℕ → Result ℕ ℕ

@@ -21,7 +21,7 @@ use Rattle.gw_plan.specs.declared.form.Kind.TheVariants as kinds
 use Rattle.gw_plan.specs.Joined.{joined}
 use Rattle.gw_plan.specs.Numbers.{earlier, earliest}
 use Rattle.gw_plan.specs.Shapes.{MapBetween}
-use Rattle.gw_plan.specs.Above.{named_profile, named_map}
+use Rattle.gw_plan.specs.Declarations.{named_profile, named_map}
 use Rattle.gw_plan.specs.Draft.{Draft, closed}
 
 -- The lines from behind a `begin` line, of this number, up to the `stop` line; or up to the text's end, where none follows.
@@ -67,14 +67,14 @@ name_behind keyword words = do
 -- ---- profiles
 
 -- the name that a line of this number says, profile NAME
-abbrev pub profile_head_of : ℕ × List Word → Option (ℕ × List ℕ)
-profile_head_of said = do
+abbrev pub profile_header_of : ℕ × List Word → Option (ℕ × List ℕ)
+profile_header_of said = do
   name ← name_behind (codes "profile") said.1
   with_all name.1 (said.0, name.0)
 
 -- the name that the first line says, with that line's number
-abbrev pub profile_head : Inner → Option (ℕ × List ℕ)
-profile_head p = first_said (p.at + 1) p.lines >>= profile_head_of
+abbrev pub profile_header : Inner → Option (ℕ × List ℕ)
+profile_header p = first_said (p.at + 1) p.lines >>= profile_header_of
 
 -- the line of a fault in its text, 0 where it has none
 abbrev pub profile_line : profile_faults.ProfileFault → ℕ
@@ -93,19 +93,19 @@ is_of_whole (profile_faults.TheVariants.Ambiguous name) = true
 is_of_whole profile_faults.TheVariants.Header = true
 is_of_whole fault = false
 
--- The fault of an inner profile. Where no `stop` follows, what stands there is no whole profile.
+-- The fault of an inner profile. If no `stop` follows, the profile isn't whole.
 abbrev pub profile_fault : Inner → profile_faults.ProfileFault → PlanFault
 profile_fault p fault =
     if is_of_whole fault && not p.stopped then Syntax (p.at + length p.lines + 1)
     else Profile (p.at + profile_line fault) (profile_numbers.number fault)
 
 -- a name that a profile above has
-abbrev pub profile_again : List ProfileValue → Option (ℕ × List ℕ) → Option PlanFault
-profile_again profiles None = None
-profile_again profiles (Some head) = if is_some (named_profile head.1 profiles) then Some (Duplicate head.0) else None
+abbrev pub duplicate_profile : List ProfileValue → Option (ℕ × List ℕ) → Option PlanFault
+duplicate_profile profiles None = None
+duplicate_profile profiles (Some head) = if is_some (named_profile head.1 profiles) then Some (Duplicate head.0) else None
 
 abbrev pub profile_faults_beside : List ProfileValue → Inner → Option PlanFault
-profile_faults_beside profiles p = earliest (common p) (profile_again profiles (profile_head p))
+profile_faults_beside profiles p = earliest (common p) (duplicate_profile profiles (profile_header p))
 
 abbrev pub profile_said : Option PlanFault → Inner → Result ProfileValue profile_faults.ProfileFault → Result ProfileValue PlanFault
 profile_said beside p (Ok profile) = unless beside profile
@@ -118,28 +118,28 @@ inner_profile profiles p = profile_said (profile_faults_beside profiles p) p (pr
 -- ---- maps
 
 -- what the first line of a map says, with its number
-pub record MapHead : Type 0 where
+pub record MapHeader : Type 0 where
   pub line : ℕ
   pub name : List ℕ
   pub source : List ℕ
   pub target : List ℕ
 
 -- from SOURCE to TARGET, the last words of a line
-abbrev pub sides_at : List Word → Option (List ℕ × List ℕ)
-sides_at words = do
+abbrev pub profiles_at : List Word → Option (List ℕ × List ℕ)
+profiles_at words = do
   source ← name_behind (codes "from") words
   target ← name_behind (codes "to") source.1
   with_all target.1 (source.0, target.0)
 
 -- what a line of this number says, map NAME from SOURCE to TARGET
-abbrev pub map_head_of : ℕ × List Word → Option MapHead
-map_head_of said = do
+abbrev pub map_header_of : ℕ × List Word → Option MapHeader
+map_header_of said = do
   name ← name_behind (codes "map") said.1
-  sides ← sides_at name.1
-  Some (record { line = said.0; name = name.0; source = sides.0; target = sides.1 })
+  named_profiles ← profiles_at name.1
+  Some (record { line = said.0; name = name.0; source = named_profiles.0; target = named_profiles.1 })
 
-abbrev pub map_head : Inner → Option MapHead
-map_head p = first_said (p.at + 1) p.lines >>= map_head_of
+abbrev pub map_header : Inner → Option MapHeader
+map_header p = first_said (p.at + 1) p.lines >>= map_header_of
 
 abbrev pub map_line : map_faults.MapFault → ℕ
 map_line (map_faults.TheVariants.Syntax line) = line
@@ -153,22 +153,22 @@ abbrev pub map_fault : Inner → map_faults.MapFault → PlanFault
 map_fault p fault = Map (p.at + map_line fault) (map_numbers.number fault)
 
 -- a name that a map above has
-abbrev pub map_again : List MapBetween → MapHead → Option PlanFault
-map_again maps head = if is_some (named_map head.name maps) then Some (Duplicate head.line) else None
+abbrev pub duplicate_map : List MapBetween → MapHeader → Option PlanFault
+duplicate_map maps head = if is_some (named_map head.name maps) then Some (Duplicate head.line) else None
 
--- both of its profiles stand above
-abbrev pub is_known : List ProfileValue → MapHead → Bool
+-- both of its profiles were declared above
+abbrev pub is_known : List ProfileValue → MapHeader → Bool
 is_known profiles head = is_some (named_profile head.source profiles) && is_some (named_profile head.target profiles)
 
-abbrev pub map_unknown : List ProfileValue → MapHead → Option PlanFault
-map_unknown profiles head = if is_known profiles head then None else Some (UnknownName head.line)
+abbrev pub unknown_profile : List ProfileValue → MapHeader → Option PlanFault
+unknown_profile profiles head = if is_known profiles head then None else Some (UnknownName head.line)
 
-abbrev pub head_faults : List ProfileValue → List MapBetween → Option MapHead → Option PlanFault
-head_faults profiles maps None = None
-head_faults profiles maps (Some head) = earliest (map_again maps head) (map_unknown profiles head)
+abbrev pub header_faults : List ProfileValue → List MapBetween → Option MapHeader → Option PlanFault
+header_faults profiles maps None = None
+header_faults profiles maps (Some head) = earliest (duplicate_map maps head) (unknown_profile profiles head)
 
 abbrev pub map_faults_beside : List ProfileValue → List MapBetween → Inner → Option PlanFault
-map_faults_beside profiles maps p = earliest (common p) (head_faults profiles maps (map_head p))
+map_faults_beside profiles maps p = earliest (common p) (header_faults profiles maps (map_header p))
 
 -- the map with the profiles that it names
 abbrev pub between : List ProfileValue → MapValue → Option MapBetween
@@ -181,8 +181,8 @@ between profiles m = do
 abbrev pub check_fault : Inner → Option Broken → Option PlanFault
 check_fault p least = option_map (λ b. Check (p.at + b.line) b.rule) least
 
--- A map with its profiles, where they stand above; the faults beside it are those of its lines and of its head. Where no `stop` follows, what stands there
--- is no whole map, and no rule of the checker speaks of it.
+-- A map with its profiles, if they were declared above. The faults beside it are those of its lines and of its first line. If no `stop` follows, the map isn't
+-- whole, and no rule of the checker applies to it.
 abbrev pub map_checked : Option PlanFault → Inner → MapValue → Option MapBetween → Result MapBetween PlanFault
 map_checked beside p m None = Err (earlier beside (UnknownName (p.at + m.line)))
 map_checked beside p m (Some b) =

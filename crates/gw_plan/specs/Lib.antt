@@ -9,7 +9,7 @@ pub mod Within
 pub mod Seen
 pub mod Index
 pub mod Held
-pub mod Above
+pub mod Declarations
 pub mod Inner
 pub mod Kept
 pub mod Admitted

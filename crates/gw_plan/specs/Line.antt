@@ -6,7 +6,7 @@ use Rattle.gw_lines.specs.Parts.{◌>>=◌, first_word, name_at, behind, with_al
 use Rattle.gw_plan.specs.declared.form.Kind.{Kind}
 use Rattle.gw_plan.specs.declared.form.Kind.TheVariants.{Profile, Map}
 
--- A line of the plan's own. The empty event stands for an event that is absent.
+-- A line of the plan's own. The empty event means that the message has no event.
 pub data Line : Type 0 where
   Begins : (name : List ℕ) → Line
   Receives : (name address : List ℕ) → Line
@@ -37,7 +37,7 @@ abbrev pub some_words : List Word → Option (List (List ℕ))
 some_words [] = None
 some_words (w ∷ words) = plain_words (w ∷ words)
 
--- `-` stands for an event that is absent
+-- `-` means that the message has no event
 abbrev pub event_of : List ℕ → List ℕ
 event_of bytes = if bytes_eq bytes (codes "-") then [] else bytes
 

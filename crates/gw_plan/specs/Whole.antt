@@ -11,7 +11,7 @@ use Rattle.gw_plan.specs.Line.{Line, Opens, form, is_stop}
 use Rattle.gw_plan.specs.Draft.{Draft, nothing, takes, plan_of}
 use Rattle.gw_plan.specs.Inner.{Inner, takes_part}
 
--- what stands behind a `begin` line of this number, among the lines that follow
+-- the inner text after a `begin` line of this number, among the lines that follow
 abbrev pub inner : ℕ → List (List ℕ) → Inner
 inner at more = record { at = at; lines = before_first is_stop more; stopped = list_any is_stop more }
 
@@ -27,7 +27,7 @@ abbrev pub and_lines : ℕ → Result Draft PlanFault → Taken
 and_lines count (Ok d) = Ok (d, count)
 and_lines count (Err fault) = Err fault
 
--- begin profile, begin map: an inner text stands below the first line
+-- begin profile, begin map: an inner text comes after the first line
 abbrev pub takes_inner : Draft → ℕ → Kind → List (List ℕ) → Taken
 takes_inner d at kind more = if d.begun then and_lines (lines_of_inner more) (takes_part d kind (inner at more)) else Err (Syntax at)
 

@@ -4,7 +4,7 @@ ghost use Rattle.gw_plan.specs.Seen.{now_all, bytes_all};
 
 use std::alloc::{AllocError, Global};
 
-/// Puts copies of these words behind the others.
+/// Appends copies of these words.
 pub(crate) fn accept(
     alloc: Global,
     accepted: &mut Vec<Vec<u8>>,

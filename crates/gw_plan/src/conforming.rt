@@ -23,7 +23,8 @@ use std::alloc::{AllocError, Global};
 use std::marker::Model;
 use std::sync::Arc;
 
-/// A message that was admitted under a plan and its version: the plan has a route for it, and it conforms to the route's profile. It is made by `admit` alone.
+/// A message that was admitted under a plan and its version: the plan has a route for it, and it conforms to the route's profile.
+/// Only `admit` makes one.
 pub struct Conforming {
     tree: Tree,
     number: usize,
@@ -31,7 +32,7 @@ pub struct Conforming {
     version: u64,
 }
 
-// (by hand, so that no crate above proves again how its fields are dropped)
+// Written out, so that no crate above proves again how its fields are dropped.
 impl Drop for Conforming {
     fn drop(self) {
         let Conforming {
@@ -65,16 +66,17 @@ impl Model for Conforming {
 /// Why a message isn't admitted. The message is returned.
 #[derive(Drop)]
 pub enum Refusal {
-    /// Allocation failure.
+    /// An allocation failed.
     Memory(Message),
-    /// The plan has no route for it: the code of the condition (HL7 table 0357).
+    /// The plan has no route for it. The number is the code of the condition (HL7 table 0357).
     Route(u16, Message),
-    /// It breaks its route's profile, and this is its first breach.
+    /// It breaks its route's profile, first here.
     Breaks(Breach, Message),
 }
 
 impl Conforming {
-    /// The route, by the plan that its plan's text spells. It goes to each receiver once. The message conforms to the route's profile, by its type. It takes no memory.
+    /// The route, by the plan that the text spells. It goes to each receiver once. The message conforms to the route's profile, by its type.
+    /// It takes no memory.
     pub fn route(&self) -> &Route
         ensures route { routed (plan_value self.now.plan) self.now.tree.message ≡ Ok (route_value result.now) }
         ensures profile { profile_value self.now.tree.profile ≡ profile_value result.now.profile }
@@ -84,7 +86,7 @@ impl Conforming {
         ensures conforms { Conforms (profile_value result.now.profile) self.now.tree.message }
         ensures once { IsDistinct nat_eq (map (λ l. l.0) result.now.legs) }
     {
-        // (their clauses say what the message, the plan, the route and its profile keep)
+        // Called for their clauses, which say what the message, the plan, the route and its profile keep.
         let _count = self.tree.message().segment_count();
         self.plan.is_spelled();
         let route = self.plan.route_at(self.number);
@@ -101,31 +103,31 @@ impl Conforming {
         self.plan.receivers()
     }
 
-    /// Whether its route goes to this receiver, which is then one of its plan's. It takes no memory.
+    /// Whether its route goes to this receiver, which is then one of the plan's. It takes no memory.
     pub fn goes_to(&self, receiver: usize) -> bool
         ensures goes { IsTrue result ↔ IsOf self.now receiver }
         ensures stands { IsTrue result → receiver < length self.now.plan.receivers }
     {
-        // (its clause says that the route goes to receivers of the plan alone)
+        // Called for its clause: the route goes only to receivers of the plan.
         let _receivers = self.receivers();
         self.route().goes_to(receiver)
     }
 
-    /// The message, which conforms to the profile of its route, as `route` says. It takes no memory.
+    /// The message. It conforms to the profile of its route, as `route` says. It takes no memory.
     pub fn message(&self) -> &Message
         ensures { result.now ≡ self.now.tree.message }
     {
         self.tree.message()
     }
 
-    /// Whether it was admitted under this version and a plan of this one's text. It takes no memory.
+    /// Whether it was admitted under this version, and under a plan of the same text. It takes no memory.
     pub fn under(&self, version: u64, plan: &Plan) -> bool
         ensures { IsTrue result ↔ IsUnder self.now version plan.now }
     {
         self.version == version && self.plan.text() == plan.text()
     }
 
-    /// Whether these are the same: message, version and the plan's text. It takes no memory.
+    /// Whether message, version and the plan's text are equal. It takes no memory.
     pub fn same(&self, other: &Conforming) -> bool
         ensures { IsTrue result ↔ IsSameSource self.now other.now }
     {
@@ -157,21 +159,21 @@ impl Conforming {
         self.plan.is_spelled();
     }
 
-    // What the route's map for a receiver makes of the message.
+    // The message as the route's map for a receiver translates it.
     pub(crate) fn translation(&self, alloc: Global, receiver: usize) -> Result<Message, AllocError>
         requires { IsOf self.now receiver }
         ensures { IfOk result (Translates self.now receiver) }
     {
         let tree = &self.tree;
-        // (its clause says that the tree is the message's)
+        // Called for its clause: the tree is the message's.
         let _root = tree.root();
         match self.route().map_for(receiver) {
-            // (it doesn't come: the route goes to the receiver)
+            // It can't happen, since the route goes to the receiver.
             None => Err(AllocError),
             Some(map) => match translate(alloc, map, tree) {
                 Err(error) => Err(error),
                 Ok(made) => {
-                    // (its clause says what every message keeps)
+                    // Called for its clause, which says what every message keeps.
                     let _count = made.segment_count();
                     Ok(made)
                 }
@@ -180,7 +182,7 @@ impl Conforming {
     }
 }
 
-// The message of this tree, admitted.
+// The admitted message of this tree.
 fn shared(
     alloc: Global,
     tree: Tree,
@@ -204,7 +206,7 @@ fn shared(
     }
 }
 
-/// The message, admitted under a plan and its version: exactly where the plan has a route for it and it conforms to the route's profile.
+/// Admits a message under a plan and its version. It does so exactly if the plan has a route for it and it conforms to the route's profile.
 pub fn admit(
     alloc: Global,
     plan: &Arc<Plan>,

@@ -1,4 +1,4 @@
-//! A plan so far, line by line.
+//! A plan as it is built, line by line.
 ghost use Rattle.std.specs.Prelude.{◌≡◌, IfOk, IfErr, OnOk, None, Err};
 ghost use Rattle.std.specs.Arc.{arc_value};
 ghost use Rattle.gw_plan.specs.Draft as spec;
@@ -7,8 +7,8 @@ ghost use Rattle.gw_plan.specs.Inner.{takes_profile, takes_map, takes_part};
 ghost use Rattle.gw_plan.specs.own.Made.{inner, IsNumbered};
 ghost use Rattle.gw_plan.specs.Seen.{now_all, line};
 
-use crate::above::Above;
 use crate::accepted::accept;
+use crate::declarations::Declarations;
 use crate::fault::PlanFault;
 use crate::form::{Kind, Line};
 use crate::inner::Inner;
@@ -20,14 +20,14 @@ use gw_check::CheckedMap;
 use std::alloc::{AllocError, Global};
 use std::sync::Arc;
 
-/// A plan so far: what the lines above say together.
+/// A plan as it is built: what the lines so far say together.
 #[derive(Drop)]
 pub(crate) struct Draft {
     pub(crate) begun: bool,
     pub(crate) receivers: Receivers,
     pub(crate) versions: Vec<Vec<u8>>,
     pub(crate) processing: Vec<Vec<u8>>,
-    pub(crate) above: Above,
+    pub(crate) declarations: Declarations,
     pub(crate) routes: RouteList,
 }
 
@@ -42,7 +42,7 @@ impl Draft {
             receivers: Receivers::new(alloc),
             versions: Vec::new(alloc),
             processing: Vec::new(alloc),
-            above: Above::new(alloc),
+            declarations: Declarations::new(alloc),
             routes: RouteList::new(alloc),
         }
     }
@@ -114,7 +114,7 @@ impl Draft {
         if self.routes.has(code, event) {
             return Err(PlanFault::Duplicate(at));
         }
-        let Some(profile) = self.above.profile(profile) else {
+        let Some(profile) = self.declarations.profile(profile) else {
             return Err(PlanFault::UnknownName(at));
         };
         let profile = Arc::try_clone(profile)?;
@@ -122,7 +122,7 @@ impl Draft {
         Ok(())
     }
 
-    // What `to RECEIVER by MAP` adds to the current route.
+    // The receiver and the map that `to RECEIVER by MAP` adds to the current route.
     fn leg(
         &self,
         at: u64,
@@ -142,7 +142,7 @@ impl Draft {
         if route.goes_to(number) {
             return Err(PlanFault::Duplicate(at));
         }
-        let Some(map) = self.above.map(map) else {
+        let Some(map) = self.declarations.map(map) else {
             return Err(PlanFault::UnknownName(at));
         };
         if map.source().name() != route.profile().name() {
@@ -163,7 +163,7 @@ impl Draft {
         Ok(())
     }
 
-    // A line below the first.
+    // Any line after the first.
     fn below(&mut self, alloc: Global, at: u64, whole: &Line<'_>) -> Result<(), PlanFault>
         requires { IsKept self.old }
         ensures value { Makes self.new result (spec.below (draft_value self.old) at (line whole.now)) }
@@ -193,7 +193,7 @@ impl Draft {
         Ok(())
     }
 
-    /// Takes a line of the plan's own; `at` is its number.
+    /// Adds a line of the plan's own; `at` is its number.
     pub(crate) fn take(&mut self, alloc: Global, at: u64, whole: &Line<'_>) -> Result<(), PlanFault>
         requires { IsKept self.old }
         ensures value { Makes self.new result (spec.takes (draft_value self.old) at (line whole.now)) }
@@ -206,7 +206,7 @@ impl Draft {
         }
     }
 
-    // Takes a profile of the plan.
+    // Adds a profile of the plan.
     fn add_profile(&mut self, alloc: Global, part: &Inner<'_, '_>) -> Result<(), PlanFault>
         requires kept { IsKept self.old }
         requires numbered { IsNumbered (inner part.now) }
@@ -214,12 +214,12 @@ impl Draft {
         ensures kept { OnOk result (IsKept self.new) }
     {
         self.close()?;
-        let profile = take_profile(alloc, &self.above, part)?;
-        self.above.add_profile(alloc, profile)?;
+        let profile = take_profile(alloc, &self.declarations, part)?;
+        self.declarations.add_profile(alloc, profile)?;
         Ok(())
     }
 
-    // Takes a map of the plan.
+    // Adds a map of the plan.
     fn add_map(&mut self, alloc: Global, part: &Inner<'_, '_>) -> Result<(), PlanFault>
         requires kept { IsKept self.old }
         requires numbered { IsNumbered (inner part.now) }
@@ -227,12 +227,12 @@ impl Draft {
         ensures kept { OnOk result (IsKept self.new) }
     {
         self.close()?;
-        let map = take_map(alloc, &self.above, part)?;
-        self.above.add_map(alloc, map)?;
+        let map = take_map(alloc, &self.declarations, part)?;
+        self.declarations.add_map(alloc, map)?;
         Ok(())
     }
 
-    /// Takes a profile or a map of the plan.
+    /// Adds a profile or a map of the plan.
     pub(crate) fn add(
         &mut self,
         alloc: Global,

@@ -10,10 +10,10 @@ pub enum PlanFault {
     Memory,
     #[error("line {0} is no line of a plan")]
     Syntax(u64),
-    /// `number` is that of the profile's fault.
+    /// `number` is the number of the profile's fault.
     #[error("line {line}: fault {number} of the profile")]
     Profile { line: u64, number: u8 },
-    /// `number` is that of the map's fault.
+    /// `number` is the number of the map's fault.
     #[error("line {line}: fault {number} of the map")]
     Map { line: u64, number: u8 },
     /// The map breaks a rule of the checker, from 1 to 12.
@@ -50,7 +50,7 @@ impl PlanFault {
         }
     }
 
-    /// The number of its line, from 1; 0 where the fault is of no line. It takes no memory.
+    /// The number of its line, from 1; 0 if it belongs to no line. It takes no memory.
     pub fn line(&self) -> u64
         ensures { result ≡ line_of self.now }
     {

@@ -1,4 +1,4 @@
-//! The forms of a plan's lines.
+//! The line patterns of a plan.
 ghost use Rattle.std.specs.Prelude.{◌≡◌, map, IfOk};
 ghost use Rattle.std.specs.Option.{option_map};
 ghost use Rattle.gw_lines.specs.Seen.{word};
@@ -8,14 +8,14 @@ ghost use Rattle.gw_plan.specs.Seen.{line, now_all};
 use gw_lines::{Word, behind, first_word, name_at};
 use std::alloc::{AllocError, Global};
 
-/// What stands between `begin` and `stop`.
+/// The kind of text between `begin` and `stop`.
 #[derive(Drop)]
 pub(crate) enum Kind {
     Profile,
     Map,
 }
 
-/// A line of the plan's own. The empty event stands for an event that is absent.
+/// A line of the plan's own. The empty event means that the message has no event.
 #[derive(Drop)]
 pub(crate) enum Line<'a> {
     Begins(&'a [u8]),
@@ -35,7 +35,7 @@ fn plain_at<'a, 'w>(words: &'w [Word<'a>]) -> Option<(&'a [u8], &'w [Word<'a>])>
     Some((bytes, more))
 }
 
-// The bytes of these words, where none is quoted.
+// The bytes of these words, if none is quoted.
 fn plain_words<'a>(alloc: Global, words: &[Word<'a>]) -> Result<Option<Vec<&'a [u8]>>, AllocError>
     ensures { IfOk result (λ found. option_map (λ v. now_all v.items) found ≡ spec.plain_words (map word words.now)) }
 {
@@ -58,7 +58,7 @@ fn some_words<'a>(alloc: Global, words: &[Word<'a>]) -> Result<Option<Vec<&'a [u
     plain_words(alloc, words)
 }
 
-// `-` stands for an event that is absent.
+// The event that a word means: `-` means that the message has none.
 fn event_of(bytes: &[u8]) -> &[u8]
     ensures { result.now ≡ spec.event_of bytes.now }
 {
@@ -119,7 +119,7 @@ fn begin_form<'a>(words: &[Word<'a>]) -> Option<Line<'a>>
     None
 }
 
-// The name that `from` is followed by, where nothing follows it.
+// The name after `from`, if nothing follows it.
 fn source_at<'a>(words: &[Word<'a>]) -> Option<&'a [u8]>
     ensures { option_map (λ name. name.now) result ≡ spec.source_at (map word words.now) }
 {
@@ -171,7 +171,7 @@ fn fixed_form<'a>(keyword: Word<'a>, more: &[Word<'a>]) -> Option<Line<'a>>
     None
 }
 
-/// The line that these words are.
+/// The line that these words spell.
 pub(crate) fn form<'a>(alloc: Global, words: &[Word<'a>]) -> Result<Option<Line<'a>>, AllocError>
     ensures { IfOk result (λ found. option_map line found ≡ spec.form (map word words.now)) }
 {

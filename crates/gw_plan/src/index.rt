@@ -6,14 +6,14 @@ ghost use Rattle.gw_plan.specs.Index.{Key, Indexes, Adds, number_for, is_key};
 use indexmap::IndexSet;
 use std::alloc::{AllocError, Global};
 
-/// The codes and events of routes, and for each route the numbers of its own.
+/// The codes and events of all routes, each numbered, and the routes by these numbers.
 pub(crate) struct Index {
     codes: IndexSet<Vec<u8>>,
     events: IndexSet<Vec<u8>>,
     pairs: IndexSet<(usize, usize)>,
 }
 
-// (by hand, so that what holds one is dropped by a call)
+// Written out, so that what holds one is dropped by a call.
 impl Drop for Index {
     fn drop(self) {
         let Index {
@@ -36,7 +36,7 @@ impl Index {
         }
     }
 
-    /// The number of the route for this code and event, or the code of the condition that there is none. It takes no memory.
+    /// The number of the route for this code and event, or the code of the condition (HL7 table 0357). It takes no memory.
     pub(crate) fn find(&self, code: &[u8], event: &[u8]) -> Result<usize, u16>
         ensures { (keys : List Key) → Indexes self.now keys → result ≡ number_for code.now event.now keys }
     {
@@ -52,14 +52,14 @@ impl Index {
         }
     }
 
-    /// Whether a route is for this code and event. It takes no memory.
+    /// Whether there is a route for this code and event. It takes no memory.
     pub(crate) fn has(&self, code: &[u8], event: &[u8]) -> bool
         ensures { (keys : List Key) → Indexes self.now keys → result ≡ list_any (is_key code.now event.now) keys }
     {
         self.find(code, event).is_ok()
     }
 
-    /// Adds a route behind the others.
+    /// Appends a route.
     pub(crate) fn push(
         &mut self,
         alloc: Global,

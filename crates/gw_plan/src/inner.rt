@@ -8,11 +8,11 @@ ghost use Rattle.gw_plan.specs.Joined.{joined};
 ghost use Rattle.gw_plan.specs.own.Made.{inner, IsNumbered};
 
 use crate::fault::PlanFault;
-use crate::order::earliest;
+use crate::fault_order::earliest;
 use gw_lines::{Word, words_of};
 use std::alloc::{AllocError, Global};
 
-/// The lines from behind a `begin` line, of this number, up to the `stop` line; or up to the text's end, where none follows.
+/// The lines between the `begin` line of this number and its `stop` line; or up to the end of the plan, if no `stop` follows.
 #[derive(Clone, Copy, Drop)]
 pub(crate) struct Inner<'x, 'a> {
     pub(crate) at: u64,
@@ -20,7 +20,7 @@ pub(crate) struct Inner<'x, 'a> {
     pub(crate) stopped: bool,
 }
 
-/// Lines as one text again, each with its end.
+/// The lines joined to one text, each with its end.
 pub(crate) fn joined(alloc: Global, lines: &[&[u8]]) -> Result<Vec<u8>, AllocError>
     ensures { IfOk result (λ text. text.items ≡ joined (map (λ line. line.now) lines.now)) }
 {
@@ -32,7 +32,7 @@ pub(crate) fn joined(alloc: Global, lines: &[&[u8]]) -> Result<Vec<u8>, AllocErr
     Ok(text)
 }
 
-// Whether a line has only bytes and quotes that a line may have.
+// Whether a line has only bytes and quotes that are allowed.
 fn is_lawful(alloc: Global, line: &[u8]) -> Result<bool, AllocError>
     ensures { IfOk result (λ lawful. lawful ≡ is_some (words line.now)) }
 {
@@ -40,7 +40,7 @@ fn is_lawful(alloc: Global, line: &[u8]) -> Result<bool, AllocError>
     Ok(words.is_some())
 }
 
-// The first line, from this number on, that has a byte or a quote that no line may have.
+// The number of the first line with a byte or a quote that isn't allowed. The lines are numbered from `at` on.
 fn broken(alloc: Global, first: u64, lines: &[&[u8]]) -> Result<Option<PlanFault>, AllocError>
     requires { first + length lines.now < 2 ^ 64 }
     ensures { IfOk result (λ fault. fault ≡ spec.broken first (map (λ line. line.now) lines.now)) }
@@ -61,7 +61,7 @@ pub(crate) fn line_after(part: &Inner<'_, '_>) -> u64
     part.at + part.lines.len() as u64 + 1
 }
 
-// No `stop` line follows.
+// The fault that no `stop` line follows.
 fn unstopped(part: &Inner<'_, '_>) -> Option<PlanFault>
     requires { IsNumbered (inner part.now) }
     ensures { result ≡ spec.unstopped (inner part.now) }
@@ -73,7 +73,7 @@ fn unstopped(part: &Inner<'_, '_>) -> Option<PlanFault>
     }
 }
 
-/// The first fault of those that any inner text may have.
+/// The first fault that doesn't depend on the language of the inner text.
 pub(crate) fn common(alloc: Global, part: &Inner<'_, '_>) -> Result<Option<PlanFault>, AllocError>
     requires { IsNumbered (inner part.now) }
     ensures { IfOk result (λ fault. fault ≡ spec.common (inner part.now)) }
@@ -82,7 +82,7 @@ pub(crate) fn common(alloc: Global, part: &Inner<'_, '_>) -> Result<Option<PlanF
     Ok(earliest(found, unstopped(part)))
 }
 
-/// The words of the first line, from this number on, that isn't passed over, with its number; nothing where it is broken.
+/// The words of the first line that isn't passed over, with its number; `None` if that line is broken. The lines are numbered from `at` on.
 pub(crate) fn first_said<'a>(
     alloc: Global,
     first: u64,

@@ -1,4 +1,4 @@
-//! A map of a plan.
+//! A map within a plan.
 ghost use Rattle.std.specs.Prelude.{◌≡◌, ◌<◌, ◌^◌, IfOk, IfSome, Some, None};
 ghost use Rattle.std.specs.Arc.{arc_value};
 ghost use Rattle.std.specs.Option.{option_map};
@@ -7,29 +7,29 @@ ghost use Rattle.gw_maplang.specs.Seen.{map_value};
 ghost use Rattle.gw_maplang.specs.Whole as maps;
 ghost use Rattle.gw_maplang.specs.declared.fault.MapFault.TheVariants as map_faults;
 ghost use Rattle.gw_plan.specs.declared.fault.PlanFault.TheVariants as fault;
-ghost use Rattle.gw_plan.specs.Above.{profiles_of, maps_of, named_profile, IsNewMap};
+ghost use Rattle.gw_plan.specs.Declarations.{profiles_of, maps_of, named_profile, IsNewMap};
 ghost use Rattle.gw_plan.specs.Inner as spec;
-ghost use Rattle.gw_plan.specs.own.Made.{broken_rule, inner, map_head, shared_map, lent_profile, with_found, IsNumbered, IsLasting, Spells, Checks, IsTaken};
+ghost use Rattle.gw_plan.specs.own.Made.{broken_rule, inner, map_header, shared_map, borrowed_profile, with_found, IsNumbered, IsTextFault, Spells, Checks, IsTaken};
 
-use crate::above::Above;
+use crate::declarations::Declarations;
 use crate::fault::PlanFault;
-use crate::heads::{MapHead, map_head};
+use crate::fault_order::{earlier, earliest};
+use crate::headers::{MapHeader, map_header};
 use crate::inner::{Inner, common, joined, line_after};
-use crate::order::{earlier, earliest};
 use gw_check::{CheckFault, CheckedMap, check};
 use gw_maplang::{Map, MapFault, parse};
 use gw_profile::Profile;
 use std::alloc::{AllocError, Global};
 use std::sync::Arc;
 
-/// The least rule that fails, and its least line.
+/// The least rule that fails, and the least line where it fails.
 #[derive(Clone, Copy, Drop)]
 struct Broken {
     rule: u8,
     line: u32,
 }
 
-// The line of a fault in its text, 0 where it has none.
+// The line of a fault within its own text; 0 if it has none.
 fn line_of(fault: MapFault) -> u64
     ensures value { result ≡ spec.map_line fault }
     ensures bound { result < 2 ^ 32 }
@@ -45,8 +45,8 @@ fn line_of(fault: MapFault) -> u64
     u64::from(line)
 }
 
-// The fault of an inner map.
-fn wrapped(part: &Inner<'_, '_>, fault: MapFault) -> PlanFault
+// A fault of the map as a fault of the plan.
+fn plan_fault(part: &Inner<'_, '_>, fault: MapFault) -> PlanFault
     requires { IsNumbered (inner part.now) }
     ensures { result ≡ spec.map_fault (inner part.now) fault }
 {
@@ -56,7 +56,7 @@ fn wrapped(part: &Inner<'_, '_>, fault: MapFault) -> PlanFault
     }
 }
 
-// The fault of a map that breaks a rule.
+// A rule that the map breaks as a fault of the plan.
 fn rule_fault(part: &Inner<'_, '_>, broken: Broken) -> PlanFault
     requires { IsNumbered (inner part.now) }
     ensures { Some result ≡ spec.check_fault (inner part.now) (Some (broken_rule broken)) }
@@ -67,50 +67,53 @@ fn rule_fault(part: &Inner<'_, '_>, broken: Broken) -> PlanFault
     }
 }
 
-// A name that a map above has.
-fn again(above: &Above, head: &MapHead<'_>) -> Option<PlanFault>
-    ensures { result ≡ spec.map_again (maps_of above.now) (map_head head.now) }
+// The fault that a map of this name was declared before.
+fn duplicate(declarations: &Declarations, head: &MapHeader<'_>) -> Option<PlanFault>
+    ensures { result ≡ spec.duplicate_map (maps_of declarations.now) (map_header head.now) }
 {
-    if above.map(head.name).is_some() {
+    if declarations.map(head.name).is_some() {
         return Some(PlanFault::Duplicate(head.line));
     }
     None
 }
 
-// A profile that doesn't stand above.
-fn unknown(above: &Above, head: &MapHead<'_>) -> Option<PlanFault>
-    ensures { result ≡ spec.map_unknown (profiles_of above.now) (map_head head.now) }
+// The fault that one of the profiles wasn't declared before.
+fn unknown_profile(declarations: &Declarations, head: &MapHeader<'_>) -> Option<PlanFault>
+    ensures { result ≡ spec.unknown_profile (profiles_of declarations.now) (map_header head.now) }
 {
-    if above.profile(head.source).is_some() && above.profile(head.target).is_some() {
+    if declarations.profile(head.source).is_some() && declarations.profile(head.target).is_some() {
         return None;
     }
     Some(PlanFault::UnknownName(head.line))
 }
 
-fn head_faults(above: &Above, head: Option<MapHead<'_>>) -> Option<PlanFault>
-    ensures { result ≡ spec.head_faults (profiles_of above.now) (maps_of above.now) (option_map map_head head.entry) }
+fn header_faults(declarations: &Declarations, head: Option<MapHeader<'_>>) -> Option<PlanFault>
+    ensures { result ≡ spec.header_faults (profiles_of declarations.now) (maps_of declarations.now) (option_map map_header head.entry) }
 {
     let head = head?;
-    earliest(again(above, &head), unknown(above, &head))
+    earliest(
+        duplicate(declarations, &head),
+        unknown_profile(declarations, &head),
+    )
 }
 
-// The first fault of those that aren't the map's own.
+// The first fault that the map's own parser doesn't know of.
 fn faults_beside(
     alloc: Global,
-    above: &Above,
+    declarations: &Declarations,
     part: &Inner<'_, '_>,
 ) -> Result<Option<PlanFault>, AllocError>
     requires { IsNumbered (inner part.now) }
-    ensures { IfOk result (λ fault. fault ≡ spec.map_faults_beside (profiles_of above.now) (maps_of above.now) (inner part.now)) }
+    ensures { IfOk result (λ fault. fault ≡ spec.map_faults_beside (profiles_of declarations.now) (maps_of declarations.now) (inner part.now)) }
 {
     let found = common(alloc, part)?;
-    let head = map_head(alloc, part)?;
-    Ok(earliest(found, head_faults(above, head)))
+    let head = map_header(alloc, part)?;
+    Ok(earliest(found, header_faults(declarations, head)))
 }
 
-// The fault, where it isn't allocation failure.
-fn lasting(fault: MapFault) -> Result<MapFault, AllocError>
-    ensures { IfOk result (IsLasting map_faults.Memory fault) }
+// The fault of the text. An allocation failure is an error of its own.
+fn text_fault(fault: MapFault) -> Result<MapFault, AllocError>
+    ensures { IfOk result (IsTextFault map_faults.Memory fault) }
 {
     match fault {
         MapFault::Memory => Err(AllocError),
@@ -118,28 +121,31 @@ fn lasting(fault: MapFault) -> Result<MapFault, AllocError>
     }
 }
 
-// The map that the inner text spells, or its fault.
+// Parses the inner text as a map.
 fn spelled(alloc: Global, part: &Inner<'_, '_>) -> Result<Result<Map, MapFault>, AllocError>
     ensures { IfOk result (λ made. Spells map_value made (maps.spelled (spec.text (inner part.now)))) }
 {
     let text = joined(alloc, part.lines)?;
     match parse(alloc, &text) {
-        Err(fault) => Ok(Err(lasting(fault)?)),
+        Err(fault) => Ok(Err(text_fault(fault)?)),
         Ok(map) => Ok(Ok(map)),
     }
 }
 
-// The profiles that a map names, where they stand above.
-fn sides<'s>(above: &'s Above, map: &Map) -> Option<(&'s Arc<Profile>, &'s Arc<Profile>)>
-    ensures between { option_map (with_found lent_profile (map_value map.now)) result ≡ spec.between (profiles_of above.now) (map_value map.now) }
-    ensures source { IfSome result (λ s. named_profile map.now.source (profiles_of above.now) ≡ Some (lent_profile s.0)) }
+// The profiles that a map names, if both were declared before.
+fn named_profiles<'s>(
+    declarations: &'s Declarations,
+    map: &Map,
+) -> Option<(&'s Arc<Profile>, &'s Arc<Profile>)>
+    ensures between { option_map (with_found borrowed_profile (map_value map.now)) result ≡ spec.between (profiles_of declarations.now) (map_value map.now) }
+    ensures source { IfSome result (λ s. named_profile map.now.source (profiles_of declarations.now) ≡ Some (borrowed_profile s.0)) }
 {
-    let source = above.profile(map.source())?;
-    let target = above.profile(map.target())?;
+    let source = declarations.profile(map.source())?;
+    let target = declarations.profile(map.target())?;
     Some((source, target))
 }
 
-// The map with its profiles, or the least rule that fails, at its least line.
+// Checks the map. Returns it with its profiles, or the least rule that fails, with its least line.
 fn checked(
     alloc: Global,
     source: &Arc<Profile>,
@@ -157,21 +163,21 @@ fn checked(
     }
 }
 
-// The map, checked between the profiles that it names, or the first of its fault and the one beside it. Where no `stop`
-// follows, what stands there is no whole map, and isn't checked.
-fn with_sides(
+// Checks the map between the profiles that it names. Else the earlier of its fault and `beside`.
+// If no `stop` follows, the map isn't whole, and isn't checked.
+fn with_profiles(
     alloc: Global,
-    above: &Above,
+    declarations: &Declarations,
     part: &Inner<'_, '_>,
     beside: Option<PlanFault>,
     map: Map,
 ) -> Result<Arc<CheckedMap>, PlanFault>
     requires { IsNumbered (inner part.now) }
-    ensures said { Gives fault.Memory shared_map result (spec.checked_between (profiles_of above.now) beside (inner part.now) (map_value map)) }
-    ensures taken { IfOk result (λ m. IsTaken (profiles_of above.now) map (arc_value m)) }
+    ensures said { Gives fault.Memory shared_map result (spec.checked_between (profiles_of declarations.now) beside (inner part.now) (map_value map)) }
+    ensures taken { IfOk result (λ m. IsTaken (profiles_of declarations.now) map (arc_value m)) }
     ensures alone { IfOk result (λ _. beside ≡ None) }
 {
-    let Some((source, target)) = sides(above, &map) else {
+    let Some((source, target)) = named_profiles(declarations, &map) else {
         let line = part.at + u64::from(map.line());
         return Err(earlier(beside, PlanFault::UnknownName(line)));
     };
@@ -187,20 +193,20 @@ fn with_sides(
     }
 }
 
-/// The map that an inner text gives below what stands above, checked between the profiles that it names.
-/// Else its fault: of the faults of its lines, of its names, of the map itself and of its check the first.
+/// Parses an inner text as a map, and checks it between the profiles that it names.
+/// Its fault is the first of those of its lines, its names, the map itself and its check.
 pub(crate) fn take_map(
     alloc: Global,
-    above: &Above,
+    declarations: &Declarations,
     part: &Inner<'_, '_>,
 ) -> Result<Arc<CheckedMap>, PlanFault>
     requires { IsNumbered (inner part.now) }
-    ensures said { Gives fault.Memory shared_map result (spec.inner_map (profiles_of above.now) (maps_of above.now) (inner part.now)) }
-    ensures new { IfOk result (λ m. IsNewMap above.now (arc_value m)) }
+    ensures said { Gives fault.Memory shared_map result (spec.inner_map (profiles_of declarations.now) (maps_of declarations.now) (inner part.now)) }
+    ensures new { IfOk result (λ m. IsNewMap declarations.now (arc_value m)) }
 {
-    let beside = faults_beside(alloc, above, part)?;
+    let beside = faults_beside(alloc, declarations, part)?;
     match spelled(alloc, part)? {
-        Err(fault) => Err(earlier(beside, wrapped(part, fault))),
-        Ok(map) => with_sides(alloc, above, part, beside, map),
+        Err(fault) => Err(earlier(beside, plan_fault(part, fault))),
+        Ok(map) => with_profiles(alloc, declarations, part, beside, map),
     }
 }

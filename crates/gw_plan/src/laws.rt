@@ -1,4 +1,4 @@
-//! What holds of the definitions.
+//! Laws on the definitions.
 ghost use Rattle.std.specs.Prelude.{◌≡◌, ℕ, List, Ok, Err, [], codes};
 ghost use Rattle.gw_er7.specs.Message.{SegmentValue};
 ghost use Rattle.gw_plan.specs.declared.fault.PlanFault.TheVariants as fault;
@@ -11,16 +11,16 @@ ghost use Rattle.gw_plan.specs.Worked as worked;
 
 use crate::plan::Plan;
 
-/// Two plans of one text are one plan: what they make of messages is a function of the text.
+/// Two plans of the same text are equal: what they make of messages is a function of the text.
 pub fn one_text_is_one_plan(one: &Plan, other: &Plan)
     ensures { one.now.text ≡ other.now.text → plan_value one.now ≡ plan_value other.now }
 {
-    // (what the type keeps is known once its value is looked at)
+    // Called for its clause: what the type keeps.
     let _ = &one.text;
     let _ = &other.text;
 }
 
-/// By one plan, what is made of a message for a receiver is one message.
+/// One plan makes at most one message of a message for a receiver.
 pub fn one_translation()
     ensures { (plan : PlanValue) (m : List SegmentValue) (receiver : ℕ) (made other : List SegmentValue) → MakesFor plan m receiver made → MakesFor plan m receiver other → made ≡ other }
 {}
@@ -36,7 +36,7 @@ pub fn rows_of_routes()
     ensures any { routed_by worked.open_worked (codes "ADT") (codes "A01") (codes "2.3") (codes "D") ≡ Ok worked.admission }
 {}
 
-/// What texts spell, and their faults by line.
+/// Worked examples: what texts spell, and their faults by line.
 pub fn rows_of_texts()
     ensures empty { spelled [] ≡ Err (fault.Syntax 1) }
     ensures again { spelled worked.second_receiver ≡ Err (fault.Duplicate 3) }

@@ -1,19 +1,19 @@
-//! Plans: which messages a gateway takes, by which profiles, and what it makes of them for whom.
+//! Plans: which messages a gateway accepts, by which profiles, and what each receiver is sent.
 #![tactic(auto)]
 
-mod above;
 mod accepted;
 mod conforming;
+mod declarations;
 mod draft;
 mod fault;
+mod fault_order;
 mod form;
-mod heads;
+mod headers;
 mod index;
 mod inner;
 mod inner_map;
 mod inner_profile;
 pub mod laws;
-mod order;
 mod parse;
 mod plan;
 mod receivers;

@@ -1,4 +1,4 @@
-//! The plan of a text.
+//! Parsing of a plan.
 ghost use Rattle.std.specs.Prelude.{◌≡◌, ◌<◌, ◌≤◌, ◌+◌, ◌∷◌, ℕ, map, length, IfOk, OnOk, Some};
 ghost use Rattle.gw_lines.specs.Reading.{Gives};
 ghost use Rattle.gw_lines.specs.Seen.{word};
@@ -20,9 +20,9 @@ use crate::plan::Plan;
 use gw_lines::{Word, lines_of, words_of};
 use std::alloc::{AllocError, Global};
 
-const MOST_BYTES: usize = 4_194_304;
+const MAX_BYTES: usize = 4_194_304;
 
-const MOST_LINES: usize = 40_000;
+const MAX_LINES: usize = 40_000;
 
 // Whether a line is the word `stop`.
 fn stops(alloc: Global, bytes: &[u8]) -> Result<bool, AllocError>
@@ -32,7 +32,7 @@ fn stops(alloc: Global, bytes: &[u8]) -> Result<bool, AllocError>
     Ok(is_stop(&words))
 }
 
-// What stands behind a `begin` line of this number, among the lines that follow.
+// The inner text after the `begin` line of this number, among the lines that follow.
 fn inner_at<'x, 'a>(
     alloc: Global,
     at: u64,
@@ -56,7 +56,7 @@ fn inner_at<'x, 'a>(
     })
 }
 
-// Takes a profile or a map; how many of the lines that follow say it.
+// Adds a profile or a map. Returns how many of the following lines it has.
 fn take_inner(
     alloc: Global,
     draft: &mut Draft,
@@ -77,7 +77,7 @@ fn take_inner(
     Ok(part.lines.len() + 1)
 }
 
-// Takes a line; how many of the lines that follow it says with it.
+// Adds a line. Returns how many of the following lines belong to it.
 fn take_line(
     alloc: Global,
     draft: &mut Draft,
@@ -99,7 +99,7 @@ fn take_line(
     }
 }
 
-// Takes the words of a line that isn't passed over.
+// The same for the words of a line that isn't passed over.
 fn take_words(
     alloc: Global,
     draft: &mut Draft,
@@ -118,7 +118,7 @@ fn take_words(
     take_line(alloc, draft, at, &whole, more)
 }
 
-// Takes the bytes of a line.
+// The same for the bytes of a line.
 fn take_bytes(
     alloc: Global,
     draft: &mut Draft,
@@ -140,7 +140,7 @@ fn take_bytes(
     take_words(alloc, draft, at, &words, more)
 }
 
-// Takes a line, or skips it while `skip` isn't 0; gives how many of the following lines are skipped.
+// Adds a line, or skips it while `skip` isn't 0. Returns how many of the following lines to skip.
 fn take_next(
     alloc: Global,
     draft: &mut Draft,
@@ -160,7 +160,7 @@ fn take_next(
     take_bytes(alloc, draft, at, bytes, more)
 }
 
-// Takes all lines.
+// Adds all lines.
 fn take_lines(alloc: Global, draft: &mut Draft, all: &[&[u8]]) -> Result<(), PlanFault>
     requires kept { IsKept draft.old }
     requires few { length all.now ≤ spec.most_lines }
@@ -174,18 +174,18 @@ fn take_lines(alloc: Global, draft: &mut Draft, all: &[&[u8]]) -> Result<(), Pla
     Ok(())
 }
 
-// Takes the lines of a text, which is begun by the first.
+// Adds the lines of a text. The first one is the plan's own first line.
 fn take_text(alloc: Global, draft: &mut Draft, text: &[u8]) -> Result<(), PlanFault>
     requires kept { IsKept draft.old }
     requires nothing { draft_value draft.old ≡ nothing }
     ensures value { Makes draft.new result (spec.drafted text.now) }
     ensures kept { OnOk result (IsKept draft.new) }
 {
-    if text.len() > MOST_BYTES {
+    if text.len() > MAX_BYTES {
         return Err(PlanFault::TooLarge);
     }
     let all = lines_of(alloc, text)?;
-    if all.len() > MOST_LINES {
+    if all.len() > MAX_LINES {
         return Err(PlanFault::TooLarge);
     }
     take_lines(alloc, draft, &all)?;
@@ -195,7 +195,7 @@ fn take_text(alloc: Global, draft: &mut Draft, text: &[u8]) -> Result<(), PlanFa
     Ok(())
 }
 
-// Takes the lines of a text; a copy of it.
+// Adds the lines of a text. Returns a copy of the text.
 fn take_copy(alloc: Global, draft: &mut Draft, text: &[u8]) -> Result<Vec<u8>, PlanFault>
     requires kept { IsKept draft.old }
     requires nothing { draft_value draft.old ≡ nothing }
@@ -208,7 +208,7 @@ fn take_copy(alloc: Global, draft: &mut Draft, text: &[u8]) -> Result<Vec<u8>, P
 }
 
 impl Plan {
-    /// The plan that the text spells, or its one fault.
+    /// Parses a plan. Returns it, or the first fault of the text.
     pub fn parse(alloc: Global, text: &[u8]) -> Result<Plan, PlanFault>
         ensures value { Gives fault.Memory plan_value result (spec.spelled text.now) }
         ensures text { IfOk result (λ p. p.text ≡ text.now) }

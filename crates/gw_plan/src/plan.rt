@@ -2,7 +2,7 @@
 ghost use Rattle.std.specs.Prelude.{◌≡◌, ◌↔◌, ◌<◌, IsTrue, IfOk, map, length, slice_get, Some, Ok, bytes_eq};
 ghost use Rattle.std.specs.List.{list_any};
 ghost use Rattle.gw_plan.specs.Routing.{header_text, is_accepted, routed};
-ghost use Rattle.gw_plan.specs.Held.{plan_value, lent, tested_for, FoundAt};
+ghost use Rattle.gw_plan.specs.Held.{plan_value, borrowed_route, tested_for, FoundAt};
 ghost use Rattle.gw_plan.specs.Seen.{receiver_value};
 ghost use Rattle.gw_plan.specs.Draft.{plan_of};
 ghost use Rattle.gw_plan.specs.own.SoFar.{draft_value, IsKept};
@@ -25,7 +25,7 @@ pub struct Receiver {
     pub address: Vec<u8>,
 }
 
-/// A plan: the receivers, the versions and processing ids that are accepted, and the routes. It is the meaning of its text by its type.
+/// A plan: receivers, the accepted versions and processing ids, and routes. By its type it is what its text spells.
 pub struct Plan {
     pub(crate) text: Vec<u8>,
     receivers: Vec<Receiver>,
@@ -35,7 +35,7 @@ pub struct Plan {
     routes: Vec<Route>,
 }
 
-// (by hand, so that no crate above proves again how its fields are dropped)
+// Written out, so that no crate above proves again how its fields are dropped.
 impl Drop for Plan {
     fn drop(self) {
         let Plan {
@@ -103,7 +103,7 @@ fn has(words: &[Vec<u8>], text: &[u8]) -> bool
     words.iter().any(|word| text == word.as_slice())
 }
 
-// Any text is accepted where no word is said.
+// Whether a text is one of the accepted words. If there are none, any text is accepted.
 fn accepts(words: &[Vec<u8>], text: &[u8]) -> bool
     ensures { result ≡ is_accepted (map (λ w. w.items) words.now) text.now }
 {
@@ -111,7 +111,7 @@ fn accepts(words: &[Vec<u8>], text: &[u8]) -> bool
 }
 
 impl Plan {
-    // The plan that these lines say, which the text spells.
+    // The plan of these lines, which the text spells.
     pub(crate) fn of(alloc: Global, draft: Draft, text: Vec<u8>) -> Result<Plan, AllocError>
         requires kept { IsKept draft }
         requires meaning { spelled text.items ≡ Ok (plan_of (draft_value draft)) }
@@ -147,7 +147,7 @@ impl Plan {
     }
 
     /// The receivers in the order of their lines, by which they are numbered from 0. It takes no memory.
-    /// Each leg of its routes goes to one of them.
+    /// Each route goes only to these.
     pub fn receivers(&self) -> &[Receiver]
         ensures value { map receiver_value result.now ≡ self.now.receivers }
         ensures within { IsWithin (plan_value self.now) }
@@ -162,11 +162,11 @@ impl Plan {
         are_same(&self.receivers, &other.receivers)
     }
 
-    /// It is the meaning of its text, by its type. It takes no memory.
+    /// The clause says that the plan is what its text spells, by its type. It takes no memory.
     pub fn is_spelled(&self)
         ensures { spelled self.now.text ≡ Ok (plan_value self.now) }
     {
-        // (what the type keeps is known once its value is looked at)
+        // Called for its clause: what the type keeps.
         let _ = &self.text;
     }
 
@@ -207,7 +207,7 @@ impl Plan {
     /// 200 for its type, 201 for its event, 203 for its version, 202 for its processing id (HL7 table 0357).
     /// It takes no memory, and no more time where there are more routes.
     pub fn route(&self, message: &Message) -> Result<&Route, u16>
-        ensures { lent result ≡ routed (plan_value self.now) message.now }
+        ensures { borrowed_route result ≡ routed (plan_value self.now) message.now }
     {
         let number = self.find(message)?;
         Ok(self.route_at(number))

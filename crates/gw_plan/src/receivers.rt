@@ -1,4 +1,4 @@
-//! The receivers of a plan so far.
+//! The receivers of a plan as it is built.
 ghost use Rattle.std.specs.Prelude.{◌≡◌, ◌++◌, ◌∷◌, [], map, position, is_none, true, IfOk, OnOk};
 ghost use Rattle.gw_plan.specs.Draft.{is_receiver};
 ghost use Rattle.gw_plan.specs.Seen.{receiver_value};
@@ -13,7 +13,7 @@ pub(crate) struct Receivers {
     addresses: IndexMap<Vec<u8>, Vec<u8>>,
 }
 
-// (by hand, so that what holds one is dropped by a call)
+// Written out, so that what holds one is dropped by a call.
 impl Drop for Receivers {
     fn drop(self) {
         let Receivers { addresses: _ } = self;
@@ -47,7 +47,7 @@ impl Receivers {
         self.addresses.get_index_of(name)
     }
 
-    /// Puts a receiver of a new name behind the others.
+    /// Appends a receiver of a new name.
     pub(crate) fn put(
         &mut self,
         alloc: Global,
@@ -63,7 +63,7 @@ impl Receivers {
         Ok(())
     }
 
-    /// All of them, in order.
+    /// All receivers, in order.
     pub(crate) fn into_all(self, alloc: Global) -> Result<Vec<Receiver>, AllocError>
         ensures { IfOk result (λ all. map receiver_value all.items ≡ self) }
     {

@@ -14,8 +14,8 @@ use std::alloc::{AllocError, Global};
 use std::marker::Model;
 use std::sync::Arc;
 
-/// The messages of a code and an event, the empty text where a message says none:
-/// the profile by which they are judged, and the receivers that they go to, each with the map that makes what it is sent.
+/// A route: the profile and the receivers for messages of one code and event. Each receiver has the map that makes what it is sent.
+/// The empty event is that of messages without one.
 pub struct Route {
     code: Vec<u8>,
     event: Vec<u8>,
@@ -23,7 +23,7 @@ pub struct Route {
     legs: IndexMap<usize, Arc<CheckedMap>>,
 }
 
-// (by hand, so that what holds one is dropped by a call)
+// Written out, so that what holds one is dropped by a call.
 impl Drop for Route {
     fn drop(self) {
         let Route {
@@ -70,7 +70,7 @@ impl Route {
         })
     }
 
-    // Goes to a receiver more.
+    // Adds a receiver.
     pub(crate) fn add_leg(
         &mut self,
         receiver: usize,
@@ -83,14 +83,14 @@ impl Route {
         Ok(())
     }
 
-    // It goes to each of its receivers once, by its type.
+    // The clause says that it goes to each of its receivers once, by its type.
     pub(crate) fn goes_once(&self)
         ensures { IsDistinct nat_eq (map (λ l. l.0) self.now.legs) }
     {
         let _count = self.legs.len();
     }
 
-    /// The profile. It takes no memory.
+    /// The profile of its messages. It takes no memory.
     pub fn profile(&self) -> &Arc<Profile>
         ensures { arc_value result.now ≡ self.now.profile }
     {

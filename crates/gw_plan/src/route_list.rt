@@ -1,4 +1,4 @@
-//! The routes of a plan so far.
+//! The routes of a plan as it is built.
 ghost use Rattle.std.specs.Prelude.{◌≡◌, [], map, OnOk, IfSome, None, Some, false};
 ghost use Rattle.std.specs.List.{list_any};
 ghost use Rattle.std.specs.Option.{option_map};
@@ -14,7 +14,7 @@ use gw_profile::Profile;
 use std::alloc::{AllocError, Global};
 use std::sync::Arc;
 
-/// Routes in the order of their lines, of which the current one may go to more receivers.
+/// Routes in the order of their lines. The current one may get more receivers.
 #[derive(Drop)]
 pub(crate) struct RouteList {
     pub(crate) closed: Vec<Route>,
@@ -49,7 +49,7 @@ impl RouteList {
         Ok(())
     }
 
-    /// Whether a route is for this code and event, where none is current. It takes no memory.
+    /// Whether there is a route for this code and event. None is current. It takes no memory.
     pub(crate) fn has(&self, code: &[u8], event: &[u8]) -> bool
         requires closed { self.now.current ≡ None }
         requires listed { IsListed self.now }
@@ -58,7 +58,7 @@ impl RouteList {
         self.index.has(code, event)
     }
 
-    /// Makes a route current that goes to no receiver yet.
+    /// Opens a route without receivers, and makes it the current one.
     pub(crate) fn open(
         &mut self,
         alloc: Global,
@@ -79,7 +79,7 @@ impl RouteList {
         Ok(())
     }
 
-    /// The current route goes to a receiver more.
+    /// Adds a receiver to the current route.
     pub(crate) fn add_leg(
         &mut self,
         receiver: usize,

@@ -1,4 +1,4 @@
-//! What receivers are sent.
+//! Translated messages: what receivers are sent.
 ghost use Rattle.std.specs.Prelude.{◌≡◌, ◌↔◌, IsTrue, IfOk, Ok};
 ghost use Rattle.std.specs.Arc.{arc_value};
 ghost use Rattle.gw_plan.specs.Held.{plan_value};
@@ -12,14 +12,14 @@ use std::alloc::{AllocError, Global};
 use std::marker::Model;
 use std::sync::Arc;
 
-/// What is made of an admitted message for a receiver. It is made by `translate_for` alone.
+/// An admitted message, translated for a receiver. Only `translate_for` makes one.
 pub struct Translated {
     source: Arc<Conforming>,
     receiver: usize,
     message: Message,
 }
 
-// (by hand, so that no crate above proves again how its fields are dropped)
+// Written out, so that no crate above proves again how its fields are dropped.
 impl Drop for Translated {
     fn drop(self) {
         let Translated {
@@ -67,14 +67,14 @@ impl Translated {
         &self.message
     }
 
-    /// Whether it was made of this admitted message: the same message under the same version and plan's text. It takes no memory.
+    /// Whether it was made of this admitted message: an equal message under the same version and plan text. It takes no memory.
     pub fn same_source(&self, conforming: &Conforming) -> bool
         ensures { IsTrue result ↔ IsSameSource self.now.source conforming.now }
     {
         self.source.same(conforming)
     }
 
-    /// Whether these are the same: source, receiver and message. It takes no memory.
+    /// Whether source, receiver and message are equal. It takes no memory.
     pub fn same(&self, other: &Translated) -> bool
         ensures { IsTrue result ↔ IsSameTranslated self.now other.now }
     {
@@ -88,7 +88,7 @@ impl Translated {
     }
 }
 
-/// What a receiver is sent of an admitted message whose route goes to it. The one error is allocation failure.
+/// Translates an admitted message for a receiver to which its route goes. The one error is allocation failure.
 pub fn translate_for(
     alloc: Global,
     conforming: &Arc<Conforming>,

@@ -13,7 +13,7 @@ use Rattle.gw_resolve.specs.Seen.{at_leaf}
 use Rattle.gw_resolve.specs.Resolved.{At, leaf_at, Making, Rule}
 use Rattle.gw_interp.specs.declared.copying.ValuePath.{ValuePath}
 use Rattle.gw_interp.specs.declared.reading.Repetition.{Repetition}
-use Rattle.gw_interp.specs.own.Lent.{scope}
+use Rattle.gw_interp.specs.own.Borrowed.{scope}
 use Rattle.gw_interp.specs.Meaning.{Walked, walked, AtMeans, MakingMeans}
 use Rattle.gw_interp.specs.own.Sourced.{current_texts}
 use Rattle.gw_interp.specs.own.Putting.{last_name, last_texts}
@@ -22,7 +22,7 @@ use Rattle.gw_interp.specs.own.Ready.{NoFaults, NoFaultIn}
 
 -- ---- places of a kind
 
--- none has a text yet, and each text that is meant may stand there
+-- no place has a text yet, and each text that is meant may be put at its place
 pub record MayMake (I : Type 0) (key : I → List ℕ) (Means : I → List ℕ → Type 0) (old : List SegmentValue) : Type 0 where
   pub begun : 0 < length old
   pub free : (i : I) → texts.get (last_texts old) (key i) ≡ None

@@ -14,7 +14,7 @@ use Rattle.gw_resolve.specs.Seen.{place, rule, all_items}
 use Rattle.gw_interp.specs.declared.items.Part.{Part}
 use Rattle.gw_interp.specs.declared.items.Part.TheVariants.{OneSegment, Level}
 use Rattle.gw_interp.specs.Occurrences.{Occurrence, at_place}
-use Rattle.gw_interp.specs.own.Lent.{scope}
+use Rattle.gw_interp.specs.own.Borrowed.{scope}
 use Rattle.gw_interp.specs.Meaning.{walked, IsOne, IsImage, ForEach, Segments, Give}
 use Rattle.gw_interp.specs.own.Filling.{message_of}
 use Rattle.gw_interp.specs.own.Ready.{MayImage, MaySegments, MayGive, names_if, names_given}

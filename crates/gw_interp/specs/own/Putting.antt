@@ -14,7 +14,7 @@ last_texts [] = texts.empty
 last_texts (s ∷ []) = s.at
 last_texts (s ∷ t ∷ ss) = last_texts (t ∷ ss)
 
--- none is at the place of the last segment, and the text may stand there, if it isn't absent
+-- the place of the last segment has no text, and the text may be put there, if it isn't absent
 pub record MayStand (key text : List ℕ) (old : List SegmentValue) : Type 0 where
   pub begun : 0 < length old
   pub free : texts.get (last_texts old) key ≡ None

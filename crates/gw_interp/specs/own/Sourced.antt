@@ -7,7 +7,7 @@ use Rattle.gw_interp.specs.declared.reading.Repetition.{Repetition}
 use Rattle.gw_interp.specs.declared.reading.Reading.{Reading}
 use Rattle.gw_resolve.specs.Resolved.{Leaf, const, copied, looked_up}
 use Rattle.gw_interp.specs.Meaning.{IsFirst, Walked, SourceMeans, look_up, LeafMeans}
-use Rattle.gw_interp.specs.own.Lent.{scope}
+use Rattle.gw_interp.specs.own.Borrowed.{scope}
 
 -- no text where there is no segment
 abbrev pub texts_of : Option SegmentValue → Texts

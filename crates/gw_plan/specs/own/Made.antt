@@ -15,11 +15,11 @@ use Rattle.gw_plan.specs.declared.inner_map.Broken as declared_broken
 use Rattle.gw_check.specs.Kept.{CheckedValue}
 use Rattle.gw_check.specs.Checked.{all_failures, least, Broken, broken}
 use Rattle.gw_plan.specs.declared.inner.Inner as declared
-use Rattle.gw_plan.specs.declared.heads.MapHead as heads
+use Rattle.gw_plan.specs.declared.headers.MapHeader as headers
 use Rattle.gw_plan.specs.Shapes.{MapBetween}
-use Rattle.gw_plan.specs.Above.{BeginsAt}
+use Rattle.gw_plan.specs.Declarations.{BeginsAt}
 use Rattle.gw_plan.specs.Held.{map_between}
-use Rattle.gw_plan.specs.Inner.{Inner, MapHead}
+use Rattle.gw_plan.specs.Inner.{Inner, MapHeader}
 
 abbrev pub inner : declared.Inner → Inner
 inner i = record { at = i.at; lines = map (λ line. line.now) i.lines.now; stopped = i.stopped }
@@ -28,22 +28,22 @@ inner i = record { at = i.at; lines = map (λ line. line.now) i.lines.now; stopp
 abbrev pub IsNumbered : Inner → Type 0
 IsNumbered p = p.at + length p.lines + 4294967296 < 2 ^ 64
 
-abbrev pub map_head : heads.MapHead → MapHead
-map_head h = record { line = h.line; name = h.name.now; source = h.source.now; target = h.target.now }
+abbrev pub map_header : headers.MapHeader → MapHeader
+map_header h = record { line = h.line; name = h.name.now; source = h.source.now; target = h.target.now }
 
 -- profiles and maps, without where they lie in memory
 abbrev pub shared_profile : Arc profiles.Contents Global → ProfileValue
 shared_profile p = profile_value (arc_value p)
 
-abbrev pub lent_profile : Bor (Arc profiles.Contents Global) → ProfileValue
-lent_profile p = shared_profile p.now
+abbrev pub borrowed_profile : Bor (Arc profiles.Contents Global) → ProfileValue
+borrowed_profile p = shared_profile p.now
 
 abbrev pub shared_map : Arc CheckedValue Global → MapBetween
 shared_map m = map_between (arc_value m)
 
 -- a fault as it was found, which isn't an allocation failure
-abbrev pub IsLasting : {E : Type 0} → E → E → E → Type 0
-IsLasting memory fault found = (found ≡ fault) × (fault ≡ memory → ⊥)
+abbrev pub IsTextFault : {E : Type 0} → E → E → E → Type 0
+IsTextFault memory fault found = (found ≡ fault) × (fault ≡ memory → ⊥)
 
 -- what was made, seen by view, is what a text spells
 abbrev pub Spells : {X Y E : Type 0} → (X → Y) → Result X E → Result Y E → Type 0
@@ -69,7 +69,7 @@ abbrev pub Checks : profiles.Contents → profiles.Contents → maps.Contents �
 Checks source target m (Ok c) = IsCheckedSo source target m c
 Checks source target m (Err b) = option_map broken (least (all_failures (profile_value source) (profile_value target) (map_value m))) ≡ Some (broken_rule b)
 
--- a map of a plan is this one, and begins at a profile that stands above
+-- a map of a plan is this one, and begins at a profile that was declared above
 pub record IsTaken (profiles : List ProfileValue) (m : maps.Contents) (c : CheckedValue) : Type 0 where
   pub map_is : c.map ≡ m
   pub source : BeginsAt profiles c

@@ -1,4 +1,4 @@
--- What the program holds of a plan so far, and what it stands for.
+-- What the program holds of a plan so far, and what it means.
 use Rattle.std.specs.Prelude.{◌≡◌, ℕ, List, ◌++◌, map, Some, Result, Ok}
 use Rattle.std.specs.Option.{option_map, option_to_list, IfSome}
 use Rattle.gw_lines.specs.Reading.{Gives}
@@ -10,7 +10,7 @@ use Rattle.gw_plan.specs.declared.fault.PlanFault.{PlanFault}
 use Rattle.gw_plan.specs.declared.fault.PlanFault.TheVariants.{Memory}
 use Rattle.gw_plan.specs.declared.route_list.RouteList.{RouteList}
 use Rattle.gw_plan.specs.Held.{RouteHeld, route_value, longer, IsNewLeg}
-use Rattle.gw_plan.specs.Above.{profiles_of, maps_of, named_profile}
+use Rattle.gw_plan.specs.Declarations.{profiles_of, maps_of, named_profile}
 use Rattle.gw_plan.specs.Index.{Indexes}
 use Rattle.gw_plan.specs.Seen.{bytes_all}
 use Rattle.gw_plan.specs.Kept.{key_of}
@@ -35,8 +35,8 @@ draft_value d =
       receivers = d.receivers;
       versions = bytes_all d.versions.items;
       processing = bytes_all d.processing.items;
-      profiles = profiles_of d.above;
-      maps = maps_of d.above;
+      profiles = profiles_of d.declarations;
+      maps = maps_of d.declarations;
       routes = map route_value d.routes.closed.items;
       current = option_map route_value d.routes.current;
     }
@@ -45,10 +45,10 @@ draft_value d =
 abbrev pub StandsAmong : List ProfileValue → RouteHeld → Type 0
 StandsAmong profiles r = named_profile (profile_value r.profile).name profiles ≡ Some (profile_value r.profile)
 
--- the routes are found by their codes and events, and the current one's profile stands above
+-- the routes are found by their codes and events, and the current one's profile was declared above
 pub record IsKept (d : declared.Draft) : Type 0 where
   pub listed : IsListed d.routes
-  pub above : IfSome d.routes.current (StandsAmong (profiles_of d.above))
+  pub declarations : IfSome d.routes.current (StandsAmong (profiles_of d.declarations))
 
 -- a `to` line leads from the current route to this receiver by this map
 pub record Leads (d : declared.Draft) (at : ℕ) (receiver map : List ℕ) (number : ℕ) (by : CheckedValue) : Type 0 where

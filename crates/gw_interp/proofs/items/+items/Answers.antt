@@ -5,12 +5,12 @@ use Rattle.gw_profile.specs.Seen.{forest}
 use Rattle.gw_resolve.specs.Seen.{place as seen_place}
 use Rattle.gw_validate.specs.Fitting.{OccValue}
 use Rattle.gw_interp.specs.Occurrences.{below, in_scope}
-use Rattle.gw_interp.specs.own.Lent.{occurrence, scope, AreOf}
+use Rattle.gw_interp.specs.own.Borrowed.{occurrence, scope, AreOf}
 use Rattle.gw_interp.specs.own.Filling.{message_of}
 use Rattle.gw_interp.specs.own.Ready.{MayBegin, Adds}
 use Rattle.gw_interp.specs.own.Parts.{each_names, MayEach, EachGives}
 use Rattle.gw_interp.proofs.Fills.{on_ok}
-use Rattle.gw_interp.proofs.Lending.{no_children, at_one}
+use Rattle.gw_interp.proofs.Borrowing.{no_children, at_one}
 use Rattle.gw_interp.proofs.Eachs.{none_below, child_begins, child_may, child_done, all_below, none_given, here_given}
 use Rattle.gw_interp.proofs.Levels.{group_begins, group_may, group_gives, flat_begins, flat_may, flat_gives, next_begins, next_may, next_item, all_given}
 use Rattle.gw_interp.proofs.Weights.{weight_one, weight_all, lighter_group, lighter_flat, not_heavier}

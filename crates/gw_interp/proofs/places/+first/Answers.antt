@@ -3,8 +3,8 @@ use Rattle.std.specs.Prelude.{flat_map}
 use Rattle.gw_er7.proofs.Sequences.{first_is}
 use Rattle.gw_validate.specs.Fitting.{OccValue}
 use Rattle.gw_interp.specs.Occurrences.{below}
-use Rattle.gw_interp.specs.own.Lent.{occurrence, IsFirstOf}
-use Rattle.gw_interp.proofs.Lending.{no_children, passed, found_first, none_first}
+use Rattle.gw_interp.specs.own.Borrowed.{occurrence, IsFirstOf}
+use Rattle.gw_interp.proofs.Borrowing.{no_children, passed, found_first, none_first}
 use Rattle.gw_interp.proofs.places.+first.Goals as goal
 
 pub first_below-returns-in-len1-up-clause-first : goal.first_below-returns-in-len1-up-clause-first

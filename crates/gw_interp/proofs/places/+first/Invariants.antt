@@ -1,5 +1,5 @@
 use Rattle.std.proofs.Common.{◌+◌, ◌*◌, length}
-use Rattle.gw_interp.proofs.Lending.{LeadNowhere}
+use Rattle.gw_interp.proofs.Borrowing.{LeadNowhere}
 use Rattle.gw_interp.proofs.places.+first.Given as goal
 
 abbrev pub decreases-first_of_children : goal.decreases-first_of_children

@@ -3,8 +3,8 @@ use Rattle.std.specs.Prelude.{◌≡◌, IfSome}
 use Rattle.gw_er7.specs.Message.{SegmentValue}
 use Rattle.gw_resolve.specs.Seen.{place as seen_place}
 use Rattle.gw_interp.specs.Occurrences.{Occurrence, below}
-use Rattle.gw_interp.specs.own.Lent.{occurrence, IsFirstOf}
-use Rattle.gw_interp.proofs.Lending.{at_none, at_one}
+use Rattle.gw_interp.specs.own.Borrowed.{occurrence, IsFirstOf}
+use Rattle.gw_interp.proofs.Borrowing.{at_none, at_one}
 use Rattle.gw_interp.proofs.places.first_at_place.Goals as goal
 
 pub returns-in-None-clause-first : goal.returns-in-None-clause-first

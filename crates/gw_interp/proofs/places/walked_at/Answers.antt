@@ -1,6 +1,6 @@
-use Rattle.gw_interp.proofs.Lending.{none_walked, one_walked}
+use Rattle.gw_interp.proofs.Borrowing.{none_walked, one_walked}
 use Rattle.std.proofs.Common.{sym, ap, ◌∙◌, ◌∷◌, []}
-use Rattle.gw_interp.specs.own.Lent.{occurrence}
+use Rattle.gw_interp.specs.own.Borrowed.{occurrence}
 use Rattle.gw_interp.proofs.places.walked_at.Goals as goal
 
 pub returns-then-out-scope-clause-walked : goal.returns-then-out-scope-clause-walked

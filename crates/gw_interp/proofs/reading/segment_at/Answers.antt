@@ -3,7 +3,7 @@ use Rattle.std.specs.Prelude.{IfSome, ◌≡◌}
 use Rattle.gw_validate.specs.Fitting.{OccValue}
 use Rattle.gw_resolve.specs.Seen.{place as seen_place}
 use Rattle.gw_interp.specs.Occurrences.{at_place}
-use Rattle.gw_interp.specs.own.Lent.{scope}
+use Rattle.gw_interp.specs.own.Borrowed.{scope}
 use Rattle.gw_interp.specs.own.Sourced.{texts_of}
 use Rattle.gw_interp.proofs.ReadTexts.{some_first}
 use Rattle.gw_interp.proofs.reading.segment_at.Goals as goal

@@ -7,7 +7,7 @@ use Rattle.gw_profile.specs.Seen as profiles
 use Rattle.gw_check.specs.Kept.{CheckedValue}
 use Rattle.gw_plan.specs.Shapes.{RouteValue}
 use Rattle.gw_plan.specs.Held.{RouteHeld, IsNewLeg, map_between, route_value, longer}
-use Rattle.gw_plan.specs.Above.{profiles_of}
+use Rattle.gw_plan.specs.Declarations.{profiles_of}
 use Rattle.gw_plan.specs.own.SoFar.{draft_value, StandsAmong}
 use Rattle.gw_plan.proofs.Routes.{any_legs}
 use Rattle.gw_plan.proofs.Leading.{again, no_map, wrong_map, leads, same_source, longer_value}
@@ -58,8 +58,8 @@ returns-clause-leads c =
           record {
             new = sym c.goes_to.ensures ∙ c.if-goes_to.false;
             source =
-                same_source (profiles_of c.args.self.now.above) (arc_value c.in-Some-map.map.now) c.in-Some.route c.in-Some-map.ensures.source
-                (subst (λ (o : Option RouteHeld). IfSome o (StandsAmong (profiles_of c.args.self.now.above))) c.in-Some.is c.requires.above) ((bytes_eq-Decides _ _).0 same);
+                same_source (profiles_of c.args.self.now.declarations) (arc_value c.in-Some-map.map.now) c.in-Some.route c.in-Some-map.ensures.source
+                (subst (λ (o : Option RouteHeld). IfSome o (StandsAmong (profiles_of c.args.self.now.declarations))) c.in-Some.is c.requires.declarations) ((bytes_eq-Decides _ _).0 same);
           }
           );
       delivers =

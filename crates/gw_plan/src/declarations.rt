@@ -1,9 +1,9 @@
-//! The profiles and maps that stand above in a plan, by their names.
+//! The profiles and maps that a plan has declared so far, by name.
 ghost use Rattle.std.specs.Prelude.{◌≡◌, IfSome, OnOk, OnErr};
 ghost use Rattle.std.specs.Arc.{arc_value};
 ghost use Rattle.std.specs.Option.{option_map};
 ghost use Rattle.gw_profile.specs.Seen.{profile_value};
-ghost use Rattle.gw_plan.specs.Above.{empty, with_profile, with_map, profiles_of, maps_of, named_profile, named_map, IsNewProfile, IsNewMap, BeginsAt};
+ghost use Rattle.gw_plan.specs.Declarations.{empty, with_profile, with_map, profiles_of, maps_of, named_profile, named_map, IsNewProfile, IsNewMap, BeginsAt};
 ghost use Rattle.gw_plan.specs.Held.{map_between};
 
 use gw_check::CheckedMap;
@@ -13,46 +13,46 @@ use std::alloc::{AllocError, Global};
 use std::marker::Model;
 use std::sync::Arc;
 
-/// The profiles and maps that stand above in a plan, in their order. Each map begins at a profile that stands above.
-pub(crate) struct Above {
+/// The profiles and maps that a plan has declared so far, in order. Each map's source is one of the profiles.
+pub(crate) struct Declarations {
     profiles: IndexMap<Vec<u8>, Arc<Profile>>,
     maps: IndexMap<Vec<u8>, Arc<CheckedMap>>,
 }
 
-// (by hand, so that what holds one is dropped by a call)
-impl Drop for Above {
+// Written out, so that what holds one is dropped by a call.
+impl Drop for Declarations {
     fn drop(self) {
-        let Above {
+        let Declarations {
             profiles: _,
             maps: _,
         } = self;
     }
 }
 
-impl Model for Above {
+impl Model for Declarations {
     ghost use Rattle.std.specs.Coded.{codes};
     ghost use Rattle.std.specs.Prelude.{map};
     ghost use Rattle.std.specs.Arc.{arc_value};
     ghost use Rattle.gw_profile.specs.contracts.node.Node as node;
     ghost use Rattle.gw_maplang.specs.contracts.item.Item as raw_item;
     ghost use Rattle.gw_resolve.specs.contracts.resolved.Item as item;
-    ghost use Rattle.gw_plan.specs.Above.{AboveHeld, IsAbove};
+    ghost use Rattle.gw_plan.specs.Declarations.{DeclarationsHeld, AreDeclared};
 
-    ghost Value = { AboveHeld };
+    ghost Value = { DeclarationsHeld };
 
     ghost coded = { Prim.hlevel (codes, node.the_row.coded, raw_item.the_row.coded, item.the_row.coded) };
 
     ghost view = { λ a. record { profiles = map (λ e. arc_value e.1) a.profiles.entries; maps = map (λ e. arc_value e.1) a.maps.entries } };
 
-    ghost invariant = { λ a. IsAbove (map (λ e. (e.0.items, arc_value e.1)) a.profiles.entries) (map (λ e. (e.0.items, arc_value e.1)) a.maps.entries) };
+    ghost invariant = { λ a. AreDeclared (map (λ e. (e.0.items, arc_value e.1)) a.profiles.entries) (map (λ e. (e.0.items, arc_value e.1)) a.maps.entries) };
 }
 
-impl Above {
-    /// Nothing.
-    pub(crate) fn new(alloc: Global) -> Above
+impl Declarations {
+    /// No declarations.
+    pub(crate) fn new(alloc: Global) -> Declarations
         ensures { result ≡ empty }
     {
-        Above {
+        Declarations {
             profiles: IndexMap::new(alloc),
             maps: IndexMap::new(alloc),
         }
@@ -73,7 +73,7 @@ impl Above {
         self.maps.get(name)
     }
 
-    /// Adds a profile behind the others. Where memory runs out nothing changes.
+    /// Appends a profile. If an allocation fails, nothing changes.
     pub(crate) fn add_profile(
         &mut self,
         alloc: Global,
@@ -88,7 +88,7 @@ impl Above {
         Ok(())
     }
 
-    /// Adds a map behind the others. Where memory runs out nothing changes.
+    /// Appends a map. If an allocation fails, nothing changes.
     pub(crate) fn add_map(&mut self, alloc: Global, map: Arc<CheckedMap>) -> Result<(), AllocError>
         requires { IsNewMap self.old (arc_value map) }
         ensures added { OnOk result (self.new ≡ with_map self.old (arc_value map)) }

@@ -1,4 +1,4 @@
--- The occurrences that are lent, and those of a place.
+-- The occurrences that are borrowed, and those of a place.
 use Rattle.std.proofs.Common.{get_or, ◌≡◌, inl, inr, ℕ, zero, suc, ◌+◌, ◌-◌, ◌≤◌, ◌<◌, List, [], ◌∷◌, ◌++◌, Option, Some, None, refl, sym, ap, ◌∙◌, arith, length, map, slice_get, option_map, take, drop, append-nil, append_assoc}
 use Rattle.std.specs.Prelude.{flat_map}
 use Rattle.std.proofs.lemmas.List.{length-map, length-reverse, get_or-reverse, get_or-map, take_all, take-append-drop}
@@ -9,7 +9,7 @@ use Rattle.gw_validate.specs.Viewing as viewing
 use Rattle.gw_validate.specs.Viewing.{number, row, tree_at, width, count_at, occurrence_at, occurrence_of}
 use Rattle.gw_resolve.specs.Places.{Place}
 use Rattle.gw_interp.specs.Occurrences.{Occurrence, a_segment, nodes, list_of, level_at, children, below, in_scope, at_place}
-use Rattle.gw_interp.specs.own.Lent.{numbered, occurrence, scope, IsFirstOf}
+use Rattle.gw_interp.specs.own.Borrowed.{numbered, occurrence, scope, IsFirstOf}
 
 -- ---- the children of a node
 
