@@ -32,6 +32,6 @@ Follow j (next ∷ more) = (is_pending j ≡ false) × (next.start ≡ start_aft
 abbrev pub all_entries : List Journal → List EntrySeen
 all_entries journals = flat_map (λ j. j.entries) journals
 
--- Journals that follow one another, read as one: what was due and what was released, and under which versions, is said of this one.
+-- Journals that follow one another, read as one. What was due, what was released and under which versions is stated of this one.
 abbrev pub joined : Journal → List Journal → Journal
 joined first more = record { start = first.start; entries = first.entries ++ all_entries more }

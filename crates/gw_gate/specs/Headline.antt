@@ -24,7 +24,7 @@ abbrev pub RiseFrom : ℕ → List ℕ → Type 0
 RiseFrom low [] = ⊤
 RiseFrom low (n ∷ ns) = (low ≤ n) × RiseFrom (n + 1) ns
 
--- Acceptances and plans are numbered on from the start, so each number stands once; and so does each due number.
+-- Acceptances and plans are numbered on from the start, so each number occurs once. Each due number occurs once too.
 pub record Numbered (j : Journal) : Type 0 where
   pub accepted : CountFrom j.start.acceptances (map (λ a. a.n) (accepted j.entries))
   pub plans : CountFrom j.start.version (map (λ v. v.number) (plans j))

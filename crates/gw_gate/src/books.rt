@@ -1,4 +1,4 @@
-//! A journal with the books that are kept of it, so that a step needs no look at what is behind it.
+//! A journal with indexes of it, so that a step need not read the journal.
 ghost use Rattle.std.specs.Prelude.{◌≡◌, ◌+◌, ◌++◌, ◌≤◌, OnOk, vec_len, vec_capacity, ◌<◌, ◌≢◌, ℕ, Bool, true, false, nat_lt, length, map, slice_get, Ok, Err, Some, None, []};
 ghost use Rattle.std.specs.Option.{option_map};
 ghost use Rattle.std.specs.Arc.{arc_value};
@@ -35,20 +35,20 @@ use std::sync::Arc;
 /// The most entries of a journal.
 pub const MOST: usize = 262_144;
 
-// The most entries that were made in all when a journal is closed.
+// A journal is closed only up to this number of entries in all chapters.
 const MOST_IN_ALL: u64 = 9_000_000_000_000_000_000;
 
-// A number with a receiver.
+// An accepted message's number with a receiver.
 #[derive(Clone, Copy)]
 pub(crate) struct Pair {
     n: u64,
     receiver: usize,
 }
 
-// A reply, with the note of its entry; or the event, after an allocation failure.
+// A reply, with the note of its entry. After an allocation failure it is the event.
 pub(crate) type Answer = Result<(Reply, Option<Entry>), Event>;
 
-// Room for an acceptance: its place, its pairs, and its number at each desk to which it goes.
+// Makes room for an acceptance: for its place, its pairs, and its number at each desk to which it goes.
 fn make_rooms(
     places: &mut Vec<usize>,
     queue: &mut VecDeque<Pair>,
@@ -68,7 +68,7 @@ fn make_rooms(
     make_room(desks, alloc, conforming)
 }
 
-// A pair for each receiver of the message's route.
+// Adds a pair for each receiver of the message's route.
 fn issue_all(queue: &mut VecDeque<Pair>, conforming: &Conforming, n: u64)
     requires { deque_len queue.old + length (conforming_seen conforming.now).receivers ≤ deque_capacity queue.old }
     ensures { map pair_seen queue.new.items ≡ map pair_seen queue.old.items ++ map (pair n) (conforming_seen conforming.now).receivers }
@@ -176,7 +176,7 @@ impl Books {
         }
     }
 
-    // A content arrived that was refused.
+    // Handles `Refuse`: a message arrived that was refused.
     fn refuse(&mut self, code: u16, takes: bool) -> Answer
         ensures { StepsNoted takes self.old (Refuses code) (noted_seen result) self.new }
     {
@@ -193,7 +193,7 @@ impl Books {
         Ok((Reply::Refused { arrival }, note))
     }
 
-    // A plan is to take the place of the one in force.
+    // Handles `Swap`: a plan takes the place of the one in force.
     fn swap(&mut self, plan: Arc<Plan>, takes: bool) -> Answer
         ensures { StepsNoted takes self.old (Swaps (plan_seen (arc_value plan))) (noted_seen result) self.new }
     {
@@ -220,7 +220,7 @@ impl Books {
         Ok((Reply::Swapped { version }, note))
     }
 
-    // What was accepted under this number: by the entry to which its place leads.
+    // The message that was accepted under this number, by the place of its entry.
     fn accepted(&self, n: u64) -> Option<&Arc<Conforming>>
         ensures { acceptance self.now.entries n ≡ option_map (under n) (conforming_in result) }
     {
@@ -236,7 +236,7 @@ impl Books {
         entry.accepted()
     }
 
-    // The next pair, with what was accepted under its number.
+    // The next pair, with the message that was accepted under its number.
     fn next(&self) -> Option<(Pair, &Arc<Conforming>)>
         ensures { reply_to self.now Takes ≡ job_reply (option_map job_seen result) }
     {
@@ -249,7 +249,7 @@ impl Books {
         Some((*pair, conforming))
     }
 
-    // The next pair is taken.
+    // Handles `Take`: the next pair is taken.
     fn take(&mut self, takes: bool) -> Answer
         ensures { StepsNoted takes self.old Takes (noted_seen result) self.new }
     {
@@ -277,7 +277,7 @@ impl Books {
         Ok((reply, note))
     }
 
-    // What the pair is of a translation that is put: `Stranger` too where it is of another message than the accepted one.
+    // The state of the pair of a translation. It is `Stranger` too if the translation is of another message than the accepted one.
     fn put_status(&self, n: u64, translated: &Translated) -> Status
         ensures { reply_to self.now (Puts n (translated_seen translated.now)) ≡ put_reply result (translated_seen translated.now) }
     {
@@ -291,7 +291,7 @@ impl Books {
         status_at(&self.desks, receiver, n)
     }
 
-    // A translation is put.
+    // Handles `Put`.
     fn put(&mut self, n: u64, translated: Arc<Translated>, takes: bool) -> Answer
         ensures { StepsNoted takes self.old (Puts n (translated_seen (arc_value translated))) (noted_seen result) self.new }
     {
@@ -302,7 +302,7 @@ impl Books {
         }
     }
 
-    // A translation that its pair waits for is kept.
+    // Keeps a translation for which its pair waits.
     fn keep(&mut self, n: u64, translated: Arc<Translated>, takes: bool) -> Answer
         requires { reply_to self.old (Puts n (translated_seen (arc_value translated))) ≡ IsKept }
         ensures { StepsNoted takes self.old (Puts n (translated_seen (arc_value translated))) (noted_seen result) self.new }
@@ -326,14 +326,14 @@ impl Books {
         Ok((Reply::Kept, note))
     }
 
-    // What the pair is.
+    // The state of the pair.
     fn pair_status(&self, n: u64, receiver: usize) -> Status
         ensures { reply_to self.now (Reissues n receiver) ≡ issue_reply result }
     {
         status_at(&self.desks, receiver, n)
     }
 
-    // A pair is to be worked on again.
+    // Handles `Reissue`.
     fn reissue(&mut self, n: u64, receiver: usize, takes: bool) -> Answer
         ensures { StepsNoted takes self.old (Reissues n receiver) (noted_seen result) self.new }
     {
@@ -344,7 +344,7 @@ impl Books {
         }
     }
 
-    // A pair that waits for a translation is issued once more.
+    // Issues a pair again that waits for a translation.
     fn issue(&mut self, n: u64, receiver: usize, takes: bool) -> Answer
         requires { reply_to self.old (Reissues n receiver) ≡ IsIssued }
         ensures { StepsNoted takes self.old (Reissues n receiver) (noted_seen result) self.new }
@@ -364,14 +364,14 @@ impl Books {
         Ok((Reply::Issued, note))
     }
 
-    // What is next for a receiver, where it is kept.
+    // The next translation for a receiver, if it is kept.
     fn waiting(&self, receiver: usize) -> Option<(u64, &Arc<Translated>)>
         ensures { reply_to self.now (Releases receiver) ≡ release_reply (option_map (λ g. (g.0, translated_seen (arc_value g.1.now))) result) }
     {
         next_at(&self.desks, receiver)
     }
 
-    // What is next for a receiver is given out.
+    // Handles `Release`: the next translation for a receiver is released.
     fn release(&mut self, receiver: usize, takes: bool) -> Answer
         ensures { StepsNoted takes self.old (Releases receiver) (noted_seen result) self.new }
     {
@@ -404,7 +404,7 @@ impl Books {
         is_under(conforming, self.version, &self.plan)
     }
 
-    // A message that was admitted arrives.
+    // Handles `Arrive`: a message that was admitted arrives.
     fn arrive(&mut self, conforming: Arc<Conforming>, takes: bool) -> Answer
         ensures { StepsNoted takes self.old (Arrives (conforming_seen (arc_value conforming))) (noted_seen result) self.new }
     {
@@ -418,7 +418,7 @@ impl Books {
         Ok((reply, None))
     }
 
-    // A message of the plan in force is accepted.
+    // Accepts a message that was admitted under the plan in force.
     fn accept(&mut self, conforming: Arc<Conforming>, takes: bool) -> Answer
         requires { is_under (conforming_seen (arc_value conforming)) (current self.old).number (current self.old).plan ≡ true }
         ensures { StepsNoted takes self.old (Arrives (conforming_seen (arc_value conforming))) (noted_seen result) self.new }
@@ -458,21 +458,21 @@ impl Books {
         Ok((Reply::Accepted { n, arrival }, note))
     }
 
-    // Whether a pair wasn't taken.
+    // Whether a pair waits to be taken.
     fn is_left(&self) -> bool
         ensures { result ≡ nat_lt (jobs self.now.entries) (length (issued self.now.entries)) }
     {
         !self.queue.is_empty()
     }
 
-    // Whether something that is due wasn't released.
+    // Whether something due wasn't released yet.
     fn some_awaits(&self) -> bool
         ensures { result ≡ some_await self.now.entries }
     {
         some_wait(&self.desks)
     }
 
-    // Whether too many entries were made in all.
+    // Whether there are too many entries in all chapters.
     fn is_long(&self) -> bool
         ensures { result ≡ nat_lt most_in_all (end self.now) }
     {
@@ -486,7 +486,8 @@ impl Books {
         self.is_left() || self.some_awaits() || self.is_long()
     }
 
-    // The journal is closed, unless something is pending, and an empty one opened whose numbers go on. An error is an allocation failure, and nothing changed.
+    // Closes the journal, unless something is pending, and opens an empty one whose numbers go on.
+    // The one error is an allocation failure, which changes nothing.
     fn close(&mut self) -> Result<Option<(Start, Vec<Entry>)>, AllocError>
         ensures { Closes self.old result self.new }
     {
@@ -510,7 +511,7 @@ impl Books {
         Ok(Some((start, entries)))
     }
 
-    // The journal is to be closed.
+    // Handles `Cut`.
     fn cut(&mut self) -> Answer
         requires { IsLawful (IsTranslated Makes) self.old }
         ensures { (takes : Bool) → StepsNoted takes self.old Cuts (noted_seen result) self.new }
@@ -525,7 +526,7 @@ impl Books {
         }
     }
 
-    // One step, of whose entry a note may be taken.
+    // Makes one step, with a note of its entry if notes are taken.
     pub(crate) fn step(&mut self, event: Event, takes: bool) -> Answer
         requires { IsLawful (IsTranslated Makes) self.old }
         ensures { StepsNoted takes self.old (event_seen event) (noted_seen result) self.new }

@@ -5,7 +5,7 @@ use gw_plan::Plan;
 use std::marker::Model;
 use std::sync::Arc;
 
-/// Where a journal starts: the version and plan in force, and how many acceptances, arrivals and entries there were before it.
+/// Where a journal starts: the version and the plan in force, and the numbers of acceptances, arrivals and entries before it.
 #[derive(Drop)]
 pub struct Start {
     pub version: u64,
@@ -15,13 +15,13 @@ pub struct Start {
     pub entries: u64,
 }
 
-/// A journal that was closed. It is lawful by its type, and nothing in it was left undone.
+/// A journal that was closed. By its type it is lawful, and nothing in it was left undone.
 pub struct Chapter {
     start: Start,
     entries: Vec<Entry>,
 }
 
-// (by hand: so no crate above proves again how its parts are dropped)
+// Written out, so that no crate above proves again how its parts are dropped.
 impl Drop for Chapter {
     fn drop(self) {
         let Chapter {
@@ -48,7 +48,7 @@ impl Chapter {
     ghost use Rattle.gw_gate.specs.Entries.{entries_seen, start_seen};
     ghost use Rattle.gw_gate.specs.Closing.{IsChapter};
 
-    // The chapter of these, which a gate closed.
+    // The chapter of a journal that a gate closed.
     pub(crate) fn of(start: Start, entries: Vec<Entry>) -> Self
         requires { IsChapter (record { start = start_seen start; entries = entries_seen entries.items }) }
         ensures { result ≡ record { start = start_seen start; entries = entries_seen entries.items } }

@@ -9,7 +9,7 @@ use std::alloc::AllocError;
 use std::sync::Arc;
 
 impl Entry {
-    // The same entry once more.
+    // A copy of the entry.
     pub(crate) fn copy(&self) -> Result<Entry, AllocError>
         ensures { IfOk result (λ e. entry_seen e ≡ entry_seen self.now) }
     {
@@ -56,7 +56,7 @@ impl Entry {
     }
 }
 
-// A note of the entry, where notes are taken.
+// A copy of the entry as its note, if notes are taken.
 fn note(takes: bool, entry: &Entry) -> Result<Option<Entry>, AllocError>
     ensures { IfOk result (λ o. note_seen o ≡ noted takes (Some (entry_seen entry.now))) }
 {
@@ -67,7 +67,7 @@ fn note(takes: bool, entry: &Entry) -> Result<Option<Entry>, AllocError>
     Ok(Some(copy))
 }
 
-// Room in the journal for the entry, and a note of it where notes are taken.
+// Makes room in the journal for the entry, and its note if notes are taken.
 pub(crate) fn prepared(
     journal: &mut Vec<Entry>,
     takes: bool,

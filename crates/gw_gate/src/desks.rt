@@ -1,4 +1,4 @@
-//! The desks of a gate, by the receivers' numbers.
+//! The delivery queues (desks) of a gate, by the receivers' numbers.
 ghost use Rattle.std.specs.Prelude.{◌≡◌, ◌≢◌, ℕ, ◌<◌, ◌≤◌, nat_lt, length, option_map, OnOk, All};
 ghost use Rattle.gw_reorder.specs.State.{SameButRoom, nothing_due, with_due};
 ghost use Rattle.gw_reorder.specs.Calls.{status_of, after_holding, next_of};
@@ -12,7 +12,7 @@ use gw_reorder::{Desk, Status};
 use std::alloc::{AllocError, Global};
 use std::sync::Arc;
 
-// What the number is at this receiver's desk.
+// The state of the number at this receiver's desk.
 pub(crate) fn status_at(desks: &[Desk<Arc<Translated>>], receiver: usize, n: u64) -> Status
     ensures { result ≡ status_of (desk_at desks.now receiver) n }
 {
@@ -22,7 +22,7 @@ pub(crate) fn status_at(desks: &[Desk<Arc<Translated>>], receiver: usize, n: u64
     }
 }
 
-// Whether something that is due at this desk wasn't given out.
+// Whether something due at this desk wasn't released yet.
 fn waits_at(desks: &[Desk<Arc<Translated>>], receiver: usize) -> bool
     ensures { result ≡ nat_lt (desk_at desks.now receiver).released (length (desk_at desks.now receiver).due) }
 {
@@ -32,7 +32,7 @@ fn waits_at(desks: &[Desk<Arc<Translated>>], receiver: usize) -> bool
     }
 }
 
-// Whether something that is due at one of the desks wasn't given out.
+// Whether something due at one of the desks wasn't released yet.
 pub(crate) fn some_wait(desks: &[Desk<Arc<Translated>>]) -> bool
     ensures { Waits (desk_at desks.now) result }
 {
@@ -44,7 +44,7 @@ pub(crate) fn some_wait(desks: &[Desk<Arc<Translated>>]) -> bool
     false
 }
 
-// Nothing is due at this desk from here on.
+// Empties this desk.
 fn restart_at(desks: &mut Vec<Desk<Arc<Translated>>>, receiver: usize)
     requires { receiver < length desks.old.items }
     ensures this { SameButRoom nothing_due (desk_at desks.new.items receiver) }
@@ -54,7 +54,7 @@ fn restart_at(desks: &mut Vec<Desk<Arc<Translated>>>, receiver: usize)
     desks[receiver].restart();
 }
 
-// Nothing is due at any desk from here on.
+// Empties all desks.
 pub(crate) fn restart_all(desks: &mut Vec<Desk<Arc<Translated>>>)
     ensures { (r : ℕ) → SameButRoom nothing_due (desk_at desks.new.items r) }
 {
@@ -63,7 +63,7 @@ pub(crate) fn restart_all(desks: &mut Vec<Desk<Arc<Translated>>>)
     }
 }
 
-// What this receiver's desk would give.
+// What this receiver's desk would release.
 pub(crate) fn next_at(
     desks: &[Desk<Arc<Translated>>],
     receiver: usize,
@@ -76,7 +76,7 @@ pub(crate) fn next_at(
     }
 }
 
-// As many desks as this receiver needs.
+// Makes as many desks as this receiver needs.
 fn widen(
     desks: &mut Vec<Desk<Arc<Translated>>>,
     alloc: Global,
@@ -91,7 +91,7 @@ fn widen(
     Ok(())
 }
 
-// Room at a receiver's desk for one more due number.
+// Makes room at a receiver's desk for one more due number.
 fn reserve_at(desks: &mut Vec<Desk<Arc<Translated>>>, receiver: usize) -> Result<(), AllocError>
     requires { receiver < length desks.old.items }
     ensures roomier { AreRoomier desks.old.items desks.new.items }
@@ -100,7 +100,7 @@ fn reserve_at(desks: &mut Vec<Desk<Arc<Translated>>>, receiver: usize) -> Result
     desks[receiver].reserve()
 }
 
-// A desk for this receiver, with room for one more due number.
+// Makes a desk for this receiver, with room for one more due number.
 fn room_at(
     desks: &mut Vec<Desk<Arc<Translated>>>,
     alloc: Global,
@@ -113,7 +113,7 @@ fn room_at(
     reserve_at(desks, receiver)
 }
 
-// Room at the desk of each receiver of the message's route.
+// Makes room at the desk of each receiver of the message's route.
 pub(crate) fn make_room(
     desks: &mut Vec<Desk<Arc<Translated>>>,
     alloc: Global,
@@ -129,7 +129,7 @@ pub(crate) fn make_room(
     Ok(())
 }
 
-// The number is due at this desk.
+// Makes the number due at this desk.
 fn due_at(desks: &mut Vec<Desk<Arc<Translated>>>, receiver: usize, n: u64)
     requires within { receiver < length desks.old.items }
     requires room { 0 < (desk_at desks.old.items receiver).room }
@@ -140,13 +140,13 @@ fn due_at(desks: &mut Vec<Desk<Arc<Translated>>>, receiver: usize, n: u64)
     desks[receiver].due(n);
 }
 
-// The number is due at the desks to which the message goes.
+// Makes the number due at each desk to which the message goes.
 pub(crate) fn make_due(desks: &mut Vec<Desk<Arc<Translated>>>, conforming: &Conforming, n: u64)
     requires room { HasRoomFor desks.old.items (conforming_seen conforming.now) }
     requires above { (r : ℕ) → All (λ m. m < n) (desk_at desks.old.items r).due }
     ensures { (r : ℕ) → desk_at desks.new.items r ≡ due_to (conforming_seen conforming.now) n r (desk_at desks.old.items r) }
 {
-    // (its clause says that no receiver comes twice)
+    // Called for its clause: no receiver comes twice.
     goes_once(conforming);
     for place in 0..receiver_count(conforming) {
         let receiver = receiver_at(conforming, place);
@@ -154,7 +154,7 @@ pub(crate) fn make_due(desks: &mut Vec<Desk<Arc<Translated>>>, conforming: &Conf
     }
 }
 
-// The translation is kept at this receiver's desk, where its number waits for one.
+// Keeps the translation at this receiver's desk, if its number waits for one.
 pub(crate) fn hold_at(
     desks: &mut Vec<Desk<Arc<Translated>>>,
     receiver: usize,
@@ -168,7 +168,7 @@ pub(crate) fn hold_at(
     desks[receiver].hold(n, translated);
 }
 
-// What this receiver's desk would give leaves it.
+// Releases what is next at this receiver's desk.
 pub(crate) fn release_at(desks: &mut Vec<Desk<Arc<Translated>>>, receiver: usize)
     ensures this { SameButRoom (given_out (desk_at desks.old.items receiver)) (desk_at desks.new.items receiver) }
     ensures others { (r : ℕ) → r ≢ receiver → desk_at desks.new.items r ≡ desk_at desks.old.items r }

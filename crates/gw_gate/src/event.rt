@@ -1,4 +1,4 @@
-//! What comes to a gate, what it replies, and what it enters in its journal.
+//! The events that come to a gate, its replies, and the entries of its journal.
 ghost use Rattle.std.specs.Prelude.{◌≡◌};
 ghost use Rattle.gw_gate.specs.Entries.{entry_seen};
 ghost use Rattle.gw_gate.specs.Values.{conforming_in};
@@ -9,7 +9,7 @@ use gw_plan::{Conforming, Plan, Translated};
 use std::mem::size_of;
 use std::sync::Arc;
 
-/// What comes to a gate.
+/// An event that comes to a gate.
 #[derive(Drop)]
 pub enum Event {
     /// Asks for the plan that is in force.
@@ -18,21 +18,21 @@ pub enum Event {
     Arrive(Arc<Conforming>),
     /// A message arrives that was refused under this code (HL7 table 0357).
     Refuse(u16),
-    /// A plan is to take the place of the one in force.
+    /// A plan to take the place of the one in force.
     Swap(Arc<Plan>),
     /// Asks for the next pair to be worked on.
     Take,
-    /// What was made of the message that was accepted under this number.
+    /// The translation of the message that was accepted under this number.
     Put { n: u64, translated: Arc<Translated> },
-    /// A pair is to be worked on again.
+    /// Asks that a pair be worked on again.
     Reissue { n: u64, receiver: usize },
     /// Asks for the next translation for this receiver.
     Release(usize),
-    /// The journal is to be closed, and an empty one opened.
+    /// Asks that the journal be closed, and an empty one opened.
     Cut,
 }
 
-/// What a gate replies.
+/// The reply of a gate to an event.
 #[derive(Drop)]
 pub enum Reply {
     /// To Look: the plan in force, with its version.
@@ -68,9 +68,9 @@ pub enum Reply {
     },
     /// To Take: every pair was taken.
     Idle,
-    /// To Put: it is kept until its turn.
+    /// To Put: the translation is kept until its turn.
     Kept,
-    /// To Put: one was kept for the pair before.
+    /// To Put: a translation was kept for the pair before.
     Repeat(Arc<Translated>),
     /// To Put and Reissue: the pair isn't due, or the translation is of another message, version or plan.
     Stranger(Option<Arc<Translated>>),
@@ -83,17 +83,17 @@ pub enum Reply {
         n: u64,
         translated: Arc<Translated>,
     },
-    /// To Release: none was kept for the next number.
+    /// To Release: nothing is kept for the next number.
     Nothing,
-    /// To Cut: something is still to be taken or given out.
+    /// To Cut: something is still to be taken or released.
     Pending,
     /// To Cut: the journal that was closed.
     Closed(Chapter),
-    /// To an event whose entry the journal has no room for.
+    /// To any event whose entry the journal has no room for.
     Full(Event),
 }
 
-/// What a gate enters in its journal.
+/// An entry of a gate's journal.
 pub enum Entry {
     /// A message was accepted under this number, from 0; its arrival is numbered from 1.
     Accepted {
@@ -116,7 +116,7 @@ pub enum Entry {
         n: u64,
         receiver: usize,
     },
-    /// What was made for a pair of this message is kept.
+    /// A translation for a pair of this message is kept.
     Kept {
         n: u64,
         translated: Arc<Translated>,
@@ -126,7 +126,7 @@ pub enum Entry {
         n: u64,
         receiver: usize,
     },
-    /// The translation was given out for the receiver.
+    /// The translation was released to the receiver.
     Out {
         n: u64,
         receiver: usize,
@@ -134,7 +134,7 @@ pub enum Entry {
     },
 }
 
-// (by hand: so no crate above proves again how its parts are dropped)
+// Written out, so that no crate above proves again how its parts are dropped.
 impl Drop for Entry {
     fn drop(self) {
         match self {
@@ -167,7 +167,7 @@ impl Drop for Entry {
 }
 
 impl Entry {
-    // What this entry accepts.
+    // The message that this entry accepts, if it is an acceptance.
     pub(crate) fn accepted(&self) -> Option<&Arc<Conforming>>
         ensures { conforming_in result ≡ accepted_by (entry_seen self.now) }
     {
@@ -178,5 +178,5 @@ impl Entry {
     }
 }
 
-// An entry takes no more memory than this, beside what its Arcs share.
+// An entry takes at most this much memory, beside what its Arcs share.
 const _: () = prove!(size_of::<Entry>() <= 64);

@@ -19,12 +19,13 @@ use std::alloc::Global;
 use std::marker::Model;
 use std::sync::Arc;
 
-/// A gate: what it entered in its journal since it opened with a plan. Its journal is lawful by its type.
+/// A gate: the one place to which all events of a service come, one at a time. It enters each change in its journal, which is lawful by
+/// its type.
 pub struct Gate {
     books: Books,
 }
 
-// (by hand: so no crate above proves again how its parts are dropped)
+// Written out, so that no crate above proves again how its parts are dropped.
 impl Drop for Gate {
     fn drop(self) {
         let Gate { books: _ } = self;
@@ -44,7 +45,7 @@ impl Model for Gate {
     ghost invariant = { λ g. IsLawful (IsTranslated Makes) g.books };
 }
 
-// What arrives was admitted by a plan, and what is put is what a plan makes, by their types.
+// By their types, what arrives was admitted by a plan, and what is put is what a plan makes.
 fn known(event: &Event)
     ensures { IsEvent (IsTranslated Makes) (event_seen event.now) }
 {
@@ -69,9 +70,8 @@ impl Gate {
         }
     }
 
-    /// The entries so far. The journal is lawful: each receiver was sent the first of what is due to it, in order and each once.
-    /// Each was made by the plan of the version under which its message was accepted.
-    /// It takes no memory.
+    /// The entries so far. The journal is lawful: what each receiver was sent is a beginning of what is due to it, in order and each once.
+    /// Each translation was made by the plan under which its message was accepted. It takes no memory.
     pub fn journal(&self) -> &[Entry]
         ensures entries { entries_seen result.now ≡ self.now.entries }
         ensures lawful { IsLawful (IsTranslated Makes) self.now }
@@ -96,15 +96,17 @@ impl Gate {
         &self.books.start().plan
     }
 
-    /// How many entries there were in all, with those of the journals that were closed. It takes no memory.
+    /// The number of entries in all, those of closed journals included. It takes no memory.
     pub fn end(&self) -> u64
         ensures { result ≡ end self.now }
     {
         self.books.end()
     }
 
-    /// One step: the reply to the event, whose entry is added. An error is an allocation failure: the event is returned, and nothing changed.
-    /// Only a reply that adds an entry, Current and Closed are refused so. It takes no more time where the journal is longer, but for finding a number among those due.
+    /// Makes one step: returns the reply to the event, and adds its entry. The one error is an allocation failure, which returns the event and
+    /// changes nothing. Only a reply that adds an entry, Current and Closed can fail so.
+    ///
+    /// The time doesn't depend on the journal's length, except for finding a number among those due.
     pub fn step(&mut self, event: Event) -> Result<Reply, Event>
         ensures { Steps self.old (event_seen event) (answer_seen result) self.new }
     {
@@ -115,7 +117,7 @@ impl Gate {
         }
     }
 
-    /// The same step, with a copy of the entry that it adds, which is made before anything changes.
+    /// The same step, with a copy of the entry that it adds. The copy is made before anything changes.
     pub fn step_noted(&mut self, event: Event) -> Result<(Reply, Option<Entry>), Event>
         ensures { StepsNoted true self.old (event_seen event) (noted_seen result) self.new }
     {

@@ -1,4 +1,4 @@
-//! What holds of every lawful journal, and rows of the definitions.
+//! Laws on every lawful journal, and worked rows of the definitions.
 ghost use Rattle.std.specs.Prelude.{◌≡◌, ℕ, List, ◌∷◌, ◌++◌, length, Some};
 ghost use Rattle.std.specs.List.{AllByRecursion};
 ghost use Rattle.gw_gate.specs.Replies.{Puts, Swaps, IsStranger, IsUnlike, reply, replies, most};
@@ -25,18 +25,18 @@ pub fn swap_in_traffic()
     ensures other_version { reply taken (Puts 0 (made_later 10)) ≡ IsStranger (Some (made_later 10)) }
 {}
 
-/// A pair is given out again where it is issued again.
+/// A pair that is issued again is taken again.
 pub fn reissued()
     ensures { replies most opened issuing_again ≡ issued_again }
 {}
 
-/// At its limit a journal takes no entry, and what needs none is answered.
+/// A full journal takes no entry. Events that need none are still answered.
 pub fn full()
     ensures { replies 2 opened filling ≡ filled }
 {}
 
-/// In a lawful journal each receiver was sent the first of what was due to it, in order of acceptance, each once;
-/// and each is what the plan of the version under which its message was accepted makes of it.
+/// In a lawful journal what each receiver was sent is a beginning of what was due to it, in order of acceptance, each once.
+/// Each is what the plan under which its message was accepted makes of it.
 pub fn sent_in_order()
     ensures { (j : Journal) (r : ℕ) → IsLawful (IsTranslated Makes) j → InOrder Makes j r }
 {}
@@ -52,18 +52,18 @@ pub fn versions_rise()
     ensures { (j : Journal) → IsLawful (IsTranslated Makes) j → VersionsRise j }
 {}
 
-/// In a lawful journal acceptances and plans are numbered on, and each due number stands once.
+/// In a lawful journal acceptances and plans are numbered consecutively, and each due number occurs once.
 pub fn each_once()
     ensures { (j : Journal) → IsLawful (IsTranslated Makes) j → Numbered j }
 {}
 
-/// Events lead from a lawful journal to a lawful one, and so does each step.
+/// A step, and so any list of events, leads from a lawful journal to a lawful one.
 pub fn lawful_stays()
     ensures run { RunsKeepLawful (IsTranslated Makes) }
     ensures step { StepsKeepLawful (IsTranslated Makes) }
 {}
 
-/// A journal is closed only where nothing waits; the next one goes on with the numbers, and what was due before isn't due any more.
+/// A journal is closed only if nothing waits. The next one continues its numbers, and what was due before isn't due any more.
 pub fn chapters()
     ensures replies { replies most opened (out_of_order ++ cutting) ≡ in_order ++ cut }
     ensures entries { length closed.entries ≡ 12 }

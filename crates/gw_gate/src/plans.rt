@@ -1,4 +1,4 @@
-//! Plans, messages and translations, asked in the gate's words.
+//! What a gate asks of plans, messages and translations.
 ghost use Rattle.std.specs.Prelude.{◌≡◌, ◌<◌, length, nat_eq, slice_get, Some, bytes_eq};
 ghost use Rattle.std.specs.List.{IsDistinct};
 ghost use Rattle.gw_gate.specs.Parts.{is_under, same_receivers, same_source, same_translated};
@@ -8,7 +8,7 @@ ghost use Rattle.gw_gate.specs.Meaning.{Admits, Makes};
 
 use gw_plan::{Conforming, Plan, Translated};
 
-/// Whether the message was admitted under this version, by a plan of this one's text. It takes no memory.
+/// Whether the message was admitted under this version, and by a plan of the same text. It takes no memory.
 pub fn is_under(conforming: &Conforming, version: u64, plan: &Plan) -> bool
     ensures { result ≡ is_under (conforming_seen conforming.now) version (plan_seen plan.now) }
 {
@@ -29,14 +29,14 @@ pub(crate) fn have_same_text(plan: &Plan, other: &Plan) -> bool
     plan.text() == other.text()
 }
 
-// Whether these are the same: message, version and the plan's text.
+// Whether message, version and the plan's text are equal.
 pub(crate) fn are_same(conforming: &Conforming, other: &Conforming) -> bool
     ensures { result ≡ same_source (conforming_seen conforming.now) (conforming_seen other.now) }
 {
     conforming.same(other)
 }
 
-// Whether these are the same: source, receiver and message.
+// Whether source, receiver and message are equal.
 pub(crate) fn are_same_translated(translated: &Translated, other: &Translated) -> bool
     ensures { result ≡ same_translated (translated_seen translated.now) (translated_seen other.now) }
 {
@@ -65,21 +65,21 @@ pub fn receiver_at(conforming: &Conforming, place: usize) -> usize
     conforming.route().receiver(place)
 }
 
-// The message's route goes to each of its receivers once, by its type.
+// The clause says that the message's route goes to each of its receivers once, by its type.
 pub(crate) fn goes_once(conforming: &Conforming)
     ensures { IsDistinct nat_eq (conforming_seen conforming.now).receivers }
 {
     let _ = conforming.route();
 }
 
-// An admitted message has a route by the plan of its text, and conforms to the route's profile, by its type.
+// The clause says that an admitted message has a route by its plan, and conforms to the route's profile, by its type.
 pub(crate) fn admitted_by_plan(conforming: &Conforming)
     ensures { Admits (conforming_seen conforming.now) }
 {
     let _ = conforming.route();
 }
 
-// A translation is what the plan of its source's text makes of it, by its type.
+// The clause says that a translation is what its source's plan makes of it, by its type.
 pub(crate) fn made_by_plan(translated: &Translated)
     ensures { IsTranslated Makes (translated_seen translated.now) }
 {

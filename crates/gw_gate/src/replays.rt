@@ -1,4 +1,4 @@
-//! Events, replayed.
+//! Replay of events at a new gate.
 ghost use Rattle.std.specs.Prelude.{◌≡◌, map, IfOk, IfErr};
 ghost use Rattle.std.specs.Vec.Iter.{into_iter_items};
 ghost use Rattle.gw_gate.specs.Lawful.{IsLawful};
@@ -14,7 +14,7 @@ use std::alloc::Global;
 use std::vec::IntoIter;
 use thiserror::Error;
 
-/// Why events aren't replayed. The numbers are 1 and 2, in this order.
+/// Why events can't be replayed. The numbers are 1 and 2, in this order.
 #[derive(Clone, Copy, Debug, Error)]
 pub enum ReplayFault {
     #[error("out of memory")]
@@ -54,13 +54,15 @@ fn follow(
             return Err(ReplayFault::Memory);
         }
     }
-    // (its clause says that the journal is lawful)
+    // Called for its clause: the journal is lawful.
     let _ = gate.journal();
     Ok((gate, replies))
 }
 
-/// The replies to these events, and the gate that they lead to: the first event is a Swap, whose plan opens the gate, and it has no reply.
-/// For any other list the fault is NoPlan. An allocation failure is the only other fault. The events aren't returned.
+/// Replays events at a new gate. Returns the replies and the gate.
+///
+/// The first event is a Swap, whose plan opens the gate; it has no reply. For any other list the fault is NoPlan.
+/// The only other fault is an allocation failure. The events aren't returned.
 pub fn replay(alloc: Global, events: Vec<Event>) -> Result<(Gate, Vec<Reply>), ReplayFault>
     ensures replies { Replays (map event_seen events.items) (replay_seen result) }
     ensures lawful { IfOk result (λ r. IsLawful (IsTranslated Makes) r.0) }

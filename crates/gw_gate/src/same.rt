@@ -1,4 +1,4 @@
-//! Entries that are the same.
+//! Equality of entries.
 ghost use Rattle.std.specs.Prelude.{◌≡◌};
 ghost use Rattle.std.specs.Arc.{arc_value};
 ghost use Rattle.gw_gate.specs.Seen.{plan_seen, conforming_seen, translated_seen};
@@ -81,7 +81,7 @@ impl Entry {
         }
     }
 
-    /// Whether the entries are the same: equal numbers, codes, receivers, versions, texts of plans and messages. It takes no memory.
+    /// Whether the entries are equal in numbers, codes, receivers, versions, texts of plans and messages. It takes no memory.
     pub fn same(&self, other: &Entry) -> bool
         ensures { result ≡ same_entry (entry_seen self.now) (entry_seen other.now) }
     {

@@ -39,15 +39,15 @@ HasRoomFor desks c = (r : ℕ) → delivers c r ≡ true → 0 < (desk_at desks 
 abbrev pub due_to : ConformingSeen → ℕ → ℕ → DeskState TranslatedSeen → DeskState TranslatedSeen
 due_to c n r s = if delivers c r then with_due s n else s
 
--- of desks: something that is due at one of them wasn't given out, or nothing waits at any
+-- of desks: something due at one of them wasn't released, or nothing waits at any
 abbrev pub Waits : (ℕ → DeskState TranslatedSeen) → Bool → Type 0
 Waits desk true = (r : ℕ) × ((desk r).released < length (desk r).due)
 Waits desk false = (r : ℕ) → length (desk r).due ≤ (desk r).released
 
--- what is next was given out
+-- what is next was released
 abbrev pub given_out : DeskState TranslatedSeen → DeskState TranslatedSeen
 given_out s = after_giving s (next_of s)
 
--- a value that was given out, with its number
+-- a value that was released, with its number
 abbrev pub given_seen : Option (ℕ × Arc Translated Global) → Option (ℕ × TranslatedSeen)
 given_seen o = option_map (λ g. (g.0, value_seen g.1)) o
