@@ -43,3 +43,4 @@ mod Weights
 mod Eachs
 mod Turns
 mod Translated
+mod Nexts

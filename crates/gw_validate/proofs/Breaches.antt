@@ -9,9 +9,10 @@ use Rattle.gw_profile.specs.Shapes.{SubValue, CompValue, FieldValue, ProfileValu
 use Rattle.gw_profile.specs.Lengths.{len_count}
 use Rattle.gw_validate.specs.declared.fields.Spot.{Spot}
 use Rattle.gw_er7.specs.Message.{Texts, text_of}
-use Rattle.gw_er7.specs.Presence.{CompAt, RepAt, IsLast}
+use Rattle.gw_er7.specs.Presence.{CompAt, RepAt, FieldAt, IsLast}
 use Rattle.gw_validate.specs.Breaches.{Counted, is_required, is_forbidden, is_long, is_unlisted, is_null, SubBreach, sub_absent, sub_forbidden, too_long, not_listed, InAny, in_first, in_later, CompBreach, comp_absent, comp_forbidden, in_sub, RepBreach, one_too_many, in_comp, RepsBreach, in_rep, FieldBreach, too_few, field_forbidden, in_reps, NotAfter}
 use Rattle.gw_validate.specs.own.Least.{Least, Rises, CompRises, FieldRises, comp_key, is_full, SubsBreach, CompsBreach, NoneYet, RepsGoing}
+use Rattle.gw_validate.specs.own.Walk.{IsCount, IsShort}
 use Rattle.gw_validate.specs.declared.breach.Kind.{Kind}
 use Rattle.gw_validate.specs.declared.breach.Kind.TheVariants.{MissingValue}
 use Rattle.gw_validate.specs.Kinds.{number_of}
@@ -191,6 +192,16 @@ counted_once P (suc n) j k (inl a) (inr b) = absurd (b.0 a.0)
 counted_once P (suc n) j k (inr a) (inl b) = absurd (a.0 b.0)
 counted_once P (suc n) j k (inr a) (inr b) = counted_once P n j k a.1 b.1
 
+up : (P : ℕ → Type 0) (a b : ℕ) → IsLast P a → IsLast P b → a ≤ b
+up P zero b x y = omega arith
+up P (suc a) b x y = (y.within (suc a) (x.there (omega arith))).1
+
+last_once : (P : ℕ → Type 0) (a b : ℕ) → IsLast P a → IsLast P b → a ≡ b
+last_once P a b x y = let p = up P a b x y in let q = up P b a y x in omega arith
+
+pub count_once : (P : ℕ → Type 0) (j k : ℕ) → IsCount P j → IsCount P k → j ≡ k
+count_once P j k x y = counted_once P y.last j k (subst (λ n. Counted P n j) (last_once P x.last y.last x.is y.is) x.counted) y.counted
+
 module _ (profile : ProfileValue) (m : Texts) (shape : FieldValue) (r before : ℕ) (u : is_forbidden shape.usage ≡ false) (c : Counted (RepAt m shape.number) (r - 1) before) where
   pub full_least : FieldRises shape → is_full shape.card.max before ≡ true → Least (RepBreach profile m shape r) (Some (0 ∷ 0 ∷ 5 ∷ []))
   full_least rises full = (one_too_many u (most shape.card.max full) c, only)
@@ -285,57 +296,44 @@ module _ (profile : ProfileValue) (m : Texts) (shape : FieldValue) where
         only : (q : List ℕ) → RepsBreach profile m shape q → NotAfter (r ∷ p) q
         only q (in_rep {r = j} {spot = k} at b) = by j k at b (compare r j)
 
-  pub reps_none : (i before last : ℕ) → RepsGoing profile m shape i before → IsLast (RepAt m shape.number) last → last ≤ i → Least (RepsBreach profile m shape) None
-  reps_none i before last g is le q (in_rep {r = r} {spot = p} there b) = let w = is.within r there in g.none r p (omega (arith, w.1, le)) there b
+  pub reps_none : (i before : ℕ) → RepsGoing profile m shape i before → ((r : ℕ) → RepAt m shape.number r → r ≤ i) → Least (RepsBreach profile m shape) None
+  reps_none i before g le q (in_rep {r = r} {spot = p} there b) = g.none r p (le r there) there b
 
-  module _ (last : ℕ) (is : IsLast (RepAt m shape.number) last) where
-    pub forbidden_absent : is_forbidden shape.usage ≡ true → last ≡ 0 → Least (FieldBreach profile m shape) None
-    forbidden_absent u z q (too_few a b c d) = true_false (sym u ∙ a)
-    forbidden_absent u z q (field_forbidden a b) = let w = is.within b.0 b.1 in omega (arith, w.0, w.1, z)
-    forbidden_absent u z q (in_reps (in_rep {r = r} there b)) = let w = is.within r there in omega (arith, w.0, w.1, z)
+  pub forbidden_absent : is_forbidden shape.usage ≡ true → (FieldAt m shape.number → ⊥) → Least (FieldBreach profile m shape) None
+  forbidden_absent u z q (too_few a b c d) = true_false (sym u ∙ a)
+  forbidden_absent u z q (field_forbidden a b) = z b
+  forbidden_absent u z q (in_reps (in_rep {r = r} there b)) = z (r, there)
 
-    pub forbidden_present : is_forbidden shape.usage ≡ true → (last ≡ 0 → ⊥) → Least (FieldBreach profile m shape) (Some (0 ∷ 0 ∷ 0 ∷ 4 ∷ []))
-    forbidden_present u some = (field_forbidden u (last, is.there (omega arith)), only)
+  module _ (some : (r : ℕ) → RepAt m shape.number r → 0 < r) where
+    pub forbidden_present : is_forbidden shape.usage ≡ true → FieldAt m shape.number → Least (FieldBreach profile m shape) (Some (0 ∷ 0 ∷ 0 ∷ 4 ∷ []))
+    forbidden_present u there = (field_forbidden u there, only)
       where
         only : (q : List ℕ) → FieldBreach profile m shape q → NotAfter (0 ∷ 0 ∷ 0 ∷ 4 ∷ []) q
         only q (too_few a b c d) = absurd (true_false (sym u ∙ a))
         only q (field_forbidden a b) = not_after_self (0 ∷ 0 ∷ 0 ∷ 4 ∷ [])
-        only q (in_reps (in_rep {r = r} there b)) = let w = is.within r there in inl w.0
+        only q (in_reps (in_rep {r = r} there b)) = inl (some r there)
 
-    pub few_least : (count : ℕ) → is_forbidden shape.usage ≡ false → Counted (RepAt m shape.number) last count → count < shape.card.min → Least (FieldBreach profile m shape) (Some (0 ∷ 0 ∷ 0 ∷ 3 ∷ []))
-    few_least count u c lt = (too_few u is c lt, only)
+    pub few_least : is_forbidden shape.usage ≡ false → IsShort (RepAt m shape.number) shape.card.min → Least (FieldBreach profile m shape) (Some (0 ∷ 0 ∷ 0 ∷ 3 ∷ []))
+    few_least u short = (too_few u short.is.is short.is.counted short.less, only)
       where
         only : (q : List ℕ) → FieldBreach profile m shape q → NotAfter (0 ∷ 0 ∷ 0 ∷ 3 ∷ []) q
         only q (too_few a b c d) = not_after_self (0 ∷ 0 ∷ 0 ∷ 3 ∷ [])
         only q (field_forbidden a b) = absurd (true_false (sym a ∙ u))
-        only q (in_reps (in_rep {r = r} there b)) = let w = is.within r there in inl w.0
+        only q (in_reps (in_rep {r = r} there b)) = inl (some r there)
 
-    up : (P : ℕ → Type 0) (a b : ℕ) → IsLast P a → IsLast P b → a ≤ b
-    up P zero b x y = omega arith
-    up P (suc a) b x y = (y.within (suc a) (x.there (omega arith))).1
+  pub reps_field_least : (o : Option (List ℕ)) → is_forbidden shape.usage ≡ false → ((count : ℕ) → IsCount (RepAt m shape.number) count → shape.card.min ≤ count) → Least (RepsBreach profile m shape) o → Least (FieldBreach profile m shape) o
+  reps_field_least None u le l = none
+    where
+      none : (q : List ℕ) → FieldBreach profile m shape q → ⊥
+      none q (too_few {last = k} {count = j} a b d e) = omega (arith, e, le j (record { last = k; is = b; counted = d }))
+      none q (field_forbidden a b) = true_false (sym a ∙ u)
+      none q (in_reps b) = l q b
+  reps_field_least (Some p) u le l = (in_reps l.0, only)
+    where
+      only : (q : List ℕ) → FieldBreach profile m shape q → NotAfter p q
+      only q (too_few {last = k} {count = j} a b d e) = absurd (omega (arith, e, le j (record { last = k; is = b; counted = d })))
+      only q (field_forbidden a b) = absurd (true_false (sym a ∙ u))
+      only q (in_reps b) = l.1 q b
 
-    last_once : (P : ℕ → Type 0) (a b : ℕ) → IsLast P a → IsLast P b → a ≡ b
-    last_once P a b x y = let p = up P a b x y in let q = up P b a y x in omega arith
-
-    enough : (l k : ℕ) → ((count : ℕ) → Counted (RepAt m shape.number) last count → shape.card.min ≤ count) → IsLast (RepAt m shape.number) l → Counted (RepAt m shape.number) l k → k < shape.card.min → ⊥
-    enough l k le x d lt =
-        let e : l ≡ last = last_once (RepAt m shape.number) l last x is in
-        let w = le k (subst (λ n. Counted (RepAt m shape.number) n k) e d) in
-        omega (arith, w, lt)
-
-    pub reps_field_least : (o : Option (List ℕ)) → is_forbidden shape.usage ≡ false → ((count : ℕ) → Counted (RepAt m shape.number) last count → shape.card.min ≤ count) → Least (RepsBreach profile m shape) o → Least (FieldBreach profile m shape) o
-    reps_field_least None u le l = none
-      where
-        none : (q : List ℕ) → FieldBreach profile m shape q → ⊥
-        none q (too_few {last = k} {count = j} a b d e) = enough k j le b d e
-        none q (field_forbidden a b) = true_false (sym a ∙ u)
-        none q (in_reps b) = l q b
-    reps_field_least (Some p) u le l = (in_reps l.0, only)
-      where
-        only : (q : List ℕ) → FieldBreach profile m shape q → NotAfter p q
-        only q (too_few {last = k} {count = j} a b d e) = absurd (enough k j le b d e)
-        only q (field_forbidden a b) = absurd (true_false (sym a ∙ u))
-        only q (in_reps b) = l.1 q b
-
-pub reps_start : (profile : ProfileValue) (m : Texts) (shape : FieldValue) (last : ℕ) → IsLast (RepAt m shape.number) last → RepsGoing profile m shape 0 0
-reps_start profile m shape last is = record { counted = refl; small = omega arith; none = λ r q le there b. let w = is.within r there in omega (arith, w.0, le) }
+pub reps_start : (profile : ProfileValue) (m : Texts) (shape : FieldValue) → ((r : ℕ) → RepAt m shape.number r → 0 < r) → RepsGoing profile m shape 0 0
+reps_start profile m shape some = record { counted = refl; small = omega arith; none = λ r q le there b. omega (arith, some r there, le) }

@@ -26,3 +26,4 @@ pub mod Alone
 pub mod Keys
 pub mod Starts
 pub mod Nexts
+pub mod Walks

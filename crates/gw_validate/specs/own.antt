@@ -10,3 +10,4 @@ pub mod Building
 pub mod Judging
 pub mod Lending
 pub mod Answers
+pub mod Walk

@@ -1,17 +1,18 @@
 //! The least breach of a segment's shape.
-ghost use Rattle.std.specs.Prelude.{◌≡◌, ℕ, ◌<◌, ◌∷◌, [], option_map, IfOk, IfErr, false, true, length, ◌-◌, ◌+◌, ◌≤◌, Some, None, if◌then◌else◌, map};
+ghost use Rattle.std.specs.Prelude.{◌≡◌, ℕ, ◌<◌, ◌∷◌, [], option_map, IfNone, false, true, length, ◌-◌, ◌+◌, ◌≤◌, Some, None, if◌then◌else◌, map, MatchOption};
 ghost use Rattle.std.specs.List.{AllByRecursion};
 ghost use Rattle.std.specs.FinMap as texts;
-ghost use Rattle.gw_er7.specs.Message.{text_of};
-ghost use Rattle.gw_er7.specs.Presence.{RepAt, CompAt, IsLast, IsStart};
+ghost use Rattle.gw_er7.specs.Presence.{FieldAt, RepAt, CompAt, IsStart};
 ghost use Rattle.gw_profile.specs.Seen.{sub, comp as comp_value, field as field_value, items_of, profile_value};
 ghost use Rattle.gw_validate.specs.declared.breach.Kind.TheVariants.{MissingValue};
 ghost use Rattle.gw_validate.specs.Kinds.{number_of};
 ghost use Rattle.gw_validate.specs.Breaches.{is_required, is_forbidden, is_long, is_unlisted, is_null, SubBreach, CompBreach, RepBreach, RepsBreach, FieldBreach, SegmentBreach, Counted};
 ghost use Rattle.gw_validate.specs.own.Least.{Least, CompRises, FieldRises, ShapeRises, Rises, comp_key, rep_key, field_key, segment_key, is_full, SubsBreach, CompsBreach};
+ghost use Rattle.gw_validate.specs.own.Walk.{IsBefore, IsValueAt, IsCount, IsShort};
 
 use crate::breach::Kind;
-use gw_er7::{Place, Segment};
+use crate::cursor::{first_from, has_field, next_rep, text_from};
+use gw_er7::{Place, Segment, Value};
 use gw_profile::{CompShape, Count, FieldShape, Profile, SubShape, Usage, measure};
 
 /// Where a breach stands, with 0 for a number that is not said, and its kind.
@@ -115,38 +116,20 @@ fn absent_sub(shape: &SubShape) -> Option<Kind>
     }
 }
 
-// The text at a leaf, where that at its component's first leaf is known. It is looked for from the text of the number `near` on, which rises to its own.
-fn text_beside<'a>(
-    segment: &Segment<'a>,
-    near: &mut usize,
-    first: &'a [u8],
-    place: Place,
-) -> &'a [u8]
-    requires { first.now ≡ text_of segment.now.at place.field place.rep place.comp 1 }
-    ensures { result.now ≡ text_of segment.now.at place.field place.rep place.comp place.sub }
-{
-    if place.sub == 1 {
-        return first;
-    }
-    let (at, text) = segment.find_near(*near, place);
-    *near = at;
-    text
-}
-
-// The least breach at the leaves of a component that is present, of which the text at the first is known.
-fn subs_breach<'a>(
+// The least breach at the leaves of a component that is present. Its texts are looked for from the number `near` on, which rises to the text behind them.
+fn subs_breach(
     profile: &Profile,
-    segment: &Segment<'a>,
+    segment: &Segment<'_>,
     near: &mut usize,
-    first: &'a [u8],
     field: usize,
     rep: usize,
     comp: usize,
     subs: &[SubShape],
 ) -> Option<Spot>
     requires rises { Rises (λ s. s.number) 0 (map sub subs.now) }
-    requires first { first.now ≡ text_of segment.now.at field rep comp 1 }
-    ensures { Least (SubsBreach (profile_value profile.now) segment.now.at field rep comp (map sub subs.now)) (option_map comp_key result) }
+    requires near { IsBefore (field ∷ rep ∷ comp ∷ 1 ∷ []) (texts.entries segment.now.at) near.old }
+    ensures least { Least (SubsBreach (profile_value profile.now) segment.now.at field rep comp (map sub subs.now)) (option_map comp_key result) }
+    ensures near { IfNone result (IsBefore (field ∷ rep ∷ (comp + 1) ∷ 0 ∷ []) (texts.entries segment.now.at) near.new) }
 {
     for sub in subs {
         let place = Place {
@@ -155,7 +138,7 @@ fn subs_breach<'a>(
             comp,
             sub: sub.number as usize,
         };
-        let text = text_beside(segment, near, first, place);
+        let text = text_from(segment, near, place);
         if let Some(kind) = sub_breach(profile, sub, text) {
             return Some(Spot {
                 sub: sub.number as usize,
@@ -191,27 +174,27 @@ fn is_of(place: Place, field: usize, rep: usize, comp: usize) -> bool
     place.comp == comp
 }
 
-// Whether a component is present, where the text at its first leaf and the number of the first text from there on are known.
+// Whether a component is present, where the first text from it on is known, with its number.
+#[inline(always)]
 fn has_comp(
     segment: &Segment<'_>,
     at: usize,
-    first: &[u8],
+    found: Option<Value<'_>>,
     field: usize,
     rep: usize,
     comp: usize,
 ) -> bool
-    requires start { IsStart (field ∷ rep ∷ comp ∷ 1 ∷ []) (texts.entries segment.now.at) at }
-    requires first { first.now ≡ text_of segment.now.at field rep comp 1 }
+    requires start { IsStart (field ∷ rep ∷ comp ∷ 0 ∷ []) (texts.entries segment.now.at) at }
+    requires value { IsValueAt (texts.entries segment.now.at) at found }
     ensures yes { result ≡ true → CompAt segment.now.at field rep comp }
     ensures no { result ≡ false → CompAt segment.now.at field rep comp → ⊥ }
 {
-    if first.len() > 0 {
-        return true;
+    // (its clause says what every segment keeps)
+    let _count = segment.value_count();
+    match found {
+        Some(value) => is_of(value.place, field, rep, comp),
+        None => false,
     }
-    if at >= segment.value_count() {
-        return false;
-    }
-    is_of(segment.value(at).place, field, rep, comp)
 }
 
 // The least breach of a component.
@@ -223,51 +206,45 @@ fn comp_breach(
     rep: usize,
     shape: &CompShape,
 ) -> Option<Spot>
-    requires { CompRises (comp_value shape.now) }
-    ensures { Least (CompBreach (profile_value profile.now) segment.now.at field rep (comp_value shape.now)) (option_map comp_key result) }
+    requires rises { CompRises (comp_value shape.now) }
+    requires near { IsBefore (field ∷ rep ∷ shape.now.number ∷ 0 ∷ []) (texts.entries segment.now.at) near.old }
+    ensures least { Least (CompBreach (profile_value profile.now) segment.now.at field rep (comp_value shape.now)) (option_map comp_key result) }
+    ensures near { IfNone result (IsBefore (field ∷ rep ∷ (shape.now.number + 1) ∷ 0 ∷ []) (texts.entries segment.now.at) near.new) }
 {
     let place = Place {
         field,
         rep,
         comp: shape.number as usize,
-        sub: 1,
+        sub: 0,
     };
-    let (at, first) = segment.find_near(*near, place);
+    let (at, found) = first_from(segment, *near, place);
     *near = at;
-    if !has_comp(segment, at, first, field, rep, place.comp) {
+    if !has_comp(segment, at, found, field, rep, place.comp) {
         return absent_comp(shape);
     }
     if is_forbidden(shape.usage) {
         return Some(of_kind(Kind::Forbidden));
     }
-    subs_breach(
-        profile,
-        segment,
-        near,
-        first,
-        field,
-        rep,
-        place.comp,
-        &shape.subs,
-    )
+    subs_breach(profile, segment, near, field, rep, place.comp, &shape.subs)
 }
 
-// The least breach at the components of a repetition, the first text of which has this number.
+// The least breach at the components of a repetition.
 fn comps_breach(
     profile: &Profile,
     segment: &Segment<'_>,
-    at: usize,
+    near: &mut usize,
     field: usize,
     rep: usize,
     comps: &[CompShape],
 ) -> Option<Spot>
     requires rises { Rises (λ c. c.number) 0 (map comp_value comps.now) }
     requires each { AllByRecursion CompRises (map comp_value comps.now) }
-    ensures { Least (CompsBreach (profile_value profile.now) segment.now.at field rep (map comp_value comps.now)) (option_map rep_key result) }
+    requires near { IsBefore (field ∷ rep ∷ 0 ∷ 0 ∷ []) (texts.entries segment.now.at) near.old }
+    ensures least { Least (CompsBreach (profile_value profile.now) segment.now.at field rep (map comp_value comps.now)) (option_map rep_key result) }
+    ensures near { IfNone result (IsBefore (field ∷ (rep + 1) ∷ 0 ∷ 0 ∷ []) (texts.entries segment.now.at) near.new) }
 {
-    let mut near = at;
     for comp in comps {
-        if let Some(found) = comp_breach(profile, segment, &mut near, field, rep, comp) {
+        if let Some(found) = comp_breach(profile, segment, near, field, rep, comp) {
             return Some(Spot {
                 comp: comp.number as usize,
                 ..found
@@ -291,7 +268,7 @@ fn is_full(max: Option<u32>, count: usize) -> bool
 fn rep_breach(
     profile: &Profile,
     segment: &Segment<'_>,
-    at: usize,
+    near: &mut usize,
     shape: &FieldShape,
     rep: usize,
     before: usize,
@@ -299,7 +276,9 @@ fn rep_breach(
     requires rises { FieldRises (field_value shape.now) }
     requires before { Counted (RepAt segment.now.at shape.now.number) (rep - 1) before }
     requires usage { is_forbidden shape.now.usage ≡ false }
-    ensures { Least (RepBreach (profile_value profile.now) segment.now.at (field_value shape.now) rep) (option_map rep_key result) }
+    requires near { IsBefore (shape.now.number ∷ rep ∷ 0 ∷ 0 ∷ []) (texts.entries segment.now.at) near.old }
+    ensures least { Least (RepBreach (profile_value profile.now) segment.now.at (field_value shape.now) rep) (option_map rep_key result) }
+    ensures near { IfNone result (IsBefore (shape.now.number ∷ (rep + 1) ∷ 0 ∷ 0 ∷ []) (texts.entries segment.now.at) near.new) }
 {
     if is_full(shape.card.max, before) {
         return Some(of_kind(Kind::TooManyReps));
@@ -307,158 +286,96 @@ fn rep_breach(
     comps_breach(
         profile,
         segment,
-        at,
+        near,
         shape.number as usize,
         rep,
         &shape.comps,
     )
 }
 
-/// A repetition that is present, the number of its first text, near which its texts are looked for,
-/// and that of the text behind it, near which the next repetition is.
-#[derive(Clone, Copy)]
-struct Present {
-    rep: usize,
-    at: usize,
-    behind: usize,
-}
-
-// The first repetition of a field that is present after this one, up to the last: mostly the next number, with a text at its first leaf.
-fn next_rep(segment: &Segment<'_>, field: usize, after: Present, last: usize) -> Present
-    requires last { IsLast (RepAt segment.now.at field) last }
-    requires after { after.rep < last }
-    ensures there { RepAt segment.now.at field result.rep }
-    ensures after { after.rep < result.rep }
-    ensures first { (rep : ℕ) → after.rep < rep → RepAt segment.now.at field rep → result.rep ≤ rep }
-{
-    let next = Place {
-        field,
-        rep: after.rep + 1,
-        comp: 1,
-        sub: 1,
-    };
-    let (at, text) = segment.find_near(after.behind, next);
-    if text.len() == 0 {
-        return later_rep(segment, field, after, last);
-    }
-    Present {
-        rep: next.rep,
-        at,
-        behind: at.saturating_add(1),
-    }
-}
-
-// The same, whatever its number and its first text.
-fn later_rep(segment: &Segment<'_>, field: usize, after: Present, last: usize) -> Present
-    requires last { IsLast (RepAt segment.now.at field) last }
-    requires after { after.rep < last }
-    ensures there { RepAt segment.now.at field result.rep }
-    ensures after { after.rep < result.rep }
-    ensures first { (rep : ℕ) → after.rep < rep → RepAt segment.now.at field rep → result.rep ≤ rep }
-{
-    let place = Place {
-        field,
-        rep: after.rep + 1,
-        comp: 0,
-        sub: 0,
-    };
-    let at = segment.values_before(after.behind, place);
-    let holds = at < segment.value_count();
-    prove!(holds);
-    let rep = segment.value(at).place.rep;
-    Present {
-        rep,
-        at,
-        behind: at + 1,
-    }
-}
-
-// The least breach in the repetitions of a field, which are looked for from the text of this number on.
+// The least breach in the repetitions of a field.
 fn reps_breach(
     profile: &Profile,
     segment: &Segment<'_>,
-    first: usize,
+    near: &mut usize,
     shape: &FieldShape,
-    last: usize,
 ) -> Option<Spot>
     requires rises { FieldRises (field_value shape.now) }
-    requires last { IsLast (RepAt segment.now.at shape.now.number) last }
+    requires some { (rep : ℕ) → RepAt segment.now.at shape.now.number rep → 0 < rep }
     requires usage { is_forbidden shape.now.usage ≡ false }
-    ensures { Least (RepsBreach (profile_value profile.now) segment.now.at (field_value shape.now)) (option_map field_key result) }
+    requires near { IsBefore (shape.now.number ∷ 1 ∷ 0 ∷ 0 ∷ []) (texts.entries segment.now.at) near.old }
+    ensures least { Least (RepsBreach (profile_value profile.now) segment.now.at (field_value shape.now)) (option_map field_key result) }
+    ensures near { IfNone result (IsBefore ((shape.now.number + 1) ∷ 0 ∷ 0 ∷ 0 ∷ []) (texts.entries segment.now.at) near.new) }
 {
+    let field = shape.number as usize;
     let mut before = 0;
-    let mut found = Present {
-        rep: 0,
-        at: first,
-        behind: first,
-    };
-    while found.rep < last {
-        found = next_rep(segment, shape.number as usize, found, last);
-        if let Some(breach) = rep_breach(profile, segment, found.at, shape, found.rep, before) {
-            return Some(Spot {
-                rep: found.rep,
-                ..breach
-            });
+    let mut rep = 0;
+    while let Some(next) = next_rep(segment, near, field, rep) {
+        rep = next;
+        if let Some(breach) = rep_breach(profile, segment, near, shape, rep, before) {
+            return Some(Spot { rep, ..breach });
         }
         before += 1;
     }
     None
 }
 
-// How many repetitions of a field are present, which are looked for from the text of this number on.
-fn count_reps(segment: &Segment<'_>, first: usize, field: usize, last: usize) -> usize
-    requires { IsLast (RepAt segment.now.at field) last }
-    ensures { Counted (RepAt segment.now.at field) last result }
+// How many repetitions of a field are present. They are looked for from the text of this number on.
+fn count_reps(segment: &Segment<'_>, near: usize, field: usize) -> usize
+    requires { IsBefore (field ∷ 1 ∷ 0 ∷ 0 ∷ []) (texts.entries segment.now.at) near }
+    ensures { IsCount (RepAt segment.now.at field) result }
 {
+    let mut at = near;
     let mut count = 0;
-    let mut found = Present {
-        rep: 0,
-        at: first,
-        behind: first,
-    };
-    while found.rep < last {
-        found = next_rep(segment, field, found, last);
+    let mut rep = 0;
+    while let Some(next) = next_rep(segment, &mut at, field, rep) {
+        rep = next;
         count += 1;
     }
     count
 }
 
-// Whether fewer repetitions of a field are present than must be. Where the last is present and one is enough, none is counted.
-fn comes_short(segment: &Segment<'_>, first: usize, shape: &FieldShape, last: usize) -> bool
-    requires { IsLast (RepAt segment.now.at shape.now.number) last }
-    ensures yes { result ≡ true → (count : ℕ) × Counted (RepAt segment.now.at shape.now.number) last count × (count < shape.now.card.min) }
-    ensures no { result ≡ false → (count : ℕ) → Counted (RepAt segment.now.at shape.now.number) last count → shape.now.card.min ≤ count }
+// Whether fewer repetitions of a field are present than must be. Where one is enough, none is counted.
+fn comes_short(segment: &Segment<'_>, near: usize, shape: &FieldShape, present: bool) -> bool
+    requires near { IsBefore (shape.now.number ∷ 1 ∷ 0 ∷ 0 ∷ []) (texts.entries segment.now.at) near }
+    requires present { present ≡ true → FieldAt segment.now.at shape.now.number }
+    requires some { (rep : ℕ) → RepAt segment.now.at shape.now.number rep → 0 < rep }
+    ensures yes { result ≡ true → IsShort (RepAt segment.now.at shape.now.number) shape.now.card.min }
+    ensures no { result ≡ false → (count : ℕ) → IsCount (RepAt segment.now.at shape.now.number) count → shape.now.card.min ≤ count }
 {
-    if last > 0 && shape.card.min <= 1 {
+    if shape.card.min == 0 {
         return false;
     }
-    let count = count_reps(segment, first, shape.number as usize, last);
+    if present && shape.card.min == 1 {
+        return false;
+    }
+    let count = count_reps(segment, near, shape.number as usize);
     (count as u64) < u64::from(shape.card.min)
 }
 
-// The least breach of a field, whose texts are looked for from the number `near` on, which rises to that of the first text behind them.
+// The least breach of a field. Its texts are looked for from the number `near` on, which rises to the text behind them.
 fn field_breach(
     profile: &Profile,
     segment: &Segment<'_>,
     near: &mut usize,
     shape: &FieldShape,
 ) -> Option<Spot>
-    requires { FieldRises (field_value shape.now) }
-    ensures { Least (FieldBreach (profile_value profile.now) segment.now.at (field_value shape.now)) (option_map field_key result) }
+    requires rises { FieldRises (field_value shape.now) }
+    requires near { IsBefore (shape.now.number ∷ 1 ∷ 0 ∷ 0 ∷ []) (texts.entries segment.now.at) near.old }
+    ensures least { Least (FieldBreach (profile_value profile.now) segment.now.at (field_value shape.now)) (option_map field_key result) }
+    ensures near { IfNone result (IsBefore ((shape.now.number + 1) ∷ 0 ∷ 0 ∷ 0 ∷ []) (texts.entries segment.now.at) near.new) }
 {
-    let first = *near;
-    let (last, behind) = segment.reps_near(first, shape.number as usize);
-    *near = behind;
+    let present = has_field(segment, near, shape.number as usize);
     if is_forbidden(shape.usage) {
-        if last == 0 {
+        if !present {
             return None;
         }
         return Some(of_kind(Kind::Forbidden));
     }
-    if comes_short(segment, first, shape, last) {
+    if comes_short(segment, *near, shape, present) {
         return Some(of_kind(Kind::MissingValue));
     }
-    reps_breach(profile, segment, first, shape, last)
+    reps_breach(profile, segment, near, shape)
 }
 
 /// The least breach of a segment's shape.

@@ -3,6 +3,7 @@
 
 mod breach;
 mod build;
+mod cursor;
 mod fields;
 pub mod laws;
 mod listing;

@@ -25,7 +25,7 @@ pub(crate) fn listed(
 ) -> Result<Vec<usize>, AllocError>
     ensures { IfOk result (λ found. found.items ≡ numbers (forest profile.now.nodes) message.now) }
 {
-    let mut found = Vec::new(alloc);
+    let mut found = Vec::with_capacity(alloc, message.segment_count())?;
     for number in 0..message.segment_count() {
         if profile.knows(name_at(message, number)) {
             found.push(number)?;
@@ -42,7 +42,7 @@ pub(crate) fn names_of(
 ) -> Result<Vec<[u8; 3]>, AllocError>
     ensures { IfOk result (λ names. names.items ≡ map (named message.now) numbers.now) }
 {
-    let mut names = Vec::new(alloc);
+    let mut names = Vec::with_capacity(alloc, numbers.len())?;
     for number in numbers {
         names.push(name_at(message, *number))?;
     }

@@ -218,7 +218,7 @@ fn missing(mut stack: Vec<Frame>) -> Option<[u8; 3]>
 fn start(alloc: Global, nodes: &[Node]) -> Result<Vec<Frame<'_>>, AllocError>
     ensures { IfOk result (λ stack. stack_on stack.items nothing ≡ forest nodes.now) }
 {
-    let mut stack = Vec::new(alloc);
+    let mut stack = Vec::with_capacity(alloc, 8)?;
     let Some((node, rest)) = nodes.split_first() else {
         return Ok(stack);
     };

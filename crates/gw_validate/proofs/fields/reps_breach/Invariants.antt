@@ -1,10 +1,15 @@
-use Rattle.std.proofs.Common.{◌≤◌, ◌-◌}
+use Rattle.std.proofs.Common.{◌+◌, ◌-◌, ◌^◌, [], ◌∷◌}
+use Rattle.std.specs.FinMap as texts
 use Rattle.gw_profile.specs.Seen.{field, profile_value}
 use Rattle.gw_validate.specs.own.Least.{RepsGoing}
+use Rattle.gw_validate.specs.own.Walk.{IsBefore}
 use Rattle.gw_validate.proofs.fields.reps_breach.Given as goal
 
-abbrev pub invariant-loop-found : goal.invariant-loop-found
-invariant-loop-found l = record { going : RepsGoing (profile_value l.profile) l.segment.at (field l.shape) l.found.rep l.before; within : l.found.rep ≤ l.last }
+abbrev pub invariant-loop-next : goal.invariant-loop-next
+invariant-loop-next l = record {
+  going : RepsGoing (profile_value l.profile) l.segment.at (field l.shape) l.rep l.before;
+  near : IsBefore (l.shape.number ∷ (l.rep + 1) ∷ 0 ∷ 0 ∷ []) (texts.entries l.segment.at) l.near;
+}
 
-abbrev pub decreases-loop-found : goal.decreases-loop-found
-decreases-loop-found l = l.last - l.found.rep
+abbrev pub decreases-loop-next : goal.decreases-loop-next
+decreases-loop-next l = 2 ^ 64 - l.rep

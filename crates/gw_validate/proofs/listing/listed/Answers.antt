@@ -18,11 +18,11 @@ loop-number-preserved c =
     ]
 
 pub loop-number-init : goal.loop-number-init
-loop-number-init c = c.new-found.ensures.items
+loop-number-init c = c.in_ok-found.ensures.items
 
 pub returns : goal.returns
 returns c =
     numbers_all (forest c.args.profile.now.nodes) c.args.message.now c.loop-number.number c.segment_count-number-end.result c.loop-number.found.items c.segment_count-number-end.ensures.count c.loop-number-test.false c.loop-number.invariant
 
 pub returns-in_err-push : goal.returns-in_err-push
-returns-in_err-push c = IfOk-from_err _ _ c.from_residual.ensures.0
+returns-in_err-push c = IfOk-from_err _ _ c.from_residual-in_err-push.ensures.0

@@ -1,0 +1,140 @@
+//! A walk over the texts of a segment, in order: what is looked for next stands at no earlier place.
+ghost use Rattle.std.specs.Prelude.{◌≡◌, ℕ, ◌<◌, ◌+◌, ◌∷◌, [], MatchOption, true, false};
+ghost use Rattle.std.specs.FinMap as texts;
+ghost use Rattle.std.specs.Ordering.{nat_cmp, is_lt};
+ghost use Rattle.std.specs.Cmp.Lexicographic.{slice_cmp};
+ghost use Rattle.gw_er7.specs.Message.{numbers, text_of};
+ghost use Rattle.gw_er7.specs.Presence.{FieldAt, RepAt, IsStart};
+ghost use Rattle.gw_validate.specs.own.Walk.{IsBefore, IsValueAt, IsNextRep, IsNoRep};
+
+use gw_er7::{Place, Segment, Value};
+
+#[inline(always)]
+fn is_below(here: Place, place: Place) -> bool
+    ensures { result ≡ is_lt (slice_cmp nat_cmp (numbers here) (numbers place)) }
+{
+    if here.field != place.field {
+        return here.field < place.field;
+    }
+    if here.rep != place.rep {
+        return here.rep < place.rep;
+    }
+    if here.comp != place.comp {
+        return here.comp < place.comp;
+    }
+    here.sub < place.sub
+}
+
+/// The first text at a place or behind it, with its number. Those before the number `near` stand below the place.
+#[inline(always)]
+pub(crate) fn first_from<'a>(
+    segment: &Segment<'a>,
+    near: usize,
+    place: Place,
+) -> (usize, Option<Value<'a>>)
+    requires { IsBefore (numbers place) (texts.entries segment.now.at) near }
+    ensures start { IsStart (numbers place) (texts.entries segment.now.at) result.0 }
+    ensures value { IsValueAt (texts.entries segment.now.at) result.0 result.1 }
+{
+    let mut at = near;
+    while at < segment.value_count() {
+        let value = segment.value(at);
+        if !is_below(value.place, place) {
+            return (at, Some(value));
+        }
+        at += 1;
+    }
+    (at, None)
+}
+
+// Whether a place isn't behind this repetition.
+#[inline(always)]
+fn is_up_to(here: Place, field: usize, rep: usize) -> bool
+    ensures { result ≡ is_lt (slice_cmp nat_cmp (numbers here) (field ∷ (rep + 1) ∷ 0 ∷ 0 ∷ [])) }
+{
+    if here.field != field {
+        return here.field < field;
+    }
+    here.rep <= rep
+}
+
+// The first text behind a repetition, with its number. Those before the number `near` aren't behind it.
+#[inline(always)]
+fn first_behind<'a>(
+    segment: &Segment<'a>,
+    near: usize,
+    field: usize,
+    rep: usize,
+) -> (usize, Option<Value<'a>>)
+    requires { IsBefore (field ∷ (rep + 1) ∷ 0 ∷ 0 ∷ []) (texts.entries segment.now.at) near }
+    ensures start { IsStart (field ∷ (rep + 1) ∷ 0 ∷ 0 ∷ []) (texts.entries segment.now.at) result.0 }
+    ensures value { IsValueAt (texts.entries segment.now.at) result.0 result.1 }
+{
+    let mut at = near;
+    while at < segment.value_count() {
+        let value = segment.value(at);
+        if !is_up_to(value.place, field, rep) {
+            return (at, Some(value));
+        }
+        at += 1;
+    }
+    (at, None)
+}
+
+/// The text at a place, empty where it is absent. It is looked for from the number `near` on, which rises to the first text behind the place.
+#[inline(always)]
+pub(crate) fn text_from<'a>(segment: &Segment<'a>, near: &mut usize, place: Place) -> &'a [u8]
+    requires { IsBefore (numbers place) (texts.entries segment.now.at) near.old }
+    ensures text { result.now ≡ text_of segment.now.at place.field place.rep place.comp place.sub }
+    ensures near { IsBefore (place.field ∷ place.rep ∷ place.comp ∷ (place.sub + 1) ∷ []) (texts.entries segment.now.at) near.new }
+{
+    let (at, found) = first_from(segment, *near, place);
+    *near = at;
+    let Some(value) = found else {
+        return &[];
+    };
+    if value.place != place {
+        return &[];
+    }
+    *near = at + 1;
+    value.text
+}
+
+/// The first repetition of a field that is present after this one. It is looked for from the number `near` on, which rises to its first text.
+#[inline(always)]
+pub(crate) fn next_rep(
+    segment: &Segment<'_>,
+    near: &mut usize,
+    field: usize,
+    after: usize,
+) -> Option<usize>
+    requires { IsBefore (field ∷ (after + 1) ∷ 0 ∷ 0 ∷ []) (texts.entries segment.now.at) near.old }
+    ensures next { MatchOption result (IsNoRep segment.now.at field after) (IsNextRep segment.now.at field after) }
+    ensures here { MatchOption result (IsBefore ((field + 1) ∷ 0 ∷ 0 ∷ 0 ∷ []) (texts.entries segment.now.at) near.new)
+        (λ rep. IsBefore (field ∷ rep ∷ 0 ∷ 0 ∷ []) (texts.entries segment.now.at) near.new) }
+    ensures near { IsBefore (field ∷ (after + 1) ∷ 0 ∷ 0 ∷ []) (texts.entries segment.now.at) near.new }
+{
+    // (its clause says what every segment keeps)
+    let _count = segment.value_count();
+    let (at, found) = first_behind(segment, *near, field, after);
+    *near = at;
+    let Some(value) = found else {
+        return None;
+    };
+    if value.place.field != field {
+        return None;
+    }
+    Some(value.place.rep)
+}
+
+/// Whether a field is present. It is looked for from the number `near` on, which rises to its first text.
+#[inline(always)]
+pub(crate) fn has_field(segment: &Segment<'_>, near: &mut usize, field: usize) -> bool
+    requires { IsBefore (field ∷ 1 ∷ 0 ∷ 0 ∷ []) (texts.entries segment.now.at) near.old }
+    ensures yes { result ≡ true → FieldAt segment.now.at field }
+    ensures no { result ≡ false → FieldAt segment.now.at field → ⊥ }
+    ensures near { IsBefore (field ∷ 1 ∷ 0 ∷ 0 ∷ []) (texts.entries segment.now.at) near.new }
+    ensures some { (rep : ℕ) → RepAt segment.now.at field rep → 0 < rep }
+{
+    next_rep(segment, near, field, 0).is_some()
+}
