@@ -36,3 +36,4 @@ pub mod Total
 pub mod Drafts
 pub mod Builds
 pub mod Sames
+pub mod Controls

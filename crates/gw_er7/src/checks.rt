@@ -1,5 +1,6 @@
 //! What is tested of the bytes, the header line and the other lines of a message.
 ghost use Rattle.std.specs.Prelude.{◌≡◌, ◌+◌, ◌≤◌, ◌<◌, ◌==◌, ◌↔◌, IsTrue, false, true, not, length, MatchOption, position};
+ghost use Rattle.std.specs.List.{list_any};
 ghost use Rattle.gw_er7.specs.Content.{is_allowed, delimiters_of, is_delimiter, are_distinct, are_delimiters, ends_at, is_delimited, is_segment_line};
 ghost use Rattle.gw_er7.specs.Names.{is_header, is_name_byte, is_named, is_name, IsName};
 
@@ -12,10 +13,25 @@ fn is_allowed(byte: u8) -> bool
 }
 
 /// The index of the first byte that no message may hold.
+#[tactic(auto, using(crate::proofs::Controls::none_first))]
 pub(crate) fn first_control(content: &[u8]) -> Option<usize>
     ensures { result ≡ position (λ b. not (is_allowed b)) content.now }
 {
+    if !has_control(content) {
+        return None;
+    }
     content.iter().position(|byte| !is_allowed(*byte))
+}
+
+// Whether some byte is one that no message may hold. It looks at all of them, so that many are tested at a time.
+fn has_control(content: &[u8]) -> bool
+    ensures { result ≡ list_any (λ b. not (is_allowed b)) content.now }
+{
+    let mut found = false;
+    for byte in content {
+        found = found | !is_allowed(*byte);
+    }
+    found
 }
 
 /// Whether the line begins with MSH.

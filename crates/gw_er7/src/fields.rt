@@ -143,12 +143,12 @@ pub(crate) struct SegmentTexts {
 impl SegmentTexts {
     ghost use Rattle.std.specs.Prelude.{[]};
 
-    /// No text, with capacity for the usual number of texts in `len` message bytes: one for every eight bytes.
+    /// No text, with capacity for the usual number of texts in `len` message bytes: one for every five bytes.
     pub(crate) fn with_room(alloc: Global, len: usize) -> Result<SegmentTexts, AllocError>
         ensures inside { IfOk result (λ t. AreInside t.bytes.items t.spans) }
         ensures none { IfOk result (λ t. held_in t ≡ []) }
     {
-        let spans = MessageSpans::with_room(alloc, len / 8)?;
+        let spans = MessageSpans::with_room(alloc, len / 5)?;
         let bytes = Vec::with_capacity(alloc, len)?;
         Ok(SegmentTexts { spans, bytes })
     }

@@ -23,6 +23,7 @@ pub(crate) fn compare_places(a: Place, b: Place) -> Ordering
     )
 }
 
+#[inline(always)]
 fn is_below(here: Place, place: Place) -> bool
     ensures { result ≡ is_lt (slice_cmp nat_cmp (numbers here) (numbers place)) }
 {
@@ -61,6 +62,7 @@ pub(crate) fn count_below(values: &Values<'_>, place: Place) -> usize
 pub(crate) const NEAR: usize = 8;
 
 // Whether the texts before this number stand at places below this one.
+#[inline(always)]
 fn are_below(values: &Values<'_>, at: usize, place: Place) -> bool
     requires { T (is_sorted (slice_cmp nat_cmp) (entries_of values.now)) }
     ensures bound { IsTrue result → at ≤ length values.now }
@@ -98,6 +100,7 @@ pub(crate) fn count_below_near(values: &Values<'_>, near: usize, place: Place) -
 }
 
 /// The text of this number, where it stands at this place.
+#[inline(always)]
 pub(crate) fn text_there<'a>(values: &Values<'a>, at: usize, place: Place) -> Option<&'a [u8]>
     requires { T (is_sorted (slice_cmp nat_cmp) (entries_of values.now)) }
     ensures bound { IfSome result (λ text. at ≤ length values.now) }
@@ -116,6 +119,7 @@ pub(crate) fn text_there<'a>(values: &Values<'a>, at: usize, place: Place) -> Op
 }
 
 /// The text at a place, empty where it is absent; `at` texts are at places below it.
+#[inline(always)]
 pub(crate) fn text_behind<'a>(values: &Values<'a>, at: usize, place: Place) -> &'a [u8]
     requires sorted { T (is_sorted (slice_cmp nat_cmp) (entries_of values.now)) }
     requires bound { at ≤ length values.now }

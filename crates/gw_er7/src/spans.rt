@@ -58,10 +58,12 @@ impl Number for u8 {
 
     ghost most = { 2 ^ 8 - 1 };
 
+    #[inline(always)]
     fn narrowed(number: usize) -> Option<u8> {
         u8::try_from(number).ok()
     }
 
+    #[inline(always)]
     fn widened(self) -> usize {
         self as usize
     }
@@ -74,10 +76,12 @@ impl Number for u16 {
 
     ghost most = { 2 ^ 16 - 1 };
 
+    #[inline(always)]
     fn narrowed(number: usize) -> Option<u16> {
         u16::try_from(number).ok()
     }
 
+    #[inline(always)]
     fn widened(self) -> usize {
         self as usize
     }
@@ -90,10 +94,12 @@ impl Number for u32 {
 
     ghost most = { 2 ^ 32 - 1 };
 
+    #[inline(always)]
     fn narrowed(number: usize) -> Option<u32> {
         u32::try_from(number).ok()
     }
 
+    #[inline(always)]
     fn widened(self) -> usize {
         self as usize
     }
@@ -131,6 +137,7 @@ impl<P: Number, L: Number> Width for NarrowSpan<P, L> {
 
     ghost largest = { L.most };
 
+    #[inline(always)]
     fn narrowed(span: TextSpan) -> Option<NarrowSpan<P, L>> {
         Some(NarrowSpan {
             field: P::narrowed(span.place.field)?,
@@ -142,6 +149,7 @@ impl<P: Number, L: Number> Width for NarrowSpan<P, L> {
         })
     }
 
+    #[inline(always)]
     fn widened(self) -> TextSpan {
         TextSpan {
             place: Place {
@@ -354,6 +362,23 @@ impl<N: Width, L: Store> Spans<N, L> {
         self.narrow = Vec::new(self.alloc);
         Ok(())
     }
+
+    /// Puts a span behind the others, whatever its width.
+    #[cold]
+    #[inline(never)]
+    fn push_any(&mut self, span: &TextSpan) -> Result<(), AllocError>
+        ensures ok { OnOk result (self.new ≡ self.old ++ span.now ∷ []) }
+        ensures err { OnErr result (self.new ≡ self.old) }
+    {
+        if self.narrow.is_empty() && self.others.len() > 0 {
+            return self.others.push(span);
+        }
+        let Some(narrow) = N::narrowed(*span) else {
+            return self.push_wide(span);
+        };
+        self.narrow.push(narrow)?;
+        Ok(())
+    }
 }
 
 impl<N: Width, L: Store> Store for Spans<N, L> {
@@ -376,15 +401,17 @@ impl<N: Width, L: Store> Store for Spans<N, L> {
         })
     }
 
+    // Most spans are narrow, and there is room for them.
+    #[inline(always)]
     fn push(&mut self, span: &TextSpan) -> Result<(), AllocError> {
-        if self.narrow.is_empty() && self.others.len() > 0 {
-            return self.others.push(span);
+        let len = self.narrow.len();
+        if 0 < len && len < self.narrow.capacity() {
+            if let Some(narrow) = N::narrowed(*span) {
+                self.narrow.push_reserved(narrow);
+                return Ok(());
+            }
         }
-        let Some(narrow) = N::narrowed(*span) else {
-            return self.push_wide(span);
-        };
-        self.narrow.push(narrow)?;
-        Ok(())
+        self.push_any(span)
     }
 
     fn sort_from(&mut self, first: usize) {
@@ -421,6 +448,7 @@ impl<N: Width, L: Store> Store for Spans<N, L> {
         self.narrow.len()
     }
 
+    #[inline(always)]
     fn at(&self, i: usize) -> TextSpan {
         if i < self.narrow.len() {
             return self.narrow[i].widened();

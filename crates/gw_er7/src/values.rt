@@ -56,6 +56,7 @@ impl<'a> Values<'a> {
         }
     }
 
+    #[inline(always)]
     pub(crate) fn len(&self) -> usize
         ensures { result ≡ length self.now }
     {
@@ -63,6 +64,7 @@ impl<'a> Values<'a> {
     }
 
     /// The text of this number, from 0, with its place.
+    #[inline(always)]
     pub(crate) fn at(&self, i: usize) -> Value<'a>
         requires { i < length self.now }
         ensures { (other : Held) → slice_index_or self.now i other ≡ record { place = result.place; text = result.text.now } }

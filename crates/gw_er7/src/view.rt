@@ -87,6 +87,7 @@ impl<'a> Segment<'a> {
     }
 
     /// The name. It takes no memory.
+    #[inline(always)]
     pub fn name(&self) -> [u8; 3]
         ensures value { result ≡ self.now.name }
         ensures segment { IsSegment self.now }
@@ -141,6 +142,7 @@ impl<'a> Segment<'a> {
     }
 
     /// How many texts the segment has. It takes no memory.
+    #[inline(always)]
     pub fn value_count(&self) -> usize
         ensures count { result ≡ length (texts.entries self.now.at) }
         ensures segment { IsSegment self.now }
@@ -149,6 +151,7 @@ impl<'a> Segment<'a> {
     }
 
     /// The text of this number, from 0, in order of place. It takes no memory, and a constant time.
+    #[inline(always)]
     pub fn value(&self, i: usize) -> Value<'a>
         requires { i < length (texts.entries self.now.at) }
         ensures { slice_get (texts.entries self.now.at) i ≡ Some (numbers result.place, result.text.now) }
