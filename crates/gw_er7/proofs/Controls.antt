@@ -1,5 +1,5 @@
 -- Where no byte passes a test, there is no first that does.
-use Rattle.std.proofs.Common.{◌≡◌, ℕ, ◌<◌, ◌≤◌, ◌⊎◌, inl, inr, Bool, false, cond, List, length, Option, None, Some, sym, ap, ◌∙◌}
+use Rattle.std.proofs.Common.{◌≡◌, ℕ, ◌<◌, ◌≤◌, ◌⊎◌, inl, inr, Bool, false, cond, List, length, None, Some, sym, ap, ◌∙◌}
 use Rattle.std.specs.List.{list_any, position, position_or_len}
 use Rattle.std.proofs.lemmas.Bool.{cases_lt, le-ltb, true≢false}
 use Rattle.std.proofs.lemmas.List.Folds.{list_any_at}

@@ -37,3 +37,4 @@ pub mod Drafts
 pub mod Builds
 pub mod Sames
 pub mod Controls
+pub mod Lies

@@ -1,10 +1,10 @@
 //! The texts of a segment's fields.
-ghost use Rattle.std.specs.Prelude.{◌≡◌, ◌==◌, ◌||◌, ◌+◌, ◌<◌, ◌≤◌, ◌^◌, ◌++◌, ◌-◌, true, position, OnOk, IfOk};
+ghost use Rattle.std.specs.Prelude.{◌≡◌, ◌==◌, ◌||◌, ◌+◌, ◌<◌, ◌≤◌, ◌^◌, ◌++◌, ◌-◌, true, length, position, OnOk, IfOk};
 ghost use Rattle.std.specs.List.{position_or_len};
 ghost use Rattle.gw_er7.specs.Message.{numbers};
 ghost use Rattle.gw_er7.specs.Entries.{fields};
 ghost use Rattle.gw_er7.specs.Text.{is_special};
-ghost use Rattle.gw_er7.specs.own.Separators.{separators, is_separator, is_mark, next_numbers, value_at, held_in, taken_by, Keeps, IsCut};
+ghost use Rattle.gw_er7.specs.own.Separators.{separators, is_separator, is_mark, next_numbers, value_at, held_in, taken_by, Keeps, IsCut, Lies, Grows};
 ghost use Rattle.gw_er7.specs.View.{AreInside};
 
 use crate::delimiters::{Delimiters, STANDARD};
@@ -133,7 +133,7 @@ fn next_place(delimiters: Delimiters, place: Place, separator: u8) -> Place
     }
 }
 
-/// The texts of the message that is being read: spans, and the one buffer in which their texts lie.
+/// The texts of the message that is being read: spans, and the one buffer in which their texts lie, with the separators between them.
 #[derive(Drop)]
 pub(crate) struct SegmentTexts {
     pub(crate) spans: MessageSpans,
@@ -162,8 +162,10 @@ impl SegmentTexts {
     }
 }
 
-/// Reads the raw value at a place. Its first `plain` bytes stand for themselves.
-fn push_value(
+/// Reads a raw value whose text isn't the value itself: the text is put behind all bytes.
+#[cold]
+#[inline(never)]
+fn push_other(
     taken: &mut SegmentTexts,
     delimiters: Delimiters,
     place: Place,
@@ -171,19 +173,64 @@ fn push_value(
     plain: usize,
 ) -> Result<(), AllocError>
     requires inside { AreInside taken.old.bytes.items taken.old.spans }
+    requires some { 0 < length raw.now }
     requires plain { plain ≡ position_or_len (λ b. is_special b || b == delimiters.escape) raw.now }
     ensures inside { OnOk result (AreInside taken.new.bytes.items taken.new.spans) }
+    ensures grown { OnOk result (Grows taken.old.bytes.items taken.new.bytes.items) }
+    ensures kept { OnOk result (Keeps taken.old taken.new) }
+    ensures entries { OnOk result (taken_by taken.new ≡ taken_by taken.old ++ value_at delimiters (numbers place) raw.now) }
+{
+    let from = taken.bytes.len();
+    push_canonical(&mut taken.bytes, delimiters, raw, plain)?;
+    let len = taken.bytes.len() - from;
+    taken.spans.push(&TextSpan { place, from, len })?;
+    Ok(())
+}
+
+/// Reads the raw value at a place, which lies among the bytes. Its first `plain` bytes stand for themselves: where all do, it is its own text.
+#[inline(always)]
+fn push_value(
+    taken: &mut SegmentTexts,
+    delimiters: Delimiters,
+    place: Place,
+    at: usize,
+    raw: &[u8],
+    plain: usize,
+) -> Result<(), AllocError>
+    requires inside { AreInside taken.old.bytes.items taken.old.spans }
+    requires lies { Lies taken.old.bytes.items at raw.now }
+    requires plain { plain ≡ position_or_len (λ b. is_special b || b == delimiters.escape) raw.now }
+    ensures inside { OnOk result (AreInside taken.new.bytes.items taken.new.spans) }
+    ensures grown { OnOk result (Grows taken.old.bytes.items taken.new.bytes.items) }
     ensures kept { OnOk result (Keeps taken.old taken.new) }
     ensures entries { OnOk result (taken_by taken.new ≡ taken_by taken.old ++ value_at delimiters (numbers place) raw.now) }
 {
     if raw.is_empty() {
         return Ok(());
     }
-    let from = taken.bytes.len();
-    push_canonical(&mut taken.bytes, delimiters, raw, plain)?;
-    let len = taken.bytes.len() - from;
-    taken.spans.push(&TextSpan { place, from, len })?;
+    if plain < raw.len() {
+        return push_other(taken, delimiters, place, raw, plain);
+    }
+    let span = TextSpan {
+        place,
+        from: at,
+        len: raw.len(),
+    };
+    taken.spans.push(&span)?;
     Ok(())
+}
+
+/// Takes in the bytes of fields, among which most texts lie. It gives where the first of the bytes lies.
+fn take_bytes(taken: &mut SegmentTexts, bytes: &[u8]) -> Result<usize, AllocError>
+    requires inside { AreInside taken.old.bytes.items taken.old.spans }
+    ensures inside { OnOk result (AreInside taken.new.bytes.items taken.new.spans) }
+    ensures kept { OnOk result (Keeps taken.old taken.new) }
+    ensures entries { OnOk result (taken_by taken.new ≡ taken_by taken.old) }
+    ensures lies { IfOk result (λ at. Lies taken.new.bytes.items at bytes.now) }
+{
+    let at = taken.bytes.len();
+    taken.bytes.extend_from_slice(bytes)?;
+    Ok(at)
 }
 
 /// Takes in the fields of a segment, the first of which has this number.
@@ -205,14 +252,16 @@ pub(crate) fn take_fields(
         comp: 1,
         sub: 1,
     };
+    let mut at = take_bytes(taken, bytes)?;
     let mut rest = bytes;
     loop {
         let cut = cut_value(delimiters, rest);
-        push_value(taken, delimiters, place, cut.raw, cut.plain)?;
+        push_value(taken, delimiters, place, at, cut.raw, cut.plain)?;
         let Some((separator, later)) = cut.behind else {
             return Ok(());
         };
         place = next_place(delimiters, place, separator);
+        at += cut.raw.len() + 1;
         rest = later;
     }
 }

@@ -42,6 +42,18 @@ taken_by t = entries_of (held_in t)
 abbrev pub Keeps : SegmentTexts → SegmentTexts → Type 0
 Keeps old new = take (length (held_in old)) (held_in new) ≡ held_in old
 
+-- these bytes stand among others, behind this many
+pub record Lies (bytes : List ℕ) (at : ℕ) (part : List ℕ) : Type 0 where
+  pub before : List ℕ
+  pub after : List ℕ
+  pub is : bytes ≡ before ++ (part ++ after)
+  pub long : length before ≡ at
+
+-- others were put behind these bytes
+pub record Grows (old new : List ℕ) : Type 0 where
+  pub more : List ℕ
+  pub is : new ≡ old ++ more
+
 -- it has no separator
 abbrev pub IsClear : List ℕ → List ℕ → Type 0
 IsClear ts bytes = All (λ b. is_separator ts b ≡ false) bytes

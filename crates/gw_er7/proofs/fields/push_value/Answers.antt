@@ -1,5 +1,5 @@
-use Rattle.std.proofs.Common.{ap, sym, ◌∙◌, ◌++◌, ◌∷◌, ◌-◌, ◌<◌, [], List, length, arith, rules}
-use Rattle.std.proofs.lemmas.List.{map-append, length-append}
+use Rattle.std.proofs.Common.{ap, sym, ◌∙◌, ◌++◌, ◌∷◌, ◌<◌, ◌≡◌, [], List, ℕ, length, refl, arith, rules}
+use Rattle.std.proofs.lemmas.List.{map-append}
 use Rattle.std.proofs.Math.Seq.{take-append_seam}
 use Rattle.gw_er7.specs.declared.spans.TextSpan.{TextSpan}
 use Rattle.gw_er7.specs.Message.{numbers}
@@ -8,29 +8,26 @@ use Rattle.gw_er7.specs.Text.{canon}
 use Rattle.gw_er7.specs.View.{held, entry_of, entries_of}
 use Rattle.gw_er7.specs.own.Separators.{held_in}
 use Rattle.gw_er7.proofs.Separated.{some_value}
-use Rattle.gw_er7.proofs.Slices.{held_put}
+use Rattle.gw_er7.proofs.Lies.{held_lies, plain_self}
 use Rattle.gw_er7.proofs.fields.push_value.Goals as goal
 
 pub returns-clause-kept : goal.returns-clause-kept
 returns-clause-kept c =
     let old = c.args.taken.now in
-    let new = c.push_canonical.new.text.items in
-    let d = c.args.delimiters in
     let raw = c.args.raw.now in
-    let l : TextSpan = record { place = c.args.place; from = c.len-from.result; len = c.len.result - c.len-from.result } in
-    let taken = c.in_ok-push_canonical.ensures in
-    let put = held_put old.bytes.items (canon d raw) new old.spans c.push.new.self l c.requires.inside taken c.in_ok-push.ensures.ok (omega (arith, c.len-from.ensures)) (omega (arith, c.len-from.ensures, c.len.ensures, ap length taken, length-append old.bytes.items (canon d raw))) in
-    rw put (take-append_seam (held_in old) (record { place = c.args.place; text = canon d raw } ∷ []))
+    let l : TextSpan = record { place = c.args.place; from = c.args.at; len = length raw } in
+    let put = held_lies old.bytes.items c.args.at raw old.spans c.push.new.self l c.requires.lies c.in_ok-push.ensures.ok refl refl in
+    rw put (take-append_seam (held_in old) (record { place = c.args.place; text = raw } ∷ []))
 
 pub returns-clause-entries : goal.returns-clause-entries
 returns-clause-entries c =
     let old = c.args.taken.now in
-    let new = c.push_canonical.new.text.items in
     let d = c.args.delimiters in
     let raw = c.args.raw.now in
-    let l : TextSpan = record { place = c.args.place; from = c.len-from.result; len = c.len.result - c.len-from.result } in
-    let taken = c.in_ok-push_canonical.ensures in
-    let put = held_put old.bytes.items (canon d raw) new old.spans c.push.new.self l c.requires.inside taken c.in_ok-push.ensures.ok (omega (arith, c.len-from.ensures)) (omega (arith, c.len-from.ensures, c.len.ensures, ap length taken, length-append old.bytes.items (canon d raw))) in
+    let l : TextSpan = record { place = c.args.place; from = c.args.at; len = length raw } in
+    let put = held_lies old.bytes.items c.args.at raw old.spans c.push.new.self l c.requires.lies c.in_ok-push.ensures.ok refl refl in
     let there : 0 < length raw = search rules in
-    ap entries_of put ∙ map-append entry_of (held old.bytes.items old.spans) (record { place = c.args.place; text = canon d raw } ∷ [])
+    let itself : canon d raw ≡ raw = plain_self d c.args.plain raw c.requires.plain (omega arith) in
+    ap entries_of put ∙ map-append entry_of (held old.bytes.items old.spans) (record { place = c.args.place; text = raw } ∷ [])
+    ∙ ap (λ (text : List ℕ). entries_of (held old.bytes.items old.spans) ++ (numbers c.args.place, text) ∷ []) (sym itself)
     ∙ ap (λ (es : List Entry). entries_of (held old.bytes.items old.spans) ++ es) (sym (some_value d (numbers c.args.place) raw there))

@@ -1,6 +1,7 @@
 use Rattle.std.proofs.Common.{arith}
 use Rattle.gw_er7.specs.Message.{numbers}
-use Rattle.gw_er7.specs.own.Separators.{held_in, taken_by}
+use Rattle.gw_er7.specs.own.Separators.{held_in, taken_by, separators}
+use Rattle.gw_er7.proofs.Lies.{lies_value, lies_grown, lies_behind}
 use Rattle.gw_er7.proofs.Lying.{keeps_on}
 use Rattle.gw_er7.proofs.Separated.{value_last, value_taken, later_less}
 use Rattle.gw_er7.proofs.fields.take_fields.Goals as goal
@@ -14,6 +15,9 @@ returns-in_default-clause-entries c =
     let last = rw c.in_default.is at c.cut_value-cut.ensures.cut in
     value_last c.args.delimiters place.field place.rep place.comp place.sub c.loop-separator.rest.now c.cut_value-cut.result.raw.now (taken_by c.loop-separator.taken) (taken_by c.push_value.new.taken) _ last c.loop-separator.invariant.read c.in_ok-push_value.ensures.entries
 
+pub push_value-requires-clause-lies : goal.push_value-requires-clause-lies
+push_value-requires-clause-lies c = lies_value (separators c.args.delimiters) _ c.loop-separator.at c.loop-separator.rest.now c.cut_value-cut.result.raw.now c.cut_value-cut.result.behind c.cut_value-cut.ensures.cut c.loop-separator.invariant.lies
+
 pub loop-separator-preserved : goal.loop-separator-preserved
 loop-separator-preserved c =
     let place = c.loop-separator.place in
@@ -24,6 +28,7 @@ loop-separator-preserved c =
       kept = keeps_on (held_in c.args.taken.now) (held_in c.loop-separator.taken) (held_in c.push_value.new.taken) c.loop-separator.invariant.kept c.in_ok-push_value.ensures.kept;
       read = value_taken c.args.delimiters place.field place.rep place.comp place.sub (numbers c.next_place-place.result) c.loop-separator.rest.now c.cut_value-cut.result.raw.now c.in-Some.separator c.in-Some.later.now
           (taken_by c.loop-separator.taken) (taken_by c.push_value.new.taken) _ next c.next_place-place.ensures.next c.loop-separator.invariant.read c.in_ok-push_value.ensures.entries;
+      lies = lies_behind _ c.loop-separator.at c.loop-separator.rest.now c.cut_value-cut.result.raw.now c.in-Some.separator c.in-Some.later.now next.whole (lies_grown _ _ c.loop-separator.at c.loop-separator.rest.now c.loop-separator.invariant.lies c.in_ok-push_value.ensures.grown);
       field = omega (arith, short, c.next_place-place.ensures.field, c.loop-separator.invariant.field);
       rep = omega (arith, short, c.next_place-place.ensures.rep, c.loop-separator.invariant.rep);
       comp = omega (arith, short, c.next_place-place.ensures.comp, c.loop-separator.invariant.comp);

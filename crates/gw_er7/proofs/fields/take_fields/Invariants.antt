@@ -1,7 +1,7 @@
 use Rattle.std.proofs.Common.{◌≡◌, ◌++◌, ◌+◌, ◌≤◌, length}
 use Rattle.gw_er7.specs.Message.{numbers}
 use Rattle.gw_er7.specs.Entries.{fields}
-use Rattle.gw_er7.specs.own.Separators.{separators, taken_by, Keeps}
+use Rattle.gw_er7.specs.own.Separators.{separators, taken_by, Keeps, Lies}
 use Rattle.gw_er7.specs.View.{AreInside}
 use Rattle.gw_er7.proofs.Separated.{rest}
 use Rattle.gw_er7.proofs.fields.take_fields.Given as goal
@@ -11,6 +11,7 @@ invariant-loop-separator l = record {
   inside : AreInside l.taken.bytes.items l.taken.spans;
   kept : Keeps l.fn.taken l.taken;
   read : taken_by l.taken ++ rest l.delimiters (separators l.delimiters) (numbers l.place) l.rest ≡ taken_by l.fn.taken ++ fields l.delimiters l.fn.first l.fn.bytes;
+  lies : Lies l.taken.bytes.items l.at l.rest;
   field : l.place.field + length l.rest ≤ length l.fn.bytes + 3;
   rep : l.place.rep + length l.rest ≤ length l.fn.bytes + 3;
   comp : l.place.comp + length l.rest ≤ length l.fn.bytes + 3;
