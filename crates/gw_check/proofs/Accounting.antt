@@ -9,7 +9,8 @@ use Rattle.gw_profile.proofs.Facts.{both}
 use Rattle.gw_leaves.proofs.Inserted.{or_none, inserted}
 use Rattle.gw_check.specs.declared.accounted.FieldAt.{FieldAt}
 use Rattle.gw_check.specs.declared.accounted.Accounted.{Accounted}
-use Rattle.gw_check.specs.Reads.{Position, is_read}
+use Rattle.gw_check.specs.Reads.{is_read}
+use Rattle.gw_resolve.specs.Positions.{Position}
 use Rattle.gw_check.specs.Collected.{field_at, has_field, has_element, Gains, no_element}
 
 pub or_assoc : (a b c : Bool) → (a || b) || c ≡ (a || (b || c))

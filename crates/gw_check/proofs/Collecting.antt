@@ -15,8 +15,9 @@ use Rattle.gw_resolve.specs.Resolved.{Items, no_items}
 use Rattle.gw_resolve.specs.declared.resolved.ScopePath as places
 use Rattle.gw_resolve.specs.declared.resolved.Rule as rules_of
 use Rattle.gw_resolve.specs.declared.resolved.SegmentItem.{SegmentItem}
-use Rattle.gw_check.specs.Reads.{Position, SourceField, read_by, at_reads, making_reads, rules_read, inner, inner_if, items_read}
-use Rattle.gw_check.specs.Collected.{fields_at, positions, Adds}
+use Rattle.gw_check.specs.Reads.{SourceField, read_by, at_reads, making_reads, rules_read, items_read}
+use Rattle.gw_resolve.specs.Positions.{Position, inner, inner_if, positions}
+use Rattle.gw_check.specs.Collected.{fields_at, Adds}
 use Rattle.gw_resolve.specs.Seen.{place, reference, at_leaf, making, rule, with_item, all_items}
 use Rattle.gw_resolve.proofs.Rows.{group_items, flat_items}
 

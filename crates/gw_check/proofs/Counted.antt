@@ -9,8 +9,8 @@ use Rattle.gw_resolve.specs.Intervals.{sum, product}
 use Rattle.gw_resolve.specs.Places.{Element, count_at, within}
 use Rattle.gw_resolve.specs.Resolved.{Items, no_items, first_child}
 use Rattle.gw_check.specs.Counts.{items_count}
-use Rattle.gw_resolve.specs.Seen.{interval, saturated, place, with_item, all_items}
-use Rattle.gw_check.specs.own.ItemByItem.{first_count, CountsOne, CountsAll, FirstChild, ChildOf, Leads}
+use Rattle.gw_resolve.specs.Seen.{interval, saturated, place, with_item, all_items, ChildOf}
+use Rattle.gw_check.specs.own.ItemByItem.{first_count, CountsOne, CountsAll, Leads}
 use Rattle.gw_check.specs.Levels.{is_of, its, beyond, has_no_item}
 use Rattle.std.proofs.lemmas.Bool.Decides.{eqb_tells}
 use Rattle.gw_resolve.proofs.Saturation.{sum_saturated, product_saturated}
@@ -35,21 +35,6 @@ count_flat scope inner i f at each c is often there more e tables =
     ∙ product_saturated (count_at scope (place f.place)) (items_count (within scope (place f.place)) (all_items tables f.items.items))
     ∙ sym (ap (λ x. saturated (first_count scope x)) (ap (λ j. with_item tables j no_items) is ∙ flat_items tables f no_items))
 
--- ---- target nodes
-
-pub child_flat : (i : Item) (f : FlatItem) (is : List Item) (c : Option ℕ) → i ≡ Flat f → is ≡ f.items.items → FirstChild is c → ChildOf i c
-child_flat i f is c same items first tables =
-    first tables ∙ ap (λ l. first_child (all_items tables l)) items
-    ∙ sym (ap first_child (ap (λ j. with_item tables j no_items) same ∙ flat_items tables f no_items))
-
-pub child_first : (i : Item) (is : List Item) (c : Option ℕ) → ChildOf i c → FirstChild (i ∷ is) c
-child_first i is c h tables = h tables ∙ go i
-  where
-    go : (i : Item) → first_child (with_item tables i no_items) ≡ first_child (with_item tables i (all_items tables is))
-    go (Segment s) = refl
-    go (Group' line child from shape row) = refl
-    go (Flat' line from shape row) = refl
-
 -- ---- from the last item on
 
 behind : (items : List Item) (left : ℕ) (i : Item) → 0 < left → left ≤ length items → i ≡ get_or items (left - 1) i → drop (left - 1) items ≡ i ∷ drop left items
@@ -64,10 +49,6 @@ count_step scope items left i one more total some within is a b e =
 
 pub count_done : (scope : List Element) (items : List Item) (left : ℕ) (total : declared.Interval) → left ≤ 0 → CountsAll scope (drop left items) total → CountsAll scope items total
 count_done scope items left total none h = let zero : left ≡ 0 = omega (arith, none) in subst (λ n. CountsAll scope (drop n items) total) zero h
-
-pub child_at_first : (items : List Item) (i : Item) (c : Option ℕ) → 1 ≤ length items → i ≡ get_or items 0 i → ChildOf i c → FirstChild items c
-child_at_first [] i c some is h = absurd (omega (arith, some))
-child_at_first (x ∷ items) i c some is h = child_first x items c (subst (λ j. ChildOf j c) is h)
 
 -- ---- the items of one node
 

@@ -1,5 +1,6 @@
 -- The map from a profile to itself breaks no rule.
 use Rattle.std.proofs.Common.{◌≡◌, [], ◌∷◌, refl, ap, ◌∙◌, arith}
+use Rattle.std.specs.Prelude.{◌==◌, not, length}
 use Rattle.gw_profile.specs.Shapes.{ProfileValue}
 use Rattle.gw_profile.specs.WellFormed.{WellFormed, table_names}
 use Rattle.gw_maplang.specs.Identity.{identity, same_items}
@@ -29,7 +30,7 @@ module _ (p : ProfileValue) (w : WellFormed p) where
       no_more _ _
       (no_more _ _ (levels_hold (table_names p.tables) (the_whole p.nodes) [] 0 0 p.nodes (from_the_first p.nodes) w.distinct w.segments w.groups)
       (items_hold p (table_names p.tables) (the_whole p.nodes) [] 0 p.nodes (from_the_first p.nodes) w.distinct w.segments w.groups))
-      (holds 9 (at_line 0) _ (reads_hold (items_read ([] ∷ []) (same 0 p.nodes)) [] [] 0 p.nodes (λ at field e. e)))
+      (holds 9 (at_line 0) _ (ap (λ l. not (length l == 0)) (reads_hold (items_read ([] ∷ []) (same 0 p.nodes)) [] [] 0 p.nodes (λ at field e. e))))
 
   pub identity_allowed : all_failures p p (identity p) ≡ []
   identity_allowed =

@@ -25,7 +25,8 @@ use Rattle.gw_resolve.specs.Intervals.{never, once, of_card, is_never, is_within
 use Rattle.gw_resolve.specs.Places.{Element, a_segment}
 use Rattle.gw_resolve.specs.Resolved.{Rule, rule_of}
 use Rattle.gw_resolve.specs.Naming.{itself}
-use Rattle.gw_leaves.specs.Leaves.{Sources, listed, field_of, comp_of, sub_of, by_usage, comp_presence, sub_usage, sub_presence, is_always, is_absent, is_short, sub_values, may_be_unlisted, may_exceed, may_be_long}
+use Rattle.gw_leaves.specs.Leaves.{Sources, listed, by_usage, comp_presence, sub_usage, sub_presence, is_always, is_absent, is_short, sub_values, may_be_unlisted, may_exceed, may_be_long}
+use Rattle.gw_profile.specs.Numbered.{field_of, comp_of, sub_of}
 use Rattle.gw_leaves.specs.Counts.{rule_count, reference_count}
 use Rattle.gw_leaves.specs.Components.{field_mark, comp_in, sub_in, table_values, value_failures, copied_sub, copied_comp, copied_field, rule_lookups}
 use Rattle.gw_check.specs.Fields.{is_expected, content_failures, count_failures, field_failures, segment_failures}

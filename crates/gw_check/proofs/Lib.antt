@@ -2,14 +2,12 @@ pub mod Counted
 pub mod Stepped
 pub mod Within
 pub mod Passing
-pub mod Gapping
 pub mod Missing
 pub mod Collecting
 pub mod Accounting
 pub mod Least
 pub mod Placing
 pub mod Keeping
-pub mod Judging
 pub mod IdentityItems
 pub mod IdentityNamed
 pub mod IdentityFields

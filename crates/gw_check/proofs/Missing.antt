@@ -1,30 +1,20 @@
 -- The fields that are passed over are those that are missed by what is accounted for.
-use Rattle.std.proofs.Common.{◌≡◌, ℕ, suc, ◌+◌, ◌<◌, Bool, true, false, List, [], ◌∷◌, ◌++◌, length, drop, drop-cons, get_or, refl, sym, ap, ap₂, ◌∙◌, subst, arith, map, IfOk, Result, Ok, Err}
+use Rattle.std.proofs.Common.{◌≡◌, ℕ, suc, ◌+◌, ◌<◌, Bool, true, false, List, [], ◌∷◌, ◌++◌, length, drop, drop-cons, get_or, refl, sym, ap, ap₂, ◌∙◌, arith}
 use Rattle.std.specs.Prelude.{◌||◌, if◌then◌else◌, flat_map}
 use Rattle.std.proofs.lemmas.List.{append_assoc}
 use Rattle.gw_profile.specs.declared.node.Node.{Node, Seg, Group, Group'}
 use Rattle.gw_profile.specs.declared.node.GroupNode.{GroupNode}
 use Rattle.gw_profile.specs.Shapes.{FieldValue, SegmentValue, Forest, nothing, segment, group}
-use Rattle.gw_profile.specs.Seen as profiles
-use Rattle.gw_profile.specs.Seen.{forest, node_forest, profile_value}
+use Rattle.gw_profile.specs.Seen.{forest, node_forest}
 use Rattle.gw_profile.proofs.Rows.{group_forest}
 use Rattle.gw_validate.specs.Breaches.{is_forbidden}
 use Rattle.gw_check.specs.declared.accounted.Accounted.{Accounted}
 use Rattle.gw_check.specs.declared.accounted.FieldAt.{FieldAt}
-use Rattle.std.specs.Global.{Vec}
-use Rattle.gw_maplang.specs.Shapes.{MapValue, TableValue}
-use Rattle.gw_resolve.specs.declared.named.ResolvedMap.{ResolvedMap}
-use Rattle.gw_resolve.specs.declared.named.Resolving as resolving
-use Rattle.gw_resolve.specs.declared.resolved.Item.{Item}
-use Rattle.gw_resolve.specs.declared.resolved.LeftOut.{LeftOut}
-use Rattle.gw_resolve.specs.Naming.{resolved}
 use Rattle.gw_resolve.specs.Resolved.{Drop}
-use Rattle.gw_resolve.specs.Outcome.{Resolves, IsNamed}
-use Rattle.gw_resolve.specs.Seen.{all_items, left_out}
-use Rattle.gw_check.specs.Reads.{Position, SourceField, items_read}
-use Rattle.gw_check.specs.own.Seen as seen
+use Rattle.gw_check.specs.Reads.{SourceField, passed_field, passed_over}
+use Rattle.gw_resolve.specs.Positions.{Position}
 use Rattle.gw_check.specs.Collected.{Adds, Accounts, has_element, drops_element, fields_at}
-use Rattle.gw_check.specs.Unread.{passed_field, passed_over, missed_field, segment_missed, all_missed, within_missed, node_missed, none_if, unread}
+use Rattle.gw_check.specs.Unread.{missed_field, segment_missed, all_missed, within_missed, node_missed}
 use Rattle.gw_check.proofs.Passing.{is_around, around_below, at_the_top, field_dropped, field_missed, around_here}
 
 unchosen : {A : Type 0} (b : Bool) (x y : A) → b ≡ false → (if b then x else y) ≡ y
@@ -110,19 +100,3 @@ module _ (known : Accounted) where
       ∙ ap (λ k. fields_at old ++ (node_missed known at n ++ all_missed known above k (forest (drop k nodes)))) next
       ∙ sym (append_assoc (fields_at old) (node_missed known at n) (all_missed known above (j + 1) (forest (drop (j + 1) nodes))))
       ∙ ap (λ l. l ++ all_missed known above (j + 1) (forest (drop (j + 1) nodes))) (sym adds)
-
--- ---- where the labels of a map were looked up
-
-pub unread_of : {E : Type 0} (from to : profiles.Contents) (m : MapValue) (told : resolving.Resolving) (made : ResolvedMap) (nodes : List Node) (items : List Item) (drops : List LeftOut) (r : Result (Vec FieldAt) E) →
-    Resolves (profile_value from) (profile_value to) m told → told ≡ resolving.TheVariants.Resolved made → nodes ≡ from.nodes → items ≡ made.items.items → drops ≡ made.drops.items →
-    IfOk r (λ found. (tables : List TableValue) → fields_at found.items ≡ seen.passed_over tables items drops (forest nodes)) →
-    IfOk r (λ found. fields_at found.items ≡ unread (profile_value from) (profile_value to) m)
-unread_of from to m told made nodes items drops (Err x) h e n i d is = tt
-unread_of from to m told made nodes items drops (Ok found) h e n i d is =
-    let named : IsNamed (profile_value from) (profile_value to) m made = subst (Resolves (profile_value from) (profile_value to) m) e h in
-    let whole = resolved (profile_value from) (profile_value to) m in
-    is m.tables
-    ∙ ap (λ x. passed_over (items_read ([] ∷ []) x) (map left_out drops) [] 0 (forest nodes)) (ap (all_items m.tables) i ∙ named.items)
-    ∙ ap (λ x. passed_over (items_read ([] ∷ []) whole.items) x [] 0 (forest nodes)) (ap (map left_out) d ∙ named.drops)
-    ∙ ap (λ x. passed_over (items_read ([] ∷ []) whole.items) whole.drops [] 0 (forest x)) n
-    ∙ sym (ap (λ x. none_if x (passed_over (items_read ([] ∷ []) whole.items) whole.drops [] 0 (forest from.nodes))) named.none)

@@ -1,36 +1,14 @@
 -- Fields that are passed over: those that are missed by what is accounted for.
-use Rattle.std.proofs.Common.{◌≡◌, ℕ, suc, Bool, true, false, List, [], ◌∷◌, ◌++◌, Option, Some, None, refl, sym, ap, ◌∙◌}
+use Rattle.std.proofs.Common.{◌≡◌, ℕ, Bool, true, false, List, [], ◌∷◌, ◌++◌, Option, Some, None, refl, sym, ap, ◌∙◌}
 use Rattle.std.specs.Prelude.{◌==◌, ◌&&◌, ◌||◌, not, bytes_eq}
 use Rattle.std.specs.List.{list_any, starts_with}
-use Rattle.gw_profile.specs.declared.node.Node.{Node, Seg, Group, Group'}
-use Rattle.gw_profile.specs.declared.node.GroupNode.{GroupNode}
-use Rattle.gw_profile.specs.Shapes.{FieldValue, SegmentValue, Forest, nothing, segment, group}
-use Rattle.gw_profile.specs.Seen.{forest, node_forest}
-use Rattle.gw_profile.proofs.Rows.{group_forest}
-use Rattle.gw_profile.proofs.Facts.{both_false}
-use Rattle.gw_validate.specs.Breaches.{is_forbidden}
+use Rattle.gw_profile.specs.Shapes.{FieldValue}
 use Rattle.gw_check.specs.declared.accounted.Accounted.{Accounted}
 use Rattle.gw_resolve.specs.Resolved.{Drop}
-use Rattle.gw_check.specs.Reads.{Position, SourceField, is_read, is_dropped, may_hold, is_passed_over, some_passed_over}
-use Rattle.gw_check.specs.Collected.{has_element, drops_field, drops_element, is_missed, segment_misses, some_missed, within_misses, node_misses, Accounts}
+use Rattle.gw_check.specs.Reads.{SourceField, is_read, is_dropped, may_hold, is_passed_over}
+use Rattle.gw_resolve.specs.Positions.{Position}
+use Rattle.gw_check.specs.Collected.{has_element, drops_field, drops_element, is_missed, Accounts}
 use Rattle.gw_check.proofs.Accounting.{or_assoc}
-
--- ---- a group
-
-module _ (known : Accounted) (at : Position) where
-  abbrev first_misses : Forest → Bool
-  first_misses nothing = false
-  first_misses (segment s rest) = segment_misses known at s
-  first_misses (group g nodes rest) = within_misses known at nodes
-
-  by_forest : (n : Node) → node_misses known at n ≡ first_misses (node_forest n nothing)
-  by_forest (Seg s) = refl
-  by_forest (Group' label usage card shape inner) = refl
-
-  pub group_misses : (n : Node) (g : GroupNode) (inner : List Node) (b : Bool) → n ≡ Group g → inner ≡ g.nodes.items → b ≡ within_misses known at (forest inner) → b ≡ node_misses known at n
-  group_misses n g inner b same items is =
-      is ∙ ap (λ l. within_misses known at (forest l)) items
-      ∙ sym (by_forest n ∙ ap (λ m. first_misses (node_forest m nothing)) same ∙ ap first_misses (group_forest g nothing))
 
 -- ---- elements that are dropped
 
@@ -105,22 +83,6 @@ module _ (reads : List SourceField) (drops : List Drop) where
   field_dropped at f h =
       ap (λ b. may_hold f.usage && not (is_read reads at f.number) && not b) (dropped_is drops at f.number ∙ ap (λ b. b || drops_field drops at f.number) h) ∙ and_false (may_hold f.usage && not (is_read reads at f.number))
 
-  fields_dropped : (at : Position) (fs : List FieldValue) → is_around drops at ≡ true → list_any (is_passed_over reads drops at) fs ≡ false
-  fields_dropped at [] h = refl
-  fields_dropped at (f ∷ fs) h =
-      both_false _ _ (field_dropped at f h) (fields_dropped at fs h)
-
-  all_dropped : (above : Position) (j : ℕ) (nodes : Forest) → is_around drops above ≡ true → some_passed_over reads drops above j nodes ≡ false
-  all_dropped above j nothing h = refl
-  all_dropped above j (segment s rest) h =
-      both_false _ _
-      (ap (λ b. not (is_forbidden s.usage) && b) (fields_dropped (above ++ j ∷ []) s.fields (around_below drops above j ∙ ap (λ b. b || drops_element drops (above ++ j ∷ [])) h)) ∙ and_false (not (is_forbidden s.usage)))
-      (all_dropped above (suc j) rest h)
-  all_dropped above j (group g nodes rest) h =
-      both_false _ _
-      (all_dropped (above ++ j ∷ []) 0 nodes (around_below drops above j ∙ ap (λ b. b || drops_element drops (above ++ j ∷ [])) h))
-      (all_dropped above (suc j) rest h)
-
   -- ---- and what is missed elsewhere is
 
   module _ (known : Accounted) (all : Accounts known reads drops) where
@@ -135,39 +97,6 @@ module _ (reads : List SourceField) (drops : List Drop) where
         ∙ by_both (may_hold f.usage) (is_read reads at f.number) (drops_field drops at f.number)
         ∙ sym (ap (λ b. may_hold f.usage && not (is_read reads at f.number) && not b) (dropped_is drops at f.number ∙ ap (λ b. b || drops_field drops at f.number) h))
 
-    fields_missed : (at : Position) (fs : List FieldValue) → is_around drops at ≡ false → list_any (is_missed known at) fs ≡ list_any (is_passed_over reads drops at) fs
-    fields_missed at [] h = refl
-    fields_missed at (f ∷ fs) h = ap (λ b. b || list_any (is_missed known at) fs) (field_missed at f h) ∙ ap (λ b. is_passed_over reads drops at f || b) (fields_missed at fs h)
-
     -- an element that isn't in one that is dropped
     pub around_here : (above : Position) (j : ℕ) → is_around drops above ≡ false → is_around drops (above ++ j ∷ []) ≡ has_element known (above ++ j ∷ [])
     around_here above j h = around_below drops above j ∙ ap (λ b. b || drops_element drops (above ++ j ∷ [])) h ∙ sym (all.elements (above ++ j ∷ []))
-
-    one_missed : (at : Position) (missed passed : Bool) (b : Bool) → has_element known at ≡ b → is_around drops at ≡ has_element known at → (is_around drops at ≡ false → missed ≡ passed) → (is_around drops at ≡ true → passed ≡ false) → not (has_element known at) && missed ≡ passed
-    one_missed at missed passed true e a f g = ap (λ b. not b && missed) e ∙ sym (g (a ∙ e))
-    one_missed at missed passed false e a f g = ap (λ b. not b && missed) e ∙ f (a ∙ e)
-
-    three : (a b c : Bool) → a && b && c ≡ (a && (b && c))
-    three true b c = refl
-    three false b c = refl
-
-    segment_missed : (at : Position) (s : SegmentValue) → is_around drops at ≡ has_element known at → segment_misses known at s ≡ (not (is_forbidden s.usage) && list_any (is_passed_over reads drops at) s.fields)
-    segment_missed at s here =
-        three (not (has_element known at)) (not (is_forbidden s.usage)) (list_any (is_missed known at) s.fields)
-        ∙ one_missed at _ _ _ refl here (λ e. ap (λ b. not (is_forbidden s.usage) && b) (fields_missed at s.fields e))
-        (λ e. ap (λ b. not (is_forbidden s.usage) && b) (fields_dropped at s.fields e) ∙ and_false (not (is_forbidden s.usage)))
-
-    missed_below : (above : Position) (j : ℕ) (nodes : Forest) → is_around drops above ≡ false → some_missed known above j nodes ≡ some_passed_over reads drops above j nodes
-    missed_below above j nothing h = refl
-    missed_below above j (segment s rest) h =
-        ap (λ b. b || some_missed known above (suc j) rest) (segment_missed (above ++ j ∷ []) s (around_here above j h))
-        ∙ ap (λ b. (not (is_forbidden s.usage) && list_any (is_passed_over reads drops (above ++ j ∷ [])) s.fields) || b) (missed_below above (suc j) rest h)
-    missed_below above j (group g nodes rest) h =
-        ap (λ b. b || some_missed known above (suc j) rest)
-        (one_missed (above ++ j ∷ []) _ _ _ refl (around_here above j h) (λ e. missed_below (above ++ j ∷ []) 0 nodes e) (λ e. all_dropped (above ++ j ∷ []) 0 nodes e))
-        ∙ ap (λ b. some_passed_over reads drops (above ++ j ∷ []) 0 nodes || b) (missed_below above (suc j) rest h)
-
-    -- ---- the whole profile
-
-    pub missed_is : (nodes : Forest) → within_misses known [] nodes ≡ some_passed_over reads drops [] 0 nodes
-    missed_is nodes = one_missed [] _ _ _ refl (at_the_top drops ∙ sym (all.elements [])) (λ e. missed_below [] 0 nodes e) (λ e. all_dropped [] 0 nodes e)

@@ -4,6 +4,7 @@ use Rattle.gw_profile.specs.Shapes.{ProfileValue}
 use Rattle.gw_profile.specs.WellFormed.{WellFormed}
 use Rattle.gw_maplang.specs.Shapes.{MapValue}
 use Rattle.gw_maplang.specs.Seen.{Contents}
+use Rattle.gw_check.specs.declared.accounted.FieldAt.{FieldAt}
 use Rattle.gw_check.specs.declared.rules.Examined.{Examined}
 use Rattle.gw_check.specs.declared.rules.Judged as judged
 use Rattle.gw_check.specs.declared.rules.CheckFault as faults
@@ -12,8 +13,10 @@ use Rattle.gw_resolve.specs.declared.failure.Failure.{Failure}
 use Rattle.gw_resolve.specs.declared.resolved.Item.{Item}
 use Rattle.gw_resolve.specs.declared.resolved.LeftOut.{LeftOut}
 use Rattle.gw_resolve.specs.Resolved.{Resolved}
-use Rattle.gw_resolve.specs.Naming.{resolved}
+use Rattle.gw_resolve.specs.Naming.{naming_failures, resolved}
 use Rattle.gw_check.specs.Checked.{all_failures, least, broken}
+use Rattle.gw_check.specs.Collected.{fields_at}
+use Rattle.gw_check.specs.Unread.{unread}
 use Rattle.gw_resolve.specs.Seen.{failure, failures, all_items, left_out}
 
 -- a map without labels, as the program holds it
@@ -26,9 +29,13 @@ pub record IsUnlabelled (from to : ProfileValue) (m : MapValue) (is : List Item)
   pub target : WellFormed to
   pub items : all_items m.tables is ≡ (resolved from to m).items
 
+-- these are the items of the map without labels, where that is known
+abbrev pub AreUnlabelled : ProfileValue → ProfileValue → MapValue → List Item → Type 0
+AreUnlabelled from to m is = naming_failures from to m ≡ [] → all_items m.tables is ≡ (resolved from to m).items
+
 -- where there is no failure
 abbrev pub UnlabelledIfAllowed : ProfileValue → ProfileValue → MapValue → Examined → Type 0
-UnlabelledIfAllowed from to m e = e.found.items ≡ [] → IsUnlabelled from to m e.items.items
+UnlabelledIfAllowed from to m e = e.findings.found.items ≡ [] → IsUnlabelled from to m e.items.items
 
 pub record IsAllowed (from to : ProfileValue) (m : MapValue) (is : List Item) : Type 0 where
   pub source : WellFormed from
@@ -36,20 +43,22 @@ pub record IsAllowed (from to : ProfileValue) (m : MapValue) (is : List Item) : 
   pub none : all_failures from to m ≡ []
   pub items : all_items m.tables is ≡ (resolved from to m).items
 
--- some rule fails: the least failure, and all of them
-pub record IsBroken (from to : ProfileValue) (m : MapValue) (f : Failure) (found : List Failure) : Type 0 where
+-- some rule fails: the least failure, all of them, the fields of which rule 9 fails, and the items
+pub record IsBroken (from to : ProfileValue) (m : MapValue) (f : Failure) (found : List Failure) (fields : List FieldAt) (is : List Item) : Type 0 where
   pub least : Some (failure f) ≡ least (all_failures from to m)
   pub all : failures found ≡ all_failures from to m
+  pub unread : fields_at fields ≡ unread from to m
+  pub items : AreUnlabelled from to m is
 
 -- no rule fails, or the failures
 abbrev pub Judges : ProfileValue → ProfileValue → MapValue → judged.Judged → Type 0
 Judges from to m (judged.TheVariants.Allowed is) = IsAllowed from to m is.items
-Judges from to m (judged.TheVariants.Refused f found) = IsBroken from to m f found.items
+Judges from to m (judged.TheVariants.Refused f e) = IsBroken from to m f e.findings.found.items e.findings.unread.items e.items.items
 
 -- all failures, or an allocation failure; the map is returned
 abbrev pub IsTold : ProfileValue → ProfileValue → MapValue → Contents → refusals.Refusal → Type 0
 IsTold from to m given (refusals.TheVariants.Memory back) = back ≡ given
-IsTold from to m given (refusals.TheVariants.Rules first found back) = IsBroken from to m first found.items × (back ≡ given)
+IsTold from to m given (refusals.TheVariants.Rules first found fields is back) = IsBroken from to m first found.items fields.items is.items × (back ≡ given)
 
 -- the least failing rule at its least line, or an allocation failure; the map is returned
 abbrev pub IsRefusal : ProfileValue → ProfileValue → MapValue → Contents → faults.CheckFault → Type 0

@@ -21,16 +21,16 @@ is_expected RE = true
 is_expected O = false
 is_expected X = false
 
--- what comes so often, as the program counts it
-abbrev pub counted : Interval → Mark → Mark
-counted count mark = record mark { count = Some (saturated count) }
+-- what comes so often, as the program counts it, and whether nothing gives it
+abbrev pub counted : Bool → Interval → Mark → Mark
+counted is_missing count mark = record mark { missing = is_missing; count = Some (saturated count) }
 
 abbrev pub often_failures : Mark → Interval → Usage → Card → Bool → List Failure
 often_failures mark count usage card is_missing =
-    fails 4 (counted count mark) (not (is_forbidden usage) && not (is_within count.greatest card.max))
-    ++ fails 5 (counted count mark) (nat_lt count.least card.min)
-    ++ fails 8 (counted count mark) (is_expected usage && is_missing)
-    ++ fails 11 (counted count mark) (is_forbidden usage && not (is_never count.greatest))
+    fails 4 (counted is_missing count mark) (not (is_forbidden usage) && not (is_within count.greatest card.max))
+    ++ fails 5 (counted is_missing count mark) (nat_lt count.least card.min)
+    ++ fails 8 (counted is_missing count mark) (is_expected usage && is_missing)
+    ++ fails 11 (counted is_missing count mark) (is_forbidden usage && not (is_never count.greatest))
 
 -- ---- a field
 

@@ -7,8 +7,6 @@ pub mod Checked
 pub mod Found
 pub mod Collected
 pub mod Unread
-pub mod Gaps
-pub mod Gathered
 pub mod Kept
 pub mod Answers
 pub mod Worked

@@ -1,20 +1,12 @@
 -- The rule on source fields (9): none that may hold something is passed over in silence.
-use Rattle.std.specs.Prelude.{ℕ, suc, Bool, true, false, ◌==◌, ◌&&◌, ◌||◌, not, List, [], ◌∷◌, ◌++◌, flat_map, unwrap_or, slice_get, Option, Some, None, bytes_eq}
+use Rattle.std.specs.Prelude.{ℕ, suc, Bool, true, false, ◌==◌, ◌&&◌, not, if◌then◌else◌, List, [], ◌∷◌, ◌++◌, flat_map, Option, Some, None, bytes_eq}
 use Rattle.std.specs.List.{list_any, starts_with}
 use Rattle.gw_profile.specs.declared.shape.Usage.{Usage}
 use Rattle.gw_profile.specs.declared.shape.Usage.TheVariants.{R, RE, O, X}
 use Rattle.gw_profile.specs.Shapes.{FieldValue, Forest, nothing, segment, group}
 use Rattle.gw_validate.specs.Breaches.{is_forbidden}
-use Rattle.gw_resolve.specs.Places.{Place}
+use Rattle.gw_resolve.specs.Positions.{Position, position, inner, inner_if}
 use Rattle.gw_resolve.specs.Resolved.{Reference, Source, of_field, of_current, Leaf, const, copied, looked_up, At, Making, copy, first, repeat, build, Rule, Items, no_items, segment_item, group_item, flat_item, Drop}
-
--- where a node stands in a profile: the numbers of the nodes from the top on
-abbrev pub Position : Type 0
-Position = List ℕ
-
--- the position of a place, seen from the positions that are walked, the innermost first
-abbrev pub position : List Position → Place → Position
-position scope place = unwrap_or (slice_get scope place.out) [] ++ place.steps
 
 -- a field of the segment at a position
 pub record SourceField : Type 0 where
@@ -47,13 +39,6 @@ making_reads scope (build leaves) = flat_map (at_reads scope) leaves
 abbrev pub rules_read : List Position → List Rule → List SourceField
 rules_read scope rules = flat_map (λ r. making_reads scope r.making) rules
 
-abbrev pub inner : List Position → Place → List Position
-inner scope place = position scope place ∷ scope
-
-abbrev pub inner_if : List Position → Option Place → List Position
-inner_if scope None = scope
-inner_if scope (Some place) = inner scope place
-
 abbrev pub items_read : List Position → Items → List SourceField
 items_read scope no_items = []
 items_read scope (segment_item s rest) = rules_read (inner_if scope s.place) s.rules ++ items_read scope rest
@@ -82,11 +67,14 @@ may_hold X = false
 abbrev pub is_passed_over : List SourceField → List Drop → Position → FieldValue → Bool
 is_passed_over reads drops at f = may_hold f.usage && not (is_read reads at f.number) && not (is_dropped drops at f.number)
 
--- some field of the nodes from number j on, below this position, is passed over
-abbrev pub some_passed_over : List SourceField → List Drop → Position → ℕ → Forest → Bool
-some_passed_over reads drops above j nothing = false
-some_passed_over reads drops above j (segment s rest) =
-    (not (is_forbidden s.usage) && list_any (is_passed_over reads drops (above ++ j ∷ [])) s.fields)
-    || some_passed_over reads drops above (suc j) rest
-some_passed_over reads drops above j (group g nodes rest) =
-    some_passed_over reads drops (above ++ j ∷ []) 0 nodes || some_passed_over reads drops above (suc j) rest
+abbrev pub passed_field : List SourceField → List Drop → Position → FieldValue → List SourceField
+passed_field reads drops at f = if is_passed_over reads drops at f then record { at = at; field = f.number } ∷ [] else []
+
+-- those of the nodes from number j on, below this position; a forbidden segment has none
+abbrev pub passed_over : List SourceField → List Drop → Position → ℕ → Forest → List SourceField
+passed_over reads drops above j nothing = []
+passed_over reads drops above j (segment s rest) =
+    (if is_forbidden s.usage then [] else flat_map (passed_field reads drops (above ++ j ∷ [])) s.fields)
+    ++ passed_over reads drops above (suc j) rest
+passed_over reads drops above j (group g nodes rest) =
+    passed_over reads drops (above ++ j ∷ []) 0 nodes ++ passed_over reads drops above (suc j) rest

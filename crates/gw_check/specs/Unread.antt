@@ -8,21 +8,9 @@ use Rattle.gw_maplang.specs.Shapes.{MapValue}
 use Rattle.gw_check.specs.declared.accounted.Accounted.{Accounted}
 use Rattle.gw_resolve.specs.Failures.{Failure}
 use Rattle.gw_resolve.specs.Naming.{naming_failures, resolved}
-use Rattle.gw_resolve.specs.Resolved.{Drop}
-use Rattle.gw_check.specs.Reads.{Position, SourceField, items_read, is_passed_over}
+use Rattle.gw_check.specs.Reads.{SourceField, items_read, passed_over}
+use Rattle.gw_resolve.specs.Positions.{Position}
 use Rattle.gw_check.specs.Collected.{has_element, is_missed}
-
-abbrev pub passed_field : List SourceField → List Drop → Position → FieldValue → List SourceField
-passed_field reads drops at f = if is_passed_over reads drops at f then record { at = at; field = f.number } ∷ [] else []
-
--- those of the nodes from number j on, below this position; a forbidden segment has none
-abbrev pub passed_over : List SourceField → List Drop → Position → ℕ → Forest → List SourceField
-passed_over reads drops above j nothing = []
-passed_over reads drops above j (segment s rest) =
-    (if is_forbidden s.usage then [] else flat_map (passed_field reads drops (above ++ j ∷ [])) s.fields)
-    ++ passed_over reads drops above (suc j) rest
-passed_over reads drops above j (group g nodes rest) =
-    passed_over reads drops (above ++ j ∷ []) 0 nodes ++ passed_over reads drops above (suc j) rest
 
 abbrev pub none_if : List Failure → List SourceField → List SourceField
 none_if [] fields = fields

@@ -1,5 +1,5 @@
 -- Worked profiles and maps.
-use Rattle.std.specs.Prelude.{ℕ, ◌+◌, List, [], ◌∷◌, Option, Some, None, codes}
+use Rattle.std.specs.Prelude.{ℕ, ◌+◌, false, List, [], ◌∷◌, Option, Some, None, codes}
 use Rattle.gw_profile.specs.declared.shape.Usage.{Usage}
 use Rattle.gw_profile.specs.declared.shape.Usage.TheVariants.{R, RE, O}
 use Rattle.gw_profile.specs.declared.shape.Card.{Card}
@@ -215,7 +215,7 @@ failure rule mark = Some (record { rule = rule; mark = mark })
 
 -- what comes so often
 abbrev pub often : ℕ → Option ℕ → Mark → Mark
-often least greatest = counted (record { least = least; greatest = greatest })
+often least greatest = counted false (record { least = least; greatest = greatest })
 
 -- the leaf of the sex
 abbrev pub sex_at : ℕ → Mark

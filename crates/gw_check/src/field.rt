@@ -50,7 +50,7 @@ fn line_of(holder: u32, rule: Option<&Rule>) -> u32
     }
 }
 
-pub(crate) fn is_missing(rule: Option<&Rule>) -> bool
+fn is_missing(rule: Option<&Rule>) -> bool
     ensures { (tables : List TableValue) → result ≡ spec.has_no_rule (some_rule tables rule.entry) }
 {
     match rule {

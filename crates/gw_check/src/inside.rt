@@ -6,9 +6,9 @@ ghost use Rattle.gw_resolve.specs.Seen.{scope as walked};
 
 use crate::field::check_segment;
 use crate::level::check_level;
-use gw_leaves::{MapContext, Sources, enter_if, fields_at};
+use gw_leaves::{MapContext, Sources, enter_if};
 use gw_profile::Node;
-use gw_resolve::{Failure, Item, ScopeNode, SegmentItem, enter, nodes_within};
+use gw_resolve::{Failure, Item, ScopeNode, SegmentItem, enter, fields_at, nodes_within};
 use std::alloc::{AllocError, Global};
 
 // The failures of the rules on the segments that an item gives.

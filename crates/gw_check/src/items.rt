@@ -1,11 +1,11 @@
 //! The items of a level: how often they come, and for which target node.
 ghost use Rattle.std.specs.Prelude.{◌≡◌, IfOk};
-ghost use Rattle.gw_check.specs.own.ItemByItem.{CountsOne, CountsAll, FirstChild, ChildOf, Leads};
-ghost use Rattle.gw_check.specs.Levels.{is_of};
+ghost use Rattle.gw_check.specs.own.ItemByItem.{CountsOne, CountsAll, Leads};
 ghost use Rattle.gw_resolve.specs.Seen.{scope as walked};
+ghost use Rattle.gw_check.specs.Levels.{is_of};
 
 use crate::level::{count_at, count_if};
-use gw_resolve::{Interval, Item, ScopeNode, enter, never};
+use gw_resolve::{Interval, Item, ScopeNode, child_of, enter, never};
 use std::alloc::{AllocError, Global};
 
 // How often one item comes.
@@ -45,29 +45,6 @@ pub(crate) fn items_count(
         total = one.plus(total);
     }
     Ok(total)
-}
-
-// The target node of an item; all items of a flat have one.
-#[cycle(child)]
-fn child_of(item: &Item) -> Option<usize>
-    ensures { ChildOf item.now result }
-{
-    match item {
-        Item::Segment(segment) => Some(segment.child),
-        Item::Group(group) => Some(group.child),
-        Item::Flat(flat) => first_child(&flat.items),
-    }
-}
-
-// The target node of the first item.
-#[cycle(child)]
-fn first_child(items: &[Item]) -> Option<usize>
-    ensures { FirstChild items.now result }
-{
-    let [item, ..] = items else {
-        return None;
-    };
-    child_of(item)
 }
 
 fn is_of(node: usize, child: Option<usize>) -> bool

@@ -61,13 +61,13 @@ fn node_mark(holder: u32, number: usize, items: &[Item]) -> FailureSite
     at_line(line_of(item))
 }
 
-pub(crate) fn has_no_item(items: &[Item]) -> bool
+fn has_no_item(items: &[Item]) -> bool
     ensures { (tables : List TableValue) → result ≡ spec.has_no_item (all_items tables items.now) }
 {
     items.is_empty()
 }
 
-pub(crate) fn usage_of(node: &Node) -> Usage
+fn usage_of(node: &Node) -> Usage
     ensures { result ≡ usage_of node.now }
 {
     match node {

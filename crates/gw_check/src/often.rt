@@ -23,7 +23,7 @@ pub(crate) struct Asked {
     pub(crate) is_missing: bool,
 }
 
-pub(crate) fn is_expected(usage: Usage) -> bool
+fn is_expected(usage: Usage) -> bool
     ensures { result ≡ is_expected usage }
 {
     match usage {
@@ -59,6 +59,7 @@ pub(crate) fn check_often(
     ensures { (full : intervals.Interval) → interval count ≡ saturated full → OnOk result (Notes found.old found.new (seen.often_failures asked full)) }
 {
     let mark = FailureSite {
+        missing: asked.is_missing,
         count: Some(count),
         ..asked.mark
     };

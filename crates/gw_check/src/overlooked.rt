@@ -1,19 +1,16 @@
 //! The fields of the source that a map passes over, each by its place.
 ghost use Rattle.std.specs.Prelude.{◌≡◌, List, map, flat_map, IfOk, OnOk};
-ghost use Rattle.gw_profile.specs.Seen.{forest, profile_value, segment_value, field as seen_field};
-ghost use Rattle.gw_maplang.specs.Seen.{map_value};
+ghost use Rattle.gw_profile.specs.Seen.{forest, segment_value, field as seen_field};
 ghost use Rattle.gw_maplang.specs.Shapes.{TableValue};
 ghost use Rattle.gw_check.specs.Collected.{Adds, fields_at};
 ghost use Rattle.gw_check.specs.own.Seen as seen;
 ghost use Rattle.gw_check.specs.Unread as spec;
 
 use crate::accounted::{Accounted, FieldAt};
-use crate::labels::look_up;
 use crate::reads::{all_read, is_missed};
 use gw_leaves::is_forbidden;
-use gw_maplang::Map;
-use gw_profile::{FieldShape, Level, Node, Profile, SegNode};
-use gw_resolve::{Item, LeftOut, Resolving};
+use gw_profile::{FieldShape, Node, SegNode};
+use gw_resolve::{Item, LeftOut};
 use std::alloc::{AllocError, Global};
 
 // Adds a field, where it is missed.
@@ -125,8 +122,8 @@ fn add_nodes(
     Ok(())
 }
 
-// The fields of these nodes that the items and the drops pass over.
-fn passed_over(
+/// The fields of these nodes that the items and the drops pass over, in the order of the nodes.
+pub(crate) fn passed_over(
     alloc: Global,
     nodes: &[Node],
     items: &[Item],
@@ -139,28 +136,4 @@ fn passed_over(
     let mut found = Vec::new(alloc);
     add_within(alloc, &known, &[], nodes, &mut found)?;
     Ok(found)
-}
-
-/// The required fields of the source that the map neither reads nor drops, in the profile's order: what rule 9 fails of.
-///
-/// The list is empty where the rules on labels (1 to 3) fail. It takes time by the sizes of the profiles and the map. The one error is allocation failure.
-pub fn unused_fields(
-    alloc: Global,
-    source: &Profile,
-    target: &Profile,
-    map: &Map,
-) -> Result<Vec<FieldAt>, AllocError>
-    ensures { IfOk result (λ found. fields_at found.items ≡ spec.unread (profile_value source.now) (profile_value target.now) (map_value map.now)) }
-{
-    let from = Level::of(alloc, source)?;
-    let to = Level::of(alloc, target)?;
-    match look_up(alloc, source, target, &from, &to, map)? {
-        Resolving::Refused(_) => Ok(Vec::new(alloc)),
-        Resolving::Resolved(named) => passed_over(
-            alloc,
-            source.nodes(),
-            &named.items,
-            &named.drops,
-        ),
-    }
 }

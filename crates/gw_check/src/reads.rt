@@ -1,36 +1,20 @@
-//! Which fields of the source are read, and which are passed over.
-ghost use Rattle.std.specs.Prelude.{◌≡◌, ◌∷◌, [], List, map, IfOk, OnOk};
-ghost use Rattle.std.specs.List.{list_any};
-ghost use Rattle.gw_profile.specs.Seen.{forest, segment_value, field as seen_field};
+//! Which fields of the source are read.
+ghost use Rattle.std.specs.Prelude.{◌≡◌, ◌∷◌, [], List, IfOk, OnOk};
+ghost use Rattle.gw_profile.specs.Seen.{field as seen_field};
 ghost use Rattle.gw_check.specs.Reads as spec;
-ghost use Rattle.gw_check.specs.Collected.{Adds, fields_at, positions, is_missed, segment_misses, some_missed, within_misses, node_misses};
+ghost use Rattle.gw_check.specs.Collected.{Adds, fields_at, is_missed};
+ghost use Rattle.gw_resolve.specs.Positions.{positions};
 ghost use Rattle.gw_check.specs.own.Seen as seen;
-ghost use Rattle.gw_resolve.specs.Seen.{place as seen_place, reference, source, at_leaf};
+ghost use Rattle.gw_resolve.specs.Seen.{reference, source, at_leaf};
 ghost use Rattle.gw_maplang.specs.Shapes.{TableValue};
 
 use crate::accounted::{Accounted, FieldAt};
-use gw_leaves::is_forbidden;
-use gw_profile::{FieldShape, Node, SegNode, Usage};
+use gw_profile::{FieldShape, Usage};
 use gw_resolve::{
-    At, Item, LeftOut, Making, Reference, ResolvedLeaf, Rule, ScopePath, SegmentItem, Source,
+    At, Item, Making, Reference, ResolvedLeaf, Rule, SegmentItem, Source, position,
+    positions_within,
 };
 use std::alloc::{AllocError, Global};
-
-/// The position of a place, seen from the positions that are walked, the innermost last.
-fn position(
-    alloc: Global,
-    scope: &[Vec<usize>],
-    place: &ScopePath,
-) -> Result<Vec<usize>, AllocError>
-    ensures { IfOk result (λ p. p.items ≡ spec.position (positions scope.now) (seen_place place.now)) }
-{
-    if place.out >= scope.len() {
-        return Vec::from_slice(alloc, &place.steps);
-    }
-    let mut at = Vec::from_slice(alloc, &scope[scope.len() - 1 - place.out])?;
-    at.extend_from_slice(&place.steps)?;
-    Ok(at)
-}
 
 fn add_reference(
     alloc: Global,
@@ -102,89 +86,6 @@ pub(crate) fn is_missed(
     Ok(!known.has_field(alloc, at, field.number)?)
 }
 
-fn some_field_missed(
-    alloc: Global,
-    known: &Accounted,
-    at: &[usize],
-    fields: &[FieldShape],
-) -> Result<bool, AllocError>
-    ensures { IfOk result (λ b. b ≡ list_any (is_missed known.now at.now) (map seen_field fields.now)) }
-{
-    for field in fields {
-        if is_missed(alloc, known, at, field)? {
-            return Ok(true);
-        }
-    }
-    Ok(false)
-}
-
-// Whether a field of the segment at this position is missed; a forbidden segment has none.
-fn segment_misses(
-    alloc: Global,
-    known: &Accounted,
-    at: &[usize],
-    segment: &SegNode,
-) -> Result<bool, AllocError>
-    ensures { IfOk result (λ b. b ≡ segment_misses known.now at.now (segment_value segment.now)) }
-{
-    if known.has_element(at) || is_forbidden(segment.usage) {
-        return Ok(false);
-    }
-    some_field_missed(alloc, known, at, &segment.fields)
-}
-
-// Whether a field of the node at this position, or of one within it, is missed.
-#[cycle(pass)]
-fn node_misses(
-    alloc: Global,
-    known: &Accounted,
-    at: &[usize],
-    node: &Node,
-) -> Result<bool, AllocError>
-    ensures { IfOk result (λ b. b ≡ node_misses known.now at.now node.now) }
-{
-    match node {
-        Node::Seg(segment) => segment_misses(alloc, known, at, segment),
-        Node::Group(group) => within_misses(alloc, known, at, &group.nodes),
-    }
-}
-
-// Whether a field of the nodes, or of one within them, is missed, where they are all that is in the element at this position.
-#[cycle(pass)]
-fn within_misses(
-    alloc: Global,
-    known: &Accounted,
-    at: &[usize],
-    nodes: &[Node],
-) -> Result<bool, AllocError>
-    ensures { IfOk result (λ b. b ≡ within_misses known.now at.now (forest nodes.now)) }
-{
-    if known.has_element(at) {
-        return Ok(false);
-    }
-    some_missed(alloc, known, at, nodes)
-}
-
-// Whether a field of the nodes below this position, or of one within them, is missed.
-#[cycle(pass)]
-fn some_missed(
-    alloc: Global,
-    known: &Accounted,
-    above: &[usize],
-    nodes: &[Node],
-) -> Result<bool, AllocError>
-    ensures { IfOk result (λ b. b ≡ some_missed known.now above.now 0 (forest nodes.now)) }
-{
-    for (j, node) in nodes.iter().enumerate() {
-        let mut at = Vec::from_slice(alloc, above)?;
-        at.push(j)?;
-        if node_misses(alloc, known, &at, node)? {
-            return Ok(true);
-        }
-    }
-    Ok(false)
-}
-
 fn add_leaves(
     alloc: Global,
     reads: &mut Vec<FieldAt>,
@@ -231,23 +132,6 @@ fn add_rules(
     Ok(())
 }
 
-fn inner(
-    alloc: Global,
-    scope: &[Vec<usize>],
-    place: &ScopePath,
-) -> Result<Vec<Vec<usize>>, AllocError>
-    ensures { IfOk result (λ inner. positions inner.items ≡ spec.inner (positions scope.now) (seen_place place.now)) }
-{
-    let at = position(alloc, scope, place)?;
-    let mut inner = Vec::new(alloc);
-    for outer in scope {
-        let copy = Vec::from_slice(alloc, outer)?;
-        inner.push(copy)?;
-    }
-    inner.push(at)?;
-    Ok(inner)
-}
-
 fn add_segment(
     alloc: Global,
     reads: &mut Vec<FieldAt>,
@@ -259,7 +143,7 @@ fn add_segment(
     match &segment.place {
         None => add_rules(alloc, reads, scope, &segment.rules),
         Some(place) => {
-            let within = inner(alloc, scope, place)?;
+            let within = positions_within(alloc, scope, place)?;
             add_rules(alloc, reads, &within, &segment.rules)
         }
     }
@@ -278,11 +162,11 @@ fn add_item(
     match item {
         Item::Segment(segment) => add_segment(alloc, reads, scope, segment),
         Item::Group(group) => {
-            let within = inner(alloc, scope, &group.place)?;
+            let within = positions_within(alloc, scope, &group.place)?;
             add_items(alloc, reads, &within, &group.items)
         }
         Item::Flat(flat) => {
-            let within = inner(alloc, scope, &flat.place)?;
+            let within = positions_within(alloc, scope, &flat.place)?;
             add_items(alloc, reads, &within, &flat.items)
         }
     }
@@ -313,18 +197,4 @@ pub(crate) fn all_read(alloc: Global, items: &[Item]) -> Result<Vec<FieldAt>, Al
     let mut reads = Vec::new(alloc);
     add_items(alloc, &mut reads, &scope, items)?;
     Ok(reads)
-}
-
-/// Whether some field of the source that may hold something is neither read by the items nor dropped.
-pub(crate) fn passes_over(
-    alloc: Global,
-    nodes: &[Node],
-    items: &[Item],
-    drops: &[LeftOut],
-) -> Result<bool, AllocError>
-    ensures { IfOk result (λ b. (tables : List TableValue) → b ≡ seen.some_passed_over tables items.now drops.now (forest nodes.now)) }
-{
-    let reads = all_read(alloc, items)?;
-    let known = Accounted::of(alloc, reads, drops)?;
-    within_misses(alloc, &known, &[], nodes)
 }

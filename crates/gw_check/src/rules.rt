@@ -6,23 +6,27 @@ ghost use Rattle.gw_profile.specs.WellFormed.{WellFormed};
 ghost use Rattle.gw_profile.specs.Shapes.{ProfileValue};
 ghost use Rattle.gw_maplang.specs.Seen.{map_value, Contents};
 ghost use Rattle.gw_maplang.specs.Shapes.{MapValue};
-ghost use Rattle.gw_check.specs.Answers.{Judges, UnlabelledIfAllowed, IsRefusal, IsTold};
+ghost use Rattle.gw_check.specs.Answers.{AreUnlabelled, Judges, UnlabelledIfAllowed, IsRefusal, IsTold};
 ghost use Rattle.gw_check.specs.Checked.{all_failures};
+ghost use Rattle.gw_check.specs.Collected.{fields_at};
+ghost use Rattle.gw_check.specs.Unread.{unread};
 ghost use Rattle.gw_resolve.specs.Noted.{Notes};
 ghost use Rattle.gw_resolve.specs.Seen.{failures as seen_failures};
 ghost use Rattle.gw_check.specs.own.Seen as seen;
 ghost use Rattle.gw_leaves.specs.Context as spec;
 
+use crate::accounted::FieldAt;
 use crate::checked::CheckedMap;
 use crate::failure::least;
 use crate::inside::check_items;
-use crate::labels::look_up;
 use crate::level::check_level;
-use crate::reads::passes_over;
+use crate::overlooked::passed_over;
 use gw_leaves::MapContext;
 use gw_maplang::Map;
 use gw_profile::{Level, Profile};
-use gw_resolve::{Failure, Item, LeftOut, ResolvedMap, Resolving, ScopeNode, at_line, note};
+use gw_resolve::{
+    Failure, Item, LeftOut, ResolvedMap, Resolving, ScopeNode, at_line, note, resolve,
+};
 use std::alloc::{AllocError, Global};
 use std::sync::Arc;
 
@@ -40,20 +44,31 @@ pub enum CheckFault {
 pub enum Refusal {
     /// Allocation failure.
     Memory(Map),
-    /// The least failure, and all of them in the order of the definition.
+    /// The least failure, all of them in the order of the definition, and the source fields of which rule 9 fails, in the profile's order;
+    /// and the items without labels, none where a rule on labels fails.
     Rules {
         least: Failure,
         found: Vec<Failure>,
+        unread: Vec<FieldAt>,
+        items: Vec<Item>,
         map: Map,
     },
+}
+
+/// What the rules find in a map.
+#[derive(Drop)]
+struct Findings {
+    /// The failures.
+    found: Vec<Failure>,
+    /// The source fields of which rule 9 fails.
+    unread: Vec<FieldAt>,
 }
 
 /// What the rules say of a map.
 #[derive(Drop)]
 struct Examined {
-    /// The failures.
-    found: Vec<Failure>,
-    /// The items without labels, where there is no failure.
+    findings: Findings,
+    /// The items without labels, none where a rule on labels fails.
     items: Vec<Item>,
 }
 
@@ -62,11 +77,11 @@ struct Examined {
 enum Judged {
     /// No rule fails, and these are its items without labels.
     Allowed(Vec<Item>),
-    /// The least failure, and all.
-    Refused(Failure, Vec<Failure>),
+    /// The least failure, and all that the rules say.
+    Refused(Failure, Examined),
 }
 
-// Adds the failures of the rules 4 to 12.
+// Adds the failures of the rules 4 to 12; the source fields of which rule 9 fails.
 fn add_failures(
     alloc: Global,
     found: &mut Vec<Failure>,
@@ -74,11 +89,12 @@ fn add_failures(
     level: &Level<'_>,
     items: &[Item],
     drops: &[LeftOut],
-) -> Result<(), AllocError>
+) -> Result<Vec<FieldAt>, AllocError>
     requires { level.now ≡ context.now.source.nodes }
     ensures source { WellFormed (profile_value context.now.source) }
     ensures target { WellFormed (profile_value context.now.target) }
     ensures found { OnOk result (Notes found.old found.new (seen.failures context.now items.now drops.now)) }
+    ensures unread { IfOk result (λ unread. fields_at unread.items ≡ seen.unread context.now items.now drops.now) }
 {
     let line = context.map().line();
     let whole = context.source().nodes();
@@ -86,28 +102,31 @@ fn add_failures(
     let scope = [ScopeNode::Whole(Some(level))];
     check_level(alloc, found, &scope, line, nodes, items)?;
     check_items(alloc, found, context, &scope, nodes, items)?;
-    let passed = passes_over(alloc, whole, items, drops)?;
-    note(found, 9, at_line(line), passed)
+    let unread = passed_over(alloc, whole, items, drops)?;
+    note(found, 9, at_line(line), !unread.is_empty())?;
+    Ok(unread)
 }
 
-// The failures of the rules 4 to 12 of a map without labels.
-fn failures_of(
+// What the rules 4 to 12 find in a map without labels.
+fn find(
     alloc: Global,
     source: &Profile,
     target: &Profile,
     map: &Map,
     level: &Level<'_>,
     named: &ResolvedMap,
-) -> Result<Vec<Failure>, AllocError>
+) -> Result<Findings, AllocError>
     requires { level.now ≡ source.now.nodes }
-    ensures source { IfOk result (λ found. WellFormed (profile_value source.now)) }
-    ensures target { IfOk result (λ found. WellFormed (profile_value target.now)) }
-    ensures found { IfOk result (λ found.
-        seen_failures found.items ≡ seen.failures (spec.context_of source.now target.now map.now) named.now.items.items named.now.drops.items) }
+    ensures source { IfOk result (λ f. WellFormed (profile_value source.now)) }
+    ensures target { IfOk result (λ f. WellFormed (profile_value target.now)) }
+    ensures found { IfOk result (λ f.
+        seen_failures f.found.items ≡ seen.failures (spec.context_of source.now target.now map.now) named.now.items.items named.now.drops.items) }
+    ensures unread { IfOk result (λ f.
+        fields_at f.unread.items ≡ seen.unread (spec.context_of source.now target.now map.now) named.now.items.items named.now.drops.items) }
 {
     let context = MapContext::of(alloc, source, target, map, level, &named.items)?;
     let mut found = Vec::new(alloc);
-    add_failures(
+    let unread = add_failures(
         alloc,
         &mut found,
         &context,
@@ -115,7 +134,7 @@ fn failures_of(
         &named.items,
         &named.drops,
     )?;
-    Ok(found)
+    Ok(Findings { found, unread })
 }
 
 // What the rules say of a map; 4 to 12 are looked at only where 1 to 3 hold.
@@ -125,18 +144,23 @@ fn look(
     target: &Profile,
     map: &Map,
 ) -> Result<Examined, AllocError>
-    ensures found { IfOk result (λ e. seen_failures e.found.items ≡ all_failures (profile_value source.now) (profile_value target.now) (map_value map.now)) }
+    ensures found { IfOk result (λ e. seen_failures e.findings.found.items ≡ all_failures (profile_value source.now) (profile_value target.now) (map_value map.now)) }
+    ensures unread { IfOk result (λ e. fields_at e.findings.unread.items ≡ unread (profile_value source.now) (profile_value target.now) (map_value map.now)) }
+    ensures labelled { IfOk result (λ e. AreUnlabelled (profile_value source.now) (profile_value target.now) (map_value map.now) e.items.items) }
     ensures items { IfOk result (UnlabelledIfAllowed (profile_value source.now) (profile_value target.now) (map_value map.now)) }
 {
     let from = Level::of(alloc, source)?;
     let to = Level::of(alloc, target)?;
-    match look_up(alloc, source, target, &from, &to, map)? {
+    match resolve(alloc, source, target, &from, &to, map)? {
         Resolving::Refused(found) => Ok(Examined {
-            found,
+            findings: Findings {
+                found,
+                unread: Vec::new(alloc),
+            },
             items: Vec::new(alloc),
         }),
         Resolving::Resolved(named) => Ok(Examined {
-            found: failures_of(alloc, source, target, map, &from, &named)?,
+            findings: find(alloc, source, target, map, &from, &named)?,
             items: named.items,
         }),
     }
@@ -154,7 +178,7 @@ pub fn failures(
     ensures { IfOk result (λ found. seen_failures found.items ≡ all_failures (profile_value source.now) (profile_value target.now) (map_value map.now)) }
 {
     let examined = look(alloc, source, target, map)?;
-    Ok(examined.found)
+    Ok(examined.findings.found)
 }
 
 // What a map is by the rules.
@@ -162,13 +186,13 @@ fn judge(alloc: Global, source: &Profile, target: &Profile, map: &Map) -> Result
     ensures { IfOk result (Judges (profile_value source.now) (profile_value target.now) (map_value map.now)) }
 {
     let examined = look(alloc, source, target, map)?;
-    match least(&examined.found) {
-        Some(failure) => Ok(Judged::Refused(failure, examined.found)),
+    match least(&examined.findings.found) {
+        Some(failure) => Ok(Judged::Refused(failure, examined)),
         None => Ok(Judged::Allowed(examined.items)),
     }
 }
 
-/// The map with its profiles, where no rule fails, and else all failures: what `check` and `failures` answer, by one look at the map.
+/// The map with its profiles, where no rule fails, and else all failures: what `check` and `failures` answer, by one look at the map, with what else was found.
 pub fn examine(
     alloc: Global,
     source: Arc<Profile>,
@@ -183,7 +207,13 @@ pub fn examine(
 {
     match judge(alloc, &source, &target, &map) {
         Err(_) => Err(Refusal::Memory(map)),
-        Ok(Judged::Refused(least, found)) => Err(Refusal::Rules { least, found, map }),
+        Ok(Judged::Refused(least, Examined { findings, items })) => Err(Refusal::Rules {
+            least,
+            found: findings.found,
+            unread: findings.unread,
+            items,
+            map,
+        }),
         Ok(Judged::Allowed(items)) => Ok(CheckedMap::of(source, target, map, items)),
     }
 }

@@ -12,7 +12,7 @@ use Rattle.gw_profile.proofs.Facts.{tells}
 use Rattle.gw_validate.specs.Breaches.{Counted, is_forbidden, too_few, field_forbidden, in_reps, in_rep, one_too_many}
 use Rattle.gw_resolve.specs.Intervals.{Interval, never, is_sure, is_never, at_most_one}
 use Rattle.gw_resolve.specs.Places.{Known}
-use Rattle.gw_leaves.specs.Leaves.{field_of}
+use Rattle.gw_profile.specs.Numbered.{field_of}
 use Rattle.gw_leaves.specs.Counts.{repetitions, reference_count}
 use Rattle.gw_interp.specs.Meaning.{IsFirst, InFirst, Where}
 use Rattle.gw_interp.proofs.Walks.{IsKnown}

@@ -8,7 +8,8 @@ use Rattle.gw_profile.specs.Shapes.{SubValue, CompValue, FieldValue, ProfileValu
 use Rattle.gw_profile.proofs.Facts.{no_clash}
 use Rattle.gw_validate.specs.Breaches.{is_required, is_forbidden, is_null, SubBreach, sub_absent, sub_forbidden, too_long, not_listed, InAny, in_first, in_later, CompBreach, comp_absent, comp_forbidden, in_sub}
 use Rattle.gw_resolve.specs.Failures.{Mark, fails}
-use Rattle.gw_leaves.specs.Leaves.{Shape, is_always, is_absent, comp_of, sub_of, comp_presence, sub_presence, sub_values}
+use Rattle.gw_leaves.specs.Leaves.{Shape, is_always, is_absent, comp_presence, sub_presence, sub_values}
+use Rattle.gw_profile.specs.Numbered.{comp_of, sub_of}
 use Rattle.gw_leaves.specs.Components.{comp_in, sub_in, value_failures, copied_sub, copied_comp}
 use Rattle.gw_interp.proofs.Lists.{all_as, none_fails, three_empty, each_empty}
 use Rattle.gw_interp.proofs.Shaped.{IsShaped, IsFit, fit_values, no_text, text_there}

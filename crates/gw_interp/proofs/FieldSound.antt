@@ -110,10 +110,10 @@ within_most (Some top) most e = (top, refl, le_is top most e)
 
 module _ (to : ProfileValue) (m : Texts) (holder : ℕ) (i : Interval) (o : Option Rule) (target : FieldValue) (is : IsCounted (RepAt m target.number) i) (none : count_failures holder i target o ≡ []) (kept : (r : ℕ) → RepAt m target.number r → (spot : List ℕ) → InAny (λ c. c.number) (CompBreach to m target.number r) target.comps spot → ⊥) where
   field_unbroken : (spot : List ℕ) → FieldBreach to m target spot → ⊥
-  field_unbroken spot b = by (four_empty _ _ (fails 8 (counted i (field_mark target.number (line_of_rule holder o))) (is_expected target.usage && has_no_rule o)) (fails 11 (counted i (field_mark target.number (line_of_rule holder o))) (is_forbidden target.usage && not (is_never i.greatest))) none) spot b
+  field_unbroken spot b = by (four_empty _ _ (fails 8 (counted (has_no_rule o) i (field_mark target.number (line_of_rule holder o))) (is_expected target.usage && has_no_rule o)) (fails 11 (counted (has_no_rule o) i (field_mark target.number (line_of_rule holder o))) (is_forbidden target.usage && not (is_never i.greatest))) none) spot b
     where
       mark : Mark
-      mark = counted i (field_mark target.number (line_of_rule holder o))
+      mark = counted (has_no_rule o) i (field_mark target.number (line_of_rule holder o))
 
       asked : (b c : Bool) → b ≡ false → not b && not c ≡ false → c ≡ true
       asked true c e f = absurd (cc)

@@ -15,7 +15,8 @@ use Rattle.gw_profile.specs.declared.shape.Count.{Count}
 use Rattle.gw_profile.specs.Lengths.{measure, len_count}
 use Rattle.gw_validate.specs.Breaches.{is_long, lacks, is_unlisted, SubBreach, sub_absent, sub_forbidden, too_long, not_listed, InAny, in_first, in_later, CompBreach, comp_absent, comp_forbidden, in_sub, in_comp, in_rep, FieldBreach, in_reps}
 use Rattle.gw_leaves.specs.declared.shape.Presence.TheVariants.{Maybe}
-use Rattle.gw_leaves.specs.Leaves.{any, IsOf, is_short, is_always, is_absent, comp_of, sub_of, comp_presence, sub_usage, sub_presence, rep_presence, sub_values}
+use Rattle.gw_leaves.specs.Leaves.{any, IsOf, is_short, is_always, is_absent, comp_presence, sub_usage, sub_presence, rep_presence, sub_values}
+use Rattle.gw_profile.specs.Numbered.{comp_of, sub_of}
 use Rattle.gw_interp.proofs.Lists.{found_test, found_all}
 use Rattle.gw_interp.proofs.Shaped.{IsShaped, always_required, absent_forbidden, both_always, both_absent, some_text, no_text, text_there}
 

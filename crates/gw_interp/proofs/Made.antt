@@ -15,7 +15,8 @@ use Rattle.gw_validate.specs.Breaches.{is_required, is_null, SubBreach, InAny, C
 use Rattle.gw_maplang.specs.declared.rule.LeafPlace.{LeafPlace}
 use Rattle.gw_resolve.specs.Intervals.{Interval, never}
 use Rattle.gw_resolve.specs.Resolved.{Leaf, const, copied, looked_up, At, leaf_at}
-use Rattle.gw_leaves.specs.Leaves.{Sources, comp_of, sub_of, leaf_shape, is_always, is_absent, may_be_unlisted, may_be_long}
+use Rattle.gw_leaves.specs.Leaves.{Sources, leaf_shape, is_always, is_absent, may_be_unlisted, may_be_long}
+use Rattle.gw_profile.specs.Numbered.{comp_of, sub_of}
 use Rattle.gw_leaves.specs.Counts.{some_always, all_absent, leaves_count}
 use Rattle.gw_resolve.specs.Failures.{Mark, fails}
 use Rattle.gw_leaves.specs.Components.{comp_in, leaf_mark, table_values, is_comp_sure, is_sub_sure, made_sub, made_comp, is_forbidden_comp, is_forbidden_sub, leaf_failures, placed, made_leaf, made_field}

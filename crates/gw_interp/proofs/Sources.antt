@@ -18,7 +18,8 @@ use Rattle.gw_resolve.specs.Intervals.{is_sure, is_never}
 use Rattle.gw_resolve.specs.Places.{Known, known}
 use Rattle.gw_resolve.specs.Resolved.{Source, of_field, of_current}
 use Rattle.gw_leaves.specs.Leaves as leaves
-use Rattle.gw_leaves.specs.Leaves.{Shape, IsOf, Sources, is_always, is_absent, field_of, comp_of, sub_of, by_usage, comp_presence, sub_usage, sub_presence, rep_presence, field_presence, sub_values, at_field, source_shape}
+use Rattle.gw_leaves.specs.Leaves.{Shape, IsOf, Sources, is_always, is_absent, by_usage, comp_presence, sub_usage, sub_presence, rep_presence, field_presence, sub_values, at_field, source_shape}
+use Rattle.gw_profile.specs.Numbered.{field_of, comp_of, sub_of}
 use Rattle.gw_interp.specs.Occurrences.{texts_at}
 use Rattle.gw_interp.specs.Meaning.{InFirst, Walked, SourceMeans}
 use Rattle.gw_interp.proofs.Walks.{NoText, IsKnown, IsCurrent, IsWalked}

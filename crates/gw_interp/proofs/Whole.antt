@@ -64,7 +64,7 @@ record Counts (usage : Usage) (card : Card) (count : Interval) : Type 0 where
 
 counts_hold : (mark : Mark) (usage : Usage) (card : Card) (count : Interval) (items : Items) → node_failures mark usage card count items ≡ [] → Counts usage card count
 counts_hold mark usage card count items none =
-    let at : Mark = counted count mark in
+    let at : Mark = counted (has_no_item items) count mark in
     let most : Bool = not (is_forbidden usage) && not (is_within count.greatest card.max) in
     let fewer : Bool = nat_lt count.least card.min in
     let missing : Bool = is_expected usage && has_no_item items in

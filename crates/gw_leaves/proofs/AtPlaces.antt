@@ -9,7 +9,8 @@ use Rattle.gw_maplang.specs.Seen.{now}
 use Rattle.gw_leaves.specs.declared.given.LeafSource.{LeafSource}
 use Rattle.gw_leaves.specs.own.Readings.{Origin, table_texts, values_named, rowed, table_of, len_of}
 use Rattle.gw_leaves.specs.Context.{ContextValue}
-use Rattle.gw_leaves.specs.own.Held.{some_sub, given_texts}
+use Rattle.gw_leaves.specs.own.Held.{given_texts}
+use Rattle.gw_profile.specs.Numbered.{some_sub}
 use Rattle.gw_leaves.proofs.AtLengths.{sub_texts}
 
 pub place_texts : (s : ContextValue) (g : LeafSource) (origin : Origin) (len : Option ℕ) → now origin.0 ≡ now g.rows → now origin.1 ≡ table_of (some_sub g.sub) → len ≡ len_of (some_sub g.sub)

@@ -10,7 +10,8 @@ use Rattle.gw_leaves.specs.declared.shape.Presence.TheVariants.{Always, Maybe, N
 use Rattle.gw_resolve.specs.Intervals.{is_sure, is_never}
 use Rattle.gw_resolve.specs.Places.{Known, known}
 use Rattle.gw_resolve.specs.Resolved.{Reference, of_field}
-use Rattle.gw_leaves.specs.Leaves.{Sources, at_field, comp_of, sub_of, by_usage, both, comp_presence, sub_usage, field_presence, source_shape}
+use Rattle.gw_leaves.specs.Leaves.{Sources, at_field, by_usage, both, comp_presence, sub_usage, field_presence, source_shape}
+use Rattle.gw_profile.specs.Numbered.{comp_of, sub_of}
 
 -- ---- usage
 

@@ -8,7 +8,8 @@ use Rattle.gw_validate.specs.Breaches.{is_required, is_forbidden, is_null}
 use Rattle.gw_maplang.specs.Shapes.{Rows}
 use Rattle.gw_resolve.specs.Resolved.{Reference, Source, Leaf, const, copied, looked_up, At, Making, copy, first, repeat, build, Rule}
 use Rattle.gw_resolve.specs.Failures.{Mark, Failure, at_line, fails}
-use Rattle.gw_leaves.specs.Leaves.{Sources, Shape, at_field, comp_of, sub_of, comp_presence, sub_presence, sub_values, source_shape, leaf_shape, is_always, is_absent, has_no_row, may_be_unlisted, may_be_long}
+use Rattle.gw_leaves.specs.Leaves.{Sources, Shape, at_field, comp_presence, sub_presence, sub_values, source_shape, leaf_shape, is_always, is_absent, has_no_row, may_be_unlisted, may_be_long}
+use Rattle.gw_profile.specs.Numbered.{comp_of, sub_of}
 use Rattle.gw_leaves.specs.Counts.{walking}
 
 -- ---- what fails of a segment

@@ -1,5 +1,5 @@
 -- What is known of the texts that a leaf gives: whether one is there, and which it can be (HL7 v2.5.1 chapter 2, 2.12: usage, length, table).
-use Rattle.std.specs.Prelude.{◌≡◌, ℕ, Bool, true, false, ◌==◌, ◌&&◌, ◌||◌, not, nat_lt, nat_le, if◌then◌else◌, List, [], ◌∷◌, ◌++◌, map, filter, filter_map, Option, Some, None, find, option_map, option_to_list, unwrap_or}
+use Rattle.std.specs.Prelude.{◌≡◌, ℕ, Bool, true, false, ◌&&◌, ◌||◌, not, nat_lt, nat_le, if◌then◌else◌, List, [], ◌∷◌, ◌++◌, map, filter, filter_map, Option, Some, None, option_map, option_to_list, unwrap_or}
 use Rattle.std.specs.List.{list_any}
 use Rattle.gw_profile.specs.declared.shape.Usage.{Usage}
 use Rattle.gw_profile.specs.declared.shape.Usage.TheVariants.{R, RE, O, X}
@@ -9,6 +9,7 @@ use Rattle.gw_profile.specs.declared.shape.Count.{Count}
 use Rattle.gw_profile.specs.declared.shape.Count.TheVariants.{Octets, Characters}
 use Rattle.gw_profile.specs.Lengths.{measure, len_count}
 use Rattle.gw_profile.specs.Fault.{is_among}
+use Rattle.gw_profile.specs.Numbered.{field_of, comp_of, sub_of}
 use Rattle.gw_profile.specs.Value.{table_of}
 use Rattle.gw_leaves.specs.declared.shape.Presence.{Presence}
 use Rattle.gw_leaves.specs.declared.shape.Presence.TheVariants.{Always, Maybe, Never}
@@ -16,19 +17,6 @@ use Rattle.gw_resolve.specs.Intervals.{is_sure, is_never}
 use Rattle.gw_resolve.specs.Places.{Element, Known, known}
 use Rattle.gw_maplang.specs.Shapes.{Row, Rows, second_of}
 use Rattle.gw_resolve.specs.Resolved.{Source, of_field, of_current, Reference, Leaf, const, copied, looked_up}
-
--- ---- the elements of these numbers
-
-abbrev pub field_of : List FieldValue → ℕ → Option FieldValue
-field_of fields number = find (λ f. f.number == number) fields
-
-abbrev pub comp_of : Option FieldValue → ℕ → Option CompValue
-comp_of None number = None
-comp_of (Some f) number = find (λ c. c.number == number) f.comps
-
-abbrev pub sub_of : Option CompValue → ℕ → Option SubValue
-sub_of None number = None
-sub_of (Some c) number = find (λ s. s.number == number) c.subs
 
 -- ---- presence
 

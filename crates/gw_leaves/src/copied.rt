@@ -6,11 +6,11 @@ ghost use Rattle.gw_leaves.specs.own.Seen as seen;
 
 use crate::context::MapContext;
 use crate::given::LeafSource;
-use crate::known::{at_field, comp_of, sub_of};
+use crate::known::at_field;
 use crate::presence::{comp_presence, sub_presence};
 use crate::sources::Sources;
 use crate::values::{check_forbidden, check_required, check_values};
-use gw_profile::{CompShape, FieldShape, SubShape};
+use gw_profile::{CompShape, FieldShape, SubShape, comp_of, sub_of};
 use gw_resolve::{Failure, FailureSite, Reference};
 use std::alloc::AllocError;
 

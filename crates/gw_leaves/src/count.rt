@@ -1,14 +1,15 @@
 //! How often a rule gives its field.
 ghost use Rattle.std.specs.Prelude.{◌≡◌};
 ghost use Rattle.gw_leaves.specs.Counts as spec;
-ghost use Rattle.gw_leaves.specs.own.Held.{leaves_value, some_field, known_value};
+ghost use Rattle.gw_leaves.specs.own.Held.{leaves_value, known_value};
+ghost use Rattle.gw_profile.specs.Numbered.{some_field};
 ghost use Rattle.gw_leaves.specs.Uses.{CountsRule, sources_value, target_value, map_tables};
 ghost use Rattle.gw_resolve.specs.Seen.{interval, saturated, reference, making as seen_making};
 
-use crate::known::{Known, at_field, field_of, segment_at};
+use crate::known::{Known, at_field, segment_at};
 use crate::presence::{is_absent, is_always, leaf_presence};
 use crate::sources::Sources;
-use gw_profile::FieldShape;
+use gw_profile::{FieldShape, field_of};
 use gw_resolve::{At, Interval, Making, Reference, Rule, any_number, never, once};
 
 fn repetitions(field: Option<&FieldShape>) -> Interval

@@ -6,7 +6,8 @@ ghost use Rattle.gw_leaves.specs.Components.{table_values};
 ghost use Rattle.gw_leaves.specs.Leaves as leaves;
 ghost use Rattle.gw_leaves.specs.own.Readings as spec;
 ghost use Rattle.gw_leaves.specs.own.Readings.{rows_named};
-ghost use Rattle.gw_leaves.specs.own.Held.{some_sub, given_texts, source_values};
+ghost use Rattle.gw_leaves.specs.own.Held.{given_texts, source_values};
+ghost use Rattle.gw_profile.specs.Numbered.{some_sub};
 
 use crate::context::MapContext;
 use crate::readings::{Origin, fits, is_any};

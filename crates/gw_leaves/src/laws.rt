@@ -10,7 +10,8 @@ ghost use Rattle.gw_resolve.specs.Places.{known};
 ghost use Rattle.gw_resolve.specs.Resolved.{Reference, of_field};
 ghost use Rattle.gw_resolve.specs.Seen.{saturated};
 ghost use Rattle.gw_leaves.specs.declared.shape.Presence.TheVariants.{Always, Never};
-ghost use Rattle.gw_leaves.specs.Leaves.{Sources, Values, IsOf, Shape, listed, at_field, comp_of, sub_of, source_shape, may_be_unlisted, may_be_long, is_included};
+ghost use Rattle.gw_leaves.specs.Leaves.{Sources, Values, IsOf, Shape, listed, at_field, source_shape, may_be_unlisted, may_be_long, is_included};
+ghost use Rattle.gw_profile.specs.Numbered.{comp_of, sub_of};
 
 /// A text that is taken from a field is always there exactly where its segment is, its field is required and comes at least once,
 /// and its component and subcomponent are required.

@@ -4,17 +4,17 @@ ghost use Rattle.gw_profile.specs.Seen.{sub as sub_value};
 ghost use Rattle.gw_profile.specs.Value.{table_of as table_in};
 ghost use Rattle.gw_maplang.specs.Seen.{now};
 ghost use Rattle.gw_leaves.specs.Leaves as spec;
-ghost use Rattle.gw_leaves.specs.own.Held.{some_sub};
+ghost use Rattle.gw_profile.specs.Numbered.{some_sub};
 ghost use Rattle.gw_leaves.specs.Uses.{sources_value};
 ghost use Rattle.gw_resolve.specs.Seen.{source as seen_source};
 ghost use Rattle.gw_leaves.specs.Texts.{shape_value, some_items, meets};
 
-use crate::known::{at_field, comp_of, sub_of};
+use crate::known::at_field;
 use crate::presence::{is_absent, is_always};
 use crate::shape::{Presence, Shape};
 use crate::sources::Sources;
 use crate::texts::{may_be_long, may_be_outside};
-use gw_profile::{Count, Profile, SubShape, Table, Usage};
+use gw_profile::{Count, Profile, SubShape, Table, Usage, comp_of, sub_of};
 use gw_resolve::Source;
 
 /// The table of this name.

@@ -30,7 +30,7 @@ pub use leaf::included;
 pub use lookup::check_lookups;
 pub use making::check_making;
 pub use mark::field_mark;
-pub use places::{enter_if, fields_at};
+pub use places::enter_if;
 pub use shape::{Presence, Shape, Values};
 pub use sources::Sources;
 pub use values::is_forbidden;

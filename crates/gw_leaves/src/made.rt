@@ -5,13 +5,13 @@ ghost use Rattle.gw_resolve.specs.Failures.{fails};
 ghost use Rattle.gw_leaves.specs.Components as spec;
 ghost use Rattle.gw_leaves.specs.Leaves as leaves_spec;
 ghost use Rattle.gw_resolve.specs.Noted.{Notes};
-ghost use Rattle.gw_leaves.specs.own.Held.{leaves_value, some_comp, some_sub};
+ghost use Rattle.gw_leaves.specs.own.Held.{leaves_value};
+ghost use Rattle.gw_profile.specs.Numbered.{some_comp, some_sub};
 ghost use Rattle.gw_leaves.specs.Uses.{map_tables};
 ghost use Rattle.gw_resolve.specs.Seen.{at_leaf, mark as seen_mark};
 ghost use Rattle.gw_leaves.specs.own.Seen as seen;
 
 use crate::given::{LeafSource, table_of};
-use crate::known::{comp_of, sub_of};
 use crate::lacking::check_lacking;
 use crate::leaf::{source_sub, table_named};
 use crate::mark::leaf_mark;
@@ -20,7 +20,7 @@ use crate::shape::Presence;
 use crate::sources::Sources;
 use crate::texts::{is_long, is_missing};
 use crate::values::{check_values, is_forbidden};
-use gw_profile::{CompShape, FieldShape, Profile, SubShape};
+use gw_profile::{CompShape, FieldShape, Profile, SubShape, comp_of, sub_of};
 use gw_resolve::{At, Failure, FailureSite, ResolvedLeaf, Source, note};
 use std::alloc::AllocError;
 

@@ -3,14 +3,15 @@
 use crate::context::{MapContext, Meetings};
 use crate::count::walking;
 use crate::given::{LeafSource, origin_of, table_of};
-use crate::known::{at_field, comp_of, field_of, sub_of};
+use crate::known::at_field;
 use crate::leaf::source_sub;
-use crate::places::{enter_if, fields_at};
+use crate::places::enter_if;
 use crate::readings::Origin;
 use crate::sources::Sources;
-use gw_profile::{FieldShape, Node};
+use gw_profile::{FieldShape, Node, comp_of, field_of, sub_of};
 use gw_resolve::{
-    At, Item, Making, ResolvedLeaf, Rule, ScopeNode, SegmentItem, Source, enter, nodes_within,
+    At, Item, Making, ResolvedLeaf, Rule, ScopeNode, SegmentItem, Source, enter, fields_at,
+    nodes_within,
 };
 use indexmap::IndexSet;
 use std::alloc::{AllocError, Global};

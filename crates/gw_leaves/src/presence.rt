@@ -2,15 +2,16 @@
 ghost use Rattle.std.specs.Prelude.{◌≡◌, ◌&&◌, nat_le, if◌then◌else◌};
 ghost use Rattle.gw_resolve.specs.Intervals.{is_sure};
 ghost use Rattle.gw_leaves.specs.Leaves as spec;
-ghost use Rattle.gw_leaves.specs.own.Held.{some_field, some_comp, some_sub, known_value};
+ghost use Rattle.gw_leaves.specs.own.Held.{known_value};
+ghost use Rattle.gw_profile.specs.Numbered.{some_field, some_comp, some_sub};
 ghost use Rattle.gw_leaves.specs.Uses.{sources_value, map_tables};
 ghost use Rattle.gw_resolve.specs.Seen.{interval, reference, source as seen_source, leaf as seen_leaf};
 ghost use Rattle.gw_leaves.specs.declared.shape.Presence.TheVariants as presences;
 
-use crate::known::{Known, at_field, comp_of, field_of, segment_at, sub_of};
+use crate::known::{Known, at_field, segment_at};
 use crate::shape::Presence;
 use crate::sources::Sources;
-use gw_profile::{Card, CompShape, FieldShape, SubShape, Usage};
+use gw_profile::{Card, CompShape, FieldShape, SubShape, Usage, comp_of, field_of, sub_of};
 use gw_resolve::{Interval, Reference, ResolvedLeaf, Source};
 
 fn by_usage(usage: Option<Usage>) -> Presence

@@ -9,6 +9,7 @@ pub mod Deterministic
 pub mod WellFormed
 pub mod Seen
 pub mod Nodes
+pub mod Numbered
 pub mod Names
 pub mod Labels
 pub mod Heights

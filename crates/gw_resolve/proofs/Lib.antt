@@ -1,9 +1,11 @@
 pub mod Children
 pub mod Inner
 pub mod Rows
+pub mod FirstChildren
 pub mod Saturation
 pub mod Finding
 pub mod Noting
+pub mod BothProfiles
 pub mod Labels
 pub mod Targeting
 pub mod Built

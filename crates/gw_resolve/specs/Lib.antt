@@ -5,6 +5,7 @@ pub mod Failures
 pub mod Order
 pub mod Lawful
 pub mod Naming
+pub mod Positions
 pub mod Seen
 pub mod Noted
 pub mod Founds

@@ -1,5 +1,5 @@
 -- Parts of the program, without where they lie in memory.
-use Rattle.std.specs.Prelude.{ℕ, min, List, [], ◌∷◌, map, reverse, option_map, unwrap_or}
+use Rattle.std.specs.Prelude.{◌≡◌, ℕ, min, List, [], ◌∷◌, map, reverse, Option, option_map, unwrap_or}
 use Rattle.gw_profile.specs.Labels.{nodes_in}
 use Rattle.gw_profile.specs.Seen.{segment_value}
 use Rattle.gw_resolve.specs.declared.failure.Failure as failures_of
@@ -20,7 +20,7 @@ use Rattle.gw_resolve.specs.declared.resolved.LeftOut.{LeftOut}
 use Rattle.gw_maplang.specs.Shapes.{TableValue, table_of}
 use Rattle.gw_resolve.specs.Naming.{no_rows}
 use Rattle.gw_resolve.specs.Places.{Element, a_segment, a_group, the_whole, Place}
-use Rattle.gw_resolve.specs.Resolved.{Reference, Source, of_field, of_current, Leaf, const, copied, looked_up, At, Making, copy, first, repeat, build, Rule, Items, no_items, segment_item, group_item, flat_item, Drop}
+use Rattle.gw_resolve.specs.Resolved.{Reference, Source, of_field, of_current, Leaf, const, copied, looked_up, At, Making, copy, first, repeat, build, Rule, Items, no_items, segment_item, group_item, flat_item, Drop, first_child}
 
 -- ---- counts
 
@@ -38,7 +38,7 @@ saturated i = record { least = min i.least cap; greatest = option_map (λ n. min
 -- ---- failures
 
 abbrev pub mark : marks.FailureSite → Mark
-mark m = record { line = m.line; child = m.child; field = m.field; comp = m.comp; sub = m.sub; count = option_map interval m.count }
+mark m = record { line = m.line; child = m.child; missing = m.missing; field = m.field; comp = m.comp; sub = m.sub; count = option_map interval m.count }
 
 abbrev pub failure : failures_of.Failure → Failure
 failure f = record { rule = f.rule; mark = mark f.mark }
@@ -106,3 +106,10 @@ all_items tables (i ∷ rest) = with_item tables i (all_items tables rest)
 
 abbrev pub left_out : LeftOut → Drop
 left_out d = record { steps = d.steps.items; field = d.field }
+
+-- the target node of the first item, whatever the map's tables are
+abbrev pub FirstChild : List Item → Option ℕ → Type 0
+FirstChild is c = (tables : List TableValue) → c ≡ first_child (all_items tables is)
+
+abbrev pub ChildOf : Item → Option ℕ → Type 0
+ChildOf i c = (tables : List TableValue) → c ≡ first_child (with_item tables i no_items)

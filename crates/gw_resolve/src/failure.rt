@@ -13,6 +13,8 @@ pub struct FailureSite {
     pub line: u32,
     /// Of a node within what the line makes that nothing gives its number, from 0.
     pub child: Option<usize>,
+    /// No item gives the node, or no rule the field.
+    pub missing: bool,
     /// The number of a field of the segment, 0 where no part of the segment is meant.
     pub field: u32,
     /// The number of a component, 0 where the field is meant.
@@ -37,6 +39,7 @@ pub fn at_line(line: u32) -> FailureSite
     FailureSite {
         line,
         child: None,
+        missing: false,
         field: 0,
         comp: 0,
         sub: 0,

@@ -1,12 +1,12 @@
 //! The looking up of the labels of a map.
 ghost use Rattle.std.specs.Prelude.{◌≡◌, ◌++◌, if◌then◌else◌, is_some, not, map, flat_map, IfOk, OnOk};
-ghost use Rattle.gw_profile.specs.Seen.{forest};
+ghost use Rattle.gw_profile.specs.Seen.{forest, profile_value};
 ghost use Rattle.gw_maplang.specs.Seen as raw;
 ghost use Rattle.gw_maplang.specs.Seen.{map_value};
 ghost use Rattle.gw_resolve.specs.own.Looking.{place_there};
 ghost use Rattle.gw_resolve.specs.Naming as spec;
 ghost use Rattle.gw_resolve.specs.Noted.{Notes};
-ghost use Rattle.gw_resolve.specs.Outcome.{ResolvesBy};
+ghost use Rattle.gw_resolve.specs.Outcome.{Resolves, ResolvesBy};
 ghost use Rattle.gw_resolve.specs.Seen.{element as seen, scope as walked, failures, left_out};
 
 use crate::element::ScopeNode;
@@ -17,7 +17,7 @@ use crate::lost::NameFailures;
 use crate::paths::{or_itself, place_of};
 use crate::resolved::{Item, LeftOut, ScopePath};
 use gw_maplang::{Dropped, Map};
-use gw_profile::Level;
+use gw_profile::{Level, Profile};
 use std::alloc::{AllocError, Global};
 
 /// The items of a map and what it leaves out, without labels.
@@ -92,8 +92,8 @@ fn all_lost(lost: NameFailures) -> Result<Vec<Failure>, AllocError>
     Ok(found)
 }
 
-/// Looks the labels of a map up in the levels of its profiles, each once. The one error is allocation failure.
-pub fn resolve(
+// The labels of a map, looked up in these levels.
+fn resolve_in(
     alloc: Global,
     source: &Level<'_>,
     target: &Level<'_>,
@@ -113,4 +113,20 @@ pub fn resolve(
         return Ok(Resolving::Resolved(ResolvedMap { items, drops }));
     }
     Ok(Resolving::Refused(found))
+}
+
+/// Looks the labels of a map up in its profiles, whose levels these are, each once. The one error is allocation failure.
+pub fn resolve(
+    alloc: Global,
+    source: &Profile,
+    target: &Profile,
+    from: &Level<'_>,
+    to: &Level<'_>,
+    map: &Map,
+) -> Result<Resolving, AllocError>
+    requires source { from.now ≡ source.now.nodes }
+    requires target { to.now ≡ target.now.nodes }
+    ensures { IfOk result (Resolves (profile_value source.now) (profile_value target.now) (map_value map.now)) }
+{
+    resolve_in(alloc, from, to, map)
 }

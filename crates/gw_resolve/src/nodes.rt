@@ -1,10 +1,11 @@
-//! The nodes within the nodes of a level.
-ghost use Rattle.std.specs.Prelude.{◌≡◌};
-ghost use Rattle.gw_profile.specs.Seen.{forest, node_forest};
+//! What is within the nodes of a level: nodes and fields.
+ghost use Rattle.std.specs.Prelude.{◌≡◌, map};
+ghost use Rattle.gw_profile.specs.Seen.{forest, node_forest, field};
 ghost use Rattle.gw_profile.specs.Shapes.{nothing};
+ghost use Rattle.gw_resolve.specs.Places as places;
 ghost use Rattle.gw_resolve.specs.Places.{nodes_of_child};
 
-use gw_profile::Node;
+use gw_profile::{FieldShape, Node};
 
 // The nodes within a node.
 fn within_node(node: &Node) -> &[Node]
@@ -23,5 +24,24 @@ pub fn nodes_within(nodes: &[Node], number: usize) -> &[Node]
     match nodes.get(number) {
         None => &[],
         Some(node) => within_node(node),
+    }
+}
+
+fn fields_of(node: &Node) -> &[FieldShape]
+    ensures { map field result.now ≡ places.fields_of (places.child (node_forest node.now nothing) 0) }
+{
+    match node {
+        Node::Seg(segment) => &segment.fields,
+        Node::Group(_) => &[],
+    }
+}
+
+/// The fields of the target node of this number; none where it is a group, or there is no such node. It takes no memory.
+pub fn fields_at(nodes: &[Node], number: usize) -> &[FieldShape]
+    ensures { map field result.now ≡ places.fields_of (places.child (forest nodes.now) number) }
+{
+    match nodes.get(number) {
+        None => &[],
+        Some(node) => fields_of(node),
     }
 }

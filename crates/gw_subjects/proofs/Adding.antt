@@ -1,12 +1,9 @@
 -- What lines make, taken together.
 use Rattle.std.proofs.lemmas.Result.{IfOk-from_err}
-use Rattle.std.proofs.Common.{◌≡◌, ℕ, suc, ◌+◌, ◌<◌, ◌≤◌, List, [], ◌∷◌, ◌++◌, drop, drop-cons, get_or, refl, sym, ap, ◌∙◌, arith, map, Option, Some, None, option_map, OnOk, Result, Ok, Err, length, subst}
+use Rattle.std.proofs.Common.{◌≡◌, ℕ, suc, ◌+◌, ◌<◌, List, [], ◌∷◌, ◌++◌, drop, drop-cons, get_or, sym, ap, ◌∙◌, arith, map, Some, None, option_map, OnOk, Result, Ok, Err, length, subst}
 use Rattle.std.specs.Prelude.{option_to_list, IsErr}
 use Rattle.std.proofs.lemmas.List.{append-nil, append_assoc}
-use Rattle.gw_profile.specs.Shapes.{ProfileValue}
-use Rattle.gw_maplang.specs.Shapes.{TableValue, MapValue}
-use Rattle.gw_resolve.specs.declared.failure.Failure.{Failure}
-use Rattle.gw_resolve.specs.declared.named.ResolvedMap.{ResolvedMap}
+use Rattle.gw_maplang.specs.Shapes.{TableValue}
 use Rattle.gw_resolve.specs.declared.resolved.Making as makings
 use Rattle.gw_resolve.specs.declared.resolved.GroupItem.{GroupItem}
 use Rattle.gw_resolve.specs.declared.resolved.FlatItem.{FlatItem}
@@ -15,13 +12,11 @@ use Rattle.gw_resolve.specs.declared.resolved.Item.{Item, Segment, Group, Flat, 
 use Rattle.gw_resolve.specs.declared.resolved.ScopePath as places
 use Rattle.gw_resolve.specs.declared.resolved.Rule as rules_of
 use Rattle.gw_resolve.specs.Resolved.{Items, no_items, first_child}
-use Rattle.gw_resolve.specs.Naming.{resolved}
-use Rattle.gw_resolve.specs.Outcome.{IsNamed, IsLost}
-use Rattle.gw_resolve.specs.Seen.{failures, place, rule, with_item, row_items, all_items}
+use Rattle.gw_resolve.specs.Seen.{place, rule, with_item, row_items, all_items}
 use Rattle.gw_resolve.proofs.Rows.{group_items, flat_items}
-use Rattle.gw_subjects.specs.Positions.{Position, inner, inner_if}
-use Rattle.gw_subjects.specs.Seen.{Adds, FirstChild, ChildOf, all_sites, segment_item}
-use Rattle.gw_subjects.specs.Sites.{Site, Origin, unsaid, rules_sites, node_sites, node_origin, origin_if, segment_sites, items_sites, none_if, sites, site_of}
+use Rattle.gw_resolve.specs.Positions.{Position, inner, inner_if}
+use Rattle.gw_subjects.specs.Seen.{Adds, all_sites, segment_item}
+use Rattle.gw_subjects.specs.Sites.{Site, Origin, unsaid, rules_sites, node_sites, node_origin, origin_if, segment_sites, items_sites, site_of}
 use Rattle.gw_subjects.specs.declared.site.Site as declared
 
 -- where a call fails, nothing is said of what it made
@@ -104,37 +99,3 @@ module _ (tables : List TableValue) (scope : List Position) (above : Position) w
       ∙ (λ x. node_sites f.line (above ++ option_to_list (first_child (all_items tables f.items.items))) (node_origin scope (place f.place)) ++ items_sites (walked x) above (all_items tables (items x)))
       ∙ sym (append-nil (node_sites f.line (above ++ option_to_list (first_child (all_items tables f.items.items))) (node_origin scope (place f.place)) ++ items_sites (inner scope (place f.place)) above (all_items tables f.items.items)))
       ∙ sym (ap (items_sites scope above) (ap (λ j. with_item tables j no_items) same ∙ flat_items tables f no_items)))
-
--- ---- target nodes
-
-pub child_flat : (i : Item) (f : FlatItem) (is : List Item) (c : Option ℕ) → i ≡ Flat f → is ≡ f.items.items → FirstChild is c → ChildOf i c
-child_flat i f is c same items first tables =
-    first tables ∙ ap (λ l. first_child (all_items tables l)) items
-    ∙ sym (ap first_child (ap (λ j. with_item tables j no_items) same ∙ flat_items tables f no_items))
-
-child_first : (i : Item) (is : List Item) (c : Option ℕ) → ChildOf i c → FirstChild (i ∷ is) c
-child_first i is c h tables = h tables ∙ go i
-  where
-    go : (i : Item) → first_child (with_item tables i no_items) ≡ first_child (with_item tables i (all_items tables is))
-    go (Segment s) = refl
-    go (Group' line child from shape row) = refl
-    go (Flat' line from shape row) = refl
-
-pub child_at_first : (items : List Item) (i : Item) (c : Option ℕ) → 1 ≤ length items → i ≡ get_or items 0 i → ChildOf i c → FirstChild items c
-child_at_first [] i c some is h = absurd (omega (arith, some))
-child_at_first (x ∷ items) i c some is h = child_first x items c (subst (λ j. ChildOf j c) is h)
-
--- ---- the whole
-
-abbrev of_map : ProfileValue → ProfileValue → MapValue → List Site
-of_map from to m = items_sites ([] ∷ []) [] (resolved from to m).items
-
-none_of : (found : List Failure) (x : List Site) → (found ≡ [] → ⊥) → [] ≡ none_if (failures found) x
-none_of [] x h = absurd (h refl)
-none_of (f ∷ found) x h = refl
-
-pub none_lost : (from to : ProfileValue) (m : MapValue) (found : List Failure) → IsLost from to m found → [] ≡ sites from to m
-none_lost from to m found h = none_of found (of_map from to m) h.some ∙ ap (λ l. none_if l (of_map from to m)) h.all
-
-pub all_named : (from to : ProfileValue) (m : MapValue) (made : ResolvedMap) (found : List Site) → IsNamed from to m made → found ≡ items_sites ([] ∷ []) [] (all_items m.tables made.items.items) → found ≡ sites from to m
-all_named from to m made found h is = is ∙ ap (items_sites ([] ∷ []) []) h.items ∙ ap (λ l. none_if l (of_map from to m)) (sym h.none)

@@ -1,19 +1,15 @@
 -- The elements of a profile that are named by their numbers, and the texts that a profile lists for them (HL7 v2.5.1 chapter 2, 2.12: table, length).
-use Rattle.std.specs.Prelude.{ℕ, Bool, true, ◌==◌, ◌&&◌, not, nat_le, List, [], ◌∷◌, map, find, Option, Some, None, option_map, is_some, unwrap_or}
+use Rattle.std.specs.Prelude.{ℕ, Bool, true, ◌&&◌, not, nat_le, List, [], ◌∷◌, map, find, Option, Some, None, is_some, unwrap_or}
 use Rattle.std.specs.Global.{Vec}
-use denote.Ref.{Bor}
 use Rattle.gw_profile.specs.declared.shape.Count.{Count}
 use Rattle.gw_profile.specs.Lengths.{measure}
 use Rattle.gw_profile.specs.Fault.{is_among}
 use Rattle.gw_profile.specs.Shapes.{SubValue, CompValue, FieldValue, Forest, TableValue}
-use Rattle.gw_profile.specs.Seen.{field, comp, sub}
+use Rattle.gw_profile.specs.Numbered.{field_of, comp_of, sub_of}
 use Rattle.gw_profile.specs.Value.{table_of}
-use Rattle.gw_profile.specs.declared.shape.SubShape.{SubShape}
-use Rattle.gw_profile.specs.declared.shape.CompShape.{CompShape}
-use Rattle.gw_profile.specs.declared.shape.FieldShape.{FieldShape}
 use Rattle.gw_maplang.specs.Shapes.{Rows, second_of}
 use Rattle.gw_resolve.specs.Places.{child, nodes_of_child, fields_of}
-use Rattle.gw_subjects.specs.Positions.{Position}
+use Rattle.gw_resolve.specs.Positions.{Position}
 use Rattle.gw_subjects.specs.Sites.{Spot}
 
 -- the fields of the segment to which the numbers lead, the first of them in these nodes
@@ -24,17 +20,6 @@ fields_below nodes j (k ∷ at) = fields_below (nodes_of_child nodes j) k at
 abbrev pub fields_in : Forest → Position → List FieldValue
 fields_in nodes [] = []
 fields_in nodes (j ∷ at) = fields_below nodes j at
-
-abbrev pub field_of : List FieldValue → ℕ → Option FieldValue
-field_of fields number = find (λ f. f.number == number) fields
-
-abbrev pub comp_of : Option FieldValue → ℕ → Option CompValue
-comp_of None number = None
-comp_of (Some f) number = find (λ c. c.number == number) f.comps
-
-abbrev pub sub_of : Option CompValue → ℕ → Option SubValue
-sub_of None number = None
-sub_of (Some c) number = find (λ s. s.number == number) c.subs
 
 abbrev pub field_at : Forest → Spot → Option FieldValue
 field_at nodes s = field_of (fields_in nodes s.at) s.field
@@ -75,15 +60,6 @@ abbrev pub unrowed : Count → List TableValue → SubValue → Rows → Option 
 unrowed count tables s rows = find (λ text. is_short count s.len text && not (has_row rows text)) (listed tables s)
 
 -- ---- as the program holds them
-
-abbrev pub some_field : Option (Bor FieldShape) → Option FieldValue
-some_field f = option_map (λ b. field b.now) f
-
-abbrev pub some_comp : Option (Bor CompShape) → Option CompValue
-some_comp c = option_map (λ b. comp b.now) c
-
-abbrev pub some_sub : Option (Bor SubShape) → Option SubValue
-some_sub s = option_map (λ b. sub b.now) s
 
 abbrev pub items_all : List (Vec ℕ) → List (List ℕ)
 items_all all = map (λ v. v.items) all

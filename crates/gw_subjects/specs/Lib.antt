@@ -1,4 +1,3 @@
-pub mod Positions
 pub mod Sites
 pub mod Seen
 pub mod Elements

@@ -3,9 +3,8 @@ use Rattle.std.specs.Prelude.{◌≡◌, ◌++◌, ℕ, List, map, Option, optio
 use denote.Ref.{Bor}
 use Rattle.gw_maplang.specs.Shapes.{TableValue, Rows, table_of}
 use Rattle.gw_resolve.specs.Naming.{no_rows}
-use Rattle.gw_resolve.specs.Resolved.{Reference, SegmentItem, no_items, first_child}
-use Rattle.gw_resolve.specs.Seen.{reference, place, rule, with_item, all_items}
-use Rattle.gw_resolve.specs.declared.resolved.Item.{Item}
+use Rattle.gw_resolve.specs.Resolved.{Reference, SegmentItem}
+use Rattle.gw_resolve.specs.Seen.{reference, place, rule}
 use Rattle.gw_resolve.specs.declared.resolved.SegmentItem as segments
 use Rattle.gw_resolve.specs.declared.resolved.Reference as references
 use Rattle.gw_subjects.specs.Sites.{Spot, Origin, unsaid, text, read, repeated, given, Site}
@@ -53,10 +52,3 @@ Adds tables old new more = all_sites tables new ≡ all_sites tables old ++ more
 -- the same of a call that went through, whatever the map's tables are
 abbrev pub AddsAll : {X E : Type 0} → Result X E → List declared.Site → List declared.Site → (List TableValue → List Site) → Type 0
 AddsAll result old new more = (tables : List TableValue) → OnOk result (Adds tables old new (more tables))
-
--- the target node of the first item, whatever the map's tables are
-abbrev pub FirstChild : List Item → Option ℕ → Type 0
-FirstChild is c = (tables : List TableValue) → c ≡ first_child (all_items tables is)
-
-abbrev pub ChildOf : Item → Option ℕ → Type 0
-ChildOf i c = (tables : List TableValue) → c ≡ first_child (with_item tables i no_items)

@@ -1,12 +1,9 @@
 -- What each line of a map makes, and of what.
 use Rattle.std.specs.Prelude.{ℕ, ◌==◌, List, [], ◌∷◌, ◌++◌, flat_map, find, Option, Some, None, option_to_list}
-use Rattle.gw_profile.specs.Shapes.{ProfileValue}
-use Rattle.gw_maplang.specs.Shapes.{MapValue, Rows}
-use Rattle.gw_resolve.specs.Failures.{Failure}
-use Rattle.gw_resolve.specs.Naming.{naming_failures, resolved}
+use Rattle.gw_maplang.specs.Shapes.{Rows}
 use Rattle.gw_resolve.specs.Places.{Place}
 use Rattle.gw_resolve.specs.Resolved.{Reference, Source, of_field, of_current, Leaf, const, copied, looked_up, At, Making, copy, first, repeat, build, Rule, SegmentItem, Items, no_items, segment_item, group_item, flat_item, first_child}
-use Rattle.gw_subjects.specs.Positions.{Position, position, walked, inner, inner_if}
+use Rattle.gw_resolve.specs.Positions.{Position, position, walked, inner, inner_if}
 
 -- An element of a profile: a node, by the numbers of the nodes from the top on, or in it a field, a component, a subcomponent; 0 is said where the whole is meant.
 -- Of what is read, the first `walked` numbers lead to what an item around it walks.
@@ -106,13 +103,9 @@ items_sites scope above (flat_item f items rest) =
 
 -- ---- the whole
 
-abbrev pub none_if : List Failure → List Site → List Site
-none_if [] found = found
-none_if (f ∷ failures) found = []
-
--- none where its labels can't be looked up
-abbrev pub sites : ProfileValue → ProfileValue → MapValue → List Site
-sites from to m = none_if (naming_failures from to m) (items_sites ([] ∷ []) [] (resolved from to m).items)
+-- from the top on
+abbrev pub sites : Items → List Site
+sites items = items_sites ([] ∷ []) [] items
 
 -- what the line of this number makes
 abbrev pub site_at : List Site → ℕ → Option Site

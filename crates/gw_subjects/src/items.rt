@@ -1,21 +1,16 @@
 //! What the items of a map make.
 ghost use Rattle.std.specs.Prelude.{◌≡◌, ◌++◌, ◌∷◌, [], ℕ, List, Some, IfOk, option_to_list};
-ghost use Rattle.gw_maplang.specs.Seen.{map_value};
 ghost use Rattle.gw_maplang.specs.Shapes.{TableValue};
-ghost use Rattle.gw_profile.specs.Seen.{profile_value};
-ghost use Rattle.gw_subjects.specs.Positions.{positions};
+ghost use Rattle.gw_resolve.specs.Positions.{positions};
 ghost use Rattle.gw_resolve.specs.Resolved.{no_items, first_child as spec_first_child};
-ghost use Rattle.gw_resolve.specs.Outcome.{Resolves};
 ghost use Rattle.gw_resolve.specs.Seen.{place as seen_place, with_item, all_items};
-ghost use Rattle.gw_subjects.specs.Seen.{AddsAll, ChildOf, FirstChild, all_sites, some_site, segment_item as seen_segment};
+ghost use Rattle.gw_subjects.specs.Seen.{AddsAll, all_sites, some_site, segment_item as seen_segment};
 ghost use Rattle.gw_subjects.specs.Sites as spec;
 
-use crate::reading::{inner, node_origin};
+use crate::reading::node_origin;
 use crate::rules::{Target, add_rules, add_whole};
 use crate::site::{Origin, Site};
-use gw_maplang::Map;
-use gw_profile::{Level, Profile};
-use gw_resolve::{Item, Resolving, ScopePath, SegmentItem, resolve};
+use gw_resolve::{Item, ScopePath, SegmentItem, first_child, positions_within};
 use std::alloc::{AllocError, Global};
 
 // The node of this number below a position.
@@ -25,31 +20,6 @@ fn below(alloc: Global, above: &[usize], number: usize) -> Result<Vec<usize>, Al
     let mut at = Vec::from_slice(alloc, above)?;
     at.push(number)?;
     Ok(at)
-}
-
-// ---- the node that a `flat` makes
-
-// The target node of an item; all items of a flat have one.
-#[cycle(child)]
-fn child_of(item: &Item) -> Option<usize>
-    ensures { ChildOf item.now result }
-{
-    match item {
-        Item::Segment(segment) => Some(segment.child),
-        Item::Group(group) => Some(group.child),
-        Item::Flat(flat) => first_child(&flat.items),
-    }
-}
-
-// The target node of the first item.
-#[cycle(child)]
-fn first_child(items: &[Item]) -> Option<usize>
-    ensures { FirstChild items.now result }
-{
-    let [item, ..] = items else {
-        return None;
-    };
-    child_of(item)
 }
 
 // The node below a position that these items make.
@@ -98,7 +68,7 @@ fn add_segment(
         }
         Some(place) => {
             add_node(alloc, sites, scope, segment.line, at, place)?;
-            let within = inner(alloc, scope, place)?;
+            let within = positions_within(alloc, scope, place)?;
             add_rules(alloc, sites, &within, at, &segment.rules)
         }
     }
@@ -123,13 +93,13 @@ fn add_item(
         Item::Group(group) => {
             let at = below(alloc, above, group.child)?;
             add_node(alloc, sites, scope, group.line, &at, &group.place)?;
-            let within = inner(alloc, scope, &group.place)?;
+            let within = positions_within(alloc, scope, &group.place)?;
             add_items(alloc, sites, &within, &at, &group.items)
         }
         Item::Flat(flat) => {
             let at = made_below(alloc, above, &flat.items)?;
             add_node(alloc, sites, scope, flat.line, &at, &flat.place)?;
-            let within = inner(alloc, scope, &flat.place)?;
+            let within = positions_within(alloc, scope, &flat.place)?;
             add_items(alloc, sites, &within, above, &flat.items)
         }
     }
@@ -154,50 +124,15 @@ fn add_items(
 
 // ---- the whole
 
-// What the lines of these items make.
-fn all_made(alloc: Global, items: &[Item]) -> Result<Vec<Site>, AllocError>
-    ensures { IfOk result (λ made. (tables : List TableValue) → all_sites tables made.items ≡ spec.items_sites ([] ∷ []) [] (all_items tables items.now)) }
+/// What each line of a map makes, and of what, where these are its items. The one error is allocation failure.
+pub fn sites(alloc: Global, items: &[Item]) -> Result<Vec<Site>, AllocError>
+    ensures { IfOk result (λ made. (tables : List TableValue) → all_sites tables made.items ≡ spec.sites (all_items tables items.now)) }
 {
     let mut scope = Vec::new(alloc);
     scope.push(Vec::new(alloc))?;
     let mut sites = Vec::new(alloc);
     add_items(alloc, &mut sites, &scope, &[], items)?;
     Ok(sites)
-}
-
-// The labels of a map, looked up in its profiles, whose levels these are.
-fn look_up(
-    alloc: Global,
-    source: &Profile,
-    target: &Profile,
-    from: &Level<'_>,
-    to: &Level<'_>,
-    map: &Map,
-) -> Result<Resolving, AllocError>
-    requires source { from.now ≡ source.now.nodes }
-    requires target { to.now ≡ target.now.nodes }
-    ensures { IfOk result (Resolves (profile_value source.now) (profile_value target.now) (map_value map.now)) }
-{
-    resolve(alloc, from, to, map)
-}
-
-/// What each line of a map makes, and of what.
-///
-/// The list is empty where the rules on labels (1 to 3) fail. It takes time by the sizes of the profiles and the map. The one error is allocation failure.
-pub fn sites(
-    alloc: Global,
-    source: &Profile,
-    target: &Profile,
-    map: &Map,
-) -> Result<Vec<Site>, AllocError>
-    ensures { IfOk result (λ made. all_sites map.now.tables made.items ≡ spec.sites (profile_value source.now) (profile_value target.now) (map_value map.now)) }
-{
-    let from = Level::of(alloc, source)?;
-    let to = Level::of(alloc, target)?;
-    match look_up(alloc, source, target, &from, &to, map)? {
-        Resolving::Refused(_) => Ok(Vec::new(alloc)),
-        Resolving::Resolved(named) => all_made(alloc, &named.items),
-    }
 }
 
 /// What the line of this number makes, of these. It takes no memory.

@@ -1,31 +1,15 @@
 //! What the lines of a map read.
 ghost use Rattle.std.specs.Prelude.{◌≡◌, IfOk};
-ghost use Rattle.gw_subjects.specs.Positions.{positions};
-ghost use Rattle.gw_subjects.specs.Positions as places;
+ghost use Rattle.gw_resolve.specs.Positions.{positions};
+ghost use Rattle.gw_resolve.specs.Positions as places;
 ghost use Rattle.gw_resolve.specs.Seen.{place as seen_place, reference, source as seen_source, leaf as seen_leaf};
 ghost use Rattle.gw_subjects.specs.Seen.{spot as seen_spot, some_reference, rows_of, OriginIs};
 ghost use Rattle.gw_subjects.specs.Sites as spec;
 
 use crate::site::{ElementPath, Origin};
 use gw_maplang::LeafPlace;
-use gw_resolve::{Reference, ResolvedLeaf, ScopePath, Source};
+use gw_resolve::{Reference, ResolvedLeaf, ScopePath, Source, position};
 use std::alloc::{AllocError, Global};
-
-/// The position of a place, seen from the positions that are walked, the innermost last.
-pub(crate) fn position(
-    alloc: Global,
-    scope: &[Vec<usize>],
-    place: &ScopePath,
-) -> Result<Vec<usize>, AllocError>
-    ensures { IfOk result (λ p. p.items ≡ places.position (positions scope.now) (seen_place place.now)) }
-{
-    if place.out >= scope.len() {
-        return Vec::from_slice(alloc, &place.steps);
-    }
-    let mut at = Vec::from_slice(alloc, &scope[scope.len() - 1 - place.out])?;
-    at.extend_from_slice(&place.steps)?;
-    Ok(at)
-}
 
 // How many numbers of its position lead to what is walked.
 fn walked_steps(scope: &[Vec<usize>], place: &ScopePath) -> usize
@@ -35,24 +19,6 @@ fn walked_steps(scope: &[Vec<usize>], place: &ScopePath) -> usize
         return 0;
     }
     scope[scope.len() - 1 - place.out].len()
-}
-
-/// The positions that are walked below a place.
-pub(crate) fn inner(
-    alloc: Global,
-    scope: &[Vec<usize>],
-    place: &ScopePath,
-) -> Result<Vec<Vec<usize>>, AllocError>
-    ensures { IfOk result (λ inner. positions inner.items ≡ places.inner (positions scope.now) (seen_place place.now)) }
-{
-    let at = position(alloc, scope, place)?;
-    let mut inner = Vec::new(alloc);
-    for outer in scope {
-        let copy = Vec::from_slice(alloc, outer)?;
-        inner.push(copy)?;
-    }
-    inner.push(at)?;
-    Ok(inner)
 }
 
 // A component and subcomponent of the field of a reference, 0 for the whole field.

@@ -1,6 +1,6 @@
 //! What the rules of a target segment make.
 ghost use Rattle.std.specs.Prelude.{◌∷◌, [], map, flat_map};
-ghost use Rattle.gw_subjects.specs.Positions.{positions};
+ghost use Rattle.gw_resolve.specs.Positions.{positions};
 ghost use Rattle.gw_resolve.specs.Seen.{at_leaf, reference, rule as seen_rule};
 ghost use Rattle.gw_subjects.specs.Seen.{AddsAll, origin as seen_origin, some_reference};
 ghost use Rattle.gw_subjects.specs.Sites as spec;

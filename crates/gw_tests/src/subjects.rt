@@ -1,8 +1,10 @@
 //! What the lines of a map make, and of what.
 use crate::worked::{P1, map, profile};
+use gw_check::{Refusal, examine};
 use gw_maplang::Map;
 use gw_profile::{Profile, Usage};
 use gw_subjects::{Origin, Site, comp_at, field_at, site_at, sites, sub_at, unlisted, unrowed};
+use std::sync::Arc;
 use std::test::Fail;
 
 const T1: &str =
@@ -36,10 +38,13 @@ fn lookup<'a>(
 #[test]
 fn lookups(rt: HostRuntime) -> Result<(), Fail> {
     let alloc = rt.alloc();
-    let source = profile(alloc, P1)?;
-    let target = profile(alloc, T1)?;
-    let map = map(alloc, M1)?;
-    let made = sites(alloc, &source, &target, &map)?;
+    let source = Arc::new(alloc, profile(alloc, P1)?)?;
+    let target = Arc::new(alloc, profile(alloc, T1)?)?;
+    let examined = examine(alloc, source.clone()?, target.clone()?, map(alloc, M1)?);
+    let Err(Refusal::Rules { items, map, .. }) = examined else {
+        return Err("no rule refuses it".into());
+    };
+    let made = sites(alloc, &items)?;
     let found = lookup(&source, &target, &map, &made);
     let want = (
         Usage::RE,

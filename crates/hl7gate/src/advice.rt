@@ -3,9 +3,9 @@ use crate::elements::{Named, tell_name};
 use crate::maps::ProfilePair;
 use crate::report::say;
 use crate::subjects::Told;
-use gw_check::{FieldAt, Gap, gaps, unused_fields};
+use gw_check::FieldAt;
 use gw_maplang::Map;
-use gw_resolve::{Failure, FailureSite};
+use gw_resolve::{Failure, FailureSite, Item};
 use gw_subjects::{Site, site_at, sites};
 use std::alloc::{AllocError, Global};
 use std::collections::BTreeMap;
@@ -21,31 +21,19 @@ pub(crate) struct Written<'a> {
     pub(crate) text: Vec<u8>,
 }
 
-/// A map that a rule refuses: the least failure, and all of them.
+/// A map that a rule refuses: the least failure, all of them, the fields that the map passes over, and its items without labels.
 #[derive(Drop)]
 pub(crate) struct Refused {
     pub(crate) least: Failure,
     pub(crate) failures: Vec<Failure>,
+    pub(crate) unread: Vec<FieldAt>,
+    pub(crate) items: Vec<Item>,
     pub(crate) map: Map,
-}
-
-/// A line, the number of a node within what it makes, from 1, or 0 for none, and the number of a field, or 0.
-type Place = (u32, usize, u32);
-
-/// What the target asks for and the map says nothing of.
-#[derive(Drop)]
-struct Gaps {
-    all: Vec<Gap>,
-    /// Their numbers in the list, by what stands for them.
-    by_place: BTreeMap<Place, usize>,
 }
 
 /// What the failures of a map speak of.
 #[derive(Drop)]
 pub(crate) struct Found {
-    /// The fields that the map passes over.
-    unread: Vec<FieldAt>,
-    gaps: Gaps,
     /// What each line makes, and of what.
     sites: Vec<Site>,
     /// The failures of each rule at each line, in the order of the definition.
@@ -142,41 +130,41 @@ pub(crate) fn line_at(text: &[u8], number: u32) -> &[u8] {
     first_line(behind(text, number - 1))
 }
 
-/// A field that the map passes over.
-fn unread_field(field: &FieldAt) -> Named<'_> {
+/// A node, or the field of this number of it.
+fn whole(at: &[usize], field: u32) -> Named<'_> {
     Named {
-        at: &field.at,
-        field: field.field,
+        at,
+        field,
         comp: 0,
         sub: 0,
     }
 }
 
-/// What the map gives by nothing.
-fn missing(gap: &Gap) -> Named<'_> {
-    Named {
-        at: &gap.at,
-        field: gap.field.unwrap_or(0),
-        comp: 0,
-        sub: 0,
+/// The numbers of the nodes that lead to what a line makes; the line of the map makes the whole.
+fn node_made(sites: &[Site], line: u32) -> &[usize] {
+    match site_at(sites, line) {
+        None => &[],
+        Some(site) => &site.target.at,
     }
 }
 
-/// What stands for a gap: the node that nothing gives, or the field.
-fn place_of(gap: &Gap) -> Place {
-    match (gap.field, gap.at.last()) {
-        (None, Some(node)) => (gap.line, node.saturating_add(1), 0),
-        (None, None) => (gap.line, 0, 0),
-        (Some(field), _) => (gap.line, 0, field),
+/// The numbers of the nodes that lead to the node of which a mark speaks, where its line makes this one.
+fn node_marked(alloc: Global, made: &[usize], mark: FailureSite) -> Result<Vec<usize>, AllocError> {
+    let mut at = Vec::from_slice(alloc, made)?;
+    if let Some(child) = mark.child {
+        at.push(child)?;
     }
+    Ok(at)
 }
 
-/// What stands for the part of the target that fails.
-fn marked(mark: FailureSite) -> Place {
-    match mark.child {
-        Some(node) => (mark.line, node.saturating_add(1), 0),
-        None => (mark.line, 0, mark.field),
+/// The first failure of what something gives.
+fn first_given(failures: &[Failure]) -> Option<Failure> {
+    for failure in failures {
+        if !failure.mark.missing {
+            return Some(*failure);
+        }
     }
+    None
 }
 
 /// The failures of each rule at each line, in the order of the definition.
@@ -199,76 +187,52 @@ fn alike(
     Ok(alike)
 }
 
-impl Gaps {
-    fn of(alloc: Global, all: Vec<Gap>) -> Result<Gaps, AllocError> {
-        let mut by_place = BTreeMap::new(alloc);
-        for (i, gap) in all.iter().enumerate() {
-            by_place.insert(place_of(gap), i)?;
-        }
-        Ok(Gaps { all, by_place })
-    }
-
-    /// What nothing gives of which a mark speaks.
-    fn at(&self, mark: FailureSite) -> Option<&Gap> {
-        let number = self.by_place.get(&marked(mark))?;
-        self.all.get(*number)
-    }
-
-    /// The first failure that isn't of what nothing gives.
-    fn first_given(&self, failures: &[Failure]) -> Option<Failure> {
-        for failure in failures {
-            if self.at(failure.mark).is_none() {
-                return Some(*failure);
-            }
-        }
-        None
-    }
-}
-
 impl Refusal<'_> {
     /// What its failures speak of.
     pub(crate) fn found(&self, alloc: Global) -> Result<Found, AllocError> {
-        let ProfilePair { source, target } = self.sides;
-        let map = &self.refused.map;
-        let unread = unused_fields(alloc, source, target, map)?;
-        let sites = sites(alloc, source, target, map)?;
+        let sites = sites(alloc, &self.refused.items)?;
         let alike = alike(alloc, &self.refused.failures)?;
-        let gaps = Gaps::of(alloc, gaps(alloc, source, target, map)?)?;
-        Ok(Found {
-            unread,
-            gaps,
-            sites,
-            alike,
-        })
+        Ok(Found { sites, alike })
     }
 
     /// Tells the fields that are passed over.
-    fn tell_unread<E: Write>(&self, errors: &mut E, unread: &[FieldAt]) {
-        for (i, field) in unread.iter().enumerate() {
+    fn tell_unread<E: Write>(&self, errors: &mut E) {
+        for (i, field) in self.refused.unread.iter().enumerate() {
             if i > 0 {
                 say(errors, b", ");
             }
-            tell_name(errors, &self.sides.source, unread_field(field));
+            tell_name(errors, &self.sides.source, whole(&field.at, field.field));
         }
         say(errors, b": neither read nor dropped");
     }
 
     /// Tells what nothing gives, of the failures of a rule at a line. False where something gives it all.
-    fn tell_missing<E: Write>(&self, errors: &mut E, gaps: &Gaps, failures: &[Failure]) -> bool {
+    fn tell_missing<E: Write>(
+        &self,
+        alloc: Global,
+        errors: &mut E,
+        sites: &[Site],
+        failures: &[Failure],
+    ) -> Result<bool, AllocError> {
+        let Some(first) = failures.first() else {
+            return Ok(false);
+        };
+        let made = node_made(sites, first.mark.line);
         let mut any = false;
-        for failure in failures {
-            if let Some(gap) = gaps.at(failure.mark) {
+        for Failure { mark, .. } in failures {
+            if mark.missing {
+                let at = node_marked(alloc, made, *mark)?;
                 if any {
                     say(errors, b", ");
                 }
                 any = true;
-                tell_name(errors, &self.sides.target, missing(gap));
+                tell_name(errors, &self.sides.target, whole(&at, mark.field));
             }
         }
         if any {
             say(errors, b": no item and no rule gives it");
         }
-        any
+        Ok(any)
     }
 
     /// Tells what the line of a failure makes, and of what.
@@ -298,15 +262,15 @@ impl Refusal<'_> {
         found: &Found,
         failures: &[Failure],
     ) -> Result<(), AllocError> {
-        let is_told = self.tell_missing(errors, &found.gaps, failures);
-        let Some(given) = found.gaps.first_given(failures) else {
+        let is_told = self.tell_missing(alloc, errors, &found.sites, failures)?;
+        let Some(given) = first_given(failures) else {
             return Ok(());
         };
         if is_told {
             say(errors, b"; ");
         }
         if given.rule == 9 {
-            self.tell_unread(errors, &found.unread);
+            self.tell_unread(errors);
             return Ok(());
         }
         self.tell_made(alloc, errors, &found.sites, given)

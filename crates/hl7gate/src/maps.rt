@@ -111,9 +111,19 @@ fn examined<'a>(alloc: Global, sides: &ProfilePair, map: Map) -> Result<Judged, 
     match gw_check::examine(alloc, source, target, map) {
         Ok(checked) => Ok(Judged::Allowed(checked)),
         Err(gw_check::Refusal::Memory(_)) => Err(Ended::Run(RunFault::Memory)),
-        Err(gw_check::Refusal::Rules { least, found, map }) => Ok(Judged::Refused(Refused {
+        Err(
+            gw_check::Refusal::Rules {
+                least,
+                found,
+                unread,
+                items,
+                map,
+            },
+        ) => Ok(Judged::Refused(Refused {
             least,
             failures: found,
+            unread,
+            items,
             map,
         })),
     }

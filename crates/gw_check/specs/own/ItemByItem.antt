@@ -1,10 +1,10 @@
 -- The items of a level one by one, as the program counts them.
-use Rattle.std.specs.Prelude.{◌≡◌, ℕ, ◌≤◌, List, length, take, drop, Option}
+use Rattle.std.specs.Prelude.{◌≡◌, ℕ, ◌≤◌, List, length, take, drop}
 use Rattle.gw_maplang.specs.Shapes.{TableValue}
 use Rattle.gw_resolve.specs.declared.resolved.Item.{Item}
 use Rattle.gw_resolve.specs.Intervals.{Interval, never, product}
 use Rattle.gw_resolve.specs.Places.{Element, count_at, count_if, within}
-use Rattle.gw_resolve.specs.Resolved.{Items, no_items, segment_item, group_item, flat_item, first_child}
+use Rattle.gw_resolve.specs.Resolved.{Items, no_items, segment_item, group_item, flat_item}
 use Rattle.gw_check.specs.Counts.{items_count}
 use Rattle.gw_check.specs.Levels.{its, beyond}
 use Rattle.gw_resolve.specs.Seen.{interval, saturated, with_item, all_items}
@@ -23,13 +23,6 @@ CountsOne scope i c = (tables : List TableValue) → interval c ≡ saturated (f
 
 abbrev pub CountsAll : List Element → List Item → declared.Interval → Type 0
 CountsAll scope is c = (tables : List TableValue) → interval c ≡ saturated (items_count scope (all_items tables is))
-
--- the program's target node of the first item
-abbrev pub FirstChild : List Item → Option ℕ → Type 0
-FirstChild is c = (tables : List TableValue) → c ≡ first_child (all_items tables is)
-
-abbrev pub ChildOf : Item → Option ℕ → Type 0
-ChildOf i c = (tables : List TableValue) → c ≡ first_child (with_item tables i no_items)
 
 -- the items of node j are the first n, whatever the map's tables are
 pub record Leads (j : ℕ) (is : List Item) (n : ℕ) : Type 0 where

@@ -1,5 +1,5 @@
 -- The failures and the reads of the definitions, of parts as the program holds them.
-use Rattle.std.specs.Prelude.{Bool, ℕ, ◌&&◌, not, nat_lt, List, [], ◌∷◌, ◌++◌, map, flat_map, Option, option_map}
+use Rattle.std.specs.Prelude.{ℕ, ◌&&◌, not, nat_lt, List, [], ◌∷◌, ◌++◌, map, flat_map, Option, option_map}
 use Rattle.std.specs.Global.{Vec}
 use denote.Ref.{Bor}
 use Rattle.gw_profile.specs.declared.shape.FieldShape.{FieldShape}
@@ -24,12 +24,11 @@ use Rattle.gw_leaves.specs.Context.{ContextValue}
 use Rattle.gw_leaves.specs.Uses.{sources_value, target_value, map_tables, some_rule, rules_value, rule_count}
 use Rattle.gw_check.specs.declared.often.Asked.{Asked}
 use Rattle.gw_check.specs.Answers.{unlabelled}
-use Rattle.gw_check.specs.Collected.{positions}
+use Rattle.gw_resolve.specs.Positions.{inner_if, positions}
 use Rattle.gw_check.specs.Fields as spec
 use Rattle.gw_check.specs.Reads as reads
 use Rattle.gw_check.specs.Reads.{SourceField}
 use Rattle.gw_check.specs.Typed as typed
-use Rattle.gw_check.specs.Unread as unread
 
 -- ---- how often something comes
 
@@ -82,7 +81,7 @@ abbrev pub rules_read : List TableValue → List (Vec ℕ) → List Rule → Lis
 rules_read tables scope rules = reads.rules_read (positions scope) (map (rule tables) rules)
 
 abbrev pub segment_reads : List TableValue → List (Vec ℕ) → SegmentItem → List SourceField
-segment_reads tables scope s = reads.rules_read (reads.inner_if (positions scope) (option_map place s.place)) (map (rule tables) s.rules.items)
+segment_reads tables scope s = reads.rules_read (inner_if (positions scope) (option_map place s.place)) (map (rule tables) s.rules.items)
 
 abbrev pub item_reads : List TableValue → List (Vec ℕ) → Item → List SourceField
 item_reads tables scope i = reads.items_read (positions scope) (with_item tables i no_items)
@@ -96,10 +95,10 @@ all_read tables items = reads.items_read ([] ∷ []) (all_items tables items)
 
 -- ---- what is passed over
 
--- some field of these nodes
-abbrev pub some_passed_over : List TableValue → List Item → List LeftOut → Forest → Bool
-some_passed_over tables items drops nodes = reads.some_passed_over (all_read tables items) (map left_out drops) [] 0 nodes
-
--- those fields
+-- of these nodes
 abbrev pub passed_over : List TableValue → List Item → List LeftOut → Forest → List SourceField
-passed_over tables items drops nodes = unread.passed_over (all_read tables items) (map left_out drops) [] 0 nodes
+passed_over tables items drops nodes = reads.passed_over (all_read tables items) (map left_out drops) [] 0 nodes
+
+-- those of the source of a map
+abbrev pub unread : ContextValue → List Item → List LeftOut → List SourceField
+unread s items drops = passed_over s.map.tables items drops (profile_value s.source).nodes

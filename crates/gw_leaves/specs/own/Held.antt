@@ -1,11 +1,9 @@
 -- What is read at places and what it is read for, as the program holds it.
-use Rattle.std.specs.Prelude.{List, map, Option, option_map}
+use Rattle.std.specs.Prelude.{List, map, Option}
 use denote.Ref.{Bor}
 use Rattle.gw_profile.specs.declared.shape.SubShape.{SubShape}
-use Rattle.gw_profile.specs.declared.shape.CompShape.{CompShape}
-use Rattle.gw_profile.specs.declared.shape.FieldShape.{FieldShape}
-use Rattle.gw_profile.specs.Shapes.{SubValue, CompValue, FieldValue}
-use Rattle.gw_profile.specs.Seen.{field, comp, sub, profile_value}
+use Rattle.gw_profile.specs.Numbered.{some_sub}
+use Rattle.gw_profile.specs.Seen.{field, profile_value}
 use Rattle.gw_maplang.specs.Seen.{now}
 use Rattle.gw_resolve.specs.declared.resolved.At as ats
 use Rattle.gw_resolve.specs.Places.{Known}
@@ -21,17 +19,6 @@ use Rattle.gw_leaves.specs.own.Readings.{rowed}
 
 abbrev pub leaves_value : Sources → List ats.At → List At
 leaves_value s leaves = map (at_leaf (map_tables s)) leaves
-
--- ---- elements that may be there
-
-abbrev pub some_field : Option (Bor FieldShape) → Option FieldValue
-some_field f = option_map (λ b. field b.now) f
-
-abbrev pub some_comp : Option (Bor CompShape) → Option CompValue
-some_comp c = option_map (λ b. comp b.now) c
-
-abbrev pub some_sub : Option (Bor SubShape) → Option SubValue
-some_sub s = option_map (λ b. sub b.now) s
 
 -- what is read of a subcomponent, as it is or looked up
 abbrev pub source_values : ContextValue → Option (Bor SubShape) → Values

@@ -24,7 +24,8 @@ use Rattle.gw_leaves.specs.Components as spec
 use Rattle.gw_leaves.specs.Leaves.{Values, listed, source_shape, may_be_unlisted, may_be_long}
 use Rattle.gw_leaves.specs.Context.{ContextValue}
 use Rattle.gw_leaves.specs.Uses.{sources_value, target_value, map_tables}
-use Rattle.gw_leaves.specs.own.Held.{given_texts, some_comp, some_field, leaves_value}
+use Rattle.gw_leaves.specs.own.Held.{given_texts, leaves_value}
+use Rattle.gw_profile.specs.Numbered.{some_comp, some_field}
 use Rattle.gw_leaves.specs.own.Readings.{rowed}
 
 -- ---- a subcomponent

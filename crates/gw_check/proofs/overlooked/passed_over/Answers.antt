@@ -2,7 +2,8 @@ use Rattle.std.proofs.Common.{[], ap, ◌++◌, ◌∙◌, map}
 use Rattle.gw_profile.specs.Seen.{forest}
 use Rattle.gw_check.specs.Collected.{fields_at}
 use Rattle.gw_resolve.specs.Seen.{left_out}
-use Rattle.gw_check.specs.Unread.{passed_over, within_missed}
+use Rattle.gw_check.specs.Reads.{passed_over}
+use Rattle.gw_check.specs.Unread.{within_missed}
 use Rattle.gw_check.proofs.Missing.{missed_fields}
 use Rattle.gw_check.proofs.overlooked.passed_over.Goals as goal
 

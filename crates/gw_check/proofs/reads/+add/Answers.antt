@@ -1,5 +1,5 @@
 use Rattle.std.proofs.Common.{ap, ◌∙◌}
-use Rattle.gw_check.specs.Collected.{positions}
+use Rattle.gw_resolve.specs.Positions.{positions}
 use Rattle.gw_check.proofs.Collecting.{on_ok, segment_item_added, group_added, flat_added, item_added}
 use Rattle.gw_check.proofs.reads.+add.Goals as goal
 

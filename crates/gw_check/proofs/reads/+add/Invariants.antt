@@ -2,7 +2,8 @@ use Rattle.std.proofs.Common.{◌≡◌, ◌++◌, ◌+◌, ◌*◌, drop, List}
 use Rattle.gw_maplang.specs.Shapes.{TableValue}
 use Rattle.gw_resolve.specs.declared.resolved.Item.{size-Item}
 use Rattle.gw_check.specs.Reads.{items_read}
-use Rattle.gw_check.specs.Collected.{fields_at, positions}
+use Rattle.gw_check.specs.Collected.{fields_at}
+use Rattle.gw_resolve.specs.Positions.{positions}
 use Rattle.gw_resolve.specs.Seen.{all_items}
 use Rattle.gw_check.proofs.reads.+add.Given as goal
 

@@ -1,5 +1,6 @@
 use Rattle.gw_resolve.specs.Seen.{at_leaf}
-use Rattle.gw_check.specs.Collected.{fields_at, positions}
+use Rattle.gw_check.specs.Collected.{fields_at}
+use Rattle.gw_resolve.specs.Positions.{positions}
 use Rattle.gw_check.specs.Reads.{at_reads}
 use Rattle.gw_leaves.proofs.Each.{more_each, done_each}
 use Rattle.gw_check.proofs.reads.add_leaves.Goals as goal

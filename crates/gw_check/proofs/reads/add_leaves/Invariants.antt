@@ -2,7 +2,8 @@ use Rattle.std.proofs.Common.{◌≡◌, ◌++◌, drop, map, List}
 use Rattle.std.specs.Prelude.{flat_map}
 use Rattle.gw_maplang.specs.Shapes.{TableValue}
 use Rattle.gw_check.specs.Reads.{at_reads}
-use Rattle.gw_check.specs.Collected.{fields_at, positions}
+use Rattle.gw_check.specs.Collected.{fields_at}
+use Rattle.gw_resolve.specs.Positions.{positions}
 use Rattle.gw_resolve.specs.Seen.{at_leaf}
 use Rattle.gw_check.proofs.reads.add_leaves.Given as goal
 

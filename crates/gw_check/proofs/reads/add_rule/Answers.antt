@@ -1,4 +1,4 @@
-use Rattle.gw_check.specs.Collected.{positions}
+use Rattle.gw_resolve.specs.Positions.{positions}
 use Rattle.gw_check.proofs.Collecting.{on_ok, repeat_added, build_added}
 use Rattle.gw_check.proofs.reads.add_rule.Goals as goal
 

@@ -1,6 +1,7 @@
 use Rattle.gw_resolve.specs.Resolved.{Rule}
 use Rattle.gw_resolve.specs.Seen.{rule}
-use Rattle.gw_check.specs.Collected.{fields_at, positions}
+use Rattle.gw_check.specs.Collected.{fields_at}
+use Rattle.gw_resolve.specs.Positions.{positions}
 use Rattle.gw_check.specs.Reads.{making_reads}
 use Rattle.gw_leaves.proofs.Each.{more_each, done_each}
 use Rattle.gw_check.proofs.reads.add_rules.Goals as goal

@@ -1,7 +1,8 @@
 use Rattle.std.proofs.Common.{◌≡◌, ◌++◌, drop, map, List}
 use Rattle.gw_maplang.specs.Shapes.{TableValue}
 use Rattle.gw_check.specs.Reads.{rules_read}
-use Rattle.gw_check.specs.Collected.{fields_at, positions}
+use Rattle.gw_check.specs.Collected.{fields_at}
+use Rattle.gw_resolve.specs.Positions.{positions}
 use Rattle.gw_resolve.specs.Seen.{rule}
 use Rattle.gw_check.proofs.reads.add_rules.Given as goal
 

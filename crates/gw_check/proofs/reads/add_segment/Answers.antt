@@ -1,6 +1,5 @@
 use Rattle.std.proofs.Common.{sym, ap, ◌∙◌, option_map}
-use Rattle.gw_check.specs.Reads.{inner_if}
-use Rattle.gw_check.specs.Collected.{positions}
+use Rattle.gw_resolve.specs.Positions.{inner_if, positions}
 use Rattle.gw_resolve.specs.Seen.{place}
 use Rattle.gw_check.proofs.Collecting.{on_ok, segment_added}
 use Rattle.gw_check.proofs.reads.add_segment.Goals as goal

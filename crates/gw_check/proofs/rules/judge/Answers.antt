@@ -9,10 +9,12 @@ returns-in-Some c =
     record {
       least = sym (ap (option_map failure) c.in-Some.is) ∙ c.least.ensures ∙ ap (λ l. least (failures l)) c.deref.ensures.value ∙ ap least c.in_ok-examined.ensures.found;
       all = c.in_ok-examined.ensures.found;
+      unread = c.in_ok-examined.ensures.unread;
+      items = c.in_ok-examined.ensures.labelled;
     }
 
 pub returns-in-None : goal.returns-in-None
 returns-in-None c =
-    let none = none_least c.in_ok-examined.examined.found.items (sym (ap (option_map failure) c.in-None.is) ∙ c.least.ensures ∙ ap (λ l. least (failures l)) c.deref.ensures.value) in
+    let none = none_least c.in_ok-examined.examined.findings.found.items (sym (ap (option_map failure) c.in-None.is) ∙ c.least.ensures ∙ ap (λ l. least (failures l)) c.deref.ensures.value) in
     let is = c.in_ok-examined.ensures.items none in
     record { source = is.source; target = is.target; none = sym c.in_ok-examined.ensures.found ∙ ap failures none; items = is.items }

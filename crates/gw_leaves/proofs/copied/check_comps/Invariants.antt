@@ -2,7 +2,7 @@ use Rattle.std.proofs.Common.{◌≡◌, ◌++◌, map, drop}
 use Rattle.std.specs.Prelude.{flat_map}
 use Rattle.gw_profile.specs.Seen.{comp, profile_value}
 use Rattle.gw_leaves.specs.Components.{copied_comp}
-use Rattle.gw_leaves.specs.own.Held.{some_field}
+use Rattle.gw_profile.specs.Numbered.{some_field}
 use Rattle.gw_resolve.specs.Seen.{failures, mark}
 use Rattle.gw_leaves.proofs.copied.check_comps.Given as goal
 

@@ -1,6 +1,6 @@
 use Rattle.gw_profile.specs.Seen.{sub, profile_value}
 use Rattle.gw_leaves.specs.Components.{copied_sub}
-use Rattle.gw_leaves.specs.own.Held.{some_comp}
+use Rattle.gw_profile.specs.Numbered.{some_comp}
 use Rattle.gw_resolve.specs.Seen.{failures, mark}
 use Rattle.gw_leaves.proofs.Each.{more_each, done_each}
 use Rattle.gw_leaves.proofs.copied.check_subs.Goals as goal

@@ -2,7 +2,7 @@ use Rattle.std.proofs.Common.{Some, sym, ap, ◌∙◌}
 use Rattle.gw_profile.specs.Seen.{profile_value}
 use Rattle.gw_maplang.specs.Seen.{now}
 use Rattle.gw_leaves.specs.own.Readings.{table_texts, rows_named, is_unrowed, table_of, all_read, is_nothing, some_read}
-use Rattle.gw_leaves.specs.own.Held.{some_sub}
+use Rattle.gw_profile.specs.Numbered.{some_sub}
 use Rattle.gw_leaves.proofs.AtLengths.{unrowed_read, sub_texts}
 use Rattle.gw_leaves.proofs.given.is_unrowed.Goals as goal
 

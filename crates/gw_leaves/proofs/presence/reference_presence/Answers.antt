@@ -6,7 +6,8 @@ use Rattle.gw_resolve.specs.Intervals.{Interval, is_sure}
 use Rattle.gw_resolve.specs.Places.{Known, known}
 use Rattle.gw_resolve.specs.Seen.{saturated, scope, place}
 use Rattle.gw_resolve.proofs.Saturation.{never_saturated}
-use Rattle.gw_leaves.specs.Leaves.{by_usage, both, field_of, field_presence}
+use Rattle.gw_leaves.specs.Leaves.{by_usage, both, field_presence}
+use Rattle.gw_profile.specs.Numbered.{field_of}
 use Rattle.gw_leaves.specs.declared.shape.Presence.TheVariants.{Always, Maybe, Never}
 use Rattle.gw_leaves.specs.own.Held.{known_value, saturated_known}
 use Rattle.gw_leaves.proofs.presence.reference_presence.Goals as goal

@@ -1,5 +1,5 @@
 use Rattle.std.proofs.Common.{ap, ◌∙◌}
-use Rattle.gw_subjects.specs.Positions.{positions}
+use Rattle.gw_resolve.specs.Positions.{positions}
 use Rattle.gw_subjects.proofs.Adding.{failed, on_ok, group_made, flat_made, item_made}
 use Rattle.gw_subjects.proofs.items.+add.Goals as goal
 

@@ -2,7 +2,7 @@ use Rattle.std.proofs.Common.{◌≡◌, ◌++◌, ◌+◌, ◌*◌, drop, List}
 use Rattle.gw_maplang.specs.Shapes.{TableValue}
 use Rattle.gw_resolve.specs.declared.resolved.Item.{size-Item}
 use Rattle.gw_resolve.specs.Seen.{all_items}
-use Rattle.gw_subjects.specs.Positions.{positions}
+use Rattle.gw_resolve.specs.Positions.{positions}
 use Rattle.gw_subjects.specs.Seen.{all_sites}
 use Rattle.gw_subjects.specs.Sites.{items_sites}
 use Rattle.gw_subjects.proofs.items.+add.Given as goal

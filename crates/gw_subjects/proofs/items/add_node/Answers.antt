@@ -1,5 +1,5 @@
 use Rattle.gw_resolve.specs.Seen.{place}
-use Rattle.gw_subjects.specs.Positions.{positions}
+use Rattle.gw_resolve.specs.Positions.{positions}
 use Rattle.gw_subjects.specs.Seen.{origin}
 use Rattle.gw_subjects.specs.Sites.{node_origin}
 use Rattle.gw_subjects.proofs.Adding.{on_ok, whole_made}

@@ -1,5 +1,5 @@
 use Rattle.std.proofs.Common.{ap, ◌∙◌}
-use Rattle.gw_subjects.specs.Positions.{positions}
+use Rattle.gw_resolve.specs.Positions.{positions}
 use Rattle.gw_subjects.proofs.Adding.{on_ok, always_made, walked_made}
 use Rattle.gw_subjects.proofs.items.add_segment.Goals as goal
 

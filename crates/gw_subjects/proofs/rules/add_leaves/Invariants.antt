@@ -2,7 +2,7 @@ use Rattle.std.proofs.Common.{◌≡◌, ◌++◌, drop, map, List}
 use Rattle.std.specs.Prelude.{flat_map}
 use Rattle.gw_maplang.specs.Shapes.{TableValue}
 use Rattle.gw_resolve.specs.Seen.{at_leaf}
-use Rattle.gw_subjects.specs.Positions.{positions}
+use Rattle.gw_resolve.specs.Positions.{positions}
 use Rattle.gw_subjects.specs.Seen.{all_sites, some_reference}
 use Rattle.gw_subjects.specs.Sites.{leaf_sites}
 use Rattle.gw_subjects.proofs.rules.add_leaves.Given as goal

@@ -1,7 +1,7 @@
 use Rattle.std.proofs.Common.{◌≡◌, ◌++◌, drop, map, List}
 use Rattle.gw_maplang.specs.Shapes.{TableValue}
 use Rattle.gw_resolve.specs.Seen.{rule}
-use Rattle.gw_subjects.specs.Positions.{positions}
+use Rattle.gw_resolve.specs.Positions.{positions}
 use Rattle.gw_subjects.specs.Seen.{all_sites}
 use Rattle.gw_subjects.specs.Sites.{rules_sites}
 use Rattle.gw_subjects.proofs.rules.add_rules.Given as goal
