@@ -6,7 +6,7 @@ use gw_validate::{Breach, Kind};
 use std::alloc::{AllocError, Global};
 use std::test::Fail;
 
-/// A message, and the answer where it is accepted.
+/// A message, and its answer if it is accepted.
 const H: &[u8] = b"MSH|^~\\&|LAB|H1|GW|H2|20240102030405||ADT^A01^ADT_A01|7|P|2.5.1\r";
 
 const ACCEPTED: &[u8] =

@@ -1,4 +1,4 @@
-//! Streams cut into blocks, messages read, written and built.
+//! Streams that are cut into blocks, and messages that are read, written and built.
 ghost use Rattle.std.specs.Prelude.{◌≡◌, ◌++◌, ◌∷◌, [], OnOk};
 ghost use Rattle.std.specs.FinMap as texts;
 ghost use Rattle.gw_er7.specs.Message.{numbers};
@@ -14,7 +14,7 @@ use std::test::Fail;
 const STREAM: &[u8] =
     b"\x0bMSH|^~\\&|LAB\rPID|||123||DOE^JOHN\r\x1c\r\r\n\x0bMSH|^~\\&|LAB\rPID|||123||DOE^JOHN\r\x1c\r";
 
-/// Its two messages, each with `;` behind it.
+/// Its two messages, each followed by `;`.
 const BLOCKS: &[u8] = b"MSH|^~\\&|LAB\rPID|||123||DOE^JOHN\r;MSH|^~\\&|LAB\rPID|||123||DOE^JOHN\r;";
 
 /// Message bytes, and their block behind a byte.
@@ -43,7 +43,7 @@ impl Call for Framing {
     }
 }
 
-// Feeds a piece, and once more where it isn't taken. Whether it wasn't.
+// Feeds a piece, and feeds it again after a failure. Returns whether it failed.
 fn feed_again(decoder: &mut Decoder, piece: &[u8]) -> Result<bool, Fail> {
     let end = decoder.at_end();
     match decoder.feed(piece) {
@@ -59,7 +59,7 @@ fn feed_again(decoder: &mut Decoder, piece: &[u8]) -> Result<bool, Fail> {
     }
 }
 
-// Feeds the stream in pieces of this many bytes. Whether one wasn't taken at once.
+// Feeds the stream in pieces of this many bytes. Returns whether one of them failed at first.
 fn feed_all(decoder: &mut Decoder, size: usize) -> Result<bool, Fail> {
     let mut refused = false;
     for piece in STREAM.chunks(size.max(1)) {
@@ -70,14 +70,14 @@ fn feed_all(decoder: &mut Decoder, size: usize) -> Result<bool, Fail> {
     Ok(refused)
 }
 
-// Puts a block behind the others, and `;` behind it.
+// Appends a block, and `;`.
 fn add(blocks: &mut Vec<u8>, block: &[u8]) -> Result<(), AllocError> {
     blocks.extend_from_slice(block)?;
     blocks.push(b';')?;
     Ok(())
 }
 
-// The blocks that it gives, each with `;` behind it.
+// The blocks that the decoder returns, each followed by `;`.
 fn given(alloc: Global, decoder: &mut Decoder) -> Result<Vec<u8>, AllocError> {
     let mut blocks = Vec::new(alloc);
     for _byte in STREAM {
@@ -98,7 +98,7 @@ fn feed_refused(alloc: Global, size: usize, growth: u32) -> Result<bool, Fail> {
     Ok(refused)
 }
 
-// Writes a block, and once more where it isn't written. Whether it wasn't.
+// Writes a block, and writes it again after a failure. Returns whether it failed.
 fn write_again(out: &mut Vec<u8>) -> Result<bool, Fail> {
     if !is_content(CONTENT) {
         return Err("no content".into());
@@ -153,7 +153,7 @@ impl Call for Content {
     }
 }
 
-// Whether the message is written so.
+// Whether the message is written as these bytes.
 fn is_written(alloc: Global, message: &Message) -> Result<bool, AllocError> {
     Ok(write(alloc, message)?.as_slice() == BARS)
 }
@@ -169,7 +169,7 @@ fn read_refused(alloc: Global, growth: u32) -> Result<bool, Fail> {
     Ok(refused)
 }
 
-// Reads a content that comes back where it isn't read, and once more then. Whether it wasn't.
+// Reads message bytes, and reads them again after a failure, which returns them. Returns whether it failed.
 fn read_again(content: Vec<u8>) -> Result<(bool, Message), Fail> {
     match read_block(content) {
         Ok(message) => Ok((false, message)),
@@ -242,7 +242,7 @@ fn place(field: usize, rep: usize, comp: usize, sub: usize) -> Place
     }
 }
 
-// Begins a segment, and once more where that is refused.
+// Begins a segment, and begins it again after a failure.
 fn begin(builder: &mut Builder, refused: &mut bool, name: [u8; 3]) -> Result<(), AllocError>
     requires { IsBegun (builder.old ++ record { name = name; at = texts.empty } ∷ []) }
     ensures ok { OnOk result (builder.new ≡ builder.old ++ record { name = name; at = texts.empty } ∷ []) }
@@ -256,7 +256,7 @@ fn begin(builder: &mut Builder, refused: &mut bool, name: [u8; 3]) -> Result<(),
     }
 }
 
-// Puts a text, and once more where that is refused.
+// Puts a text, and puts it again after a failure.
 fn put(
     builder: &mut Builder,
     refused: &mut bool,

@@ -7,7 +7,7 @@ use std::test::Fail;
 #[derive(Clone, Copy)]
 struct Reserve;
 
-// Makes room at a desk, and once more where there is none. Whether there was none.
+// Makes room at a desk, and tries again after a failure. Returns whether it failed.
 fn reserve_again(desk: &mut Desk<u64>) -> Result<bool, Fail> {
     match desk.reserve() {
         Ok(()) => Ok(false),

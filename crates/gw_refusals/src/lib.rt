@@ -1,4 +1,4 @@
-//! Calls of which each growth is refused in turn. They stand apart from the crates that they test, since a crate with tests is proved twice.
+//! Tests of calls with each growth refused in turn. They are apart from the crates under test, since a crate with tests is proved twice.
 #![tactic(auto)]
 
 #[cfg(test)]

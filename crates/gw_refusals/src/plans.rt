@@ -1,4 +1,4 @@
-//! Plans as texts, maps that are checked, and what a plan's map makes.
+//! Plans that are parsed, maps that are checked, and messages that are translated.
 use crate::sweeps::{Call, holds, refuse, sweep};
 use crate::texts::{M2, P1, is_map};
 use gw_check::{CheckFault, CheckedMap, check};
@@ -25,7 +25,7 @@ const M1: &[u8] =
 const ARRIVED: &[u8] =
     b"MSH|^~\\&|LAB|H1|GW|H2|20240102030405||ADT^A01^ADT_A01|7|P|2.5.1\rPID|||123|||||F\r";
 
-/// A plan of one receiver, in the parts before its name and behind it.
+/// A plan of one receiver, in the parts before and after its name.
 const PLAN: [&str; 2] = [
     "plan G\nreceiver ",
     " 127.0.0.1:7001\naccept version 2.5.1\naccept processing P\nbegin profile\nprofile P2\ntable SEX M F U\nsegment MSH R 1..1\n  field 10 R 1..1\n\
@@ -116,7 +116,7 @@ fn plans_refused(rt: HostRuntime) -> Result<(), Fail> {
     sweep(rt.alloc(), &Text)
 }
 
-/// A map from one of two profiles to another, which is allowed or not.
+/// A map between two profiles, and whether it is allowed.
 #[derive(Clone, Copy)]
 enum Checked {
     Refused,
@@ -187,7 +187,7 @@ enum Made {
     TranslateFor,
 }
 
-/// What the archive is sent of it.
+/// What the archive is sent.
 const SENT: &[u8] = b"MSH|^~\\&||||||||7\rPID||||||||2\r";
 
 impl Call for Made {
@@ -225,7 +225,7 @@ fn translate_refused_at(alloc: Global, growth: u32) -> Result<bool, Fail> {
     Ok(refused)
 }
 
-// Admits a message that comes back where it isn't admitted, and once more then. Whether it wasn't.
+// Admits a message, and admits it again after a failure, which returns it. Returns whether it failed.
 fn admit_again(
     alloc: Global,
     plan: &Arc<Plan>,
@@ -259,7 +259,7 @@ fn admit_refused(alloc: Global, growth: u32) -> Result<bool, Fail> {
     Ok(refused)
 }
 
-// What is made for the receiver, and once more where it isn't made. Whether it wasn't.
+// Translates for the receiver, and translates again after a failure. Returns whether it failed.
 fn made_again(
     alloc: Global,
     conforming: &Arc<Conforming>,

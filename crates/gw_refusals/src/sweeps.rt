@@ -5,30 +5,32 @@ use std::test::Fail;
 /// More bytes than any heap has.
 const ORDER: usize = 1 << 62;
 
-/// More growths than a call has.
-const MOST: u32 = 10_000;
+/// More growths than any call has.
+const MAX_GROWTHS: u32 = 10_000;
 
-/// Has the growth of this number refused, of those from here on; 0 takes that back.
-/// A block of this many bytes can't be had: the heap of `.ci/refusals` takes the request as this order, and begins a sweep at 1. To any other it is one that fails.
+/// Orders the refusal of the growth of this number, counted from here on; 0 cancels the order.
+/// No heap has a block of this size. The heap of `.ci/refusals` takes the request as the order, and begins a sweep at 1.
+/// Under any other heap the request just fails.
 pub(crate) fn refuse(alloc: Global, growth: u32) {
     let _ = Vec::<u8>::with_capacity(alloc, ORDER + growth as usize);
 }
 
-/// Whether a growth was refused since the last such order. The heap of `.ci/refusals` gives a block then; no other does.
+/// Whether a growth was refused since the last order. The heap of `.ci/refusals` answers this request with a block then; no other heap does.
 pub(crate) fn was_refused(alloc: Global) -> bool {
     Vec::<u8>::with_capacity(alloc, 2 * ORDER - 1).is_ok()
 }
 
-/// A call, with values.
+/// A call under test, with its arguments.
 pub(crate) trait Call {
-    /// Makes the call, of which the growth of this number is refused. Whether its answer is the allocation failure.
-    /// Its values are then as is stated, and the same call gives what it gives where no growth is refused; it gives that at once where it did without the growth.
+    /// Makes the call with the growth of this number refused. Returns whether it fails by allocation failure.
+    /// After a failure the arguments have to be as stated, and the same call, made again, has to give its usual result.
+    /// A call that can do without that growth has to give its usual result at once.
     fn is_refused(&self, alloc: Global, growth: u32) -> Result<bool, Fail>;
 }
 
-/// Makes the call with each of its growths refused, from the first to the last, and then with none.
+/// Makes the call with each of its growths refused in turn, and then with none.
 pub(crate) fn sweep<C: Call>(alloc: Global, call: &C) -> Result<(), Fail> {
-    for growth in 1..MOST {
+    for growth in 1..MAX_GROWTHS {
         let is_refused = call.is_refused(alloc, growth)?;
         if !was_refused(alloc) {
             return holds(
@@ -40,7 +42,7 @@ pub(crate) fn sweep<C: Call>(alloc: Global, call: &C) -> Result<(), Fail> {
     Err("there are more growths".into())
 }
 
-/// Fails for this reason where that doesn't hold.
+/// Fails with this reason if the condition is false.
 pub(crate) fn holds(that: bool, why: &'static str) -> Result<(), Fail> {
     if that { Ok(()) } else { Err(why.into()) }
 }

@@ -1,4 +1,4 @@
-//! Profiles and maps as texts, and messages held against a profile.
+//! Profiles and maps that are parsed, and messages that are validated.
 use crate::sweeps::{Call, holds, refuse, sweep};
 use gw_er7::{Message, read};
 use gw_maplang::{Map, MapFault, identity};
@@ -20,7 +20,7 @@ pub(crate) const M2: &[u8] =
     b"map M2 from P2 to T1\ntable SEXMAP\n  row M 1\n  row F 2\n  else 9\nsegment MSH from MSH\n  copy 10 from MSH-10\n\
     segment PID from PID\n  build 8 lookup SEXMAP PID-8\ndrop PID-3\ndrop PID-5\n";
 
-// The profile against which messages are held.
+// The profile by which messages are validated.
 fn profile(alloc: Global) -> Result<Arc<Profile>, Fail> {
     let shared = Arc::new(alloc, gw_profile::parse(alloc, P1.as_bytes())?)?;
     Ok(shared)
@@ -93,14 +93,14 @@ fn texts_refused(rt: HostRuntime) -> Result<(), Fail> {
     Ok(())
 }
 
-/// Message bytes that are validated, and the code of their breach, 0 where they conform.
+/// Message bytes, and the code of their breach; 0 if they conform.
 #[derive(Clone, Copy)]
 struct Validated {
     content: &'static [u8],
     code: u16,
 }
 
-// The code of the breach, 0 where there is none.
+// The code of the breach; 0 if there is none.
 fn code_of(verdict: &Verdict) -> u16 {
     match verdict {
         Verdict::Fits(_) => 0,
@@ -108,7 +108,7 @@ fn code_of(verdict: &Verdict) -> u16 {
     }
 }
 
-// Validates a message that comes back where it isn't validated, and once more then. Whether it wasn't.
+// Validates a message, and validates it again after a failure, which returns it. Returns whether it failed.
 fn validate_again(
     alloc: Global,
     profile: &Arc<Profile>,

@@ -4,7 +4,6 @@ use gw_check::{Refusal, examine};
 use gw_maplang::Map;
 use gw_profile::{Profile, Usage};
 use gw_subjects::{Origin, Site, comp_at, field_at, site_at, sites, sub_at, unlisted, unrowed};
-use std::sync::Arc;
 use std::test::Fail;
 
 const T1: &str =
@@ -38,8 +37,8 @@ fn lookup<'a>(
 #[test]
 fn lookups(rt: HostRuntime) -> Result<(), Fail> {
     let alloc = rt.alloc();
-    let source = Arc::new(alloc, profile(alloc, P1)?)?;
-    let target = Arc::new(alloc, profile(alloc, T1)?)?;
+    let source = profile(alloc, P1)?;
+    let target = profile(alloc, T1)?;
     let examined = examine(alloc, source.clone()?, target.clone()?, map(alloc, M1)?);
     let Err(Refusal::Rules { items, map, .. }) = examined else {
         return Err("no rule refuses it".into());
