@@ -1,61 +1,32 @@
--- The chapters, one after another, and what was gathered of them.
-use Rattle.std.proofs.Common.{◌≡◌, ℕ, zero, suc, ◌+◌, ◌-◌, ◌<◌, ◌≤◌, ◌&&◌, ◌⊎◌, inl, inr, Bool, false, List, [], ◌∷◌, ◌++◌, length, get_or, drop, take}
+-- The chapters, one after another.
+use Rattle.std.proofs.Common.{◌≡◌, ◌≢◌, ℕ, zero, suc, ◌+◌, ◌-◌, ◌<◌, ◌≤◌, ◌&&◌, ◌⊎◌, inl, inr, Bool, false, List, [], ◌∷◌, ◌++◌, length, get_or, drop, take}
 use Rattle.std.proofs.Common.{Some, slice_get, refl, sym, ap, subst, ◌∙◌, arith, length-append, append-nil}
 use Rattle.std.specs.Prelude.{◌↔◌, IsTrue, cond, count_by, nat_le}
 use Rattle.std.proofs.Math.Bool.{and-false}
 use Rattle.std.proofs.lemmas.Grind.{common_steps, flat_map-append}
-use Rattle.std.proofs.lemmas.Bool.{cases_lt, false≢true, le-leb, lt-leb}
-use Rattle.std.specs.List.Sorted.{IsStrictlyIncreasing}
+use Rattle.std.proofs.lemmas.Bool.{cases_eq, cases_lt, false≢true, le-leb, lt-leb}
+use Rattle.std.proofs.lemmas.List.{drop_more, take_all, take_more}
+use Rattle.std.proofs.lemmas.List.Folds.{length-flat_map-take}
 use Rattle.std.proofs.lemmas.List.Sums.{count_by-le-length, sum_by-append, sum_by-cons}
-use Rattle.std.proofs.lemmas.Option.{gets, slice_get_past}
+use Rattle.std.proofs.lemmas.Option.{gets, none-some, slice_get_past, slice_get_read, slice_get_within}
+use Rattle.std.specs.List.Sorted.{IsStrictlyIncreasing}
 use Rattle.gw_gate.specs.Chapters.{all_entries}
-use Rattle.gw_gate.proofs.Entering.{as_long}
-use Rattle.gw_gate.specs.Entries.{entries_seen, start_seen}
 use Rattle.gw_gate.specs.Journal.{EntrySeen, WasAccepted, WasRefused, Start, Journal, accepted, arrivals, current, end, start_after}
 use Rattle.gw_gate.specs.Parts.{PlanSeen}
-use Rattle.std.proofs.lemmas.List.{take-append-drop, take_all, take_more}
+use Rattle.gw_gate.proofs.Releasing.{some_is}
 use Rattle.gw_run.specs.Report.{is_of}
 use Rattle.gw_run.specs.Turns.{Passes}
 use Rattle.gw_run.specs.declared.report.Kind.{Kind}
 use Rattle.gw_run.specs.declared.report.Kind.TheVariants.{Accepted, Any, Arrived}
-use Rattle.gw_run.specs.own.Joins.{begun, plans_at}
-use Rattle.gw_run.specs.Settled.{GoOn, first_of, is_same, last_end, stands}
-use Rattle.gw_run.specs.declared.parts.Part.{Part}
-use Rattle.gw_run.specs.own.Tellings.{TellsAll, TellsPart, entries_of}
+use Rattle.gw_run.specs.own.Joins.{PlansAt, notes_of}
+use Rattle.gw_run.specs.Settled.{GoOn, first_of, is_same, last_end, stands, AreSettled, Settled}
+use Rattle.gw_run.specs.Passes.{CountedSeen, PassSeen}
 
 -- ---- one after another
 
--- the chapter of the part at this place, and those behind it
-pub record Next (js : List Journal) (i : ℕ) (part : Part) : Type 0 where
-  pub j : Journal
-  pub more : drop i js ≡ j ∷ drop (i + 1) js
-  pub tells : TellsPart j part
-
-pub next_part : (js : List Journal) (parts : List Part) (i : ℕ) (part : Part) → TellsAll js parts → i < length parts → part ≡ get_or parts i part
-    → Next js i part
-next_part [] [] i part all lt is = absurd (omega arith)
-next_part [] (p ∷ parts) i part all lt is = absurd all
-next_part (j ∷ js) [] i part all lt is = absurd all
-next_part (j ∷ js) (p ∷ parts) zero part all lt is = record { j = j; more = refl; tells = subst (TellsPart j) (sym is) all.0 }
-next_part (j ∷ js) (p ∷ parts) (suc i) part all lt is =
-    let later = next_part js parts i part all.1 (omega arith) is in
-    let next : suc (i + 1) ≡ suc i + 1 = omega arith in
-    record { j = later.j; more = later.more ∙ ap (λ n. later.j ∷ drop n (j ∷ js)) next; tells = later.tells }
-
-pub all_passed : (js : List Journal) (parts : List Part) (i : ℕ) → TellsAll js parts → length parts ≤ i → drop i js ≡ []
-all_passed [] [] zero all le = refl
-all_passed [] [] (suc i) all le = refl
-all_passed [] (p ∷ parts) i all le = absurd all
-all_passed (j ∷ js) [] i all le = absurd all
-all_passed (j ∷ js) (p ∷ parts) zero all le = absurd (omega arith)
-all_passed (j ∷ js) (p ∷ parts) (suc i) all le = all_passed js parts i all.1 (omega arith)
-
-pub tells_more : (js : List Journal) (parts : List Part) (j : Journal) (part : Part) → TellsAll js parts → TellsPart j part
-    → TellsAll (js ++ j ∷ []) (parts ++ part ∷ [])
-tells_more [] [] j part all this = (this, tt)
-tells_more [] (p ∷ parts) j part all this = absurd all
-tells_more (k ∷ js) [] j part all this = absurd all
-tells_more (k ∷ js) (p ∷ parts) j part all this = (all.0, tells_more js parts j part all.1 this)
+-- the chapter at this place, and those behind it
+pub next_part : (js : List Journal) (i : ℕ) (j : Journal) → i < length js → j ≡ get_or js i j → drop i js ≡ j ∷ drop (i + 1) js
+next_part js i j lt is = drop_more js i j lt ∙ ap (λ k. k ∷ drop (i + 1) js) (sym is)
 
 pub go_from : (i : ℕ) (js : List Journal) → GoOn js → GoOn (drop i js)
 go_from zero js go = go
@@ -63,15 +34,53 @@ go_from (suc i) [] go = tt
 go_from (suc i) (j ∷ []) go = go_from i [] tt
 go_from (suc i) (j ∷ k ∷ js) go = go_from i (k ∷ js) go.1
 
--- ---- the entries of all
+pub go_at : (js : List Journal) (i : ℕ) (j : Journal) → GoOn js → i < length js → j ≡ get_or js i j → GoOn (j ∷ drop (i + 1) js)
+go_at js i j go lt is = subst (λ (l : List Journal). GoOn l) (next_part js i j lt is) (go_from i js go)
 
-pub entries_are : (js : List Journal) (parts : List Part) → TellsAll js parts → all_entries js ≡ entries_of parts
-entries_are [] [] all = refl
-entries_are [] (p ∷ parts) all = absurd all
-entries_are (j ∷ js) [] all = absurd all
-entries_are (j ∷ js) (p ∷ parts) all =
-    let this = all.0.entries_are in
-    ap (λ l. l ++ all_entries js) this ∙ ap (λ l. entries_seen p.entries.now ++ l) (entries_are js parts all.1)
+-- among the first n of them, each starts where the one before it ended
+abbrev pub Goes : List Journal → ℕ → Type 0
+Goes js n = (i : ℕ) (j k : Journal) → i + 1 < n → slice_get js i ≡ Some j → slice_get js (i + 1) ≡ Some k → k.start ≡ start_after j
+
+pub go_all : (js : List Journal) (n : ℕ) → length js ≤ n → Goes js n → GoOn js
+go_all [] n le each = tt
+go_all (j ∷ []) n le each = tt
+go_all (j ∷ k ∷ js) n le each = (
+  each 0 j k (omega arith) refl refl,
+  go_all (k ∷ js) (length (k ∷ js)) (omega arith) (λ i a b lt p q. let next : suc i + 1 ≡ suc (i + 1) = omega arith in
+      each (suc i) a b (omega arith) p (ap (slice_get (j ∷ k ∷ js)) next ∙ q)),
+)
+
+each_goes : (js : List Journal) (i : ℕ) (j k : Journal) → GoOn js → slice_get js i ≡ Some j → slice_get js (i + 1) ≡ Some k → k.start ≡ start_after j
+each_goes [] i j k go a b = absurd (none-some j a)
+each_goes (x ∷ []) i j k go a b = absurd (let w = slice_get_within (x ∷ []) (i + 1) k b in omega (arith, w))
+each_goes (x ∷ y ∷ js) zero j k go a b = ap (λ (l : Journal). l.start) (sym (some_is y k b)) ∙ go.0 ∙ ap start_after (some_is x j a)
+each_goes (x ∷ y ∷ js) (suc i) j k go a b =
+    let next : suc (i + 1) ≡ suc i + 1 = omega arith in each_goes (y ∷ js) i j k go.1 a (ap (slice_get (x ∷ y ∷ js)) next ∙ b)
+
+-- two chapters, one after the other
+module _ (js : List Journal) (place : ℕ) (part next : Journal) (some : 1 ≤ place) (lt : place < length js) (first : part ≡ get_or js (place - 1) part)
+    (then : next ≡ get_or js place next) where
+  at_first : slice_get js (place - 1) ≡ Some part
+  at_first = slice_get_read js (length js) (place - 1) part refl (omega (arith, some, lt)) first
+
+  at_next : slice_get js place ≡ Some next
+  at_next = slice_get_read js (length js) place next refl lt then
+
+  pub go_between : GoOn js → next.start ≡ start_after part
+  go_between go =
+      let same : place - 1 + 1 ≡ place = omega (arith, some) in each_goes js (place - 1) part next go at_first (ap (slice_get js) same ∙ at_next)
+
+  pub go_more : next.start ≡ start_after part → Goes js place → Goes js (place + 1)
+  go_more follows each i j k less a b = by (cases_eq (i + 1) place)
+    where
+      by : (i + 1 ≡ place) ⊎ (i + 1 ≢ place) → k.start ≡ start_after j
+      by (inl here) =
+          let before : i ≡ place - 1 = omega (arith, here) in
+          ap (λ (l : Journal). l.start) (some_is k next (sym b ∙ ap (slice_get js) here ∙ at_next)) ∙ follows
+          ∙ ap start_after (some_is part j (sym at_first ∙ ap (slice_get js) (sym before) ∙ a))
+      by (inr other) = each i j k (omega (arith, less, other)) a b
+
+-- ---- the entries of all
 
 -- they go on from where the first chapter starts to where the last one ends
 pub ends_at : (j : Journal) (js : List Journal) → GoOn (j ∷ js) → j.start.entries + length (all_entries (j ∷ js)) ≡ last_end 0 (j ∷ js)
@@ -104,18 +113,17 @@ get_back xs ys k le = grind (arith, common_steps, gets)
 
 module _ (j : Journal) (js : List Journal) (at : ℕ) (e : EntrySeen) where
   -- an entry below the end of the first chapter stands in it or nowhere
-  pub stands_here : at < end j → stands (j ∷ js) at e ≡ stands (j ∷ []) at e
+  pub stands_here : at < end j → stands (j ∷ js) at e ≡ (nat_le j.start.entries at && is_same e (slice_get j.entries (at - j.start.entries)))
   stands_here lt = by (cases_lt at j.start.entries)
     where
-      by : (at < j.start.entries) ⊎ (j.start.entries ≤ at) → stands (j ∷ js) at e ≡ stands (j ∷ []) at e
+      by : (at < j.start.entries) ⊎ (j.start.entries ≤ at)
+          → stands (j ∷ js) at e ≡ (nat_le j.start.entries at && is_same e (slice_get j.entries (at - j.start.entries)))
       by (inl before) =
           let no = lt-leb j.start.entries at before in
           ap (λ b. b && is_same e (slice_get (j.entries ++ all_entries js) (at - j.start.entries))) no
-          ∙ sym (ap (λ b. b && is_same e (slice_get (j.entries ++ []) (at - j.start.entries))) no)
+          ∙ sym (ap (λ b. b && is_same e (slice_get j.entries (at - j.start.entries))) no)
       by (inr above) =
-          let k = at - j.start.entries in
-          ap (λ o. nat_le j.start.entries at && is_same e o)
-          (get_front j.entries (all_entries js) k (omega (arith, lt, above)) ∙ sym (get_front j.entries [] k (omega (arith, lt, above))))
+          ap (λ o. nat_le j.start.entries at && is_same e o) (get_front j.entries (all_entries js) (at - j.start.entries) (omega (arith, lt, above)))
 
   -- and one from its end on stands in a later one
   pub stands_later : GoOn (j ∷ js) → end j ≤ at → stands (j ∷ js) at e ≡ stands js at e
@@ -141,63 +149,6 @@ module _ (j : Journal) (js : List Journal) (at : ℕ) (e : EntrySeen) where
 pub none_stand : (at : ℕ) (e : EntrySeen) → stands [] at e ≡ false
 none_stand at e = ap (λ o. nat_le 0 at && is_same e o) (slice_get_past (all_entries []) (at - 0) (omega arith)) ∙ and-false (nat_le 0 at)
 
--- ---- one that follows another
-
--- the chapters of two parts, one after the other
-pub record Pair (js : List Journal) (i : ℕ) (part next : Part) : Type 0 where
-  pub j : Journal
-  pub k : Journal
-  pub more : drop (i - 1) js ≡ j ∷ drop i js
-  pub then : drop i js ≡ k ∷ drop (i + 1) js
-  pub tells : TellsPart j part
-  pub starts : start_seen next.start.now ≡ k.start
-  pub follows : GoOn js → start_seen next.start.now ≡ start_after j
-
-pub pair_at : (js : List Journal) (parts : List Part) (i : ℕ) (part next : Part) → TellsAll js parts → 1 ≤ i → i < length parts
-    → part ≡ get_or parts (i - 1) part → next ≡ get_or parts i next
-    → Pair js i part next
-pair_at js parts i part next all some lt is then =
-    let one = next_part js parts (i - 1) part all (omega (arith, some, lt)) is in
-    let two = next_part js parts i next all lt then in
-    let again : i - 1 + 1 ≡ i = omega (arith, some) in
-    let more : drop (i - 1) js ≡ one.j ∷ drop i js = one.more ∙ ap (λ n. one.j ∷ drop n js) again in
-    record {
-      j = one.j;
-      k = two.j;
-      more = more;
-      then = two.more;
-      tells = one.tells;
-      starts = two.tells.start_is;
-      follows = λ go. (let on : GoOn (one.j ∷ two.j ∷ drop (i + 1) js) = subst (λ (l : List Journal). GoOn l) (more ∙ ap (λ l. one.j ∷ l) two.more)
-          (go_from (i - 1) js go) in
-          two.tells.start_is ∙ on.0);
-    }
-
-pub go_between : (js : List Journal) (i : ℕ) (part next : Part) (pair : Pair js i part next) → start_seen next.start.now ≡ start_after pair.j
-    → GoOn (drop (i + 1 - 1) js) → GoOn (drop (i - 1) js)
-go_between js i part next pair follows go =
-    let same : i + 1 - 1 ≡ i = omega arith in
-    let here : GoOn (drop i js) = subst (λ n. GoOn (drop n js)) same go in
-    let rest : GoOn (pair.k ∷ drop (i + 1) js) = subst (λ (l : List Journal). GoOn l) pair.then here in
-    subst (λ (l : List Journal). GoOn l) (sym (pair.more ∙ ap (λ l. pair.j ∷ l) pair.then)) (sym pair.starts ∙ follows, rest)
-
--- at the last of them there is none to follow
-go_one : (js : List Journal) (i : ℕ) → drop (i + 1) js ≡ [] → GoOn (drop i js)
-go_one [] zero none = tt
-go_one [] (suc i) none = tt
-go_one (j ∷ []) zero none = tt
-go_one (j ∷ k ∷ js) zero none = absurd (let long = ap length none in omega (arith, long))
-go_one (j ∷ js) (suc i) none = let next : suc (i + 1) ≡ suc i + 1 = omega arith in go_one js i (ap (λ n. drop n (j ∷ js)) next ∙ none)
-
-pub go_last : (js : List Journal) (parts : List Part) (i : ℕ) → TellsAll js parts → length parts ≤ i → GoOn (drop (i - 1) js)
-go_last js parts i all le = by (cases_lt 0 i)
-  where
-    by : (0 < i) ⊎ (i ≤ 0) → GoOn (drop (i - 1) js)
-    by (inl some) = let again : i - 1 + 1 ≡ i = omega (arith, some) in go_one js (i - 1) (ap (λ n. drop n js) again ∙ all_passed js parts i all le)
-    by (inr none) =
-        let zero_is : i - 1 ≡ i = omega (arith, none) in
-        subst (λ (l : List Journal). GoOn l) (sym (ap (λ n. drop n js) zero_is ∙ all_passed js parts i all le)) tt
-
 -- ---- where a chapter ends
 
 counts : (kind : Kind) (e : EntrySeen) (h : List EntrySeen) → count_by (is_of kind) (e ∷ h) ≡ cond (is_of kind e) 1 0 + count_by (is_of kind) h
@@ -207,101 +158,80 @@ pub count_any : (h : List EntrySeen) → count_by (is_of Any) h ≡ length h
 count_any [] = refl
 count_any (e ∷ h) = let one = counts Any e h in omega (arith, one, count_any h)
 
-accepted_count : (h : List EntrySeen) → length (accepted h) ≡ count_by (is_of Accepted) h
+pub accepted_count : (h : List EntrySeen) → length (accepted h) ≡ count_by (is_of Accepted) h
 accepted_count [] = refl
 accepted_count (WasAccepted n arrival c ∷ h) = let e = counts Accepted (WasAccepted n arrival c) h in omega (arith, e, accepted_count h)
 accepted_count (x ∷ h) = let e = counts Accepted x h in omega (arith, e, accepted_count h)
 
-arrived_count : (h : List EntrySeen) → arrivals h ≡ count_by (is_of Arrived) h
+pub arrived_count : (h : List EntrySeen) → arrivals h ≡ count_by (is_of Arrived) h
 arrived_count [] = refl
 arrived_count (WasAccepted n arrival c ∷ h) = let e = counts Arrived (WasAccepted n arrival c) h in omega (arith, e, arrived_count h)
 arrived_count (WasRefused arrival code ∷ h) = let e = counts Arrived (WasRefused arrival code) h in omega (arith, e, arrived_count h)
 arrived_count (x ∷ h) = let e = counts Arrived x h in omega (arith, e, arrived_count h)
 
-module _ (j : Journal) (part : Part) (tells : TellsPart j part) where
-  module _ (turn : ℕ) (there : Passes part.history.swaps.items (length part.entries.now) turn) where
-    whole : take (length part.entries.now) j.entries ≡ j.entries
-    whole = take_all (length part.entries.now) j.entries (let l = ap length tells.entries_are ∙ as_long part.entries.now in omega (arith, l))
+module _ (j : Journal) (swaps : List ℕ) (seen : List PlanSeen) (tells : PlansAt j swaps seen) (turn : ℕ) (there : Passes swaps (length j.entries) turn) where
+  whole : take (length j.entries) j.entries ≡ j.entries
+  whole = take_all (length j.entries) j.entries (omega arith)
 
-    pub version_is : (start_after j).version ≡ part.start.now.version + turn
-    version_is =
-        let number = tells.tells.plans.number (length part.entries.now) turn there in
-        let same : (current (begun j (length part.entries.now))).number ≡ (current j).number = ap (λ h. (current (record j { entries = h })).number) whole in
-        let first : part.start.now.version ≡ j.start.version = ap (λ s. s.version) tells.start_is in
-        omega (arith, number, same, first)
+  pub version_is : (start_after j).version ≡ j.start.version + turn
+  version_is = ap (λ h. (current (record j { entries = h })).number) (sym whole) ∙ tells.number (length j.entries) turn there
 
-    pub plan_is : slice_get (plans_at part.history.plans.items) turn ≡ Some (start_after j).plan
-    plan_is = tells.tells.plans.plan (length part.entries.now) turn there ∙ ap (λ h. Some (current (record j { entries = h })).plan) whole
+  pub plan_there : slice_get seen turn ≡ Some (start_after j).plan
+  plan_there = tells.plan (length j.entries) turn there ∙ ap (λ h. Some (current (record j { entries = h })).plan) whole
 
-  pub acceptances_are : (start_after j).acceptances ≡ part.start.now.acceptances + count_by (is_of Accepted) (entries_seen part.entries.now)
-  acceptances_are =
-      let first : part.start.now.acceptances ≡ j.start.acceptances = ap (λ s. s.acceptances) tells.start_is in
-      let count = accepted_count j.entries ∙ ap (count_by (is_of Accepted)) tells.entries_are in
-      omega (arith, first, count)
-
-  pub arrivals_are : (start_after j).arrivals ≡ part.start.now.arrivals + count_by (is_of Arrived) (entries_seen part.entries.now)
-  arrivals_are =
-      let first : part.start.now.arrivals ≡ j.start.arrivals = ap (λ s. s.arrivals) tells.start_is in
-      let count = arrived_count j.entries ∙ ap (count_by (is_of Arrived)) tells.entries_are in
-      omega (arith, first, count)
+  pub plan_is : (p : PlanSeen) → Some p ≡ slice_get seen turn → p ≡ (start_after j).plan
+  plan_is p is = some_is p (start_after j).plan (is ∙ plan_there)
 
 -- how many of the swaps the whole chapter passed, as they are borrowed
-pub passed_there : (j : Journal) (part : Part) → TellsPart j part → (lent : List ℕ) (turn : ℕ) → lent ≡ part.history.swaps.items
-    → (IsStrictlyIncreasing lent → Passes lent (length part.entries.now) turn) → Passes part.history.swaps.items (length part.entries.now) turn
-passed_there j part tells lent turn same is =
-    subst (λ (l : List ℕ). Passes l (length part.entries.now) turn) same
-    (is (subst (λ (l : List ℕ). IsStrictlyIncreasing l) (sym same) tells.tells.plans.rising))
+pub passed_there : (lent swaps : List ℕ) (n m turn : ℕ) → lent ≡ swaps → m ≡ n → IsStrictlyIncreasing swaps
+    → (IsStrictlyIncreasing lent → Passes lent n turn) → Passes swaps m turn
+passed_there lent swaps n m turn same long rising is =
+    subst (λ k. Passes swaps k turn) (sym long)
+    (subst (λ (l : List ℕ). Passes l n turn) same (is (subst (λ (l : List ℕ). IsStrictlyIncreasing l) (sym same) rising)))
 
-pub starts_so : (j : Journal) (v : ℕ) (p : PlanSeen) (a r e : ℕ) → v ≡ (start_after j).version → p ≡ (start_after j).plan → a ≡ (start_after j).acceptances
-    → r ≡ (start_after j).arrivals → e ≡ (start_after j).entries
-    → (let s : Start = record { version = v; plan = p; acceptances = a; arrivals = r; entries = e } in s) ≡ start_after j
-starts_so j v p a r e version plan acceptances arrived entries =
+pub starts_so : (s t : Start) → s.version ≡ t.version → s.plan ≡ t.plan → s.acceptances ≡ t.acceptances → s.arrivals ≡ t.arrivals → s.entries ≡ t.entries
+    → s ≡ t
+starts_so s t version plan acceptances arrived entries =
     λ i. record { version = version i; plan = plan i; acceptances = acceptances i; arrivals = arrived i; entries = entries i }
 
 -- a test that fails denies what would have it hold
 pub denies : {P Q : Type 0} (b : Bool) → b ≡ false → (IsTrue b ↔ P) → (Q → P) → (IsTrue false → Q) × (Q → IsTrue false)
 denies b fails exact implied = (λ t. absurd (false≢true t), λ q. sym fails ∙ exact.1 (implied q))
 
-pub take_next : {X : Type 0} (xs : List X) (i : ℕ) (x : X) → i < length xs → x ≡ get_or xs i x → take (i + 1) xs ≡ take i xs ++ x ∷ []
-take_next xs i x lt is = take_more xs i x lt ∙ ap (λ y. take i xs ++ y ∷ []) (sym is)
-
--- the chapters that were closed, one more of them
-pub tells_next : (js : List Journal) (parts new : List Part) (i : ℕ) (j : Journal) (part : Part) → i < length js → j ≡ get_or js i j → new ≡ parts ++ part ∷ []
-    → TellsAll (take i js) parts → TellsPart j part → TellsAll (take (i + 1) js) new
-tells_next js parts new i j part lt is added all this =
-    subst (TellsAll (take (i + 1) js)) (sym added) (subst (λ l. TellsAll l (parts ++ part ∷ [])) (sym (take_next js i j lt is))
-    (tells_more (take i js) parts j part all this))
-
--- and the open one behind them
-pub tells_end : (js : List Journal) (parts new : List Part) (i : ℕ) (j : Journal) (part : Part) → length js ≤ i → new ≡ parts ++ part ∷ []
-    → TellsAll (take i js) parts → TellsPart j part → TellsAll (js ++ j ∷ []) new
-tells_end js parts new i j part le added all this =
-    subst (TellsAll (js ++ j ∷ [])) (sym added) (tells_more js parts j part (subst (λ l. TellsAll l parts) (take_all i js le) all) this)
-
 -- ---- entries that are counted, part by part
 
-abbrev entries_in : Part → List EntrySeen
-entries_in part = entries_seen part.entries.now
-
-pub entries_next : (parts : List Part) (i : ℕ) (part : Part) → i < length parts → part ≡ get_or parts i part
-    → entries_of (take (i + 1) parts) ≡ entries_of (take i parts) ++ entries_in part
-entries_next parts i part lt is =
-    ap entries_of (take_next parts i part lt is) ∙ flat_map-append entries_in (take i parts) (part ∷ [])
-    ∙ ap (λ l. entries_of (take i parts) ++ l) (append-nil (entries_in part))
-
-few_until : (parts : List Part) (i : ℕ) → length (entries_of (take i parts)) ≤ length (entries_of parts)
-few_until parts i =
-    let both = ap length (sym (ap entries_of (take-append-drop i parts)) ∙ flat_map-append entries_in (take i parts) (drop i parts)) in
-    omega (arith, both, length-append (entries_of (take i parts)) (entries_of (drop i parts)))
+entries_next : (js : List Journal) (i : ℕ) (j : Journal) → i < length js → j ≡ get_or js i j
+    → all_entries (take (i + 1) js) ≡ all_entries (take i js) ++ j.entries
+entries_next js i j lt is =
+    ap all_entries (take_more js i j lt ∙ ap (λ k. take i js ++ k ∷ []) (sym is)) ∙ flat_map-append (λ (k : Journal). k.entries) (take i js) (j ∷ [])
+    ∙ ap (λ l. all_entries (take i js) ++ l) (append-nil j.entries)
 
 -- how many are of a kind, with those of one part more
-pub count_next : (kind : Kind) (parts : List Part) (i : ℕ) (part : Part) (all x : ℕ) → i < length parts → part ≡ get_or parts i part
-    → all ≡ count_by (is_of kind) (entries_of (take i parts)) → x ≡ count_by (is_of kind) (entries_seen part.entries.now)
-    → all + x ≡ count_by (is_of kind) (entries_of (take (i + 1) parts))
-count_next kind parts i part all x lt is was more =
-    let both = sum_by-append (λ (e : EntrySeen). cond (is_of kind e) 1 0) (entries_of (take i parts)) (entries_seen part.entries.now) in
-    let next = ap (count_by (is_of kind)) (entries_next parts i part lt is) in
-    omega (arith, both, next, was, more)
+module _ (kind : Kind) (js : List Journal) (i : ℕ) (j : Journal) (all x : ℕ) (lt : i < length js) (is : j ≡ get_or js i j)
+    (was : all ≡ count_by (is_of kind) (all_entries (take i js))) (more : x ≡ count_by (is_of kind) j.entries) where
+  pub count_next : all + x ≡ count_by (is_of kind) (all_entries (take (i + 1) js))
+  count_next =
+      let both = sum_by-append (λ (e : EntrySeen). cond (is_of kind e) 1 0) (all_entries (take i js)) j.entries in
+      let next = ap (count_by (is_of kind)) (entries_next js i j lt is) in
+      omega (arith, both, next, was, more)
 
-pub count_few : (kind : Kind) (parts : List Part) (i k : ℕ) → k ≡ count_by (is_of kind) (entries_of (take i parts)) → k ≤ length (entries_of parts)
-count_few kind parts i k is = let a = count_by-le-length (is_of kind) (entries_of (take i parts)) in let b = few_until parts i in omega (arith, a, b, is)
+  pub count_few : all + x ≤ length (all_entries js)
+  count_few =
+      let a = count_by-le-length (is_of kind) (all_entries (take i js)) in
+      let b = count_by-le-length (is_of kind) j.entries in
+      let c = length-flat_map-take (λ (k : Journal). k.entries) js i j lt in
+      let d = ap (λ (k : Journal). length k.entries) is in
+      omega (arith, a, b, c, d, was, more)
+
+-- ---- the chapters that were closed, and the gate
+
+-- what was found of the parts is so of the chapters and the gate
+pub exact : (parts js : List Journal) (counted : CountedSeen) (since : ℕ) (passes : List PassSeen) (b : Bool) → parts ≡ js ++ counted.gate ∷ []
+    → since ≡ counted.since → (IsTrue b ↔ Settled parts since (notes_of passes)) → IsTrue b ↔ AreSettled js counted passes
+exact parts js counted since passes b are is found =
+    subst (λ (l : List Journal). IsTrue b ↔ Settled l counted.since (notes_of passes)) are
+    (subst (λ s. IsTrue b ↔ Settled parts s (notes_of passes)) is found)
+
+-- there are no more entries than the open chapter's end counts
+pub few_in_all : (js : List Journal) (j : Journal) → GoOn (js ++ j ∷ []) → length (all_entries (js ++ j ∷ [])) ≤ end j
+few_in_all js j go = let few = entries_few (js ++ j ∷ []) go in let last = ends_open 0 js j in omega (arith, few, last)

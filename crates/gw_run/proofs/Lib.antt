@@ -5,10 +5,7 @@ pub mod Fitting
 pub mod Marking
 pub mod Meeting
 pub mod Prefixes
-pub mod Telling
-pub mod Joining
 pub mod Dues
-pub mod Ordering
 pub mod Chaining
 pub mod Following
 pub mod Giving

@@ -1,6 +1,6 @@
 -- How often numbers are those of receipts.
-use Rattle.std.proofs.Common.{◌≡◌, ◌≢◌, ℕ, zero, suc, ◌+◌, ◌-◌, ◌<◌, ◌==◌, ◌&&◌, ◌⊎◌, inl, inr, Bool, true, false, List, [], ◌∷◌, ◌++◌}
-use Rattle.std.proofs.Common.{length, get_or, slice_set, take, refl, sym, ap, ◌∙◌, arith}
+use Rattle.std.proofs.Common.{◌≡◌, ◌≢◌, ℕ, zero, suc, ◌+◌, ◌-◌, ◌<◌, ◌==◌, ◌&&◌, ◌⊎◌, inl, inr, Bool, true, false, List, [], ◌∷◌, ◌++◌, length, get_or}
+use Rattle.std.proofs.Common.{slice_set, take, refl, sym, ap, ◌∙◌, arith}
 use Rattle.std.specs.Prelude.{cond, min}
 use Rattle.std.specs.Option.{option_to_list}
 use Rattle.std.specs.List.{list_all, range_with_len}
@@ -15,10 +15,10 @@ use Rattle.std.proofs.lemmas.List.Sums.{sum_by_push}
 use Rattle.gw_crew.specs.declared.note.Note.{Note}
 use Rattle.gw_crew.specs.Notes.{NoteSeen, Added, ReceiptSeen, receipt_of}
 use Rattle.gw_crew.specs.Seen.{note_seen, notes_seen}
-use Rattle.gw_run.specs.Passes.{PassSeen, receipts}
-use Rattle.gw_run.specs.own.Tellings.{notes_of}
-use Rattle.gw_run.specs.Settled.{are_all, having}
-use Rattle.gw_run.specs.own.Joins.{Marks}
+use Rattle.gw_run.specs.Passes.{PassSeen, receipts, part_count, receipt_count}
+use Rattle.gw_run.specs.Settled.{having}
+use Rattle.gw_run.specs.own.Joins.{Marks, notes_of}
+use Rattle.gw_gate.specs.Journal.{end}
 
 -- ---- one receipt more
 
@@ -64,33 +64,20 @@ receipts_next notes i n lt is =
 
 -- ---- each number once
 
-all_from : (test : ℕ → Bool) (since n : ℕ) → ((p : ℕ) → p < n → test (since + p) ≡ true) → list_all test (range_with_len since n) ≡ true
-all_from test since zero each = refl
-all_from test since (suc n) each =
+-- each mark tells of its number
+pub marked : (marks : List ℕ) (since : ℕ) (all : List ReceiptSeen) → Marks since all marks
+    → list_all (λ m. m == 1) marks ≡ list_all (λ k. having all k == 1) (range_with_len since (length marks))
+marked [] since all was = refl
+marked (m ∷ marks) since all was =
     let here : since + 0 ≡ since = omega arith in
-    let first : test since ≡ true = ap test (sym here) ∙ each 0 (omega arith) in
-    ap (λ b. b && list_all test (range_with_len (since + 1) n)) first
-    ∙ all_from test (since + 1) n (λ p lt. let next : since + 1 + p ≡ since + suc p = omega arith in ap test next ∙ each (suc p) (omega arith))
-
-not_all_from : (test : ℕ → Bool) (since n p : ℕ) → p < n → test (since + p) ≡ false → list_all test (range_with_len since n) ≡ false
-not_all_from test since n p lt fails =
-    list_all_at test (range_with_len since n) p 0 (omega (arith, lt, length-range_with_len since n)) (ap test (get_or-range_with_len since n p 0 lt) ∙ fails)
-
-pub all_marked : (marks : List ℕ) (since : ℕ) (all : List ReceiptSeen) → Marks since all marks → ((p : ℕ) → p < length marks → get_or marks p 0 ≡ 1)
-    → true ≡ are_all since (since + length marks) all
-all_marked marks since all was each =
-    let long : since + length marks - since ≡ length marks = omega arith in
-    sym (ap (λ n. list_all (λ k. having all k == 1) (range_with_len since n)) long
-    ∙ all_from (λ k. having all k == 1) since (length marks)
-    (λ p lt. eq-eqb (having all (since + p)) 1 (let w = was p lt in let e = each p lt in omega (arith, w, e))))
-
-pub not_marked : (marks : List ℕ) (since : ℕ) (all : List ReceiptSeen) (p : ℕ) → Marks since all marks → p < length marks → get_or marks p 0 ≢ 1
-    → false ≡ are_all since (since + length marks) all
-not_marked marks since all p was lt other =
-    let long : since + length marks - since ≡ length marks = omega arith in
-    sym (ap (λ n. list_all (λ k. having all k == 1) (range_with_len since n)) long
-    ∙ not_all_from (λ k. having all k == 1) since (length marks) p lt
-    (ne_eqb (having all (since + p)) 1 (λ e. other (let w = was p lt in omega (arith, w, e)))))
+    let first : m ≡ min (having all since) 2 = was 0 (omega arith) ∙ ap (λ k. min (having all k) 2) here in
+    let rest = marked marks (since + 1) all
+    (λ p lt. let next : since + suc p ≡ since + 1 + p = omega arith in was (suc p) (omega arith) ∙ ap (λ k. min (having all k) 2) next) in
+    ap (λ b. b && list_all (λ k. k == 1) marks) (by (cases_eq (having all since) 1) first) ∙ ap (λ b. (having all since == 1) && b) rest
+  where
+    by : (having all since ≡ 1) ⊎ (having all since ≢ 1) → m ≡ min (having all since) 2 → (m == 1) ≡ (having all since == 1)
+    by (inl one) is = eq-eqb m 1 (omega (arith, one, is)) ∙ sym (eq-eqb (having all since) 1 one)
+    by (inr other) is = ne_eqb m 1 (λ e. other (omega (arith, e, is))) ∙ sym (ne_eqb (having all since) 1 other)
 
 pub read_as : (marks : List ℕ) (i x : ℕ) → i < length marks → x ≡ get_or marks i x → x ≡ get_or marks i 0
 read_as marks i x lt is = is ∙ (let e : get_or marks i x ≡ get_or marks i 0 = grind (arith, common_steps, gets) in e)
@@ -100,3 +87,11 @@ pub not_all_at : (test : List NoteSeen → Bool) (passes : List PassSeen) (i : �
 not_all_at test passes i pass lt is fails =
     list_all-map test (λ (p : PassSeen). p.notes) passes
     ∙ list_all_at (λ (p : PassSeen). test p.notes) passes i pass lt (ap (λ (p : PassSeen). test p.notes) (sym is) ∙ fails)
+
+-- ---- the shares of passes
+
+pub parts_more : (passes : List PassSeen) (pass : PassSeen) → part_count (passes ++ pass ∷ []) ≡ part_count passes + pass.parts
+parts_more passes pass = sum_by_push (λ (p : PassSeen). p.parts) passes pass
+
+pub receipts_more : (passes : List PassSeen) (pass : PassSeen) → receipt_count (passes ++ pass ∷ []) ≡ receipt_count passes + length (receipts pass.notes)
+receipts_more passes pass = sum_by_push (λ (p : PassSeen). length (receipts p.notes)) passes pass

@@ -1,7 +1,7 @@
 -- First numbers at which a test holds.
-use Rattle.std.proofs.Common.{◌≡◌, ◌≢◌, ℕ, zero, suc, ◌+◌, ◌-◌, ◌<◌, ◌≤◌, ◌%◌, ◌⊎◌, inl, inr, Bool, true, false, List, [], ◌∷◌, ◌++◌, length, get_or, None}
+use Rattle.std.proofs.Common.{◌≡◌, ◌≢◌, ℕ, zero, suc, ◌+◌, ◌-◌, ◌<◌, ◌≤◌, ◌%◌, ◌⊎◌, inl, inr, Bool, true, false, List, [], ◌∷◌, ◌++◌, length, get_or, Option, None}
 use Rattle.std.proofs.Common.{Some, Ok, Err, refl, sym, ap, subst, ◌∙◌, arith, length-append}
-use Rattle.std.specs.Prelude.{nat_le, not, ◌||◌, slice_get}
+use Rattle.std.specs.Prelude.{nat_le, ◌||◌, slice_get}
 use Rattle.std.specs.List.{list_any, range_with_len}
 use Rattle.std.specs.List.Sorted.{IsStrictlyIncreasing, IsBinarySearchResult}
 use Rattle.std.specs.Ordering.{nat_cmp}
@@ -14,16 +14,9 @@ use Rattle.std.proofs.lemmas.List.Elements.{All-from_get_or}
 use Rattle.std.proofs.lemmas.List.Kept.{AllPairs-from_increasing}
 use Rattle.std.proofs.lemmas.List.Sorted.{searched}
 use Rattle.gw_reorder.proofs.Places.{equals, differs, rising_more}
-use Rattle.gw_run.specs.Turns.{Passes, is_even, is_within, CountsTo, RiseTo, TurnsAt, TurnsTo, HoldsFrom}
+use Rattle.gw_run.specs.Turns.{HoldsFrom, IsFirstFrom, Passes, Tracks, TracksTo, TurnsAt, is_even, is_within}
 
 -- ---- between two numbers
-
-pub some_between : (test : ℕ → Bool) (low high k : ℕ) → low ≤ k → k ≤ high → test k ≡ true → list_any test (range_with_len low (high + 1 - low)) ≡ true
-some_between test low high k above below holds =
-    let place : get_or (range_with_len low (high + 1 - low)) (k - low) 0 ≡ k =
-    (let e = get_or-range_with_len low (high + 1 - low) (k - low) 0 (omega arith) in omega (arith, e)) in
-    list_any_at test (range_with_len low (high + 1 - low)) (k - low) 0 (let l = length-range_with_len low (high + 1 - low) in omega (arith, l)) (ap test place
-    ∙ holds)
 
 none_from : (test : ℕ → Bool) (low n : ℕ) → ((k : ℕ) → low ≤ k → k < low + n → test k ≡ false) → list_any test (range_with_len low n) ≡ false
 none_from test low zero none = refl
@@ -31,21 +24,21 @@ none_from test low (suc n) none =
     let first : test low ≡ false = none low (omega arith) (omega arith) in
     ap (λ b. b || list_any test (range_with_len (low + 1) n)) first ∙ none_from test (low + 1) n (λ k above below. none k (omega arith) (omega arith))
 
-pub none_between : (test : ℕ → Bool) (low high : ℕ) → ((k : ℕ) → low ≤ k → k ≤ high → test k ≡ false)
-    → list_any test (range_with_len low (high + 1 - low)) ≡ false
-none_between test low high none = none_from test low (high + 1 - low) (λ k above below. none k above (omega arith))
-
--- where k is the first number from low on at which the test holds, it holds up to high just where k is at most high
-pub first_between : (test : ℕ → Bool) (low high k : ℕ) → low ≤ k → test k ≡ true → ((p : ℕ) → low ≤ p → p < k → test p ≡ false)
-    → list_any test (range_with_len low (high + 1 - low)) ≡ is_within high (Some k)
-first_between test low high k above holds before = by (cases_lt high k)
+-- a test holds between two numbers just where the first number at which it does isn't past them
+pub between : (test : ℕ → Bool) (low high : ℕ) (first : Option ℕ) → IsFirstFrom low test first
+    → list_any test (range_with_len low (high + 1 - low)) ≡ is_within high first
+between test low high None none = none_from test low (high + 1 - low) (λ k above below. none k above)
+between test low high (Some k) first = by (cases_lt high k)
   where
     by : (high < k) ⊎ (k ≤ high) → list_any test (range_with_len low (high + 1 - low)) ≡ nat_le k high
-    by (inl past) = none_between test low high (λ p a b. before p a (omega arith)) ∙ sym (lt-leb k high past)
-    by (inr within) = some_between test low high k above within holds ∙ sym (le-leb k high within)
-
-pub first_here : (test : ℕ → Bool) (low high : ℕ) → test low ≡ true → list_any test (range_with_len low (high + 1 - low)) ≡ is_within high (Some low)
-first_here test low high holds = first_between test low high low (omega arith) holds (λ p a b. absurd (omega arith))
+    by (inl past) = none_from test low (high + 1 - low) (λ p a b. first.before p a (omega arith)) ∙ sym (lt-leb k high past)
+    by (inr within) =
+        let above : low ≤ k = first.above in
+        let place : get_or (range_with_len low (high + 1 - low)) (k - low) 0 ≡ k =
+        (let e = get_or-range_with_len low (high + 1 - low) (k - low) 0 (omega (arith, above)) in omega (arith, e, above)) in
+        list_any_at test (range_with_len low (high + 1 - low)) (k - low) 0 (let l = length-range_with_len low (high + 1 - low) in omega (arith, l, above))
+        (ap test place ∙ first.holds)
+        ∙ sym (le-leb k high within)
 
 -- ---- a test that turns
 
@@ -89,28 +82,25 @@ passes_at ats p rising lt = record {
   after = λ q above within. AllPairs-from_increasing ats rising p q 0 (omega arith) within;
 }
 
--- up to the next of them none is
-passes_until : (ats : List ℕ) (low i k : ℕ) → Passes ats low i → low ≤ k → ((p : ℕ) → i ≤ p → p < length ats → k < get_or ats p 0) → Passes ats k i
-passes_until ats low i k was le next = record { few = was.few; before = λ p lt. (let b = was.before p lt in omega (arith, b)); after = next }
-
 -- where an odd number of them was passed, a test that turns there holds from the next of them on
-pub even_next_at : (test : ℕ → Bool) (ats : List ℕ) (low high count : ℕ) → TurnsAt test ats → Passes ats low count → is_even count ≡ false
-    → list_any test (range_with_len low (high + 1 - low)) ≡ is_within high (slice_get ats count)
-even_next_at test ats low high count turns here odd = by (cases_lt count (length ats))
+pub even_next_at : (test : ℕ → Bool) (ats : List ℕ) (low count : ℕ) → TurnsAt test ats → Passes ats low count → is_even count ≡ false
+    → IsFirstFrom low test (slice_get ats count)
+even_next_at test ats low count turns here odd = by (cases_lt count (length ats))
   where
+    -- up to the next of them none is
     later : (k : ℕ) → low ≤ k → ((p : ℕ) → count ≤ p → p < length ats → k < get_or ats p 0) → test k ≡ false
-    later k le next = turns.tells k count (passes_until ats low count k here le next) ∙ odd
+    later k le next =
+        turns.tells k count (record { few = here.few; before = λ p lt. (let b = here.before p lt in omega (arith, b, le)); after = next }) ∙ odd
 
-    by : (count < length ats) ⊎ (length ats ≤ count) → list_any test (range_with_len low (high + 1 - low)) ≡ is_within high (slice_get ats count)
+    by : (count < length ats) ⊎ (length ats ≤ count) → IsFirstFrom low test (slice_get ats count)
     by (inl within) =
-        let k = get_or ats count 0 in
         let above = here.after count (omega arith) within in
-        first_between test low high k (omega (arith, above)) (turns.tells k (count + 1) (passes_at ats count turns.rising within) ∙ even_next count odd)
-        (λ p a b. later p a (λ q le lt. let c = rising_weakly ats turns.rising count q le lt in omega (arith, b, c)))
-        ∙ ap (is_within high) (sym (slice_get-get_or ats count 0 within))
-    by (inr past) =
-        none_between test low high (λ k a b. later k a (λ p le lt. absurd (omega arith)))
-        ∙ ap (is_within high) (sym (slice_get_past ats count past))
+        subst (IsFirstFrom low test) (sym (slice_get-get_or ats count 0 within)) (record {
+          above = omega (arith, above);
+          holds = turns.tells (get_or ats count 0) (count + 1) (passes_at ats count turns.rising within) ∙ even_next count odd;
+          before = λ p a b. later p a (λ q le lt. let c = rising_weakly ats turns.rising count q le lt in omega (arith, b, c));
+        })
+    by (inr past) = subst (IsFirstFrom low test) (sym (slice_get_past ats count past)) (λ k a. later k a (λ p le lt. absurd (omega arith)))
 
 -- ---- a test that holds from one of them to the next
 
@@ -133,65 +123,55 @@ module _ (ats : List ℕ) (rising : IsStrictlyIncreasing ats) (k : ℕ) where
   pub passed : (i : ℕ) × Passes ats k i
   passed = passed_below (length ats) (omega arith) (λ p le lt. absurd (omega arith))
 
-pub with_past : (test : ℕ → Bool) (ats : List ℕ) (low high count v : ℕ) → HoldsFrom test v ats → Passes ats low count → v < count
-    → list_any test (range_with_len low (high + 1 - low)) ≡ is_within high None
-with_past test ats low high count v holds here past = none_between test low high (λ k a b. at k a (passed ats holds.rising k))
-  where
-    at : (k : ℕ) → low ≤ k → ((i : ℕ) × Passes ats k i) → test k ≡ false
-    at k a (i, there) = holds.tells k i there ∙ differs i v (by (cases_lt i count))
-      where
-        by : (i < count) ⊎ (count ≤ i) → i ≢ v
-        by (inl less) = let f = here.few in let b = here.before i less in let c = there.after i (omega arith) (omega arith) in absurd (omega (arith, b, c))
-        by (inr more) = λ e. omega arith
+module _ (test : ℕ → Bool) (ats : List ℕ) (low count v : ℕ) (holds : HoldsFrom test v ats) (here : Passes ats low count) where
+  pub with_past : v < count → IsFirstFrom low test None
+  with_past past k a = at (passed ats holds.rising k)
+    where
+      at : ((i : ℕ) × Passes ats k i) → test k ≡ false
+      at (i, there) = holds.tells k i there ∙ differs i v (by (cases_lt i count))
+        where
+          by : (i < count) ⊎ (count ≤ i) → i ≢ v
+          by (inl less) =
+              let f = here.few in let b = here.before i less in let c = there.after i (omega arith) (omega arith) in absurd (omega (arith, b, c))
+          by (inr more) = λ e. omega arith
 
-pub with_later : (test : ℕ → Bool) (ats : List ℕ) (low high count v : ℕ) → HoldsFrom test v ats → Passes ats low count → count < v
-    → list_any test (range_with_len low (high + 1 - low)) ≡ is_within high (slice_get ats (v - 1))
-with_later test ats low high count v holds here more = by (cases_lt (v - 1) (length ats))
-  where
-    below : (k i : ℕ) → Passes ats k i → i < v → test k ≡ false
-    below k i there lt = holds.tells k i there ∙ differs i v (λ e. omega arith)
+  pub with_later : count < v → IsFirstFrom low test (slice_get ats (v - 1))
+  with_later more = by (cases_lt (v - 1) (length ats))
+    where
+      below : (k i : ℕ) → Passes ats k i → i < v → test k ≡ false
+      below k i there lt = holds.tells k i there ∙ differs i v (λ e. omega arith)
 
-    before : v - 1 < length ats → (k : ℕ) → k < get_or ats (v - 1) 0 → ((i : ℕ) × Passes ats k i) → test k ≡ false
-    before within k lt (i, there) = below k i there (less (cases_lt i v))
-      where
-        less : (i < v) ⊎ (v ≤ i) → i < v
-        less (inl is) = is
-        less (inr not) = let b = there.before (v - 1) (omega arith) in absurd (omega (arith, b))
+      before : v - 1 < length ats → (k : ℕ) → k < get_or ats (v - 1) 0 → ((i : ℕ) × Passes ats k i) → test k ≡ false
+      before within k lt (i, there) = below k i there (less (cases_lt i v))
+        where
+          less : (i < v) ⊎ (v ≤ i) → i < v
+          less (inl is) = is
+          less (inr not) = let b = there.before (v - 1) (omega arith) in absurd (omega (arith, b))
 
-    beyond : length ats ≤ v - 1 → (k : ℕ) → ((i : ℕ) × Passes ats k i) → test k ≡ false
-    beyond past k (i, there) = let f = there.few in below k i there (omega (arith, f))
+      beyond : length ats ≤ v - 1 → (k : ℕ) → ((i : ℕ) × Passes ats k i) → test k ≡ false
+      beyond past k (i, there) = let f = there.few in below k i there (omega (arith, f))
 
-    by : (v - 1 < length ats) ⊎ (length ats ≤ v - 1) → list_any test (range_with_len low (high + 1 - low)) ≡ is_within high (slice_get ats (v - 1))
-    by (inl within) =
-        let above = here.after (v - 1) (omega arith) within in
-        let next : v - 1 + 1 ≡ v = omega arith in
-        first_between test low high (get_or ats (v - 1) 0) (omega (arith, above))
-        (holds.tells (get_or ats (v - 1) 0) (v - 1 + 1) (passes_at ats (v - 1) holds.rising within) ∙ equals (v - 1 + 1) v next)
-        (λ k a lt. before within k lt (passed ats holds.rising k))
-        ∙ ap (is_within high) (sym (slice_get-get_or ats (v - 1) 0 within))
-    by (inr past) = none_between test low high (λ k a b. beyond past k (passed ats holds.rising k))
-        ∙ ap (is_within high) (sym (slice_get_past ats (v - 1) past))
+      by : (v - 1 < length ats) ⊎ (length ats ≤ v - 1) → IsFirstFrom low test (slice_get ats (v - 1))
+      by (inl within) =
+          let above = here.after (v - 1) (omega arith) within in
+          let next : v - 1 + 1 ≡ v = omega arith in
+          subst (IsFirstFrom low test) (sym (slice_get-get_or ats (v - 1) 0 within)) (record {
+            above = omega (arith, above);
+            holds = holds.tells (get_or ats (v - 1) 0) (v - 1 + 1) (passes_at ats (v - 1) holds.rising within) ∙ equals (v - 1 + 1) v next;
+            before = λ k a lt. before within k lt (passed ats holds.rising k);
+          })
+      by (inr past) = subst (IsFirstFrom low test) (sym (slice_get_past ats (v - 1) past)) (λ k a. beyond past k (passed ats holds.rising k))
 
 -- ---- so far
 
-pub rise_push : (m at : ℕ) (ats : List ℕ) → at ≡ m + 1 → RiseTo m ats → RiseTo at (ats ++ at ∷ [])
-rise_push m at ats is was = record {
-  rising = rising_more ats at was.rising (All-from_get_or (λ p. p < at) ats 0 (λ p lt. (let b = was.below p lt in omega (arith, b, is))));
-  below = λ p lt. by p (cases_lt p (length ats)) lt;
-}
+all_passed : (m : ℕ) (ats : List ℕ) (k i : ℕ) → m ≤ k → ((p : ℕ) → p < length ats → get_or ats p 0 ≤ m) → Passes ats k i → i ≡ length ats
+all_passed m ats k i le below there = by (cases_lt i (length ats))
   where
-    by : (p : ℕ) → (p < length ats) ⊎ (length ats ≤ p) → p < length (ats ++ at ∷ []) → get_or (ats ++ at ∷ []) p 0 ≤ at
-    by p (inl within) lt = let b = was.below p within in let e = get_or_append_left ats (at ∷ []) 0 p within in omega (arith, b, e, is)
-    by p (inr past) lt =
-        let l = length-append ats (at ∷ []) in
-        let same : p ≡ length ats = omega (arith, l) in
-        let e = get_or_push ats at 0 p (sym same) in
-        omega (arith, e)
+    by : (i < length ats) ⊎ (length ats ≤ i) → i ≡ length ats
+    by (inl less) = let a = there.after i (omega arith) less in let b = below i less in absurd (omega (arith, a, b, le))
+    by (inr more) = let f = there.few in omega (arith, f)
 
-pub rise_stay : (m at : ℕ) (ats : List ℕ) → at ≡ m + 1 → RiseTo m ats → RiseTo at ats
-rise_stay m at ats is was = record { rising = was.rising; below = λ p lt. (let b = was.below p lt in omega (arith, b, is)) }
-
--- how many are passed below the last of them, and at it
+-- how many are passed below the last of them
 pushed_below : (ats : List ℕ) (at k i : ℕ) → k < at → Passes (ats ++ at ∷ []) k i → Passes ats k i
 pushed_below ats at k i lt there =
     let few : i ≤ length ats = by (cases_lt (length ats) i) in
@@ -206,72 +186,67 @@ pushed_below ats at k i lt there =
     by (inl more) = let b = there.before (length ats) more in let e = get_or_push ats at 0 (length ats) refl in absurd (omega (arith, b, e, lt))
     by (inr is) = is
 
-all_passed : (m : ℕ) (ats : List ℕ) (k i : ℕ) → m ≤ k → ((p : ℕ) → p < length ats → get_or ats p 0 ≤ m) → Passes ats k i → i ≡ length ats
-all_passed m ats k i le below there = by (cases_lt i (length ats))
-  where
-    by : (i < length ats) ⊎ (length ats ≤ i) → i ≡ length ats
-    by (inl less) = let a = there.after i (omega arith) less in let b = below i less in absurd (omega (arith, a, b, le))
-    by (inr more) = let f = there.few in omega (arith, f)
+module _ (So : ℕ → ℕ → Type 0) (m : ℕ) (ats : List ℕ) (was : TracksTo So m ats) where
+  -- at m all of them are passed
+  pub at_last : So m (length ats)
+  at_last = was.tells m (length ats) (omega arith) (record { few = omega arith; before = was.below; after = λ p le lt. absurd (omega arith) })
 
-pub passes_all : (m : ℕ) (ats : List ℕ) → ((p : ℕ) → p < length ats → get_or ats p 0 ≤ m) → Passes ats m (length ats)
-passes_all m ats below = record { few = omega arith; before = below; after = λ p le lt. absurd (omega arith) }
-
--- generic over what is told of a number and how many are passed there
-module _ (Told : ℕ → ℕ → Type 0) where
-  pub told_stay : (m at : ℕ) (ats : List ℕ) → at ≡ m + 1 → RiseTo m ats → ((k i : ℕ) → k ≤ m → Passes ats k i → Told k i) → Told at (length ats) → (k i : ℕ)
-      → k ≤ at → Passes ats k i → Told k i
-  told_stay m at ats is rise was now k i le there = by (cases_lt m k)
+  -- none at the next number
+  pub stay : So (m + 1) (length ats) → TracksTo So (m + 1) ats
+  stay now = record {
+    rising = was.rising;
+    below = λ p lt. (let b = was.below p lt in omega (arith, b));
+    tells = λ k i le there. by k i le there (cases_lt m k);
+  }
     where
-      by : (m < k) ⊎ (k ≤ m) → Told k i
-      by (inl past) =
-          let here : at ≡ k = omega arith in
-          let all = all_passed m ats k i (omega arith) rise.below there in
-          subst (λ x. Told x i) here (subst (Told at) (sym all) now)
-      by (inr within) = was k i within there
+      by : (k i : ℕ) → k ≤ m + 1 → Passes ats k i → (m < k) ⊎ (k ≤ m) → So k i
+      by k i le there (inl past) =
+          let here : m + 1 ≡ k = omega (arith, le, past) in
+          subst (λ x. So x i) here (subst (So (m + 1)) (sym (all_passed m ats k i (omega (arith, past)) was.below there)) now)
+      by k i le there (inr within) = was.tells k i within there
 
-  pub told_push : (m at : ℕ) (ats : List ℕ) → at ≡ m + 1 → RiseTo m ats → ((k i : ℕ) → k ≤ m → Passes ats k i → Told k i) → Told at (length ats + 1) → (k i : ℕ)
-      → k ≤ at → Passes (ats ++ at ∷ []) k i → Told k i
-  told_push m at ats is rise was now k i le there = by (cases_lt m k)
+  -- one there
+  pub push : So (m + 1) (length ats + 1) → TracksTo So (m + 1) (ats ++ (m + 1) ∷ [])
+  push now = record {
+    rising = rising_more ats (m + 1) was.rising (All-from_get_or (λ p. p < m + 1) ats 0 (λ p lt. (let b = was.below p lt in omega (arith, b))));
+    below = λ p lt. at_most p lt (cases_lt p (length ats));
+    tells = λ k i le there. by k i le there (cases_lt m k);
+  }
     where
-      by : (m < k) ⊎ (k ≤ m) → Told k i
-      by (inl past) =
-          let here : at ≡ k = omega arith in
-          let l = length-append ats (at ∷ []) in
-          let all = all_passed at (ats ++ at ∷ []) k i (omega arith) (rise_push m at ats is rise).below there in
+      at_most : (p : ℕ) → p < length (ats ++ (m + 1) ∷ []) → (p < length ats) ⊎ (length ats ≤ p) → get_or (ats ++ (m + 1) ∷ []) p 0 ≤ m + 1
+      at_most p lt (inl within) = let b = was.below p within in let e = get_or_append_left ats ((m + 1) ∷ []) 0 p within in omega (arith, b, e)
+      at_most p lt (inr past) =
+          let l = length-append ats ((m + 1) ∷ []) in
+          let same : p ≡ length ats = omega (arith, l, lt, past) in
+          let e = get_or_push ats (m + 1) 0 p (sym same) in
+          omega (arith, e)
+
+      by : (k i : ℕ) → k ≤ m + 1 → Passes (ats ++ (m + 1) ∷ []) k i → (m < k) ⊎ (k ≤ m) → So k i
+      by k i le there (inl past) =
+          let here : m + 1 ≡ k = omega (arith, le, past) in
+          let l = length-append ats ((m + 1) ∷ []) in
+          let all = all_passed (m + 1) (ats ++ (m + 1) ∷ []) k i (omega (arith, past)) (λ p lt. at_most p lt (cases_lt p (length ats))) there in
           let count : length ats + 1 ≡ i = omega (arith, all, l) in
-          subst (λ x. Told x i) here (subst (Told at) count now)
-      by (inr within) = was k i within (pushed_below ats at k i (omega arith) there)
+          subst (λ x. So x i) here (subst (So (m + 1)) count now)
+      by k i le there (inr within) = was.tells k i within (pushed_below ats (m + 1) k i (omega (arith, within)) there)
 
-pub turns_stay : (test : ℕ → Bool) (m at : ℕ) (ats : List ℕ) → at ≡ m + 1 → test at ≡ is_even (length ats) → TurnsTo test m ats → TurnsTo test at ats
-turns_stay test m at ats is same was = record {
-  rise = rise_stay m at ats is was.rise;
-  tells = told_stay
-      (λ k i. test k ≡ is_even i) m at ats is was.rise was.tells same;
-}
+  -- where nothing changes any more, all is told
+  pub done : ((k : ℕ) → m ≤ k → So m (length ats) → So k (length ats)) → Tracks So ats
+  done ends = record { rising = was.rising; tells = λ k i there. by k i there (cases_lt m k) }
+    where
+      by : (k i : ℕ) → Passes ats k i → (m < k) ⊎ (k ≤ m) → So k i
+      by k i there (inl past) =
+          subst (So k) (sym (all_passed m ats k i (omega (arith, past)) was.below there)) (ends k (omega (arith, past)) at_last)
+      by k i there (inr within) = was.tells k i within there
 
-pub counts_stay : (f : ℕ → ℕ) (m at : ℕ) (ats : List ℕ) → at ≡ m + 1 → f at ≡ f m + 0 → CountsTo f m ats → CountsTo f at ats
-counts_stay f m at ats is same was =
-    let here = was.tells m (length ats) (omega arith) (passes_all m ats was.rise.below) in
-    record { rise = rise_stay m at ats is was.rise; tells = told_stay (λ k i. f k ≡ i) m at ats is was.rise was.tells (omega (arith, same, here)) }
+-- what is counted at the next number
+module _ (f : ℕ → ℕ) (m at : ℕ) (ats : List ℕ) (is : at ≡ m + 1) (was : TracksTo (λ k i. f k ≡ i) m ats) where
+  pub counts_stay : f at ≡ f m + 0 → TracksTo (λ k i. f k ≡ i) at ats
+  counts_stay same =
+      subst (λ n. TracksTo (λ k i. f k ≡ i) n ats) (sym is)
+      (stay (λ k i. f k ≡ i) m ats was (ap f (sym is) ∙ same ∙ (let e = at_last (λ k i. f k ≡ i) m ats was in omega (arith, e))))
 
-pub counts_push : (f : ℕ → ℕ) (m at : ℕ) (ats : List ℕ) → at ≡ m + 1 → f at ≡ f m + 1 → CountsTo f m ats → CountsTo f at (ats ++ at ∷ [])
-counts_push f m at ats is more was =
-    let here = was.tells m (length ats) (omega arith) (passes_all m ats was.rise.below) in
-    record { rise = rise_push m at ats is was.rise; tells = told_push (λ k i. f k ≡ i) m at ats is was.rise was.tells (omega (arith, more, here)) }
-
--- where nothing changes any more, all is told
-pub turns_done : (test : ℕ → Bool) (m : ℕ) (ats : List ℕ) → ((k : ℕ) → m ≤ k → test k ≡ test m) → TurnsTo test m ats → TurnsAt test ats
-turns_done test m ats ends was = record { rising = was.rise.rising; tells = λ k i there. by k i there (cases_lt m k) }
-  where
-    by : (k i : ℕ) → Passes ats k i → (m < k) ⊎ (k ≤ m) → test k ≡ is_even i
-    by k i there (inl past) = ends k (omega arith) ∙ was.tells m (length ats) (omega arith) (passes_all m ats was.rise.below)
-        ∙ ap is_even (sym (all_passed m ats k i (omega arith) was.rise.below there))
-    by k i there (inr within) = was.tells k i within there
-
-pub counts_done : (f : ℕ → ℕ) (m : ℕ) (ats : List ℕ) → ((k : ℕ) → m ≤ k → f k ≡ f m) → CountsTo f m ats → (k i : ℕ) → Passes ats k i → f k ≡ i
-counts_done f m ats ends was k i there = by (cases_lt m k)
-  where
-    by : (m < k) ⊎ (k ≤ m) → f k ≡ i
-    by (inl past) = ends k (omega arith) ∙ was.tells m (length ats) (omega arith) (passes_all m ats was.rise.below)
-        ∙ sym (all_passed m ats k i (omega arith) was.rise.below there)
-    by (inr within) = was.tells k i within there
+  pub counts_push : f at ≡ f m + 1 → TracksTo (λ k i. f k ≡ i) at (ats ++ at ∷ [])
+  counts_push more =
+      subst (λ n. TracksTo (λ k i. f k ≡ i) n (ats ++ n ∷ [])) (sym is)
+      (push (λ k i. f k ≡ i) m ats was (ap f (sym is) ∙ more ∙ (let e = at_last (λ k i. f k ≡ i) m ats was in omega (arith, e))))

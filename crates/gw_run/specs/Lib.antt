@@ -4,6 +4,5 @@ pub mod Given
 pub mod Rows
 pub mod Report
 pub mod Turns
-pub mod Gathers
 pub mod Owing
 pub mod own

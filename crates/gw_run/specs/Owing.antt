@@ -1,11 +1,9 @@
--- What waited when a lawful journal had its first entries: pairs to be taken, and at a receiver's desk, which keeps here of a translation only that there is
--- one.
-use Rattle.std.specs.Prelude.{ℕ, ◌<◌, ◌==◌, ⊤, Bool, if◌then◌else◌, List, [], ◌∷◌, All, map, length, take, slice_get, option_map}
+-- What waited when a lawful journal had its first entries: pairs to be taken, and translations at a receiver's desk.
+use Rattle.std.specs.Prelude.{ℕ, ◌<◌, ◌==◌, ⊤, Bool, if◌then◌else◌, List, [], ◌∷◌, All, length, take, slice_get}
 use Rattle.gw_reorder.specs.State.{DeskState, with_due}
 use Rattle.gw_reorder.specs.Calls.{after_holding, after_giving, next_of}
-use Rattle.gw_reorder.specs.own.Standing.{Stands}
 use Rattle.gw_gate.specs.Headline.{IsTranslated}
-use Rattle.gw_gate.specs.Journal.{EntrySeen, WasAccepted, WasKept, WasOut, Release, Start, due, issued, jobs, kept, released}
+use Rattle.gw_gate.specs.Journal.{EntrySeen, WasAccepted, WasKept, WasOut, Start, due, issued, jobs, released}
 use Rattle.gw_gate.specs.Lawful.{Lawful}
 use Rattle.gw_gate.specs.Meaning.{Makes}
 use Rattle.gw_gate.specs.Parts.{TranslatedSeen, delivers}
@@ -13,7 +11,7 @@ use Rattle.gw_gate.specs.Replies.{job_of, out_of}
 use Rattle.gw_run.specs.Settled.{is_idle, is_nothing}
 
 abbrev pub Desk : Type 0
-Desk = DeskState ⊤
+Desk = DeskState TranslatedSeen
 
 -- the entries of a lawful journal
 pub record AreLawful (h : List EntrySeen) : Type 0 where
@@ -28,20 +26,10 @@ waits_none h k = is_idle (job_of (take k h) (slice_get (issued (take k h)) (jobs
 abbrev pub gives_none : List EntrySeen → ℕ → ℕ → Bool
 gives_none h r k = is_nothing (out_of (take k h) r (slice_get (due (take k h) r) (length (released (take k h) r))))
 
-abbrev pub token : TranslatedSeen → ⊤
-token t = tt
-
-abbrev pub number_of : Release → ℕ × ⊤
-number_of out = (out.n, tt)
-
--- these entries lead to this desk
-abbrev pub Owes : List EntrySeen → ℕ → Desk → Type 0
-Owes h r s = Stands s (due h r) (map number_of (released h r)) (λ n. option_map token (kept h n r))
-
 -- the receiver's desk after an entry
 abbrev pub after_entry : EntrySeen → ℕ → Desk → Desk
 after_entry (WasAccepted n arrival c) r s = if delivers c r then with_due s n else s
-after_entry (WasKept n t) r s = if t.receiver == r then after_holding s n tt else s
+after_entry (WasKept n t) r s = if t.receiver == r then after_holding s n t else s
 after_entry (WasOut n to t) r s = if to == r then after_giving s (next_of s) else s
 after_entry e r s = s
 
@@ -60,6 +48,6 @@ concerned e = []
 -- the desk of one of them after the entry
 abbrev pub entered : EntrySeen → Desk → Desk
 entered (WasAccepted n arrival c) s = with_due s n
-entered (WasKept n t) s = after_holding s n tt
+entered (WasKept n t) s = after_holding s n t
 entered (WasOut n to t) s = after_giving s (next_of s)
 entered e s = s

@@ -1,6 +1,7 @@
 -- Notes about a toy's journals, and what waits for its receivers.
-use Rattle.std.specs.Prelude.{ℕ, List, [], ◌∷◌, Option, ⊤, fold}
+use Rattle.std.specs.Prelude.{ℕ, List, [], ◌∷◌, Option, fold}
 use Rattle.gw_gate.specs.Journal.{EntrySeen, Journal, WasAccepted, WasSwapped, WasTaken, WasKept, WasOut, opening, start_after}
+use Rattle.gw_gate.specs.Parts.{TranslatedSeen}
 use Rattle.gw_gate.specs.Replies.{Arrives, Swaps, Takes, Puts, Releases, run, most}
 use Rattle.gw_gate.specs.Toy.{first_plan, second_plan, message, made, opened}
 use Rattle.gw_reorder.specs.State.{nothing_due}
@@ -81,7 +82,7 @@ denying = Added 5 (WasTaken 1 0) ∷ WasFull ∷ []
 
 -- ---- what is due to a receiver and waits
 
-abbrev pub owing : List ℕ → ℕ → List (Option ⊤) → Desk
+abbrev pub owing : List ℕ → ℕ → List (Option TranslatedSeen) → Desk
 owing due given kept = record { due = due; released = given; kept = kept; room = 0 }
 
 -- the receiver's desk after these entries

@@ -1,5 +1,4 @@
 -- The program's own words: no public contract rests on them.
 pub mod Queues
 pub mod Joins
-pub mod Tellings
 pub mod Steps

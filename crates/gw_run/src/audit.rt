@@ -1,11 +1,9 @@
 //! The audit: whether the notes of all passes are settled.
-ghost use Rattle.std.specs.Prelude.{◌≡◌, ◌↔◌, ◌≤◌, ℕ, IfOk, List, IsTrue, flat_map, length, replicate};
+ghost use Rattle.std.specs.Prelude.{◌≡◌, ◌↔◌, IfOk, IsTrue, flat_map, length};
 ghost use Rattle.std.specs.List.{list_all};
-ghost use Rattle.gw_gate.specs.Journal.{Journal};
-ghost use Rattle.gw_run.specs.own.Joins.{Marks};
+ghost use Rattle.gw_run.specs.own.Joins.{Marks, notes_of};
 ghost use Rattle.gw_run.specs.Passes.{receipts};
-ghost use Rattle.gw_run.specs.Settled.{GoOn, Settled, agrees, last_end};
-ghost use Rattle.gw_run.specs.own.Tellings.{TellsAll, notes_of};
+ghost use Rattle.gw_run.specs.Settled.{GoOn, Settled, agrees};
 
 use crate::note_check::agrees;
 use crate::parts::{Part, first_of, go_on, last_of};
@@ -16,7 +14,7 @@ use std::sync::ledger::Ledger;
 
 // Whether the notes of each pass agree with the chapters, where there were since entries before them.
 pub(crate) fn all_agree<L: Ledger>(parts: &[Part], since: usize, passes: &[Receipts<L>]) -> bool
-    ensures { (js : List Journal) → TellsAll js parts.now → GoOn js → result ≡ list_all (agrees js since) (notes_of passes.now) }
+    ensures { GoOn parts.now → result ≡ list_all (agrees parts.now since) (notes_of passes.now) }
 {
     for pass in passes {
         if !agrees(parts, since, pass.notes()) {
@@ -24,17 +22,6 @@ pub(crate) fn all_agree<L: Ledger>(parts: &[Part], since: usize, passes: &[Recei
         }
     }
     true
-}
-
-// No receipt has any of the numbers.
-fn unmarked(alloc: Global, count: usize) -> Result<Vec<u8>, AllocError>
-    ensures { IfOk result (λ marks. marks.items ≡ replicate count 0) }
-{
-    let mut marks = Vec::new(alloc);
-    for _ in 0..count {
-        marks.push(0)?;
-    }
-    Ok(marks)
 }
 
 // How often each number from since on is that of a receipt.
@@ -47,7 +34,7 @@ pub(crate) fn marks_of<L: Ledger>(
     ensures marks { IfOk result (λ marks. Marks since (flat_map receipts (notes_of passes.now)) marks.items) }
     ensures count { IfOk result (λ marks. length marks.items ≡ count) }
 {
-    let mut marks = unmarked(alloc, count)?;
+    let mut marks = vec![in alloc; 0; count]?;
     for pass in passes {
         mark_notes(&mut marks, since, pass.notes());
     }
@@ -61,8 +48,7 @@ pub(crate) fn is_settled<L: Ledger>(
     since: usize,
     passes: &[Receipts<L>],
 ) -> Result<bool, AllocError>
-    ensures { IfOk result (λ b. (js : List Journal) → TellsAll js parts.now → since ≤ last_end 0 js
-        → IsTrue b ↔ Settled js since (notes_of passes.now)) }
+    ensures { IfOk result (λ b. IsTrue b ↔ Settled parts.now since (notes_of passes.now)) }
 {
     if !go_on(parts) {
         return Ok(false);

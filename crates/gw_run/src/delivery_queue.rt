@@ -1,35 +1,37 @@
 //! When there is nothing to be given out for a receiver, entry by entry.
 ghost use Rattle.std.specs.Prelude.{◌≡◌, ◌≢◌, ◌<◌, ℕ, All, IfOk, OnOk, Some, is_some, length, nat_eq, not, slice_get};
 ghost use Rattle.std.specs.List.{IsDistinct};
-ghost use Rattle.gw_reorder.specs.Calls.{next_of};
+ghost use Rattle.gw_reorder.specs.Calls.{after_holding, next_of};
 ghost use Rattle.gw_reorder.specs.State.{SameButRoom, with_due};
 ghost use Rattle.gw_gate.specs.Entries.{entry_seen, entries_seen};
 ghost use Rattle.gw_gate.specs.Seen.{conforming_seen};
+ghost use Rattle.gw_gate.specs.own.Desks.{desk_seen, value_seen};
 ghost use Rattle.gw_run.specs.Owing.{AreLawful, MayEnter, concerned, entered, gives_none};
 ghost use Rattle.gw_run.specs.own.Queues.{Advanced, ConcernsOnce, MovedIf, queue_at};
 ghost use Rattle.gw_run.specs.Turns.{TurnsAt};
 
 use crate::turning_points::turn_to;
 use gw_gate::{Entry, receiver_at, receiver_count};
-use gw_plan::Conforming;
+use gw_plan::{Conforming, Translated};
 use gw_reorder::Desk;
 use std::alloc::{AllocError, Global};
 use std::marker::Model;
+use std::sync::Arc;
 
-// A receiver's desk, which keeps of a translation only that there is one,
-// and the numbers of entries at which there began or ceased to be nothing to be given out.
+// A receiver's desk, and the numbers of entries at which there began or ceased to be nothing to be given out.
 #[derive(Drop)]
 pub(crate) struct Queue {
-    desk: Desk<()>,
+    desk: Desk<Arc<Translated>>,
     turns: Vec<usize>,
 }
 
 impl Model for Queue {
+    ghost use Rattle.gw_gate.specs.own.Desks.{desk_seen};
     ghost use Rattle.gw_run.specs.own.Queues.{QueueSeen};
 
     ghost Value = { QueueSeen };
 
-    ghost view = { λ q. record { desk = q.desk; turns = q.turns.items } };
+    ghost view = { λ q. record { desk = desk_seen q.desk; turns = q.turns.items } };
 }
 
 // The message's route goes to each of its receivers once, by its type.
@@ -75,26 +77,36 @@ fn concerned_at(entry: &Entry, place: usize) -> usize
 }
 
 // One more number is due.
-fn accept(desk: &mut Desk<()>, n: u64) -> Result<(), AllocError>
+fn accept(desk: &mut Desk<Arc<Translated>>, n: u64) -> Result<(), AllocError>
     requires { All (λ m. m < n) desk.old.due }
-    ensures { OnOk result (SameButRoom (with_due desk.old n) desk.new) }
+    ensures { OnOk result (SameButRoom (with_due (desk_seen desk.old) n) (desk_seen desk.new)) }
 {
     desk.reserve()?;
     desk.due(n);
     Ok(())
 }
 
+// A translation is kept.
+fn keep(
+    desk: &mut Desk<Arc<Translated>>,
+    n: u64,
+    translated: &Arc<Translated>,
+) -> Result<(), AllocError>
+    ensures { OnOk result (desk_seen desk.new ≡ after_holding (desk_seen desk.old) n (value_seen translated.now)) }
+{
+    let copy = Arc::try_clone(translated)?;
+    desk.hold(n, copy);
+    Ok(())
+}
+
 // One entry more, at the desk of a receiver that it concerns.
-fn enter(desk: &mut Desk<()>, entry: &Entry) -> Result<(), AllocError>
-    requires { MayEnter (entry_seen entry.now) desk.old }
-    ensures { OnOk result (SameButRoom (entered (entry_seen entry.now) desk.old) desk.new) }
+fn enter(desk: &mut Desk<Arc<Translated>>, entry: &Entry) -> Result<(), AllocError>
+    requires { MayEnter (entry_seen entry.now) (desk_seen desk.old) }
+    ensures { OnOk result (SameButRoom (entered (entry_seen entry.now) (desk_seen desk.old)) (desk_seen desk.new)) }
 {
     match entry {
         Entry::Accepted { n, .. } => accept(desk, *n),
-        Entry::Kept { n, .. } => {
-            desk.hold(*n, ());
-            Ok(())
-        }
+        Entry::Kept { n, translated } => keep(desk, *n, translated),
         Entry::Out { .. } => {
             desk.release();
             Ok(())
@@ -104,8 +116,8 @@ fn enter(desk: &mut Desk<()>, entry: &Entry) -> Result<(), AllocError>
 }
 
 // Whether there is nothing to be given out.
-fn has_nothing(desk: &Desk<()>) -> bool
-    ensures { result ≡ not (is_some (next_of desk.now)) }
+fn has_nothing(desk: &Desk<Arc<Translated>>) -> bool
+    ensures { result ≡ not (is_some (next_of (desk_seen desk.now))) }
 {
     match desk.peek() {
         Some(_) => false,

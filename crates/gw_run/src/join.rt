@@ -39,7 +39,7 @@ fn settled<L: Ledger>(
 }
 
 // The shares of the passes, put together with a first one.
-#[tactic(auto, using(crate::proofs::Joining::parts_more, crate::proofs::Joining::receipts_more))]
+#[tactic(auto, using(crate::proofs::Marking::parts_more, crate::proofs::Marking::receipts_more))]
 fn merged<L: Ledger>(first: Share<L>, passes: Vec<Receipts<L>>) -> Share<L>
     ensures parts { result.parts ≡ first.parts + part_count passes.items }
     ensures amount { result.amount ≡ first.amount + receipt_count passes.items }

@@ -61,7 +61,7 @@ pub fn owed_rows()
 
 /// The receiver's desk that the program has for it, one entry after the other.
 pub fn owed_walks()
-    ensures worked { desk_by worked.entries 0 ≡ owing (0 ∷ 1 ∷ []) 0 (Some tt ∷ Some tt ∷ []) }
+    ensures worked { desk_by worked.entries 0 ≡ owing (0 ∷ 1 ∷ []) 0 (Some (made 10) ∷ Some (made 11) ∷ []) }
     ensures swapped { desk_by swapped.entries 0 ≡ owing (0 ∷ []) 1 [] }
     ensures elsewhere { desk_by worked.entries 1 ≡ nothing_due }
     ensures unasked { after_entry (WasKept 4 (made 10)) 0 (owing (3 ∷ []) 0 (None ∷ [])) ≡ owing (3 ∷ []) 0 (None ∷ []) }

@@ -5,6 +5,7 @@ use crate::pass::Pass;
 use gw_crew::{Note, Phase};
 use gw_gate::{Event, Gate, Reply};
 use std::alloc::Global;
+use std::array;
 use std::sync::ledger::{Book, Ledger, Share};
 use std::sync::{Condvar, Mutex, Wait};
 
@@ -26,24 +27,7 @@ pub struct LockedGate<L: Ledger> {
 
 // One condition for each rest, shared by the receivers whose numbers leave it.
 fn row() -> [Condvar; ROW] {
-    [
-        Condvar::new(),
-        Condvar::new(),
-        Condvar::new(),
-        Condvar::new(),
-        Condvar::new(),
-        Condvar::new(),
-        Condvar::new(),
-        Condvar::new(),
-        Condvar::new(),
-        Condvar::new(),
-        Condvar::new(),
-        Condvar::new(),
-        Condvar::new(),
-        Condvar::new(),
-        Condvar::new(),
-        Condvar::new(),
-    ]
+    array::from_fn(|_rest| Condvar::new())
 }
 
 impl<L: Ledger> LockedGate<L> {

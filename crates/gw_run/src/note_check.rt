@@ -1,27 +1,25 @@
 //! Whether the notes of a pass agree with the chapters.
-ghost use Rattle.std.specs.Prelude.{◌≡◌, ◌∷◌, ◌+◌, ◌-◌, ◌&&◌, [], List, nat_le, slice_get};
-ghost use Rattle.gw_gate.specs.Journal.{Journal};
-ghost use Rattle.gw_gate.specs.Entries.{entry_seen, entries_seen};
+ghost use Rattle.std.specs.Prelude.{◌≡◌, ◌∷◌, ◌+◌, ◌-◌, ◌&&◌, [], length, nat_le, slice_get};
+ghost use Rattle.gw_gate.specs.Journal.{end};
+ghost use Rattle.gw_gate.specs.Entries.{entry_seen};
 ghost use Rattle.gw_crew.specs.Notes.{Added};
 ghost use Rattle.gw_crew.specs.Seen.{note_seen, notes_seen};
-ghost use Rattle.gw_run.specs.own.Joins.{FollowsBy, IsFirst, IsFirstIn, next_by, number_in};
+ghost use Rattle.gw_run.specs.own.Joins.{Follows, FollowsBy, IsFirst, IsFirstIn, next_by, number_in};
 ghost use Rattle.gw_run.specs.Settled.{GoOn, agrees, is_same, stands};
-ghost use Rattle.gw_run.specs.own.Tellings.{Follows, Tells, TellsAll};
 
-use crate::history::History;
 use crate::parts::{Part, last_of};
 use gw_crew::{Note, Receipt};
 use gw_gate::Entry;
 
 // Whether the chapter has this entry under this number over all chapters.
 fn stands_in(part: &Part, at: usize, entry: &Entry) -> bool
-    ensures { result ≡ (nat_le part.now.history.start at
-        && is_same (entry_seen entry.now) (slice_get (entries_seen part.now.entries.now) (at - part.now.history.start))) }
+    ensures { result ≡ (nat_le part.now.start.entries at
+        && is_same (entry_seen entry.now) (slice_get part.now.entries (at - part.now.start.entries))) }
 {
-    if at < part.history.start {
+    if at < part.start() {
         return false;
     }
-    match part.entries.get(at - part.history.start) {
+    match part.entries().get(at - part.start()) {
         Some(there) => entry.same(there),
         None => false,
     }
@@ -39,10 +37,10 @@ fn next_by(next: usize, stands: bool) -> Option<usize>
 
 // The number after this one, where the chapters have this entry under it.
 fn next_after(parts: &[Part], at: usize, entry: &Entry) -> Option<usize>
-    ensures { (js : List Journal) → TellsAll js parts.now → GoOn js → result ≡ next_by (at + 1) (stands js at (entry_seen entry.now)) }
+    ensures { GoOn parts.now → result ≡ next_by (at + 1) (stands parts.now at (entry_seen entry.now)) }
 {
     for part in parts {
-        if at < part.history.last {
+        if at < part.end() {
             return next_by(at + 1, stands_in(part, at, entry));
         }
     }
@@ -50,46 +48,47 @@ fn next_after(parts: &[Part], at: usize, entry: &Entry) -> Option<usize>
 }
 
 // The first number of the chapter's own entries, from low on, at which the note fits it.
-fn first_in(history: &History, low: usize, note: &Note) -> Option<usize>
-    ensures { (j : Journal) → Tells j history.now → IsFirstIn j low (note_seen note.now) result }
+fn first_in(part: &Part, low: usize, note: &Note) -> Option<usize>
+    ensures { IsFirstIn part.now low (note_seen note.now) result }
 {
     match note {
-        Note::Look(version, plan) => history.first_look(low, *version, plan),
-        Note::Stale(version, conforming) => history.first_stale(low, *version, conforming),
-        Note::Full => history.first_full(low),
-        Note::Idle => history.first_idle(low),
-        Note::Nothing(receiver) => history.first_nothing(low, *receiver),
+        Note::Look(version, _) => part.first_in_force(low, *version, note),
+        Note::Stale(version, _) => part.first_in_force(low, *version, note),
+        Note::Full => part.first_full(low),
+        Note::Idle => part.first_idle(low),
+        Note::Nothing(receiver) => part.first_nothing(low, *receiver),
         Note::Added(_) => Some(low),
     }
 }
 
 // A number of the chapter's own entries as one over all chapters, where the chapter has that many.
-fn within(history: &History, first: usize) -> Option<usize>
-    ensures { result ≡ number_in history.now.last history.now.entries first }
+fn within(part: &Part, first: usize) -> Option<usize>
+    ensures { result ≡ number_in (end part.now) (length part.now.entries) first }
 {
-    if first > history.entries {
+    let count = part.entries().len();
+    if first > count {
         return None;
     }
-    Some(history.last.saturating_sub(history.entries - first))
+    Some(part.end().saturating_sub(count - first))
 }
 
 // The first number of entries over all chapters, from low on, at which the note fits this one.
-fn fit_in(history: &History, low: usize, note: &Note) -> Option<usize>
-    ensures { (j : Journal) → Tells j history.now → IsFirst (j ∷ []) low (note_seen note.now) result }
+fn fit_in(part: &Part, low: usize, note: &Note) -> Option<usize>
+    ensures { IsFirst (part.now ∷ []) low (note_seen note.now) result }
 {
-    let from = low.saturating_sub(history.start);
-    match first_in(history, from, note) {
-        Some(first) => within(history, first),
+    let from = low.saturating_sub(part.start());
+    match first_in(part, from, note) {
+        Some(first) => within(part, first),
         None => None,
     }
 }
 
 // The first number of entries over all chapters, from low on, at which the note fits one of them.
 fn first_fit(parts: &[Part], low: usize, note: &Note) -> Option<usize>
-    ensures { (js : List Journal) → TellsAll js parts.now → GoOn js → IsFirst js low (note_seen note.now) result }
+    ensures { GoOn parts.now → IsFirst parts.now low (note_seen note.now) result }
 {
     for part in parts {
-        match fit_in(&part.history, low, note) {
+        match fit_in(part, low, note) {
             Some(first) => return Some(first),
             None => {}
         }
@@ -137,7 +136,7 @@ fn after_note(parts: &[Part], low: usize, need: usize, note: &Note) -> Option<(u
 
 // Whether the notes agree with the chapters, where there were since entries before them.
 pub(crate) fn agrees(parts: &[Part], since: usize, notes: &[Note]) -> bool
-    ensures { (js : List Journal) → TellsAll js parts.now → GoOn js → result ≡ agrees js since (notes_seen notes.now) }
+    ensures { GoOn parts.now → result ≡ agrees parts.now since (notes_seen notes.now) }
 {
     let mut low = since;
     let mut need = 0;

@@ -3,8 +3,7 @@ ghost use Rattle.std.specs.Prelude.{◌≡◌, ◌∷◌, ◌++◌, [], IfOk, On
 ghost use Rattle.gw_gate.specs.own.Books.{journal_of};
 ghost use Rattle.gw_gate.specs.Journal.{plans, swapped};
 ghost use Rattle.gw_gate.specs.Entries.{entry_seen, entries_seen, start_seen};
-ghost use Rattle.gw_run.specs.Gathers.{is_swap, swaps_in};
-ghost use Rattle.gw_run.specs.own.Joins.{plans_at};
+ghost use Rattle.gw_run.specs.own.Joins.{is_swap, plans_at, swaps_in};
 ghost use Rattle.gw_run.specs.Turns.{CountsTo};
 
 use crate::turning_points::count_to;

@@ -1,12 +1,12 @@
 //! How many receipts there are for each number of an entry.
-ghost use Rattle.std.specs.Prelude.{◌≡◌, ◌+◌, ◌++◌, ◌∷◌, [], ℕ, List, length};
+ghost use Rattle.std.specs.Prelude.{◌≡◌, ◌==◌, ◌∷◌, [], length};
+ghost use Rattle.std.specs.List.{list_all};
 ghost use Rattle.gw_gate.specs.Journal.{EntrySeen};
 ghost use Rattle.std.specs.Option.{option_to_list};
-ghost use Rattle.gw_crew.specs.Notes.{ReceiptSeen, receipt_of};
+ghost use Rattle.gw_crew.specs.Notes.{receipt_of};
 ghost use Rattle.gw_crew.specs.Seen.{note_seen, notes_seen};
-ghost use Rattle.gw_run.specs.own.Joins.{Marks, MarksMore};
+ghost use Rattle.gw_run.specs.own.Joins.{MarksMore};
 ghost use Rattle.gw_run.specs.Passes.{receipts};
-ghost use Rattle.gw_run.specs.Settled.{are_all};
 
 use gw_crew::Note;
 
@@ -46,12 +46,7 @@ pub(crate) fn mark_notes(marks: &mut Vec<u8>, since: usize, notes: &[Note])
 
 // Whether each number is that of just one receipt.
 pub(crate) fn are_all_marked(marks: &[u8]) -> bool
-    ensures { (since : ℕ) (all : List ReceiptSeen) → Marks since all marks.now → result ≡ are_all since (since + length marks.now) all }
+    ensures { result ≡ list_all (λ m. m == 1) marks.now }
 {
-    for mark in marks {
-        if *mark != 1 {
-            return false;
-        }
-    }
-    true
+    marks.iter().all(|mark| *mark == 1)
 }

@@ -1,8 +1,8 @@
 //! What is reported of the chapters of a journal.
 ghost use Rattle.std.specs.Prelude.{◌≡◌, ◌<◌, ◌^◌, count_by, length};
+ghost use Rattle.gw_gate.specs.Chapters.{all_entries};
 ghost use Rattle.gw_gate.specs.Entries.{entry_seen, entries_seen};
 ghost use Rattle.gw_run.specs.Report.{is_of, report_of};
-ghost use Rattle.gw_run.specs.own.Tellings.{entries_of};
 
 use crate::parts::Part;
 use gw_gate::Entry;
@@ -51,23 +51,17 @@ fn is_of(kind: Kind, entry: &Entry) -> bool
 pub(crate) fn count(kind: Kind, entries: &[Entry]) -> u64
     ensures { result ≡ count_by (is_of kind) (entries_seen entries.now) }
 {
-    let mut count = 0;
-    for entry in entries {
-        if is_of(kind, entry) {
-            count += 1;
-        }
-    }
-    count
+    entries.iter().filter(|entry| is_of(kind, entry)).count() as u64
 }
 
 // How many entries of the parts are of this kind.
 fn count_all(kind: Kind, parts: &[Part]) -> u64
-    requires { length (entries_of parts.now) < 2 ^ 64 }
-    ensures { result ≡ count_by (is_of kind) (entries_of parts.now) }
+    requires { length (all_entries parts.now) < 2 ^ 64 }
+    ensures { result ≡ count_by (is_of kind) (all_entries parts.now) }
 {
     let mut all = 0;
     for part in parts {
-        all += count(kind, part.entries);
+        all += count(kind, part.entries());
     }
     all
 }
@@ -76,8 +70,8 @@ impl Report {
     // What is reported of the entries of the parts.
     #[tactic(auto, using(crate::proofs::Following::count_any))]
     pub(crate) fn of(parts: &[Part]) -> Self
-        requires { length (entries_of parts.now) < 2 ^ 64 }
-        ensures { result ≡ report_of (entries_of parts.now) }
+        requires { length (all_entries parts.now) < 2 ^ 64 }
+        ensures { result ≡ report_of (all_entries parts.now) }
     {
         Report {
             accepted: count_all(Kind::Accepted, parts),

@@ -1,5 +1,5 @@
 //! Rising numbers at which something turns, and the first number from some on at which it holds.
-ghost use Rattle.std.specs.Prelude.{◌≡◌, ℕ, Bool, OnOk, slice_get};
+ghost use Rattle.std.specs.Prelude.{ℕ, Bool, OnOk};
 ghost use Rattle.std.specs.List.Sorted.{IsStrictlyIncreasing};
 ghost use Rattle.gw_run.specs.Turns.{CountsOn, HoldsFrom, IsFirstFrom, Passes, TurnsAt, TurnsOn};
 
@@ -15,16 +15,6 @@ pub(crate) fn passed(ats: &[usize], low: usize) -> usize
     }
 }
 
-// The number at this place.
-fn number_at(ats: &[usize], place: usize) -> Option<usize>
-    ensures { result ≡ slice_get ats.now place }
-{
-    match ats.get(place) {
-        Some(number) => Some(*number),
-        None => None,
-    }
-}
-
 // The first number, from low on, at which a test holds that turns at these.
 pub(crate) fn first_even(ats: &[usize], low: usize) -> Option<usize>
     ensures { (test : ℕ → Bool) → TurnsAt test ats.now → IsFirstFrom low test result }
@@ -33,7 +23,7 @@ pub(crate) fn first_even(ats: &[usize], low: usize) -> Option<usize>
     if count % 2 == 0 {
         return Some(low);
     }
-    number_at(ats, count)
+    ats.get(count).copied()
 }
 
 // The first number, from low on, at which a test holds that does so from the v-th of these to the next.
@@ -47,7 +37,7 @@ pub(crate) fn first_with(ats: &[usize], low: usize, v: u64) -> Option<usize>
     if v == count {
         return Some(low);
     }
-    number_at(ats, (v - 1) as usize)
+    ats.get((v - 1) as usize).copied()
 }
 
 // At this number a test that turns at these holds, or doesn't.

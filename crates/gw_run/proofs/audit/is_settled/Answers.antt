@@ -1,21 +1,22 @@
-use Rattle.std.proofs.Common.{◌≡◌, ◌+◌, ◌-◌, ◌≤◌, ◌<◌, ◌∙◌, Bool, ℕ, List, false, true, ap, sym, subst, arith, length}
+use Rattle.std.proofs.Common.{◌≡◌, ◌==◌, ◌-◌, ◌≤◌, ◌<◌, ◌∙◌, Bool, ℕ, List, false, true, ap, sym, arith, length}
 use Rattle.std.specs.Prelude.{flat_map, nat_le}
+use Rattle.std.specs.List.{list_all, range_with_len}
 use Rattle.std.proofs.lemmas.Bool.{false≢true}
 use Rattle.std.proofs.lemmas.Grind.{common_steps}
-use Rattle.gw_run.specs.own.Joins.{Marks}
-use Rattle.gw_run.specs.Passes.{PassSeen, receipts}
-use Rattle.gw_run.specs.Settled.{are_all}
-use Rattle.gw_run.specs.own.Tellings.{notes_of}
+use Rattle.gw_crew.specs.Notes.{ReceiptSeen}
+use Rattle.gw_run.specs.own.Joins.{Marks, notes_of}
+use Rattle.gw_run.specs.Passes.{receipts}
+use Rattle.gw_run.specs.Settled.{are_all, having}
+use Rattle.gw_run.proofs.Following.{denies}
+use Rattle.gw_run.proofs.Marking.{marked}
 use Rattle.gw_run.proofs.audit.is_settled.Goals as goal
 
 -- what was marked tells of all numbers up to the end
-marked_is : (end last since : ℕ) (passes : List PassSeen) (marks lent : List ℕ) (b : Bool) → last ≡ end → since ≤ end → lent ≡ marks
-    → length marks ≡ last - since → Marks since (flat_map receipts (notes_of passes)) marks
-    → (Marks since (flat_map receipts (notes_of passes)) lent → b ≡ are_all since (since + length lent) (flat_map receipts (notes_of passes)))
-    → b ≡ are_all since end (flat_map receipts (notes_of passes))
-marked_is end last since passes marks lent b lasts within same long was tells =
-    let all : since + length lent ≡ end = (let l = ap length same in omega (arith, l, lasts, long, within)) in
-    tells (subst (Marks since (flat_map receipts (notes_of passes))) (sym same) was) ∙ ap (λ n. are_all since n (flat_map receipts (notes_of passes))) all
+marked_is : (end last since : ℕ) (all : List ReceiptSeen) (marks lent : List ℕ) (b : Bool) → last ≡ end → lent ≡ marks → length marks ≡ last - since
+    → Marks since all marks → b ≡ list_all (λ m. m == 1) lent → b ≡ are_all since end all
+marked_is end last since all marks lent b lasts same long was tells =
+    tells ∙ ap (list_all (λ m. m == 1)) same ∙ marked marks since all was
+    ∙ ap (λ n. list_all (λ k. having all k == 1) (range_with_len since n)) (long ∙ ap (λ n. n - since) lasts)
 
 -- the passes can't have begun before the first chapter
 too_early : (since start from : ℕ) → start ≡ from → since < start → nat_le from since ≡ true → ⊥
@@ -25,36 +26,28 @@ in_time : (since start from : ℕ) → start ≡ from → start ≤ since → na
 in_time since start from same le = grind (arith, common_steps)
 
 pub returns-then-not-go_on : goal.returns-then-not-go_on
-returns-then-not-go_on g c js parts within = (λ t. absurd (false≢true t), λ s. sym c.if-not-go_on.true ∙ (c.go_on.ensures js parts).1 s.follow)
+returns-then-not-go_on g c = denies c.go_on.result c.if-not-go_on.true c.go_on.ensures (λ s. s.follow)
 
 pub returns-then-since-first_of : goal.returns-then-since-first_of
-returns-then-since-first_of g c js parts within = (
-  λ t. absurd (false≢true t),
-  λ s. absurd
-      (too_early _ _ _ (c.first_of.ensures js parts) c.if-since-first_of.true s.from),
-)
+returns-then-since-first_of g c =
+    (λ t. absurd (false≢true t), λ s. absurd (too_early _ _ _ c.first_of.ensures c.if-since-first_of.true s.from))
 
 pub returns-then-not-are_all_marked : goal.returns-then-not-are_all_marked
-returns-then-not-are_all_marked g c js parts within =
-    let all = flat_map receipts (notes_of c.args.passes.now) in
-    let value = marked_is _ _ c.args.since c.args.passes.now c.in_ok-marks.marks.items c.deref.result.now c.are_all_marked.result (c.last_of.ensures js parts)
-    within c.deref.ensures.value (c.in_ok-marks.ensures.count ∙ c.saturating_sub.ensures) c.in_ok-marks.ensures.marks
-    (c.are_all_marked.ensures c.args.since all) in
+returns-then-not-are_all_marked g c =
+    let value = marked_is _ _ c.args.since (flat_map receipts (notes_of c.args.passes.now)) _ _ _ c.last_of.ensures c.deref.ensures.value (c.in_ok-marks.ensures.count ∙ c.saturating_sub.ensures)
+    c.in_ok-marks.ensures.marks c.are_all_marked.ensures in
     (λ t. absurd (false≢true t), λ s. sym c.if-not-are_all_marked.true ∙ value ∙ s.all)
 
 pub returns : goal.returns
-returns g c js parts within =
-    let all = flat_map receipts (notes_of c.args.passes.now) in
-    let value = marked_is _ _ c.args.since c.args.passes.now c.in_ok-marks.marks.items c.deref.result.now c.are_all_marked.result (c.last_of.ensures js parts)
-    within c.deref.ensures.value (c.in_ok-marks.ensures.count ∙ c.saturating_sub.ensures) c.in_ok-marks.ensures.marks
-    (c.are_all_marked.ensures c.args.since all) in
-    let follow = (c.go_on.ensures js parts).0 c.if-not-go_on.false in
-    let agree = c.all_agree.ensures js parts follow in (
+returns g c =
+    let value = marked_is _ _ c.args.since (flat_map receipts (notes_of c.args.passes.now)) _ _ _ c.last_of.ensures c.deref.ensures.value (c.in_ok-marks.ensures.count ∙ c.saturating_sub.ensures)
+    c.in_ok-marks.ensures.marks c.are_all_marked.ensures in
+    let follow = c.go_on.ensures.0 c.if-not-go_on.false in
+    let agree = c.all_agree.ensures follow in (
       λ t. record {
         follow = follow;
-        from = in_time _ _ _ (c.first_of.ensures js parts) c.if-since-first_of.false;
-        all = sym value
-            ∙ c.if-not-are_all_marked.false;
+        from = in_time _ _ _ c.first_of.ensures c.if-since-first_of.false;
+        all = sym value ∙ c.if-not-are_all_marked.false;
         each = sym agree ∙ t;
       },
       λ s. agree ∙ s.each,

@@ -11,7 +11,7 @@ use Rattle.gw_run.proofs.delivery_queue.queues_of.Goals as goal
 pub loop-place-init : goal.loop-place-init
 loop-place-init c = λ r.
     let none : c.new-queues.result.items ≡ [] = search rules in
-    subst (λ l. Owed (entries_seen c.args.entries.now) 0 r (queue_at l r)) (sym none) (owed_none (entries_seen c.args.entries.now) r)
+    subst (λ l. Owed (entries_seen c.args.entries.now) 0 r (queue_at l r)) (sym none) (owed_none (entries_seen c.args.entries.now) c.requires r)
 
 pub advance_all-requires : goal.advance_all-requires
 advance_all-requires c = λ r.

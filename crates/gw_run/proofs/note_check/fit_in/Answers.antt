@@ -1,17 +1,14 @@
-use Rattle.std.proofs.Common.{sym, ◌∙◌, ap}
+use Rattle.std.proofs.Common.{Some, None}
 use Rattle.gw_crew.specs.Seen.{note_seen}
-use Rattle.gw_run.specs.own.Joins.{first_in}
 use Rattle.gw_run.proofs.Chaining.{first_fits}
 use Rattle.gw_run.proofs.note_check.fit_in.Goals as goal
 
 pub returns-in-Some : goal.returns-in-Some
-returns-in-Some c j tells =
-    let past = c.args.history.now in
-    first_fits j _ _ _ c.args.low _ (note_seen c.args.note.now) c.first_in.result _ tells.start tells.last tells.entries c.saturating_sub-from.ensures
-    (c.first_in.ensures j tells) (c.within.ensures ∙ ap (first_in past.last past.entries) (sym c.in-Some.is))
+returns-in-Some c =
+    rw c.within.ensures (first_fits c.args.part.now c.args.low c.saturating_sub-from.result (note_seen c.args.note.now) (Some c.in-Some.first)
+    (rw c.start.ensures at c.saturating_sub-from.ensures) (rw c.in-Some.is at c.first_in.ensures))
 
 pub returns-in-None : goal.returns-in-None
-returns-in-None c j tells =
-    let past = c.args.history.now in
-    first_fits j _ _ _ c.args.low _ (note_seen c.args.note.now) c.first_in.result _ tells.start tells.last tells.entries c.saturating_sub-from.ensures
-    (c.first_in.ensures j tells) (ap (first_in past.last past.entries) (sym c.in-None.is))
+returns-in-None c =
+    first_fits c.args.part.now c.args.low c.saturating_sub-from.result (note_seen c.args.note.now) None
+    (rw c.start.ensures at c.saturating_sub-from.ensures) (rw c.in-None.is at c.first_in.ensures)

@@ -1,6 +1,6 @@
 use Rattle.std.proofs.Common.{refl}
 use Rattle.gw_gate.specs.Entries.{entries_seen}
-use Rattle.gw_run.specs.Gathers.{swaps_in}
+use Rattle.gw_run.specs.own.Joins.{swaps_in}
 use Rattle.gw_run.proofs.Prefixes.{swaps_next}
 use Rattle.gw_run.proofs.plan_index.swaps_in.Goals as goal
 

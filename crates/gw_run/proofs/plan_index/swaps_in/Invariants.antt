@@ -1,5 +1,5 @@
 use Rattle.gw_gate.specs.Entries.{entries_seen}
-use Rattle.gw_run.specs.Gathers.{swaps_in}
+use Rattle.gw_run.specs.own.Joins.{swaps_in}
 use Rattle.gw_run.specs.Turns.{CountsTo}
 use Rattle.gw_run.proofs.plan_index.swaps_in.Given as goal
 

@@ -1,12 +1,10 @@
-use Rattle.std.proofs.Common.{◌+◌, ◌∙◌, ap, sym, subst, if◌then◌else◌}
-use Rattle.gw_run.specs.Turns.{CountsTo}
+use Rattle.std.proofs.Common.{◌+◌, ◌∙◌, ap, if◌then◌else◌}
 use Rattle.gw_run.proofs.Turning.{counts_stay, counts_push}
 use Rattle.gw_run.proofs.turning_points.count_to.Goals as goal
 
 pub returns-then-more : goal.returns-then-more
 returns-then-more c f m is next was =
-    subst (CountsTo f c.args.at) (sym c.in_ok-push.ensures.items)
-    (counts_push f m c.args.at c.args.ats.now.items is (next ∙ ap (λ b. f m + (if b then 1 else 0)) c.if-more.true) was)
+    rw c.in_ok-push.ensures.items (counts_push f m _ _ is was (next ∙ ap (λ b. f m + (if b then 1 else 0)) c.if-more.true))
 
 pub returns : goal.returns
-returns c f m is next was = counts_stay f m c.args.at c.args.ats.now.items is (next ∙ ap (λ b. f m + (if b then 1 else 0)) c.if-more.false) was
+returns c f m is next was = counts_stay f m _ _ is was (next ∙ ap (λ b. f m + (if b then 1 else 0)) c.if-more.false)

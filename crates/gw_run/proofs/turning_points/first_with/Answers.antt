@@ -1,17 +1,20 @@
-use Rattle.std.proofs.Common.{◌∙◌, ap, sym, arith}
-use Rattle.gw_run.proofs.Turning.{first_here, with_later, with_past}
+use Rattle.std.proofs.Common.{◌∙◌, sym, arith}
+use Rattle.gw_run.proofs.Turning.{with_later, with_past}
 use Rattle.gw_reorder.proofs.Places.{equals}
-use Rattle.gw_run.specs.Turns.{is_within}
+use Rattle.gw_gate.proofs.Lending.{lent_at}
 use Rattle.gw_run.proofs.turning_points.first_with.Goals as goal
 
 pub returns-then-v-count : goal.returns-then-v-count
-returns-then-v-count c test holds high = with_past test c.args.ats.now c.args.low high c.passed-count.result c.args.v holds
-    (c.passed-count.ensures holds.rising) c.if-v-count.true
+returns-then-v-count c test holds = with_past test _ _ _ _ holds (c.passed-count.ensures holds.rising) c.if-v-count.true
 
 pub returns-then-v-count-2 : goal.returns-then-v-count-2
-returns-then-v-count-2 c test holds high =
-    first_here test c.args.low high (holds.tells _ _ (c.passed-count.ensures holds.rising) ∙ equals _ _ (sym c.if-v-count-2.true))
+returns-then-v-count-2 c test holds = record {
+  above = omega arith;
+  holds = holds.tells _ _ (c.passed-count.ensures holds.rising) ∙ equals _ _ (sym c.if-v-count-2.true);
+  before = λ p above below. absurd (omega arith);
+}
 
 pub returns : goal.returns
-returns c test holds high = with_later test c.args.ats.now c.args.low high c.passed-count.result c.args.v holds (c.passed-count.ensures holds.rising)
-    (let a = c.if-v-count.false in let b = c.if-v-count-2.false in omega (arith, a, b)) ∙ ap (is_within high) (sym c.number_at.ensures)
+returns c test holds =
+    let a = c.if-v-count.false in let b = c.if-v-count-2.false in
+    rw (c.copied.ensures, lent_at _ _ _ c.get.ensures.lookup) (with_later test _ _ _ _ holds (c.passed-count.ensures holds.rising) (omega (arith, a, b)))

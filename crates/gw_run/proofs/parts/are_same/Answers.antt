@@ -5,7 +5,7 @@ use Rattle.gw_plan.specs.Held.{PlanHeld, plan_value}
 use Rattle.gw_plan.specs.Shapes.{PlanValue, ReceiverValue}
 use Rattle.gw_plan.specs.Whole.{spelled}
 use Rattle.gw_gate.specs.Seen.{plan_seen}
-use Rattle.gw_run.proofs.plans.are_same.Goals as goal
+use Rattle.gw_run.proofs.parts.are_same.Goals as goal
 
 abbrev receivers_of : {E : Type 0} → Result PlanValue E → List ReceiverValue
 receivers_of (Ok plan) = plan.receivers
