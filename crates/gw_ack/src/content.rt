@@ -1,5 +1,5 @@
 //! Answers, as contents.
-ghost use Rattle.std.specs.Prelude.{◌≡◌, ◌<◌, ◌++◌, ◌∷◌, [], ℕ, codes, length, IfOk};
+ghost use Rattle.std.specs.Prelude.{◌≡◌, ◌<◌, ◌++◌, ◌∷◌, [], ℕ, codes, length, map, IfOk};
 ghost use Rattle.std.specs.Fmt.{decimal};
 ghost use Rattle.std.specs.List.{AllByRecursion};
 ghost use Rattle.gw_er7.specs.Text.{IsCanonical};
@@ -9,13 +9,13 @@ ghost use Rattle.gw_ack.specs.declared.reply.Reply.TheVariants.{Accept, Refuse, 
 ghost use Rattle.gw_ack.specs.Acknowledged.{Acknowledges};
 ghost use Rattle.gw_ack.specs.Answers.{ack_of, ack_text, acknowledged, segment, msh, msa, err, reason, said_by};
 ghost use Rattle.gw_ack.specs.Conditions.{IsRejection};
-ghost use Rattle.gw_ack.specs.Seen.{contents, rows};
+ghost use Rattle.gw_ack.specs.Seen.{rows};
 
-use crate::condition::{condition, location_for, location_of};
+use crate::condition::{condition, location_for, named, said};
 use crate::header::Header;
 use crate::receipt::Ack;
 use crate::reply::Reply;
-use crate::rows::{Row, add_field, add_segment, add_texts};
+use crate::rows::{Row, add_field, add_segment};
 use crate::stamp::Stamp;
 use gw_er7::{Builder, write};
 use gw_validate::Breach;
@@ -66,14 +66,14 @@ fn msa<'a>(alloc: Global, code: &'a [u8], control: &'a [u8]) -> Result<Vec<Row<'
 /// The rows of the answer's ERR, where `number` is the code in decimal.
 fn err<'a>(
     alloc: Global,
-    location: &'a [Vec<u8>],
+    location: &[&'a [u8]],
     number: &'a [u8],
     code: u16,
 ) -> Result<Vec<Row<'a>>, AllocError>
-    ensures { number.now ≡ decimal code → IfOk result (λ table. rows table.items ≡ err (contents location.now) code) }
+    ensures { number.now ≡ decimal code → IfOk result (λ table. rows table.items ≡ err (map (λ part. part.now) location.now) code) }
 {
     let mut table = Vec::new(alloc);
-    add_texts(&mut table, 2, location)?;
+    add_field(&mut table, 2, location)?;
     let text = condition(code);
     add_field(&mut table, 3, &[number, text, b"HL70357"])?;
     add_field(&mut table, 4, &[b"E"])?;
@@ -101,22 +101,45 @@ fn begun(
     Ok(builder)
 }
 
-/// Adds an ERR to an answer.
-fn add_err(
+/// Adds an ERR to an answer, where `number` is the code in decimal.
+fn add_err<'a>(
     alloc: Global,
     builder: Builder,
-    location: &[Vec<u8>],
+    location: &[&'a [u8]],
+    number: &'a [u8],
     code: u16,
 ) -> Result<Builder, AllocError>
     requires some { 0 < length builder }
-    requires location { AllByRecursion IsCanonical (contents location.now) }
-    ensures { IfOk result (λ whole. whole ≡ builder ++ segment (codes "ERR") (err (contents location.now) code) ∷ []) }
+    requires number { number.now ≡ decimal code }
+    requires location { AllByRecursion IsCanonical (map (λ part. part.now) location.now) }
+    ensures { IfOk result (λ whole. whole ≡ builder ++ segment (codes "ERR") (err (map (λ part. part.now) location.now) code) ∷ []) }
 {
     let mut builder = builder;
-    let number = format!(in alloc; "{code}")?;
-    let err = err(alloc, location, number.as_bytes(), code)?;
+    let err = err(alloc, location, number, code)?;
     add_segment(&mut builder, *b"ERR", &err)?;
     Ok(builder)
+}
+
+/// Adds the ERR that names the place of a breach, as far as it is said.
+fn add_breach(alloc: Global, builder: Builder, breach: &Breach) -> Result<Builder, AllocError>
+    requires { 0 < length builder }
+    ensures { IfOk result (λ whole. whole ≡ builder ++ reason (Refuse breach.now)) }
+{
+    let segment = Vec::from_slice(alloc, named(&breach.segment))?;
+    let sequence = said(alloc, breach.sequence)?;
+    let field = said(alloc, breach.field)?;
+    let rep = said(alloc, breach.rep)?;
+    let comp = said(alloc, breach.comp)?;
+    let sub = said(alloc, breach.sub)?;
+    let code = breach.code();
+    let number = format!(in alloc; "{code}")?;
+    add_err(
+        alloc,
+        builder,
+        &[&segment, &sequence, &field, &rep, &comp, &sub],
+        number.as_bytes(),
+        code,
+    )
 }
 
 /// Adds the ERR that reports why a message isn't accepted.
@@ -126,13 +149,10 @@ fn add_reason(alloc: Global, builder: Builder, reply: Reply) -> Result<Builder, 
 {
     match reply {
         Reply::Accept => Ok(builder),
-        Reply::Refuse(breach) => {
-            let location = location_of(alloc, &breach)?;
-            add_err(alloc, builder, &location, breach.code())
-        }
+        Reply::Refuse(breach) => add_breach(alloc, builder, &breach),
         Reply::Reject(code) => {
-            let location = location_for(alloc, code)?;
-            add_err(alloc, builder, &location, code)
+            let number = format!(in alloc; "{code}")?;
+            add_err(alloc, builder, location_for(code), number.as_bytes(), code)
         }
     }
 }

@@ -7,7 +7,7 @@ ghost use Rattle.gw_er7.specs.Written.{strip, those};
 ghost use Rattle.gw_ack.specs.Answers.{component, components, copied, field};
 ghost use Rattle.gw_ack.specs.Headers.{first_repetition};
 ghost use Rattle.gw_ack.specs.Rows.{AreRows};
-ghost use Rattle.gw_ack.specs.Seen.{contents, entries, rows};
+ghost use Rattle.gw_ack.specs.Seen.{entries, rows};
 
 use crate::header::HeaderText;
 use gw_er7::{Builder, Place};
@@ -49,20 +49,6 @@ pub(crate) fn add_field<'a>(
     parts: &[&'a [u8]],
 ) -> Result<(), AllocError>
     ensures { OnOk result (rows table.new.items ≡ rows table.old.items ++ field number (map (λ part. part.now) parts.now)) }
-{
-    for (i, part) in parts.iter().enumerate() {
-        add_component(table, number, i + 1, part)?;
-    }
-    Ok(())
-}
-
-/// Adds a field of these components.
-pub(crate) fn add_texts<'a>(
-    table: &mut Vec<Row<'a>>,
-    number: usize,
-    parts: &'a [Vec<u8>],
-) -> Result<(), AllocError>
-    ensures { OnOk result (rows table.new.items ≡ rows table.old.items ++ field number (contents parts.now)) }
 {
     for (i, part) in parts.iter().enumerate() {
         add_component(table, number, i + 1, part)?;

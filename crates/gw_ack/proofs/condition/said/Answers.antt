@@ -3,6 +3,3 @@ use Rattle.gw_ack.proofs.condition.said.Goals as goal
 
 pub returns-clause-canonical : goal.returns-clause-canonical
 returns-clause-canonical c = said_is_canonical c.args.number c.ranges.number.fits
-
-pub returns-then-number-eq0-clause-canonical : goal.returns-then-number-eq0-clause-canonical
-returns-then-number-eq0-clause-canonical c = said_is_canonical c.args.number c.ranges.number.fits

@@ -8,5 +8,5 @@ add_segment-requires-clause-begun c = begins _ _ c.requires.some (rw (← c.buil
 
 pub add_segment-requires-clause-rows : goal.add_segment-requires-clause-rows
 add_segment-requires-clause-rows c =
-    rw (c.deref.ensures.value, c.in_ok-err.ensures (c.as_bytes.ensures.value ∙ c.in_ok-number.ensures.ok))
+    rw (c.deref.ensures.value, c.in_ok-err.ensures c.requires.number)
     (err_rows _ c.args.code c.requires.location (let fits : c.args.code < 65536 = c.ranges.code.fits in omega arith))
