@@ -88,6 +88,14 @@ impl<L: Ledger> Counted<L> {
         &self.gate
     }
 
+    /// The gate, without the book. It takes no memory.
+    pub fn into_gate(self) -> Gate
+        ensures { result ≡ self.gate }
+    {
+        let Counted { gate, .. } = self;
+        gate
+    }
+
     // Where the share has every part of the ledger, it counts each entry that was added.
     pub(crate) fn audit(&mut self, share: &mut Share<L>)
         ensures same { self.new ≡ self.old }

@@ -10,14 +10,37 @@ pub(crate) fn process_words<R: Env + AllocGlobal>(rt: &R) -> io::Result<Vec<Stri
     Ok(words)
 }
 
-/// A command: its name, what it does, the words that it needs, each with its help, and whether it takes a time stamp.
+/// A command: its name, what it does, the words that it needs and the word that it may have, each with its help,
+/// and its options, each with its value's name, if it has one, and its help.
 #[derive(Clone, Copy)]
 struct Form {
     name: &'static str,
     about: &'static str,
     words: &'static [(&'static str, &'static str)],
-    is_stamped: bool,
+    optional: &'static [(&'static str, &'static str)],
+    options: &'static [(&'static str, &'static str, &'static str)],
 }
+
+/// `[--stamp DIGITS]`.
+const STAMP: &[(&str, &str, &str)] = &[(
+    "stamp",
+    "DIGITS",
+    "The time stamp of the answers, YYYYMMDDHHMMSS [default: now, in UTC]",
+)];
+
+/// The options of `gateway`.
+const SIZES: &[(&str, &str, &str)] = &[
+    (
+        "workers",
+        "N",
+        "How many threads translate, from 1 to 1000 [default: 4]",
+    ),
+    (
+        "connections",
+        "N",
+        "How many connections are open at once, from 1 to 1000 [default: 1000]",
+    ),
+];
 
 /// What `check` and `translate` need.
 const ON_MAP: &[(&str, &str)] = &[
@@ -31,24 +54,27 @@ const ON_SERVE: &str =
     "Answers the messages of so many connections (MLLP) by a plan, and sends each receiver of the plan what it is due; each line on standard input is the file of a plan that takes its place";
 
 /// All commands, in the order in which the help lists them.
-const FORMS: [Form; 5] = [
+const FORMS: [Form; 7] = [
     Form {
         name: "validate",
         about: "Answers each message of a stream on standard input (MLLP) by a profile",
         words: &[("PROFILE", "The file of the message profile")],
-        is_stamped: true,
+        optional: &[],
+        options: STAMP,
     },
     Form {
         name: "check",
         about: "Tells whether the rules allow a map: whether each message that conforms to SOURCE has a translation that conforms to TARGET",
         words: ON_MAP,
-        is_stamped: false,
+        optional: &[],
+        options: &[],
     },
     Form {
         name: "translate",
         about: "Translates the message on standard input, which has no frame, by a map that the rules allow",
         words: ON_MAP,
-        is_stamped: false,
+        optional: &[],
+        options: &[],
     },
     Form {
         name: "run",
@@ -60,7 +86,8 @@ const FORMS: [Form; 5] = [
                 "The folder in which a file is made anew for each receiver",
             ),
         ],
-        is_stamped: true,
+        optional: &[],
+        options: STAMP,
     },
     Form {
         name: "serve",
@@ -77,46 +104,76 @@ const FORMS: [Form; 5] = [
             ),
             ("WORKERS", "How many threads translate, from 1 to 1000"),
         ],
-        is_stamped: false,
+        optional: &[],
+        options: &[],
+    },
+    Form {
+        name: "gateway",
+        about: "Answers the messages of senders (MLLP) by a plan without end, keeps what it accepts in a folder, and sends it to the receivers of the plan",
+        words: &[
+            ("PLAN", "The file of the plan"),
+            (
+                "ADDRESS",
+                "The address to listen on, HOST:PORT; port 0 is any that is free",
+            ),
+            (
+                "FOLDER",
+                "The folder in which what is accepted is kept until its receivers have it",
+            ),
+        ],
+        optional: &[],
+        options: SIZES,
+    },
+    Form {
+        name: "tell",
+        about: "Sends a word to the gateway that works in a folder, and prints its answer: status, swap PATH, hold NAME, go NAME, stop",
+        words: &[
+            ("FOLDER", "The folder of the gateway"),
+            ("WORD", "The word"),
+        ],
+        optional: &[("ARGUMENT", "A plan's path, or a receiver's name")],
+        options: &[("json", "", "Prints the status as JSON")],
     },
 ];
 
-/// Whether the words ask for the network service.
-pub(crate) fn is_serve(words: &[String]) -> bool {
+/// Whether the words ask for this command.
+pub(crate) fn is_command(words: &[String], name: &str) -> bool {
     match words.get(1) {
-        Some(word) => word.as_str() == "serve",
+        Some(word) => word.as_str() == name,
         None => false,
     }
 }
 
-/// A word that a command needs.
-fn needed<'a>(alloc: Global, name: &'a str, help: &'a str) -> Arg<'a> {
+/// A word that a command needs, or may have.
+fn word<'a>(alloc: Global, name: &'a str, help: &'a str, is_needed: bool) -> Arg<'a> {
     Arg::new(alloc, name)
         .help(help)
-        .required(true)
+        .required(is_needed)
         .action(ArgAction::Set)
 }
 
-/// `[--stamp DIGITS]`.
-fn stamp<'a>(alloc: Global) -> Arg<'a> {
-    Arg::new(alloc, "stamp")
-        .long("stamp")
-        .value_name("DIGITS")
-        .help("The time stamp of the answers, YYYYMMDDHHMMSS [default: now, in UTC]")
-        .action(ArgAction::Set)
+/// An option with a value, or without one.
+fn option<'a>(alloc: Global, name: &'a str, value: &'a str, help: &'a str) -> Arg<'a> {
+    let option = Arg::new(alloc, name).long(name).help(help);
+    if value.is_empty() {
+        return option.action(ArgAction::SetTrue);
+    }
+    option.value_name(value).action(ArgAction::Set)
 }
 
 /// The command of a form.
 fn command<'a>(alloc: Global, form: &Form) -> Result<Command<'a>, AllocError> {
     let mut command = Command::new(alloc, form.name).about(form.about);
     for (name, help) in form.words {
-        command = command.arg(needed(alloc, name, help))?;
+        command = command.arg(word(alloc, name, help, true))?;
     }
-    if form.is_stamped {
-        command.arg(stamp(alloc))
-    } else {
-        Ok(command)
+    for (name, help) in form.optional {
+        command = command.arg(word(alloc, name, help, false))?;
     }
+    for (name, value, help) in form.options {
+        command = command.arg(option(alloc, name, value, help))?;
+    }
+    Ok(command)
 }
 
 /// The program without its commands.

@@ -50,6 +50,11 @@ impl<'a, 'n, L: Ledger, R: Wait + Eprint> Reporter<'a, 'n, L, R> {
         pass
     }
 
+    /// Whether a reply was that the journal is full.
+    pub(crate) fn met_full(&self) -> bool {
+        self.met_full
+    }
+
     /// Whether the entry of this number ends three quarters of the open journal. It is counted over all chapters, so those that were closed are taken off.
     fn is_warning(&self, at: usize) -> bool {
         at >= WARNING && at.checked_sub(closed_in(&self.chapters.lock(self.rt))) == Some(WARNING)

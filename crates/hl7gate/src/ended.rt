@@ -46,6 +46,19 @@ pub(crate) enum Ended<'a> {
     Unwritten {
         file: String,
     },
+    /// Another process works in the folder.
+    Taken {
+        path: &'a str,
+    },
+    /// No gateway answers in the folder.
+    Unanswered {
+        path: &'a str,
+    },
+    /// The file of a spool is damaged at this byte.
+    Damaged {
+        file: String,
+        at: usize,
+    },
     /// Standard input isn't a message.
     Message {
         fault: ReadFault,

@@ -1,6 +1,6 @@
 //! The message gateway's program: it reads a command line, and does what it says.
 //!
-//! `program::command` does it over any reader and two writers, but for `serve`, which also takes the network and threads; here are the process's own.
+//! `program::command` does it over any reader and two writers, but for `serve` and `gateway`, which also take the network and threads; here are the process's own.
 #![tactic(auto)]
 
 mod advice;
@@ -10,6 +10,7 @@ mod elements;
 mod ended;
 mod expected;
 mod files;
+mod gateway;
 mod hands;
 mod heard;
 mod maps;
@@ -27,7 +28,8 @@ mod swaps;
 mod threads;
 mod tickets;
 
-use arguments::{is_serve, process_words};
+use arguments::{is_command, process_words};
+use gateway::{gateway, tell};
 use program::command;
 use report::tell_unread_words;
 use serve::serving;
@@ -37,7 +39,13 @@ use streams::open_closed;
 fn main(rt: HostRuntime) -> ExitCode {
     open_closed(&rt);
     let status = match process_words(&rt) {
-        Ok(words) if is_serve(&words) => serving(
+        Ok(words) if is_command(&words, "gateway") => {
+            gateway(&rt, words.as_slice(), &mut rt.stdout(), &mut rt.stderr())
+        }
+        Ok(words) if is_command(&words, "tell") => {
+            tell(&rt, words.as_slice(), &mut rt.stdout(), &mut rt.stderr())
+        }
+        Ok(words) if is_command(&words, "serve") => serving(
             &rt,
             words.as_slice(),
             rt.stdin(),

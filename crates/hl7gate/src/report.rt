@@ -153,6 +153,30 @@ pub(crate) fn tell<E: Write>(errors: &mut E, ended: &Ended<'_>) -> u8 {
                 "the file can't be made or written",
             )
         }
+        Ended::Taken { path } => {
+            tell_device(
+                errors,
+                RunFault::Write,
+                path,
+                "another process works in this folder",
+            )
+        }
+        Ended::Unanswered { path } => {
+            tell_device(
+                errors,
+                RunFault::Read,
+                path,
+                "no gateway answers in this folder",
+            )
+        }
+        Ended::Damaged { file, at } => {
+            let status = tell_fault(errors, RunFault::Read);
+            let _ = writeln!(
+                errors,
+                "{file}: damaged at byte {at}; nothing was sent. Move this file away, and send again what it had"
+            );
+            status
+        }
         Ended::Message { fault } => tell_message(errors, *fault),
         Ended::Breaks(breach) => tell_breach(errors, *breach),
         Ended::Run(fault) => tell_fault(errors, *fault),

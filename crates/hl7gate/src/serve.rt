@@ -26,7 +26,16 @@ use std::time::Clock;
 
 /// The number that a word gives: from 1 to 1,000, in decimal digits.
 fn count<'a>(words: &ArgMatches<'a>, name: &'static str) -> Result<u64, Ended<'a>> {
-    let word = words.get_str(name).unwrap_or("");
+    count_or(words, name, "")
+}
+
+/// The number that a word gives, or else this one: from 1 to 1,000, in decimal digits.
+pub(crate) fn count_or<'a>(
+    words: &ArgMatches<'a>,
+    name: &'static str,
+    other: &'static str,
+) -> Result<u64, Ended<'a>> {
+    let word = words.get_str(name).unwrap_or(other);
     // (a number that is parsed may have a sign)
     match word.parse::<u64>() {
         Ok(number) if !word.starts_with('+') && 1 <= number && number <= 1000 => Ok(number),
@@ -117,7 +126,7 @@ fn serve_with<
 }
 
 /// The listener at the address ADDRESS.
-fn listen<'a, R: Net<Stream = TcpStream, Listener = TcpListener> + Eprint>(
+pub(crate) fn listen<'a, R: Net<Stream = TcpStream, Listener = TcpListener> + Eprint>(
     rt: &R,
     words: &ArgMatches<'a>,
 ) -> Result<TcpListener, Ended<'a>> {

@@ -8,7 +8,7 @@ use crate::threads::Service;
 use gw_run::{SwapFault, swap};
 use gw_stream::RunFault;
 use std::alloc::AllocError;
-use std::io::{BufRead, BufReader, Eprint, ErrorKind, Print, Read};
+use std::io::{BufRead, BufReader, Eprint, ErrorKind, Print, Read, Write};
 use std::rt::Files;
 use std::sync::Wait;
 use std::sync::ledger::Ledger;
@@ -48,23 +48,43 @@ fn swap_file<'a, L: Ledger, R: Wait + Files + Eprint + AllocGlobal>(
     }
 }
 
-/// Tells on standard error why the plan of a file isn't swapped in.
-fn tell_unswapped<R: Eprint + AllocGlobal>(rt: &R, path: &str, why: &Unswapped<'_>) {
+/// Why the plan of a file isn't swapped in: the lines that say so.
+fn lines_of<R: AllocGlobal>(rt: &R, path: &str, why: &Unswapped<'_>) -> Vec<u8> {
+    let mut lines = Vec::new(rt.alloc());
     match why {
         Unswapped::Text(Ended::Unread { .. }) => {
-            let _ = eprintln!(rt; "plan unread\n{path}: the file can't be opened or read");
+            let _ = writeln!(
+                lines,
+                "plan unread\n{path}: the file can't be opened or read"
+            );
         }
         Unswapped::Text(ended) => {
-            let mut lines = Vec::new(rt.alloc());
             tell(&mut lines, ended);
-            if let Ok(lines) = String::from_utf8(lines) {
-                let _ = eprint!(rt; "{lines}");
-            }
         }
         Unswapped::Gate(fault) => {
             let number = fault.number();
-            let _ = eprintln!(rt; "swap refused {number}\n{path}: {fault}");
+            let _ = writeln!(lines, "swap refused {number}\n{path}: {fault}");
         }
+    }
+    lines
+}
+
+/// Tells on standard error why the plan of a file isn't swapped in.
+fn tell_unswapped<R: Eprint + AllocGlobal>(rt: &R, path: &str, why: &Unswapped<'_>) {
+    if let Ok(lines) = String::from_utf8(lines_of(rt, path, why)) {
+        let _ = eprint!(rt; "{lines}");
+    }
+}
+
+/// Swaps in the plan of a file, and gives its version, or the lines that say why it isn't swapped in.
+pub(crate) fn swap_or_lines<L: Ledger, R: Wait + Files + Eprint + AllocGlobal>(
+    door: &mut Reporter<'_, '_, L, R>,
+    rt: &R,
+    path: &str,
+) -> Result<u64, Vec<u8>> {
+    match swap_file(door, rt, path) {
+        Ok(version) => Ok(version),
+        Err(why) => Err(lines_of(rt, path, &why)),
     }
 }
 

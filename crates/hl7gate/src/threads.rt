@@ -58,7 +58,7 @@ pub(crate) struct Line<'p> {
 
 /// A worker that goes on.
 #[derive(Clone, Copy)]
-struct Onward;
+pub(crate) struct Onward;
 
 impl Pause for Onward {
     ghost use Rattle.std.specs.Prelude.{false};
@@ -158,14 +158,24 @@ impl<'a, L: Ledger, R: Wait + Eprint + AllocGlobal> Service<'a, L, R> {
         }
     }
 
+    /// Has a job that a worker left issued again, if it left one.
+    pub(crate) fn reissue(
+        &self,
+        door: &mut Reporter<'_, '_, L, R>,
+        job: Option<(u64, usize)>,
+    ) -> Result<(), RunFault> {
+        if let Some((n, receiver)) = job
+            && door.call(Event::Reissue { n, receiver }).is_err()
+        {
+            return Err(RunFault::Memory);
+        }
+        Ok(())
+    }
+
     fn do_left(&self, door: &mut Reporter<'_, '_, L, R>, workers: u64) -> Result<(), RunFault> {
         for _job in 0..workers {
             let left = self.outcome.lock(self.rt).next_left();
-            if let Some((n, receiver)) = left
-                && door.call(Event::Reissue { n, receiver }).is_err()
-            {
-                return Err(RunFault::Memory);
-            }
+            self.reissue(door, left)?;
         }
         match worker(self.rt.alloc(), door, &mut Onward) {
             Ok(_) => Ok(()),
@@ -173,8 +183,25 @@ impl<'a, L: Ledger, R: Wait + Eprint + AllocGlobal> Service<'a, L, R> {
         }
     }
 
+    /// Closes the gate's journal, where nothing is pending, and keeps the chapter for the end. No thread works at the gate any more.
+    pub(crate) fn cut_last(&self) -> Result<(), RunFault> {
+        let Some(mut door) = self.door(Who::Main) else {
+            return Err(RunFault::Memory);
+        };
+        let cut = self.cut(&mut door);
+        self.hand_in(door);
+        cut?;
+        Ok(())
+    }
+
     /// What the gate did, unless something went wrong, or the notes of its passes and its chapters don't agree. No thread works at the gate any more.
     pub(crate) fn end(self) -> Result<Served, RunFault> {
+        let (served, _gate) = self.settle()?;
+        Ok(served)
+    }
+
+    /// What the gate did, as of `end`, and the gate.
+    pub(crate) fn settle(self) -> Result<(Served, Gate), RunFault> {
         let Service {
             rt,
             gate,
@@ -194,7 +221,7 @@ impl<'a, L: Ledger, R: Wait + Eprint + AllocGlobal> Service<'a, L, R> {
         let mut counted = gate.into_counted();
         let report = join_all(rt.alloc(), &mut counted, receipts, chapters.into_inner())?;
         let is_full = counted.gate().journal().len() == MOST;
-        Ok(Served { report, is_full })
+        Ok((Served { report, is_full }, counted.into_gate()))
     }
 }
 

@@ -1,0 +1,23 @@
+//! The gateway that keeps what it accepts on the disk, and goes on for ever.
+//!
+//! A sender's message goes through the gate, as in `serve`. A spooler takes a courier's place there, and puts what a receiver is due into its spool on the disk.
+//! An answer waits until everything that its message leads to is there. A forwarder empties the spool, over connections that it makes anew.
+mod command;
+mod control;
+mod folder;
+mod forwarders;
+mod hub;
+mod links;
+mod outgoing;
+mod refused;
+mod rounds;
+mod row;
+mod safety;
+mod segments;
+mod senders;
+mod status;
+mod tell;
+mod whole;
+
+pub(crate) use command::gateway;
+pub(crate) use tell::tell;

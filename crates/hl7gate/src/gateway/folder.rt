@@ -1,0 +1,132 @@
+//! The folder of a gateway, which one process at a time has.
+use crate::ended::Ended;
+use gw_stream::RunFault;
+use std::alloc::{AllocError, Global};
+use std::fs::{File, OpenOptions};
+use std::io::ErrorKind;
+use std::os::unix::fs::{FileExt, OpenOptionsExt};
+use std::rt::Files;
+use std::{fs, io};
+
+/// How many bytes of the disk are kept free for what was accepted.
+const RESERVE: u64 = 67_108_864;
+
+/// How many of them are written at once.
+const PIECE: u64 = 65_536;
+
+/// What the folder's page says.
+const PAGE: &[u8] =
+    b"What a gateway for HL7 messages accepted and has not delivered yet (hl7gate gateway).
+
+spool/NAME/N       messages that wait for the receiver NAME, in order; the files are numbered. Don't edit them:
+                   a changed byte is damage, and the gateway then sends nothing of that file
+refused/NAME.mllp  messages that NAME answered AE, or AR three times, as framed messages; the gateway only adds to it
+reserve            room on the disk for what was accepted, used when the disk is full
+lock               locked by the gateway that works here
+
+These files hold patients' data. Copy or move them only while no gateway works here.
+";
+
+/// The folder: its path, the file that locks it, and the room that is kept free.
+#[derive(Drop)]
+pub(crate) struct Folder {
+    pub(crate) path: String,
+    pub(crate) reserve: File,
+    // (the lock lasts as long as its file is open)
+    lock: File,
+}
+
+/// That a file of the folder can't be made or written.
+fn unwritten<'a>(alloc: Global, file: &str) -> Ended<'a> {
+    match String::from_str(alloc, file) {
+        Ok(file) => Ended::Unwritten { file },
+        Err(_) => Ended::Run(RunFault::Memory),
+    }
+}
+
+/// A file that is read and written, and that its owner alone may read. It is made where it isn't there.
+pub(crate) fn open_private<R: Files<File = File>>(rt: &R, path: &str) -> io::Result<File> {
+    let mut options = OpenOptions::new();
+    options.read(true).write(true).create(true).mode(0o600);
+    options.open(rt, path)
+}
+
+/// Makes a folder, unless it is there.
+pub(crate) fn make_folder<R: Files>(rt: &R, path: &str) -> io::Result<()> {
+    match fs::create_dir(rt, path) {
+        Err(error) if error.kind() == ErrorKind::AlreadyExists => Ok(()),
+        made => made,
+    }
+}
+
+/// Brings to the disk which files a folder has.
+pub(crate) fn sync_folder<R: Files<File = File>>(rt: &R, path: &str) -> io::Result<()> {
+    File::open(rt, path)?.sync_all()
+}
+
+/// Fills the reserve. False: there is no room for it.
+fn fill(file: &File) -> bool {
+    let zeros = [0u8; PIECE as usize];
+    for piece in 0..RESERVE / PIECE {
+        if file.write_all_at(&zeros, piece * PIECE).is_err() {
+            let _ = file.set_len(0);
+            return false;
+        }
+    }
+    file.sync_data().is_ok()
+}
+
+impl Folder {
+    /// Locks the folder at this path, which has to be there, and makes what it lacks.
+    pub(crate) fn open<'a, R: Files<File = File> + AllocGlobal>(
+        rt: &R,
+        path: &'a str,
+    ) -> Result<Self, Ended<'a>> {
+        let alloc = rt.alloc();
+        let name = format!(in alloc; "{path}/lock")?;
+        let Ok(lock) = open_private(rt, &name) else {
+            return Err(unwritten(alloc, &name));
+        };
+        if lock.try_lock().is_err() {
+            return Err(Ended::Taken { path });
+        }
+        let reserve = Self::make(rt, path)?;
+        let path = String::from_str(alloc, path)?;
+        Ok(Folder {
+            path,
+            reserve,
+            lock,
+        })
+    }
+
+    // Makes the folders, the page and the reserve.
+    fn make<'a, R: Files<File = File> + AllocGlobal>(
+        rt: &R,
+        path: &str,
+    ) -> Result<File, Ended<'a>> {
+        let alloc = rt.alloc();
+        for name in ["spool", "refused"] {
+            let folder = format!(in alloc; "{path}/{name}")?;
+            if make_folder(rt, &folder).is_err() {
+                return Err(unwritten(alloc, &folder));
+            }
+        }
+        let page = format!(in alloc; "{path}/README")?;
+        if fs::write(rt, page.as_str(), PAGE).is_err() {
+            return Err(unwritten(alloc, &page));
+        }
+        let name = format!(in alloc; "{path}/reserve")?;
+        match open_private(rt, &name) {
+            Ok(reserve) => Ok(reserve),
+            Err(_) => Err(unwritten(alloc, &name)),
+        }
+    }
+
+    /// Whether the reserve is there: where it was used it is filled again, if the disk has room.
+    pub(crate) fn has_reserve(&self) -> bool {
+        match self.reserve.metadata() {
+            Ok(of) if of.len() == RESERVE => true,
+            _ => fill(&self.reserve),
+        }
+    }
+}

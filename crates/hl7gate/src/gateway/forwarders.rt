@@ -1,0 +1,168 @@
+//! Forwarders: each empties one receiver's spool over a connection that is made anew whenever it ends.
+use crate::gateway::hub::{Destination, Hub};
+use crate::gateway::links::{Answers, Records, connect};
+use crate::gateway::outgoing::{Emptying, Outgoing};
+use crate::gateway::refused::Refused;
+use gw_forward::{Ended, ForwardFault, Outbox, forward};
+use gw_stream::{Reads, RunFault, Writes};
+use std::cell::Cell;
+use std::fs::File;
+use std::io::Eprint;
+use std::net::{Net, TcpListener, TcpStream};
+use std::rt::Files;
+use std::sync::Wait;
+use std::thread;
+use std::time::{Clock, Duration};
+
+/// The most seconds between two tries.
+const LONGEST: u64 = 60;
+
+/// What comes after a connection.
+#[derive(Clone, Copy, PartialEq, Eq)]
+enum After {
+    /// Another one.
+    Another,
+    /// Nothing more is sent.
+    Nothing,
+}
+
+/// A forwarder: of whom, and how many seconds it waits before the next try.
+#[derive(Drop)]
+struct Forwarder<'a, 'f, R: Wait> {
+    hub: &'a Hub<'f, R>,
+    outgoing: &'a Outgoing<'f>,
+    to: &'a Destination,
+    sent: &'a Cell<bool>,
+    pause: u64,
+}
+
+impl<
+    R: Wait
+        + Clock
+        + Net<Stream = TcpStream, Listener = TcpListener>
+        + Files<File = File>
+        + Eprint
+        + AllocGlobal,
+> Forwarder<'_, '_, R> {
+    // Waits before the next try; each time twice as long.
+    fn wait(&mut self) {
+        for _fifth in 0..self.pause.saturating_mul(5) {
+            if self.outgoing.has_ended(self.hub.rt) {
+                return;
+            }
+            thread::sleep(self.hub.rt, Duration::from_millis(200));
+        }
+        self.pause = self.pause.saturating_mul(2).min(LONGEST);
+    }
+
+    // Sends what waits over this connection, until it ends.
+    fn send_over<O: Outbox>(&mut self, outbox: &mut O, stream: &TcpStream) -> After {
+        let rt = self.hub.rt;
+        for _ in rt.forever() {
+            let before = outbox.count();
+            let mut reader = Reads::new(Answers::new(rt, self.outgoing, stream));
+            let mut writer = Writes::new(Records::new(stream, self.sent));
+            let ended = forward(rt.alloc(), outbox, &mut reader, &mut writer);
+            if outbox.count() > before {
+                self.pause = 1;
+            }
+            match ended {
+                Ok(Ended::Closed) => return After::Nothing,
+                Ok(Ended::Again) => self.wait(),
+                Err(fault) => return self.ended_by(fault),
+            }
+        }
+        unreachable!()
+    }
+
+    // A connection, or what waits for its receiver, has failed.
+    fn ended_by(&mut self, fault: ForwardFault) -> After {
+        let rt = self.hub.rt;
+        let name = self.to.name.escape_ascii();
+        if self.outgoing.has_ended(rt) {
+            return After::Nothing;
+        }
+        let _ = match fault {
+            ForwardFault::Disk | ForwardFault::Record { .. } => {
+                self.hub.fail(RunFault::Write);
+                return After::Nothing;
+            }
+            ForwardFault::Memory => eprintln!(rt; "receiver {name}: out of memory; it goes on"),
+            _ if self.sent.get() => {
+                eprintln!(rt; "receiver {name} did not acknowledge a message; it is connected anew")
+            }
+            _ => eprintln!(rt; "receiver {name} ended its connection; it is connected anew"),
+        };
+        After::Another
+    }
+
+    // Connects, sends, and connects anew, until nothing more is sent.
+    fn run<O: Outbox>(&mut self, outbox: &mut O) {
+        let rt = self.hub.rt;
+        let name = self.to.name.as_slice();
+        let address = self.to.address.as_slice();
+        let mut is_down = false;
+        for _ in rt.forever() {
+            if let Some(stream) = connect(rt, address) {
+                is_down = false;
+                self.tell_connected();
+                self.outgoing.set_connected(rt, true);
+                let after = self.send_over(outbox, &stream);
+                self.outgoing.set_connected(rt, false);
+                if after == After::Nothing {
+                    return;
+                }
+            } else if !is_down {
+                is_down = true;
+                let _ = eprintln!(rt;
+                    "receiver {} can't be connected; it is tried until it is\n{}: can't be connected",
+                    name.escape_ascii(),
+                    address.escape_ascii()
+                );
+            }
+            self.wait();
+            if self.outgoing.has_ended(rt) {
+                return;
+            }
+        }
+    }
+
+    fn tell_connected(&self) {
+        let rt = self.hub.rt;
+        let name = self.to.name.escape_ascii();
+        let address = self.to.address.escape_ascii();
+        let _ = eprintln!(rt; "receiver {name} at {address} connected");
+        if self.sent.get() {
+            let name = self.to.name.escape_ascii();
+            let _ = eprintln!(rt;
+                "receiver {name}: a message is sent that it may have already: it wasn't acknowledged"
+            );
+        }
+    }
+}
+
+/// Sends the receiver of this number what waits for it, until the gateway ends.
+pub(crate) fn forward_all<
+    R: Wait
+        + Clock
+        + Net<Stream = TcpStream, Listener = TcpListener>
+        + Files<File = File>
+        + Eprint
+        + AllocGlobal,
+>(hub: &Hub<'_, R>, number: usize) {
+    let (Some(outgoing), Some(to)) = (hub.spools.get(number), hub.destination(number)) else {
+        return;
+    };
+    // (what waits from before may have been sent then)
+    let sent = Cell::new(outgoing.waiting(hub.rt) > 0);
+    let refused = Refused::new(hub.rt.alloc(), &to.refused);
+    let mut outbox = Emptying::new(hub.rt, outgoing, &to.name, refused, &sent);
+    let mut forwarder = Forwarder {
+        hub,
+        outgoing,
+        to,
+        sent: &sent,
+        pause: 1,
+    };
+    forwarder.run(&mut outbox);
+}

@@ -1,0 +1,342 @@
+//! The spool of one receiver, between the thread that fills it and the one that empties it.
+ghost use Rattle.std.specs.Prelude.{None};
+
+use crate::gateway::refused::Refused;
+use crate::gateway::row::{Row, RowFault};
+use crate::gateway::safety::Safe;
+use gw_ack::Ack;
+use gw_forward::{Outbox, Store, StoreFault};
+use gw_spool::SpoolFault;
+use std::alloc::{AllocError, Global};
+use std::cell::Cell;
+use std::fs::File;
+use std::io::Eprint;
+use std::rt::Files;
+use std::sync::{Condvar, Mutex, Wait};
+use std::time::{Clock, Duration, Instant};
+
+/// How often a message is sent that its receiver answers AR.
+const TRIES: u64 = 3;
+
+/// The spool of one receiver: its row under a lock, and whether it is to be emptied no further.
+#[derive(Drop)]
+pub(crate) struct Outgoing<'f> {
+    queue: Mutex<Queue<'f>>,
+    news: Condvar,
+}
+
+#[derive(Drop)]
+struct Queue<'f> {
+    row: Row<'f>,
+    has_ended: bool,
+    is_held: bool,
+    is_connected: bool,
+    taken: u64,
+    refused: u64,
+    // when a record was taken or refused last, or nothing waited
+    moved: Option<Instant>,
+}
+
+/// How a receiver stands: how many records wait, for how many seconds the first has, whether it is connected, whether it is held, and how many it took and refused.
+#[derive(Clone, Copy)]
+pub(crate) struct State {
+    pub(crate) waiting: u64,
+    pub(crate) stuck: u64,
+    pub(crate) is_connected: bool,
+    pub(crate) is_held: bool,
+    pub(crate) taken: u64,
+    pub(crate) refused: u64,
+}
+
+impl<'f> Outgoing<'f> {
+    pub(crate) fn new(row: Row<'f>) -> Self {
+        Outgoing {
+            queue: Mutex::new(Queue {
+                row,
+                has_ended: false,
+                is_held: false,
+                is_connected: false,
+                taken: 0,
+                refused: 0,
+                moved: None,
+            }),
+            news: Condvar::new(),
+        }
+    }
+
+    /// How many records wait.
+    pub(crate) fn waiting<R: Wait>(&self, rt: &R) -> u64 {
+        self.queue.lock(rt).row.waiting()
+    }
+
+    /// Nothing more is sent.
+    pub(crate) fn end<R: Wait>(&self, rt: &R) {
+        self.queue.lock(rt).has_ended = true;
+        self.news.notify_all();
+    }
+
+    /// Whether nothing more is sent.
+    pub(crate) fn has_ended<R: Wait>(&self, rt: &R) -> bool {
+        self.queue.lock(rt).has_ended
+    }
+
+    /// Sends nothing until it is let go again.
+    pub(crate) fn hold<R: Wait>(&self, rt: &R, is_held: bool) {
+        self.queue.lock(rt).is_held = is_held;
+        self.news.notify_all();
+    }
+
+    /// Whether the receiver is connected, from here on.
+    pub(crate) fn set_connected<R: Wait>(&self, rt: &R, is_connected: bool) {
+        self.queue.lock(rt).is_connected = is_connected;
+    }
+
+    /// How the receiver stands.
+    pub(crate) fn state<R: Wait + Clock>(&self, rt: &R) -> State {
+        let queue = self.queue.lock(rt);
+        let waiting = queue.row.waiting();
+        let stuck = match queue.moved {
+            Some(since) if waiting > 0 => since.elapsed(rt).unwrap_or(Duration::ZERO).as_secs(),
+            _ => 0,
+        };
+        State {
+            waiting,
+            stuck,
+            is_connected: queue.is_connected,
+            is_held: queue.is_held,
+            taken: queue.taken,
+            refused: queue.refused,
+        }
+    }
+
+    // Waits for a first record, and copies it. None: nothing more is sent.
+    fn next<R: Wait>(&self, rt: &R, alloc: Global) -> Result<Option<Vec<u8>>, AllocError> {
+        let mut queue = self.queue.lock(rt);
+        for _ in rt.forever() {
+            if queue.has_ended {
+                return Ok(None);
+            }
+            if let Some(bytes) = queue.row.first()
+                && !queue.is_held
+            {
+                return Ok(Some(bytes.to_vec(alloc)?));
+            }
+            queue = self.news.wait(rt, queue);
+        }
+        unreachable!()
+    }
+}
+
+/// What a fault of a row is to who asked. One that the disk, or damage, is the cause of is reported once, with its place.
+fn reported<R: Eprint>(rt: &R, name: &[u8], fault: RowFault) -> StoreFault {
+    let RowFault { fault, path } = fault;
+    if fault == SpoolFault::Memory {
+        return StoreFault::Memory;
+    }
+    let name = name.escape_ascii();
+    let _ = match path {
+        Some(path) => eprintln!(rt; "the spool of receiver {name} failed: {fault}\n{path}"),
+        None => eprintln!(rt; "the spool of receiver {name} failed: {fault}"),
+    };
+    StoreFault::Disk
+}
+
+/// A receiver's spool as its spooler fills it.
+#[derive(Drop)]
+pub(crate) struct Filling<'a, 'f, R: Wait> {
+    rt: &'a R,
+    outgoing: &'a Outgoing<'f>,
+    safe: &'a Safe,
+    receiver: usize,
+    name: &'a [u8],
+    // behind the number of the message that was appended last
+    below: u64,
+    count: u64,
+    synced: u64,
+}
+
+impl<'a, 'f, R: Wait> Filling<'a, 'f, R> {
+    ghost use Rattle.std.specs.Prelude.{◌≡◌};
+
+    pub(crate) fn new(
+        rt: &'a R,
+        outgoing: &'a Outgoing<'f>,
+        safe: &'a Safe,
+        receiver: usize,
+        name: &'a [u8],
+    ) -> Self
+        ensures count { result.count ≡ 0 }
+        ensures synced { result.synced ≡ 0 }
+    {
+        Filling {
+            rt,
+            outgoing,
+            safe,
+            receiver,
+            name,
+            below: 0,
+            count: 0,
+            synced: 0,
+        }
+    }
+
+    fn put(&self, bytes: &[u8]) -> Result<(), SpoolFault> {
+        self.outgoing.queue.lock(self.rt).row.append(bytes)
+    }
+}
+
+impl<R: Wait + Clock + Files<File = File> + Eprint + AllocGlobal> Filling<'_, '_, R> {
+    fn bring(&self) -> Result<(), RowFault> {
+        let mut queue = self.outgoing.queue.lock(self.rt);
+        if queue.row.waiting() == 0 {
+            queue.moved = Instant::now(self.rt).ok();
+        }
+        queue.row.sync(self.rt)
+    }
+}
+
+impl<R: Wait + Clock + Files<File = File> + Eprint + AllocGlobal> Store for Filling<'_, '_, R> {
+    ghost appended = { λ _. None };
+
+    ghost count = { λ f. f.count };
+
+    ghost safe = { λ f. f.synced };
+
+    fn append(&mut self, n: u64, bytes: &[u8]) -> Result<(), StoreFault> {
+        let Some(count) = self.count.checked_add(1) else {
+            return Err(StoreFault::Memory);
+        };
+        if let Err(fault) = self.put(bytes) {
+            return Err(reported(self.rt, self.name, RowFault { fault, path: None }));
+        }
+        self.count = count;
+        self.below = n.saturating_add(1);
+        Ok(())
+    }
+
+    fn sync(&mut self) -> Result<(), StoreFault> {
+        if self.synced == self.count {
+            return Ok(());
+        }
+        if let Err(fault) = self.bring() {
+            return Err(reported(self.rt, self.name, fault));
+        }
+        self.outgoing.news.notify_all();
+        self.safe.publish(self.rt, self.receiver, self.below);
+        self.synced = self.count;
+        Ok(())
+    }
+}
+
+/// A receiver's spool as its forwarder empties it. `sent` says whether bytes of the first record were written to the receiver.
+#[derive(Drop)]
+pub(crate) struct Emptying<'a, 'f, R: Wait> {
+    rt: &'a R,
+    outgoing: &'a Outgoing<'f>,
+    name: &'a [u8],
+    refused: Refused<'a>,
+    sent: &'a Cell<bool>,
+    tries: u64,
+    count: u64,
+}
+
+impl<'a, 'f, R: Wait> Emptying<'a, 'f, R> {
+    pub(crate) fn new(
+        rt: &'a R,
+        outgoing: &'a Outgoing<'f>,
+        name: &'a [u8],
+        refused: Refused<'a>,
+        sent: &'a Cell<bool>,
+    ) -> Self {
+        Emptying {
+            rt,
+            outgoing,
+            name,
+            refused,
+            sent,
+            tries: 0,
+            count: 0,
+        }
+    }
+}
+
+impl<R: Wait + Clock + Files<File = File> + Eprint + AllocGlobal> Emptying<'_, '_, R> {
+    ghost use Rattle.gw_forward.specs.Outboxes.{Counts};
+
+    // The first record is dropped: its receiver has it, or it is kept among those that were refused.
+    fn drop_first(&mut self, is_taken: bool) -> Result<bool, StoreFault>
+        ensures { Counts result self.old.count self.new.count }
+    {
+        let Some(count) = self.count.checked_add(1) else {
+            return Err(StoreFault::Memory);
+        };
+        if let Err(fault) = self.acknowledge(is_taken) {
+            return Err(reported(self.rt, self.name, fault));
+        }
+        self.sent.set(false);
+        self.tries = 0;
+        self.count = count;
+        Ok(true)
+    }
+
+    fn acknowledge(&self, is_taken: bool) -> Result<(), RowFault> {
+        let mut queue = self.outgoing.queue.lock(self.rt);
+        queue.row.acknowledge(self.rt)?;
+        queue.moved = Instant::now(self.rt).ok();
+        if is_taken {
+            queue.taken = queue.taken.saturating_add(1);
+        } else {
+            queue.refused = queue.refused.saturating_add(1);
+        }
+        Ok(())
+    }
+
+    // The receiver refuses the first record.
+    fn refuse(&mut self, bytes: &[u8], code: &str) -> Result<bool, StoreFault>
+        ensures { Counts result self.old.count self.new.count }
+    {
+        let name = self.name.escape_ascii();
+        let path = self.refused.path();
+        if self.refused.keep(self.rt, bytes)? {
+            let _ = eprintln!(self.rt; "receiver {name} answered {code}: the message is in {path}");
+            return self.drop_first(false);
+        }
+        let _ = eprintln!(self.rt;
+            "receiver {name} answered {code}: the message is sent again, since this file can't be written\n{path}"
+        );
+        Ok(false)
+    }
+
+    // The receiver rejects the first record, and may take it later.
+    fn retry(&mut self, bytes: &[u8]) -> Result<bool, StoreFault>
+        ensures { Counts result self.old.count self.new.count }
+    {
+        self.tries = self.tries.saturating_add(1);
+        if self.tries >= TRIES {
+            return self.refuse(bytes, "AR three times");
+        }
+        Ok(false)
+    }
+}
+
+impl<R: Wait + Clock + Files<File = File> + Eprint + AllocGlobal> Outbox for Emptying<'_, '_, R> {
+    ghost taken = { λ _. None };
+
+    ghost count = { λ e. e.count };
+
+    fn count(&self) -> u64 {
+        self.count
+    }
+
+    fn next(&mut self) -> Result<Option<Vec<u8>>, StoreFault> {
+        Ok(self.outgoing.next(self.rt, self.rt.alloc())?)
+    }
+
+    fn settle(&mut self, bytes: &[u8], ack: Ack) -> Result<bool, StoreFault> {
+        match ack {
+            Ack::AA => self.drop_first(true),
+            Ack::AE => self.refuse(bytes, "AE"),
+            Ack::AR => self.retry(bytes),
+        }
+    }
+}

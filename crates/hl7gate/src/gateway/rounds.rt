@@ -1,0 +1,282 @@
+//! Rounds: each is a service over the connections of the gateway, audited at its end. The numbers go on from one to the next.
+ghost use Rattle.std.specs.Prelude.{◌≡◌};
+ghost use Rattle.std.specs.Thread.{IsSend, IsSync};
+
+use crate::doors::Who;
+use crate::gateway::hub::Hub;
+use crate::gateway::outgoing::Filling;
+use crate::gateway::senders::attend;
+use crate::swaps::swap_or_lines;
+use crate::threads::{Onward, PARTS, Service};
+use gw_forward::{StoreFault, spooler};
+use gw_gate::Gate;
+use gw_run::{Phase, worker};
+use gw_stream::RunFault;
+use std::alloc::{AllocError, Global};
+use std::fs::File;
+use std::io::{Eprint, Read};
+use std::marker::Brand;
+use std::rt::Files;
+use std::sync::Wait;
+use std::sync::ledger::{Blank, Ledger};
+use std::thread;
+use std::thread::Threads;
+use std::time::{Clock, Duration, Instant};
+
+/// After how many entries of the journal a round ends.
+const LONG: u64 = 50_000;
+
+/// How many milliseconds before its end a round's sessions wait for their senders by short reads: longer than a long read takes.
+const NOTICE: u64 = 1_100;
+
+/// How many milliseconds pass at most between two looks at the journal.
+const LOOK: u64 = 20;
+
+/// Appends what is given out for the receiver of this number to its spool, until no result will come any more.
+fn spool<L: Ledger, R: Wait + Clock + Files<File = File> + Eprint + AllocGlobal>(
+    service: &Service<'_, L, R>,
+    hub: &Hub<'_, R>,
+    number: usize,
+) {
+    let (Some(outgoing), Some(to)) = (hub.spools.get(number), hub.destination(number)) else {
+        return;
+    };
+    let name = to.name.as_slice();
+    let Some(mut door) = service.door(Who::Receiver(name)) else {
+        hub.fail(RunFault::Memory);
+        return;
+    };
+    let mut store = Filling::new(hub.rt, outgoing, &hub.safe, number, name);
+    let ended = spooler(hub.rt.alloc(), &mut door, number, &mut store);
+    let met_full = door.met_full();
+    service.hand_in(door);
+    match ended {
+        Err(StoreFault::Disk) => hub.fail(RunFault::Write),
+        Err(StoreFault::Memory) => hub.fail(RunFault::Memory),
+        // (its journal has no room for what was accepted)
+        Ok(()) if met_full => hub.fail(RunFault::Memory),
+        Ok(()) => {}
+    }
+}
+
+/// Works on jobs, until no message will arrive any more. A job whose work met an allocation failure is issued again.
+fn work<L: Ledger, R: Wait + Clock + Eprint + AllocGlobal>(
+    service: &Service<'_, L, R>,
+    hub: &Hub<'_, R>,
+    number: u64,
+) {
+    let Some(mut door) = service.door(Who::Worker(number)) else {
+        hub.fail(RunFault::Memory);
+        return;
+    };
+    for _ in hub.rt.forever() {
+        match worker(hub.rt.alloc(), &mut door, &mut Onward) {
+            Ok(_) => break,
+            Err((fault, job)) => {
+                let _ = eprintln!(hub.rt;
+                    "worker {number}: fault {}: {fault}; it goes on",
+                    fault.number()
+                );
+                if service.reissue(&mut door, job).is_err() {
+                    hub.fail(RunFault::Memory);
+                    break;
+                }
+            }
+        }
+    }
+    service.hand_in(door);
+}
+
+/// Has senders attended to, a thread each, until the round takes no message any more, and waits for them.
+fn take_senders<
+    L: Ledger + Send,
+    R: Threads + Wait + Clock + Files<File = File> + Eprint + AllocGlobal + Sync,
+>(service: &Service<'_, L, R>, hub: &Hub<'_, R>) {
+    let begun = hub.entries();
+    thread::scope(
+        thread::scope_env(),
+        hub.rt,
+        |scope|
+            requires { IsSend L.row × IsSync R.row }
+        {
+            let mut notice: Option<Instant> = None;
+            for _ in hub.rt.forever() {
+                if let Some(sender) = hub.next(Duration::from_millis(LOOK)) {
+                    let attend_one = move ||
+                        requires { IsSend L.row × IsSync R.row }
+                    { attend(service, hub, sender) };
+                    if let Err(refused) = scope.spawn(attend_one) {
+                        (refused.value)()
+                    }
+                }
+                if hub.is_over() {
+                    return;
+                }
+                swap_asked(service, hub);
+                notice = look(hub, begun, notice);
+            }
+        },
+    );
+}
+
+/// Swaps in the plan of this file: its version, or the lines that say why it isn't swapped in.
+fn swap_in<L: Ledger, R: Wait + Files<File = File> + Eprint + AllocGlobal>(
+    service: &Service<'_, L, R>,
+    path: &str,
+) -> Result<u64, Vec<u8>> {
+    let Some(mut door) = service.door(Who::Swaps) else {
+        return Err(Vec::new(service.rt.alloc()));
+    };
+    let swapped = swap_or_lines(&mut door, service.rt, path);
+    service.hand_in(door);
+    swapped
+}
+
+/// What is answered of a swap.
+fn answer_of(alloc: Global, swapped: &Result<u64, Vec<u8>>) -> Result<String, AllocError> {
+    match swapped {
+        Ok(version) => format!(in alloc; "swapped {version}\n"),
+        Err(lines) => {
+            let lines = str::from_utf8(lines).unwrap_or("");
+            format!(in alloc; "refused\n{lines}")
+        }
+    }
+}
+
+/// Swaps in the plan that somebody asked for, if somebody did.
+fn swap_asked<L: Ledger, R: Wait + Clock + Files<File = File> + Eprint + AllocGlobal>(
+    service: &Service<'_, L, R>,
+    hub: &Hub<'_, R>,
+) {
+    let Some(path) = hub.asked_swap() else {
+        return;
+    };
+    let alloc = hub.rt.alloc();
+    let swapped = swap_in(service, &path);
+    let answer = answer_of(alloc, &swapped).unwrap_or(String::new(alloc));
+    hub.end_swap(swapped.ok(), answer);
+}
+
+/// Ends the round where its journal is long, after notice.
+fn look<R: Wait + Clock>(hub: &Hub<'_, R>, begun: u64, notice: Option<Instant>) -> Option<Instant> {
+    match notice {
+        None if hub.entries().saturating_sub(begun) >= LONG => {
+            hub.end_soon();
+            match Instant::now(hub.rt) {
+                Ok(now) => Some(now),
+                // (with no clock nobody can be given notice)
+                Err(_) => {
+                    hub.end_round();
+                    None
+                }
+            }
+        }
+        Some(since) => {
+            match since.elapsed(hub.rt) {
+                Ok(passed) if passed < Duration::from_millis(NOTICE) => {}
+                _ => hub.end_round(),
+            }
+            notice
+        }
+        None => None,
+    }
+}
+
+/// Has workers work, a thread each, while senders are attended to, and waits for their end.
+fn with_workers<
+    L: Ledger + Send,
+    R: Threads + Wait + Clock + Files<File = File> + Eprint + AllocGlobal + Sync,
+>(service: &Service<'_, L, R>, hub: &Hub<'_, R>, workers: u64) {
+    thread::scope(
+        thread::scope_env(),
+        hub.rt,
+        |scope|
+            requires { IsSend L.row × IsSync R.row }
+        {
+            for started in 0..workers {
+                let number = started + 1;
+                let work_on = move ||
+                    requires { IsSend L.row × IsSync R.row }
+                { work(service, hub, number) };
+                if scope.spawn(work_on).is_err() {
+                    hub.fail(RunFault::Memory);
+                    break;
+                }
+            }
+            take_senders(service, hub);
+            service.close(Phase::NoArrivals);
+        },
+    );
+    service.finish(workers);
+    service.close(Phase::NoResults);
+}
+
+/// Has spools filled, a thread each, while the others work, and waits for their end.
+fn with_spoolers<
+    L: Ledger + Send,
+    R: Threads + Wait + Clock + Files<File = File, Dir = D> + Eprint + AllocGlobal + Sync,
+    D: Read + Drop + Send + Sync,
+>(service: &Service<'_, L, R>, hub: &Hub<'_, R>, workers: u64) {
+    thread::scope(
+        thread::scope_env(),
+        hub.rt,
+        |scope|
+            requires { IsSend L.row × IsSync R.row × IsSend D.row × IsSync D.row }
+        {
+            for number in 0..hub.spools.len() {
+                let fill = move ||
+                    requires { IsSend L.row × IsSync R.row × IsSend D.row × IsSync D.row }
+                { spool(service, hub, number) };
+                if scope.spawn(fill).is_err() {
+                    hub.fail(RunFault::Memory);
+                    break;
+                }
+            }
+            with_workers(service, hub, workers);
+        },
+    );
+}
+
+/// One round at this gate, up to its audit. It gives the gate of the next.
+fn round<
+    L: Ledger + Send,
+    R: Threads + Wait + Clock + Files<File = File, Dir = D> + Eprint + AllocGlobal + Sync,
+    D: Read + Drop + Send + Sync,
+>(hub: &Hub<'_, R>, blank: Blank, gate: Gate, workers: u64) -> Result<Gate, RunFault>
+    requires name { blank.name ≡ L.name }
+    requires parts { blank.parts ≡ L.parts }
+    requires many { blank.parts ≡ 1000000 }
+{
+    let (book, share) = blank.open::<L>();
+    hub.begin_round(gate.end());
+    let service = Service::new(hub.rt, hub.start, gate, book, share);
+    with_spoolers(&service, hub, workers);
+    if let Some(fault) = hub.fault() {
+        return Err(fault);
+    }
+    service.cut_last()?;
+    let (_served, gate) = service.settle()?;
+    Ok(gate)
+}
+
+/// Rounds, until the gateway is stopped, or can't go on: that is the fault.
+pub(crate) fn rounds<
+    R: Threads + Wait + Clock + Files<File = File, Dir = D> + Eprint + AllocGlobal + Sync,
+    D: Read + Drop + Send + Sync,
+>(hub: &Hub<'_, R>, first: Gate, workers: u64) -> Option<RunFault> {
+    let mut gate = first;
+    for _ in hub.rt.forever() {
+        let blank = Blank::new(PARTS);
+        match round::<Brand, R, D>(hub, blank, gate, workers) {
+            Ok(next) => gate = next,
+            Err(fault) => {
+                hub.fail(fault);
+                return Some(fault);
+            }
+        }
+        if hub.has_ended() {
+            return hub.fault();
+        }
+    }
+    unreachable!()
+}
