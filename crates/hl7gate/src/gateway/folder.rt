@@ -36,11 +36,11 @@ pub(crate) struct Folder {
     lock: File,
 }
 
-/// That a file of the folder can't be made or written.
-fn unwritten<'a>(alloc: Global, file: &str) -> Ended<'a> {
-    match String::from_str(alloc, file) {
-        Ok(file) => Ended::Unwritten { file },
-        Err(_) => Ended::Run(RunFault::Memory),
+/// Why a file of the folder can't be made or written.
+fn unwritten<'a>(alloc: Global, file: &str, error: &io::Error) -> Ended<'a> {
+    match (error.kind(), String::from_str(alloc, file)) {
+        (ErrorKind::OutOfMemory, _) | (_, Err(_)) => Ended::Run(RunFault::Memory),
+        (_, Ok(file)) => Ended::Unwritten { file },
     }
 }
 
@@ -84,8 +84,9 @@ impl Folder {
     ) -> Result<Self, Ended<'a>> {
         let alloc = rt.alloc();
         let name = format!(in alloc; "{path}/lock")?;
-        let Ok(lock) = open_private(rt, &name) else {
-            return Err(unwritten(alloc, &name));
+        let lock = match open_private(rt, &name) {
+            Ok(lock) => lock,
+            Err(error) => return Err(unwritten(alloc, &name, &error)),
         };
         if lock.try_lock().is_err() {
             return Err(Ended::Taken { path });
@@ -107,18 +108,18 @@ impl Folder {
         let alloc = rt.alloc();
         for name in ["spool", "refused"] {
             let folder = format!(in alloc; "{path}/{name}")?;
-            if make_folder(rt, &folder).is_err() {
-                return Err(unwritten(alloc, &folder));
+            if let Err(error) = make_folder(rt, &folder) {
+                return Err(unwritten(alloc, &folder, &error));
             }
         }
         let page = format!(in alloc; "{path}/README")?;
-        if fs::write(rt, page.as_str(), PAGE).is_err() {
-            return Err(unwritten(alloc, &page));
+        if let Err(error) = fs::write(rt, page.as_str(), PAGE) {
+            return Err(unwritten(alloc, &page, &error));
         }
         let name = format!(in alloc; "{path}/reserve")?;
         match open_private(rt, &name) {
             Ok(reserve) => Ok(reserve),
-            Err(_) => Err(unwritten(alloc, &name)),
+            Err(error) => Err(unwritten(alloc, &name, &error)),
         }
     }
 

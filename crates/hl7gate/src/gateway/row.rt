@@ -1,6 +1,6 @@
 //! What waits for one receiver: a row of segments. The first is read, the last is written, and those between are on the disk alone.
 use crate::gateway::folder::{make_folder, sync_folder};
-use crate::gateway::segments::{Disk, open_segment};
+use crate::gateway::segments::{Disk, fault_of, open_segment};
 use gw_spool::SpoolFault;
 use std::alloc::{AllocError, Global};
 use std::fs::{File, read_dir};
@@ -95,11 +95,14 @@ impl<'f> Row<'f> {
         folder: String,
         reserve: &'f File,
     ) -> Result<Row<'f>, RowFault> {
-        let Ok((first, last)) = listed(rt, &folder) else {
-            return Err(RowFault {
-                fault: SpoolFault::Device,
-                path: Some(folder),
-            });
+        let (first, last) = match listed(rt, &folder) {
+            Ok(ends) => ends,
+            Err(error) => {
+                return Err(RowFault {
+                    fault: fault_of(&error),
+                    path: Some(folder),
+                });
+            }
         };
         let mut waiting = 0u64;
         for number in first..last {

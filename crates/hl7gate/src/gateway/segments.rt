@@ -35,8 +35,8 @@ impl Calls for Segment<'_> {
 /// A spool over one segment.
 pub(crate) type Disk<'f> = Spool<Mirror<Segment<'f>>>;
 
-/// Why a segment can't be opened.
-fn fault_of(error: &io::Error) -> SpoolFault {
+/// Why a segment, or its folder, can't be opened.
+pub(crate) fn fault_of(error: &io::Error) -> SpoolFault {
     match error.kind() {
         ErrorKind::OutOfMemory => SpoolFault::Memory,
         _ => SpoolFault::Device,

@@ -7,7 +7,7 @@ use clap::ArgMatches;
 use gw_stream::RunFault;
 use std::alloc::{AllocError, Global};
 use std::io;
-use std::io::{Read, Write};
+use std::io::{ErrorKind, Read, Write};
 use std::net::{Net, Shutdown};
 use std::os::unix::net::UnixStream;
 
@@ -42,8 +42,12 @@ fn send<'a, R: Net + AllocGlobal, O: Write>(
     let folder = words.get_str("FOLDER").unwrap_or("");
     let path = control_path(rt.alloc(), folder)?;
     let line = line_of(rt.alloc(), words)?;
-    let Ok(answer) = asked(rt, &path, &line) else {
-        return Err(Ended::Unanswered { path: folder });
+    let answer = match asked(rt, &path, &line) {
+        Ok(answer) => answer,
+        Err(error) if error.kind() == ErrorKind::OutOfMemory => {
+            return Err(Ended::Run(RunFault::Memory));
+        }
+        Err(_) => return Err(Ended::Unanswered { path: folder }),
     };
     write_all(output, &answer)?;
     Ok(if answer.starts_with(b"refused") {
