@@ -51,7 +51,7 @@ pub(crate) fn door(alloc: Global) -> Result<Solo, Fail> {
     door_of(alloc, &plan)
 }
 
-// A door at whose gate so many messages arrived.
+// A door at whose gate this many messages arrived.
 pub(crate) fn arrived(alloc: Global, count: u64) -> Result<Solo, Fail> {
     let plan = Arc::new(alloc, archive(alloc)?)?;
     let mut door = door_of(alloc, &plan)?;
@@ -89,7 +89,7 @@ impl Door for WithoutPut {
     }
 }
 
-/// A pause that ends its worker after so many jobs.
+/// A pause that ends its worker after this many jobs.
 #[derive(Drop)]
 pub(crate) struct After {
     pub(crate) left: u64,
@@ -112,7 +112,7 @@ impl Pause for After {
     }
 }
 
-// What a worker does that may do so many jobs.
+// What a worker does that may do this many jobs.
 pub(crate) fn work(alloc: Global, door: &mut Solo, left: u64) -> Result<Counts, Fail> {
     let mut pause = After {
         left,

@@ -195,7 +195,7 @@ impl Refusal<'_> {
         Ok(Found { sites, alike })
     }
 
-    /// Tells the fields that are passed over.
+    /// Reports the fields that are passed over.
     fn tell_unread<E: Write>(&self, errors: &mut E) {
         for (i, field) in self.refused.unread.iter().enumerate() {
             if i > 0 {
@@ -206,7 +206,7 @@ impl Refusal<'_> {
         say(errors, b": neither read nor dropped");
     }
 
-    /// Tells what nothing gives, of the failures of a rule at a line. False where something gives it all.
+    /// Reports what nothing gives, of the failures of a rule at a line. False where something gives it all.
     fn tell_missing<E: Write>(
         &self,
         alloc: Global,
@@ -235,7 +235,7 @@ impl Refusal<'_> {
         Ok(any)
     }
 
-    /// Tells what the line of a failure makes, and of what.
+    /// Reports what the line of a failure makes, and of what.
     fn tell_made<E: Write>(
         &self,
         alloc: Global,
@@ -254,7 +254,7 @@ impl Refusal<'_> {
         told.tell(alloc, errors, failure)
     }
 
-    /// Tells what the failures of a rule at a line speak of: all that nothing gives, and the first part that something gives.
+    /// Reports what the failures of a rule at a line speak of: all that nothing gives, and the first part that something gives.
     fn tell_subject<E: Write>(
         &self,
         alloc: Global,
@@ -276,7 +276,7 @@ impl Refusal<'_> {
         self.tell_made(alloc, errors, &found.sites, given)
     }
 
-    /// Tells a rule that fails as well, at the line that stands first in the text: of a label the line itself, and what the rule demands.
+    /// Reports a rule that fails as well, at the line that stands first in the text: of a label the line itself, and what the rule demands.
     fn tell_other<E: Write>(
         &self,
         alloc: Global,
@@ -303,7 +303,7 @@ impl Refusal<'_> {
         Ok(())
     }
 
-    /// Tells how many more rules fail, and each in a line of its own.
+    /// Reports how many more rules fail, and each in a line of its own.
     fn tell_others<E: Write>(
         &self,
         alloc: Global,
@@ -328,7 +328,7 @@ impl Refusal<'_> {
         Ok(())
     }
 
-    /// Tells the file with its line, what the failure speaks of, what to do, and what fails as well.
+    /// Reports the file with its line, what the failure speaks of, what to do, and what fails as well.
     pub(crate) fn tell<E: Write>(
         &self,
         alloc: Global,

@@ -109,7 +109,7 @@ fn closed_in(chapters: &[Chapter]) -> usize {
     }
 }
 
-/// Tells that three quarters of the journal are used.
+/// Reports that three quarters of the journal are used.
 fn tell_warning<R: Eprint>(rt: &R) {
     let used = WARNING + 1;
     let _ = eprintln!(rt;
@@ -117,7 +117,7 @@ fn tell_warning<R: Eprint>(rt: &R) {
     );
 }
 
-/// Tells who meets a full journal, and what comes of it.
+/// Reports who meets a full journal, and what comes of it.
 fn tell_full<R: Eprint>(rt: &R, who: Who<'_>) {
     let _ = match who {
         Who::Session(number) => {

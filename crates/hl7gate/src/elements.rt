@@ -45,7 +45,7 @@ fn nodes_of(node: &Node) -> &[Node] {
     }
 }
 
-/// Tells the labels that lead to a node.
+/// Names the labels that lead to a node.
 fn tell_path<E: Write>(errors: &mut E, nodes: &[Node], at: &[usize]) {
     let mut level = nodes;
     for (i, number) in at.iter().enumerate() {
@@ -60,7 +60,7 @@ fn tell_path<E: Write>(errors: &mut E, nodes: &[Node], at: &[usize]) {
     }
 }
 
-/// Tells an element as a map names it: the first component and subcomponent aren't named.
+/// Reports an element as a map names it: the first component and subcomponent aren't named.
 pub(crate) fn tell_name<E: Write>(errors: &mut E, profile: &Profile, named: Named<'_>) {
     let Named {
         at,
@@ -89,7 +89,7 @@ fn usage_word(usage: Usage) -> &'static str {
     }
 }
 
-/// Tells a usage, and how often an element may come.
+/// Reports a usage, and how often an element may come.
 fn tell_usage<E: Write>(errors: &mut E, usage: Usage, card: Option<Card>) {
     say(errors, usage_word(usage).as_bytes());
     let Some(card) = card else {
@@ -105,7 +105,7 @@ fn tell_usage<E: Write>(errors: &mut E, usage: Usage, card: Option<Card>) {
 /// A number at the cap, of which no more is known.
 const AT_THE_CAP: &[u8] = b"more than 4,294,967,295";
 
-/// Tells how often something comes.
+/// Reports how often something comes.
 pub(crate) fn tell_interval<E: Write>(errors: &mut E, count: Interval) {
     let Interval { least, greatest } = count;
     if least >= CAP {
@@ -124,13 +124,13 @@ pub(crate) fn tell_interval<E: Write>(errors: &mut E, count: Interval) {
     say(errors, AT_THE_CAP);
 }
 
-/// Tells the name of a profile.
+/// Reports the name of a profile.
 pub(crate) fn tell_profile<E: Write>(errors: &mut E, profile: &Profile) {
     say(errors, b" in ");
     say(errors, profile.name());
 }
 
-/// Tells what a profile says of an element, which it may not list.
+/// Reports what a profile says of an element, which it may not list.
 fn tell_what<E: Write>(errors: &mut E, profile: &Profile, said: Option<(Usage, Option<Card>)>) {
     match said {
         None => {
@@ -165,7 +165,7 @@ pub(crate) fn node_at<'a>(nodes: &'a [Node], at: &[usize]) -> Option<&'a Node> {
     found
 }
 
-/// Tells how the node to which the numbers lead may come.
+/// Reports how the node to which the numbers lead may come.
 pub(crate) fn tell_node<E: Write>(errors: &mut E, profile: &Profile, at: &[usize]) {
     let said = match node_at(profile.nodes(), at) {
         None => None,
@@ -175,7 +175,7 @@ pub(crate) fn tell_node<E: Write>(errors: &mut E, profile: &Profile, at: &[usize
     tell_what(errors, profile, said);
 }
 
-/// Tells how a field may come.
+/// Reports how a field may come.
 pub(crate) fn tell_field<E: Write>(errors: &mut E, profile: &Profile, spot: &ElementPath) {
     let said = match field_at(profile, spot) {
         None => None,
@@ -185,7 +185,7 @@ pub(crate) fn tell_field<E: Write>(errors: &mut E, profile: &Profile, spot: &Ele
     tell_what(errors, profile, said);
 }
 
-/// Tells how a component may come.
+/// Reports how a component may come.
 pub(crate) fn tell_comp<E: Write>(errors: &mut E, profile: &Profile, spot: &ElementPath) {
     let said = match comp_at(profile, spot) {
         None => None,
@@ -197,7 +197,7 @@ pub(crate) fn tell_comp<E: Write>(errors: &mut E, profile: &Profile, spot: &Elem
     tell_what(errors, profile, said);
 }
 
-/// Tells how a subcomponent may come.
+/// Reports how a subcomponent may come.
 pub(crate) fn tell_sub<E: Write>(errors: &mut E, profile: &Profile, spot: &ElementPath) {
     let said = match sub_at(profile, spot) {
         None => None,

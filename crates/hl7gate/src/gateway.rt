@@ -9,6 +9,7 @@ mod forwarders;
 mod hub;
 mod links;
 mod outgoing;
+mod refusals;
 mod refused;
 mod rounds;
 mod row;

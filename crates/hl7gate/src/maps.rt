@@ -260,7 +260,7 @@ fn write_translation<'a, R: AllocGlobal, I: Read, O: Write>(
     Ok(DONE)
 }
 
-/// Tells the rule that refuses a map, and what a person needs to mend it, and answers the status.
+/// Reports the rule that refuses a map, and what a person needs to mend it, and answers the status.
 fn tell_refusal<'a, E: Write>(
     alloc: Global,
     refusal: Refusal<'_>,

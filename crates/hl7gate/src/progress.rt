@@ -65,7 +65,7 @@ impl<'c, 't, C: Clock, I: Read, E: Write> Watched<'c, 't, C, I, E> {
         }
     }
 
-    /// Tells how far the run is, where a second has gone since the last line.
+    /// Reports how far the run is, where a second has gone since the last line.
     fn tell(&mut self) {
         let Ok(now) = self.clock.monotonic() else {
             return;

@@ -49,7 +49,7 @@ fn tell_number<E: Write>(errors: &mut E, word: &str, number: u8, place: Place) {
     };
 }
 
-/// Tells a refusal: on the first line its number, with its line or name; on the next where the text came from, and what was expected there or is wrong with it.
+/// Reports a refusal: on the first line its number, with its line or name; on the next where the text came from, and what was expected there or is wrong with it.
 fn tell_refused<E: Write, F: Display>(
     errors: &mut E,
     subject: Subject<'_>,
@@ -73,7 +73,7 @@ fn tell_refused<E: Write, F: Display>(
     REFUSED
 }
 
-/// Tells why the text of a file is no profile.
+/// Reports why the text of a file is no profile.
 pub(crate) fn tell_profile<E: Write>(
     errors: &mut E,
     path: &str,
@@ -98,7 +98,7 @@ pub(crate) fn tell_profile<E: Write>(
     tell_refused(errors, subject, fault.number(), place, &fault)
 }
 
-/// Tells why the text of a file is no map.
+/// Reports why the text of a file is no map.
 pub(crate) fn tell_map<E: Write>(
     errors: &mut E,
     path: &str,
@@ -121,7 +121,7 @@ pub(crate) fn tell_map<E: Write>(
     tell_refused(errors, subject, fault.number(), place, &fault)
 }
 
-/// Tells why the text of a file is no plan.
+/// Reports why the text of a file is no plan.
 pub(crate) fn tell_plan<E: Write>(
     errors: &mut E,
     path: &str,
@@ -150,7 +150,7 @@ pub(crate) fn tell_message<E: Write>(errors: &mut E, fault: ReadFault) -> u8 {
     tell_refused(errors, subject, fault.number(), Place::Whole, &fault)
 }
 
-/// Tells what a message breaks: the code, and the place up to its last number.
+/// Reports what a message breaks: the code, and the place up to its last number.
 pub(crate) fn tell_breach<E: Write>(errors: &mut E, breach: Breach) -> u8 {
     let code = breach.code();
     let (first, second, third) = letters(breach.segment);

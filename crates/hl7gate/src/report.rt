@@ -23,7 +23,7 @@ pub(crate) const FAULT: u8 = 3;
 /// Allocation failure.
 pub(crate) const NO_MEMORY: u8 = 4;
 
-/// Tells that no message was found in a stream, where none was: it may be a file without frames.
+/// Reports that no message was found in a stream, where none was: it may be a file without frames.
 pub(crate) fn tell_if_none<E: Write>(errors: &mut E, counts: Counts) {
     if counts.answered == 0 {
         let _ = writeln!(
@@ -43,7 +43,7 @@ pub(crate) fn tell_if_full<E: Write>(errors: &mut E, is_full: bool) {
     }
 }
 
-/// Tells what a service did.
+/// Reports what a service did.
 pub(crate) fn tell_report<O: Write, E: Write>(
     output: &mut O,
     errors: &mut E,
@@ -70,7 +70,7 @@ pub(crate) fn status_if(accepted: bool) -> u8 {
     if accepted { DONE } else { REFUSED }
 }
 
-/// Tells a fault by its number.
+/// Reports a fault by its number.
 pub(crate) fn tell_fault<E: Write>(errors: &mut E, fault: RunFault) -> u8 {
     let number = fault.number();
     let _ = writeln!(errors, "fault {number}");
@@ -93,7 +93,7 @@ pub(crate) fn write_all<O: Write>(output: &mut O, bytes: &[u8]) -> Result<(), Ru
     Ok(())
 }
 
-// Tells a fault of a file or an address, which is named.
+// Reports a fault of a file or an address, which is named.
 fn tell_device<E: Write>(errors: &mut E, fault: RunFault, name: &str, said: &str) -> u8 {
     let status = tell_fault(errors, fault);
     let _ = writeln!(errors, "{name}: {said}");
@@ -108,7 +108,7 @@ fn text_of(said: &Option<String>) -> Option<&str> {
     }
 }
 
-/// Tells why a command wasn't done.
+/// Reports why a command wasn't done.
 pub(crate) fn tell<E: Write>(errors: &mut E, ended: &Ended<'_>) -> u8 {
     match ended {
         Ended::Stamp => {
@@ -183,7 +183,7 @@ pub(crate) fn tell<E: Write>(errors: &mut E, ended: &Ended<'_>) -> u8 {
     }
 }
 
-/// Tells what the words lack, or the help or version that they ask for.
+/// Reports what the words lack, or the help or version that they ask for.
 pub(crate) fn tell_words<O: Write, E: Write>(output: &mut O, errors: &mut E, error: &Error) -> u8 {
     if error.kind() == ErrorKind::OutOfMemory {
         return tell_fault(errors, RunFault::Memory);
@@ -198,7 +198,7 @@ pub(crate) fn tell_words<O: Write, E: Write>(output: &mut O, errors: &mut E, err
     }
 }
 
-/// Tells that the words of the command line can't be read.
+/// Reports that the words of the command line can't be read.
 pub(crate) fn tell_unread_words<E: Write>(errors: &mut E, error: &io::Error) -> u8 {
     if error.kind() == io::ErrorKind::OutOfMemory {
         return tell_fault(errors, RunFault::Memory);

@@ -117,7 +117,7 @@ fn absent_on_the_way<'a>(profile: &Profile, spot: &'a ElementPath) -> Option<&'a
     None
 }
 
-/// Tells an element of a profile by its own numbers.
+/// Reports an element of a profile by its own numbers.
 fn tell_part<E: Write>(errors: &mut E, profile: &Profile, spot: &ElementPath) {
     if spot.field == 0 {
         tell_node(errors, profile, &spot.at);
@@ -130,7 +130,7 @@ fn tell_part<E: Write>(errors: &mut E, profile: &Profile, spot: &ElementPath) {
     }
 }
 
-/// Tells whether what is read is there: by its field, or by its component where that may be absent.
+/// Reports whether what is read is there: by its field, or by its component where that may be absent.
 fn tell_read<E: Write>(errors: &mut E, profile: &Profile, spot: &ElementPath) {
     if spot.field > 0 && spot.comp > 0 && !is_sure_comp(profile, spot) {
         tell_comp(errors, profile, spot);
@@ -141,7 +141,7 @@ fn tell_read<E: Write>(errors: &mut E, profile: &Profile, spot: &ElementPath) {
     }
 }
 
-/// Tells why what is read may be absent: by a node on the way to it, where one may be, or by itself.
+/// Reports why what is read may be absent: by a node on the way to it, where one may be, or by itself.
 fn tell_absent<E: Write>(errors: &mut E, profile: &Profile, spot: &ElementPath) {
     match absent_on_the_way(profile, spot) {
         Some(at) => tell_node(errors, profile, at),
@@ -150,7 +150,7 @@ fn tell_absent<E: Write>(errors: &mut E, profile: &Profile, spot: &ElementPath) 
 }
 
 impl Told<'_> {
-    /// Tells what the source has for a part of the target of which rule 5 or 11 fails.
+    /// Reports what the source has for a part of the target of which rule 5 or 11 fails.
     fn tell_source<E: Write>(
         &self,
         errors: &mut E,
@@ -169,7 +169,7 @@ impl Told<'_> {
         }
     }
 
-    /// Tells how often the target asks for a part of what the line makes, and what gives it.
+    /// Reports how often the target asks for a part of what the line makes, and what gives it.
     fn tell_often<E: Write>(&self, errors: &mut E, failure: Failure, parts: &Parts) {
         let Failure { rule, mark } = failure;
         tell_part(errors, &self.sides.target, &parts.target);
@@ -206,7 +206,7 @@ fn len_of(sub: Option<&SubShape>) -> Option<u32> {
     sub?.len
 }
 
-/// Tells how long a text of an element may be, by the count of its profile.
+/// Reports how long a text of an element may be, by the count of its profile.
 fn tell_length<E: Write>(errors: &mut E, profile: &Profile, spot: &ElementPath) {
     tell_name(errors, profile, element_of(spot));
     say(errors, b" has ");
@@ -223,7 +223,7 @@ fn table_of(sub: Option<&SubShape>) -> Option<&[u8]> {
     }
 }
 
-/// Tells the table of an element.
+/// Reports the table of an element.
 fn tell_table<E: Write>(errors: &mut E, profile: &Profile, spot: &ElementPath) {
     tell_name(errors, profile, element_of(spot));
     match table_of(sub_at(profile, spot)) {
@@ -276,7 +276,7 @@ fn tell_text<E: Write>(errors: &mut E, text: &[u8], said: &str) {
 }
 
 impl Told<'_> {
-    /// Tells the table of the map in which a text is looked up, where it is.
+    /// Reports the table of the map in which a text is looked up, where it is.
     fn tell_lookup<E: Write>(&self, errors: &mut E) -> bool {
         let Origin::LookedUp(name, _) = &self.site.origin else {
             return false;
@@ -286,7 +286,7 @@ impl Told<'_> {
         true
     }
 
-    /// Tells the table of the target and that of the source, and a text that only the source's has.
+    /// Reports the table of the target and that of the source, and a text that only the source's has.
     fn tell_strange<E: Write>(&self, errors: &mut E, to: &ElementPath, from: &ElementPath) {
         let ProfilePair { source, target } = self.sides;
         tell_table(errors, target, to);
@@ -304,7 +304,7 @@ impl Told<'_> {
         }
     }
 
-    /// Tells the length that the target takes, and that of the source.
+    /// Reports the length that the target takes, and that of the source.
     fn tell_long<E: Write>(&self, errors: &mut E, to: &ElementPath, from: &ElementPath) {
         let ProfilePair { source, target } = self.sides;
         tell_length(errors, target, to);
@@ -322,7 +322,7 @@ impl Told<'_> {
         }
     }
 
-    /// Tells the table of what is looked up, and a text that has no row.
+    /// Reports the table of what is looked up, and a text that has no row.
     fn tell_unrowed<E: Write>(&self, errors: &mut E) {
         let Origin::LookedUp(name, from) = &self.site.origin else {
             return;
@@ -340,7 +340,7 @@ impl Told<'_> {
         }
     }
 
-    /// Tells a constant, and what the target takes.
+    /// Reports a constant, and what the target takes.
     fn tell_constant<E: Write>(&self, errors: &mut E, to: &ElementPath) {
         let Origin::Text(text) = &self.site.origin else {
             return;
@@ -359,7 +359,7 @@ impl Told<'_> {
 }
 
 impl Told<'_> {
-    /// Tells the elements of which rule 6 or 7 fails.
+    /// Reports the elements of which rule 6 or 7 fails.
     fn tell_texts<E: Write>(&self, errors: &mut E, rule: u8, parts: &Parts) {
         let Some(from) = &parts.source else {
             return;
@@ -371,7 +371,7 @@ impl Told<'_> {
         }
     }
 
-    /// Tells what a failure at the line speaks of.
+    /// Reports what a failure at the line speaks of.
     pub(crate) fn tell<E: Write>(
         &self,
         alloc: Global,

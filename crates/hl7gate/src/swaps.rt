@@ -69,7 +69,7 @@ fn lines_of<R: AllocGlobal>(rt: &R, path: &str, why: &Unswapped<'_>) -> Vec<u8> 
     lines
 }
 
-/// Tells on standard error why the plan of a file isn't swapped in.
+/// Reports on standard error why the plan of a file isn't swapped in.
 fn tell_unswapped<R: Eprint + AllocGlobal>(rt: &R, path: &str, why: &Unswapped<'_>) {
     if let Ok(lines) = String::from_utf8(lines_of(rt, path, why)) {
         let _ = eprint!(rt; "{lines}");

@@ -21,17 +21,19 @@ const PAGE: &[u8] =
 spool/NAME/N       messages that wait for the receiver NAME, in order; the files are numbered. Don't edit them:
                    a changed byte is damage, and the gateway then sends nothing of that file
 refused/NAME.mllp  messages that NAME answered AE, or AR three times, as framed messages; the gateway only adds to it
+refusals.log       a line for each message that was answered AE or AR: when, session, number, control id, code and place
 reserve            room on the disk for what was accepted, used when the disk is full
 lock               locked by the gateway that works here
 
 These files hold patients' data. Copy or move them only while no gateway works here.
 ";
 
-/// The folder: its path, the file that locks it, and the room that is kept free.
+/// The folder: its path, the room that is kept free, the log of refusals, and the file that locks it.
 #[derive(Drop)]
 pub(crate) struct Folder {
     pub(crate) path: String,
     pub(crate) reserve: File,
+    pub(crate) log: File,
     // (the lock lasts as long as its file is open)
     lock: File,
 }
@@ -48,6 +50,13 @@ fn unwritten<'a>(alloc: Global, file: &str, error: &io::Error) -> Ended<'a> {
 pub(crate) fn open_private<R: Files<File = File>>(rt: &R, path: &str) -> io::Result<File> {
     let mut options = OpenOptions::new();
     options.read(true).write(true).create(true).mode(0o600);
+    options.open(rt, path)
+}
+
+/// A file that is added to, and that its owner alone may read.
+fn open_log<R: Files<File = File>>(rt: &R, path: &str) -> io::Result<File> {
+    let mut options = OpenOptions::new();
+    options.append(true).create(true).mode(0o600);
     options.open(rt, path)
 }
 
@@ -92,10 +101,16 @@ impl Folder {
             return Err(Ended::Taken { path });
         }
         let reserve = Self::make(rt, path)?;
+        let name = format!(in alloc; "{path}/refusals.log")?;
+        let log = match open_log(rt, &name) {
+            Ok(log) => log,
+            Err(error) => return Err(unwritten(alloc, &name, &error)),
+        };
         let path = String::from_str(alloc, path)?;
         Ok(Folder {
             path,
             reserve,
+            log,
             lock,
         })
     }

@@ -80,7 +80,7 @@ impl<'f> Outgoing<'f> {
         self.queue.lock(rt).has_ended
     }
 
-    /// Sends nothing until it is let go again.
+    /// Sends nothing until `go`, or sends again.
     pub(crate) fn hold<R: Wait>(&self, rt: &R, is_held: bool) {
         self.queue.lock(rt).is_held = is_held;
         self.news.notify_all();

@@ -4,6 +4,7 @@ ghost use Rattle.std.specs.Prelude.{⊤};
 use crate::doors::{Reporter, Who};
 use crate::gateway::hub::{Hub, Sender};
 use crate::gateway::links::watch;
+use crate::gateway::refusals::Logged;
 use crate::gateway::safety::{Needs, Waiting};
 use crate::gateway::whole::{End, Held, Whole};
 use crate::stamps::Utc;
@@ -132,10 +133,9 @@ fn answer_at_gate<L: Ledger, R: Wait + AllocGlobal + Clock + Eprint>(
         needs: &needs,
     };
     let mut clock = Utc::new(hub.rt, hub.start);
-    let mut writer = Barrier::new(
-        Writes::new(&sender.stream),
-        Waiting::new(hub.rt, &hub.safe, &needs),
-    );
+    let logged = Logged::new(alloc, &sender.stream, &hub.folder.log, sender.number);
+    let waiting = Waiting::new(hub.rt, &hub.safe, &needs);
+    let mut writer = Barrier::new(Writes::new(logged), waiting);
     let mut reader = Reads::new(&mut whole);
     let answered = session(alloc, &mut door, &mut clock, &mut reader, &mut writer);
     let Gatekeeper { reporter, .. } = door;
@@ -157,7 +157,8 @@ fn turn_away<R: Wait + AllocGlobal + Clock>(
     let mut judge = TurnedAway {
         clock: Utc::new(hub.rt, hub.start),
     };
-    let mut writer = Writes::new(&sender.stream);
+    let logged = Logged::new(alloc, &sender.stream, &hub.folder.log, sender.number);
+    let mut writer = Writes::new(logged);
     let mut reader = Reads::new(&mut whole);
     let answered = answer_blocks(alloc, &mut judge, &mut reader, &mut writer);
     let (end, held) = whole.into_end();
