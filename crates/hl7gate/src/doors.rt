@@ -24,6 +24,8 @@ pub(crate) struct Reporter<'a, 'n, L: Ledger, R: Wait + Eprint> {
     pass: Pass<'a, L, R>,
     rt: &'a R,
     chapters: &'a Mutex<Vec<Chapter>>,
+    // how many entries were closed before the service began
+    begun: usize,
     who: Who<'n>,
     met_full: bool,
 }
@@ -33,12 +35,14 @@ impl<'a, 'n, L: Ledger, R: Wait + Eprint> Reporter<'a, 'n, L, R> {
         pass: Pass<'a, L, R>,
         rt: &'a R,
         chapters: &'a Mutex<Vec<Chapter>>,
+        begun: usize,
         who: Who<'n>,
     ) -> Self {
         Reporter {
             pass,
             rt,
             chapters,
+            begun,
             who,
             met_full: false,
         }
@@ -57,7 +61,9 @@ impl<'a, 'n, L: Ledger, R: Wait + Eprint> Reporter<'a, 'n, L, R> {
 
     /// Whether the entry of this number ends three quarters of the open journal. It is counted over all chapters, so those that were closed are taken off.
     fn is_warning(&self, at: usize) -> bool {
-        at >= WARNING && at.checked_sub(closed_in(&self.chapters.lock(self.rt))) == Some(WARNING)
+        at >= WARNING
+            && at.checked_sub(closed_in(&self.chapters.lock(self.rt)).max(self.begun))
+                == Some(WARNING)
     }
 }
 

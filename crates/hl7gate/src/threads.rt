@@ -21,11 +21,12 @@ use std::time::Clock;
 /// How many threads may step the gate of a service: more than 1,000 sessions, 1,000 workers and the receivers of any plan.
 pub(crate) const PARTS: u64 = 1_000_000;
 
-/// What the threads of a service share: its gate behind the lock, the parts of the ledger, what ended passes leave, the chapters that were closed, and what went wrong.
+/// What the threads of a service share: how many entries were closed before it began, its gate behind the lock, the parts of the ledger, what ended passes leave, the chapters that were closed, and what went wrong.
 #[derive(Drop)]
 pub(crate) struct Service<'a, L: Ledger, R: Wait> {
     pub(crate) rt: &'a R,
     start: Stamp,
+    begun: usize,
     gate: LockedGate<L>,
     tickets: Mutex<Tickets<L>>,
     receipts: Mutex<Vec<Receipts<L>>>,
@@ -83,9 +84,11 @@ impl<'a, L: Ledger, R: Wait + Eprint + AllocGlobal> Service<'a, L, R> {
         requires parts { share.parts ≡ 1000000 }
         requires unused { share.amount ≡ 0 }
     {
+        let begun = gate.start().entries as usize;
         Service {
             rt,
             start,
+            begun,
             gate: LockedGate::new(gate, book),
             tickets: Mutex::new(Tickets::new(share, PARTS)),
             receipts: Mutex::new(Vec::new(rt.alloc())),
@@ -98,7 +101,7 @@ impl<'a, L: Ledger, R: Wait + Eprint + AllocGlobal> Service<'a, L, R> {
     pub(crate) fn door<'s, 'n>(&'s self, who: Who<'n>) -> Option<Reporter<'s, 'n, L, R>> {
         let share = self.tickets.lock(self.rt).take()?;
         let pass = self.gate.pass(self.rt.alloc(), self.rt, share);
-        Some(Reporter::new(pass, self.rt, &self.chapters, who))
+        Some(Reporter::new(pass, self.rt, &self.chapters, self.begun, who))
     }
 
     /// A thread steps the gate no more: what its pass leaves is kept for the end.
