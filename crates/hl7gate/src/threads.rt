@@ -21,7 +21,8 @@ use std::time::Clock;
 /// How many threads may step the gate of a service: more than 1,000 sessions, 1,000 workers and the receivers of any plan.
 pub(crate) const PARTS: u64 = 1_000_000;
 
-/// What the threads of a service share: how many entries were closed before it began, its gate behind the lock, the parts of the ledger, what ended passes leave, the chapters that were closed, and what went wrong.
+/// What the threads of a service share: how many entries were closed before it began, its gate behind the lock,
+/// the parts of the ledger, what ended passes leave, the chapters that were closed, and what went wrong.
 #[derive(Drop)]
 pub(crate) struct Service<'a, L: Ledger, R: Wait> {
     pub(crate) rt: &'a R,
