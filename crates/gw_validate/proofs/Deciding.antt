@@ -15,9 +15,12 @@ use Rattle.gw_validate.specs.own.Judging.{HasKept}
 use Rattle.gw_validate.specs.own.Occurring.{tree_of, IsOrdered}
 use Rattle.gw_validate.specs.own.Least.{Searched, BreachAt}
 use Rattle.gw_validate.specs.Broken.{IsTreeOf, Breaks, sequence, spot_of, IsLeast}
+use Rattle.gw_validate.specs.Breaches.{NotAfter}
+use Rattle.gw_validate.specs.own.Finding.{IsAlone}
+use Rattle.gw_validate.proofs.Leasts.{not_after_self}
 use Rattle.gw_validate.proofs.Listed.{Place, place, numbers_below}
 use Rattle.gw_validate.proofs.Flat.{tree_flat, assigned_flat}
-use Rattle.gw_validate.proofs.Judged.{names_are, names_take, NoneBefore, order_breaks, order_least, missing_breaks, missing_least, segment_breaks, segment_least, meets_all, tree_message, breaks_nothing}
+use Rattle.gw_validate.proofs.Judged.{names_are, names_take, NoneBefore, AloneAt, order_breaks, order_alone, missing_breaks, missing_alone, segment_breaks, segment_least, meets_all, tree_message, breaks_nothing}
 
 pub taken_fit : (f : Forest) (m : List SegmentValue) (taken : List ℕ) → taken ≡ numbers f m → NamesFit f m → Fits f (map (named m) taken)
 taken_fit f m taken e h = subst (Fits f) (sym (ap (map (named m)) e ∙ names_are f m)) h
@@ -42,6 +45,16 @@ module _ (p : ProfileValue) (m : List SegmentValue) (wf : Determined p.nodes NoN
     least = subst (λ k. NoneBefore p m wf n k) (sym ek) least;
   }
 
+  alone_of : (n : ℕ) (name : Name) (q : List ℕ) (b : Breach) → b.segment ≡ name → b.sequence ≡ sequence m n name → spot_of b ≡ q → Breaks p m n name q → AloneAt p m wf n q → IsAlone p m (n, b)
+  alone_of n name q b es eq ek breaks alone = record {
+    named = record {
+      breaks = subst (λ w. Breaks p m n w (spot_of b)) (sym es) (subst (λ k. Breaks p m n name k) (sym ek) breaks);
+      counted = eq ∙ ap (sequence m n) (sym es);
+    };
+    alone = λ i w spot h. let r = alone i w spot h in (r.0, ek ∙ r.1);
+    never = λ h. breaks_nothing p m wf h n name q breaks;
+  }
+
   -- a least breach, and so no conforming
   pub not_conforming : (b : Breach) → IsLeast p m b → IsLeast p m b × (Conforms p m → ⊥)
   not_conforming b l = (l, λ h. breaks_nothing p m wf h l.number b.segment (spot_of b) l.breaks)
@@ -60,7 +73,7 @@ module _ (p : ProfileValue) (m : List SegmentValue) (wf : Determined p.nodes NoN
     spot : Place p.nodes 0 i m
     spot = place p.nodes 0 i m order_within
 
-    pub order_judged : (n : ℕ) (b : Breach) → n ≡ get_or (numbers p.nodes m) i 0 → b.segment ≡ named m n → b.sequence ≡ sequence m n (named m n) → spot_of b ≡ 0 ∷ 0 ∷ 0 ∷ 0 ∷ 1 ∷ [] → IsLeast p m b
+    pub order_judged : (n : ℕ) (b : Breach) → n ≡ get_or (numbers p.nodes m) i 0 → b.segment ≡ named m n → b.sequence ≡ sequence m n (named m n) → spot_of b ≡ 0 ∷ 0 ∷ 0 ∷ 0 ∷ 1 ∷ [] → IsAlone p m (n, b)
     order_judged n b at es eq ek =
         let same : n ≡ spot.number = omega (arith, at, spot.at) in
         let there : slice_get m n ≡ Some spot.this = ap (slice_get m) same ∙ spot.here in
@@ -69,8 +82,8 @@ module _ (p : ProfileValue) (m : List SegmentValue) (wf : Determined p.nodes NoN
         subst (Begins p.nodes) (ap (take i) here ∙ sym (names_take p.nodes spot.number i m spot.before) ∙ ap (λ k. names p.nodes (take k m)) (sym same)) walked.1 in
         let never : Begins p.nodes (names p.nodes (take (suc n) m)) → ⊥ = λ h. walked.2
         (subst (Begins p.nodes) (ap (λ k. names p.nodes (take (suc k) m)) same ∙ names_take p.nodes (suc spot.number) (suc i) m spot.upto ∙ ap (λ k. take k (names p.nodes m)) (one i) ∙ ap (take (i + 1)) (sym here)) h) in
-        least_of n spot.this.name (0 ∷ 0 ∷ 0 ∷ 0 ∷ 1 ∷ []) b (es ∙ name) (eq ∙ ap (sequence m n) name) ek
-        (order_breaks p m wf n spot.this there before never) (order_least p m wf n spot.this there before never)
+        alone_of n spot.this.name (0 ∷ 0 ∷ 0 ∷ 0 ∷ 1 ∷ []) b (es ∙ name) (eq ∙ ap (sequence m n) name) ek
+        (order_breaks p m wf n spot.this there before never) (order_alone p m wf n spot.this there before never)
       where
         one : (i : ℕ) → suc i ≡ i + 1
         one i = omega arith
@@ -80,13 +93,14 @@ module _ (p : ProfileValue) (m : List SegmentValue) (wf : Determined p.nodes NoN
         known (x ∷ m) zero s e = cc
         known (x ∷ m) (suc n) s e = known m n s e
 
-  pub missing_judged : (ns : List Name) (name : Name) (n : ℕ) (b : Breach) → ns ≡ map (named m) (numbers p.nodes m) → Answers p.nodes ns (answer.Missing name) → n ≡ length m → b.segment ≡ name → b.sequence ≡ sequence m n name → spot_of b ≡ 0 ∷ 0 ∷ 0 ∷ 0 ∷ 2 ∷ [] → IsLeast p m b
+  pub missing_judged : (ns : List Name) (name : Name) (n : ℕ) (b : Breach) → ns ≡ map (named m) (numbers p.nodes m) → Answers p.nodes ns (answer.Missing name) → n ≡ length m → b.segment ≡ name → b.sequence ≡ sequence m n name → spot_of b ≡ 0 ∷ 0 ∷ 0 ∷ 0 ∷ 2 ∷ [] → IsAlone p m (n, b)
   missing_judged ns name n b is walked end es eq ek =
       let here : ns ≡ names p.nodes m = is ∙ names_are p.nodes m in
       let none : NamesFit p.nodes m → ⊥ = λ h. walked.0 (subst (Fits p.nodes) (sym here) h) in
       let short : IsShortest p.nodes (names p.nodes m) (name ∷ walked.1) = subst (λ w. IsShortest p.nodes w (name ∷ walked.1)) here walked.2 in
-      least_of (length m) name (0 ∷ 0 ∷ 0 ∷ 0 ∷ 2 ∷ []) b es (eq ∙ ap (λ k. sequence m k name) end) ek
-      (missing_breaks p m wf name walked.1 none short) (missing_least p m wf name walked.1 none short)
+      subst (λ (k : ℕ). IsAlone p m (k, b)) (sym end)
+      (alone_of (length m) name (0 ∷ 0 ∷ 0 ∷ 0 ∷ 2 ∷ []) b es (eq ∙ ap (λ k. sequence m k name) end) ek
+      (missing_breaks p m wf name walked.1 none short) (missing_alone p m wf name walked.1 none short))
 
   module _ (t : Tree) (taken : List ℕ) (is : taken ≡ numbers p.nodes m) (tree : IsTree (named m) t p.nodes taken) where
     pub tree_is : IsTreeOf p m t
@@ -119,3 +133,15 @@ module _ (p : ProfileValue) (m : List SegmentValue) (wf : Determined p.nodes NoN
         tree = here;
         kept = record { ordered = ordered; within = taken_within p.nodes m taken is };
       }
+
+-- what is alone is the least
+pub alone_least : (p : ProfileValue) (m : List SegmentValue) (x : ℕ × Breach) → IsAlone p m x → IsLeast p m x.1 × (Conforms p m → ⊥)
+alone_least p m x a = (
+  record {
+    number = x.0;
+    breaks = a.named.breaks;
+    counted = a.named.counted;
+    least = λ i name spot h. let r = a.alone i name spot h in inr (r.0, subst (NotAfter (spot_of x.1)) r.1 (not_after_self (spot_of x.1)));
+  },
+  a.never,
+)

@@ -13,7 +13,7 @@ use Rattle.gw_validate.specs.Conforming.{listed, names, NamesFit, numbers, segme
 use Rattle.gw_validate.specs.Trees.{Tree, assigned, AllMeet, MeetingTree}
 use Rattle.gw_validate.specs.own.Least.{Searched, BreachAt}
 use Rattle.gw_validate.specs.Broken.{IsTreeOf, Assigns, Breaks, out_of_order, missing, in_segment}
-use Rattle.gw_validate.proofs.Breaches.{not_after_self}
+use Rattle.gw_validate.proofs.Leasts.{not_after_self}
 use Rattle.gw_validate.proofs.Listed.{of_numbers, RisesFrom, numbers_rise}
 use Rattle.gw_validate.proofs.Flat.{tree_flat, assigned_flat}
 use Rattle.gw_validate.proofs.Mapped.{seq_back, seq_forth}
@@ -138,6 +138,10 @@ module _ (p : ProfileValue) (m : List SegmentValue) (wf : Determined p.nodes NoN
   abbrev pub NoneBefore : ℕ → List ℕ → Type 0
   NoneBefore n q = (i : ℕ) (name : Name) (spot : List ℕ) → Breaks p m i name spot → NotAfter (n ∷ q) (i ∷ spot)
 
+  -- there is no other breach
+  abbrev pub AloneAt : ℕ → List ℕ → Type 0
+  AloneAt n q = (i : ℕ) (name : Name) (spot : List ℕ) → Breaks p m i name spot → (n ≡ i) × (q ≡ spot)
+
   compare : (a b : ℕ) → (b < a) ⊎ ((a ≡ b) ⊎ (a < b))
   compare zero zero = inr (inl refl)
   compare zero (suc b) = inr (inr (omega arith))
@@ -154,14 +158,14 @@ module _ (p : ProfileValue) (m : List SegmentValue) (wf : Determined p.nodes NoN
     pub order_breaks : Breaks p m n s.name (0 ∷ 0 ∷ 0 ∷ 0 ∷ 1 ∷ [])
     order_breaks = out_of_order s here before never
 
-    pub order_least : NoneBefore n (0 ∷ 0 ∷ 0 ∷ 0 ∷ 1 ∷ [])
-    order_least i name spot (out_of_order r there first stop) = elim (compare n i) [
+    pub order_alone : AloneAt n (0 ∷ 0 ∷ 0 ∷ 0 ∷ 1 ∷ [])
+    order_alone i name spot (out_of_order r there first stop) = elim (compare n i) [
       | inl lt ↦ absurd (stop (begins_earlier p.nodes (suc i) n m (omega arith) before))
-      | inr (inl e) ↦ inr (e, not_after_self (0 ∷ 0 ∷ 0 ∷ 0 ∷ 1 ∷ []))
-      | inr (inr lt) ↦ inl lt
+      | inr (inl e) ↦ (e, refl)
+      | inr (inr lt) ↦ absurd (never (begins_earlier p.nodes (suc n) i m (omega arith) first))
     ]
-    order_least i name spot (missing rest none short) = inl (within n m s here)
-    order_least i name spot (in_segment t shape r is a there b) =
+    order_alone i name spot (missing {name = lacking} rest none short) = absurd (never (begins_whole p.nodes (suc n) m (lacking ∷ rest, short.fits)))
+    order_alone i name spot (in_segment t shape r is a there b) =
         absurd (never (begins_whole p.nodes (suc n) m (fit_begins p.nodes m (tree_names_fit t is))))
 
   -- kind 2
@@ -169,11 +173,11 @@ module _ (p : ProfileValue) (m : List SegmentValue) (wf : Determined p.nodes NoN
     pub missing_breaks : Breaks p m (length m) name (0 ∷ 0 ∷ 0 ∷ 0 ∷ 2 ∷ [])
     missing_breaks = missing rest none short
 
-    pub missing_least : NoneBefore (length m) (0 ∷ 0 ∷ 0 ∷ 0 ∷ 2 ∷ [])
-    missing_least i other spot (out_of_order r there first stop) =
+    pub missing_alone : AloneAt (length m) (0 ∷ 0 ∷ 0 ∷ 0 ∷ 2 ∷ [])
+    missing_alone i other spot (out_of_order r there first stop) =
         absurd (stop (begins_whole p.nodes (suc i) m (name ∷ rest, short.fits)))
-    missing_least i other spot (missing more never few) = inr (refl, not_after_self (0 ∷ 0 ∷ 0 ∷ 0 ∷ 2 ∷ []))
-    missing_least i other spot (in_segment t shape r is a there b) = absurd (none (tree_names_fit t is))
+    missing_alone i other spot (missing more never few) = (refl, refl)
+    missing_alone i other spot (in_segment t shape r is a there b) = absurd (none (tree_names_fit t is))
 
   -- kinds 3 to 7
   module _ (t : Tree) (is : IsTreeOf p m t) where

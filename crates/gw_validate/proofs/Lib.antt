@@ -11,7 +11,7 @@ pub mod Unique
 pub mod Rows
 pub mod Building
 pub mod Viewing
-pub mod Breaches
+pub mod Leasts
 pub mod Conforming
 pub mod Mapped
 pub mod Listed
@@ -27,3 +27,6 @@ pub mod Keys
 pub mod Starts
 pub mod Nexts
 pub mod Walks
+pub mod Gathering
+pub mod Every
+pub mod Collecting

@@ -6,7 +6,7 @@ use Rattle.std.proofs.lemmas.Bool.{cases_lt}
 use Rattle.gw_er7.specs.Message.{Texts, SegmentValue, IsSegment, IsEntry, first_field}
 use Rattle.gw_er7.specs.Presence.{SubAt, CompAt, RepAt, FieldAt, IsStart}
 use Rattle.gw_validate.specs.Breaches.{Counted, NotAfter}
-use Rattle.gw_validate.proofs.Breaches.{counted_yes}
+use Rattle.gw_validate.proofs.Leasts.{counted_yes}
 use Rattle.gw_validate.specs.own.Walk.{IsBefore, IsNextRep, IsNoRep}
 use Rattle.gw_validate.proofs.Walks.{self, up_to, before_on, from_start}
 use Rattle.gw_validate.proofs.Starts.{stands, present, each_at, heads, seconds, inside, low, early}

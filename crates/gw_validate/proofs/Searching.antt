@@ -19,7 +19,7 @@ use Rattle.gw_validate.proofs.Walking.{forest_group, value_of}
 use Rattle.std.proofs.lemmas.Grind.{common_steps}
 use Rattle.gw_validate.specs.own.Joining.{extent}
 
-cons_at : {X : Type 0} (xs : List X) (i : ℕ) (x : X) → i < length xs → x ≡ get_or xs i x → drop i xs ≡ x ∷ drop (i + 1) xs
+pub cons_at : {X : Type 0} (xs : List X) (i : ℕ) (x : X) → i < length xs → x ≡ get_or xs i x → drop i xs ≡ x ∷ drop (i + 1) xs
 cons_at xs i x lt at =
     let one : suc i ≡ i + 1 = omega arith in
     drop-cons xs i x lt ∙ ap (λ y. y ∷ drop (suc i) xs) (sym at) ∙ ap (λ j. x ∷ drop j xs) one
@@ -96,20 +96,21 @@ module _ (listed : List ℕ) (at : ℕ → Option Occurrences) (ns : List Node) 
       let two = node_orders at i n (forest (drop (i + 1) ns)) (subst (λ l. AreOrdered at i (forest l)) (cons_at ns i n lt is) h) in
       (two.0, subst (λ k. AreOrdered at k (forest (drop (i + 1) ns))) one two.1)
 
-  module _ (B : List FieldValue → ℕ → List ℕ → Type 0) (on : (r : Option (ℕ × List ℕ)) → Searched B (assigned (tree_from listed at i (forest (drop i ns))) (forest (drop i ns))) r → Searched B (assigned (tree_from listed at 0 (forest ns)) (forest ns)) r) where
-    here : assigned (tree_from listed at i (forest (drop i ns))) (forest (drop i ns)) ≡ assigned (one_tree listed at i n) (node_forest n nothing) ++ assigned (tree_from listed at (i + 1) (forest (drop (i + 1) ns))) (forest (drop (i + 1) ns))
-    here =
-        ap (λ l. assigned (tree_from listed at i (forest l)) (forest l)) (cons_at ns i n lt is)
-        ∙ node_assigned listed at i n (forest (drop (i + 1) ns))
-        ∙ ap (λ k. assigned (one_tree listed at i n) (node_forest n nothing) ++ assigned (tree_from listed at k (forest (drop (i + 1) ns))) (forest (drop (i + 1) ns))) one
+  -- the pairs from a node on are its own and those behind it
+  pub nodes_here : assigned (tree_from listed at i (forest (drop i ns))) (forest (drop i ns)) ≡ assigned (one_tree listed at i n) (node_forest n nothing) ++ assigned (tree_from listed at (i + 1) (forest (drop (i + 1) ns))) (forest (drop (i + 1) ns))
+  nodes_here =
+      ap (λ l. assigned (tree_from listed at i (forest l)) (forest l)) (cons_at ns i n lt is)
+      ∙ node_assigned listed at i n (forest (drop (i + 1) ns))
+      ∙ ap (λ k. assigned (one_tree listed at i n) (node_forest n nothing) ++ assigned (tree_from listed at k (forest (drop (i + 1) ns))) (forest (drop (i + 1) ns))) one
 
+  module _ (B : List FieldValue → ℕ → List ℕ → Type 0) (on : (r : Option (ℕ × List ℕ)) → Searched B (assigned (tree_from listed at i (forest (drop i ns))) (forest (drop i ns))) r → Searched B (assigned (tree_from listed at 0 (forest ns)) (forest ns)) r) where
     pub nodes_some : (x : ℕ × List ℕ) → Searched B (assigned (one_tree listed at i n) (node_forest n nothing)) (Some x) → Searched B (assigned (tree_from listed at 0 (forest ns)) (forest ns)) (Some x)
     nodes_some x h =
-        on (Some x) (subst (λ l. Searched B l (Some x)) (sym here) (searched_some B (assigned (one_tree listed at i n) (node_forest n nothing)) (assigned (tree_from listed at (i + 1) (forest (drop (i + 1) ns))) (forest (drop (i + 1) ns))) x h))
+        on (Some x) (subst (λ l. Searched B l (Some x)) (sym nodes_here) (searched_some B (assigned (one_tree listed at i n) (node_forest n nothing)) (assigned (tree_from listed at (i + 1) (forest (drop (i + 1) ns))) (forest (drop (i + 1) ns))) x h))
 
     pub nodes_none : Searched B (assigned (one_tree listed at i n) (node_forest n nothing)) None → (r : Option (ℕ × List ℕ)) → Searched B (assigned (tree_from listed at (i + 1) (forest (drop (i + 1) ns))) (forest (drop (i + 1) ns))) r → Searched B (assigned (tree_from listed at 0 (forest ns)) (forest ns)) r
     nodes_none c r h =
-        on r (subst (λ l. Searched B l r) (sym here) (searched_none B (assigned (one_tree listed at i n) (node_forest n nothing)) (assigned (tree_from listed at (i + 1) (forest (drop (i + 1) ns))) (forest (drop (i + 1) ns))) r c h))
+        on r (subst (λ l. Searched B l r) (sym nodes_here) (searched_none B (assigned (one_tree listed at i n) (node_forest n nothing)) (assigned (tree_from listed at (i + 1) (forest (drop (i + 1) ns))) (forest (drop (i + 1) ns))) r c h))
 
 pub nodes_over : (listed : List ℕ) (at : ℕ → Option Occurrences) (B : List FieldValue → ℕ → List ℕ → Type 0) (ns : List Node) (i : ℕ) → length ns ≤ i → ((r : Option (ℕ × List ℕ)) → Searched B (assigned (tree_from listed at i (forest (drop i ns))) (forest (drop i ns))) r → Searched B (assigned (tree_from listed at 0 (forest ns)) (forest ns)) r) → Searched B (assigned (tree_from listed at 0 (forest ns)) (forest ns)) None
 nodes_over listed at B ns i le on =
@@ -118,19 +119,19 @@ nodes_over listed at B ns i le on =
 
 -- ---- a node
 
-module _ (listed : List ℕ) (at : ℕ → Option Occurrences) (k : ℕ) (B : List FieldValue → ℕ → List ℕ → Type 0) (n : Node) where
-  pub segment_node : (s : declared_segment.SegNode) (r : Option (ℕ × List ℕ)) → n ≡ Seg s → Searched B (map (λ i. (i, map field s.fields.items)) (numbers_of listed (at k))) r → Searched B (assigned (one_tree listed at k n) (node_forest n nothing)) r
-  segment_node s r e h =
-      subst (λ x. Searched B (assigned (one_tree listed at k x) (node_forest x nothing)) r) (sym e)
-      (subst (λ l. Searched B l r) (sym (append-nil (map (λ i. (i, map field s.fields.items)) (numbers_of listed (at k))))) h)
+module _ (listed : List ℕ) (at : ℕ → Option Occurrences) (k : ℕ) (P : List (ℕ × List FieldValue) → Type 0) (n : Node) where
+  pub segment_node : (s : declared_segment.SegNode) → n ≡ Seg s → P (map (λ i. (i, map field s.fields.items)) (numbers_of listed (at k))) → P (assigned (one_tree listed at k n) (node_forest n nothing))
+  segment_node s e h =
+      subst (λ x. P (assigned (one_tree listed at k x) (node_forest x nothing))) (sym e)
+      (subst P (sym (append-nil (map (λ i. (i, map field s.fields.items)) (numbers_of listed (at k))))) h)
 
-  pub group_node : (g : declared_group.GroupNode) (nodes : List Node) (found : List Found) (r : Option (ℕ × List ℕ)) → n ≡ Group g → nodes ≡ g.nodes.items → found ≡ found_of (at k) → Searched B (assigned_all (trees_of listed (forest nodes) found) (forest nodes)) r → Searched B (assigned (one_tree listed at k n) (node_forest n nothing)) r
-  group_node g nodes found r e items founds h =
+  pub group_node : (g : declared_group.GroupNode) (nodes : List Node) (found : List Found) → n ≡ Group g → nodes ≡ g.nodes.items → found ≡ found_of (at k) → P (assigned_all (trees_of listed (forest nodes) found) (forest nodes)) → P (assigned (one_tree listed at k n) (node_forest n nothing))
+  group_node g nodes found e items founds h =
       let whole : node_forest n nothing ≡ group (value_of g) (forest nodes) nothing =
       ap (λ x. node_forest x nothing) e ∙ forest_group g nothing ∙ ap (λ l. group (value_of g) (forest l) nothing) (sym items) in
-      subst (λ f. Searched B (assigned (tree_from listed at k f) f) r) (sym whole)
-      (subst (λ l. Searched B l r) (sym (append-nil (assigned_all (trees_of listed (forest nodes) (found_of (at k))) (forest nodes))))
-      (subst (λ xs. Searched B (assigned_all (trees_of listed (forest nodes) xs) (forest nodes)) r) founds h))
+      subst (λ f. P (assigned (tree_from listed at k f) f)) (sym whole)
+      (subst P (sym (append-nil (assigned_all (trees_of listed (forest nodes) (found_of (at k))) (forest nodes))))
+      (subst (λ xs. P (assigned_all (trees_of listed (forest nodes) xs) (forest nodes))) founds h))
 
 pub segment_rises : (n : Node) (s : declared_segment.SegNode) → n ≡ Seg s → EachRises (node_forest n nothing) → ShapeRises (map field s.fields.items)
 segment_rises n s e h = (subst (λ x. EachRises (node_forest x nothing)) e h).0

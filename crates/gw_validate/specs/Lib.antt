@@ -9,3 +9,4 @@ pub mod Fitting
 pub mod Viewing
 pub mod Verdict
 pub mod own
+pub mod Every

@@ -11,3 +11,5 @@ pub mod Judging
 pub mod Lending
 pub mod Answers
 pub mod Walk
+pub mod Gathering
+pub mod Finding

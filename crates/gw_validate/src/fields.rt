@@ -38,7 +38,7 @@ pub(crate) fn of_kind(kind: Kind) -> Spot
     }
 }
 
-fn is_required(usage: Usage) -> bool
+pub(crate) fn is_required(usage: Usage) -> bool
     ensures { result ≡ is_required usage }
 {
     match usage {
@@ -47,7 +47,7 @@ fn is_required(usage: Usage) -> bool
     }
 }
 
-fn is_forbidden(usage: Usage) -> bool
+pub(crate) fn is_forbidden(usage: Usage) -> bool
     ensures { result ≡ is_forbidden usage }
 {
     match usage {
@@ -56,13 +56,13 @@ fn is_forbidden(usage: Usage) -> bool
     }
 }
 
-fn is_null(text: &[u8]) -> bool
+pub(crate) fn is_null(text: &[u8]) -> bool
     ensures { result ≡ is_null text.now }
 {
     text == b"\"\"".as_slice()
 }
 
-fn is_long(count: Count, len: Option<u32>, text: &[u8]) -> bool
+pub(crate) fn is_long(count: Count, len: Option<u32>, text: &[u8]) -> bool
     ensures { result ≡ is_long count len text.now }
 {
     match len {
@@ -71,7 +71,7 @@ fn is_long(count: Count, len: Option<u32>, text: &[u8]) -> bool
     }
 }
 
-fn is_unlisted(profile: &Profile, table: &Option<Vec<u8>>, text: &[u8]) -> bool
+pub(crate) fn is_unlisted(profile: &Profile, table: &Option<Vec<u8>>, text: &[u8]) -> bool
     ensures { result ≡ is_unlisted profile.now.tables (items_of table.now) text.now }
 {
     let Some(name) = table else {
@@ -176,7 +176,7 @@ fn is_of(place: Place, field: usize, rep: usize, comp: usize) -> bool
 
 // Whether a component is present, where the first text from it on is known, with its number.
 #[inline(always)]
-fn has_comp(
+pub(crate) fn has_comp(
     segment: &Segment<'_>,
     at: usize,
     found: Option<Value<'_>>,
@@ -255,7 +255,7 @@ fn comps_breach(
 }
 
 // Whether this many are all that may come.
-fn is_full(max: Option<u32>, count: usize) -> bool
+pub(crate) fn is_full(max: Option<u32>, count: usize) -> bool
     ensures { result ≡ is_full max count }
 {
     match max {
@@ -336,7 +336,12 @@ fn count_reps(segment: &Segment<'_>, near: usize, field: usize) -> usize
 }
 
 // Whether fewer repetitions of a field are present than must be. Where one is enough, none is counted.
-fn comes_short(segment: &Segment<'_>, near: usize, shape: &FieldShape, present: bool) -> bool
+pub(crate) fn comes_short(
+    segment: &Segment<'_>,
+    near: usize,
+    shape: &FieldShape,
+    present: bool,
+) -> bool
     requires near { IsBefore (shape.now.number ∷ 1 ∷ 0 ∷ 0 ∷ []) (texts.entries segment.now.at) near }
     requires present { present ≡ true → FieldAt segment.now.at shape.now.number }
     requires some { (rep : ℕ) → RepAt segment.now.at shape.now.number rep → 0 < rep }

@@ -3,8 +3,10 @@
 
 mod breach;
 mod build;
+mod collect;
 mod cursor;
 mod fields;
+mod gather;
 pub mod laws;
 mod listing;
 mod occ;
@@ -15,6 +17,7 @@ mod verdict;
 mod walk;
 
 pub use breach::{Breach, Kind};
+pub use collect::breaches;
 pub use occ::Occ;
 pub use tree::Tree;
 pub use verdict::{Verdict, validate};

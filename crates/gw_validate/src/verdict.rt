@@ -1,5 +1,5 @@
 //! Whether a message conforms to a profile, and if not, what it breaks first.
-ghost use Rattle.std.specs.Prelude.{◌≡◌, ◌<◌, ◌+◌, ◌^◌, ◌↔◌, take, IfOk, IfErr, IsTrue};
+ghost use Rattle.std.specs.Prelude.{MatchOption, ◌≡◌, ◌<◌, ◌+◌, ◌^◌, ◌↔◌, take, IfOk, IfErr, IsTrue};
 ghost use Rattle.std.specs.Arc.{arc_value};
 ghost use Rattle.std.specs.List.{count_by};
 ghost use Rattle.std.specs.Str.{bytes_eq};
@@ -8,6 +8,7 @@ ghost use Rattle.gw_validate.specs.Conforming.{NamesFit, numbers, Conforms};
 ghost use Rattle.gw_validate.specs.own.Least.{segment_key};
 ghost use Rattle.gw_validate.specs.Broken.{sequence, spot_of};
 ghost use Rattle.gw_validate.specs.Verdict.{is_fit, IfFits, IfBreaks, HasTree, HasBreach};
+ghost use Rattle.gw_validate.specs.own.Finding.{IsAlone};
 ghost use Rattle.gw_validate.specs.own.Judging.{IsJudged};
 
 use crate::breach::{Breach, Kind};
@@ -97,29 +98,41 @@ fn judge_segments(
     }
 }
 
+// The one breach of a message whose names don't fit, with the number of its segment. `taken` are the numbers of those that the profile knows.
+pub(crate) fn misplaced(
+    alloc: Global,
+    profile: &Profile,
+    message: &Message,
+    taken: &[usize],
+) -> Result<Option<(usize, Breach)>, AllocError>
+    requires { taken.now ≡ numbers (forest profile.now.nodes) message.now }
+    ensures { IfOk result (λ o. MatchOption o (NamesFit (forest profile.now.nodes) message.now) (IsAlone (profile_value profile.now) message.now)) }
+{
+    let names = names_of(alloc, message, taken)?;
+    match walk(alloc, profile.nodes(), &names)? {
+        Answer::Fits => Ok(None),
+        Answer::OutOfOrder(i) => {
+            let number = taken[i];
+            let name = name_at(message, number);
+            let spot = of_kind(Kind::OutOfOrder);
+            Ok(Some((number, breach_at(message, number, name, spot))))
+        }
+        Answer::Missing(name) => {
+            let number = message.segment_count();
+            let spot = of_kind(Kind::MissingSegment);
+            Ok(Some((number, breach_at(message, number, name, spot))))
+        }
+    }
+}
+
 // What a message is by a profile.
 fn judge(alloc: Global, profile: &Profile, message: &Message) -> Result<Judged, AllocError>
     ensures { IfOk result (IsJudged (profile_value profile.now) message.now) }
 {
     let taken = listed(alloc, profile, message)?;
-    let names = names_of(alloc, message, &taken)?;
-    match walk(alloc, profile.nodes(), &names)? {
-        Answer::Fits => judge_segments(alloc, profile, message, taken),
-        Answer::OutOfOrder(i) => {
-            let number = taken[i];
-            Ok(Judged::Breaks(breach_at(
-                message,
-                number,
-                name_at(message, number),
-                of_kind(Kind::OutOfOrder),
-            )))
-        }
-        Answer::Missing(name) => Ok(Judged::Breaks(breach_at(
-            message,
-            message.segment_count(),
-            name,
-            of_kind(Kind::MissingSegment),
-        ))),
+    match misplaced(alloc, profile, message, &taken)? {
+        None => judge_segments(alloc, profile, message, taken),
+        Some((_, breach)) => Ok(Judged::Breaks(breach)),
     }
 }
 

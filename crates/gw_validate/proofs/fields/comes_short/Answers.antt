@@ -1,7 +1,7 @@
 use Rattle.std.proofs.Common.{◌≡◌, suc, inl, inr, true, false, sym, ◌∙◌, arith}
 use Rattle.std.proofs.lemmas.Bool.Decides.{leb_tells}
 use Rattle.gw_er7.specs.Presence.{RepAt}
-use Rattle.gw_validate.proofs.Breaches.{count_once}
+use Rattle.gw_validate.proofs.Leasts.{count_once}
 use Rattle.gw_validate.proofs.Nexts.{some_counted}
 use Rattle.gw_validate.proofs.fields.comes_short.Goals as goal
 

@@ -4,7 +4,7 @@ use Rattle.std.specs.FinMap as texts
 use Rattle.gw_validate.specs.declared.fields.Spot.{Spot}
 use Rattle.gw_validate.specs.own.Least.{Least, comp_key}
 use Rattle.gw_validate.specs.Breaches.{CompBreach}
-use Rattle.gw_validate.proofs.Breaches.{absent_comp_least, forbidden_comp_least, subs_comp_least}
+use Rattle.gw_validate.proofs.Leasts.{absent_comp_least, forbidden_comp_least, subs_comp_least}
 use Rattle.gw_validate.proofs.Walks.{from_start, comp_end, first_sub, where_none}
 use Rattle.gw_validate.proofs.fields.comp_breach.Goals as goal
 

@@ -4,7 +4,7 @@ use Rattle.std.specs.FinMap as texts
 use Rattle.gw_validate.specs.declared.fields.Spot.{Spot}
 use Rattle.gw_validate.specs.own.Least.{Least, field_key}
 use Rattle.gw_validate.specs.Breaches.{FieldBreach}
-use Rattle.gw_validate.proofs.Breaches.{forbidden_present, few_least, reps_field_least}
+use Rattle.gw_validate.proofs.Leasts.{forbidden_present, few_least, reps_field_least}
 use Rattle.gw_validate.proofs.Walks.{field_end}
 use Rattle.gw_validate.proofs.fields.field_breach.Goals as goal
 

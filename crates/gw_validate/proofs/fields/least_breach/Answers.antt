@@ -2,7 +2,7 @@ use Rattle.gw_profile.specs.Seen.{field, profile_value}
 use Rattle.std.proofs.Common.{refl, ◌∷◌, [], ◌+◌}
 use Rattle.std.specs.FinMap as texts
 use Rattle.gw_validate.specs.Breaches.{FieldBreach}
-use Rattle.gw_validate.proofs.Breaches.{any_least, any_more, any_none, all_at}
+use Rattle.gw_validate.proofs.Leasts.{any_least, any_more, any_none, all_at}
 use Rattle.gw_validate.proofs.Walks.{walk_here, walk_on, field_up}
 use Rattle.gw_validate.specs.own.Least.{FieldRises}
 use Rattle.gw_validate.proofs.fields.least_breach.Goals as goal

@@ -3,7 +3,7 @@ use Rattle.std.proofs.Common.{sym, subst, Some}
 use Rattle.gw_validate.specs.declared.fields.Spot.{Spot}
 use Rattle.gw_validate.specs.own.Least.{Least, rep_key}
 use Rattle.gw_validate.specs.Breaches.{RepBreach}
-use Rattle.gw_validate.proofs.Breaches.{full_least, comps_rep_least}
+use Rattle.gw_validate.proofs.Leasts.{full_least, comps_rep_least}
 use Rattle.gw_validate.proofs.fields.rep_breach.Goals as goal
 
 pub returns-then-is_full-clause-least : goal.returns-then-is_full-clause-least

@@ -1,7 +1,7 @@
 use Rattle.gw_er7.specs.Presence.{RepAt}
 use Rattle.gw_profile.specs.Seen.{field, profile_value}
 use Rattle.gw_validate.specs.own.Least.{rep_key}
-use Rattle.gw_validate.proofs.Breaches.{reps_start, reps_found, reps_more, reps_none}
+use Rattle.gw_validate.proofs.Leasts.{reps_start, reps_found, reps_more, reps_none}
 use Rattle.gw_validate.proofs.Nexts.{counted_gap, next_counted}
 use Rattle.gw_validate.proofs.fields.reps_breach.Goals as goal
 

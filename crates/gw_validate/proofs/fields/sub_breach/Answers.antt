@@ -1,7 +1,7 @@
 use Rattle.gw_profile.specs.Seen.{sub, profile_value}
 use Rattle.std.proofs.Common.{ap, sym, ◌∙◌}
 use Rattle.gw_validate.specs.Breaches.{is_long}
-use Rattle.gw_validate.proofs.Breaches.{absent_least, forbidden_least, long_least, unlisted_least}
+use Rattle.gw_validate.proofs.Leasts.{absent_least, forbidden_least, long_least, unlisted_least}
 use Rattle.gw_validate.proofs.fields.sub_breach.Goals as goal
 
 pub returns-then-text-eq0 : goal.returns-then-text-eq0

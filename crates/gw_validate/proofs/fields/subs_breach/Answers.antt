@@ -4,7 +4,7 @@ use Rattle.std.specs.FinMap as texts
 use Rattle.gw_validate.specs.declared.fields.Spot.{Spot}
 use Rattle.gw_er7.specs.Message.{text_of}
 use Rattle.gw_validate.specs.Breaches.{SubBreach}
-use Rattle.gw_validate.proofs.Breaches.{sub_found, sub_more, any_none}
+use Rattle.gw_validate.proofs.Leasts.{sub_found, sub_more, any_none}
 use Rattle.gw_validate.proofs.Walks.{walk_here, walk_on, sub_up, comp_end}
 use Rattle.gw_validate.proofs.fields.subs_breach.Goals as goal
 

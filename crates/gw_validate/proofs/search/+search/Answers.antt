@@ -1,8 +1,8 @@
-use Rattle.std.proofs.Common.{length, sym, subst, ◌<◌, arith, map}
+use Rattle.std.proofs.Common.{length, sym, subst, ◌<◌, arith, map, option_map}
 use Rattle.std.specs.List.{AllByRecursion}
 use Rattle.gw_profile.specs.Seen.{field, forest, profile_value}
 use Rattle.gw_validate.specs.own.Occurring.{kept, tree_of}
-use Rattle.gw_validate.specs.own.Least.{ShapeRises, BreachAt, found_at}
+use Rattle.gw_validate.specs.own.Least.{ShapeRises, Searched, BreachAt, found_at}
 use Rattle.gw_validate.proofs.Rows.{numbers_within}
 use Rattle.gw_validate.proofs.Searching.{groups_some, groups_none, groups_over, all_parts, nodes_rise, nodes_order, nodes_some, nodes_none, nodes_over, segment_node, group_node, segment_rises, group_rises, group_orders, group_smaller, node_smaller}
 use Rattle.gw_validate.proofs.search.+search.Goals as goal
@@ -35,7 +35,7 @@ search_node-search_segments-requires t c = record {
 
 pub search_node-returns-in-Seg : goal.search_node-returns-in-Seg
 search_node-returns-in-Seg t c =
-    segment_node c.args.listed.now (kept c.args.row.now) c.args.i (BreachAt (profile_value c.args.profile.now) c.args.message.now) c.args.node.now c.in-Seg.segment _ c.in-Seg.is (rw (c.segments-numbers.ensures, c.deref.ensures.value) at c.search_segments.ensures)
+    segment_node c.args.listed.now (kept c.args.row.now) c.args.i (λ l. Searched (BreachAt (profile_value c.args.profile.now) c.args.message.now) l (option_map found_at c.search_segments.result)) c.args.node.now c.in-Seg.segment c.in-Seg.is (rw (c.segments-numbers.ensures, c.deref.ensures.value) at c.search_segments.ensures)
 
 pub search_node-search_groups-requires : goal.search_node-search_groups-requires
 search_node-search_groups-requires t c =
@@ -52,7 +52,7 @@ search_node-search_groups-requires t c =
 
 pub search_node-returns-in-Group : goal.search_node-returns-in-Group
 search_node-returns-in-Group t c =
-    group_node c.args.listed.now (kept c.args.row.now) c.args.i (BreachAt (profile_value c.args.profile.now) c.args.message.now) c.args.node.now c.in-Group.group c.deref-in-Group.result.now c.groups-groups.result.now _ c.in-Group.is c.deref-in-Group.ensures.value c.groups-groups.ensures c.search_groups.ensures
+    group_node c.args.listed.now (kept c.args.row.now) c.args.i (λ l. Searched (BreachAt (profile_value c.args.profile.now) c.args.message.now) l (option_map found_at c.search_groups.result)) c.args.node.now c.in-Group.group c.deref-in-Group.result.now c.groups-groups.result.now c.in-Group.is c.deref-in-Group.ensures.value c.groups-groups.ensures c.search_groups.ensures
 
 pub search_nodes-search_node-requires : goal.search_nodes-search_node-requires
 search_nodes-search_node-requires t c =

@@ -1,0 +1,14 @@
+use Rattle.gw_profile.specs.Seen.{sub, profile_value}
+use Rattle.std.proofs.Common.{take, drop, map, ◌+◌, [], ◌∷◌}
+use Rattle.std.specs.FinMap as texts
+use Rattle.gw_er7.specs.Message.{text_of}
+use Rattle.gw_validate.specs.own.Gathering.{Gathers, Under}
+use Rattle.gw_validate.specs.own.Least.{SubsBreach}
+use Rattle.gw_validate.specs.own.Walk.{IsWalking}
+use Rattle.gw_validate.proofs.gather.gather_subs.Given as goal
+
+abbrev pub invariant-loop-sub : goal.invariant-loop-sub
+invariant-loop-sub l = record {
+  all : Gathers (Under (l.comp.field ∷ l.comp.rep ∷ l.comp.comp ∷ []) (SubsBreach (profile_value l.profile) l.segment.at l.comp.field l.comp.rep l.comp.comp (map sub (take l.sub-index l.subs)))) l.fn.spots.items l.spots.items;
+  walk : IsWalking (λ s. s.number) (λ low. l.comp.field ∷ l.comp.rep ∷ l.comp.comp ∷ (low + 1) ∷ []) (texts.entries l.segment.at) (map sub (drop l.sub-index l.subs)) l.near;
+}
