@@ -9,7 +9,7 @@ use Rattle.gw_er7.specs.Text.{IsCanonical, is_canonical}
 use Rattle.gw_er7.specs.Names.{is_name}
 use Rattle.gw_er7.specs.Entries.{Entry}
 use Rattle.gw_er7.specs.Message.{first_number}
-use Rattle.gw_er7.proofs.Builds.{canonical_of}
+use Rattle.gw_er7.proofs.Builds.{begun_header, canonical_of}
 use Rattle.gw_ack.specs.declared.receipt.Ack.{Ack}
 use Rattle.gw_ack.specs.declared.receipt.Ack.TheVariants.{AA, AE, AR}
 use Rattle.gw_ack.specs.Stamps.{IsStamp}
@@ -18,6 +18,7 @@ use Rattle.gw_ack.specs.Conditions.{condition, said, named, location_for, header
 use Rattle.gw_ack.specs.Answers.{ack_text, copied, field, or_production, msh, msa, err}
 use Rattle.gw_ack.specs.Rows.{AreRows, IsRepetition}
 use Rattle.gw_ack.proofs.Lawful.{byte_is_plain, plain_is_canonical, digits_are_plain, name_is_canonical, digits_are_canonical}
+use Rattle.gw_ack.proofs.Tables.{begins}
 use Rattle.gw_ack.proofs.Lawful.{From, next, no_rows, copied_piece, field_piece}
 
 either : {A : Type 0} (P : A → Type 0) (b : Bool) (x y : A) → P x → P y → P (if b then x else y)
@@ -107,3 +108,6 @@ err_rows location code each lt =
     (parts 1 3 3 (decimal code ∷ condition code ∷ codes "HL70357" ∷ []) _ (omega arith) (omega arith) (omega arith)
     (decimal_is_canonical code lt, (condition_is_canonical code, (canonical_of (codes "HL70357") refl, tt)))
     (parts 1 4 4 (codes "E" ∷ []) _ (omega arith) (omega arith) (omega arith) (canonical_of (codes "E") refl, tt) (no_rows first_number 1 5)))).lawful
+
+-- for the MSH and the MSA of an answer
+pub ruleset opening = (msh_rows, msa_rows, begins, begun_header)

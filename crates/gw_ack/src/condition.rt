@@ -31,6 +31,7 @@ pub(crate) fn named(name: &[u8]) -> &[u8]
 }
 
 /// A number of a location in decimal, nothing for 0.
+#[tactic(auto, using(crate::proofs::AnswerRows::said_is_canonical))]
 pub(crate) fn said(alloc: Global, number: usize) -> Result<Vec<u8>, AllocError>
     ensures value { IfOk result (λ text. text.items ≡ said number) }
     ensures canonical { OnOk result (IsCanonical (said number)) }

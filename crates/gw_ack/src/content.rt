@@ -81,6 +81,7 @@ fn err<'a>(
 }
 
 /// The MSH and the MSA of an answer.
+#[tactic(auto, using(crate::proofs::AnswerRows::opening))]
 fn begun(
     alloc: Global,
     header: &Header,
@@ -102,6 +103,7 @@ fn begun(
 }
 
 /// Adds an ERR to an answer, where `number` is the code in decimal.
+#[tactic(auto, using(crate::proofs::AnswerRows::err_rows, crate::proofs::Tables::begins))]
 fn add_err<'a>(
     alloc: Global,
     builder: Builder,
@@ -121,6 +123,7 @@ fn add_err<'a>(
 }
 
 /// Adds the ERR that names the place of a breach, as far as it is said.
+#[tactic(auto, using(crate::proofs::AnswerRows::named_is_canonical))]
 fn add_breach(alloc: Global, builder: Builder, breach: &Breach) -> Result<Builder, AllocError>
     requires { 0 < length builder }
     ensures { IfOk result (λ whole. whole ≡ builder ++ reason (Refuse breach.now)) }
@@ -143,6 +146,7 @@ fn add_breach(alloc: Global, builder: Builder, breach: &Breach) -> Result<Builde
 }
 
 /// Adds the ERR that reports why a message isn't accepted.
+#[tactic(auto, using(crate::proofs::AnswerRows::location_for_is_canonical))]
 fn add_reason(alloc: Global, builder: Builder, reply: Reply) -> Result<Builder, AllocError>
     requires { 0 < length builder }
     ensures { IfOk result (λ whole. whole ≡ builder ++ reason reply) }
