@@ -6,9 +6,9 @@ use Rattle.std.proofs.lemmas.Bool.{false≢true}
 use Rattle.std.proofs.lemmas.Bool.Decides.{nat_tests}
 use Rattle.gw_reorder.specs.State.{DeskState, SameButRoom, nothing_due}
 use Rattle.gw_reorder.specs.own.Standing.{Stands}
-use Rattle.gw_gate.specs.Parts.{TranslatedSeen}
+use Rattle.gw_gate.specs.Parts.{PlanSeen, TranslatedSeen}
 use Rattle.gw_gate.specs.Journal.{EntrySeen, WasAccepted, WasRefused, WasSwapped, WasTaken, WasKept, WasIssued, WasOut, Start, Journal, Pair, accepted, issued, jobs, start_after}
-use Rattle.gw_gate.specs.Chapters.{is_pending, most_in_all, some_await}
+use Rattle.gw_gate.specs.Chapters.{CanStart, is_pending, most_in_all, some_await}
 use Rattle.gw_gate.specs.own.Books.{BooksSeen, Fits, journal_of}
 use Rattle.gw_gate.proofs.Queue.{as_many}
 use Rattle.gw_gate.proofs.Standing.{stands_same}
@@ -49,22 +49,29 @@ next_is p h b was =
     let accepted : p.acceptances + length b.places ≡ p.acceptances + length (accepted h) = ap (λ k. p.acceptances + k) (accepted_long p h b was) in
     λ i. record { version = was.plans.version_is i; plan = was.plans.plan_is i; acceptances = accepted i; arrivals = was.arrivals.count_is i; entries = p.entries + length h }
 
-pub cut_fits : (p : Start) (h : List EntrySeen) (b : BooksSeen) (desk : ℕ → DeskState TranslatedSeen) → Fits p h b → p.entries + length h ≤ most_in_all → ((r : ℕ) → SameButRoom nothing_due (desk r))
-    → Fits (next_start p h b) [] (record b { places = []; queue = []; desk = desk })
-cut_fits p h b desk was few same =
-    let v = was.plans.few in
-    let a = was.arrivals.few in
-    let long = accepted_long p h b was in
-    let less = accepted_few h in
-    let before = was.starts.acceptances in
+-- the books of an empty journal, wherever it starts
+pub opened_fits : (s : Start) (now : PlanSeen) (desk : ℕ → DeskState TranslatedSeen) → CanStart s → now ≡ s.plan → ((r : ℕ) → SameButRoom nothing_due (desk r))
+    → Fits s [] (record { version = s.version; plan = now; arrivals = s.arrivals; places = []; queue = []; desk = desk })
+opened_fits s now desk can plan same =
+    let v = can.versions in
+    let a = can.arrivals in
     record {
-      starts = record { versions = v; acceptances = omega (arith, long, less, before); arrivals = a; few = few };
-      plans = record { version_is = refl; plan_is = refl; few = omega (arith, v) };
+      starts = can;
+      plans = record { version_is = refl; plan_is = plan; few = omega (arith, v) };
       arrivals = record { count_is = omega arith; few = omega (arith, a) };
       queue = record { lead = refl; numbered = record {}; queue_is = refl; taken = omega arith };
       desks = λ r. stands_same nothing_due (desk r) [] [] (λ n. None) (same r) nothing_stands;
       within = omega arith;
     }
+
+pub cut_fits : (p : Start) (h : List EntrySeen) (b : BooksSeen) (desk : ℕ → DeskState TranslatedSeen) → Fits p h b → p.entries + length h ≤ most_in_all → ((r : ℕ) → SameButRoom nothing_due (desk r))
+    → Fits (next_start p h b) [] (record b { places = []; queue = []; desk = desk })
+cut_fits p h b desk was few same =
+    let long = accepted_long p h b was in
+    let less = accepted_few h in
+    let before = was.starts.acceptances in
+    opened_fits (next_start p h b) b.plan desk
+    (record { versions = was.plans.few; acceptances = omega (arith, long, less, before); arrivals = was.arrivals.few; few = few }) refl same
 
 -- few enough entries, where the test says so
 pub few_enough : (k : ℕ) → nat_lt most_in_all k ≡ false → k ≤ most_in_all

@@ -1,13 +1,22 @@
 -- Journals that follow one another.
-use Rattle.std.specs.Prelude.{◌≡◌, ℕ, nat_lt, Bool, false, ◌||◌, List, [], ◌∷◌, ◌++◌, length, flat_map, ⊤}
+use Rattle.std.specs.Prelude.{◌≡◌, ◌≤◌, ℕ, nat_lt, Bool, false, ◌||◌, List, [], ◌∷◌, ◌++◌, length, flat_map, ⊤}
 use Rattle.std.specs.List.{list_any}
-use Rattle.gw_gate.specs.Journal.{EntrySeen, Journal, accepted, due, issued, jobs, released, end, start_after}
+use Rattle.gw_gate.specs.Journal.{EntrySeen, Start, Journal, accepted, due, issued, jobs, released, end, start_after}
 
--- ---- when a journal may be closed
+-- ---- where a journal can start
 
--- the most entries that were made in all when a journal is closed
+-- the most entries that were made in all when a journal is closed, or starts
 abbrev pub most_in_all : ℕ
 most_in_all = 9000000000000000000
+
+-- each plan that was swapped in, each acceptance and each arrival was an entry, and there were few enough entries
+pub record CanStart (start : Start) : Type 0 where
+  pub versions : start.version ≤ start.entries
+  pub acceptances : start.acceptances ≤ start.entries
+  pub arrivals : start.arrivals ≤ start.entries
+  pub few : start.entries ≤ most_in_all
+
+-- ---- when a journal may be closed
 
 -- whether something that is due to this receiver wasn't released
 abbrev pub awaits : List EntrySeen → ℕ → Bool

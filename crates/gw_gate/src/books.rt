@@ -5,8 +5,8 @@ ghost use Rattle.std.specs.Arc.{arc_value};
 ghost use Rattle.std.specs.VecDeque.{deque_len, deque_capacity};
 ghost use Rattle.gw_gate.specs.Parts.{is_under};
 ghost use Rattle.gw_gate.specs.Seen.{plan_seen, conforming_seen, translated_seen};
-ghost use Rattle.gw_gate.specs.Journal.{Journal, acceptance, current, end, issued, jobs, opening, pair};
-ghost use Rattle.gw_gate.specs.Chapters.{is_pending, most_in_all, some_await};
+ghost use Rattle.gw_gate.specs.Journal.{Journal, acceptance, current, end, from, issued, jobs, pair};
+ghost use Rattle.gw_gate.specs.Chapters.{CanStart, is_pending, most_in_all, some_await};
 ghost use Rattle.gw_gate.specs.own.Cutting.{Closes};
 ghost use Rattle.gw_gate.specs.Headline.{IsTranslated};
 ghost use Rattle.gw_gate.specs.Lawful.{IsLawful};
@@ -17,7 +17,7 @@ ghost use Rattle.gw_gate.specs.own.Books.{issue_reply, job_reply, put_reply, rel
 ghost use Rattle.gw_gate.specs.Entries.{entries_seen, start_seen};
 ghost use Rattle.gw_gate.specs.Values.{event_seen, answer_seen, conforming_in, job_seen, noted_seen, pair_seen};
 
-use crate::chapter::{Chapter, Start};
+use crate::chapter::{Chapter, MOST_IN_ALL, Start};
 use crate::copies::prepared;
 use crate::desks::{
     hold_at, make_due, make_room, next_at, release_at, restart_all, some_wait, status_at,
@@ -34,9 +34,6 @@ use std::sync::Arc;
 
 /// The most entries of a journal.
 pub const MOST: usize = 262_144;
-
-// A journal is closed only up to this number of entries in all chapters.
-const MOST_IN_ALL: u64 = 9_000_000_000_000_000_000;
 
 // An accepted message's number with a receiver.
 #[derive(Clone, Copy)]
@@ -117,24 +114,21 @@ impl Model for Books {
 }
 
 impl Books {
-    // The books of a gate that opens with this plan.
-    pub(crate) fn open(alloc: Global, first: Arc<Plan>, plan: Arc<Plan>) -> Self
-        requires { arc_value plan ≡ arc_value first }
-        ensures { result ≡ record { start = opening (plan_seen (arc_value first)); entries = [] } }
+    // The books of an empty journal that starts so.
+    pub(crate) fn open(alloc: Global, start: Start, plan: Arc<Plan>) -> Self
+        requires plan { arc_value plan ≡ arc_value start.plan }
+        requires can { CanStart (start_seen start) }
+        ensures { result ≡ from (start_seen start) }
     {
+        let version = start.version;
+        let arrivals = start.arrivals;
         Books {
             alloc,
-            start: Start {
-                version: 0,
-                plan: first,
-                acceptances: 0,
-                arrivals: 0,
-                entries: 0,
-            },
+            start,
             journal: Vec::new(alloc),
-            version: 0,
+            version,
             plan,
-            arrivals: 0,
+            arrivals,
             places: Vec::new(alloc),
             queue: VecDeque::new(alloc),
             desks: Vec::new(alloc),

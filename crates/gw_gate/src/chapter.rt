@@ -15,6 +15,43 @@ pub struct Start {
     pub entries: u64,
 }
 
+// A journal is closed, and starts, only up to this number of entries in all chapters.
+pub(crate) const MOST_IN_ALL: u64 = 9_000_000_000_000_000_000;
+
+impl Start {
+    ghost use Rattle.std.specs.Prelude.{◌↔◌, ◌≡◌, IsTrue};
+    ghost use Rattle.std.specs.Arc.{arc_value};
+    ghost use Rattle.gw_gate.specs.Chapters.{CanStart};
+    ghost use Rattle.gw_gate.specs.Entries.{start_seen};
+    ghost use Rattle.gw_gate.specs.Journal.{opening};
+    ghost use Rattle.gw_gate.specs.Seen.{plan_seen};
+
+    /// The start of a gate that opens with this plan. It takes no memory.
+    pub fn opening(plan: Arc<Plan>) -> Start
+        ensures seen { start_seen result ≡ opening (plan_seen (arc_value plan)) }
+        ensures plan { result.plan ≡ plan }
+    {
+        Start {
+            version: 0,
+            plan,
+            acceptances: 0,
+            arrivals: 0,
+            entries: 0,
+        }
+    }
+
+    /// Whether a journal can start so. There were at least as many entries as acceptances, as arrivals, and as plans that were swapped in;
+    /// and there were at most 9,000,000,000,000,000,000. It takes no memory.
+    pub fn can_start(&self) -> bool
+        ensures { IsTrue result ↔ CanStart (start_seen self.now) }
+    {
+        self.version <= self.entries
+            && self.acceptances <= self.entries
+            && self.arrivals <= self.entries
+            && self.entries <= MOST_IN_ALL
+    }
+}
+
 /// A journal that was closed. By its type it is lawful, and nothing in it was left undone.
 pub struct Chapter {
     start: Start,

@@ -3,6 +3,7 @@ ghost use Rattle.std.specs.Prelude.{◌≡◌, ℕ, [], ◌∷◌, map, true, If
 ghost use Rattle.std.specs.Arc.{arc_value};
 ghost use Rattle.gw_gate.specs.Seen.{plan_seen};
 ghost use Rattle.gw_gate.specs.Journal.{opening, from, end};
+ghost use Rattle.gw_gate.specs.Chapters.{CanStart};
 ghost use Rattle.gw_gate.specs.Replies.{Steps, StepsNoted};
 ghost use Rattle.gw_gate.specs.Lawful.{IsLawful, IsEvent};
 ghost use Rattle.gw_gate.specs.Headline.{InOrder, IsTranslated, Numbered, VersionsRise};
@@ -62,11 +63,23 @@ impl Gate {
         ensures gate { IfOk result (λ g. g ≡ from (opening (plan_seen (arc_value plan)))) }
         ensures back { IfErr result (λ p. p ≡ plan) }
     {
-        match Arc::try_clone(&plan) {
-            Ok(copy) => Ok(Gate {
-                books: Books::open(alloc, plan, copy),
+        match Gate::begin_from(alloc, Start::opening(plan)) {
+            Ok(gate) => Ok(gate),
+            Err(Start { plan, .. }) => Err(plan),
+        }
+    }
+
+    /// A gate whose journal is empty and starts so: its numbers go on from these. The one error is an allocation failure, which returns the start.
+    pub fn begin_from(alloc: Global, start: Start) -> Result<Self, Start>
+        requires { CanStart (start_seen start) }
+        ensures gate { IfOk result (λ g. g ≡ from (start_seen start)) }
+        ensures back { IfErr result (λ s. s ≡ start) }
+    {
+        match Arc::try_clone(&start.plan) {
+            Ok(plan) => Ok(Gate {
+                books: Books::open(alloc, start, plan),
             }),
-            Err(_) => Err(plan),
+            Err(_) => Err(start),
         }
     }
 

@@ -7,7 +7,7 @@ use Rattle.gw_reorder.specs.own.Standing.{Stands}
 use Rattle.gw_gate.specs.Parts.{PlanSeen, ConformingSeen, TranslatedSeen}
 use Rattle.gw_gate.specs.Journal.{EntrySeen, WasAccepted, Start, Journal, Acceptance, Pair, Release, current, accepted, arrivals, due, issued, jobs, kept, released}
 use Rattle.gw_gate.specs.Replies.{ReplySeen, IsJob, IsIdle, IsKept, IsRepeat, IsStranger, IsIssued, IsDone, IsOut, IsNothing, most}
-use Rattle.gw_gate.specs.Chapters.{most_in_all}
+use Rattle.gw_gate.specs.Chapters.{CanStart}
 use Rattle.gw_gate.specs.Headline.{CountFrom}
 
 -- the version in force with its plan, the number of arrivals, the acceptances by the places of their entries, the pairs not yet taken, and the desks
@@ -21,13 +21,6 @@ pub record BooksSeen : Type 0 where
 
 abbrev pub journal_of : Start → List EntrySeen → Journal
 journal_of start h = record { start = start; entries = h }
-
--- what a start counts came of its entries, and these are few enough
-pub record FitsStart (s : Start) : Type 0 where
-  pub versions : s.version ≤ s.entries
-  pub acceptances : s.acceptances ≤ s.entries
-  pub arrivals : s.arrivals ≤ s.entries
-  pub few : s.entries ≤ most_in_all
 
 -- a released translation with its number
 abbrev pub given : Release → ℕ × TranslatedSeen
@@ -96,7 +89,7 @@ release_reply (Some next) = IsOut next.0 next.1
 
 -- the books of a gate whose journal starts so and has these entries
 pub record Fits (start : Start) (h : List EntrySeen) (b : BooksSeen) : Type 0 where
-  pub starts : FitsStart start
+  pub starts : CanStart start
   pub plans : FitsPlan start h b.version b.plan
   pub arrivals : FitsArrivals start h b.arrivals
   pub queue : FitsQueue start h b.places b.queue
