@@ -33,7 +33,7 @@ use std::mem;
 use std::sync::Arc;
 
 /// The most entries of a journal.
-pub const MOST: usize = 262_144;
+pub const MAX_ENTRIES: usize = 262_144;
 
 // An accepted message's number with a receiver.
 #[derive(Clone, Copy)]
@@ -174,7 +174,7 @@ impl Books {
     fn refuse(&mut self, code: u16, takes: bool) -> Answer
         ensures { StepsNoted takes self.old (Refuses code) (noted_seen result) self.new }
     {
-        if self.journal.len() == MOST {
+        if self.journal.len() == MAX_ENTRIES {
             return Ok((Reply::Full(Event::Refuse(code)), None));
         }
         let arrival = self.arrivals + 1;
@@ -194,7 +194,7 @@ impl Books {
         if !are_alike(&plan, &self.start.plan) {
             return Ok((Reply::Unlike(plan), None));
         }
-        if self.journal.len() == MOST {
+        if self.journal.len() == MAX_ENTRIES {
             return Ok((Reply::Full(Event::Swap(plan)), None));
         }
         let Ok(copy) = Arc::try_clone(&plan) else {
@@ -250,7 +250,7 @@ impl Books {
         let Some((pair, accepted)) = self.next() else {
             return Ok((Reply::Idle, None));
         };
-        if self.journal.len() == MOST {
+        if self.journal.len() == MAX_ENTRIES {
             return Ok((Reply::Full(Event::Take), None));
         }
         let Ok(conforming) = Arc::try_clone(accepted) else {
@@ -301,7 +301,7 @@ impl Books {
         requires { reply_to self.old (Puts n (translated_seen (arc_value translated))) ≡ IsKept }
         ensures { StepsNoted takes self.old (Puts n (translated_seen (arc_value translated))) (noted_seen result) self.new }
     {
-        if self.journal.len() == MOST {
+        if self.journal.len() == MAX_ENTRIES {
             return Ok((Reply::Full(Event::Put { n, translated }), None));
         }
         let Ok(copy) = Arc::try_clone(&translated) else {
@@ -343,7 +343,7 @@ impl Books {
         requires { reply_to self.old (Reissues n receiver) ≡ IsIssued }
         ensures { StepsNoted takes self.old (Reissues n receiver) (noted_seen result) self.new }
     {
-        if self.journal.len() == MOST {
+        if self.journal.len() == MAX_ENTRIES {
             return Ok((Reply::Full(Event::Reissue { n, receiver }), None));
         }
         if self.queue.reserve(1).is_err() {
@@ -372,7 +372,7 @@ impl Books {
         let Some((n, next)) = self.waiting(receiver) else {
             return Ok((Reply::Nothing, None));
         };
-        if self.journal.len() == MOST {
+        if self.journal.len() == MAX_ENTRIES {
             return Ok((Reply::Full(Event::Release(receiver)), None));
         }
         let (Ok(translated), Ok(copy)) = (Arc::try_clone(next), Arc::try_clone(next)) else {
@@ -418,7 +418,7 @@ impl Books {
         ensures { StepsNoted takes self.old (Arrives (conforming_seen (arc_value conforming))) (noted_seen result) self.new }
     {
         let place = self.journal.len();
-        if place == MOST {
+        if place == MAX_ENTRIES {
             return Ok((Reply::Full(Event::Arrive(conforming)), None));
         }
         let Ok(copy) = Arc::try_clone(&conforming) else {

@@ -12,7 +12,7 @@ mod plans;
 mod replays;
 mod same;
 
-pub use books::MOST;
+pub use books::MAX_ENTRIES;
 pub use chapter::{Chapter, Start};
 pub use event::{Entry, Event, Reply};
 pub use gate::Gate;

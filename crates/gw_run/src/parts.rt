@@ -15,7 +15,7 @@ use crate::plan_index::{plans_in, swaps_in};
 use crate::report::{Kind, count};
 use crate::turning_points::{first_even, first_with, passed};
 use gw_crew::Note;
-use gw_gate::{Chapter, Entry, Gate, MOST, Start, is_under};
+use gw_gate::{Chapter, Entry, Gate, MAX_ENTRIES, Start, is_under};
 use gw_plan::Plan;
 use std::alloc::{AllocError, Global};
 use std::marker::Model;
@@ -165,13 +165,13 @@ impl<'a> Part<'a> {
     pub(crate) fn first_full(&self, low: usize) -> Option<usize>
         ensures { IsFirstIn self.now low WasFull result }
     {
-        if self.entries.len() < MOST {
+        if self.entries.len() < MAX_ENTRIES {
             return None;
         }
-        if low <= MOST {
-            return Some(MOST);
+        if low <= MAX_ENTRIES {
+            return Some(MAX_ENTRIES);
         }
-        if self.entries.len() == MOST {
+        if self.entries.len() == MAX_ENTRIES {
             return Some(low);
         }
         None

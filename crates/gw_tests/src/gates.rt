@@ -1,7 +1,7 @@
 //! What a gate replies, and what its receivers are sent.
 use crate::worked;
 use gw_er7::write;
-use gw_gate::{Event, Gate, MOST, Reply, replay};
+use gw_gate::{Event, Gate, MAX_ENTRIES, Reply, replay};
 use gw_plan::{Conforming, Plan, Translated, translate_for};
 use std::alloc::Global;
 use std::sync::Arc;
@@ -265,7 +265,7 @@ fn a_message_stays_under_its_plan(rt: HostRuntime) -> Result<(), Fail> {
 fn a_full_journal_takes_no_entry(rt: HostRuntime) -> Result<(), Fail> {
     let plan = plan(rt.alloc(), "ONE")?;
     let mut gate = begun(rt.alloc(), &plan)?;
-    for _entry in 0..MOST {
+    for _entry in 0..MAX_ENTRIES {
         let _ = gate.step(Event::Refuse(207));
     }
     assert_eq!(rt; gate.journal().len(), 262_144);

@@ -1,12 +1,12 @@
 //! Ways to the gate that report where its journal fills up.
-use gw_gate::{Chapter, Event, MOST, Reply};
+use gw_gate::{Chapter, Event, MAX_ENTRIES, Reply};
 use gw_run::{Door, Note, Pass, Phase};
 use std::io::Eprint;
 use std::sync::ledger::Ledger;
 use std::sync::{Mutex, Wait};
 
 /// The last entry of three quarters of a journal, by its number from 0.
-const WARNING: usize = MOST / 4 * 3 - 1;
+const WARNING: usize = MAX_ENTRIES / 4 * 3 - 1;
 
 /// Who steps the gate.
 #[derive(Clone, Copy)]
@@ -119,7 +119,7 @@ fn closed_in(chapters: &[Chapter]) -> usize {
 fn tell_warning<R: Eprint>(rt: &R) {
     let used = WARNING + 1;
     let _ = eprintln!(rt;
-        "the journal has {used} of {MOST} entries: end the service before it is full"
+        "the journal has {used} of {MAX_ENTRIES} entries: end the service before it is full"
     );
 }
 

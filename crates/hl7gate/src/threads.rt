@@ -7,7 +7,7 @@ use crate::outcome::Outcome;
 use crate::stamps::Utc;
 use crate::tickets::Tickets;
 use gw_ack::Stamp;
-use gw_gate::{Chapter, Event, Gate, MOST};
+use gw_gate::{Chapter, Event, Gate, MAX_ENTRIES};
 use gw_run::{Door, LockedGate, Pause, Phase, Receipts, Report, courier, cut, join_all, worker};
 use gw_session::session;
 use gw_stream::{Counts, Reads, RunFault, Sink, Writes};
@@ -224,7 +224,7 @@ impl<'a, L: Ledger, R: Wait + Eprint + AllocGlobal> Service<'a, L, R> {
         receipts.push(unused.end())?;
         let mut counted = gate.into_counted();
         let report = join_all(rt.alloc(), &mut counted, receipts, chapters.into_inner())?;
-        let is_full = counted.gate().journal().len() == MOST;
+        let is_full = counted.gate().journal().len() == MAX_ENTRIES;
         Ok((Served { report, is_full }, counted.into_gate()))
     }
 }

@@ -52,7 +52,7 @@ invariant_of-self-2 c =
     ∙ ap (λ x. map pair_seen s.queue.items ++ map (pair n) (conforming_seen x).receivers) c.deref-2.ensures in
     let grown = fits_roomier p h _ (desk_at c.make_rooms-grown.new.desks.items) (λ r. (c.make_rooms-grown.ensures.desks r).same) c.self.invariant in
     fits_more p s.journal.items c.prepared.new.journal.items c.push_reserved-2.new.self.items (entry.TheVariants.Accepted n (s.arrivals + 1) c.in-Ok.copy) _ _
-    c.prepared.ensures.same c.push_reserved-2.ensures.items (λ e. c.if-place-eq-MOST.false (c.len-place.ensures ∙ s.journal.ok.0 ∙ e)) c.self.invariant
+    c.prepared.ensures.same c.push_reserved-2.ensures.items (λ e. c.if-place-eq-MAX_ENTRIES.false (c.len-place.ensures ∙ s.journal.ok.0 ∙ e)) c.self.invariant
     (λ room. rw (c.in-Ok.ensures, places, pairs)
     (fits_accepted p h _ n (s.arrivals + 1) m (desk_at c.make_due.new.desks.items) is
     (λ r. c.make_due.ensures r ∙ ap (λ x. due_to (conforming_seen x) n r (desk_at c.make_rooms-grown.new.desks.items r)) c.deref-3.ensures)
@@ -70,19 +70,19 @@ returns c =
     done p s.journal.items c.args.self.now c.self.view_is c.args.takes c.prepared.new.journal.items c.push_reserved-2.new.self.items (entry.TheVariants.Accepted n a c.in-Ok.copy) (Arrives m) (IsAccepted n a) _
     (ap (λ j. reply_to j (Arrives m)) (sym c.self.view_is) ∙ accept_is p h _ n a m c.self.invariant is refl (ap (λ j. is_under m (current j).number (current j).plan) c.self.view_is ∙ c.requires))
     (ap (λ x. Some (WasAccepted n a (conforming_seen x))) (sym c.in-Ok.ensures))
-    (room_left p s.journal.items _ c.self.invariant (λ e. c.if-place-eq-MOST.false (c.len-place.ensures ∙ s.journal.ok.0 ∙ e)))
+    (room_left p s.journal.items _ c.self.invariant (λ e. c.if-place-eq-MAX_ENTRIES.false (c.len-place.ensures ∙ s.journal.ok.0 ∙ e)))
     c.prepared.ensures.same c.push_reserved-2.ensures.items c.in-Ok-prepared.ensures.note
 
-pub returns-then-place-eq-MOST : goal.returns-then-place-eq-MOST
-returns-then-place-eq-MOST c =
+pub returns-then-place-eq-MAX_ENTRIES : goal.returns-then-place-eq-MAX_ENTRIES
+returns-then-place-eq-MAX_ENTRIES c =
     let s = c.self.inside in
-    full (start_seen s.start) s.journal.items c.args.self.now c.self.view_is c.args.takes (Arrives (conforming_seen (arc_value c.args.conforming))) _ _ (accept_row c.args.self.now (conforming_seen (arc_value c.args.conforming)) c.requires) refl (sym (c.len-place.ensures ∙ s.journal.ok.0) ∙ c.if-place-eq-MOST.true)
+    full (start_seen s.start) s.journal.items c.args.self.now c.self.view_is c.args.takes (Arrives (conforming_seen (arc_value c.args.conforming))) _ _ (accept_row c.args.self.now (conforming_seen (arc_value c.args.conforming)) c.requires) refl (sym (c.len-place.ensures ∙ s.journal.ok.0) ∙ c.if-place-eq-MAX_ENTRIES.true)
 
 pub returns-in_default : goal.returns-in_default
 returns-in_default c =
     let s = c.self.inside in
     left_back (start_seen s.start) s.journal.items _ c.args.self.now (Arrives (conforming_seen (arc_value c.args.conforming))) _ _ c.self.invariant c.self.view_is
-    (λ e. c.if-place-eq-MOST.false (c.len-place.ensures ∙ s.journal.ok.0 ∙ e)) (accept_row c.args.self.now (conforming_seen (arc_value c.args.conforming)) c.requires) refl
+    (λ e. c.if-place-eq-MAX_ENTRIES.false (c.len-place.ensures ∙ s.journal.ok.0 ∙ e)) (accept_row c.args.self.now (conforming_seen (arc_value c.args.conforming)) c.requires) refl
 
 pub overflow_add-arrival : goal.overflow_add-arrival
 overflow_add-arrival c = let k = c.self.invariant.arrivals.few in let w = c.self.invariant.within in let f = c.self.invariant.starts.few in omega (arith, k, w, f)
@@ -94,13 +94,13 @@ pub returns-in_default-prepared : goal.returns-in_default-prepared
 returns-in_default-prepared c =
     let s = c.self.inside in
     left_short (start_seen s.start) s.journal.items c.prepared.new.journal.items _ c.args.self.now (Arrives (conforming_seen (arc_value c.args.conforming))) _ _ c.self.invariant c.self.view_is
-    (λ e. c.if-place-eq-MOST.false (c.len-place.ensures ∙ s.journal.ok.0 ∙ e)) c.prepared.ensures.same (accept_row c.args.self.now (conforming_seen (arc_value c.args.conforming)) c.requires) refl
+    (λ e. c.if-place-eq-MAX_ENTRIES.false (c.len-place.ensures ∙ s.journal.ok.0 ∙ e)) c.prepared.ensures.same (accept_row c.args.self.now (conforming_seen (arc_value c.args.conforming)) c.requires) refl
 
 pub returns-then-is_err : goal.returns-then-is_err
 returns-then-is_err c =
     let s = c.self.inside in
     left_short (start_seen s.start) s.journal.items c.prepared.new.journal.items _ c.args.self.now (Arrives (conforming_seen (arc_value c.args.conforming))) _ _ c.self.invariant c.self.view_is
-    (λ e. c.if-place-eq-MOST.false (c.len-place.ensures ∙ s.journal.ok.0 ∙ e)) c.prepared.ensures.same (accept_row c.args.self.now (conforming_seen (arc_value c.args.conforming)) c.requires) refl
+    (λ e. c.if-place-eq-MAX_ENTRIES.false (c.len-place.ensures ∙ s.journal.ok.0 ∙ e)) c.prepared.ensures.same (accept_row c.args.self.now (conforming_seen (arc_value c.args.conforming)) c.requires) refl
 
 pub push_reserved-requires-2 : goal.push_reserved-requires-2
 push_reserved-requires-2 c = omega (arith, c.in-Ok-prepared.ensures.room)

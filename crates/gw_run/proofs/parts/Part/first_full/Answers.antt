@@ -5,10 +5,10 @@ use Rattle.gw_gate.proofs.Entering.{as_long}
 use Rattle.gw_run.proofs.Fitting.{then_full}
 use Rattle.gw_run.proofs.parts.Part.first_full.Goals as goal
 
-pub returns-then-low-le-MOST : goal.returns-then-low-le-MOST
-returns-then-low-le-MOST c =
-    let more = c.if-self-lt-MOST.false in
+pub returns-then-low-le-MAX_ENTRIES : goal.returns-then-low-le-MAX_ENTRIES
+returns-then-low-le-MAX_ENTRIES c =
+    let more = c.if-self-lt-MAX_ENTRIES.false in
     let long = as_long c.self.inside.entries.now in
     rw (← c.self.view_is)
     (then_full (journal_of (start_seen c.self.inside.start.now) (entries_seen c.self.inside.entries.now)) c.args.low
-    (omega (arith, more, long)) c.if-low-le-MOST.true)
+    (omega (arith, more, long)) c.if-low-le-MAX_ENTRIES.true)
