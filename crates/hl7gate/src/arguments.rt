@@ -54,13 +54,27 @@ const ON_SERVE: &str =
     "Answers the messages of so many connections (MLLP) by a plan, and sends each receiver of the plan what it is due; each line on standard input is the file of a plan that takes its place";
 
 /// All commands, in the order in which the help lists them.
-const FORMS: [Form; 7] = [
+const FORMS: [Form; 8] = [
     Form {
         name: "validate",
         about: "Answers each message of a stream on standard input (MLLP) by a profile",
         words: &[("PROFILE", "The file of the message profile")],
         optional: &[],
         options: STAMP,
+    },
+    Form {
+        name: "report",
+        about: "Prints every breach of each message of a stream on standard input (MLLP) by a profile, and how often each place is broken",
+        words: &[("PROFILE", "The file of the message profile")],
+        optional: &[],
+        options: &[
+            ("json", "", "Prints each breach as JSON"),
+            (
+                "values",
+                "",
+                "Prints the values that break the profile too: they may be a patient's",
+            ),
+        ],
     },
     Form {
         name: "check",

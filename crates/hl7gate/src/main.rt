@@ -5,6 +5,7 @@
 
 mod advice;
 mod arguments;
+mod breaches;
 mod doors;
 mod elements;
 mod ended;

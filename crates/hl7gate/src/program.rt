@@ -1,5 +1,6 @@
 //! The commands, over any reader and two writers.
 use crate::arguments::parse;
+use crate::breaches::report;
 use crate::ended::Ended;
 use crate::maps::{check, read_profile, translate};
 use crate::plans::run;
@@ -37,7 +38,7 @@ fn validated<'a, R: Files + Clock + AllocGlobal, I: Read, O: Write, E: Write>(
     errors: &mut E,
 ) -> Result<u8, Ended<'a>> {
     let counts = validate(rt, words, input, output)?;
-    tell_if_none(errors, counts);
+    tell_if_none(errors, counts.answered);
     Ok(status_if(counts.aa == counts.answered))
 }
 
@@ -50,7 +51,7 @@ fn ran<'a, R: Files + Clock + AllocGlobal, I: Read, O: Write, E: Write + IsTermi
     errors: &mut E,
 ) -> Result<u8, Ended<'a>> {
     let counts = run(rt, words, input, output, errors)?;
-    tell_if_none(errors, counts);
+    tell_if_none(errors, counts.answered);
     Ok(DONE)
 }
 
@@ -64,6 +65,7 @@ fn done<'a, R: Files + Clock + AllocGlobal, I: Read, O: Write, E: Write + IsTerm
 ) -> Result<u8, Ended<'a>> {
     match words.subcommand() {
         Some(("validate", words)) => validated(rt, words, input, output, errors),
+        Some(("report", words)) => report(rt, words, input, output, errors),
         Some(("run", words)) => ran(rt, words, input, output, errors),
         Some(("check", words)) => check(rt, words, output, errors),
         Some(("translate", words)) => translate(rt, words, input, output, errors),

@@ -150,11 +150,10 @@ pub(crate) fn tell_message<E: Write>(errors: &mut E, fault: ReadFault) -> u8 {
     tell_refused(errors, subject, fault.number(), Place::Whole, &fault)
 }
 
-/// Reports what a message breaks: the code, and the place up to its last number.
-pub(crate) fn tell_breach<E: Write>(errors: &mut E, breach: Breach) -> u8 {
-    let code = breach.code();
+/// Prints where a breach is: the segment's name, its sequence, field, repetition, component and subcomponent, up to the last that is said.
+pub(crate) fn say_place<E: Write>(errors: &mut E, breach: Breach) {
     let (first, second, third) = letters(breach.segment);
-    let _ = write!(errors, "breaks {code} {first}{second}{third}");
+    let _ = write!(errors, "{first}{second}{third}");
     for number in [
         breach.sequence,
         breach.field,
@@ -166,6 +165,13 @@ pub(crate) fn tell_breach<E: Write>(errors: &mut E, breach: Breach) -> u8 {
             let _ = write!(errors, "^{number}");
         }
     }
+}
+
+/// Reports what a message breaks: the code and the place.
+pub(crate) fn tell_breach<E: Write>(errors: &mut E, breach: Breach) -> u8 {
+    let code = breach.code();
+    let _ = write!(errors, "breaks {code} ");
+    say_place(errors, breach);
     let _ = writeln!(errors);
     REFUSED
 }

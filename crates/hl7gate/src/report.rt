@@ -4,7 +4,7 @@ use crate::refusals::{tell_breach, tell_map, tell_message, tell_plan, tell_profi
 use clap::Error;
 use clap::error::ErrorKind;
 use gw_run::Report;
-use gw_stream::{Counts, RunFault};
+use gw_stream::RunFault;
 use std::io;
 use std::io::Write;
 
@@ -24,8 +24,8 @@ pub(crate) const FAULT: u8 = 3;
 pub(crate) const NO_MEMORY: u8 = 4;
 
 /// Reports that no message was found in a stream, where none was: it may be a file without frames.
-pub(crate) fn tell_if_none<E: Write>(errors: &mut E, counts: Counts) {
-    if counts.answered == 0 {
+pub(crate) fn tell_if_none<E: Write>(errors: &mut E, messages: u64) {
+    if messages == 0 {
         let _ = writeln!(
             errors,
             "no framed message was found on standard input; examples/frame FILE .. prints files as framed messages"

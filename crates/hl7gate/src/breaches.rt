@@ -1,0 +1,365 @@
+//! The command `report`: every breach of each message of a stream.
+use crate::ended::Ended;
+use crate::maps::read_profile;
+use crate::refusals::{letters, say_place};
+use crate::report::{DONE, REFUSED, tell_if_none, write_all};
+use clap::ArgMatches;
+use gw_er7::{Message, Place, ReadFault, read_block};
+use gw_mllp::{Decoder, FrameFault};
+use gw_profile::Profile;
+use gw_stream::RunFault;
+use gw_validate::{Breach, Kind, breaches};
+use std::alloc::{AllocError, Global};
+use std::collections::BTreeMap;
+use std::io;
+use std::io::{ErrorKind, Read, Write};
+use std::rt::Files;
+use std::sync::Arc;
+
+/// How many bytes are read at once.
+const PIECE: usize = 65_536;
+
+/// Where messages break a profile: the condition code, the letters of the segment's name, the field, the component, the subcomponent.
+type Spot = [usize; 7];
+
+/// What was reported so far.
+#[derive(Drop)]
+struct Tally {
+    messages: u64,
+    conforming: u64,
+    breaches: u64,
+    spots: BTreeMap<Spot, u64>,
+}
+
+/// What a line shows.
+#[derive(Clone, Copy)]
+struct Form {
+    is_json: bool,
+    has_values: bool,
+}
+
+/// What a kind of breach is, in words.
+fn words_of(kind: Kind) -> &'static str {
+    match kind {
+        Kind::OutOfOrder => "no segment of this name may stand here",
+        Kind::MissingSegment => "the message ends where this segment has to come",
+        Kind::MissingValue => "has to be there, and isn't",
+        Kind::Forbidden => "may not be there, and is",
+        Kind::TooManyReps => "one repetition more than there may be",
+        Kind::TooLong => "longer than it may be",
+        Kind::NotInTable => "not in its table",
+    }
+}
+
+/// A number that is said, or 1: the first is meant where none is said.
+fn said(number: usize) -> usize {
+    if number == 0 { 1 } else { number }
+}
+
+/// The text at the place of a breach, where one is there.
+fn text_of<'a>(message: &'a Message, number: usize, breach: Breach) -> Option<&'a [u8]> {
+    if number >= message.segment_count() || breach.field == 0 {
+        return None;
+    }
+    let text = message.segment(number).text(Place {
+        field: breach.field,
+        rep: said(breach.rep),
+        comp: said(breach.comp),
+        sub: said(breach.sub),
+    });
+    if text.is_empty() { None } else { Some(text) }
+}
+
+/// The letters of a segment name, as numbers.
+fn spot_of(breach: Breach) -> Spot {
+    let [first, second, third] = breach.segment;
+    [
+        usize::from(breach.code()),
+        usize::from(first),
+        usize::from(second),
+        usize::from(third),
+        breach.field,
+        breach.comp,
+        breach.sub,
+    ]
+}
+
+/// A line for a breach.
+fn write_line(
+    out: &mut Vec<u8>,
+    form: Form,
+    arrival: u64,
+    breach: Breach,
+    text: Option<&[u8]>,
+) -> io::Result<()> {
+    let code = breach.code();
+    let words = words_of(breach.kind);
+    if form.is_json {
+        let (first, second, third) = letters(breach.segment);
+        let Breach {
+            sequence,
+            field,
+            rep,
+            comp,
+            sub,
+            ..
+        } = breach;
+        write!(
+            out,
+            "{{\"message\":{arrival},\"code\":{code},\"segment\":\"{first}{second}{third}\",\"sequence\":{sequence},\"field\":{field},\"repetition\":{rep},\"component\":{comp},\"subcomponent\":{sub},\"rule\":\"{words}\""
+        )?;
+        if let Some(text) = text {
+            write!(out, ",\"value\":\"")?;
+            write_text(out, text)?;
+            write!(out, "\"")?;
+        }
+        return writeln!(out, "}}");
+    }
+    write!(out, "message {arrival}: {code} ")?;
+    say_place(out, breach);
+    write!(out, ": {words}")?;
+    if let Some(text) = text {
+        write!(out, ": ")?;
+        write_text(out, text)?;
+    }
+    writeln!(out)
+}
+
+/// A text as its printable characters; each other byte, and each quote and backslash, as `\u00` and two digits. So JSON can have it too.
+fn write_text(out: &mut Vec<u8>, text: &[u8]) -> io::Result<()> {
+    for byte in text {
+        match *byte {
+            b'"' | b'\\' => write!(out, "\\u00{byte:02x}")?,
+            b' '..=b'~' => write!(out, "{}", char::from(*byte))?,
+            _ => write!(out, "\\u00{byte:02x}")?,
+        }
+    }
+    Ok(())
+}
+
+impl Tally {
+    fn new(alloc: Global) -> Self {
+        Tally {
+            messages: 0,
+            conforming: 0,
+            breaches: 0,
+            spots: BTreeMap::new(alloc),
+        }
+    }
+
+    /// Counts a breach.
+    fn count(&mut self, breach: Breach) -> Result<(), AllocError> {
+        self.breaches = self.breaches.saturating_add(1);
+        let spot = spot_of(breach);
+        let before = match self.spots.get(&spot) {
+            Some(count) => *count,
+            None => 0,
+        };
+        self.spots.insert(spot, before.saturating_add(1))?;
+        Ok(())
+    }
+
+    /// Reports the breaches of a message.
+    fn add_message(
+        &mut self,
+        alloc: Global,
+        profile: &Profile,
+        message: &Message,
+        form: Form,
+        out: &mut Vec<u8>,
+    ) -> Result<(), RunFault> {
+        let found = breaches(alloc, profile, message)?;
+        if found.is_empty() {
+            self.conforming = self.conforming.saturating_add(1);
+        }
+        for place in found.as_slice() {
+            let (number, breach) = *place;
+            let text = if form.has_values {
+                text_of(message, number, breach)
+            } else {
+                None
+            };
+            if write_line(out, form, self.messages, breach, text).is_err() {
+                return Err(RunFault::Memory);
+            }
+            self.count(breach)?;
+        }
+        Ok(())
+    }
+
+    /// Reports what came in a frame.
+    fn add(
+        &mut self,
+        alloc: Global,
+        profile: &Profile,
+        content: Vec<u8>,
+        form: Form,
+        out: &mut Vec<u8>,
+    ) -> Result<(), RunFault> {
+        self.messages = self.messages.saturating_add(1);
+        match read_block(content) {
+            Ok(message) => self.add_message(alloc, profile, &message, form, out),
+            Err((ReadFault::Memory, _)) => Err(RunFault::Memory),
+            Err((fault, _)) => match write_unread(out, form, self.messages, fault) {
+                Ok(()) => Ok(()),
+                Err(_) => Err(RunFault::Memory),
+            },
+        }
+    }
+
+    /// The last line: how many messages there were, and how often each place was broken.
+    fn write_end(&self, form: Form, out: &mut Vec<u8>) -> io::Result<()> {
+        let Tally {
+            messages,
+            conforming,
+            breaches,
+            spots,
+        } = self;
+        if form.is_json {
+            write!(
+                out,
+                "{{\"messages\":{messages},\"conforming\":{conforming},\"breaches\":{breaches},\"places\":["
+            )?;
+        } else {
+            write!(
+                out,
+                "messages {messages}, conforming {conforming}, breaches {breaches}"
+            )?;
+        }
+        let mut between = if form.is_json { "" } else { ": " };
+        for (spot, count) in spots.iter() {
+            write!(out, "{between}")?;
+            write_spot(out, form, *spot, *count)?;
+            between = if form.is_json { "," } else { ", " };
+        }
+        if form.is_json {
+            return writeln!(out, "]}}");
+        }
+        writeln!(out)
+    }
+}
+
+/// A line for a content that is no message.
+fn write_unread(out: &mut Vec<u8>, form: Form, arrival: u64, fault: ReadFault) -> io::Result<()> {
+    if form.is_json {
+        return writeln!(out, "{{\"message\":{arrival},\"unreadable\":\"{fault}\"}}");
+    }
+    writeln!(out, "message {arrival}: can't be read: {fault}")
+}
+
+/// How often a place was broken.
+fn write_spot(out: &mut Vec<u8>, form: Form, spot: Spot, count: u64) -> io::Result<()> {
+    let [code, first, second, third, field, comp, sub] = spot;
+    let name = [letter(first), letter(second), letter(third)];
+    let (first, second, third) = letters(name);
+    if form.is_json {
+        return write!(
+            out,
+            "{{\"code\":{code},\"segment\":\"{first}{second}{third}\",\"field\":{field},\"component\":{comp},\"subcomponent\":{sub},\"count\":{count}}}"
+        );
+    }
+    write!(out, "{code} {first}{second}{third}")?;
+    if field > 0 {
+        write!(out, "-{field}")?;
+    }
+    if comp > 0 {
+        write!(out, ".{comp}")?;
+    }
+    if sub > 0 {
+        write!(out, ".{sub}")?;
+    }
+    write!(out, " {count}")
+}
+
+/// The letter of a number.
+fn letter(number: usize) -> u8 {
+    match u8::try_from(number) {
+        Ok(byte) => byte,
+        Err(_) => b'?',
+    }
+}
+
+/// The next piece of the input, empty at its end.
+fn read_piece<'b, I: Read>(input: &mut I, piece: &'b mut [u8]) -> Result<&'b [u8], RunFault> {
+    for _ in 0..u64::MAX {
+        match input.read(piece) {
+            Ok(count) => {
+                let (read, _) = piece.split_at(count);
+                return Ok(read);
+            }
+            Err(error) if error.kind() == ErrorKind::Interrupted => {}
+            Err(_) => return Err(RunFault::Read),
+        }
+    }
+    Err(RunFault::Read)
+}
+
+/// The fault of a frame, as a run's.
+fn frame_fault(fault: FrameFault) -> RunFault {
+    match fault {
+        FrameFault::Memory => RunFault::Memory,
+        _ => RunFault::Frame(fault.number()),
+    }
+}
+
+/// Reports all messages of a stream.
+fn report_all<I: Read, O: Write>(
+    alloc: Global,
+    profile: &Profile,
+    form: Form,
+    tally: &mut Tally,
+    input: &mut I,
+    output: &mut O,
+) -> Result<(), RunFault> {
+    let mut decoder = Decoder::new(alloc);
+    let mut room = [0u8; PIECE];
+    for _ in 0..u64::MAX {
+        let piece = read_piece(input, &mut room)?;
+        let at_end = piece.is_empty();
+        let fed = decoder.feed(piece);
+        let mut out = Vec::new(alloc);
+        while let Some(content) = decoder.next_block() {
+            tally.add(alloc, profile, content, form, &mut out)?;
+        }
+        write_all(output, &out)?;
+        if let Err(fault) = fed {
+            return Err(frame_fault(fault));
+        }
+        if at_end {
+            return match decoder.at_end() {
+                Ok(()) => Ok(()),
+                Err(fault) => Err(frame_fault(fault)),
+            };
+        }
+    }
+    Err(RunFault::Turns)
+}
+
+/// Reports every breach of each message of a stream by a profile, and returns the status: done where each message conforms.
+pub(crate) fn report<'a, R: Files + AllocGlobal, I: Read, O: Write, E: Write>(
+    rt: &R,
+    words: &ArgMatches<'a>,
+    input: &mut I,
+    output: &mut O,
+    errors: &mut E,
+) -> Result<u8, Ended<'a>> {
+    let alloc = rt.alloc();
+    let profile: Arc<Profile> = read_profile(rt, words, "PROFILE")?;
+    let form = Form {
+        is_json: words.get_flag("json"),
+        has_values: words.get_flag("values"),
+    };
+    let mut tally = Tally::new(alloc);
+    let reported = report_all(alloc, &profile, form, &mut tally, input, output);
+    let mut out = Vec::new(alloc);
+    if tally.write_end(form, &mut out).is_err() {
+        return Err(Ended::Run(RunFault::Memory));
+    }
+    write_all(output, &out)?;
+    reported?;
+    tell_if_none(errors, tally.messages);
+    if tally.conforming == tally.messages {
+        return Ok(DONE);
+    }
+    Ok(REFUSED)
+}
