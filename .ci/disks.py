@@ -1,14 +1,17 @@
-"""Trials of a gateway's disk: spools that are torn, cut or damaged. `.ci/gateways` plays them.
+"""Trials of a gateway's disk: spools that are torn, cut or damaged, and a disk whose syncs fail. `.ci/gateways` plays them.
 
 What a spool's file holds is made here as crates/gw_spool/README.md says, and not by the program.
 """
+import contextlib
 import hashlib
 import re
 import subprocess
+import time
 from concurrent.futures import ThreadPoolExecutor
 
-from gateway import REPORT, Receiver
-from loopback import ANSWERS, LEFT, same
+from gateway import LISTENS, REPORT, Receiver, control
+from loopback import ANSWERS, LEFT, Differs, same
+from preload import library_in
 
 # How many spools one gateway opens at once, each of a receiver of its own.
 SPOOLS = 200
@@ -127,3 +130,158 @@ def damaged(gateway):
     files, then, bad, where = split([(whole[:it] + bytes([whole[it] ^ 0xFF]) + whole[it + 1 :], stated(it)) for it in changes])
     opened(gateway, files, "a changed gate", then)
     refused(gateway, bad, "a changed byte", where)
+
+
+# Has the sync of a spool's file fail, from one of a number on. What was done to that file since its last sync is undone then, as a kernel may drop what it
+# couldn't write. FAILED is a file that is made at that moment.
+FAILING = r"""
+typedef unsigned long size;
+extern long syscall(long, ...);
+extern char *getenv(const char *);
+extern void *malloc(size);
+extern int *__errno_location(void);
+enum { PREAD = 17, PWRITE = 18, FSYNC = 74, FDATASYNC = 75, FTRUNCATE = 77, SEEK = 8, READLINK = 89, CREAT = 85, CHANGES = 65536 };
+struct change { int file; long at, length, end; char *old; };
+static struct change changes[CHANGES];
+static long count, syncs, from;
+static char held;
+static void take(void) { while (__atomic_test_and_set(&held, __ATOMIC_ACQUIRE)); }
+static void leave(void) { __atomic_clear(&held, __ATOMIC_RELEASE); }
+static int is_spool(int file) {
+    char link[40] = "/proc/self/fd/", digits[12], path[4096];
+    int at = 14, k = 0;
+    do digits[k++] = (char)('0' + file % 10); while (file /= 10);
+    while (k) link[at++] = digits[--k];
+    link[at] = 0;
+    long length = syscall(READLINK, link, path, sizeof path);
+    for (long it = 0; it + 7 <= length; it++) {
+        const char *word = "/spool/";
+        int same = 0;
+        while (same < 7 && path[it + same] == word[same]) same++;
+        if (same == 7) return 1;
+    }
+    return 0;
+}
+static long end_of(int file) {
+    long here = syscall(SEEK, file, 0L, 1), end = syscall(SEEK, file, 0L, 2);
+    syscall(SEEK, file, here, 0);
+    return end;
+}
+static void note(int file, long at, long length) {
+    if (count == CHANGES) __builtin_trap();
+    struct change it = { file, at, 0, end_of(file), malloc((size)length + 1) };
+    if (length) it.length = syscall(PREAD, file, it.old, length, at);
+    changes[count++] = it;
+}
+static void forget(int file, int is_undone) {
+    long kept = 0;
+    for (long it = count; it-- > 0 && is_undone;)
+        if (changes[it].file == file) {
+            syscall(FTRUNCATE, file, changes[it].end);
+            if (changes[it].length > 0) syscall(PWRITE, file, changes[it].old, changes[it].length, changes[it].at);
+        }
+    for (long it = 0; it < count; it++)
+        if (changes[it].file != file) changes[kept++] = changes[it];
+    count = kept;
+}
+static int sync_by(long call, int file) {
+    if (!is_spool(file)) return (int)syscall(call, file);
+    take();
+    int fails = ++syncs >= from, result = -1;
+    forget(file, fails);
+    if (fails) syscall(CREAT, getenv("FAILED"), 0600L), *__errno_location() = 5;
+    else result = (int)syscall(call, file);
+    leave();
+    return result;
+}
+int fsync(int file) { return sync_by(FSYNC, file); }
+int fdatasync(int file) { return sync_by(FDATASYNC, file); }
+long pwrite64(int file, const void *bytes, size length, long at) {
+    int noted = is_spool(file);
+    if (noted) take(), note(file, at, (long)length);
+    long result = syscall(PWRITE, file, bytes, length, at);
+    if (noted) leave();
+    return result;
+}
+long pwrite(int file, const void *bytes, size length, long at) { return pwrite64(file, bytes, length, at); }
+int ftruncate64(int file, long length) {
+    int noted = is_spool(file);
+    if (noted) take(), note(file, length, end_of(file) > length ? end_of(file) - length : 0);
+    int result = (int)syscall(FTRUNCATE, file, length);
+    if (noted) leave();
+    return result;
+}
+int ftruncate(int file, long length) { return ftruncate64(file, length); }
+__attribute__((constructor)) static void begin(void) {
+    const char *digits = getenv("FAIL");
+    for (; digits && *digits >= '0' && *digits <= '9'; digits++) from = from * 10 + (*digits - '0');
+}
+"""
+
+
+def send_until_it_ends(gateway, failed, most):
+    """Sends reports until the connection ends: the control ids of those that were answered AA. None is that was sent after the failure."""
+    accepted = []
+    with contextlib.suppress(OSError):
+        line = gateway.client()
+        for at in range(most):
+            name, is_late = b"M%07d" % at, failed.exists()
+            answer = line.ask([REPORT.replace(b"LAB0007", name)])[0]
+            if answer is None:
+                break
+            if b"MSA|AA|%s\r" % name in answer:
+                same("an AA for what was sent after a sync had failed", False, is_late)
+                accepted.append(name)
+    return accepted
+
+
+def all_arrived(gateway, accepted, repeats):
+    """Each receiver gets these messages, in order, as many of them twice at most, and what is sent now behind them all."""
+    gateway.ask([REPORT.replace(b"LAB0007", b"Z")])
+    for name, receiver in gateway.receivers.items():
+        with receiver.news:
+            receiver.news.wait_for(lambda: receiver.blocks and control(receiver.blocks[-1]) == b"Z", max(0, gateway.until - time.monotonic()))
+        came = [control(it) for it in receiver.blocks]
+        once = list(dict.fromkeys(came))
+        same(f"messages of {name} out of order, with the last", [*sorted(once[:-1]), b"Z"], once)
+        same(f"accepted messages that {name} lacks", [], sorted(set(accepted) - set(came)))
+        if len(came) - len(once) > repeats:
+            raise Differs(f"{name} got messages twice: {came}")
+
+
+def fails_at(gateway, library, number, most=12):
+    """The sync of this number fails, and all behind it."""
+    failed = gateway.room / "failed"
+    gateway.play(WARDS=Receiver(), ARCHIVE=Receiver())
+    gateway.start(waits=False, env={"LD_PRELOAD": str(library), "FAIL": str(number), "FAILED": str(failed)})
+    accepted = []
+    if gateway.is_up():
+        accepted = send_until_it_ends(gateway, failed, most)
+    gateway.process.wait(max(0.01, gateway.until - time.monotonic()))
+    gateway.reader.join(1)
+    same(f"sync {number} of a spool fails: its status, and whether it failed", (3, True), (gateway.process.returncode, failed.exists()))
+    while_it_goes = [gateway.lines[-1:] == ["fault 3"], bool(gateway.found(r"the spool of receiver (WARDS|ARCHIVE) failed: the disk has failed"))]
+    at_its_start = [gateway.lines[-2:-1] == ["fault 3"], bool(gateway.found(r"folder/spool/(WARDS|ARCHIVE)(/1)?: the file can't be made or written"))]
+    if not (all(while_it_goes) if gateway.found(LISTENS) else all(at_its_start)):
+        raise Differs(f"sync {number} failed, and that isn't what the lines say: {gateway.lines}")
+    gateway.start()
+    all_arrived(gateway, accepted, 1)
+    gateway.kill()
+    return len(accepted)
+
+
+def sync_fails(gateway, most=40):
+    """The N-th sync of a spool fails, for each N, and what it should have brought to the disk is gone: no AA goes out for it, the gateway ends with status 3,
+    and the next one sends all that was answered AA."""
+    library = library_in(gateway.room, "failing", FAILING)
+
+    def one(number):
+        room = gateway.room / f"sync{number}"
+        room.mkdir()
+        with contextlib.closing(type(gateway)(gateway.program, room)) as its:
+            return fails_at(its, library, number)
+
+    with ThreadPoolExecutor(4) as pool:
+        accepted = list(pool.map(one, range(1, most + 1)))
+    if not 0 < max(accepted):
+        raise Differs("no message was accepted before a sync failed")
