@@ -1,24 +1,33 @@
-"""Trials of a gateway's disk: spools that are torn, cut or damaged, and a disk whose syncs fail. `.ci/gateways` plays them.
+"""Trials of a gateway's disk: spools that are torn, cut or damaged, a disk that is full, and one whose syncs fail. `.ci/gateways` plays them.
 
 What a spool's file holds is made here as crates/gw_spool/README.md says, and not by the program.
 """
 import contextlib
 import hashlib
+import itertools
+import json
 import re
 import subprocess
 import time
 from concurrent.futures import ThreadPoolExecutor
 
-from gateway import LISTENS, REPORT, Receiver, control
+from gateway import LISTENS, REPORT, RESERVE, Receiver, control
 from loopback import ANSWERS, LEFT, Differs, same
 from preload import library_in
 
 # How many spools one gateway opens at once, each of a receiver of its own.
 SPOOLS = 200
+# How many bytes a small disk has beside the reserve.
+BESIDE = 6 << 20
 # (nobody listens at this address)
 NOBODY = "127.0.0.1:1"
+SHORT = "the disk is short of room: messages are answered AR until 64 MB are free"
 # An acknowledgment's entry.
 TAKEN = b"\x01\0\0\0\0"
+
+
+class Skipped(Exception):
+    """A trial that this machine doesn't allow."""
 
 
 def entry(record):
@@ -285,3 +294,95 @@ def sync_fails(gateway, most=40):
         accepted = list(pool.map(one, range(1, most + 1)))
     if not 0 < max(accepted):
         raise Differs("no message was accepted before a sync failed")
+
+
+def fill(path):
+    """Takes all the room that the disk has left."""
+    with contextlib.suppress(OSError), open(path, "ab", buffering=0) as file:
+        for size in (1 << 20, 4096, 1):
+            with contextlib.suppress(OSError):
+                while file.write(bytes(size)):
+                    pass
+
+
+@contextlib.contextmanager
+def small_disk(folder):
+    """A disk of its own under this folder, while it is used."""
+    made = subprocess.run(["mount", "-t", "tmpfs", "-o", f"size={RESERVE + BESIDE}", "none", folder], capture_output=True, text=True)
+    if made.returncode:
+        raise Skipped(f"a disk of its own can't be mounted here: {made.stderr.strip()}")
+    try:
+        yield
+    finally:
+        subprocess.run(["umount", "-l", folder], check=True)
+
+
+def send(gateway, names, most, until=lambda: False):
+    """Sends reports one after the other, by the next names, until something holds or the connection ends: the control ids by the codes of their answers."""
+    answered = {}
+    with contextlib.suppress(OSError):
+        line = gateway.client()
+        for _ in range(most):
+            if until():
+                break
+            name = next(names)
+            answer = line.ask([REPORT.replace(b"LAB0007", name)])[0]
+            code = re.search(rb"MSA\|(AA|AR)\|%s\r(?:ERR\|\|\|(\d+))?" % name, answer or b"")
+            answered.setdefault(code and code.groups(), []).append(name)
+            if not answer:
+                break
+    return answered
+
+
+def use_reserve(gateway, names):
+    """Fills the disk, and sends until what is accepted has taken the reserve: all that was accepted."""
+    reserve = gateway.folder / "reserve"
+    has = lambda size: reserve.exists() and reserve.stat().st_size == size
+    while not has(RESERVE) and time.monotonic() < gateway.until:
+        time.sleep(0.01)
+    fill(gateway.folder / "others")
+    answered = send(gateway, names, 200, lambda: has(0))
+    same("the codes on a full disk, and whether the reserve was taken", ([(b"AA", None)], True), (list(answered), has(0)))
+    return answered[b"AA", None]
+
+
+def is_short(gateway, stated, times):
+    """Waits until the gateway says as often that its disk is short of room, or that it isn't, and goes by it."""
+    gateway.wait(SHORT if stated else "the disk has room again: messages are taken", times)
+    status = [gateway.program, "tell", "folder", "status", "--json"]
+    # (its line comes before it goes by it)
+    while json.loads(subprocess.run(status, cwd=gateway.room, capture_output=True, timeout=20).stdout)["short_of_room"] != stated:
+        time.sleep(0.01)
+
+
+def full_disk(gateway):
+    """Another's file fills the disk. What is accepted then takes the reserve's room, and messages are answered AR with 207 from then on.
+    Where that room is gone too, nothing is answered AA, and the gateway ends. It starts on a full disk, and answers AR.
+    Once there is room again, all that was answered AA arrives, and nothing that was answered AR."""
+    names, wards, others = (b"M%07d" % it for it in itertools.count()), Receiver(), gateway.folder / "others"
+    wards.close()
+    with small_disk(gateway.folder):
+        gateway.play(WARDS=wards, ARCHIVE=Receiver())
+        gateway.start()
+        accepted = use_reserve(gateway, names)
+        fill(others)
+        answered = send(gateway, names, 200)
+        accepted += answered.pop((b"AA", None), [])
+        same("codes where no room is left", [None], list(answered))
+        gateway.ends(3, ["fault 3"])
+        gateway.start()
+        for times in (1, 2):
+            is_short(gateway, True, times)
+            turned_away = send(gateway, names, 3)
+            same("codes while the disk is short of room", [(b"AR", b"207")], list(turned_away))
+            others.unlink()
+            is_short(gateway, False, times)
+            accepted += send(gateway, names, 3)[b"AA", None]
+            if times == 1:
+                wards.open(wards.port)
+                accepted += use_reserve(gateway, names)
+        all_arrived(gateway, accepted, 1)
+        for name, receiver in gateway.receivers.items():
+            came = {control(it) for it in receiver.blocks}
+            same(f"what {name} got of what was answered AR", set(), came & set(turned_away[b"AR", b"207"]))
+        gateway.kill()
