@@ -12,7 +12,7 @@ import time
 from concurrent.futures import ThreadPoolExecutor
 
 from gateway import LISTENS, REPORT, RESERVE, Receiver, control
-from loopback import ANSWERS, LEFT, Differs, same
+from loopback import LEFT, Differs, same
 from preload import library_in
 
 # How many spools one gateway opens at once, each of a receiver of its own.
@@ -79,7 +79,7 @@ def refused(gateway, files, what, places):
 
 
 def torn(gateway):
-    """A crash in the midst of a write that wasn't synced leaves any part of a batch behind a closed gate: up to any byte, or with zeros before or behind any byte.
+    """A crash in the midst of a write that wasn't synced leaves part of a batch behind a closed gate: up to any byte, or with zeros before or behind one.
     The spool opens with what was synced, sends that, and takes new messages."""
     kept = [it[1:-2] for it in LEFT["WARDS"][:2]]
     synced = b"".join(map(entry, kept))
@@ -93,7 +93,7 @@ def torn(gateway):
     (gateway.folder / "spool/WARDS").mkdir()
     (gateway.folder / "spool/WARDS/1").write_bytes(synced + batch[:40])
     gateway.start()
-    gateway.answered(gateway.ask([REPORT]), ANSWERS[:1])
+    same("the code of a new message's answer", [(b"AA", None)], list(send(gateway, iter([b"LAB0007"]), 1)))
     gateway.receivers["WARDS"].has([*LEFT["WARDS"][:2], LEFT["WARDS"][0]], gateway.until)
     gateway.kill()
 
@@ -310,7 +310,7 @@ def small_disk(folder):
     """A disk of its own under this folder, while it is used."""
     made = subprocess.run(["mount", "-t", "tmpfs", "-o", f"size={RESERVE + BESIDE}", "none", folder], capture_output=True, text=True)
     if made.returncode:
-        raise Skipped(f"a disk of its own can't be mounted here: {made.stderr.strip()}")
+        raise Skipped(f"a disk of its own can't be mounted here: {made.stderr.splitlines()[0]}")
     try:
         yield
     finally:
