@@ -346,9 +346,9 @@ def use_reserve(gateway, names):
     return answered[b"AA", None]
 
 
-def is_short(gateway, stated, times):
-    """Waits until the gateway says as often that its disk is short of room, or that it isn't, and goes by it."""
-    gateway.wait(SHORT if stated else "the disk has room again: messages are taken", times)
+def is_short(gateway, stated):
+    """Waits until the gateway says that its disk is short of room, or that it isn't any more, and goes by it."""
+    gateway.wait(SHORT if stated else "the disk has room again: messages are taken")
     status = [gateway.program, "tell", "folder", "status", "--json"]
     # (its line comes before it goes by it)
     while json.loads(subprocess.run(status, cwd=gateway.room, capture_output=True, timeout=20).stdout)["short_of_room"] != stated:
@@ -357,7 +357,7 @@ def is_short(gateway, stated, times):
 
 def full_disk(gateway):
     """Another's file fills the disk. What is accepted then takes the reserve's room, and messages are answered AR with 207 from then on.
-    Where that room is gone too, nothing is answered AA, and the gateway ends. It starts on a full disk, and answers AR.
+    Where that room is gone too, nothing is answered AA, and the gateway ends.
     Once there is room again, all that was answered AA arrives, and nothing that was answered AR."""
     names, wards, others = (b"M%07d" % it for it in itertools.count()), Receiver(), gateway.folder / "others"
     wards.close()
@@ -370,17 +370,16 @@ def full_disk(gateway):
         accepted += answered.pop((b"AA", None), [])
         same("codes where no room is left", [None], list(answered))
         gateway.ends(3, ["fault 3"])
+        others.unlink()
         gateway.start()
-        for times in (1, 2):
-            is_short(gateway, True, times)
-            turned_away = send(gateway, names, 3)
-            same("codes while the disk is short of room", [(b"AR", b"207")], list(turned_away))
-            others.unlink()
-            is_short(gateway, False, times)
-            accepted += send(gateway, names, 3)[b"AA", None]
-            if times == 1:
-                wards.open(wards.port)
-                accepted += use_reserve(gateway, names)
+        accepted += use_reserve(gateway, names)
+        wards.open(wards.port)
+        is_short(gateway, True)
+        turned_away = send(gateway, names, 3)
+        same("codes while the disk is short of room", [(b"AR", b"207")], list(turned_away))
+        others.unlink()
+        is_short(gateway, False)
+        accepted += send(gateway, names, 3)[b"AA", None]
         all_arrived(gateway, accepted, 1)
         for name, receiver in gateway.receivers.items():
             came = {control(it) for it in receiver.blocks}
