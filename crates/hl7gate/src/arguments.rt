@@ -54,7 +54,7 @@ const ON_SERVE: &str =
     "Answers the messages of so many connections (MLLP) by a plan, and sends each receiver of the plan what it is due; each line on standard input is the file of a plan that takes its place";
 
 /// All commands, in the order in which the help lists them.
-const FORMS: [Form; 8] = [
+const FORMS: [Form; 9] = [
     Form {
         name: "validate",
         about: "Answers each message of a stream on standard input (MLLP) by a profile",
@@ -75,6 +75,13 @@ const FORMS: [Form; 8] = [
                 "Prints the values that break the profile too: they may be a patient's",
             ),
         ],
+    },
+    Form {
+        name: "identity",
+        about: "Prints the map from a profile to itself, to start another map from",
+        words: &[("PROFILE", "The file of the message profile")],
+        optional: &[],
+        options: &[],
     },
     Form {
         name: "check",

@@ -1,7 +1,7 @@
 //! The command `report`: every breach of each message of a stream.
 use crate::ended::Ended;
 use crate::maps::read_profile;
-use crate::refusals::{letters, say_place};
+use crate::refusals::{letters, write_place};
 use crate::report::{DONE, REFUSED, tell_if_none, write_all};
 use clap::ArgMatches;
 use gw_er7::{Message, Place, ReadFault, read_block};
@@ -116,7 +116,7 @@ fn write_line(
         return writeln!(out, "}}");
     }
     write!(out, "message {arrival}: {code} ")?;
-    say_place(out, breach);
+    write_place(out, breach)?;
     write!(out, ": {words}")?;
     if let Some(text) = text {
         write!(out, ": ")?;

@@ -14,6 +14,7 @@ mod files;
 mod gateway;
 mod hands;
 mod heard;
+mod identity;
 mod maps;
 mod outcome;
 mod plans;

@@ -2,6 +2,7 @@
 use crate::arguments::parse;
 use crate::breaches::report;
 use crate::ended::Ended;
+use crate::identity::identity;
 use crate::maps::{check, read_profile, translate};
 use crate::plans::run;
 use crate::report::{DONE, USAGE, status_if, tell, tell_if_none, tell_words};
@@ -67,6 +68,7 @@ fn done<'a, R: Files + Clock + AllocGlobal, I: Read, O: Write, E: Write + IsTerm
         Some(("validate", words)) => validated(rt, words, input, output, errors),
         Some(("report", words)) => report(rt, words, input, output, errors),
         Some(("run", words)) => ran(rt, words, input, output, errors),
+        Some(("identity", words)) => identity(rt, words, output),
         Some(("check", words)) => check(rt, words, output, errors),
         Some(("translate", words)) => translate(rt, words, input, output, errors),
         _ => Ok(USAGE),

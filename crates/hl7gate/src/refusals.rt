@@ -7,6 +7,7 @@ use gw_profile::ProfileFault;
 use gw_stream::RunFault;
 use gw_validate::Breach;
 use std::fmt::Display;
+use std::io;
 use std::io::Write;
 
 /// The number of allocation failure, whatever was read.
@@ -150,10 +151,10 @@ pub(crate) fn tell_message<E: Write>(errors: &mut E, fault: ReadFault) -> u8 {
     tell_refused(errors, subject, fault.number(), Place::Whole, &fault)
 }
 
-/// Prints where a breach is: the segment's name, its sequence, field, repetition, component and subcomponent, up to the last that is said.
-pub(crate) fn say_place<E: Write>(errors: &mut E, breach: Breach) {
+/// Writes where a breach is: the segment's name, its sequence, field, repetition, component and subcomponent, up to the last that is said.
+pub(crate) fn write_place<O: Write>(output: &mut O, breach: Breach) -> io::Result<()> {
     let (first, second, third) = letters(breach.segment);
-    let _ = write!(errors, "{first}{second}{third}");
+    write!(output, "{first}{second}{third}")?;
     for number in [
         breach.sequence,
         breach.field,
@@ -162,16 +163,17 @@ pub(crate) fn say_place<E: Write>(errors: &mut E, breach: Breach) {
         breach.sub,
     ] {
         if number > 0 {
-            let _ = write!(errors, "^{number}");
+            write!(output, "^{number}")?;
         }
     }
+    Ok(())
 }
 
 /// Reports what a message breaks: the code and the place.
 pub(crate) fn tell_breach<E: Write>(errors: &mut E, breach: Breach) -> u8 {
     let code = breach.code();
     let _ = write!(errors, "breaks {code} ");
-    say_place(errors, breach);
+    let _ = write_place(errors, breach);
     let _ = writeln!(errors);
     REFUSED
 }
