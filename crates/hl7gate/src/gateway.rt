@@ -8,6 +8,7 @@ mod folder;
 mod forwarders;
 mod hub;
 mod links;
+mod numbers;
 mod outgoing;
 mod refusals;
 mod refused;

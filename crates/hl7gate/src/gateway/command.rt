@@ -8,6 +8,7 @@ use crate::gateway::control::{attend_all, control_path};
 use crate::gateway::folder::Folder;
 use crate::gateway::forwarders::forward_all;
 use crate::gateway::hub::Hub;
+use crate::gateway::numbers::Numbers;
 use crate::gateway::outgoing::Outgoing;
 use crate::gateway::rounds::rounds;
 use crate::gateway::row::{Row, RowFault};
@@ -136,12 +137,13 @@ fn go_on<
     D: Read + Drop + Send + Sync,
 >(
     hub: &Hub<'_, R>,
-    gate: Gate,
+    begun: (Numbers, Gate),
     listener: TcpListener,
     control: UnixListener,
     sizes: Sizes,
 ) -> Option<RunFault> {
     let at = listener.local_addr().ok();
+    let (mut numbers, gate) = begun;
     let mut end = None;
     thread::scope(
         thread::scope_env(),
@@ -170,7 +172,7 @@ fn go_on<
             if !has_all {
                 hub.fail(RunFault::Memory);
             }
-            end = rounds(hub, gate, sizes.workers);
+            end = rounds(hub, gate, &mut numbers, sizes.workers);
             hub.end_sending();
             wake(hub.rt, at, &hub.folder.path);
         },
@@ -224,10 +226,8 @@ fn keep<
     };
     let listener = listen(rt, words)?;
     let hub = Hub::new(rt, alloc, start, &folder, &plan, spools)?;
-    let Ok(gate) = Gate::begin(alloc, plan) else {
-        return Err(Ended::Run(RunFault::Memory));
-    };
-    Ok(go_on(&hub, gate, listener, control, sizes))
+    let begun = Numbers::open(rt, &folder, plan)?;
+    Ok(go_on(&hub, begun, listener, control, sizes))
 }
 
 /// Does what the words say, and answers the status.

@@ -22,16 +22,18 @@ spool/NAME/N       messages that wait for the receiver NAME, in order; the files
                    a changed byte is damage, and the gateway then sends nothing of that file
 refused/NAME.mllp  messages that NAME answered AE, or AR three times, as framed messages; the gateway only adds to it
 refusals.log       a line for each message that was answered AE or AR: when, session, number, control id, code and place
+numbers            numbers of messages and entries up to which all may have been given: those of the next start are above
 reserve            room on the disk for what was accepted, used when the disk is full
 lock               locked by the gateway that works here
 
 These files hold patients' data. Copy or move them only while no gateway works here.
 ";
 
-/// The folder: its path, the room that is kept free, the log of refusals, and the file that locks it.
+/// The folder: its path, whether it was made ready just now, the room that is kept free, the log of refusals, and the file that locks it.
 #[derive(Drop)]
 pub(crate) struct Folder {
     pub(crate) path: String,
+    pub(crate) is_new: bool,
     pub(crate) reserve: File,
     pub(crate) log: File,
     // (the lock lasts as long as its file is open)
@@ -39,7 +41,7 @@ pub(crate) struct Folder {
 }
 
 /// Why a file of the folder can't be made or written.
-fn unwritten<'a>(alloc: Global, file: &str, error: &io::Error) -> Ended<'a> {
+pub(crate) fn unwritten<'a>(alloc: Global, file: &str, error: &io::Error) -> Ended<'a> {
     match (error.kind(), String::from_str(alloc, file)) {
         (ErrorKind::OutOfMemory, _) | (_, Err(_)) => Ended::Run(RunFault::Memory),
         (_, Ok(file)) => Ended::Unwritten { file },
@@ -60,12 +62,30 @@ fn open_log<R: Files<File = File>>(rt: &R, path: &str) -> io::Result<File> {
     options.open(rt, path)
 }
 
-/// Makes a folder, unless it is there.
-pub(crate) fn make_folder<R: Files>(rt: &R, path: &str) -> io::Result<()> {
+/// Makes a folder, unless it is there. Says whether it was made.
+pub(crate) fn make_folder<R: Files>(rt: &R, path: &str) -> io::Result<bool> {
     match fs::create_dir(rt, path) {
-        Err(error) if error.kind() == ErrorKind::AlreadyExists => Ok(()),
-        made => made,
+        Ok(()) => Ok(true),
+        Err(error) if error.kind() == ErrorKind::AlreadyExists => Ok(false),
+        Err(error) => Err(error),
     }
+}
+
+/// Writes a file of a folder anew. After a crash at any moment the file is the one before, or this one, whole.
+pub(crate) fn write_file<R: Files<File = File> + AllocGlobal>(
+    rt: &R,
+    folder: &str,
+    name: &str,
+    bytes: &[u8],
+) -> io::Result<()> {
+    let path = format!(in rt.alloc(); "{folder}/{name}")?;
+    let next = format!(in rt.alloc(); "{folder}/{name}.new")?;
+    let file = open_private(rt, &next)?;
+    file.set_len(0)?;
+    file.write_all_at(bytes, 0)?;
+    file.sync_all()?;
+    fs::rename(rt, next.as_str(), path.as_str())?;
+    sync_folder(rt, folder)
 }
 
 /// Brings to the disk which files a folder has.
@@ -100,7 +120,12 @@ impl Folder {
         if lock.try_lock().is_err() {
             return Err(Ended::Taken { path });
         }
-        let reserve = Self::make(rt, path)?;
+        let is_new = Self::make(rt, path)?;
+        let name = format!(in alloc; "{path}/reserve")?;
+        let reserve = match open_private(rt, &name) {
+            Ok(reserve) => reserve,
+            Err(error) => return Err(unwritten(alloc, &name, &error)),
+        };
         let name = format!(in alloc; "{path}/refusals.log")?;
         let log = match open_log(rt, &name) {
             Ok(log) => log,
@@ -109,32 +134,31 @@ impl Folder {
         let path = String::from_str(alloc, path)?;
         Ok(Folder {
             path,
+            is_new,
             reserve,
             log,
             lock,
         })
     }
 
-    // Makes the folders, the page and the reserve.
+    // Makes the folders and the page. Says whether the folder of spools was made.
     fn make<'a, R: Files<File = File> + AllocGlobal>(
         rt: &R,
         path: &str,
-    ) -> Result<File, Ended<'a>> {
+    ) -> Result<bool, Ended<'a>> {
         let alloc = rt.alloc();
-        for name in ["spool", "refused"] {
+        let mut is_new = false;
+        for name in ["refused", "spool"] {
             let folder = format!(in alloc; "{path}/{name}")?;
-            if let Err(error) = make_folder(rt, &folder) {
-                return Err(unwritten(alloc, &folder, &error));
-            }
+            is_new = match make_folder(rt, &folder) {
+                Ok(is_made) => is_made,
+                Err(error) => return Err(unwritten(alloc, &folder, &error)),
+            };
         }
         let page = format!(in alloc; "{path}/README")?;
-        if let Err(error) = fs::write(rt, page.as_str(), PAGE) {
-            return Err(unwritten(alloc, &page, &error));
-        }
-        let name = format!(in alloc; "{path}/reserve")?;
-        match open_private(rt, &name) {
-            Ok(reserve) => Ok(reserve),
-            Err(error) => Err(unwritten(alloc, &name, &error)),
+        match fs::write(rt, page.as_str(), PAGE) {
+            Ok(()) => Ok(is_new),
+            Err(error) => Err(unwritten(alloc, &page, &error)),
         }
     }
 

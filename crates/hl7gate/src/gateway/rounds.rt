@@ -4,6 +4,7 @@ ghost use Rattle.std.specs.Thread.{IsSend, IsSync};
 
 use crate::doors::Who;
 use crate::gateway::hub::Hub;
+use crate::gateway::numbers::Numbers;
 use crate::gateway::outgoing::Filling;
 use crate::gateway::senders::attend;
 use crate::swaps::swap_or_lines;
@@ -259,15 +260,24 @@ fn round<
     Ok(gate)
 }
 
+/// One round at this gate. It gives the gate of the next, whose numbers are taken.
+fn round_and_numbers<
+    R: Threads + Wait + Clock + Files<File = File, Dir = D> + Eprint + AllocGlobal + Sync,
+    D: Read + Drop + Send + Sync,
+>(hub: &Hub<'_, R>, gate: Gate, numbers: &mut Numbers, workers: u64) -> Result<Gate, RunFault> {
+    let next = round::<Brand, R, D>(hub, Blank::new(PARTS), gate, workers)?;
+    numbers.go_on(hub.rt, &next)?;
+    Ok(next)
+}
+
 /// Rounds, until the gateway is stopped, or can't go on: that is the fault.
 pub(crate) fn rounds<
     R: Threads + Wait + Clock + Files<File = File, Dir = D> + Eprint + AllocGlobal + Sync,
     D: Read + Drop + Send + Sync,
->(hub: &Hub<'_, R>, first: Gate, workers: u64) -> Option<RunFault> {
+>(hub: &Hub<'_, R>, first: Gate, numbers: &mut Numbers, workers: u64) -> Option<RunFault> {
     let mut gate = first;
     for _ in hub.rt.forever() {
-        let blank = Blank::new(PARTS);
-        match round::<Brand, R, D>(hub, blank, gate, workers) {
+        match round_and_numbers(hub, gate, numbers, workers) {
             Ok(next) => gate = next,
             Err(fault) => {
                 hub.fail(fault);
@@ -275,6 +285,7 @@ pub(crate) fn rounds<
             }
         }
         if hub.has_ended() {
+            numbers.end(hub.rt, &gate);
             return hub.fault();
         }
     }
