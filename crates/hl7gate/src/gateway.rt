@@ -2,11 +2,13 @@
 //!
 //! A sender's message goes through the gate, as in `serve`. A spooler takes a courier's place there, and puts what a receiver is due into its spool on the disk.
 //! An answer waits until everything that its message leads to is there. A forwarder empties the spool, over connections that it makes anew.
+mod ages;
 mod command;
 mod control;
 mod folder;
 mod forwarders;
 mod hub;
+mod late;
 mod links;
 mod numbers;
 mod outgoing;

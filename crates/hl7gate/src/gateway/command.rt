@@ -8,6 +8,7 @@ use crate::gateway::control::{attend_all, control_path};
 use crate::gateway::folder::Folder;
 use crate::gateway::forwarders::forward_all;
 use crate::gateway::hub::Hub;
+use crate::gateway::late::look_at_all;
 use crate::gateway::numbers::Numbers;
 use crate::gateway::outgoing::Outgoing;
 use crate::gateway::rounds::rounds;
@@ -64,7 +65,7 @@ fn unopened<'a>(alloc: Global, fault: RowFault, folder: &str) -> Ended<'a> {
 }
 
 /// The spool of a receiver. Its name is letters, digits and `_`, so it lies in the folder and nowhere else.
-fn open_spool<'f, 'a, R: Files<File = File> + Eprint + AllocGlobal + Clone + Drop>(
+fn open_spool<'f, 'a, R: Files<File = File> + Clock + Eprint + AllocGlobal + Clone + Drop>(
     rt: &R,
     folder: &'f Folder,
     receiver: &Receiver,
@@ -84,11 +85,11 @@ fn open_spool<'f, 'a, R: Files<File = File> + Eprint + AllocGlobal + Clone + Dro
             folder.path
         );
     }
-    Ok(Outgoing::new(row))
+    Ok(Outgoing::new(rt, row))
 }
 
 /// The spools of a plan's receivers, in their order.
-fn open_spools<'f, 'a, R: Files<File = File> + Eprint + AllocGlobal + Clone + Drop>(
+fn open_spools<'f, 'a, R: Files<File = File> + Clock + Eprint + AllocGlobal + Clone + Drop>(
     rt: &R,
     folder: &'f Folder,
     plan: &Plan,
@@ -100,8 +101,8 @@ fn open_spools<'f, 'a, R: Files<File = File> + Eprint + AllocGlobal + Clone + Dr
     Ok(spools)
 }
 
-/// Looks from time to time whether the disk has room, until the gateway can't go on.
-fn watch_disk<R: Wait + Clock + Eprint>(hub: &Hub<'_, R>) {
+/// Looks from time to time whether the disk has room, and which receivers are late, until the gateway can't go on.
+fn watch_all<R: Wait + Clock + Eprint + AllocGlobal>(hub: &Hub<'_, R>) {
     for _ in hub.rt.forever() {
         let is_short = !hub.folder.has_reserve();
         if is_short != hub.is_short() {
@@ -115,6 +116,7 @@ fn watch_disk<R: Wait + Clock + Eprint>(hub: &Hub<'_, R>) {
             };
             hub.set_short(is_short);
         }
+        look_at_all(hub);
         for _fifth in 0..LOOK {
             if hub.has_ended() {
                 return;
@@ -156,7 +158,7 @@ fn go_on<
             { accept_all(hub, listener, sizes.connections) };
             let look = move ||
                 requires { IsSync R.row }
-            { watch_disk(hub) };
+            { watch_all(hub) };
             let hear = move ||
                 requires { IsSync R.row }
             { attend_all(hub, control) };

@@ -1,6 +1,7 @@
 //! The spool of one receiver, between the thread that fills it and the one that empties it.
 ghost use Rattle.std.specs.Prelude.{None};
 
+use crate::gateway::ages::Ages;
 use crate::gateway::refused::Refused;
 use crate::gateway::row::{Row, RowFault};
 use crate::gateway::safety::Safe;
@@ -13,7 +14,7 @@ use std::fs::File;
 use std::io::Eprint;
 use std::rt::Files;
 use std::sync::{Condvar, Mutex, Wait};
-use std::time::{Clock, Duration, Instant};
+use std::time::Clock;
 
 /// How often a message is sent that its receiver answers AR.
 const TRIES: u64 = 3;
@@ -33,8 +34,8 @@ struct Queue<'f> {
     is_connected: bool,
     taken: u64,
     refused: u64,
-    // when a record was taken or refused last, or nothing waited
-    moved: Option<Instant>,
+    ages: Ages,
+    is_late: bool,
 }
 
 /// How a receiver stands: how many records wait, for how many seconds the first has, whether it is connected, whether it is held, and how many it took and refused.
@@ -48,8 +49,36 @@ pub(crate) struct State {
     pub(crate) refused: u64,
 }
 
+impl Queue<'_> {
+    fn state<R: Clock>(&self, rt: &R) -> State {
+        State {
+            waiting: self.row.waiting(),
+            stuck: self.ages.oldest(rt),
+            is_connected: self.is_connected,
+            is_held: self.is_held,
+            taken: self.taken,
+            refused: self.refused,
+        }
+    }
+
+    // Brings all that was appended to the disk.
+    fn bring<R: Clock + Files<File = File> + AllocGlobal>(
+        &mut self,
+        rt: &R,
+    ) -> Result<(), RowFault> {
+        let before = self.row.waiting();
+        self.row.sync(rt)?;
+        let more = self.row.waiting().saturating_sub(before);
+        self.ages.spool(rt, more);
+        Ok(())
+    }
+}
+
 impl<'f> Outgoing<'f> {
-    pub(crate) fn new(row: Row<'f>) -> Self {
+    /// The spool over this row. What waits already counts from now on.
+    pub(crate) fn new<R: Clock + AllocGlobal>(rt: &R, row: Row<'f>) -> Self {
+        let mut ages = Ages::new(rt.alloc());
+        ages.spool(rt, row.waiting());
         Outgoing {
             queue: Mutex::new(Queue {
                 row,
@@ -58,7 +87,8 @@ impl<'f> Outgoing<'f> {
                 is_connected: false,
                 taken: 0,
                 refused: 0,
-                moved: None,
+                ages,
+                is_late: false,
             }),
             news: Condvar::new(),
         }
@@ -93,20 +123,18 @@ impl<'f> Outgoing<'f> {
 
     /// How the receiver stands.
     pub(crate) fn state<R: Wait + Clock>(&self, rt: &R) -> State {
-        let queue = self.queue.lock(rt);
-        let waiting = queue.row.waiting();
-        let stuck = match queue.moved {
-            Some(since) if waiting > 0 => since.elapsed(rt).unwrap_or(Duration::ZERO).as_secs(),
-            _ => 0,
-        };
-        State {
-            waiting,
-            stuck,
-            is_connected: queue.is_connected,
-            is_held: queue.is_held,
-            taken: queue.taken,
-            refused: queue.refused,
+        self.queue.lock(rt).state(rt)
+    }
+
+    /// Whether the first record has come to wait for more than these seconds since the last look, or doesn't any more. None: neither.
+    pub(crate) fn turn_late<R: Wait + Clock>(&self, rt: &R, seconds: u64) -> Option<bool> {
+        let mut queue = self.queue.lock(rt);
+        let is_late = queue.ages.oldest(rt) > seconds;
+        if is_late == queue.is_late {
+            return None;
         }
+        queue.is_late = is_late;
+        Some(is_late)
     }
 
     // Waits for a first record, and copies it. None: nothing more is sent.
@@ -187,11 +215,7 @@ impl<'a, 'f, R: Wait> Filling<'a, 'f, R> {
 
 impl<R: Wait + Clock + Files<File = File> + Eprint + AllocGlobal> Filling<'_, '_, R> {
     fn bring(&self) -> Result<(), RowFault> {
-        let mut queue = self.outgoing.queue.lock(self.rt);
-        if queue.row.waiting() == 0 {
-            queue.moved = Instant::now(self.rt).ok();
-        }
-        queue.row.sync(self.rt)
+        self.outgoing.queue.lock(self.rt).bring(self.rt)
     }
 }
 
@@ -282,7 +306,7 @@ impl<R: Wait + Clock + Files<File = File> + Eprint + AllocGlobal> Emptying<'_, '
     fn acknowledge(&self, is_taken: bool) -> Result<(), RowFault> {
         let mut queue = self.outgoing.queue.lock(self.rt);
         queue.row.acknowledge(self.rt)?;
-        queue.moved = Instant::now(self.rt).ok();
+        queue.ages.drop_first();
         if is_taken {
             queue.taken = queue.taken.saturating_add(1);
         } else {
