@@ -14,6 +14,7 @@ mod numbers;
 mod outgoing;
 mod refusals;
 mod refused;
+mod resend;
 mod rounds;
 mod row;
 mod safety;

@@ -160,7 +160,7 @@ fn go_on<
                 requires { IsSync R.row }
             { watch_all(hub) };
             let hear = move ||
-                requires { IsSync R.row }
+                requires { IsSync R.row × IsSend D.row × IsSync D.row }
             { attend_all(hub, control) };
             let mut has_all = scope.spawn(accept).is_ok()
                 && scope.spawn(look).is_ok()

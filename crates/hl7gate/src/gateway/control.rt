@@ -1,5 +1,6 @@
 //! Words to a running gateway, over the socket FOLDER/control: a line comes, an answer goes back, and the connection ends.
 use crate::gateway::hub::Hub;
+use crate::gateway::resend::resend;
 use crate::gateway::status;
 use std::alloc::{AllocError, Global};
 use std::fs::{File, Permissions};
@@ -19,7 +20,7 @@ const LONGEST: u64 = 4_096;
 const PATIENCE: u64 = 5;
 
 /// Which words there are.
-const WORDS: &str = "status [--json], swap PATH, hold NAME, go NAME, stop";
+const WORDS: &str = "status [--json], swap PATH, hold NAME, go NAME, resend NAME, stop";
 
 /// The path of a folder's socket.
 pub(crate) fn control_path(alloc: Global, folder: &str) -> Result<String, AllocError> {
@@ -58,7 +59,7 @@ fn hold<R: Wait + AllocGlobal>(
 }
 
 /// The answer to a line.
-fn answer<R: Wait + Clock + AllocGlobal>(
+fn answer<R: Wait + Clock + Files<File = File> + Eprint + AllocGlobal>(
     hub: &Hub<'_, R>,
     line: &str,
 ) -> Result<String, AllocError> {
@@ -74,6 +75,7 @@ fn answer<R: Wait + Clock + AllocGlobal>(
         ("swap", path) if !path.is_empty() => hub.ask_swap(path),
         ("hold", name) if !name.is_empty() => hold(hub, name, true),
         ("go", name) if !name.is_empty() => hold(hub, name, false),
+        ("resend", name) if !name.is_empty() => resend(hub, name),
         _ => format!(in alloc; "refused: the words are: {WORDS}\n"),
     }
 }
@@ -89,7 +91,10 @@ fn read_line<R: AllocGlobal>(rt: &R, stream: &UnixStream) -> io::Result<String> 
 }
 
 /// Answers one connection.
-fn attend<R: Wait + Clock + AllocGlobal>(hub: &Hub<'_, R>, stream: &UnixStream) -> io::Result<()> {
+fn attend<R: Wait + Clock + Files<File = File> + Eprint + AllocGlobal>(
+    hub: &Hub<'_, R>,
+    stream: &UnixStream,
+) -> io::Result<()> {
     stream.set_read_timeout(Some(Duration::from_secs(PATIENCE)))?;
     stream.set_write_timeout(Some(Duration::from_secs(PATIENCE)))?;
     let line = read_line(hub.rt, stream)?;
@@ -99,7 +104,7 @@ fn attend<R: Wait + Clock + AllocGlobal>(hub: &Hub<'_, R>, stream: &UnixStream) 
 }
 
 /// Answers one connection after another, until the gateway ends.
-pub(crate) fn attend_all<R: Wait + Clock + Eprint + AllocGlobal>(
+pub(crate) fn attend_all<R: Wait + Clock + Files<File = File> + Eprint + AllocGlobal>(
     hub: &Hub<'_, R>,
     listener: UnixListener,
 ) {

@@ -21,7 +21,9 @@ const PAGE: &[u8] =
 spool/NAME/N       messages that wait for the receiver NAME, in order; the files are numbered. Don't edit them:
                    a changed byte is damage, and the gateway then sends nothing of that file
 refused/NAME.mllp  messages that NAME answered AE, or AR three times, as framed messages; the gateway only adds to it
-refusals.log       a line for each message that was answered AE or AR: when, session, number, control id, code and place
+refused/NAME.resent  the same while they are put into the spool again (hl7gate tell FOLDER resend NAME)
+refusals.log       a line for each message that was answered AE or AR: when, session, number, control id, code and place;
+                   and for each receiver whose first message waits for more than a minute
 numbers            numbers of messages and entries up to which all may have been given: those of the next start are above
 reserve            room on the disk for what was accepted, used when the disk is full
 lock               locked by the gateway that works here

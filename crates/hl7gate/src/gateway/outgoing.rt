@@ -24,6 +24,8 @@ const TRIES: u64 = 3;
 pub(crate) struct Outgoing<'f> {
     queue: Mutex<Queue<'f>>,
     news: Condvar,
+    /// It is held while the file of what the receiver refuses is added to, or renamed.
+    pub(crate) refusals: Mutex<()>,
 }
 
 #[derive(Drop)]
@@ -91,7 +93,26 @@ impl<'f> Outgoing<'f> {
                 is_late: false,
             }),
             news: Condvar::new(),
+            refusals: Mutex::new(()),
         }
+    }
+
+    /// Puts a record behind the others, in memory alone.
+    pub(crate) fn put<R: Wait>(&self, rt: &R, bytes: &[u8]) -> Result<(), RowFault> {
+        match self.queue.lock(rt).row.append(bytes) {
+            Ok(()) => Ok(()),
+            Err(fault) => Err(RowFault { fault, path: None }),
+        }
+    }
+
+    /// Brings all that was appended to the disk, and has it sent.
+    pub(crate) fn bring<R: Wait + Clock + Files<File = File> + AllocGlobal>(
+        &self,
+        rt: &R,
+    ) -> Result<(), RowFault> {
+        let brought = self.queue.lock(rt).bring(rt);
+        self.news.notify_all();
+        brought
     }
 
     /// How many records wait.
@@ -156,7 +177,7 @@ impl<'f> Outgoing<'f> {
 }
 
 /// What a fault of a row is to who asked. One that the disk, or damage, is the cause of is reported once, with its place.
-fn reported<R: Eprint>(rt: &R, name: &[u8], fault: RowFault) -> StoreFault {
+pub(crate) fn reported<R: Eprint>(rt: &R, name: &[u8], fault: RowFault) -> StoreFault {
     let RowFault { fault, path } = fault;
     if fault == SpoolFault::Memory {
         return StoreFault::Memory;
@@ -207,16 +228,6 @@ impl<'a, 'f, R: Wait> Filling<'a, 'f, R> {
             synced: 0,
         }
     }
-
-    fn put(&self, bytes: &[u8]) -> Result<(), SpoolFault> {
-        self.outgoing.queue.lock(self.rt).row.append(bytes)
-    }
-}
-
-impl<R: Wait + Clock + Files<File = File> + Eprint + AllocGlobal> Filling<'_, '_, R> {
-    fn bring(&self) -> Result<(), RowFault> {
-        self.outgoing.queue.lock(self.rt).bring(self.rt)
-    }
 }
 
 impl<R: Wait + Clock + Files<File = File> + Eprint + AllocGlobal> Store for Filling<'_, '_, R> {
@@ -230,8 +241,8 @@ impl<R: Wait + Clock + Files<File = File> + Eprint + AllocGlobal> Store for Fill
         let Some(count) = self.count.checked_add(1) else {
             return Err(StoreFault::Memory);
         };
-        if let Err(fault) = self.put(bytes) {
-            return Err(reported(self.rt, self.name, RowFault { fault, path: None }));
+        if let Err(fault) = self.outgoing.put(self.rt, bytes) {
+            return Err(reported(self.rt, self.name, fault));
         }
         self.count = count;
         self.below = n.saturating_add(1);
@@ -242,10 +253,9 @@ impl<R: Wait + Clock + Files<File = File> + Eprint + AllocGlobal> Store for Fill
         if self.synced == self.count {
             return Ok(());
         }
-        if let Err(fault) = self.bring() {
+        if let Err(fault) = self.outgoing.bring(self.rt) {
             return Err(reported(self.rt, self.name, fault));
         }
-        self.outgoing.news.notify_all();
         self.safe.publish(self.rt, self.receiver, self.below);
         self.synced = self.count;
         Ok(())
@@ -315,13 +325,19 @@ impl<R: Wait + Clock + Files<File = File> + Eprint + AllocGlobal> Emptying<'_, '
         Ok(())
     }
 
+    // Adds the first record to the file of what the receiver refuses.
+    fn keep(&self, bytes: &[u8]) -> Result<bool, AllocError> {
+        let _held = self.outgoing.refusals.lock(self.rt);
+        self.refused.keep(self.rt, bytes)
+    }
+
     // The receiver refuses the first record.
     fn refuse(&mut self, bytes: &[u8], code: &str) -> Result<bool, StoreFault>
         ensures { Counts result self.old.count self.new.count }
     {
         let name = self.name.escape_ascii();
         let path = self.refused.path();
-        if self.refused.keep(self.rt, bytes)? {
+        if self.keep(bytes)? {
             let _ = eprintln!(self.rt; "receiver {name} answered {code}: the message is in {path}");
             return self.drop_first(false);
         }
