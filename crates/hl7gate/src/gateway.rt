@@ -12,6 +12,7 @@ mod late;
 mod links;
 mod numbers;
 mod outgoing;
+mod overlong;
 mod refusals;
 mod refused;
 mod resend;

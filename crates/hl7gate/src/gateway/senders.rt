@@ -4,6 +4,7 @@ ghost use Rattle.std.specs.Prelude.{⊤};
 use crate::doors::{Reporter, Who};
 use crate::gateway::hub::{Hub, Sender};
 use crate::gateway::links::watch;
+use crate::gateway::overlong::{is_overlong, reject};
 use crate::gateway::refusals::Logged;
 use crate::gateway::safety::{Needs, Waiting};
 use crate::gateway::whole::{End, Held, Whole};
@@ -47,6 +48,14 @@ impl<L: Ledger, R: Wait + Eprint> Gatekeeper<'_, '_, '_, L, R> {
         if let Some(Note::Added(receipt)) = self.reporter.notes().last() {
             let entries = (receipt.at as u64).saturating_add(1);
             self.hub.count_accepted(entries);
+        }
+    }
+
+    // A message is refused that no plan can judge: its number, or 0 where the journal is full, or an allocation fails.
+    fn refuse(&mut self) -> u64 {
+        match self.call(Event::Refuse(INTERNAL)) {
+            Ok(Reply::Refused { arrival }) => arrival,
+            _ => 0,
         }
     }
 }
@@ -138,9 +147,13 @@ fn answer_at_gate<L: Ledger, R: Wait + AllocGlobal + Clock + Eprint>(
     let mut writer = Barrier::new(Writes::new(logged), waiting);
     let mut reader = Reads::new(&mut whole);
     let answered = session(alloc, &mut door, &mut clock, &mut reader, &mut writer);
+    let (end, held) = whole.into_end();
+    if is_overlong(&answered) {
+        let number = door.refuse();
+        reject(hub, &sender.stream, sender.number, held.bytes(), number)?;
+    }
     let Gatekeeper { reporter, .. } = door;
     service.hand_in(reporter);
-    let (end, held) = whole.into_end();
     sender.held = held;
     sender.counts = sum(sender.counts, answered?);
     Ok(end)
@@ -162,6 +175,9 @@ fn turn_away<R: Wait + AllocGlobal + Clock>(
     let mut reader = Reads::new(&mut whole);
     let answered = answer_blocks(alloc, &mut judge, &mut reader, &mut writer);
     let (end, held) = whole.into_end();
+    if is_overlong(&answered) {
+        reject(hub, &sender.stream, sender.number, held.bytes(), 0)?;
+    }
     sender.held = held;
     sender.counts = sum(sender.counts, answered?);
     Ok(end)

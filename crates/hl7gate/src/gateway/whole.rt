@@ -54,6 +54,11 @@ impl Held {
         }
     }
 
+    /// What was read from the last message on that a session was about to get.
+    pub(crate) fn bytes(&self) -> &[u8] {
+        self.bytes.as_slice()
+    }
+
     // Whether a message has begun that has not ended.
     fn is_within(&self) -> bool {
         memchr(VT, self.bytes.get(self.ready..).unwrap_or(&[])).is_some()
