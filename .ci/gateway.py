@@ -8,7 +8,7 @@ import threading
 import time
 from pathlib import Path
 
-from loopback import BLOCK, MESSAGES, PLAN, SECRETS, Differs, Line, same, same_blocks, stamp, stated_once, told_once
+from loopback import ANSWERS, BLOCK, MESSAGES, PLAN, SECRETS, Differs, Line, same, same_blocks, stamp, stated_once, told_once
 
 SECONDS = 60
 # How many bytes of the disk a gateway keeps free.
@@ -19,6 +19,11 @@ LISTENS = r"listening on 127\.0\.0\.1:(\d+)"
 
 def control(block):
     return re.split(rb"[|\r]", block)[9]
+
+
+def numbered(number):
+    """The answer to the report under this number."""
+    return ANSWERS[0].replace(b"|G1|", b"|G%d|" % number)
 
 
 class Receiver:
@@ -166,3 +171,8 @@ class Gateway:
 
     def answered(self, got, stated):
         same_blocks("answers", [stated_once(it) for it in stated], [told_once(self.since, it or b"") for it in got])
+
+    def tell(self, *line):
+        """A word to the gateway: its status, and its lines with no address."""
+        ran = subprocess.run([self.program, "tell", "folder", *line], cwd=self.room, capture_output=True, text=True, timeout=20)
+        return ran.returncode, re.sub(r"127\.0\.0\.1:\d+", "ADDRESS", ran.stdout + ran.stderr)
