@@ -4,7 +4,7 @@
 use crate::ended::Ended;
 use crate::files::read_all;
 use crate::gateway::folder::{Folder, unwritten, write_file};
-use gw_gate::{Gate, MOST, Start};
+use gw_gate::{Gate, MAX_ENTRIES, Start};
 use gw_plan::Plan;
 use gw_stream::RunFault;
 use std::alloc::{AllocError, Global};
@@ -199,7 +199,7 @@ impl Numbers {
         rt: &R,
         gate: &Gate,
     ) -> Result<(), RunFault> {
-        if self.taken.saturating_sub(gate.end()) > MOST as u64 {
+        if self.taken.saturating_sub(gate.end()) > MAX_ENTRIES as u64 {
             return Ok(());
         }
         match self.take(rt, gate) {
