@@ -73,30 +73,16 @@ module _ {S : Type 0} (Settles : S → S → ℕ → Option Message → Outcome 
         total = subst IsTotal (sym made.counted) (total_one made.answer.code c p.total);
       }
 
-  pub gathers_sent : (mid : S) (here : Place) (after after' : Option (List ℕ)) (g g' : List ℕ) (c : Counts)
-      → Progress Settles old mid left reads here before after g c → Appends after after' g → g' ≡ []
-      → Progress Settles old mid left reads here before after' g' c
-  gathers_sent mid here after after' g g' c p all empty = record {
-    done = p.done;
-    each = p.each;
-    walks = p.walks;
-    sent = p.sent ++ g;
-    written = Appends-trans before after after' p.sent g p.written all;
-    whole = p.whole ∙ sym (ap (λ l. (p.sent ++ g) ++ l) empty ∙ append-nil (p.sent ++ g));
-    counted = p.counted;
-    number = p.number;
-    total = p.total;
-  }
-
-  pub gathers_on : (mid : S) (here there : Place) (after : Option (List ℕ)) (g : List ℕ) (c : Counts)
-      → Progress Settles old mid left reads here before after g c → Goes here there [] → Progress Settles old mid left reads there before after g c
-  gathers_on mid here there after g c p goes = record {
+  pub gathers_sent : (mid : S) (here there : Place) (after after' : Option (List ℕ)) (g g' : List ℕ) (c : Counts)
+      → Progress Settles old mid left reads here before after g c → Goes here there [] → Appends after after' g → g' ≡ []
+      → Progress Settles old mid left reads there before after' g' c
+  gathers_sent mid here there after after' g g' c p goes all empty = record {
     done = p.done;
     each = p.each;
     walks = subst (Walks left reads there) (append-nil (map content_of p.done)) (goes left reads (map content_of p.done) p.walks);
-    sent = p.sent;
-    written = p.written;
-    whole = p.whole;
+    sent = p.sent ++ g;
+    written = Appends-trans before after after' p.sent g p.written all;
+    whole = p.whole ∙ sym (ap (λ l. (p.sent ++ g) ++ l) empty ∙ append-nil (p.sent ++ g));
     counted = p.counted;
     number = p.number;
     total = p.total;

@@ -5,6 +5,7 @@ use Rattle.std.proofs.KnownBytes.{Appends-nil, Appends-trans}
 use Rattle.std.proofs.Math.Bool.{or-false}
 use Rattle.std.proofs.lemmas.Bool.{cond_both, eqb-true, eqb-false, false_from_ne_true, or_parts}
 use Rattle.std.proofs.lemmas.List.{get_or-map, get_or-set_other, get_or-set_same, length-map, map-append, map-set, take_more, take-append-drop}
+use Rattle.std.proofs.lemmas.Result.{on_ok_weaker, on_err_weaker}
 use Rattle.std.specs.Io.KnownBytes.{Appends}
 use Rattle.std.specs.List.{list_any}
 use Rattle.std.specs.Prelude.{slice_index_or, slice_set, ◌==◌, if◌then◌else◌}
@@ -140,6 +141,9 @@ pub sender_in_part : (ps : List Post) (olds news : List (Option (List ℕ))) (ol
 sender_in_part ps olds news old new bytes out p =
     some_behind ps (record { whom = sender; bytes = bytes } ∷ []) (all_held old olds) (all_held old news) (all_held new news) (out old)
     (record { sent = record { whom = sender; bytes = p.0 } ∷ []; begins = cut sender bytes p.0 p.2; sends = sends_to_sender news old new p.0 p.1 })
+
+-- for what was sent to the receivers and then to the sender
+pub ruleset outcome = (on_ok_weaker, on_err_weaker, sender_last, sender_in_part)
 
 pub none_failed : (a b : Bool) → a ≡ false → b ≡ false → IsTrue (a || b) → ⊥
 none_failed a b p q is = cc

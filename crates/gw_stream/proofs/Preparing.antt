@@ -1,12 +1,12 @@
 -- What is prepared of a content.
 use Rattle.std.proofs.Common.{◌≡◌, ◌||◌, ℕ, zero, suc, true, List, Option, Some, Ok, ◌≤◌, length, [], ◌∷◌, ◌++◌, map, take, ◌+◌, arith, rules}
-use Rattle.std.proofs.Common.{subst, sym, ap, ◌∙◌, refl}
-use Rattle.std.proofs.Math.Bool.{or-true}
+use Rattle.std.proofs.Common.{subst, sym, ap, ◌∙◌, refl, get_or}
 use Rattle.std.proofs.lemmas.Bool.{eq-eqb}
 use Rattle.std.proofs.lemmas.List.{length-map, take_all, take_more}
-use Rattle.std.proofs.lemmas.Option.{get_or_from_slice_get, same_Some, slice_get_within}
+use Rattle.std.proofs.lemmas.List.Folds.{list_any_at}
+use Rattle.std.proofs.lemmas.Option.{get_or_from_slice_get, slice_get_within}
 use Rattle.std.specs.Arc.{arc_value}
-use Rattle.std.specs.List.{AllZip, list_any}
+use Rattle.std.specs.List.{AllZip}
 use Rattle.std.specs.Map.{lookup}
 use Rattle.std.specs.Prelude.{◌-◌, ◌^◌, min, nat_eq, slice_get}
 use Rattle.gw_ack.specs.declared.receipt.Ack.{Ack}
@@ -18,9 +18,11 @@ use Rattle.gw_er7.specs.Message.{SegmentValue}
 use Rattle.gw_er7.specs.Written.{written}
 use Rattle.gw_mllp.specs.Stream.{block}
 use Rattle.gw_plan.specs.Admitted.{ConformingHeld, IsAdmitted, IsOf}
-use Rattle.gw_plan.specs.Held.{PlanHeld, RouteHeld, leg, plan_value, route_value}
+use Rattle.gw_plan.specs.Held.{PlanHeld, RouteHeld, map_between, plan_value, route_value}
 use Rattle.gw_plan.specs.Routing.{routed}
 use Rattle.gw_plan.specs.Shapes.{PlanValue, RouteValue}
+use Rattle.gw_plan.proofs.Alike.{numbers_are}
+use Rattle.gw_plan.proofs.Routes.{leg_keys}
 use Rattle.gw_plan.specs.Translating.{Translates}
 use Rattle.gw_validate.specs.Broken.{IsTreeOf}
 use Rattle.gw_stream.specs.declared.counts.Counts.{Counts}
@@ -32,7 +34,7 @@ use Rattle.gw_stream.specs.Counted.{with_answer, with_one}
 use Rattle.gw_stream.specs.own.Prepared.{ArePrepared, IsPrepared, Prepares, PlanSettles, ServesNot, ServesOne, cut, post, posts}
 use Rattle.gw_stream.specs.Posts.{Known, Sends, SendsSome, Whom, receiver, sender}
 use Rattle.gw_stream.specs.Served as served
-use Rattle.gw_stream.specs.Served.{AreDeliveries, Delivery, IsDelivery, IsServing, Serving, delivered, posts_of, receivers_of}
+use Rattle.gw_stream.specs.Served.{AreDeliveries, Delivery, IsDelivery, IsServing, Serving, delivered, posts_of, receivers_of, refused, rejected}
 
 -- ---- what a receiver is sent
 
@@ -57,21 +59,17 @@ is_prepared c number message route prepared t is to content =
 
 -- ---- what the receivers of a route are sent
 
-pub legs_of : (legs : List (ℕ × CheckedValue)) → map (λ l. l.0) (map leg legs) ≡ map (λ l. l.0) legs
-legs_of [] = refl
-legs_of (l ∷ legs) = ap (λ ns. l.0 ∷ ns) (legs_of legs)
-
--- a receiver of the route
-goes_to : (legs : List (ℕ × CheckedValue)) (i number : ℕ) → slice_get (map (λ l. l.0) legs) i ≡ Some number
-    → list_any (λ l. nat_eq number l.0) (map leg legs) ≡ true
-goes_to [] i number is = search rules
-goes_to (l ∷ legs) zero number is = ap (λ b. b || list_any (λ k. nat_eq number k.0) (map leg legs)) (eq-eqb number l.0 (sym (same_Some l.0 number is)))
-goes_to (l ∷ legs) (suc i) number is = ap (λ b. nat_eq number l.0 || b) (goes_to legs i number is) ∙ or-true (nat_eq number l.0)
-
 pub is_of : (c : ConformingHeld) (route : RouteHeld) (i number : ℕ) → routed (plan_value c.plan) c.tree.message ≡ Ok (route_value route)
     → slice_get (map (λ l. l.0) route.legs) i ≡ Some number
     → IsOf c number
-is_of c route i number is at = record { route = route_value route; routed_so = is; goes = goes_to route.legs i number at }
+is_of c route i number is at =
+    let numbers = map (λ (l : ℕ × CheckedValue). l.0) route.legs in
+    let here : nat_eq number (get_or numbers i 0) ≡ true = eq-eqb number (get_or numbers i 0) (sym (get_or_from_slice_get numbers i number 0 at)) in
+    record {
+      route = route_value route;
+      routed_so = is;
+      goes = sym (leg_keys map_between number route.legs) ∙ list_any_at (nat_eq number) numbers i 0 (slice_get_within numbers i number at) here;
+    }
 
 zip_push : {A B : Type 0} (R : A → B → Type 0) (xs : List A) (ys : List B) (x : A) (y : B) → AllZip R xs ys → R x y → AllZip R (xs ++ x ∷ []) (ys ++ y ∷ [])
 zip_push R [] [] x y each one = (one, tt)
@@ -86,7 +84,7 @@ pub prepared_next : (m : List SegmentValue) (route : RouteHeld) (i number : ℕ)
     → AllZip (IsPrepared m (route_value route)) (take (i + 1) (receivers_of (route_value route))) (ps ++ p ∷ [])
 prepared_next m route i number ps p each at one =
     let numbers = receivers_of (route_value route) in
-    let there : slice_get numbers i ≡ Some number = ap (λ l. slice_get l i) (legs_of route.legs) ∙ at in
+    let there : slice_get numbers i ≡ Some number = ap (λ l. slice_get l i) (numbers_are map_between route.legs) ∙ at in
     let taken : take (i + 1) numbers ≡ take i numbers ++ number ∷ [] =
     take_more numbers i 0 (slice_get_within numbers i number there) ∙ ap (λ n. take i numbers ++ n ∷ []) (get_or_from_slice_get numbers i number 0 there) in
     subst (λ l. AllZip (IsPrepared m (route_value route)) l (ps ++ p ∷ [])) (sym taken)
@@ -106,32 +104,24 @@ pub are_prepared : (c : ConformingHeld) (route : RouteHeld) (i : ℕ) (ps : List
     → AllZip (IsPrepared c.tree.message (route_value route)) (take i (receivers_of (route_value route))) ps → ArePrepared (plan_value c.plan) c.tree.message ps
 are_prepared c route i ps is all each =
     let numbers = receivers_of (route_value route) in
-    let long : length numbers ≡ length route.legs = ap length (legs_of route.legs) ∙ length-map route.legs (λ l. l.0) in
+    let long : length numbers ≡ length route.legs = ap length (numbers_are map_between route.legs) ∙ length-map route.legs (λ l. l.0) in
     let whole : take i numbers ≡ numbers = take_all i numbers (omega arith) in
     record { route = route_value route; routed_so = is; each = subst (λ l. AllZip (IsPrepared c.tree.message (route_value route)) l ps) whole each }
 
 -- ---- what a content gets
 
 -- what they hold
-record Opened (m : List SegmentValue) (route : RouteValue) (numbers : List ℕ) (ps : List program.Delivery) : Type 0 where
-  deliveries : List Delivery
-  each : AllZip (IsDelivery m route) numbers deliveries
-  posts_are : map post ps ≡ map delivered deliveries
-  many : length ps ≡ length deliveries
-
 opened : (m : List SegmentValue) (route : RouteValue) (numbers : List ℕ) (ps : List program.Delivery) → AllZip (IsPrepared m route) numbers ps
-    → Opened m route numbers ps
-opened m route [] [] each = record { deliveries = []; each = tt; posts_are = refl; many = refl }
+    → (ds : List Delivery) × AllZip (IsDelivery m route) numbers ds × (map post ps ≡ map delivered ds)
+opened m route [] [] each = ([], tt, refl)
 opened m route [] (p ∷ ps) each = absurd each
 opened m route (n ∷ ns) [] each = absurd each
 opened m route (n ∷ ns) (p ∷ ps) each =
-    let others = opened m route ns ps each.1 in
-    record {
-      deliveries = each.0.delivery ∷ others.deliveries;
-      each = (each.0.is_delivery, others.each);
-      posts_are = ap (λ x. x ∷ map post ps) each.0.is_post ∙ ap (λ l. delivered each.0.delivery ∷ l) others.posts_are;
-      many = ap suc others.many;
-    }
+    let others = opened m route ns ps each.1 in (
+      each.0.delivery ∷ others.0,
+      (each.0.is_delivery, others.1),
+      ap (λ x. x ∷ map post ps) each.0.is_post ∙ ap (λ l. delivered each.0.delivery ∷ l) others.2,
+    )
 
 pub prepares_all : (plan : PlanHeld) (m : Message) (c : ConformingHeld) (ps : List program.Delivery) → IsAdmitted plan 0 m c
     → ArePrepared (plan_value c.plan) c.tree.message ps → Prepares (plan_value plan) (Some m) Accept ps
@@ -141,58 +131,53 @@ prepares_all plan m c ps admitted prepared =
     let by_message : ArePrepared (plan_value plan) m ps = subst (λ (l : Message). ArePrepared (plan_value plan) l ps) admitted.message by_plan in
     let all = opened m by_message.route (receivers_of by_message.route) ps by_message.each in
     record {
-      deliveries = all.deliveries;
-      are_deliveries = served.accepted m by_message.route by_message.routed_so all.deliveries all.each;
-      are_posts = all.posts_are;
-      many = all.many;
+      deliveries = all.0;
+      are_deliveries = served.accepted m by_message.route by_message.routed_so all.0 all.1;
+      are_posts = all.2;
     }
 
 pub prepares_none : (plan : PlanValue) (what : Option Message) (reply : Reply) (ps : List program.Delivery) → AreDeliveries plan what reply [] → ps ≡ []
     → Prepares plan what reply ps
-prepares_none plan what reply ps none is = record { deliveries = []; are_deliveries = none; are_posts = ap (map post) is; many = ap length is }
+prepares_none plan what reply ps none is = record { deliveries = []; are_deliveries = none; are_posts = ap (map post) is }
+
+-- for what receivers are sent, whatever is said
+pub ruleset prepares = (refused, rejected, prepares_all, prepares_none)
 
 -- ---- a content that was judged under a plan
 
--- what it gets
-pub record Made (plan : PlanValue) (stamp : List ℕ) (number : ℕ) (content : List ℕ) (ps : List program.Delivery) (a : Answer) : Type 0 where
-  pub serving : Serving
-  pub is_serving : IsServing plan stamp number content serving
-  pub code : a.code ≡ serving.answer.code
-  pub are_posts : posts ps (block a.content) ≡ posts_of serving
-  pub many : length ps ≡ length serving.deliveries
+module _ (old new : UnderPlan) (number : ℕ) (content : List ℕ) (a : Answer) (is : IsSettled (PlanSettles old new number) content a) where
+  -- what it gets
+  abbrev serving : Serving
+  serving = record { answer = a; deliveries = is.settles.prepares.deliveries }
 
-pub is_made : (old new : UnderPlan) (number : ℕ) (content : List ℕ) (a : Answer) → IsSettled (PlanSettles old new number) content a
-    → Made (plan_value (arc_value old.plan)) old.stamp number content new.deliveries.items a
-is_made old new number content a is =
-    let packs = is.settles.prepares in
-    record {
-      serving = record { answer = a; deliveries = packs.deliveries };
-      is_serving = record {
-        what = is.what;
-        is_read = is.is_read;
-        outcome = is.outcome;
-        settles = record { says = is.settles.says; sends = packs.are_deliveries };
-        code = is.code;
-        spelled = is.spelled;
-      };
-      code = refl;
-      are_posts = ap (λ l. l ++ record { whom = sender; bytes = block a.content } ∷ []) packs.are_posts;
-      many = packs.many;
-    }
+  is_serving : IsServing (plan_value (arc_value old.plan)) old.stamp number content serving
+  is_serving = record {
+    what = is.what;
+    is_read = is.is_read;
+    outcome = is.outcome;
+    settles = record { says = is.settles.says; sends = is.settles.prepares.are_deliveries };
+    code = is.code;
+    spelled = is.spelled;
+  }
 
-pub serves_one : (plan : PlanValue) (stamp content : List ℕ) (ps : List program.Delivery) (a : Answer) (k k' : Known) (c c' : Counts)
-    → Made plan stamp (c.answered + 1) content ps a → Sends (posts ps (block a.content)) k k' → c' ≡ with_one a.code (length ps) c
-    → ServesOne plan stamp content k k' c c'
-serves_one plan stamp content ps a k k' c c' made sent counted = record {
-  serving = made.serving;
-  is_serving = made.is_serving;
-  sends = subst (λ l. Sends l k k') made.are_posts sent;
-  counted = counted ∙ ap (λ code. with_one code (length ps) c) made.code ∙ ap (λ n. with_one made.serving.answer.code n c) made.many;
-}
+  many : length new.deliveries.items ≡ length is.settles.prepares.deliveries
+  many = sym (length-map new.deliveries.items post) ∙ ap length is.settles.prepares.are_posts ∙ length-map is.settles.prepares.deliveries delivered
 
-pub serves_cut : (plan : PlanValue) (stamp : List ℕ) (number : ℕ) (content : List ℕ) (ps : List program.Delivery) (a : Answer) (k k' : Known)
-    → Made plan stamp number content ps a → SendsSome (posts ps (block a.content)) k k' → ServesNot plan stamp number content k k' Write
-serves_cut plan stamp number content ps a k k' made sent = cut k' made.serving made.is_serving (subst (λ l. SendsSome l k k') made.are_posts sent)
+  are_posts : posts new.deliveries.items (block a.content) ≡ posts_of serving
+  are_posts = ap (λ l. l ++ record { whom = sender; bytes = block a.content } ∷ []) is.settles.prepares.are_posts
+
+  pub serves_one : (k k' : Known) (c c' : Counts) → number ≡ c.answered + 1 → Sends (posts new.deliveries.items (block a.content)) k k'
+      → c' ≡ with_one a.code (length new.deliveries.items) c → ServesOne (plan_value (arc_value old.plan)) old.stamp content k k' c c'
+  serves_one k k' c c' same sent counted = record {
+    serving = serving;
+    is_serving = subst (λ n. IsServing (plan_value (arc_value old.plan)) old.stamp n content serving) same is_serving;
+    sends = subst (λ l. Sends l k k') are_posts sent;
+    counted = counted ∙ ap (λ n. with_one a.code n c) many;
+  }
+
+  pub serves_cut : (k k' : Known) → SendsSome (posts new.deliveries.items (block a.content)) k k'
+      → ServesNot (plan_value (arc_value old.plan)) old.stamp number content k k' Write
+  serves_cut k k' sent = cut k' serving is_serving (subst (λ l. SendsSome l k k') are_posts sent)
 
 pub counted_one : (code : Ack) (blocks : ℕ) (c with_it with_sent : Counts) → with_it ≡ with_answer code c
     → with_sent ≡ record with_it { sent = min (with_it.sent + blocks) (2 ^ 64 - 1) } → with_sent ≡ with_one code blocks c

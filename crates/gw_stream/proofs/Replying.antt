@@ -1,13 +1,11 @@
 -- That a block may hold what is answered, and what is written for a message.
-use Rattle.std.proofs.Common.{◌≡◌, ◌⊎◌, inl, inr, ◌+◌, ◌≤◌, ℕ, true, false, not, cond, nat_lt, length, length-append, lt-ltb, List, [], ◌∷◌, ◌++◌, Some, arith}
+use Rattle.std.proofs.Common.{◌≡◌, ◌+◌, ◌≤◌, ℕ, true, false, not, cond, nat_lt, length, length-append, lt-ltb, List, [], ◌∷◌, ◌++◌, Some, arith}
 use Rattle.std.proofs.Common.{ap, ◌∙◌, refl}
 use Rattle.std.specs.List.{prefix_len, position}
 use Rattle.gw_ack.specs.declared.receipt.Ack.{Ack}
 use Rattle.gw_ack.specs.Acknowledged.{Acknowledges}
-use Rattle.gw_er7.specs.declared.fault.ReadFault.{ReadFault}
-use Rattle.gw_er7.specs.declared.fault.ReadFault.TheVariants.{Control, Memory}
+use Rattle.gw_er7.specs.declared.fault.ReadFault.TheVariants.{Control}
 use Rattle.gw_er7.specs.Content.{is_allowed}
-use Rattle.gw_er7.specs.Faults.{Faulty}
 use Rattle.gw_er7.specs.Message.{SegmentValue, IsMessage}
 use Rattle.gw_er7.specs.Written.{written}
 use Rattle.gw_er7.proofs.Again.{known}
@@ -41,8 +39,3 @@ written_has_no_end (s ∷ ss) is before after e =
     let found : position (λ b. not (is_allowed b)) (written (s ∷ ss)) ≡ Some bad.0 = ap (position (λ b. not (is_allowed b))) e ∙ bad.1 in
     let none = (known s ss is).clean.none in
     cc
-
--- a fault that isn't an allocation failure is the content's
-pub is_faulty : (content : List ℕ) (fault : ReadFault) → ¬ (fault ≡ Memory) → (fault ≡ Memory) ⊎ Faulty content fault → Faulty content fault
-is_faulty content fault other (inl memory) = absurd (other memory)
-is_faulty content fault other (inr faulty) = faulty

@@ -5,14 +5,14 @@ use Rattle.std.proofs.lemmas.List.{length-map}
 use Rattle.std.proofs.KnownBytes.{Consumes-trans, Consumes-whole}
 use Rattle.std.specs.Io.KnownBytes.{Consumes, IsAtEnd}
 use Rattle.std.specs.List.{flat_map}
-use Rattle.gw_mllp.specs.Stream.{Blocks, Has, IsFed, Overlong, Between, Within, Tail, LongAfter, Part, spelled, content_of}
+use Rattle.gw_mllp.specs.Stream.{Blocks, Has, Held, IsFed, Stands, Overlong, Between, Within, Tail, LongAfter, Part, spelled, content_of}
 use Rattle.gw_stream.specs.declared.counts.Counts.{Counts}
 use Rattle.gw_stream.specs.declared.fault.RunFault.{RunFault}
 use Rattle.gw_stream.specs.declared.fault.RunFault.TheVariants.{Frame, Memory, Read, Turns, Write}
 use Rattle.gw_stream.specs.Reading.{ReadTimes, ReadsTooOften}
 use Rattle.gw_stream.specs.Streams.{Ends, HasFirst}
 use Rattle.gw_stream.specs.Streams as streams
-use Rattle.gw_stream.specs.Walked.{Place, Walks, Goes, EndsAt, Stops, WithinReads, memory, read, too_long, truncated, turns}
+use Rattle.gw_stream.specs.Walked.{Place, Walks, Goes, EndsAt, Stops, memory, read, too_long, truncated, turns}
 
 -- ---- a stream has no more blocks than bytes
 
@@ -81,16 +81,14 @@ goes_nowhere here left reads given w = subst (Walks left reads here) (sym (appen
 -- ---- ends
 
 -- nothing waits
-all_given : (here : Place) (left : Option (List ℕ)) (reads : ℕ) (given : List (List ℕ)) (w : Walks left reads here given) → here.blocks.decoder.waiting ≡ []
-    → Has w.taken given here.blocks.decoder.tail
-all_given here left reads given w none =
-    subst (λ l. Has w.taken l here.blocks.decoder.tail) (ap (λ l. given ++ l) none ∙ append-nil given) w.stands
+pub stands_all : (stream : List ℕ) (blocks : List (List ℕ)) (h : Held) → Stands stream blocks h → h.waiting ≡ [] → Has stream blocks h.tail
+stands_all stream blocks h stands none = subst (λ l. Has stream l h.tail) (ap (λ l. blocks ++ l) none ∙ append-nil blocks) stands
 
 -- the source is at its end
 pub ends_at : (here : Place) (after : Option (List ℕ)) (tail : Tail) → here.blocks.decoder.waiting ≡ [] → here.blocks.decoder.tail ≡ tail
     → Consumes here.left after [] → IsAtEnd after → EndsAt here tail
 ends_at here after tail none is eats end left reads given w =
-    let has : Has w.taken given tail = subst (λ t. Has w.taken given t) is (all_given here left reads given w none) in
+    let has : Has w.taken given tail = subst (λ t. Has w.taken given t) is (stands_all w.taken given here.blocks.decoder w.stands none) in
     Consumes-whole left after w.taken (λ stream. Has stream given tail)
     (subst (Consumes left after) (append-nil w.taken) (Consumes-trans left here.left after w.taken [] w.takes eats)) end has
 
@@ -101,11 +99,11 @@ consumed P None rest taken takes each = tt
 consumed P (Some stream) None taken takes each = absurd takes
 consumed P (Some stream) (Some more) taken takes each = subst P (sym takes) (each more)
 
--- the stream is Long
-pub ends_long : (here : Place) → here.blocks.decoder.waiting ≡ [] → here.blocks.decoder.tail ≡ Overlong → EndsAt here Overlong
-ends_long here none over left reads given w =
-    let long : LongAfter w.taken given = subst (λ t. Has w.taken given t) over (all_given here left reads given w none) in
-    consumed (λ stream. LongAfter stream given) left here.left w.taken w.takes (λ more. record {
+-- where what was taken is too long, the stream is
+pub long_whole : (left rest : Option (List ℕ)) (taken : List ℕ) (given : List (List ℕ)) → Consumes left rest taken → LongAfter taken given
+    → IfSome left (λ stream. LongAfter stream given)
+long_whole left rest taken given takes long =
+    consumed (λ stream. LongAfter stream given) left rest taken takes (λ more. record {
       front = long.front;
       more = long.more ++ more;
       whole = ap (λ l. l ++ more) long.whole ∙ append_assoc long.front long.more more;
@@ -113,6 +111,10 @@ ends_long here none over left reads given w =
       cut = long.cut;
       long = long.long;
     })
+
+pub ends_long : (here : Place) → here.blocks.decoder.waiting ≡ [] → here.blocks.decoder.tail ≡ Overlong → EndsAt here Overlong
+ends_long here none over left reads given w =
+    long_whole left here.left w.taken given w.takes (subst (Has w.taken given) over (stands_all w.taken given here.blocks.decoder w.stands none))
 
 -- ---- a run that stops in between
 
@@ -158,18 +160,6 @@ walk_counted left reads here given w all =
     let most = w.most in
     let is : here.blocks.turns ≡ 1000000 = omega arith in
     subst (λ n. ReadTimes n reads here.reads) is w.counted
-
--- ---- how often a run reads at most
-
--- nothing was read since
-pub within_here : (here : Place) (after : ℕ) → after ≡ here.reads → WithinReads here after
-within_here here after same left reads given w small =
-    let most = w.most in let there : here.reads ≡ reads + here.blocks.turns = w.counted (omega arith) in omega arith
-
--- one read was made since
-pub within_once : (here : Place) (after : ℕ) → here.blocks.turns < 1000000 → ReadTimes 1 here.reads after → WithinReads here after
-within_once here after early one left reads given w small =
-    let there : here.reads ≡ reads + here.blocks.turns = w.counted (omega arith) in let more = one (omega arith) in omega arith
 
 -- ---- faults
 

@@ -70,6 +70,7 @@ impl BlockReader {
 
     /// Reads a piece behind which blocks may end. False says that the stream has no more bytes.
     /// The faults are those of a run over a stream but `Write`: `Memory`, `Read`, `Frame(2)`, `Frame(3)` and `Turns`.
+    #[tactic(auto, using(crate::specs::Walked::memory, crate::specs::Walked::read, crate::specs::Walked::turns, crate::proofs::Walking::goes_nowhere))]
     pub(crate) fn fill<R: Source>(&mut self, reader: &mut R) -> Result<bool, RunFault>
         requires works { R.has_failed reader.old ≡ false }
         requires none { self.old.decoder.waiting ≡ [] }

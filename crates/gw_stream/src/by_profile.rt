@@ -1,6 +1,7 @@
 //! Messages, judged by one profile.
-ghost use Rattle.std.specs.Prelude.{IfOk};
+ghost use Rattle.std.specs.Prelude.{IfOk, ◌≡◌};
 ghost use Rattle.gw_stream.specs.Answers.{IsSaid, ValidatedBy};
+ghost use Rattle.gw_stream.specs.own.Gathered.{ProfileSettles};
 
 use crate::judge::{Judge, Outcome};
 use gw_ack::{INTERNAL, Reply, Stamp};
@@ -36,9 +37,6 @@ fn validated(
 }
 
 impl Judge for ByProfile {
-    ghost use Rattle.std.specs.Prelude.{◌≡◌};
-    ghost use Rattle.gw_stream.specs.own.Gathered.{ProfileSettles};
-
     ghost settles = { ProfileSettles };
 
     ghost breaks = { λ s t what. t ≡ s };

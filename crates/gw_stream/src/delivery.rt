@@ -20,6 +20,7 @@ pub(crate) struct Delivery {
 }
 
 /// The delivery of an admitted message to one receiver of its route.
+#[tactic(auto, using(crate::proofs::Preparing::is_prepared))]
 fn prepare_delivery(
     alloc: Global,
     conforming: &Arc<Conforming>,

@@ -19,6 +19,7 @@ pub(crate) struct Answer {
 }
 
 // Has what was read judged, and makes the answer to the sender that the header names.
+#[tactic(auto, using(crate::specs::Exchanges::begun, crate::proofs::Posting::err_gives, crate::proofs::Replying::acknowledges_has_no_end))]
 fn settle<J: Judge>(
     alloc: Global,
     judge: &mut J,
@@ -41,6 +42,7 @@ fn settle<J: Judge>(
 }
 
 /// Reads a content, has it judged, and makes its answer. `number` is its number in the stream.
+#[tactic(auto, using(crate::specs::Answers::readable, crate::specs::Exchanges::not_yet, crate::proofs::Posting::err_gives))]
 pub(crate) fn exchange<J: Judge>(
     alloc: Global,
     judge: &mut J,

@@ -21,6 +21,7 @@ pub(crate) fn framed(alloc: Global, content: &[u8]) -> Result<Vec<u8>, AllocErro
 }
 
 /// The block of a message. The one error is an allocation failure.
+#[tactic(auto, using(crate::proofs::Replying::written_has_no_end))]
 pub fn block_of(alloc: Global, message: &Message) -> Result<Vec<u8>, AllocError>
     ensures { IfOk result (λ bytes. bytes.items ≡ block (written message.now)) }
 {

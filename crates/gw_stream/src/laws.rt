@@ -20,6 +20,7 @@ pub fn one_answer()
 }
 
 /// Posts that were sent in part, in order, are for each one a beginning of what is meant for it.
+#[tactic(auto, using(crate::proofs::Posting::for_each))]
 pub fn a_beginning_for_each()
     ensures { (sent posts : List Post) (whom : Whom) → IsBeginning sent posts → BeginsWith (bytes_to whom posts) (bytes_to whom sent) }
 {}

@@ -38,6 +38,7 @@ fn gather<J: Judge>(
 }
 
 // Writes what was gathered when an allocation failed, and gives the fault that ends the run.
+#[tactic(auto, using(crate::proofs::Gathering::sent_so, crate::proofs::Gathering::cut_so))]
 fn send_last<W: Sink>(writer: &mut W, gathered: &[u8]) -> RunFault
     requires works { W.has_failed writer.old ≡ false }
     ensures { SentAtLast (W.contents writer.old) (W.contents writer.new) gathered.now (W.has_failed writer.new) result }

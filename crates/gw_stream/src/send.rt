@@ -29,6 +29,7 @@ pub fn send_all<W: Sink>(writer: &mut W, bytes: &[u8]) -> Result<(), Failed>
 }
 
 /// Writes all the bytes to the writer of a receiver.
+#[tactic(auto, using(std::proofs::lemmas::Result::on_ok_weaker, crate::proofs::Posting::sends_to, crate::proofs::Posting::any_set))]
 fn send_to<W: Sink>(outs: &mut Vec<W>, number: usize, bytes: &[u8]) -> Result<(), Failed>
     requires within { number < length outs.old.items }
     requires works { list_any W.has_failed outs.old.items ≡ false }
@@ -58,6 +59,7 @@ fn send_deliveries<W: Sink>(outs: &mut Vec<W>, deliveries: &[Delivery]) -> Resul
 }
 
 /// Writes the receivers' blocks in order, and then the answer's. Each goes out in one write where its writer takes it.
+#[tactic(auto, using(crate::proofs::Posting::outcome))]
 pub(crate) fn send_outcome<A: Sink, W: Sink>(
     answers: &mut A,
     outs: &mut Vec<W>,

@@ -57,6 +57,7 @@ pub fn answer_stream<R: Source, W: Sink>(
 }
 
 // Serves a content: makes all that it gets, writes that, and counts it.
+#[tactic(auto, using(crate::specs::own::Prepared::nothing_sent, crate::proofs::Preparing::serves_cut))]
 fn serve_content<A: Sink, W: Sink>(
     alloc: Global,
     judge: &mut UnderPlan,

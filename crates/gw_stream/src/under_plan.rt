@@ -4,7 +4,7 @@ ghost use Rattle.std.specs.Arc.{arc_value};
 ghost use Rattle.gw_plan.specs.Held.{plan_value};
 ghost use Rattle.gw_stream.specs.Answers.{IsSaid};
 ghost use Rattle.gw_stream.specs.Served.{Routed};
-ghost use Rattle.gw_stream.specs.own.Prepared.{AreWithin, Prepares};
+ghost use Rattle.gw_stream.specs.own.Prepared.{AreWithin, Prepares, PlanSettles};
 
 use crate::delivery::{Delivery, prepare_deliveries};
 use crate::judge::{Judge, Outcome};
@@ -23,6 +23,7 @@ pub(crate) struct UnderPlan {
 }
 
 // What is said under a plan to what was read, and what receivers are sent of it.
+#[tactic(auto, using(crate::proofs::Preparing::prepares))]
 fn served(
     alloc: Global,
     plan: &Arc<Plan>,
@@ -47,8 +48,6 @@ fn served(
 }
 
 impl Judge for UnderPlan {
-    ghost use Rattle.gw_stream.specs.own.Prepared.{PlanSettles};
-
     ghost settles = { PlanSettles };
 
     ghost breaks = { λ s t what. Unit {0} };

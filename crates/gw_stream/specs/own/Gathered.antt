@@ -19,8 +19,7 @@ answered a = record { code = a.code; content = a.content.items }
 
 -- what a judge by one profile settles
 pub record ProfileSettles (old new : ByProfile) (number : ℕ) (what : Option Message) (outcome : Outcome) : Type 0 where
-  pub profile : new.profile ≡ old.profile
-  pub stamp : new.stamp ≡ old.stamp
+  pub same : new ≡ old
   pub says : IsSaidUnder (ValidatedBy old.profile) old.stamp number what outcome
 
 -- what was gathered when an allocation failed went out, whole or in part

@@ -48,7 +48,6 @@ pub record Prepares (plan : PlanValue) (what : Option Message) (reply : Reply) (
   pub deliveries : List Delivery
   pub are_deliveries : AreDeliveries plan what reply deliveries
   pub are_posts : map post prepared ≡ map delivered deliveries
-  pub many : length prepared ≡ length deliveries
 
 -- what a judge under a plan settles
 pub record PlanSettles (old new : UnderPlan) (number : ℕ) (what : Option Message) (outcome : Outcome) : Type 0 where

@@ -1,14 +1,7 @@
 use Rattle.std.proofs.Common.{[]}
 use Rattle.gw_stream.specs.Exchanges.{begun, unanswered}
 use Rattle.gw_stream.proofs.Posting.{err_gives}
-use Rattle.gw_stream.proofs.Replying.{acknowledges_has_no_end}
 use Rattle.gw_stream.proofs.exchange.settle.Goals as goal
-
-pub returns-in_err-outcome-clause-begun : goal.returns-in_err-outcome-clause-begun
-returns-in_err-outcome-clause-begun g c content is = err_gives _ (begun content [] _ _ is c.in_err-outcome.ensures.broken)
 
 pub returns-in_err-content-clause-begun : goal.returns-in_err-content-clause-begun
 returns-in_err-content-clause-begun g c content is = err_gives _ (unanswered content [] _ _ _ is c.in_ok-outcome.ensures.settled)
-
-pub returns-clause-lawful : goal.returns-clause-lawful
-returns-clause-lawful g c = acknowledges_has_no_end _ _ _ c.in_ok-content.ensures.read

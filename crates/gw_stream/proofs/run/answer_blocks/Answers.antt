@@ -1,8 +1,8 @@
 use Rattle.std.proofs.Common.{◌≡◌, ◌+◌, rules, arith, ap, ◌∙◌}
 use Rattle.gw_stream.proofs.Counting.{one_more}
-use Rattle.gw_stream.proofs.Gathering.{gathers_begin, gathers_go, gathers_sent, gathers_on, gathers_unsent, gathers_cut, gathers_end, gathers_stop}
+use Rattle.gw_stream.proofs.Gathering.{gathers_begin, gathers_go, gathers_sent, gathers_unsent, gathers_cut, gathers_end, gathers_stop}
 use Rattle.gw_stream.proofs.Gathering.{gathers_room, last_not_read}
-use Rattle.gw_stream.proofs.Walking.{stops_turns}
+use Rattle.gw_stream.proofs.Walking.{goes_nowhere, stops_turns}
 use Rattle.gw_stream.proofs.run.answer_blocks.Goals as goal
 
 pub each-init : goal.each-init
@@ -12,9 +12,6 @@ each-init g c = record {
   gathered = gathers_begin g.J.Judge.settles g.J.Judge.breaks _ _ _ _ _ _ _
       (c.new-blocks.ensures (g.R.Source.remaining c.args.reader.now) (g.R.Source.reads c.args.reader.now)) c.new-gathered.ensures.items c.none-counts.ensures;
 }
-
-pub gather-requires-clause-total : goal.gather-requires-clause-total
-gather-requires-clause-total g c = c.each.invariant.gathered.total
 
 pub gather-requires-clause-room : goal.gather-requires-clause-room
 gather-requires-clause-room g c =
@@ -54,18 +51,18 @@ returns-in_default-clause-ends g c =
 pub each-preserved : goal.each-preserved
 each-preserved g c =
     let all = rw c.deref-in-None.ensures.value at c.in-Ok-send_all.ensures.ok in
-    let sent = gathers_sent g.J.Judge.settles g.J.Judge.breaks _ _ _ _ _ _ _ _ _ _ _ c.each.invariant.gathered all c.clear.ensures.items in
     let fills = rw c.in-None.ensures.none.1 at c.fill.ensures.goes in
     record {
       reads = search rules;
       writes = search rules;
-      gathered = gathers_on g.J.Judge.settles g.J.Judge.breaks _ _ _ _ _ _ _ _ _ _ sent (fills (search rules));
+      gathered = gathers_sent g.J.Judge.settles g.J.Judge.breaks _ _ _ _ _ _ _ _ _ _ _ _ c.each.invariant.gathered (fills (search rules)) all
+          c.clear.ensures.items;
     }
 
 pub returns-in-Ok-false-clause-ends : goal.returns-in-Ok-false-clause-ends
 returns-in-Ok-false-clause-ends g c =
     let all = rw c.deref-in-None.ensures.value at c.in-Ok-send_all.ensures.ok in
-    let sent = gathers_sent g.J.Judge.settles g.J.Judge.breaks _ _ _ _ _ _ _ _ _ _ _ c.each.invariant.gathered all c.clear.ensures.items in
+    let sent = gathers_sent g.J.Judge.settles g.J.Judge.breaks _ _ _ _ _ _ _ _ _ _ _ _ c.each.invariant.gathered (goes_nowhere _) all c.clear.ensures.items in
     let ends = rw c.in-None.ensures.none.1 at c.fill.ensures.end in
     gathers_end g.J.Judge.settles g.J.Judge.breaks _ _ _ _ _ _ _ _ _ sent c.clear.ensures.items (ends (search rules))
 
@@ -76,7 +73,7 @@ returns-in-Ok-false-clause-most g c =
 pub returns-in-Err-fill-clause-ends : goal.returns-in-Err-fill-clause-ends
 returns-in-Err-fill-clause-ends g c =
     let all = rw c.deref-in-None.ensures.value at c.in-Ok-send_all.ensures.ok in
-    let sent = gathers_sent g.J.Judge.settles g.J.Judge.breaks _ _ _ _ _ _ _ _ _ _ _ c.each.invariant.gathered all c.clear.ensures.items in
+    let sent = gathers_sent g.J.Judge.settles g.J.Judge.breaks _ _ _ _ _ _ _ _ _ _ _ _ c.each.invariant.gathered (goes_nowhere _) all c.clear.ensures.items in
     let stops = rw c.in-None.ensures.none.1 at c.in-Err-fill.ensures.stops in
     gathers_stop g.J.Judge.settles g.J.Judge.breaks _ _ _ _ _ _ _ _ _ _ _ sent c.clear.ensures.items stops
 

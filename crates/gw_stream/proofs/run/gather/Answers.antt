@@ -3,9 +3,6 @@ use Rattle.gw_stream.specs.Exchanges.{unanswered}
 use Rattle.gw_stream.proofs.Posting.{err_gives}
 use Rattle.gw_stream.proofs.run.gather.Goals as goal
 
-pub write_block-requires : goal.write_block-requires
-write_block-requires g c = rw c.deref.ensures.value c.in_ok-answer.ensures.lawful
-
 pub returns-in_err-write_block-clause-begun : goal.returns-in_err-write_block-clause-begun
 returns-in_err-write_block-clause-begun g c =
     let is = c.in_ok-answer.ensures.answer in err_gives _ (unanswered _ [] is.what is.outcome _ is.is_read is.settles)

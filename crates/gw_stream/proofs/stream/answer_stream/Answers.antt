@@ -1,24 +1,13 @@
-use Rattle.std.proofs.Common.{◌≡◌, ◌∙◌, ℕ, List, Option, Result, refl, subst, sym}
+use Rattle.std.proofs.Common.{◌≡◌, ◌∙◌, ℕ, List, Option, Result, refl, subst}
 use Rattle.gw_stream.specs.declared.by_profile.ByProfile.{ByProfile}
 use Rattle.gw_stream.specs.declared.counts.Counts.{Counts}
 use Rattle.gw_stream.specs.declared.fault.RunFault.{RunFault}
-use Rattle.gw_stream.specs.declared.judge.Outcome.{Outcome}
-use Rattle.gw_stream.specs.Answers.{IsSaidUnder, Message, ValidatedBy}
+use Rattle.gw_stream.specs.Answers.{IsSaidUnder, ValidatedBy}
 use Rattle.gw_stream.specs.Exchanges.{AllExchanged, Answers, AnswersAll, AnswersPart, SomeExchanged}
 use Rattle.gw_stream.specs.Streams.{Ends}
 use Rattle.gw_stream.specs.own.Gathered.{ProfileSettles}
 use Rattle.gw_stream.proofs.Exchanging.{ends_seen}
 use Rattle.gw_stream.proofs.stream.answer_stream.Goals as goal
-
--- the judge keeps its profile and its stamp
-record Keeps (first now : ByProfile) : Type 0 where
-  profile : now.profile ≡ first.profile
-  stamp : now.stamp ≡ first.stamp
-
-says_as : (first now : ByProfile) (n : ℕ) (what : Option Message) (o : Outcome) → Keeps first now → IsSaidUnder (ValidatedBy now.profile) now.stamp n what o
-    → IsSaidUnder (ValidatedBy first.profile) first.stamp n what o
-says_as first now n what o keeps says =
-    subst (λ p. IsSaidUnder (ValidatedBy p) first.stamp n what o) keeps.profile (subst (λ s. IsSaidUnder (ValidatedBy now.profile) s n what o) keeps.stamp says)
 
 seen_by_profile : (first last : ByProfile) (stream before after : Option (List ℕ)) (result : Result Counts RunFault)
     → Ends (AllExchanged ProfileSettles stream first last before after)
@@ -26,13 +15,12 @@ seen_by_profile : (first last : ByProfile) (stream before after : Option (List �
     → Ends (AnswersAll (ValidatedBy first.profile) first.stamp stream before after)
     (λ fault. AnswersPart (ValidatedBy first.profile) first.stamp stream before after) result
 seen_by_profile first last stream before after result ends =
-    (ends_seen ProfileSettles (Answers (ValidatedBy first.profile) first.stamp) (λ s t what. t ≡ s) (λ s t what. Unit {0}) (λ s. tt) (Keeps first)
+    (ends_seen ProfileSettles (Answers (ValidatedBy first.profile) first.stamp) (λ s t what. t ≡ s) (λ s t what. Unit {0}) (λ s. tt) (λ s. s ≡ first)
     (λ s t n what o keeps is. (
-      record { profile = is.profile ∙ keeps.profile; stamp = is.stamp ∙ keeps.stamp },
-      says_as first s n what o keeps is.says,
+      is.same ∙ keeps,
+      subst (λ (j : ByProfile). IsSaidUnder (ValidatedBy j.profile) j.stamp n what o) keeps is.says,
     ))
-    (λ s t what keeps is. (subst (Keeps first) (sym is) keeps, tt))
-    stream first last before after (record { profile = refl; stamp = refl }) result ends).1
+    (λ s t what keeps is. (is ∙ keeps, tt)) stream first last before after refl result ends).1
 
 pub returns-clause-ends : goal.returns-clause-ends
 returns-clause-ends g c = seen_by_profile _ _ _ _ _ _ c.answer_blocks.ensures.ends

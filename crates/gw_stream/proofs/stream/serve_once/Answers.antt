@@ -33,9 +33,6 @@ each-init g c = record {
       serves_begins _ _ _ _ _ _ _ (c.new-blocks.ensures (g.R.Source.remaining c.args.reader.now) (g.R.Source.reads c.args.reader.now)) c.none-counts.ensures;
 }
 
-pub serve_content-requires-clause-total : goal.serve_content-requires-clause-total
-serve_content-requires-clause-total g c = c.each.invariant.serves.total
-
 pub serve_content-requires-clause-room : goal.serve_content-requires-clause-room
 serve_content-requires-clause-room g c =
     let room = serves_room _ _ _ _ _ _ _ _ _ _ c.each.invariant.serves (c.in-Some.ensures.goes _ _) in
@@ -97,22 +94,18 @@ pub returns-in-Ok-false-clause-most : goal.returns-in-Ok-false-clause-most
 returns-in-Ok-false-clause-most g c =
     let most = rw c.in-None.ensures.none.1 at c.fill.ensures.most in most _ _ _ c.each.invariant.serves.walks
 
-pub returns-in-Err-fill-clause-ends : goal.returns-in-Err-fill-clause-ends
-returns-in-Err-fill-clause-ends g c =
+pub returns-in-Err-fill : goal.returns-in-Err-fill
+returns-in-Err-fill g c =
     let stops = rw c.in-None.ensures.none.1 at c.in-Err-fill.ensures.stops in
-    serves_stop _ _ _ _ _ _ _ _ _ _ c.each.invariant.serves stops
-
-pub returns-in-Err-fill-clause-write : goal.returns-in-Err-fill-clause-write
-returns-in-Err-fill-clause-write g c = (
-  λ err. absurd (stops_not_write _ _ _ c.in-Err-fill.ensures.stops (search rules)),
-  λ failed. absurd (none_failed _ _ c.each.invariant.answers c.each.invariant.outs failed),
-)
-
-pub returns-in-Err-fill-clause-turns : goal.returns-in-Err-fill-clause-turns
-returns-in-Err-fill-clause-turns g c err =
-    let stops = rw c.in-None.ensures.none.1 at c.in-Err-fill.ensures.stops in
-    stops_turns _ _ _ _ _ _ c.each.invariant.serves.walks stops (search rules)
-
-pub returns-in-Err-fill-clause-most : goal.returns-in-Err-fill-clause-most
-returns-in-Err-fill-clause-most g c =
-    let most = rw c.in-None.ensures.none.1 at c.fill.ensures.most in most _ _ _ c.each.invariant.serves.walks
+    let most = rw c.in-None.ensures.none.1 at c.fill.ensures.most in
+    record {
+      ends = serves_stop _ _ _ _ _ _ _ _ _ _ c.each.invariant.serves stops;
+      read = search rules;
+      write = (
+        λ err. absurd (stops_not_write _ _ _ c.in-Err-fill.ensures.stops (search rules)),
+        λ failed. absurd (none_failed _ _ c.each.invariant.answers c.each.invariant.outs failed),
+      );
+      turns = λ err. stops_turns _ _ _ _ _ _ c.each.invariant.serves.walks stops (search rules);
+      most = most _ _ _ c.each.invariant.serves.walks;
+      writers = c.each.invariant.writers;
+    }

@@ -1,17 +1,11 @@
 use Rattle.std.proofs.Common.{rules, refl, arith}
 use Rattle.std.proofs.lemmas.Grind.{common_steps}
-use Rattle.gw_stream.specs.Walked.{memory, read, too_long, turns}
-use Rattle.gw_stream.proofs.Walking.{ends_long, ends_at, goes_nowhere, goes_read, stops_within}
+use Rattle.gw_stream.specs.Walked.{read, too_long}
+use Rattle.gw_stream.proofs.Walking.{ends_long, ends_at, goes_read, stops_within}
 use Rattle.gw_stream.proofs.block_reader.BlockReader.fill.Goals as goal
 
 pub returns-then-eq-clause-stops : goal.returns-then-eq-clause-stops
 returns-then-eq-clause-stops g c = too_long (ends_long _ c.requires.none (search rules))
-
-pub returns-then-self-ge-MAX_READS-clause-stops : goal.returns-then-self-ge-MAX_READS-clause-stops
-returns-then-self-ge-MAX_READS-clause-stops g c = turns (goes_nowhere _) (search rules)
-
-pub returns-in_default-clause-stops : goal.returns-in_default-clause-stops
-returns-in_default-clause-stops g c = read
 
 pub returns-in-Err-clause-stops : goal.returns-in-Err-clause-stops
 returns-in-Err-clause-stops g c =
@@ -19,9 +13,6 @@ returns-in-Err-clause-stops g c =
     let long = c.read.auto.buf in
     let within = c.in-Err.ensures.err in
     stops_within _ _ within.1 _ within.0 (ends_at _ _ _ c.requires.none within.2 eats.0 (eats.1 refl (search rules)))
-
-pub returns-in_default-take_piece-clause-stops : goal.returns-in_default-take_piece-clause-stops
-returns-in_default-take_piece-clause-stops g c = memory
 
 pub returns-clause-goes : goal.returns-clause-goes
 returns-clause-goes g c err =
