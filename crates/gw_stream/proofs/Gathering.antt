@@ -1,11 +1,11 @@
 -- A stream that is settled block by block, with its answers gathered.
-use Rattle.std.proofs.Common.{◌≡◌, ◌<◌, ◌+◌, ℕ, List, Option, Bool, true, false, Ok, Err, length, [], ◌∷◌, ◌++◌, map, arith, rules}
+use Rattle.std.proofs.Common.{◌≡◌, ◌<◌, ◌+◌, ℕ, List, Option, Bool, true, false, Err, length, [], ◌∷◌, ◌++◌, map, arith, rules}
 use Rattle.std.proofs.Common.{subst, sym, ap, ◌∙◌, refl, length-append, append_assoc, append-nil}
 use Rattle.std.proofs.KnownBytes.{Appends-nil, Appends-trans}
 use Rattle.std.proofs.lemmas.Grind.{flat_map-append}
 use Rattle.std.proofs.lemmas.List.{length-map, length_push, map-append}
 use Rattle.std.specs.Io.KnownBytes.{Appends}
-use Rattle.gw_mllp.specs.Stream.{Between, Tail, block}
+use Rattle.gw_mllp.specs.Stream.{Tail, block}
 use Rattle.gw_stream.specs.declared.counts.Counts.{Counts}
 use Rattle.gw_stream.specs.declared.fault.RunFault.{RunFault}
 use Rattle.gw_stream.specs.declared.fault.RunFault.TheVariants.{Memory, Read, Write}
@@ -90,7 +90,7 @@ module _ {S : Type 0} (Settles : S → S → ℕ → Option Message → Outcome 
 
   -- ---- ends
 
-  all_of : (new : S) (here : Place) (after : Option (List ℕ)) (g : List ℕ) (c : Counts) (tail : Tail)
+  pub all_of : (new : S) (here : Place) (after : Option (List ℕ)) (g : List ℕ) (c : Counts) (tail : Tail)
       → Progress Settles old new left reads here before after g c → g ≡ [] → EndsAt here tail → AllExchanged Settles left old new before after tail c
   all_of new here after g c tail p empty ends = record {
     done = p.done;
@@ -138,11 +138,6 @@ module _ {S : Type 0} (Settles : S → S → ℕ → Option Message → Outcome 
       streams.write (some_of mid new here there (content ∷ []) after after' g c p goes begins (subst (SendsPart after after') same part))
 
   -- the stream has no block more
-  pub gathers_end : (new : S) (here : Place) (after : Option (List ℕ)) (g : List ℕ) (c : Counts)
-      → Progress Settles old new left reads here before after g c → g ≡ [] → EndsAt here Between
-      → Ends (AllExchanged Settles left old new before after) (λ e. SomeExchanged Settles Breaks left old new before after) (Ok c)
-  gathers_end new here after g c p empty ends = streams.at_end c (all_of new here after g c Between p empty ends)
-
   pub gathers_stop : (new : S) (here there : Place) (after : Option (List ℕ)) (g : List ℕ) (c : Counts) (fault : RunFault)
       → Progress Settles old new left reads here before after g c → g ≡ [] → Stops here there fault
       → Ends (AllExchanged Settles left old new before after) (λ e. SomeExchanged Settles Breaks left old new before after) (Err fault)

@@ -10,7 +10,7 @@ use Rattle.std.specs.List.{AllZip}
 use Rattle.std.specs.Map.{lookup}
 use Rattle.std.specs.Prelude.{◌-◌, ◌^◌, min, nat_eq, slice_get}
 use Rattle.gw_ack.specs.declared.receipt.Ack.{Ack}
-use Rattle.gw_ack.specs.declared.receipt.Ack.TheVariants.{AA, AE, AR}
+use Rattle.gw_ack.specs.declared.receipt.Ack.TheVariants.{AA}
 use Rattle.gw_ack.specs.declared.reply.Reply.{Reply}
 use Rattle.gw_ack.specs.declared.reply.Reply.TheVariants.{Accept}
 use Rattle.gw_check.specs.Kept.{CheckedValue}
@@ -182,5 +182,4 @@ module _ (old new : UnderPlan) (number : ℕ) (content : List ℕ) (a : Answer) 
 pub counted_one : (code : Ack) (blocks : ℕ) (c with_it with_sent : Counts) → with_it ≡ with_answer code c
     → with_sent ≡ record with_it { sent = min (with_it.sent + blocks) (2 ^ 64 - 1) } → with_sent ≡ with_one code blocks c
 counted_one AA blocks c with_it with_sent first then = then ∙ ap (λ (x : Counts). record x { sent = min (x.sent + blocks) (2 ^ 64 - 1) }) first
-counted_one AE blocks c with_it with_sent first then = then ∙ ap (λ (x : Counts). record x { sent = min (x.sent + blocks) (2 ^ 64 - 1) }) first
-counted_one AR blocks c with_it with_sent first then = then ∙ ap (λ (x : Counts). record x { sent = min (x.sent + blocks) (2 ^ 64 - 1) }) first
+counted_one code blocks c with_it with_sent first then = then ∙ ap (λ (x : Counts). record x { sent = min (x.sent + blocks) (2 ^ 64 - 1) }) first

@@ -3,7 +3,7 @@ use Rattle.std.proofs.Common.{◌≡◌, ◌<◌, ◌+◌, ℕ, List, Option, Ok
 use Rattle.std.proofs.Common.{subst, sym, ap, ◌∙◌, refl, length-append, append-nil}
 use Rattle.std.proofs.lemmas.Grind.{flat_map-append}
 use Rattle.std.proofs.lemmas.List.{length_push}
-use Rattle.gw_mllp.specs.Stream.{Between, Tail}
+use Rattle.gw_mllp.specs.Stream.{Tail}
 use Rattle.gw_plan.specs.Shapes.{PlanValue}
 use Rattle.gw_stream.specs.declared.counts.Counts.{Counts}
 use Rattle.gw_stream.specs.declared.fault.RunFault.{RunFault}
@@ -92,12 +92,12 @@ module _ (plan : PlanValue) (stamp : List ℕ) (left : Option (List ℕ)) (reads
 
   -- ---- ends
 
-  all_of : (here : Place) (k0 k : Known) (c : Counts) (tail : Tail) → ServesSoFar plan stamp left reads here k0 k c → EndsAt here tail
+  pub all_of : (here : Place) (k0 k : Known) (c : Counts) (tail : Tail) → ServesSoFar plan stamp left reads here k0 k c → EndsAt here tail
       → ServesAll plan stamp left k0 k tail c
   all_of here k0 k c tail p ends =
       record { contents = p.given; cut = ends left reads p.given p.walks; servings = p.servings; each = p.each; sends = p.sends; counted = p.counted }
 
-  first_of : (here : Place) (k0 k : Known) (c : Counts) → ServesSoFar plan stamp left reads here k0 k c → ServesFirst plan stamp left k0 k
+  pub first_of : (here : Place) (k0 k : Known) (c : Counts) → ServesSoFar plan stamp left reads here k0 k c → ServesFirst plan stamp left k0 k
   first_of here k0 k c p = record {
     contents = p.given;
     first = walk_first left reads here p.given p.given [] p.walks (sym (append-nil p.given));
@@ -105,14 +105,6 @@ module _ (plan : PlanValue) (stamp : List ℕ) (left : Option (List ℕ)) (reads
     each = p.each;
     sends = p.sends;
   }
-
-  pub serves_end : (here : Place) (k0 k : Known) (c : Counts) → ServesSoFar plan stamp left reads here k0 k c → EndsAt here Between
-      → Ends (ServesAll plan stamp left k0 k) (ServesUntil plan stamp left k0 k) (Ok c)
-  serves_end here k0 k c p ends = streams.at_end c (all_of here k0 k c Between p ends)
-
-  pub serves_memory : (here : Place) (k0 k : Known) (c : Counts) → ServesSoFar plan stamp left reads here k0 k c
-      → Ends (ServesAll plan stamp left k0 k) (ServesUntil plan stamp left k0 k) (Err Memory)
-  serves_memory here k0 k c p = streams.memory (first_of here k0 k c p)
 
   pub serves_stop : (here there : Place) (k0 k : Known) (c : Counts) (fault : RunFault) → ServesSoFar plan stamp left reads here k0 k c → Stops here there fault
       → Ends (ServesAll plan stamp left k0 k) (ServesUntil plan stamp left k0 k) (Err fault)

@@ -1,6 +1,7 @@
 use Rattle.std.proofs.Common.{◌≡◌, ◌+◌, rules, arith, ap, ◌∙◌}
+use Rattle.gw_stream.specs.Streams.{at_end}
 use Rattle.gw_stream.proofs.Counting.{one_more}
-use Rattle.gw_stream.proofs.Gathering.{gathers_begin, gathers_go, gathers_sent, gathers_unsent, gathers_cut, gathers_end, gathers_stop}
+use Rattle.gw_stream.proofs.Gathering.{all_of, gathers_begin, gathers_go, gathers_sent, gathers_unsent, gathers_cut, gathers_stop}
 use Rattle.gw_stream.proofs.Gathering.{gathers_room, last_not_read}
 use Rattle.gw_stream.proofs.Walking.{goes_nowhere, stops_turns}
 use Rattle.gw_stream.proofs.run.answer_blocks.Goals as goal
@@ -64,7 +65,7 @@ returns-in-Ok-false-clause-ends g c =
     let all = rw c.deref-in-None.ensures.value at c.in-Ok-send_all.ensures.ok in
     let sent = gathers_sent g.J.Judge.settles g.J.Judge.breaks _ _ _ _ _ _ _ _ _ _ _ _ c.each.invariant.gathered (goes_nowhere _) all c.clear.ensures.items in
     let ends = rw c.in-None.ensures.none.1 at c.fill.ensures.end in
-    gathers_end g.J.Judge.settles g.J.Judge.breaks _ _ _ _ _ _ _ _ _ sent c.clear.ensures.items (ends (search rules))
+    at_end _ (all_of g.J.Judge.settles g.J.Judge.breaks _ _ _ _ _ _ _ _ _ _ sent c.clear.ensures.items (ends (search rules)))
 
 pub returns-in-Ok-false-clause-most : goal.returns-in-Ok-false-clause-most
 returns-in-Ok-false-clause-most g c =

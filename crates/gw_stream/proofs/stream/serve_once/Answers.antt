@@ -5,17 +5,18 @@ use Rattle.std.specs.Arc.{arc_value}
 use Rattle.gw_plan.specs.Held.{plan_value}
 use Rattle.gw_stream.specs.Counted.{nothing}
 use Rattle.gw_stream.specs.Posts.{known}
+use Rattle.gw_stream.specs.Streams.{at_end, memory}
 use Rattle.gw_stream.proofs.Counting.{one_more}
 use Rattle.gw_stream.proofs.Posting.{none_failed, not_failed}
-use Rattle.gw_stream.proofs.Serving.{not_of_reading, serves_begins, serves_cut, serves_end, serves_goes, serves_memory, serves_on, serves_room, serves_stop}
+use Rattle.gw_stream.proofs.Serving.{all_of, first_of, not_of_reading, serves_begins, serves_cut, serves_goes, serves_on, serves_room, serves_stop}
 use Rattle.gw_stream.proofs.Walking.{stops_not_write, stops_turns}
 use Rattle.gw_stream.proofs.stream.serve_once.Goals as goal
 
 pub returns-in_default-clause-ends : goal.returns-in_default-clause-ends
 returns-in_default-clause-ends g c =
     let walks = c.new-blocks.ensures (g.R.Source.remaining c.args.reader.now) (g.R.Source.reads c.args.reader.now) in
-    serves_memory (plan_value c.args.plan) c.args.stamp _ _ _ _ _ _
-    (serves_begins _ _ _ _ _ (known g.A.Sink.contents g.W.Sink.contents c.args.answers.now c.args.outs.now.items) nothing walks refl)
+    memory (first_of (plan_value c.args.plan) c.args.stamp _ _ _ _ _ _
+    (serves_begins _ _ _ _ _ (known g.A.Sink.contents g.W.Sink.contents c.args.answers.now c.args.outs.now.items) nothing walks refl))
 
 pub returns-in_default-clause-write : goal.returns-in_default-clause-write
 returns-in_default-clause-write g c =
@@ -88,7 +89,7 @@ each-preserved g c =
 pub returns-in-Ok-false-clause-ends : goal.returns-in-Ok-false-clause-ends
 returns-in-Ok-false-clause-ends g c =
     let ends = rw c.in-None.ensures.none.1 at c.fill.ensures.end in
-    serves_end _ _ _ _ _ _ _ _ c.each.invariant.serves (ends (search rules))
+    at_end _ (all_of _ _ _ _ _ _ _ _ _ c.each.invariant.serves (ends (search rules)))
 
 pub returns-in-Ok-false-clause-most : goal.returns-in-Ok-false-clause-most
 returns-in-Ok-false-clause-most g c =
