@@ -4,7 +4,7 @@ use Rattle.std.proofs.Common.{sym, ap, subst, ◌∙◌, arith, append_assoc, ap
 use Rattle.std.proofs.KnownBytes.{Appends-nil, Appends-trans, Consumes-nil, Consumes-trans, Consumes-whole}
 use Rattle.std.specs.Io.KnownBytes.{Appends, Consumes, IsAtEnd}
 use Rattle.gw_ack.specs.declared.receipt.Ack.{Ack}
-use Rattle.gw_ack.specs.declared.receipt.Ack.TheVariants.{AA, AE, AR}
+use Rattle.gw_ack.specs.declared.receipt.Ack.TheVariants.{AA}
 use Rattle.gw_ack.specs.Acknowledged.{Acknowledges}
 use Rattle.gw_ack.specs.Headers.{control_of}
 use Rattle.gw_er7.specs.Message.{SegmentValue}
@@ -12,7 +12,7 @@ use Rattle.gw_er7.specs.Written.{written}
 use Rattle.gw_gate.specs.Journal.{WasOut}
 use Rattle.gw_gate.specs.Parts.{TranslatedSeen}
 use Rattle.gw_gate.specs.Seen.{message_seen}
-use Rattle.gw_mllp.specs.Stream.{Has, HasGiven, Held, IsFed, Stands, Tail, Between, Within, Overlong, LongAfter, block}
+use Rattle.gw_mllp.specs.Stream.{Has, HasGiven, Held, IsFed, Stands, Tail, Between, Within, Overlong, block}
 use Rattle.gw_stream.specs.declared.counts.Counts.{Counts}
 use Rattle.gw_stream.specs.declared.fault.RunFault.{RunFault}
 use Rattle.gw_stream.specs.declared.fault.RunFault.TheVariants.{Memory, Line, Turns}
@@ -21,7 +21,7 @@ use Rattle.gw_stream.specs.Reading.{ReadTimes}
 use Rattle.gw_stream.specs.Sent.{BeginsWith, SendsPart}
 use Rattle.gw_stream.specs.Streams.{HasFirst}
 use Rattle.gw_crew.specs.Notes.{NoteSeen, WasFull, WasNothing, Added}
-use Rattle.gw_stream.proofs.Walking.{first_whole, has_few, long_enough}
+use Rattle.gw_stream.proofs.Walking.{first_whole, has_few, long_enough, long_whole, stands_all}
 use Rattle.gw_crew.specs.Streams.{Reading, Spot}
 use Rattle.gw_crew.specs.own.Turns.{Adds, Waits, never, again, ComesOut, ComesNone}
 use Rattle.gw_crew.specs.Carries.{Rounds, no_round, sent_one, waited, none_left, full, Carried, Carries, write, read, ended, denied, LineFails, ReadInVain}
@@ -32,19 +32,17 @@ use Rattle.gw_crew.specs.Carries.{write_memory, write_line, Denies, no_memory, n
 
 total_one : (ack : Ack) (c : Counts) → c.aa + c.ae + c.ar ≡ c.sent → (with_sent ack c).aa + (with_sent ack c).ae + (with_sent ack c).ar ≡ (with_sent ack c).sent
 total_one AA c is = omega arith
-total_one AE c is = omega arith
-total_one AR c is = omega arith
+total_one ack c is = omega arith
 
 sent_once : (ack : Ack) (c : Counts) → (with_sent ack c).sent ≡ c.sent + 1
 sent_once AA c = refl
-sent_once AE c = refl
-sent_once AR c = refl
+sent_once ack c = refl
 
-record IsCount (notes : List NoteSeen) (c : Counts) : Type 0 where
-  total : c.aa + c.ae + c.ar ≡ c.sent
-  few : c.sent ≤ length notes
+pub record IsCount (notes : List NoteSeen) (c : Counts) : Type 0 where
+  pub total : c.aa + c.ae + c.ar ≡ c.sent
+  pub few : c.sent ≤ length notes
 
-counted : (r : ℕ) (notes : List NoteSeen) (sent : List ℕ) (blocks : List (List ℕ)) (c : Counts) → Rounds r notes sent blocks c → IsCount notes c
+pub counted : (r : ℕ) (notes : List NoteSeen) (sent : List ℕ) (blocks : List (List ℕ)) (c : Counts) → Rounds r notes sent blocks c → IsCount notes c
 counted r notes sent blocks c no_round = record { total = omega arith; few = omega arith }
 counted r notes sent blocks c (sent_one before bytes contents was at n t message content ack rounds is says) =
     let had = counted r before bytes contents was rounds in
@@ -69,13 +67,6 @@ waits_on r notes more sent blocks c rounds (again before was) =
 
 pub waits_none : (r : ℕ) (old : List NoteSeen) → Adds (Waits r) old old
 waits_none r old = record { more = []; holds = never; noted = sym (append-nil old) }
-
-pub waits_once : (r : ℕ) (old mid new : List NoteSeen) → Adds (Waits r) old mid → new ≡ mid ++ WasNothing r ∷ [] → Adds (Waits r) old new
-waits_once r old mid new was is = record {
-  more = was.more ++ WasNothing r ∷ [];
-  holds = again was.more was.holds;
-  noted = is ∙ ap (λ l. l ++ WasNothing r ∷ []) was.noted ∙ append_assoc old was.more (WasNothing r ∷ []);
-}
 
 pub carried_none : (r : ℕ) (w : Option (List ℕ)) (old : List NoteSeen) → Carried r w w old old [] nothing
 carried_none r w old = record { notes = []; sent = []; rounds = no_round; noted = sym (append-nil old); wrote = Appends-nil w }
@@ -166,9 +157,6 @@ reading_gives k s left blocks h h' content limit was gives =
       counted = λ small. let there = was.counted (omega arith) in omega arith;
     }
 
-stands_all : (stream : List ℕ) (blocks : List (List ℕ)) (h : Held) → Stands stream blocks h → h.waiting ≡ [] → Has stream blocks h.tail
-stands_all stream blocks h stands none = subst (λ l. Has stream l h.tail) (ap (λ l. blocks ++ l) none ∙ append-nil blocks) stands
-
 -- the source is at its end, and no block waits
 pub reading_ends : (k : ℕ) (s left : Spot) (left' : Option (List ℕ)) (blocks : List (List ℕ)) (h : Held) → Reading k s left blocks h
     → Consumes left.left left' [] → IsAtEnd left' → h.waiting ≡ []
@@ -180,20 +168,6 @@ reading_ends k s left left' blocks h was none end empty = (
       (stands_all was.taken blocks h was.stands empty),
 )
 
-long_whole : (s left : Option (List ℕ)) (taken : List ℕ) (blocks : List (List ℕ)) → Consumes s left taken → LongAfter taken blocks
-    → IfSome s (λ bytes. LongAfter bytes blocks)
-long_whole None left taken blocks takes p = tt
-long_whole (Some bytes) None taken blocks takes p = absurd takes
-long_whole (Some bytes) (Some rest) taken blocks takes p =
-    subst (λ l. LongAfter l blocks) (sym takes) (record {
-      front = p.front;
-      more = p.more ++ rest;
-      whole = ap (λ l. l ++ rest) p.whole ∙ append_assoc p.front p.more rest;
-      left = p.left;
-      cut = p.cut;
-      long = p.long;
-    })
-
 -- a block is too long, and none waits
 pub reading_long : (k : ℕ) (s left : Spot) (blocks : List (List ℕ)) (h : Held) → Reading k s left blocks h → h.waiting ≡ [] → h.tail ≡ Overlong
     → IfSome s.left (λ bytes. Has bytes blocks Overlong)
@@ -201,7 +175,7 @@ reading_long k s left blocks h was empty long =
     long_whole s.left left.left was.taken blocks was.takes (subst (Has was.taken blocks) long (stands_all was.taken blocks h was.stands empty))
 
 -- after 1,000,000 reads for one block
-in_vain : (k : ℕ) (s left : Spot) (blocks : List (List ℕ)) (h : Held) → Reading k s left blocks h → 1000000 ≤ k → k ≤ 1000000
+pub in_vain : (k : ℕ) (s left : Spot) (blocks : List (List ℕ)) (h : Held) → Reading k s left blocks h → 1000000 ≤ k → k ≤ 1000000
     → ReadInVain s.reads left.reads s.left blocks
 in_vain k s left blocks h was least greatest =
     let many = was.many in
@@ -286,10 +260,6 @@ progress_more r n s left left' w w1 w2 h h' old mid new c c' t message ack seen 
   reading = sent.acked.next s was.blocks was.reading;
 }
 
-pub progress_total : (r : ℕ) (s left : Spot) (w w' : Option (List ℕ)) (h : Held) (old mid : List NoteSeen) (c : Counts) → Progress r s left w w' h old mid c
-    → c.aa + c.ae + c.ar ≡ c.sent
-progress_total r s left w w' h old mid c was = (counted r was.carried.notes was.carried.sent was.blocks c was.carried.rounds).total
-
 pub progress_few : (r : ℕ) (s left : Spot) (w w' : Option (List ℕ)) (h : Held) (old mid : List NoteSeen) (c : Counts) → Progress r s left w w' h old mid c
     → c.sent ≤ length mid
 progress_few r s left w w' h old mid c was =
@@ -358,36 +328,11 @@ denied_none n reader reads unread left h h' content control (Err fault) works ne
 abbrev pub Reads : ℕ → Spot → Held → Spot → Held → Type 0
 Reads k unread h left h' = (s : Spot) (blocks : List (List ℕ)) → Reading 0 s unread blocks h → Reading k s left blocks h'
 
-pub read_none : (n : ℕ) (reader : Bool) (reads : ℕ) (unread : Spot) (h : Held) (control : List ℕ) → reader ≡ true
-    → GivesNone n false reader reads unread h control (Line n)
-read_none n reader reads unread h control is = λ s blocks was. line (read is)
-
-pub memory_none : (n : ℕ) (reader : Bool) (reads : ℕ) (unread : Spot) (h : Held) (control : List ℕ) → reader ≡ false
-    → GivesNone n false reader reads unread h control Memory
-memory_none n reader reads unread h control is = λ s blocks was. memory refl is
-
-pub turns_none : (n : ℕ) (reader : Bool) (k : ℕ) (unread left : Spot) (h h' : Held) (control : List ℕ) → reader ≡ false → Reads k unread h left h'
-    → 1000000 ≤ k → k ≤ 1000000 → GivesNone n false reader left.reads unread h control Turns
-turns_none n reader k unread left h h' control is run least greatest =
-    λ s blocks was. turns refl is (in_vain k s left blocks h' (run s blocks was) least greatest)
-
-pub ended_none : (n : ℕ) (reader : Bool) (reads k : ℕ) (unread left : Spot) (left' : Option (List ℕ)) (h h' : Held) (control : List ℕ)
-    → Reads k unread h left h' → Consumes left.left left' [] → IsAtEnd left' → h'.waiting ≡ []
-    → GivesNone n false reader reads unread h control (Line n)
-ended_none n reader reads k unread left left' h h' control run none end empty =
-    λ s blocks was. let at_end = reading_ends k s left left' blocks h' (run s blocks was) none end empty in line (ended at_end.0 at_end.1)
-
 pub reads_more : (k : ℕ) (unread left left' : Spot) (h h1 h2 h3 : Held) (piece : List ℕ) → Reads k unread h left h1 → Consumes left.left left'.left piece
     → 0 < length piece → length piece ≤ 4096 → ReadTimes 1 left.reads left'.reads → IsFed piece h1 h2 → h3 ≡ h2 → Reads (k + 1) unread h left' h3
 reads_more k unread left left' h h1 h2 h3 piece run takes some short once feeds same =
     λ s blocks was. subst (Reading (k + 1) s left' blocks) (sym same)
     (reading_more k s left left' blocks h1 h2 piece (run s blocks was) takes some short once feeds)
-
-pub long_none : (n : ℕ) (reader : Bool) (reads k : ℕ) (unread left : Spot) (h h' : Held) (control : List ℕ) → Reads k unread h left h' → h'.waiting ≡ []
-    → h'.tail ≡ Overlong
-    → GivesNone n false reader reads unread h control (Line n)
-long_none n reader reads k unread left h h' control run empty long =
-    λ s blocks was. line (ended Overlong (reading_long k s left blocks h' (run s blocks was) empty long))
 
 -- a block was at hand
 pub first_so : (unread : Spot) (h h' : Held) (content : List ℕ) → HasGiven content h h' → GivesNext unread unread h h' content
@@ -401,4 +346,8 @@ next_so k unread left left' h h1 h2 h3 piece content run takes some short once l
     (reading_more k s left left' blocks h1 h2 piece (run s blocks was) takes some short once feeds) gives
 
 pub waits_again : (r : ℕ) (old mid asked new : List NoteSeen) → Adds (Waits r) old mid → asked ≡ mid ++ WasNothing r ∷ [] → new ≡ asked → Adds (Waits r) old new
-waits_again r old mid asked new was is same = waits_once r old mid new was (same ∙ is)
+waits_again r old mid asked new was is same = record {
+  more = was.more ++ WasNothing r ∷ [];
+  holds = again was.more was.holds;
+  noted = same ∙ is ∙ ap (λ l. l ++ WasNothing r ∷ []) was.noted ∙ append_assoc old was.more (WasNothing r ∷ []);
+}

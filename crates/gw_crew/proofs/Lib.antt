@@ -1,7 +1,6 @@
 pub mod Going
 pub mod Jobs
 pub mod Rows
-pub mod Framing
 pub mod Working
 pub mod Carrying
 pub mod Soloing

@@ -4,7 +4,7 @@ use Rattle.std.specs.Prelude.{IsTrue, IfOk, OnErr, Result, Ok, Err, is_some}
 use Rattle.std.specs.Option.{option_to_list}
 use Rattle.std.proofs.lemmas.Bool.{false≢true}
 use Rattle.gw_gate.specs.Journal.{EntrySeen, Journal, end}
-use Rattle.gw_gate.specs.Replies.{EventSeen, Looks, Arrives, Releases, Cuts, ReplySeen, IsCurrent, IsStale, IsNothing, IsPending, IsClosed}
+use Rattle.gw_gate.specs.Replies.{EventSeen, Looks, Arrives, Cuts, ReplySeen, IsCurrent, IsStale, IsPending, IsClosed}
 use Rattle.gw_gate.specs.Replies.{added, with_added, closed_by, or_next, reply, Noted, Replied}
 use Rattle.gw_gate.specs.Lawful.{IsLawful}
 use Rattle.gw_gate.specs.Headline.{IsTranslated}
@@ -13,16 +13,9 @@ use Rattle.gw_gate.specs.Values.{answer_seen, reply_seen}
 use Rattle.gw_gate.specs.declared.event.Event.{Event}
 use Rattle.gw_gate.specs.declared.event.Reply.{Reply}
 use Rattle.gw_crew.specs.declared.note.Note.{Note}
-use Rattle.gw_crew.specs.Notes.{NoteSeen, Added, Answers, Calls, NotesAt, note_of, note_or, plain_note}
-use Rattle.gw_crew.specs.Solos.{asked_for, plain_by, is_copied, event_of, note_in, reply_in, Stepped, Stayed, StepsOnce}
+use Rattle.gw_crew.specs.Notes.{NoteSeen, Added, Answers, Calls, NotesAt, asked_for, note_of, note_or, plain_by}
+use Rattle.gw_crew.specs.Solos.{is_copied, event_of, note_in, reply_in, Stepped, Stayed, StepsOnce}
 use Rattle.gw_crew.proofs.Rows.{answers}
-
--- the plain note by what was asked for
-plain_is : (event : EventSeen) (given : ReplySeen) → Answers event given → plain_by (asked_for event) given ≡ plain_note event given
-plain_is event (IsCurrent v p) row = refl
-plain_is (Releases r) IsNothing row = refl
-plain_is event IsNothing row = absurd row
-plain_is event given row = refl
 
 -- an entry was added
 pub stepped_added : (j j' : Journal) (event : EventSeen) (given : ReplySeen) (at : ℕ) (e : EntrySeen) → IsLawful (IsTranslated Makes) j → at ≡ end j
@@ -32,7 +25,7 @@ stepped_added j j' event given at e lawful number step =
     record {
       replied = step.replied;
       answers = subst (Answers event) (sym step.replied.reply_is) (answers Makes j event lawful);
-      note_is = ap (λ k. Some (Added k e)) number ∙ ap (note_or (end j) (plain_note event given)) (step.note_is ∙ same);
+      note_is = ap (λ k. Some (Added k e)) number ∙ ap (note_or (end j) (plain_by (asked_for event) given)) (step.note_is ∙ same);
     }
 
 -- no entry was added
@@ -40,12 +33,11 @@ pub stepped_plain : (j j' : Journal) (event : EventSeen) (given : ReplySeen) (to
     → told ≡ plain_by (asked_for event) given
     → Noted true j event given None j' → Stepped j event given told j'
 stepped_plain j j' event given told lawful is step =
-    let row : Answers event given = subst (Answers event) (sym step.replied.reply_is) (answers Makes j event lawful) in
     let same : added event (reply j event) ≡ added event given = ap (added event) (sym step.replied.reply_is) in
     record {
       replied = step.replied;
-      answers = row;
-      note_is = is ∙ plain_is event given row ∙ ap (note_or (end j) (plain_note event given)) (step.note_is ∙ same);
+      answers = subst (Answers event) (sym step.replied.reply_is) (answers Makes j event lawful);
+      note_is = is ∙ ap (note_or (end j) (plain_by (asked_for event) given)) (step.note_is ∙ same);
     }
 
 -- a reply whose note has a copy is to this event

@@ -4,12 +4,12 @@ use Rattle.std.proofs.Common.{append_assoc, append-nil, length-append}
 use Rattle.gw_gate.specs.Journal.{WasTaken, WasKept}
 use Rattle.gw_gate.specs.Parts.{TranslatedSeen}
 use Rattle.gw_gate.specs.Replies.{Puts, ReplySeen, IsKept, IsRepeat, IsStranger, IsFull}
-use Rattle.gw_crew.specs.declared.workers.PutReply.{PutReply}
 use Rattle.gw_crew.specs.Notes.{NoteSeen, WasFull, WasIdle, Added, Notes}
-use Rattle.gw_crew.specs.Works.{Rounds, no_round, kept, dropped, waited, Ends, full_in_hand, stopped, InHand, job, Worked, Works, Breaks}
-use Rattle.gw_crew.specs.own.Turns.{Finishes, is_kept, is_dropped, is_full, is_stopped, Turn, keeps, drops, waits, ends, Adds, Put, put_reply}
+use Rattle.gw_crew.specs.Works.{Rounds, no_round, kept, dropped, waited, Ends, idle, full, full_in_hand, stopped, InHand, job, Worked, Works, Breaks}
+use Rattle.gw_crew.specs.own.Turns.{Finishes, is_kept, is_dropped, is_full, is_stopped, Turn, keeps, drops, waits, ends, Adds, put_reply}
 use Rattle.gw_stream.specs.declared.counts.Counts.{Counts}
 use Rattle.gw_stream.specs.Counted.{nothing}
+use Rattle.gw_crew.proofs.Going.{goes_to}
 
 -- ---- one round
 
@@ -35,18 +35,18 @@ pub worked_none : (old : List NoteSeen) → Worked old old 0
 worked_none old = record { notes = []; rounds = no_round; noted = sym (append-nil old) }
 
 -- what a round does that goes on
-record Onward (notes : List NoteSeen) (k x : ℕ) (s : Bool) (more : List NoteSeen) : Type 0 where
-  rounds : Rounds notes k → Rounds (notes ++ more) (k + x)
-  running : s ≡ false
-  some : 0 < length more
-  few : x ≤ 1
+pub record Onward (notes : List NoteSeen) (k x : ℕ) (s : Bool) (more : List NoteSeen) : Type 0 where
+  pub rounds : Rounds notes k → Rounds (notes ++ more) (k + x)
+  pub running : s ≡ false
+  pub some : 0 < length more
+  pub few : x ≤ 1
 
 -- and one that doesn't
-abbrev Next : List NoteSeen → ℕ → Option ℕ → Bool → List NoteSeen → Type 0
+abbrev pub Next : List NoteSeen → ℕ → Option ℕ → Bool → List NoteSeen → Type 0
 Next notes k None s more = Ends s more
 Next notes k (Some x) s more = Onward notes k x s more
 
-next_of : (notes : List NoteSeen) (k : ℕ) (o : Option ℕ) (s : Bool) (more : List NoteSeen) → Turn o s more → Next notes k o s more
+pub next_of : (notes : List NoteSeen) (k : ℕ) (o : Option ℕ) (s : Bool) (more : List NoteSeen) → Turn o s more → Next notes k o s more
 next_of notes k o s more (keeps at later n t) = record { rounds = kept notes k at later n t; running = refl; some = omega arith; few = omega arith }
 next_of notes k o s more (drops at n r) = record {
   rounds = λ was. subst (Rounds (notes ++ Added at (WasTaken n r) ∷ [])) (let e : k ≡ k + 0 = omega arith in e) (dropped notes k at n r was);
@@ -69,12 +69,6 @@ worked_more old mid new k x s was turn = record {
   rounds = (next_of was.notes k (Some x) s turn.more turn.holds).rounds was.rounds;
   noted = turn.noted ∙ ap (λ l. l ++ turn.more) was.noted ∙ append_assoc old was.notes turn.more;
 }
-
-pub running : (mid new : List NoteSeen) (x : ℕ) (s : Bool) → Adds (Turn (Some x) s) mid new → s ≡ false
-running mid new x s turn = (next_of [] 0 (Some x) s turn.more turn.holds).running
-
-pub few_kept : (mid new : List NoteSeen) (x : ℕ) (s : Bool) → Adds (Turn (Some x) s) mid new → x ≤ 1
-few_kept mid new x s turn = (next_of [] 0 (Some x) s turn.more turn.holds).few
 
 -- each round leaves a note
 pub longer : (mid new : List NoteSeen) (x : ℕ) (s : Bool) → Adds (Turn (Some x) s) mid new → length mid < length new
@@ -114,15 +108,15 @@ worked_few old mid k was =
 
 -- ---- what the functions of a worker tell
 
-pub put_so : (n r : ℕ) (t : TranslatedSeen) (given : ReplySeen) (b : PutReply) (old new : List NoteSeen) → t.receiver ≡ r → b ≡ put_reply given
-    → Notes (Puts n t) given old new → Put n r b old new
-put_so n r t given b old new to is noted = subst (λ x. Put n r x old new) (sym is) (by given noted)
+pub put_so : (n r : ℕ) (t : TranslatedSeen) (given : ReplySeen) (k : Option ℕ) (old new : List NoteSeen) → t.receiver ≡ r → k ≡ put_reply given
+    → Notes (Puts n t) given old new → Adds (Finishes n r k false) old new
+put_so n r t given k old new to is noted = subst (λ x. Adds (Finishes n r x false) old new) (sym is) (by given noted)
   where
-    by : (given : ReplySeen) → Notes (Puts n t) given old new → Put n r (put_reply given) old new
-    by IsKept noted = record { t = t; receiver = to; at = noted.at; noted = noted.notes }
-    by (IsRepeat u) noted = record { t = t; receiver = to; at = noted.at; noted = noted.notes }
-    by (IsStranger u) noted = record { t = t; receiver = to; at = noted.at; noted = noted.notes }
-    by (IsFull e) noted = record { t = t; receiver = to; at = noted.at; noted = noted.notes }
+    by : (given : ReplySeen) → Notes (Puts n t) given old new → Adds (Finishes n r (put_reply given) false) old new
+    by IsKept noted = record { more = Added noted.at (WasKept n t) ∷ []; holds = is_kept noted.at t to; noted = noted.notes }
+    by (IsRepeat u) noted = record { more = []; holds = is_dropped; noted = noted.notes }
+    by (IsStranger u) noted = record { more = []; holds = is_dropped; noted = noted.notes }
+    by (IsFull e) noted = record { more = WasFull ∷ []; holds = is_full; noted = noted.notes }
     by given noted = absurd noted.answers
 
 -- notes that a round added, by whether its pause was stopped
@@ -133,14 +127,5 @@ adds Holds s b old new more is holds noted = record { more = more; holds = subst
 pub hand_so : (old mid new : List NoteSeen) (at n r : ℕ) → mid ≡ old ++ Added at (WasTaken n r) ∷ [] → new ≡ mid → Adds (InHand (Some (n, r))) old new
 hand_so old mid new at n r took is = record { more = Added at (WasTaken n r) ∷ []; holds = job at n r; noted = is ∙ took }
 
-abbrev with_put : ℕ → Counts → Counts
-with_put p c = record c { put = p }
-
-pub fresh_counts : (c : Counts) → c ≡ nothing → c ≡ record nothing { put = c.put }
-fresh_counts c is = subst (λ (k : Counts). k ≡ record nothing { put = k.put }) (sym is) refl
-
-pub fresh_worked : (old : List NoteSeen) (c : Counts) → c ≡ nothing → Worked old old c.put
-fresh_worked old c is = subst (λ (k : Counts). Worked old old k.put) (sym is) (worked_none old)
-
-pub kept_more : (c : Counts) (x : ℕ) → c ≡ record nothing { put = c.put } → record c { put = c.put + x } ≡ record nothing { put = c.put + x }
-kept_more c x is = ap (with_put (c.put + x)) is
+-- for a worker's round
+pub ruleset rounds = (idle, full, ends, waits, goes_to, adds, hand_so, turns_so)

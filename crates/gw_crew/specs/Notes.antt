@@ -16,14 +16,19 @@ pub data NoteSeen : Type 0 where
   WasNothing : (receiver : ℕ) → NoteSeen
   Added : (at : ℕ) → (entry : EntrySeen) → NoteSeen
 
--- the note of a reply that adds no entry, if it leaves one
-abbrev pub plain_note : EventSeen → ReplySeen → Option NoteSeen
-plain_note event (IsCurrent version plan) = Some (Looked version plan)
-plain_note event (IsStale version c) = Some (WasStale version c)
-plain_note event (IsFull back) = Some WasFull
-plain_note event IsIdle = Some WasIdle
-plain_note (Releases r) IsNothing = Some (WasNothing r)
-plain_note event given = None
+-- the receiver that an event asks for, 0 where it asks for none
+abbrev pub asked_for : EventSeen → ℕ
+asked_for (Releases r) = r
+asked_for event = 0
+
+-- the note of a reply that adds no entry, if it leaves one, by the receiver that was asked for
+abbrev pub plain_by : ℕ → ReplySeen → Option NoteSeen
+plain_by r (IsCurrent version plan) = Some (Looked version plan)
+plain_by r (IsStale version c) = Some (WasStale version c)
+plain_by r (IsFull back) = Some WasFull
+plain_by r IsIdle = Some WasIdle
+plain_by r IsNothing = Some (WasNothing r)
+plain_by r given = None
 
 -- the note of an entry, else the plain note
 abbrev pub note_or : ℕ → Option NoteSeen → Option EntrySeen → Option NoteSeen
@@ -32,7 +37,7 @@ note_or at plain (Some entry) = Some (Added at entry)
 
 -- the note of a reply; `at` is the number of the entry, where it adds one
 abbrev pub note_of : ℕ → EventSeen → ReplySeen → Option NoteSeen
-note_of at event given = note_or at (plain_note event given) (added event given)
+note_of at event given = note_or at (plain_by (asked_for event) given) (added event given)
 
 -- ---- the law of doors
 

@@ -1,34 +1,19 @@
 -- A gate for one thread.
-use Rattle.std.specs.Prelude.{◌≡◌, ℕ, Bool, true, false, List, Option, None, Some, Result, Ok, Err, MatchResult}
+use Rattle.std.specs.Prelude.{◌≡◌, Bool, true, false, List, Option, None, Some, Result, Ok, Err, MatchResult}
 use Rattle.std.specs.Option.{option_map}
 use Rattle.gw_gate.specs.Journal.{Journal, end}
-use Rattle.gw_gate.specs.Replies.{EventSeen, Looks, Arrives, Releases, Replied}
-use Rattle.gw_gate.specs.Replies.{ReplySeen, IsCurrent, IsStale, IsIdle, IsNothing, IsFull}
+use Rattle.gw_gate.specs.Replies.{EventSeen, Looks, Arrives, Replied, ReplySeen, IsCurrent, IsStale}
 use Rattle.gw_gate.specs.Values.{event_seen, reply_seen}
 use Rattle.gw_gate.specs.declared.event.Event.{Event}
 use Rattle.gw_gate.specs.declared.event.Reply.{Reply}
 use Rattle.gw_crew.specs.declared.note.Note.{Note}
-use Rattle.gw_crew.specs.Notes.{NoteSeen, Looked, WasStale, WasFull, WasIdle, WasNothing, Answers, note_of}
+use Rattle.gw_crew.specs.Notes.{NoteSeen, Answers, note_of}
 use Rattle.gw_crew.specs.Seen.{note_seen}
 
 -- its journal and its notes
 pub record SoloSeen : Type 0 where
   pub gate : Journal
   pub notes : List NoteSeen
-
--- the receiver that an event asks for, 0 where it asks for none
-abbrev pub asked_for : EventSeen → ℕ
-asked_for (Releases r) = r
-asked_for event = 0
-
--- the note of a reply that adds no entry, by the receiver that was asked for
-abbrev pub plain_by : ℕ → ReplySeen → Option NoteSeen
-plain_by r (IsCurrent version plan) = Some (Looked version plan)
-plain_by r (IsStale version c) = Some (WasStale version c)
-plain_by r (IsFull back) = Some WasFull
-plain_by r IsIdle = Some WasIdle
-plain_by r IsNothing = Some (WasNothing r)
-plain_by r given = None
 
 -- whether the note of a reply has a copy of what came with it
 abbrev pub is_copied : ReplySeen → Bool

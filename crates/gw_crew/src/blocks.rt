@@ -31,6 +31,7 @@ fn take_piece(decoder: &mut Decoder, piece: &[u8]) -> Result<bool, AllocError>
 }
 
 // The next block, which comes back for the message of this number.
+#[tactic(auto, using(crate::proofs::Carrying::first_so))]
 fn next_block<R: Source>(decoder: &mut Decoder, reader: &mut R, n: u64) -> Result<Vec<u8>, RunFault>
     requires { R.has_failed reader.old ≡ false }
     ensures next { IfOk result (λ content. GivesNext (spot R.remaining R.reads reader.old) (spot R.remaining R.reads reader.new)
@@ -63,6 +64,7 @@ fn next_block<R: Source>(decoder: &mut Decoder, reader: &mut R, n: u64) -> Resul
 }
 
 // What a content says as the acknowledgment of the message of this number and control id.
+#[tactic(auto, using(crate::specs::Carries::no_memory))]
 fn read_answer(alloc: Global, content: &[u8], control: &[u8], n: u64) -> Result<Ack, RunFault>
     ensures says { IfOk result (Acknowledges content.now control.now) }
     ensures not { IfErr result (Denies n content.now control.now) }

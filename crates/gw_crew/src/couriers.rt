@@ -54,6 +54,7 @@ pub fn release<D: Door>(door: &mut D, receiver: usize) -> Result<ReleaseReply, R
 }
 
 // Writes the block of the message of this number.
+#[tactic(auto, using(crate::proofs::Carrying::memory_unwritten, crate::proofs::Carrying::line_unwritten))]
 fn send<W: Sink>(alloc: Global, message: &Message, writer: &mut W, n: u64) -> Result<(), RunFault>
     requires { W.has_failed writer.old ≡ false }
     ensures ok { OnOk result (Appends (W.contents writer.old) (W.contents writer.new) (block (written message.now))) }
@@ -70,6 +71,7 @@ fn send<W: Sink>(alloc: Global, message: &Message, writer: &mut W, n: u64) -> Re
 }
 
 /// Writes the block of the message of this number, and reads its acknowledgment. The faults are those of a courier.
+#[tactic(auto, using(crate::proofs::Carrying::unsent_so))]
 pub fn carry<R: Source, W: Sink>(
     alloc: Global,
     decoder: &mut Decoder,

@@ -20,6 +20,7 @@ fn closed_in(reply: Reply) -> Option<Chapter>
 
 /// Closes the gate's journal, in one event, and gives it as a chapter, or None where something is pending. It leaves no note.
 /// The one error is an allocation failure.
+#[tactic(auto, using(crate::specs::Cutting::memory, crate::proofs::Cutting::cuts_so, crate::proofs::Cutting::same_so))]
 pub fn cut<D: Door>(door: &mut D) -> Result<Option<Chapter>, AllocError>
     ensures cut { Cuts (D.noted door.old) result (D.noted door.new) }
     ensures same { D.noted door.new ≡ D.noted door.old }

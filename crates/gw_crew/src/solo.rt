@@ -1,10 +1,11 @@
 //! A gate for one thread, and the noted step of a gate.
-ghost use Rattle.std.specs.Prelude.{◌≡◌, ◌≢◌, ◌≤◌, ◌+◌, ◌++◌, IsTrue, IfOk, OnErr, is_some, vec_len, vec_capacity};
+ghost use Rattle.std.specs.Prelude.{◌≡◌, ◌≢◌, ◌≤◌, ◌+◌, ◌++◌, IsTrue, IfOk, OnErr, is_some, vec_len, vec_capacity, [], false};
 ghost use Rattle.std.specs.Option.{option_map, option_to_list};
-ghost use Rattle.gw_gate.specs.Replies.{Cuts};
-ghost use Rattle.gw_gate.specs.Values.{event_seen, reply_seen};
+ghost use Rattle.gw_gate.specs.Replies.{Cuts, Replied};
+ghost use Rattle.gw_gate.specs.Values.{event_seen, reply_seen, answer_seen};
+ghost use Rattle.gw_crew.specs.Notes.{asked_for, plain_by, Calls, NotesAt};
 ghost use Rattle.gw_crew.specs.Seen.{note_seen, notes_seen};
-ghost use Rattle.gw_crew.specs.Solos.{StepsOnce, asked_for, event_of, is_copied, note_in, plain_by, reply_in};
+ghost use Rattle.gw_crew.specs.Solos.{StepsOnce, event_of, is_copied, note_in, reply_in, SoloSeen};
 
 use crate::door::{Door, Phase};
 use crate::note::{Note, Receipt};
@@ -27,9 +28,6 @@ impl Drop for Solo {
 }
 
 impl Model for Solo {
-    ghost use Rattle.gw_crew.specs.Seen.{notes_seen};
-    ghost use Rattle.gw_crew.specs.Solos.{SoloSeen};
-
     ghost Value = { SoloSeen };
 
     ghost view = { λ s. record { gate = s.gate; notes = notes_seen s.notes.items } };
@@ -132,8 +130,6 @@ pub fn keep(
 }
 
 impl Solo {
-    ghost use Rattle.std.specs.Prelude.{◌≡◌, []};
-
     /// A handle of this gate, which has noted nothing. It takes no memory.
     pub fn new(alloc: Global, gate: Gate) -> Self
         ensures { result ≡ record { gate = gate; notes = [] } }
@@ -161,11 +157,6 @@ impl Solo {
 }
 
 impl Door for Solo {
-    ghost use Rattle.std.specs.Prelude.{◌≡◌, IfOk, OnErr, false};
-    ghost use Rattle.gw_gate.specs.Replies.{Replied};
-    ghost use Rattle.gw_gate.specs.Values.{event_seen, reply_seen, answer_seen};
-    ghost use Rattle.gw_crew.specs.Notes.{Calls, NotesAt};
-
     ghost noted = { λ s. s.notes };
 
     /// One step of the gate, noted with the number of its entry. An error is an allocation failure: the event is returned, and nothing changed.

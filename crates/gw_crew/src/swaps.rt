@@ -73,6 +73,7 @@ fn swap_reply(reply: &Reply) -> Result<u64, SwapFault>
 
 /// Swaps in the plan that the text spells, in one event, and gives its version.
 /// The fault says why the text is no plan, that its receivers aren't the gate's, that the journal is full, or that an allocation failed.
+#[tactic(auto, using(crate::proofs::Swapped::refused_so, crate::proofs::Swapped::short_so))]
 pub fn swap<D: Door>(alloc: Global, door: &mut D, text: &[u8]) -> Result<u64, SwapFault>
     ensures { Swaps text.now (D.noted door.old) result (D.noted door.new) }
 {

@@ -4,7 +4,7 @@ ghost use Rattle.std.specs.Arc.{arc_value};
 ghost use Rattle.gw_gate.specs.Values.{reply_seen};
 ghost use Rattle.gw_plan.specs.Admitted.{IsOf};
 ghost use Rattle.gw_stream.specs.declared.fault.RunFault.TheVariants.{Memory};
-ghost use Rattle.gw_crew.specs.own.Turns.{Adds, Finishes, Put, Took, Turn, put_reply, take_reply, take_reply_seen};
+ghost use Rattle.gw_crew.specs.own.Turns.{Adds, Finishes, Took, Turn, put_reply, take_reply, take_reply_seen};
 ghost use Rattle.gw_crew.specs.Works.{Breaks, InHand, Works};
 
 use crate::door::{Door, Phase};
@@ -34,14 +34,6 @@ enum TakeReply {
     Full,
 }
 
-// A reply to Put.
-#[derive(Clone, Copy)]
-enum PutReply {
-    Kept,
-    Dropped,
-    Full,
-}
-
 // Reads a reply to Take.
 fn take_reply(reply: Reply) -> TakeReply
     ensures { take_reply_seen result ≡ take_reply (reply_seen reply) }
@@ -61,14 +53,14 @@ fn take_reply(reply: Reply) -> TakeReply
     }
 }
 
-// Reads a reply to Put.
-fn put_reply(reply: &Reply) -> PutReply
+// How many results a reply to Put says that were kept, where the worker goes on.
+fn put_reply(reply: &Reply) -> Option<u64>
     ensures { result ≡ put_reply (reply_seen reply.now) }
 {
     match reply {
-        Reply::Kept => PutReply::Kept,
-        Reply::Full(_) => PutReply::Full,
-        _ => PutReply::Dropped,
+        Reply::Kept => Some(1),
+        Reply::Full(_) => None,
+        _ => Some(0),
     }
 }
 
@@ -84,10 +76,11 @@ fn take<D: Door>(door: &mut D) -> Result<TakeReply, RunFault>
     }
 }
 
-// Brings the result of a job.
-fn put<D: Door>(alloc: Global, door: &mut D, job: &Job) -> Result<PutReply, RunFault>
+// Brings the result of a job. Says how many results were kept, where the worker goes on.
+#[tactic(auto, using(crate::proofs::Working::put_so))]
+fn put<D: Door>(alloc: Global, door: &mut D, job: &Job) -> Result<Option<u64>, RunFault>
     requires { IsOf (arc_value job.now.conforming) job.now.receiver }
-    ensures put { IfOk result (λ b. Put job.now.n job.now.receiver b (D.noted door.old) (D.noted door.new)) }
+    ensures put { IfOk result (λ kept. Adds (Finishes job.now.n job.now.receiver kept false) (D.noted door.old) (D.noted door.new)) }
     ensures err { OnErr result (D.noted door.new ≡ D.noted door.old) }
     ensures memory { IfErr result (λ e. e ≡ Memory) }
 {
@@ -116,14 +109,11 @@ fn finish<D: Door, P: Pause>(
     if !pause.pause(job.n) {
         return Ok(None);
     }
-    match put(alloc, door, job)? {
-        PutReply::Kept => Ok(Some(1)),
-        PutReply::Dropped => Ok(Some(0)),
-        PutReply::Full => Ok(None),
-    }
+    put(alloc, door, job)
 }
 
 // One round. Says how many results were kept, where the worker goes on.
+#[tactic(auto, using(crate::proofs::Working::rounds))]
 fn turn<D: Door, P: Pause>(alloc: Global, door: &mut D, pause: &mut P) -> Result<Option<u64>, Fault>
     requires { P.has_stopped pause.old ≡ false }
     ensures turn { IfOk result (λ kept. Adds (Turn kept (P.has_stopped pause.new)) (D.noted door.old) (D.noted door.new)) }
@@ -151,6 +141,7 @@ fn turn<D: Door, P: Pause>(alloc: Global, door: &mut D, pause: &mut P) -> Result
 /// A result that isn't kept is dropped. Where the gate is full, or the pause says so, it ends without a fault.
 ///
 /// The one fault is an allocation failure, with the number and receiver of the job that it had, if it had one.
+#[tactic(auto, using(crate::proofs::Bounds::noted_few, crate::proofs::Bounds::falls, crate::proofs::Working::longer))]
 pub fn worker<D: Door, P: Pause>(
     alloc: Global,
     door: &mut D,

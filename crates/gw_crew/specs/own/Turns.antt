@@ -6,8 +6,6 @@ use Rattle.gw_gate.specs.Parts.{ConformingSeen, TranslatedSeen, delivers}
 use Rattle.gw_gate.specs.Replies.{ReplySeen, IsJob, IsIdle, IsKept, IsFull}
 use Rattle.gw_gate.specs.Seen.{Translated, conforming_seen, translated_seen}
 use Rattle.gw_crew.specs.declared.workers.TakeReply as worker
-use Rattle.gw_crew.specs.declared.workers.PutReply.{PutReply}
-use Rattle.gw_crew.specs.declared.workers.PutReply.TheVariants as reply
 use Rattle.gw_crew.specs.Notes.{NoteSeen, WasFull, WasIdle, WasNothing, Added}
 use Rattle.gw_crew.specs.Works.{Ends}
 use Rattle.gw_crew.specs.Carries as carries
@@ -49,21 +47,11 @@ pub record Took (taken : TakeReplySeen) (old new : List NoteSeen) : Type 0 where
 
 -- ---- what becomes of its result
 
-abbrev pub put_reply : ReplySeen → PutReply
-put_reply IsKept = reply.Kept
-put_reply (IsFull back) = reply.Full
-put_reply given = reply.Dropped
-
-abbrev pub put_notes : ℕ → ℕ → TranslatedSeen → PutReply → List NoteSeen
-put_notes at n t reply.Kept = Added at (WasKept n t) ∷ []
-put_notes at n t reply.Full = WasFull ∷ []
-put_notes at n t reply.Dropped = []
-
-pub record Put (n r : ℕ) (became : PutReply) (old new : List NoteSeen) : Type 0 where
-  pub t : TranslatedSeen
-  pub receiver : t.receiver ≡ r
-  pub at : ℕ
-  pub noted : new ≡ old ++ put_notes at n t became
+-- how many results were kept, where the worker goes on
+abbrev pub put_reply : ReplySeen → Option ℕ
+put_reply IsKept = Some 1
+put_reply (IsFull back) = None
+put_reply given = Some 0
 
 -- ---- a worker's round
 

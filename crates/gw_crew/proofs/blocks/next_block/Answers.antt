@@ -1,19 +1,22 @@
 use Rattle.std.proofs.Common.{rules, refl, ap, Ok, arith}
 use Rattle.std.proofs.lemmas.Grind.{common_steps}
-use Rattle.gw_crew.proofs.Carrying.{read_none, memory_none, turns_none, ended_none, long_none, first_so, next_so, reads_more}
+use Rattle.gw_mllp.specs.Stream.{Overlong}
+use Rattle.gw_crew.specs.Carries.{ended, line, memory, read, turns}
+use Rattle.gw_crew.proofs.Carrying.{in_vain, next_so, reading_ends, reading_long, reads_more}
 use Rattle.gw_crew.proofs.blocks.next_block.Goals as goal
 
 pub returns-in_default-read-clause-none : goal.returns-in_default-read-clause-none
-returns-in_default-read-clause-none g c = λ control. read_none _ _ _ _ _ control (search rules)
+returns-in_default-read-clause-none g c = λ control s blocks was. line (read (search rules))
 
 pub returns-then-count-eq0-clause-none : goal.returns-then-count-eq0-clause-none
 returns-then-count-eq0-clause-none g c =
     let eats = rw c.if-count-eq0.true at c.in-Ok.ensures.bytes in
-    λ control. ended_none _ _ _ _ _ _ _ _ _ control c.reads.invariant.reading eats.0 (eats.1 refl (let long = c.read.auto.buf in search rules))
-    c.reads.invariant.empty
+    let end = eats.1 refl (let long = c.read.auto.buf in search rules) in
+    λ control s blocks was.
+    (let at_end = reading_ends _ _ _ _ _ _ (c.reads.invariant.reading s blocks was) eats.0 end c.reads.invariant.empty in line (ended at_end.0 at_end.1))
 
 pub returns-in_default-take_piece-clause-none : goal.returns-in_default-take_piece-clause-none
-returns-in_default-take_piece-clause-none g c = λ control. memory_none _ _ _ _ _ control (search rules)
+returns-in_default-take_piece-clause-none g c = λ control s blocks was. memory refl (search rules)
 
 pub returns-in-Some-next_block-clause-next : goal.returns-in-Some-next_block-clause-next
 returns-in-Some-next_block-clause-next g c =
@@ -26,7 +29,8 @@ returns-then-not-on-clause-none g c =
     let long = c.read.auto.buf in
     let run = reads_more _ _ _ _ _ _ _ _ _ c.reads.invariant.reading c.in-Ok.ensures.bytes.0 (grind (arith, common_steps)) (grind (arith, common_steps))
     c.in-Ok.ensures.counted c.in-Ok-take_piece.ensures.stands refl in
-    λ control. long_none _ _ _ _ _ _ _ _ control run c.in_default-next_block.ensures.none.0 (c.in-Ok-take_piece.ensures.over (ap Ok c.if-not-on.true))
+    let over = c.in-Ok-take_piece.ensures.over (ap Ok c.if-not-on.true) in
+    λ control s blocks was. line (ended Overlong (reading_long _ _ _ _ _ (run s blocks was) c.in_default-next_block.ensures.none.0 over))
 
 pub reads-preserved : goal.reads-preserved
 reads-preserved g c =
@@ -41,8 +45,5 @@ reads-preserved g c =
 
 pub returns-clause-none : goal.returns-clause-none
 returns-clause-none g c =
-    λ control. turns_none _ _ _ _ _ _ _ control c.reads.invariant.works c.reads.invariant.reading (first_of (omega arith, search rules))
-    (first_of (omega arith, search rules))
-
-pub returns-in-Some-clause-next : goal.returns-in-Some-clause-next
-returns-in-Some-clause-next g c = first_so _ _ _ _ c.in-Some.ensures.given
+    λ control s blocks was. turns refl c.reads.invariant.works
+    (in_vain _ _ _ _ _ (c.reads.invariant.reading s blocks was) (first_of (omega arith, search rules)) (first_of (omega arith, search rules)))

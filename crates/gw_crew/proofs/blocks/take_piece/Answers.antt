@@ -1,7 +1,12 @@
-use Rattle.std.proofs.Common.{rules, ◌≡◌, ap, Err}
-use Rattle.gw_mllp.specs.declared.fault.FrameFault.TheVariants.{Memory, Truncated}
-use Rattle.gw_crew.proofs.Framing.{only_too_long}
+use Rattle.std.proofs.Common.{rules, ◌≡◌, ap, refl, Err}
+use Rattle.gw_mllp.specs.declared.fault.FrameFault.{FrameFault}
+use Rattle.gw_mllp.specs.declared.fault.FrameFault.TheVariants.{Memory, TooLong, Truncated}
 use Rattle.gw_crew.proofs.blocks.take_piece.Goals as goal
+
+only_too_long : (fault : FrameFault) → ¬ (fault ≡ Memory) → ¬ (fault ≡ Truncated) → fault ≡ TooLong
+only_too_long Memory a b = absurd (a refl)
+only_too_long TooLong a b = refl
+only_too_long Truncated a b = absurd (b refl)
 
 pub returns-in-Err : goal.returns-in-Err
 returns-in-Err c =

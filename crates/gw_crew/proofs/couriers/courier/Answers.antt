@@ -1,7 +1,7 @@
 use Rattle.std.proofs.Common.{rules, arith, ap, sym, ◌∙◌}
 use Rattle.gw_gate.specs.Seen.{message_seen}
 use Rattle.gw_crew.proofs.Bounds.{noted_few}
-use Rattle.gw_crew.proofs.Carrying.{progress_none, carries_so, empty_so, hand_so, progress_more, progress_total, progress_few, comes_longer}
+use Rattle.gw_crew.proofs.Carrying.{progress_none, carries_so, empty_so, hand_so, progress_more, counted, progress_few, comes_longer}
 use Rattle.gw_crew.proofs.couriers.courier.Goals as goal
 
 pub rounds-init : goal.rounds-init
@@ -30,7 +30,7 @@ count-requires-clause-sent g c =
     omega (arith, few, more, bound)
 
 pub count-requires-clause-codes : goal.count-requires-clause-codes
-count-requires-clause-codes g c = progress_total _ _ _ _ _ _ _ _ _ c.rounds.invariant.progress
+count-requires-clause-codes g c = (counted _ _ _ _ _ c.rounds.invariant.progress.carried.rounds).total
 
 pub rounds-preserved : goal.rounds-preserved
 rounds-preserved g c =

@@ -1,6 +1,6 @@
 use Rattle.std.proofs.Common.{◌∙◌, ap, rules}
 use Rattle.gw_gate.specs.Values.{reply_seen}
-use Rattle.gw_crew.specs.Solos.{plain_by}
+use Rattle.gw_crew.specs.Notes.{plain_by}
 use Rattle.gw_crew.proofs.Soloing.{stepped_added, stepped_plain, stayed}
 use Rattle.gw_crew.proofs.solo.step.Goals as goal
 
