@@ -14,7 +14,7 @@ use Rattle.gw_crew.specs.own.Turns.{Adds}
 use Rattle.gw_session.specs.declared.doors.NumberedReply.{NumberedReply}
 use Rattle.gw_session.specs.Sessions.{Decides, HasCode, IsCutShort, IsOutcome, Judged, Tries}
 use Rattle.gw_session.specs.Sessions as sessions
-use Rattle.gw_session.specs.own.Steps.{Asks, Taken, Back, NoRoom, ComesTo, CutsShort, EndsIn, JudgementSeen, MayLook, OnceMore, Settles}
+use Rattle.gw_session.specs.own.Steps.{Asks, Taken, Back, NoRoom, ComesTo, CutsShort, EndsIn, JudgementSeen, OnceMore, Settles}
 use Rattle.gw_session.specs.own.Steps as steps
 
 abbrev Message : Type 0
@@ -43,9 +43,6 @@ ends_outcome : (what : Option Message) (before last : List NoteSeen) (asked said
 ends_outcome what before last asked said number decides (steps.refused at arrival code has) =
     sessions.turned_away what before asked at arrival code decides has
 ends_outcome what before last asked said number decides steps.full = sessions.no_room what before asked decides
-
-pub looked_only : (version : ℕ) (plan : PlanSeen) (old new : List NoteSeen) → new ≡ old ++ Looked version plan ∷ [] → Adds MayLook old new
-looked_only version plan old new noted = record { more = Looked version plan ∷ []; holds = steps.looked version plan; noted = noted }
 
 -- ---- one arrival
 
@@ -101,13 +98,13 @@ module _ (m : Message) where
 
   -- ---- one arrival that breaks off
 
-  cut_look : (looks : List NoteSeen) → MayLook looks → CutsShort m looks
-  cut_look looks steps.not_yet k tried few tries =
-      subst (λ l. IsCutShort (Some m) l) (sym (append-nil tried)) (sessions.tried m k tried (omega arith) tries)
-  cut_look looks (steps.looked version plan) k tried few tries = sessions.looked m k tried version plan few tries
+  pub cuts_none : (old new : List NoteSeen) → new ≡ old → Adds (CutsShort m) old new
+  cuts_none old new = adds_none (CutsShort m) old new (λ k tried few tries.
+      subst (λ l. IsCutShort (Some m) l) (sym (append-nil tried)) (sessions.tried m k tried (omega arith) tries))
 
-  pub cuts_at_look : (old new : List NoteSeen) → Adds MayLook old new → Adds (CutsShort m) old new
-  cuts_at_look old new looks = adds_same MayLook (CutsShort m) old new new cut_look looks refl
+  pub cuts_looked : (version : ℕ) (plan : PlanSeen) (old new : List NoteSeen) → new ≡ old ++ Looked version plan ∷ [] → Adds (CutsShort m) old new
+  cuts_looked version plan old new noted =
+      record { more = Looked version plan ∷ []; holds = λ k tried few tries. sessions.looked m k tried version plan few tries; noted = noted }
 
   pub cuts_after_look : (judgement : JudgementSeen) (old mid new : List NoteSeen) → Adds (Asks m judgement) old mid → new ≡ mid
       → Adds (CutsShort m) old new

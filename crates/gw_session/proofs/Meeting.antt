@@ -9,7 +9,7 @@ use Rattle.gw_stream.specs.Streams.{Ends}
 use Rattle.gw_stream.proofs.Exchanging.{ends_seen}
 use Rattle.gw_crew.specs.Notes.{NoteSeen}
 use Rattle.gw_crew.specs.own.Turns.{Adds}
-use Rattle.gw_session.specs.Sessions.{Breaks, IsCutShort, IsOutcome, SessionAll, SessionPart, Settles}
+use Rattle.gw_session.specs.Sessions.{Breaks, IsOutcome, SessionAll, SessionPart, Settles}
 use Rattle.gw_session.specs.own.Steps.{SameStamps}
 
 -- stamps that can be given are so from the first on
@@ -25,9 +25,6 @@ pub settled_as : (Gives Given : List ℕ → Type 0) (old new : List NoteSeen) (
     → SameStamps Gives Given → Settles Given old new place what outcome → Settles Gives old new place what outcome
 settled_as Gives Given old new place what outcome same is =
     record { notes = is.notes; is_outcome = is.is_outcome; noted = is.noted; given = (same outcome.stamp).0 is.given }
-
-pub broken_so : (old new : List NoteSeen) (what : Option (List SegmentValue)) → Adds (IsCutShort what) old new → Breaks old new what
-broken_so old new what cut = record { notes = cut.more; cut = cut.holds; noted = cut.noted }
 
 -- ---- a judge that keeps a door and a clock
 

@@ -4,7 +4,7 @@ ghost use Rattle.std.specs.Arc.{arc_value};
 ghost use Rattle.gw_crew.specs.own.Turns.{Adds};
 ghost use Rattle.gw_gate.specs.Seen.{plan_seen};
 ghost use Rattle.gw_session.specs.Sessions.{IsCutShort, IsOutcome};
-ghost use Rattle.gw_session.specs.own.Steps.{Asks, Attempts, CutsShort, Judges, MayLook, attempt_seen, judgement_seen};
+ghost use Rattle.gw_session.specs.own.Steps.{Asks, Attempts, CutsShort, Judges, judgement_seen};
 
 use crate::doors::{ArriveReply, CurrentPlan, NumberedReply, arrive, look, refuse};
 use gw_ack::{INTERNAL, Reply};
@@ -47,17 +47,19 @@ fn judge(alloc: Global, current: &CurrentPlan, message: Message) -> Result<Judge
 }
 
 // Looks up the plan in force, and asks what it says of a message.
+#[tactic(auto, using(gw_stream::proofs::Posting::err_gives, crate::proofs::Arriving::cuts_none, crate::proofs::Arriving::cuts_looked))]
 fn ask<D: Door>(alloc: Global, door: &mut D, message: Message) -> Result<Judgement, AllocError>
     ensures asked { IfOk result (λ judgement. Adds (Asks message (judgement_seen judgement)) (D.noted door.old) (D.noted door.new)) }
-    ensures err { OnErr result (Adds MayLook (D.noted door.old) (D.noted door.new)) }
+    ensures err { OnErr result (Adds (CutsShort message) (D.noted door.old) (D.noted door.new)) }
 {
     let current = look(door)?;
     judge(alloc, &current, message)
 }
 
 // Has a message arrive once, under the plan in force.
+#[tactic(auto, using(gw_stream::proofs::Posting::err_gives, crate::proofs::Arriving::cuts_after_look))]
 fn try_once<D: Door>(alloc: Global, door: &mut D, message: Message) -> Result<Attempt, AllocError>
-    ensures tried { IfOk result (λ attempt. Adds (Attempts message (attempt_seen attempt)) (D.noted door.old) (D.noted door.new)) }
+    ensures tried { IfOk result (λ attempt. Adds (Attempts message attempt) (D.noted door.old) (D.noted door.new)) }
     ensures err { OnErr result (Adds (CutsShort message) (D.noted door.old) (D.noted door.new)) }
 {
     match ask(alloc, door, message)? {
@@ -77,6 +79,7 @@ fn try_once<D: Door>(alloc: Global, door: &mut D, message: Message) -> Result<At
 }
 
 // Has a message arrive, under the plan in force each time: where it is stale, again, four times at most; then it is rejected.
+#[tactic(auto, using(crate::proofs::Arriving::unless_gives_up))]
 fn arrive_in_time<D: Door>(
     alloc: Global,
     door: &mut D,
@@ -97,6 +100,7 @@ fn arrive_in_time<D: Door>(
 }
 
 /// Has what was read arrive: a message, or none, which is rejected at once.
+#[tactic(auto, using(crate::proofs::Arriving::unless_unreadable))]
 pub(crate) fn settle<D: Door>(
     alloc: Global,
     door: &mut D,

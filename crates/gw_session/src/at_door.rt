@@ -23,6 +23,7 @@ impl<D: Door, C: Clock> Judge for AtDoor<'_, D, C> {
     ghost breaks = { λ s t what. (t.door.ghost_name ≡ s.door.ghost_name) × SameStamps (C.gives s.clock.now) (C.gives t.clock.now)
         × Breaks (D.noted s.door.now) (D.noted t.door.now) what };
 
+    #[tactic(auto, using(crate::proofs::Meeting::settled_so))]
     fn judge(
         &mut self,
         alloc: Global,

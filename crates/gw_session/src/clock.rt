@@ -1,4 +1,6 @@
 //! A clock that stands still.
+ghost use Rattle.std.specs.Prelude.{◌≡◌, ◌↔◌, ℕ, List};
+
 use gw_ack::Stamp;
 use gw_crew::Clock;
 
@@ -9,8 +11,6 @@ pub struct FixedClock {
 }
 
 impl FixedClock {
-    ghost use Rattle.std.specs.Prelude.{◌≡◌, ◌↔◌, ℕ, List};
-
     /// The clock that stands at this stamp. It takes no memory.
     pub fn new(stamp: Stamp) -> FixedClock
         ensures { (given : List ℕ) → ⟦<FixedClock as Clock>⟧.gives result given ↔ (given ≡ stamp) }
@@ -20,8 +20,6 @@ impl FixedClock {
 }
 
 impl Clock for FixedClock {
-    ghost use Rattle.std.specs.Prelude.{◌≡◌};
-
     ghost gives = { λ c given. given ≡ c.stamp };
 
     fn stamp(&mut self) -> Stamp {

@@ -88,6 +88,7 @@ pub(crate) fn look<D: Door>(door: &mut D) -> Result<CurrentPlan, AllocError>
 }
 
 /// Has an admitted message arrive.
+#[tactic(auto, using(crate::proofs::Asking::arrive_noted))]
 pub(crate) fn arrive<D: Door>(
     door: &mut D,
     conforming: Arc<Conforming>,
@@ -102,6 +103,7 @@ pub(crate) fn arrive<D: Door>(
 }
 
 /// Has a refusal noted, under the condition code of its reply.
+#[tactic(auto, using(crate::proofs::Asking::ended_so))]
 pub(crate) fn refuse<D: Door>(
     door: &mut D,
     reply: Reply,

@@ -102,20 +102,7 @@ pub record Asks (m : List SegmentValue) (judgement : JudgementSeen) (notes : Lis
   pub is : notes ≡ Looked version plan ∷ []
   pub judges : Judges m version plan judgement
 
--- the plan was looked up, or wasn't
-pub data MayLook : List NoteSeen → Type 0 where
-  not_yet : MayLook []
-  looked : (version : ℕ) (plan : PlanSeen) → MayLook (Looked version plan ∷ [])
-
 -- ---- how a message arrives
-
-pub data AttemptSeen : Type 0 where
-  Done : (number : ℕ) → (said : Reply) → AttemptSeen
-  Again : (message : List SegmentValue) → AttemptSeen
-
-abbrev pub attempt_seen : Attempt → AttemptSeen
-attempt_seen (attempt.Done turn) = Done turn.number turn.reply
-attempt_seen (attempt.Stale message) = Again message
 
 -- after three stale arrivals at most, it is settled with these notes
 abbrev pub Settles : List SegmentValue → ℕ → Reply → List NoteSeen → Type 0
@@ -126,9 +113,9 @@ pub record OnceMore (m back : List SegmentValue) (notes : List NoteSeen) : Type 
   pub same : back ≡ m
   pub tries : (k : ℕ) (tried : List NoteSeen) → Tries m k tried → Tries m (k + 1) (tried ++ notes)
 
-abbrev pub Attempts : List SegmentValue → AttemptSeen → List NoteSeen → Type 0
-Attempts m (Done number said) notes = Settles m number said notes
-Attempts m (Again back) notes = OnceMore m back notes
+abbrev pub Attempts : List SegmentValue → Attempt → List NoteSeen → Type 0
+Attempts m (attempt.Done turn) notes = Settles m turn.number turn.reply notes
+Attempts m (attempt.Stale back) notes = OnceMore m back notes
 
 -- after three stale arrivals at most, it breaks off with these notes
 abbrev pub CutsShort : List SegmentValue → List NoteSeen → Type 0

@@ -1,28 +1,14 @@
 use Rattle.std.proofs.Common.{◌∙◌, sym, ap}
 use Rattle.gw_gate.specs.Seen.{message_seen}
 use Rattle.gw_stream.proofs.Posting.{err_gives}
-use Rattle.gw_session.proofs.Arriving.{cuts_at_look, cuts_after_look, cuts_after_stale, settles_refused, settles_taken, settles_full, once_more}
+use Rattle.gw_session.proofs.Arriving.{cuts_after_stale, settles_refused, settles_taken, settles_full, once_more}
 use Rattle.gw_session.proofs.arrival.try_once.Goals as goal
-
-pub returns-in_err-why-clause-err : goal.returns-in_err-why-clause-err
-returns-in_err-why-clause-err g c = err_gives _ (cuts_at_look _ _ _ c.in_err-why.ensures.err)
-
-pub returns-in_err-refuse-in-Refused-clause-err : goal.returns-in_err-refuse-in-Refused-clause-err
-returns-in_err-refuse-in-Refused-clause-err g c =
-    let asks = rw c.in-Refused.is at c.in_ok-why.ensures.asked in err_gives _ (cuts_after_look _ _ _ _ _ asks c.in_err-refuse-in-Refused.ensures.err)
-
-pub returns-in_err-number-in-Admitted-clause-err : goal.returns-in_err-number-in-Admitted-clause-err
-returns-in_err-number-in-Admitted-clause-err g c =
-    let asks = rw c.in-Admitted.is at c.in_ok-why.ensures.asked in err_gives _ (cuts_after_look _ _ _ _ _ asks c.in_err-number-in-Admitted.ensures.err)
 
 pub returns-in_err-copy-in-Stale-clause-err : goal.returns-in_err-copy-in-Stale-clause-err
 returns-in_err-copy-in-Stale-clause-err g c =
     let asks = rw c.in-Admitted.is at c.in_ok-why.ensures.asked in
     let came = rw c.in-Stale.is at c.in_ok-number-in-Admitted.ensures.replied in
     err_gives _ (cuts_after_stale _ _ _ _ _ _ asks came)
-
-pub refuse-requires : goal.refuse-requires
-refuse-requires g c = let asks = rw c.in-Refused.is at c.in_ok-why.ensures.asked in asks.holds.judges.1
 
 pub returns-in_ok-refuse-in-Refused-clause-tried : goal.returns-in_ok-refuse-in-Refused-clause-tried
 returns-in_ok-refuse-in-Refused-clause-tried g c =
