@@ -7,22 +7,21 @@ use Rattle.std.proofs.lemmas.List.Elements.{filter_map-append}
 use Rattle.std.proofs.lemmas.Option.{none-some}
 use Rattle.gw_gate.specs.Chapters.{is_pending}
 use Rattle.gw_gate.specs.Journal.{EntrySeen, Journal, end}
-use Rattle.gw_gate.specs.Replies.{EventSeen, Releases, Cuts, added, with_added, left_by, closed_by, limited, most, reply}
-use Rattle.gw_gate.specs.Replies.{ReplySeen, IsCurrent, IsNothing, IsPending, IsClosed}
+use Rattle.gw_gate.specs.Replies.{EventSeen, Cuts, added, with_added, left_by, closed_by, limited, most, reply}
+use Rattle.gw_gate.specs.Replies.{ReplySeen, IsCurrent, IsPending, IsClosed}
 use Rattle.gw_gate.specs.Values.{reply_seen}
 use Rattle.gw_gate.specs.declared.event.Event.{Event}
 use Rattle.gw_gate.specs.declared.event.Reply.{Reply}
 use Rattle.gw_crew.specs.declared.note.Note.{Note}
-use Rattle.gw_crew.specs.Notes.{NoteSeen, Answers, plain_note, note_or, receipt_of}
+use Rattle.gw_crew.specs.Notes.{NoteSeen, Answers, asked_for, plain_by, note_or, receipt_of}
 use Rattle.gw_crew.specs.Solos.{StepsOnce, Stepped, reply_in}
 use Rattle.gw_run.specs.Passes.{IsReplyTo, receipts}
 use Rattle.gw_run.specs.own.Steps.{StepsSomewhere, added_by, counted_by}
 use Rattle.gw_gate.proofs.Releasing.{some_is}
 
-plain_adds_none : (event : EventSeen) (given : ReplySeen) → added_by (plain_note event given) ≡ 0
-plain_adds_none event (IsCurrent v p) = refl
-plain_adds_none (Releases r) IsNothing = refl
-plain_adds_none event given = refl
+plain_adds_none : (r : ℕ) (given : ReplySeen) → added_by (plain_by r given) ≡ 0
+plain_adds_none r (IsCurrent v p) = refl
+plain_adds_none r given = refl
 
 -- ---- a step
 
@@ -53,7 +52,7 @@ stepped_grows : (before after : Journal) (event : EventSeen) (given : ReplySeen)
 stepped_grows before after event given left step =
     ap end (step.replied.new_is ∙ ap (left_by before event) (sym step.replied.reply_is))
     ∙ ends_with before event given step.answers step.replied.reply_is
-    ∙ grows before (added event given) (end before) (plain_note event given) (plain_adds_none event given)
+    ∙ grows before (added event given) (end before) (plain_by (asked_for event) given) (plain_adds_none (asked_for event) given)
     ∙ ap (λ o. end before + added_by o) (sym step.note_is)
 
 -- there are as many entries more in all as the step's note tells of

@@ -99,10 +99,6 @@ pub ends_open : (low : ℕ) (js : List Journal) (j : Journal) → last_end low (
 ends_open low [] j = refl
 ends_open low (k ∷ js) j = ends_open (end k) js j
 
-pub entries_few : (js : List Journal) → GoOn js → length (all_entries js) ≤ last_end 0 js
-entries_few [] go = omega arith
-entries_few (j ∷ js) go = let e = ends_at j js go in omega (arith, e)
-
 -- ---- where an entry stands
 
 get_front : {X : Type 0} (xs ys : List X) (k : ℕ) → k < length xs → slice_get (xs ++ ys) k ≡ slice_get xs k
@@ -169,25 +165,22 @@ arrived_count (WasAccepted n arrival c ∷ h) = let e = counts Arrived (WasAccep
 arrived_count (WasRefused arrival code ∷ h) = let e = counts Arrived (WasRefused arrival code) h in omega (arith, e, arrived_count h)
 arrived_count (x ∷ h) = let e = counts Arrived x h in omega (arith, e, arrived_count h)
 
-module _ (j : Journal) (swaps : List ℕ) (seen : List PlanSeen) (tells : PlansAt j swaps seen) (turn : ℕ) (there : Passes swaps (length j.entries) turn) where
-  whole : take (length j.entries) j.entries ≡ j.entries
-  whole = take_all (length j.entries) j.entries (omega arith)
+-- the version and the plan at a chapter's end, where it passed this many swaps
+pub record Turned (j : Journal) (seen : List PlanSeen) (turn : ℕ) : Type 0 where
+  pub version : (start_after j).version ≡ j.start.version + turn
+  pub plan : slice_get seen turn ≡ Some (start_after j).plan
 
-  pub version_is : (start_after j).version ≡ j.start.version + turn
-  version_is = ap (λ h. (current (record j { entries = h })).number) (sym whole) ∙ tells.number (length j.entries) turn there
-
-  pub plan_there : slice_get seen turn ≡ Some (start_after j).plan
-  plan_there = tells.plan (length j.entries) turn there ∙ ap (λ h. Some (current (record j { entries = h })).plan) whole
-
-  pub plan_is : (p : PlanSeen) → Some p ≡ slice_get seen turn → p ≡ (start_after j).plan
-  plan_is p is = some_is p (start_after j).plan (is ∙ plan_there)
-
--- how many of the swaps the whole chapter passed, as they are borrowed
-pub passed_there : (lent swaps : List ℕ) (n m turn : ℕ) → lent ≡ swaps → m ≡ n → IsStrictlyIncreasing swaps
-    → (IsStrictlyIncreasing lent → Passes lent n turn) → Passes swaps m turn
-passed_there lent swaps n m turn same long rising is =
-    subst (λ k. Passes swaps k turn) (sym long)
-    (subst (λ (l : List ℕ). Passes l n turn) same (is (subst (λ (l : List ℕ). IsStrictlyIncreasing l) (sym same) rising)))
+-- the swaps as they are borrowed
+pub turned : (j : Journal) (lent swaps : List ℕ) (seen : List PlanSeen) (n turn : ℕ) → PlansAt j swaps seen → lent ≡ swaps → length j.entries ≡ n
+    → (IsStrictlyIncreasing lent → Passes lent n turn) → Turned j seen turn
+turned j lent swaps seen n turn tells same long is =
+    let passes = subst (λ (l : List ℕ). Passes l n turn) same (is (subst (λ (l : List ℕ). IsStrictlyIncreasing l) (sym same) tells.rising)) in
+    let there : Passes swaps (length j.entries) turn = subst (λ k. Passes swaps k turn) (sym long) passes in
+    let whole : take (length j.entries) j.entries ≡ j.entries = take_all (length j.entries) j.entries (omega arith) in
+    record {
+      version = ap (λ h. (current (record j { entries = h })).number) (sym whole) ∙ tells.number (length j.entries) turn there;
+      plan = tells.plan (length j.entries) turn there ∙ ap (λ h. Some (current (record j { entries = h })).plan) whole;
+    }
 
 pub starts_so : (s t : Start) → s.version ≡ t.version → s.plan ≡ t.plan → s.acceptances ≡ t.acceptances → s.arrivals ≡ t.arrivals → s.entries ≡ t.entries
     → s ≡ t
@@ -234,4 +227,4 @@ exact parts js counted since passes b are is found =
 
 -- there are no more entries than the open chapter's end counts
 pub few_in_all : (js : List Journal) (j : Journal) → GoOn (js ++ j ∷ []) → length (all_entries (js ++ j ∷ [])) ≤ end j
-few_in_all js j go = let few = entries_few (js ++ j ∷ []) go in let last = ends_open 0 js j in omega (arith, few, last)
+few_in_all js j go = let few = ends_all (js ++ j ∷ []) go in let last = ends_open 0 js j in omega (arith, few, last)

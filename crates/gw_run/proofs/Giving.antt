@@ -1,6 +1,6 @@
 -- What one pass has receipts of is what was given out.
 use Rattle.std.proofs.Common.{◌≡◌, ◌≢◌, ℕ, zero, suc, ◌+◌, ◌-◌, ◌<◌, ◌≤◌, ◌==◌, ◌&&◌, ◌⊎◌, inl, inr, Bool, true, false, if◌then◌else◌, List, [], ◌∷◌, ◌++◌}
-use Rattle.std.proofs.Common.{map, drop, Some, slice_get, length, refl, sym, ap, subst, ◌∙◌, arith}
+use Rattle.std.proofs.Common.{map, drop, Option, Some, slice_get, length, refl, sym, ap, subst, ◌∙◌, arith}
 use Rattle.std.specs.Prelude.{cond, nat_le, flat_map, is_some}
 use Rattle.std.specs.List.{list_all, range_with_len}
 use Rattle.std.proofs.lemmas.Grind.{common_steps, flat_map-append}
@@ -94,15 +94,19 @@ abbrev Rising : ℕ → List ReceiptSeen → Type 0
 Rising low [] = Unit {0}
 Rising low (x ∷ all) = (low ≤ x.at) × Rising (x.at + 1) all
 
--- the entries from this number on have theirs
-abbrev StandIn : List EntrySeen → ℕ → List ReceiptSeen → Type 0
-StandIn h low [] = Unit {0}
-StandIn h low (x ∷ all) = (is_same x.entry (slice_get h (x.at - low)) ≡ true) × StandIn h low all
+-- each number's entry is theirs
+abbrev StandIn : (ℕ → Option EntrySeen) → List ReceiptSeen → Type 0
+StandIn entry [] = Unit {0}
+StandIn entry (x ∷ all) = (is_same x.entry (entry x.at) ≡ true) × StandIn entry all
+
+-- the entry of a number over all chapters
+abbrev under : List Journal → ℕ → Option EntrySeen
+under js at = slice_get (all_entries js) (at - first_of js)
 
 -- the receipts of notes that agree
 record Receipts (js : List Journal) (low : ℕ) (all : List ReceiptSeen) : Type 0 where
   up : Rising low all
-  stand : StandIn (all_entries js) (first_of js) all
+  stand : StandIn (under js) all
 
 agreed : (js : List Journal) (low : ℕ) (notes : List NoteSeen) → agrees js low notes ≡ true → Receipts js low (receipts notes)
 agreed js low [] is = record { up = tt; stand = tt }
@@ -114,38 +118,8 @@ agreed js low (Added at e ∷ notes) is =
     record { up = (leb-true low at this.0, rest.up); stand = (there.1, rest.stand) }
 agreed js low (note ∷ notes) is = agreed js low notes (and_parts (fits_between js low (next_at (last_end 0 js) notes) note) (agrees js low notes) is).1
 
-lower : (m n : ℕ) (all : List ReceiptSeen) → m ≤ n → Rising n all → Rising m all
-lower m n [] le up = tt
-lower m n (x ∷ all) le up = (let first = up.0 in omega (arith, le, first), up.1)
-
-at_next : (e : EntrySeen) (h : List EntrySeen) (low at : ℕ) → low + 1 ≤ at → slice_get (e ∷ h) (at - low) ≡ slice_get h (at - (low + 1))
-at_next e h low at le = let next : at - low ≡ suc (at - (low + 1)) = omega arith in ap (slice_get (e ∷ h)) next
-
-shift : (e : EntrySeen) (h : List EntrySeen) (low : ℕ) (all : List ReceiptSeen) → Rising (low + 1) all → StandIn (e ∷ h) low all → StandIn h (low + 1) all
-shift e h low [] up is = tt
-shift e h low (x ∷ all) up is = (
-  subst (λ o. is_same x.entry o ≡ true) (at_next e h low x.at up.0) is.0,
-  shift e h low all (lower (low + 1) (x.at + 1) all (let first = up.0 in omega (arith, first)) up.1) is.1,
-)
-
-none_stand : (low m : ℕ) (all : List ReceiptSeen) → StandIn [] low all → StandIn [] m all
-none_stand low m [] is = tt
-none_stand low m (x ∷ all) is = absurd (false≢true is.0)
-
--- past some entries
-window : (n base : ℕ) (h : List EntrySeen) (all : List ReceiptSeen) → Rising (base + n) all → StandIn h base all → StandIn (drop n h) (base + n) all
-window zero base h all up is = subst (λ m. StandIn h m all) (let same : base ≡ base + 0 = omega arith in same) is
-window (suc n) base [] all up is = none_stand base (base + suc n) all is
-window (suc n) base (e ∷ h) all up is =
-    let next : base + 1 + n ≡ base + suc n = omega arith in
-    subst (λ m. StandIn (drop n h) m all) next
-    (window n (base + 1) h all (subst (λ m. Rising m all) (sym next) up) (shift e h base all (lower (base + 1) (base + suc n) all (omega arith) up) is))
-
-having_cons : (x : ReceiptSeen) (all : List ReceiptSeen) (k : ℕ) → having (x ∷ all) k ≡ cond (x.at == k) 1 0 + having all k
-having_cons x all k = sum_by-cons (λ (y : ReceiptSeen). cond (y.at == k) 1 0) x all
-
 having_other : (x : ReceiptSeen) (all : List ReceiptSeen) (k : ℕ) → x.at ≢ k → having all k ≡ 0 → having (x ∷ all) k ≡ 0
-having_other x all k other none = having_cons x all k ∙ ap (λ b. cond b 1 0 + having all k) (ne_eqb x.at k other)
+having_other x all k other none = sum_by-cons (λ (y : ReceiptSeen). cond (y.at == k) 1 0) x all ∙ ap (λ b. cond b 1 0 + having all k) (ne_eqb x.at k other)
     ∙ (let same : 0 + having all k ≡ having all k = omega arith in same) ∙ none
 
 having_before : (m : ℕ) (all : List ReceiptSeen) (k : ℕ) → Rising m all → k < m → having all k ≡ 0
@@ -171,59 +145,64 @@ not_out : (r : ℕ) (e : EntrySeen) (h : List EntrySeen) (low : ℕ) (all : List
 not_out r e h low all told none = false_from_ne_true (is_out e r)
     (λ out. told 0 e refl out (let here : low + 0 ≡ low = omega arith in ap (having all) here ∙ none))
 
--- its receipts tell of the same releases as the entries do
-one_tells : (r : ℕ) (h : List EntrySeen) (low : ℕ) (all : List ReceiptSeen) → Rising low all → StandIn h low all → Told r h low all
-    → are_same (given_by all r) (released h r) ≡ true
-one_tells r [] low [] up is told = refl
-one_tells r [] low (x ∷ all) up is told = absurd (false≢true is.0)
-one_tells r (e ∷ h) low [] up is told =
-    subst (λ l. are_same [] l ≡ true) (sym (calm e h r (not_out r e h low [] told refl))) (one_tells r h (low + 1) [] tt tt (told_next r e h low [] told))
-one_tells r (e ∷ h) low (x ∷ all) up is told = by (λ on s t. one_tells r h (low + 1) all on s t) (λ on s t. one_tells r h (low + 1) (x ∷ all) on s t)
-    (cases_eq x.at low)
+tells_next : (entry : ℕ → Option EntrySeen) (e : EntrySeen) (h : List EntrySeen) (low : ℕ) → ((k : ℕ) → entry (low + k) ≡ slice_get (e ∷ h) k)
+    → (k : ℕ) → entry (low + 1 + k) ≡ slice_get h k
+tells_next entry e h low tells k = let same : low + 1 + k ≡ low + suc k = omega arith in ap entry same ∙ tells (suc k)
+
+-- its receipts tell of the same releases as the entries do, which have the numbers from low on
+one_tells : (r : ℕ) (entry : ℕ → Option EntrySeen) (h : List EntrySeen) (low : ℕ) (all : List ReceiptSeen) → ((k : ℕ) → entry (low + k) ≡ slice_get h k)
+    → Rising low all → StandIn entry all → Told r h low all → are_same (given_by all r) (released h r) ≡ true
+one_tells r entry [] low [] tells up is told = refl
+one_tells r entry [] low (x ∷ all) tells up is told =
+    let first = up.0 in
+    let place : x.at ≡ low + (x.at - low) = omega (arith, first) in
+    absurd (false≢true (sym (ap (λ o. is_same x.entry o) (ap entry place ∙ tells (x.at - low))) ∙ is.0))
+one_tells r entry (e ∷ h) low [] tells up is told =
+    subst (λ l. are_same [] l ≡ true) (sym (calm e h r (not_out r e h low [] told refl)))
+    (one_tells r entry h (low + 1) [] (tells_next entry e h low tells) tt tt (told_next r e h low [] told))
+one_tells r entry (e ∷ h) low (x ∷ all) tells up is told = by (λ on t. one_tells r entry h (low + 1) all (tells_next entry e h low tells) on is.1 t)
+    (λ on t. one_tells r entry h (low + 1) (x ∷ all) (tells_next entry e h low tells) on is t) (cases_eq x.at low)
   where
-    by : (Rising (low + 1) all → StandIn h (low + 1) all → Told r h (low + 1) all → are_same (given_by all r) (released h r) ≡ true)
-        → (Rising (low + 1) (x ∷ all) → StandIn h (low + 1) (x ∷ all) → Told r h (low + 1) (x ∷ all) → are_same (given_by (x ∷ all) r) (released h r) ≡ true)
+    by : (Rising (low + 1) all → Told r h (low + 1) all → are_same (given_by all r) (released h r) ≡ true)
+        → (Rising (low + 1) (x ∷ all) → Told r h (low + 1) (x ∷ all) → are_same (given_by (x ∷ all) r) (released h r) ≡ true)
         → (x.at ≡ low) ⊎ (x.at ≢ low) → are_same (given_by (x ∷ all) r) (released (e ∷ h) r) ≡ true
     by past stays (inl here) =
-        let first : x.at - low ≡ 0 = omega (arith, here) in
-        let same : same_entry x.entry e ≡ true = subst (λ k. is_same x.entry (slice_get (e ∷ h) k) ≡ true) first is.0 in
-        let on : Rising (low + 1) all = subst (λ m. Rising (m + 1) all) here up.1 in
-        heads x.entry e (map entry_of all) h r same (past on (shift e h low all on is.1) (told_past r e h low x all here told))
+        let place : x.at ≡ low + 0 = omega (arith, here) in
+        let same : same_entry x.entry e ≡ true = subst (λ o. is_same x.entry o ≡ true) (ap entry place ∙ tells 0) is.0 in
+        heads x.entry e (map entry_of all) h r same (past (subst (λ m. Rising (m + 1) all) here up.1) (told_past r e h low x all here told))
     by past stays (inr other) =
         let above = up.0 in
         let later : low + 1 ≤ x.at = omega (arith, above, other) in
         let none = having_before (low + 1) (x ∷ all) low (later, up.1) (omega arith) in
         subst (λ l. are_same (given_by (x ∷ all) r) l ≡ true) (sym (calm e h r (not_out r e h low (x ∷ all) told none)))
-        (stays (later, up.1) (shift e h low (x ∷ all) (later, up.1) is) (told_next r e h low (x ∷ all) told))
+        (stays (later, up.1) (told_next r e h low (x ∷ all) told))
 
 -- ---- the other passes
 
-none_told : (r base k : ℕ) (h : List EntrySeen) (e : EntrySeen) (all : List ReceiptSeen) → slice_get h k ≡ Some e → is_out e r ≡ true → StandIn h base all
-    → given_by all r ≡ [] → having all (base + k) ≡ 0
-none_told r base k h e [] at out is none = refl
-none_told r base k h e (x ∷ all) at out is none = by (λ n. none_told r base k h e all at out is.1 n) (is_out x.entry r) refl
+none_told : (r n : ℕ) (entry : ℕ → Option EntrySeen) (e : EntrySeen) (all : List ReceiptSeen) → entry n ≡ Some e → is_out e r ≡ true → StandIn entry all
+    → given_by all r ≡ [] → having all n ≡ 0
+none_told r n entry e [] at out is none = refl
+none_told r n entry e (x ∷ all) at out is none = by (λ rest. none_told r n entry e all at out is.1 rest) (is_out x.entry r) refl
   where
-    kind : x.at ≡ base + k → is_out x.entry r ≡ is_out e r
-    kind same =
-        let place : x.at - base ≡ k = omega (arith, same) in
-        same_kind x.entry e r (subst (λ o. is_same x.entry o ≡ true) (ap (slice_get h) place ∙ at) is.0)
+    kind : x.at ≡ n → is_out x.entry r ≡ is_out e r
+    kind same = same_kind x.entry e r (subst (λ o. is_same x.entry o ≡ true) (ap entry same ∙ at) is.0)
 
-    by : (given_by all r ≡ [] → having all (base + k) ≡ 0) → (b : Bool) → is_out x.entry r ≡ b → having (x ∷ all) (base + k) ≡ 0
+    by : (given_by all r ≡ [] → having all n ≡ 0) → (b : Bool) → is_out x.entry r ≡ b → having (x ∷ all) n ≡ 0
     by rest true told = absurd (out_some x.entry (map entry_of all) r told none)
-    by rest false quiet = having_other x all (base + k) (λ same. false≢true (sym quiet ∙ kind same ∙ out))
+    by rest false quiet = having_other x all n (λ same. false≢true (sym quiet ∙ kind same ∙ out))
         (rest (sym (calm x.entry (map entry_of all) r quiet) ∙ none))
 
 having-append : (xs ys : List ReceiptSeen) (k : ℕ) → having (xs ++ ys) k ≡ having xs k + having ys k
 having-append xs ys k = sum_by-append (λ (y : ReceiptSeen). cond (y.at == k) 1 0) xs ys
 
-others_quiet : (js : List Journal) (since r k : ℕ) (e : EntrySeen) (passes : List (List NoteSeen)) → slice_get (all_entries js) k ≡ Some e
-    → is_out e r ≡ true → list_all (agrees js since) passes ≡ true → NoneGiven r passes → having (flat_map receipts passes) (first_of js + k) ≡ 0
-others_quiet js since r k e [] at out each none = refl
-others_quiet js since r k e (notes ∷ passes) at out each none =
+others_quiet : (js : List Journal) (since r n : ℕ) (e : EntrySeen) (passes : List (List NoteSeen)) → under js n ≡ Some e → is_out e r ≡ true
+    → list_all (agrees js since) passes ≡ true → NoneGiven r passes → having (flat_map receipts passes) n ≡ 0
+others_quiet js since r n e [] at out each none = refl
+others_quiet js since r n e (notes ∷ passes) at out each none =
     let both = and_parts (agrees js since notes) (list_all (agrees js since) passes) each in
-    let here = none_told r (first_of js) k (all_entries js) e (receipts notes) at out (agreed js since notes both.0).stand none.0 in
-    let rest = others_quiet js since r k e passes at out both.1 none.1 in
-    let sum = having-append (receipts notes) (flat_map receipts passes) (first_of js + k) in
+    let here = none_told r n (under js) e (receipts notes) at out (agreed js since notes both.0).stand none.0 in
+    let rest = others_quiet js since r n e passes at out both.1 none.1 in
+    let sum = having-append (receipts notes) (flat_map receipts passes) n in
     omega (arith, here, rest, sum)
 
 -- ---- all passes
@@ -248,7 +227,7 @@ pub one_courier : (js : List Journal) (since r : ℕ) (before after : List (List
     → NoneGiven r before → NoneGiven r after
     → are_same (given_out notes r) (released (drop (since - first_of js) (all_entries js)) r) ≡ true
 one_courier js since r before after notes settled first last =
-    one_tells r (drop d (all_entries js)) since (receipts notes) own.up (subst (λ m. StandIn (drop d (all_entries js)) m (receipts notes)) here in_window) told
+    one_tells r (under js) (drop d (all_entries js)) since (receipts notes) tells own.up own.stand told
   where
     d : ℕ
     d = since - first_of js
@@ -256,8 +235,10 @@ one_courier js since r before after notes settled first last =
     le : first_of js ≤ since
     le = leb-true (first_of js) since settled.from
 
-    here : first_of js + d ≡ since
-    here = omega (arith, le)
+    tells : (k : ℕ) → under js (since + k) ≡ slice_get (drop d (all_entries js)) k
+    tells k =
+        let place : since + k - first_of js ≡ d + k = omega (arith, le) in
+        ap (slice_get (all_entries js)) place ∙ sym (get_drop d k (all_entries js))
 
     each : (list_all (agrees js since) before ≡ true) × (list_all (agrees js since) (notes ∷ after) ≡ true)
     each = and_parts _ _ (sym (list_all-append (agrees js since) before (notes ∷ after)) ∙ settled.each)
@@ -268,19 +249,15 @@ one_courier js since r before after notes settled first last =
     own : Receipts js since (receipts notes)
     own = agreed js since notes mine.0
 
-    in_window : StandIn (drop d (all_entries js)) (first_of js + d) (receipts notes)
-    in_window = window d (first_of js) (all_entries js) (receipts notes) (subst (λ m. Rising m (receipts notes)) (sym here) own.up) own.stand
-
     told : Told r (drop d (all_entries js)) since (receipts notes)
     told k e at out none =
-        let at_all : slice_get (all_entries js) (d + k) ≡ Some e = sym (get_drop d k (all_entries js)) ∙ at in
-        let within = slice_get_within (all_entries js) (d + k) e at_all in
+        let there : under js (since + k) ≡ Some e = tells k ∙ at in
+        let within = slice_get_within (all_entries js) (since + k - first_of js) e there in
         let sum = ends_all js settled.follow in
-        let number : first_of js + (d + k) ≡ since + k = omega (arith, here) in
-        let b = ap (having (flat_map receipts before)) (sym number) ∙ others_quiet js since r (d + k) e before at_all out each.0 first in
-        let a = ap (having (flat_map receipts after)) (sym number) ∙ others_quiet js since r (d + k) e after at_all out mine.1 last in
+        let b = others_quiet js since r (since + k) e before there out each.0 first in
+        let a = others_quiet js since r (since + k) e after there out mine.1 last in
         let all = having_all before after notes (since + k) in
         let one = eqb-true (having (flat_map receipts (before ++ notes ∷ after)) (since + k)) 1
         (all_at (λ q. having (flat_map receipts (before ++ notes ∷ after)) q == 1) since (last_end 0 js - since) k
-        (omega (arith, within, sum, here)) settled.all) in
+        (omega (arith, within, sum, le)) settled.all) in
         omega (arith, all, one, b, a, none)

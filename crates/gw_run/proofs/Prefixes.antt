@@ -109,7 +109,7 @@ plans_next s entries k e old new lt is added was =
 
 -- ---- pairs
 
-one_job : (e : EntrySeen) → jobs (e ∷ []) ≤ 1
+pub one_job : (e : EntrySeen) → jobs (e ∷ []) ≤ 1
 one_job (WasTaken n r) = omega arith
 one_job e = omega arith
 
@@ -121,9 +121,6 @@ module _ (h : List EntrySeen) (k : ℕ) (e : EntrySeen) (next : take (k + 1) h �
 
   pub taken_next : (all extra : ℕ) → all ≡ jobs (take k h) → extra ≡ jobs (e ∷ []) → all + extra ≡ jobs (take (k + 1) h)
   taken_next all extra was is = let both = ap jobs next in omega (arith, was, is, both, jobs-append (take k h) (e ∷ []))
-
-pub few_taken : (e : EntrySeen) (all extra k : ℕ) → all ≤ k → extra ≡ jobs (e ∷ []) → all + extra ≤ k + 1
-few_taken e all extra k few is = omega (arith, few, is, one_job e)
 
 -- every pair was taken
 pub idle_is : (h : List EntrySeen) → AreLawful h → (k all taken : ℕ) → all ≡ length (issued (take k h)) → taken ≡ jobs (take k h)
@@ -164,9 +161,6 @@ count_at first [] i v all is = absurd (none-some v is)
 count_at first (x ∷ xs) zero v all is = let e = ap number (some_is x v is) in let f = all.0 in omega (arith, e, f)
 count_at first (x ∷ xs) (suc i) v all is = let e = count_at (first + 1) xs i v all.1 is in omega (arith, e)
 
-same_past : {X : Type 0} (h : List X) (k m : ℕ) → length h ≤ k → length h ≤ m → take k h ≡ take m h
-same_past h k m a b = take_all k h a ∙ sym (take_all m h b)
-
 module _ (s : Start) (h : List EntrySeen) where
   pub current_at : (k : ℕ) → slice_get (plans (journal_of s h)) (swaps_in h k) ≡ Some (current (journal_of s (take k h)))
   current_at k =
@@ -178,7 +172,8 @@ module _ (s : Start) (h : List EntrySeen) where
       → seen ≡ map plan (plans (journal_of s h)) → PlansAt (journal_of s h) swaps seen
   tells_plans lawful swaps seen counts are =
       let at : Tracks (λ k i. swaps_in h k ≡ i) swaps =
-      done (λ k i. swaps_in h k ≡ i) (length h) swaps counts (λ k le is. ap (λ l. length (swapped l)) (same_past h k (length h) le (omega arith)) ∙ is) in
+      done (λ k i. swaps_in h k ≡ i) (length h) swaps counts
+      (λ k le is. ap (λ l. length (swapped l)) (take_all k h le ∙ sym (take_all (length h) h (omega arith))) ∙ is) in
       let numbers = lawful_numbers Makes (journal_of s h) lawful in
       record {
         rising = at.rising;

@@ -2,17 +2,18 @@
 use Rattle.std.proofs.Common.{◌≡◌, ◌≢◌, ℕ, zero, suc, ◌+◌, ◌-◌, ◌<◌, ◌≤◌, ◌%◌, ◌⊎◌, inl, inr, Bool, true, false, List, [], ◌∷◌, ◌++◌, length, get_or, Option, None}
 use Rattle.std.proofs.Common.{Some, Ok, Err, refl, sym, ap, subst, ◌∙◌, arith, length-append}
 use Rattle.std.specs.Prelude.{nat_le, ◌||◌, slice_get}
-use Rattle.std.specs.List.{list_any, range_with_len}
+use Rattle.std.specs.List.{list_any, prefix_len, range_with_len}
 use Rattle.std.specs.List.Sorted.{IsStrictlyIncreasing, IsBinarySearchResult}
 use Rattle.std.specs.Ordering.{nat_cmp}
 use Rattle.std.proofs.lemmas.List.{get_or_append_left, get_or_push}
-use Rattle.std.proofs.lemmas.Bool.{cases_lt, false≢true, le-leb, lt-leb}
+use Rattle.std.proofs.lemmas.Bool.{cases_lt, false≢true, le-leb, leb-false, leb-true, lt-leb}
 use Rattle.std.proofs.lemmas.Option.{slice_get-get_or, slice_get_past}
 use Rattle.std.proofs.lemmas.List.Folds.{list_any_at}
 use Rattle.std.proofs.lemmas.List.FromFn.{length-range_with_len, get_or-range_with_len}
 use Rattle.std.proofs.lemmas.List.Elements.{All-from_get_or}
 use Rattle.std.proofs.lemmas.List.Kept.{AllPairs-from_increasing}
 use Rattle.std.proofs.lemmas.List.Sorted.{searched}
+use Rattle.std.proofs.lemmas.List.Sums.{prefix_len-le-length, prefix_len_passes, prefix_len_stops}
 use Rattle.gw_reorder.proofs.Places.{equals, differs, rising_more}
 use Rattle.gw_run.specs.Turns.{HoldsFrom, IsFirstFrom, Passes, Tracks, TracksTo, TurnsAt, is_even, is_within}
 
@@ -44,9 +45,6 @@ between test low high (Some k) first = by (cases_lt high k)
 
 even_next : (i : ℕ) → is_even i ≡ false → is_even (i + 1) ≡ true
 even_next i odd = let other : i % 2 ≢ 0 = (λ e. false≢true (sym odd ∙ equals (i % 2) 0 e)) in equals ((i + 1) % 2) 0 (omega (arith, other))
-
-pub is_odd : (i : ℕ) → i % 2 ≢ 0 → is_even i ≡ false
-is_odd i other = differs (i % 2) 0 other
 
 rising_weakly : (xs : List ℕ) → IsStrictlyIncreasing xs → (i j : ℕ) → i ≤ j → j < length xs → get_or xs i 0 ≤ get_or xs j 0
 rising_weakly xs rising i j le lt = by (cases_lt i j)
@@ -105,23 +103,18 @@ even_next_at test ats low count turns here odd = by (cases_lt count (length ats)
 -- ---- a test that holds from one of them to the next
 
 -- of each number it can be said how many are passed
-module _ (ats : List ℕ) (rising : IsStrictlyIncreasing ats) (k : ℕ) where
-  passed_below : (n : ℕ) → n ≤ length ats → ((p : ℕ) → n ≤ p → p < length ats → k < get_or ats p 0) → (i : ℕ) × Passes ats k i
-  passed_below zero few after = (0, record { few = few; before = λ p lt. absurd (omega arith); after = after })
-  passed_below (suc n) few after = by (cases_lt k (get_or ats n 0)) (λ more. passed_below n (omega arith) more)
-    where
-      at : k < get_or ats n 0 → (p : ℕ) → p < length ats → (n < p) ⊎ (p ≤ n) → n ≤ p → k < get_or ats p 0
-      at below p lt (inl past) le = after p (omega arith) lt
-      at below p lt (inr here) le = let same : n ≡ p = omega arith in subst (λ q. k < get_or ats q 0) same below
-
-      by : (k < get_or ats n 0) ⊎ (get_or ats n 0 ≤ k) → (((p : ℕ) → n ≤ p → p < length ats → k < get_or ats p 0) → (i : ℕ) × Passes ats k i)
-          → (i : ℕ) × Passes ats k i
-      by (inl below) less = less (λ p le lt. at below p lt (cases_lt n p) le)
-      by (inr within) less =
-          (suc n, record { few = few; before = λ p lt. (let b = rising_weakly ats rising p n (omega arith) (omega arith) in omega (arith, b)); after = after })
-
-  pub passed : (i : ℕ) × Passes ats k i
-  passed = passed_below (length ats) (omega arith) (λ p le lt. absurd (omega arith))
+pub passed : (ats : List ℕ) → IsStrictlyIncreasing ats → (k : ℕ) → (i : ℕ) × Passes ats k i
+passed ats rising k = (
+  prefix_len (λ a. nat_le a k) ats,
+  record {
+    few = prefix_len-le-length (λ a. nat_le a k) ats;
+    before = λ p lt. leb-true (get_or ats p 0) k (prefix_len_passes (λ a. nat_le a k) ats p 0 lt);
+    after = λ p le lt.
+        (let stops = leb-false (get_or ats (prefix_len (λ a. nat_le a k) ats) 0) k (prefix_len_stops (λ a. nat_le a k) ats 0 (omega (arith, le, lt))) in
+        let more = rising_weakly ats rising (prefix_len (λ a. nat_le a k) ats) p le lt in
+        omega (arith, stops, more));
+  },
+)
 
 module _ (test : ℕ → Bool) (ats : List ℕ) (low count v : ℕ) (holds : HoldsFrom test v ats) (here : Passes ats low count) where
   pub with_past : v < count → IsFirstFrom low test None

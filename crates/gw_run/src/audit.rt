@@ -13,6 +13,7 @@ use std::alloc::{AllocError, Global};
 use std::sync::ledger::Ledger;
 
 // Whether the notes of each pass agree with the chapters, where there were since entries before them.
+#[tactic(auto, using(crate::proofs::Marking::not_all_at))]
 pub(crate) fn all_agree<L: Ledger>(parts: &[Part], since: usize, passes: &[Receipts<L>]) -> bool
     ensures { GoOn parts.now → result ≡ list_all (agrees parts.now since) (notes_of passes.now) }
 {

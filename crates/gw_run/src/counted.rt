@@ -1,8 +1,15 @@
 //! A gate with the book of the entries that were added to it.
-ghost use Rattle.std.specs.Prelude.{◌≡◌};
+ghost use Rattle.std.specs.Prelude.{◌≡◌, ◌+◌, ◌<◌};
 ghost use Rattle.std.specs.Option.{option_map};
 ghost use Rattle.gw_crew.specs.Seen.{note_seen};
-ghost use Rattle.gw_run.specs.own.Steps.{added_by};
+ghost use Rattle.gw_run.specs.own.Steps.{added_by, counted_by};
+ghost use Rattle.gw_gate.specs.Journal.{end};
+ghost use Rattle.gw_run.specs.Passes.{CountedSeen};
+ghost use Rattle.gw_gate.specs.Headline.{IsTranslated};
+ghost use Rattle.gw_gate.specs.Lawful.{IsLawful};
+ghost use Rattle.gw_gate.specs.Meaning.{Makes};
+ghost use Rattle.gw_gate.specs.Values.{event_seen};
+ghost use Rattle.gw_crew.specs.Solos.{StepsOnce};
 
 use gw_crew::{Note, step};
 use gw_gate::{Event, Gate, Reply};
@@ -19,10 +26,6 @@ pub struct Counted<L: Ledger> {
 }
 
 impl<L: Ledger> Model for Counted<L> {
-    ghost use Rattle.std.specs.Prelude.{◌≡◌, ◌+◌};
-    ghost use Rattle.gw_gate.specs.Journal.{end};
-    ghost use Rattle.gw_run.specs.Passes.{CountedSeen};
-
     ghost Value = { CountedSeen };
 
     ghost view = { λ c. record { gate = c.gate; since = c.since; total = c.book.total } };
@@ -41,15 +44,6 @@ fn entries_in(note: &Option<Note>) -> u64
 }
 
 impl<L: Ledger> Counted<L> {
-    ghost use Rattle.std.specs.Prelude.{◌≡◌, ◌<◌, ◌+◌};
-    ghost use Rattle.gw_gate.specs.Headline.{IsTranslated};
-    ghost use Rattle.gw_gate.specs.Journal.{end};
-    ghost use Rattle.gw_gate.specs.Lawful.{IsLawful};
-    ghost use Rattle.gw_gate.specs.Meaning.{Makes};
-    ghost use Rattle.gw_gate.specs.Values.{event_seen};
-    ghost use Rattle.gw_crew.specs.Solos.{StepsOnce};
-    ghost use Rattle.gw_run.specs.own.Steps.{counted_by};
-
     // The book counts the entries that are added from here on.
     pub(crate) fn begin(gate: Gate, book: Book<L>) -> Self
         requires { book.total ≡ 0 }

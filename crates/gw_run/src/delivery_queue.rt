@@ -7,7 +7,7 @@ ghost use Rattle.gw_gate.specs.Entries.{entry_seen, entries_seen};
 ghost use Rattle.gw_gate.specs.Seen.{conforming_seen};
 ghost use Rattle.gw_gate.specs.own.Desks.{desk_seen, value_seen};
 ghost use Rattle.gw_run.specs.Owing.{AreLawful, MayEnter, concerned, entered, gives_none};
-ghost use Rattle.gw_run.specs.own.Queues.{Advanced, ConcernsOnce, MovedIf, queue_at};
+ghost use Rattle.gw_run.specs.own.Queues.{Advanced, ConcernsOnce, MovedIf, queue_at, QueueSeen, no_queue};
 ghost use Rattle.gw_run.specs.Turns.{TurnsAt};
 
 use crate::turning_points::turn_to;
@@ -26,9 +26,6 @@ pub(crate) struct Queue {
 }
 
 impl Model for Queue {
-    ghost use Rattle.gw_gate.specs.own.Desks.{desk_seen};
-    ghost use Rattle.gw_run.specs.own.Queues.{QueueSeen};
-
     ghost Value = { QueueSeen };
 
     ghost view = { λ q. record { desk = desk_seen q.desk; turns = q.turns.items } };
@@ -126,11 +123,6 @@ fn has_nothing(desk: &Desk<Arc<Translated>>) -> bool
 }
 
 impl Queue {
-    ghost use Rattle.std.specs.Prelude.{◌≡◌, OnOk};
-    ghost use Rattle.gw_gate.specs.Entries.{entry_seen};
-    ghost use Rattle.gw_run.specs.Owing.{MayEnter};
-    ghost use Rattle.gw_run.specs.own.Queues.{Advanced, no_queue};
-
     fn new(alloc: Global) -> Self
         ensures { result ≡ no_queue }
     {

@@ -17,6 +17,7 @@ use std::alloc::Global;
 use std::sync::ledger::{Ledger, Share};
 
 // What is reported of the chapters, where the notes of the passes are settled.
+#[tactic(auto, using(crate::proofs::Following::exact))]
 fn settled<L: Ledger>(
     alloc: Global,
     counted: &Counted<L>,

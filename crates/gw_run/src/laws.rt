@@ -68,6 +68,7 @@ pub fn owed_walks()
 {}
 
 /// Where notes are settled, and one pass alone has receipts of what was given out for a receiver, it has them of all that was given out since, in order.
+#[tactic(auto, using(crate::proofs::Giving::one_courier))]
 pub fn what_one_courier_gave()
     ensures { (js : List Journal) (since r : ℕ) (before after : List (List NoteSeen)) (notes : List NoteSeen)
         → Settled js since (before ++ notes ∷ after) → NoneGiven r before → NoneGiven r after

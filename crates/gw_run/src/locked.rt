@@ -22,12 +22,8 @@ struct Locked<L: Ledger> {
 pub struct LockedGate<L: Ledger> {
     inner: Mutex<Locked<L>>,
     issued: Condvar,
+    // (one for each rest, shared by the receivers whose numbers leave it)
     kept: [Condvar; ROW],
-}
-
-// One condition for each rest, shared by the receivers whose numbers leave it.
-fn row() -> [Condvar; ROW] {
-    array::from_fn(|_rest| Condvar::new())
 }
 
 impl<L: Ledger> LockedGate<L> {
@@ -46,7 +42,7 @@ impl<L: Ledger> LockedGate<L> {
                 phase: Phase::Running,
             }),
             issued: Condvar::new(),
-            kept: row(),
+            kept: array::from_fn(|_rest| Condvar::new()),
         }
     }
 

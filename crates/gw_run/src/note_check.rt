@@ -1,10 +1,10 @@
 //! Whether the notes of a pass agree with the chapters.
-ghost use Rattle.std.specs.Prelude.{◌≡◌, ◌∷◌, ◌+◌, ◌-◌, ◌&&◌, [], length, nat_le, slice_get};
+ghost use Rattle.std.specs.Prelude.{◌≡◌, ◌∷◌, ◌+◌, ◌-◌, ◌<◌, ◌^◌, ◌&&◌, [], IsTrue, length, nat_le, slice_get};
 ghost use Rattle.gw_gate.specs.Journal.{end};
 ghost use Rattle.gw_gate.specs.Entries.{entry_seen};
 ghost use Rattle.gw_crew.specs.Notes.{Added};
 ghost use Rattle.gw_crew.specs.Seen.{note_seen, notes_seen};
-ghost use Rattle.gw_run.specs.own.Joins.{Follows, FollowsBy, IsFirst, IsFirstIn, next_by, number_in};
+ghost use Rattle.gw_run.specs.own.Joins.{Follows, FollowsBy, IsFirst, IsFirstIn, number_in};
 ghost use Rattle.gw_run.specs.Settled.{GoOn, agrees, is_same, stands};
 
 use crate::parts::{Part, last_of};
@@ -25,26 +25,17 @@ fn stands_in(part: &Part, at: usize, entry: &Entry) -> bool
     }
 }
 
-// The number, where an entry stands before it.
-fn next_by(next: usize, stands: bool) -> Option<usize>
-    ensures { result ≡ next_by next stands }
-{
-    if stands {
-        return Some(next);
-    }
-    None
-}
-
-// The number after this one, where the chapters have this entry under it.
-fn next_after(parts: &[Part], at: usize, entry: &Entry) -> Option<usize>
-    ensures { GoOn parts.now → result ≡ next_by (at + 1) (stands parts.now at (entry_seen entry.now)) }
+// Whether the chapters have this entry under this number. If so, there is a number after it.
+fn stands(parts: &[Part], at: usize, entry: &Entry) -> bool
+    ensures exact { GoOn parts.now → result ≡ stands parts.now at (entry_seen entry.now) }
+    ensures below { IsTrue result → at + 1 < 2 ^ 64 }
 {
     for part in parts {
         if at < part.end() {
-            return next_by(at + 1, stands_in(part, at, entry));
+            return stands_in(part, at, entry);
         }
     }
-    None
+    false
 }
 
 // The first number of the chapter's own entries, from low on, at which the note fits it.
@@ -73,6 +64,7 @@ fn within(part: &Part, first: usize) -> Option<usize>
 }
 
 // The first number of entries over all chapters, from low on, at which the note fits this one.
+#[tactic(auto, using(crate::proofs::Chaining::first_fits))]
 fn fit_in(part: &Part, low: usize, note: &Note) -> Option<usize>
     ensures { IsFirst (part.now ∷ []) low (note_seen note.now) result }
 {
@@ -97,6 +89,7 @@ fn first_fit(parts: &[Part], low: usize, note: &Note) -> Option<usize>
 }
 
 // From low and need, those after a receipt, unless notes don't agree with the chapters.
+#[tactic(auto, using(crate::proofs::Meeting::fails, crate::proofs::Meeting::holds))]
 fn after_receipt(
     parts: &[Part],
     low: usize,
@@ -108,10 +101,10 @@ fn after_receipt(
     if receipt.at < low || receipt.at < need {
         return None;
     }
-    match next_after(parts, receipt.at, &receipt.entry) {
-        Some(next) => Some((next, 0)),
-        None => None,
+    if !stands(parts, receipt.at, &receipt.entry) {
+        return None;
     }
+    Some((receipt.at + 1, 0))
 }
 
 // Those after any other note, by the first number at which it fits.

@@ -1,13 +1,20 @@
 //! The chapters of a gate, the open one last, and the first numbers of a chapter's entries at which a note fits it.
-ghost use Rattle.std.specs.Prelude.{◌≡◌, ◌+◌, ◌++◌, ◌∷◌, ◌↔◌, [], IfOk, IsTrue, bytes_eq, slice_get};
+ghost use Rattle.std.specs.Prelude.{◌≡◌, ◌+◌, ◌++◌, ◌∷◌, ◌↔◌, [], IfOk, IsTrue, bytes_eq, slice_get, ◌<◌, ◌^◌};
 ghost use Rattle.std.specs.Option.{option_map};
 ghost use Rattle.std.specs.Arc.{arc_value};
-ghost use Rattle.gw_gate.specs.Journal.{end, start_after};
+ghost use Rattle.gw_gate.specs.Journal.{end, start_after, Journal};
 ghost use Rattle.gw_gate.specs.Seen.{plan_seen};
 ghost use Rattle.gw_crew.specs.Seen.{note_seen};
 ghost use Rattle.gw_run.specs.Settled.{GoOn, first_of, last_end};
-ghost use Rattle.gw_run.specs.own.Joins.{plans_at, suits};
+ghost use Rattle.gw_run.specs.own.Joins.{is_suited, plans_at, suits, Tells, IsFirstIn, in_force};
 ghost use Rattle.gw_run.specs.own.Queues.{queue_at};
+ghost use Rattle.gw_gate.specs.own.Books.{journal_of};
+ghost use Rattle.gw_gate.specs.Entries.{entries_seen, start_seen};
+ghost use Rattle.gw_gate.specs.Headline.{IsTranslated};
+ghost use Rattle.gw_gate.specs.Lawful.{IsLawful};
+ghost use Rattle.gw_gate.specs.Meaning.{Makes};
+ghost use Rattle.gw_crew.specs.Notes.{WasFull, WasIdle, WasNothing};
+ghost use Rattle.gw_run.specs.Turns.{IsFirstFrom};
 
 use crate::delivery_queue::{Queue, queues_of};
 use crate::job_index::idle_in;
@@ -33,11 +40,6 @@ pub(crate) struct Part<'a> {
 }
 
 impl<'a> Model for Part<'a> {
-    ghost use Rattle.gw_gate.specs.own.Books.{journal_of};
-    ghost use Rattle.gw_gate.specs.Entries.{entries_seen, start_seen};
-    ghost use Rattle.gw_gate.specs.Journal.{Journal};
-    ghost use Rattle.gw_run.specs.own.Joins.{Tells, plans_at};
-
     ghost Value = { Journal };
 
     ghost view = { λ p. journal_of (start_seen p.start.now) (entries_seen p.entries.now) };
@@ -90,19 +92,17 @@ fn suits(note: &Note, there: &Plan) -> bool
     }
 }
 
-impl<'a> Part<'a> {
-    ghost use Rattle.std.specs.Prelude.{◌≡◌, ◌<◌, ◌^◌, IfOk};
-    ghost use Rattle.gw_gate.specs.own.Books.{journal_of};
-    ghost use Rattle.gw_gate.specs.Entries.{entries_seen, start_seen};
-    ghost use Rattle.gw_gate.specs.Headline.{IsTranslated};
-    ghost use Rattle.gw_gate.specs.Journal.{end};
-    ghost use Rattle.gw_gate.specs.Lawful.{IsLawful};
-    ghost use Rattle.gw_gate.specs.Meaning.{Makes};
-    ghost use Rattle.gw_crew.specs.Notes.{WasFull, WasIdle, WasNothing};
-    ghost use Rattle.gw_crew.specs.Seen.{note_seen};
-    ghost use Rattle.gw_run.specs.Turns.{IsFirstFrom};
-    ghost use Rattle.gw_run.specs.own.Joins.{IsFirstIn, in_force, suits};
+// Whether there is a plan at this place, and it suits the note.
+fn is_suited(plans: &[Arc<Plan>], place: u64, note: &Note) -> bool
+    ensures { result ≡ is_suited (suits (note_seen note.now)) (slice_get (plans_at plans.now) place) }
+{
+    match plan_at(plans, place) {
+        Some(there) => suits(note, there),
+        None => false,
+    }
+}
 
+impl<'a> Part<'a> {
     // The chapter of these entries.
     fn of(alloc: Global, start: &'a Start, entries: &'a [Entry]) -> Result<Self, AllocError>
         requires lawful { IsLawful (IsTranslated Makes) (journal_of (start_seen start.now) (entries_seen entries.now)) }
@@ -152,10 +152,7 @@ impl<'a> Part<'a> {
             return None;
         }
         let place = version - self.start.version;
-        let Some(there) = plan_at(&self.plans, place) else {
-            return None;
-        };
-        if !suits(note, there) {
+        if !is_suited(&self.plans, place, note) {
             return None;
         }
         first_with(&self.swaps, low, place)

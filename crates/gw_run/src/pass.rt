@@ -1,7 +1,9 @@
 //! A thread's handle of a locked gate, and what it leaves.
-ghost use Rattle.std.specs.Prelude.{◌≡◌, ◌<◌, []};
-ghost use Rattle.gw_run.specs.Passes.{IsCounted};
+ghost use Rattle.std.specs.Prelude.{◌≡◌, ◌<◌, [], length, IfOk};
+ghost use Rattle.gw_run.specs.Passes.{IsCounted, PassSeen, MayCount, receipts, IsReplyTo};
 ghost use Rattle.gw_crew.specs.Seen.{notes_seen};
+ghost use Rattle.gw_gate.specs.Values.{event_seen, reply_seen, answer_seen};
+ghost use Rattle.gw_crew.specs.Notes.{Calls};
 
 use crate::awaited::Missed;
 use crate::locked::LockedGate;
@@ -23,9 +25,6 @@ pub struct Pass<'a, L: Ledger, R: Wait> {
 }
 
 impl<'a, L: Ledger, R: Wait> Model for Pass<'a, L, R> {
-    ghost use Rattle.gw_crew.specs.Seen.{notes_seen};
-    ghost use Rattle.gw_run.specs.Passes.{PassSeen, MayCount};
-
     ghost Value = { PassSeen };
 
     ghost view = { λ p. record { parts = p.share.parts; amount = p.share.amount; notes = notes_seen p.notes.items } };
@@ -41,9 +40,6 @@ pub struct Receipts<L: Ledger> {
 }
 
 impl<L: Ledger> Model for Receipts<L> {
-    ghost use Rattle.gw_crew.specs.Seen.{notes_seen};
-    ghost use Rattle.gw_run.specs.Passes.{PassSeen, IsCounted};
-
     ghost Value = { PassSeen };
 
     ghost view = { λ r. record { parts = r.share.parts; amount = r.share.amount; notes = notes_seen r.notes.items } };
@@ -52,10 +48,6 @@ impl<L: Ledger> Model for Receipts<L> {
 }
 
 impl<L: Ledger> Receipts<L> {
-    ghost use Rattle.std.specs.Prelude.{◌≡◌, length};
-    ghost use Rattle.gw_crew.specs.Seen.{notes_seen};
-    ghost use Rattle.gw_run.specs.Passes.{IsCounted, receipts};
-
     /// The notes, in order. It takes no memory.
     pub fn notes(&self) -> &[Note]
         ensures notes { notes_seen result.now ≡ self.now.notes }
@@ -75,8 +67,6 @@ impl<L: Ledger> Receipts<L> {
 }
 
 impl<'a, L: Ledger, R: Wait> Pass<'a, L, R> {
-    ghost use Rattle.std.specs.Prelude.{◌≡◌, ◌<◌, []};
-
     pub(crate) fn new(alloc: Global, gate: &'a LockedGate<L>, rt: &'a R, share: Share<L>) -> Self
         requires part { 0 < share.parts }
         requires none { share.amount ≡ 0 }
@@ -107,11 +97,6 @@ impl<'a, L: Ledger, R: Wait> Pass<'a, L, R> {
 }
 
 impl<'a, L: Ledger, R: Wait> Door for Pass<'a, L, R> {
-    ghost use Rattle.std.specs.Prelude.{◌≡◌, IfOk};
-    ghost use Rattle.gw_gate.specs.Values.{event_seen, reply_seen, answer_seen};
-    ghost use Rattle.gw_crew.specs.Notes.{Calls};
-    ghost use Rattle.gw_run.specs.Passes.{IsCounted, IsReplyTo};
-
     ghost noted = { λ p. p.notes };
 
     /// One step of the gate under the lock. The reply is the one that a lawful journal gives. No clause says that it is this gate's journal.

@@ -55,6 +55,7 @@ pub(crate) fn count(kind: Kind, entries: &[Entry]) -> u64
 }
 
 // How many entries of the parts are of this kind.
+#[tactic(auto, using(crate::proofs::Following::count_next))]
 fn count_all(kind: Kind, parts: &[Part]) -> u64
     requires { length (all_entries parts.now) < 2 ^ 64 }
     ensures { result ≡ count_by (is_of kind) (all_entries parts.now) }

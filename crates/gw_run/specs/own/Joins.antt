@@ -52,11 +52,6 @@ abbrev pub first_in : ℕ → ℕ → Option ℕ → Option ℕ
 first_in last count None = None
 first_in last count (Some k) = number_in last count k
 
--- the number, where an entry stands before it
-abbrev pub next_by : ℕ → Bool → Option ℕ
-next_by next true = Some next
-next_by next false = None
-
 -- whether a note is a receipt
 abbrev pub is_receipt : NoteSeen → Bool
 is_receipt (Added at e) = true
@@ -87,6 +82,11 @@ abbrev pub suits : NoteSeen → PlanSeen → Bool
 suits (Looked v plan) there = bytes_eq there.text plan.text
 suits (WasStale v c) there = not (is_under c v there)
 suits note there = false
+
+-- whether there is a plan, and it passes a test
+abbrev pub is_suited : (PlanSeen → Bool) → Option PlanSeen → Bool
+is_suited test None = false
+is_suited test (Some plan) = test plan
 
 -- whether a plan that passes a test was in force as this version
 abbrev pub in_force : Journal → ℕ → (PlanSeen → Bool) → ℕ → Bool

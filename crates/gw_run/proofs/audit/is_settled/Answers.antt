@@ -1,8 +1,7 @@
-use Rattle.std.proofs.Common.{◌≡◌, ◌==◌, ◌-◌, ◌≤◌, ◌<◌, ◌∙◌, Bool, ℕ, List, false, true, ap, sym, arith, length}
-use Rattle.std.specs.Prelude.{flat_map, nat_le}
+use Rattle.std.proofs.Common.{◌≡◌, ◌==◌, ◌-◌, ◌∙◌, Bool, ℕ, List, ap, sym, length}
+use Rattle.std.specs.Prelude.{flat_map}
 use Rattle.std.specs.List.{list_all, range_with_len}
-use Rattle.std.proofs.lemmas.Bool.{false≢true}
-use Rattle.std.proofs.lemmas.Grind.{common_steps}
+use Rattle.std.proofs.lemmas.Bool.{false≢true, le-leb, lt-leb}
 use Rattle.gw_crew.specs.Notes.{ReceiptSeen}
 use Rattle.gw_run.specs.own.Joins.{Marks, notes_of}
 use Rattle.gw_run.specs.Passes.{receipts}
@@ -18,19 +17,12 @@ marked_is end last since all marks lent b lasts same long was tells =
     tells ∙ ap (list_all (λ m. m == 1)) same ∙ marked marks since all was
     ∙ ap (λ n. list_all (λ k. having all k == 1) (range_with_len since n)) (long ∙ ap (λ n. n - since) lasts)
 
--- the passes can't have begun before the first chapter
-too_early : (since start from : ℕ) → start ≡ from → since < start → nat_le from since ≡ true → ⊥
-too_early since start from same less is = let no : nat_le from since ≡ false = grind (arith, common_steps) in false≢true (sym no ∙ is)
-
-in_time : (since start from : ℕ) → start ≡ from → start ≤ since → nat_le from since ≡ true
-in_time since start from same le = grind (arith, common_steps)
-
 pub returns-then-not-go_on : goal.returns-then-not-go_on
 returns-then-not-go_on g c = denies c.go_on.result c.if-not-go_on.true c.go_on.ensures (λ s. s.follow)
 
 pub returns-then-since-first_of : goal.returns-then-since-first_of
 returns-then-since-first_of g c =
-    (λ t. absurd (false≢true t), λ s. absurd (too_early _ _ _ c.first_of.ensures c.if-since-first_of.true s.from))
+    (λ t. absurd (false≢true t), λ s. absurd (false≢true (sym (lt-leb _ _ (rw c.first_of.ensures at c.if-since-first_of.true)) ∙ s.from)))
 
 pub returns-then-not-are_all_marked : goal.returns-then-not-are_all_marked
 returns-then-not-are_all_marked g c =
@@ -46,7 +38,7 @@ returns g c =
     let agree = c.all_agree.ensures follow in (
       λ t. record {
         follow = follow;
-        from = in_time _ _ _ c.first_of.ensures c.if-since-first_of.false;
+        from = le-leb _ _ (rw c.first_of.ensures at c.if-since-first_of.false);
         all = sym value ∙ c.if-not-are_all_marked.false;
         each = sym agree ∙ t;
       },

@@ -3,7 +3,7 @@ use Rattle.gw_gate.specs.Entries.{entry_seen, entries_seen}
 use Rattle.gw_gate.proofs.Entering.{as_long}
 use Rattle.gw_run.specs.Owing.{waits_none}
 use Rattle.gw_run.specs.Turns.{TurnsTo}
-use Rattle.gw_run.proofs.Prefixes.{entry_next, few_taken, idle_all, idle_is, issued_next, taken_next}
+use Rattle.gw_run.proofs.Prefixes.{entry_next, idle_all, idle_is, issued_next, one_job, taken_next}
 use Rattle.gw_run.proofs.job_index.idle_in.Goals as goal
 
 pub returns : goal.returns
@@ -29,5 +29,5 @@ loop-place-preserved c =
           (idle_is h c.requires (k + 1) c.in-Some.more (c.loop-place.taken + c.taken_by-taken.result) issued taken) was.turns;
       issued = issued;
       taken = taken;
-      few = few_taken (entry_seen e) c.loop-place.taken c.taken_by-taken.result k was.few c.taken_by-taken.ensures;
+      few = (let few = was.few in let is = c.taken_by-taken.ensures in omega (arith, few, is, one_job (entry_seen e)));
     }

@@ -1,5 +1,4 @@
-use Rattle.std.proofs.Common.{◌≡◌, ◌∙◌, ◌++◌, ◌∷◌, [], List, ap, sym, arith, length}
-use Rattle.std.proofs.lemmas.Bool.{false≢true}
+use Rattle.std.proofs.Common.{◌≡◌, ◌∙◌, ◌++◌, ◌∷◌, [], List, ap, arith, length}
 use Rattle.gw_gate.specs.Chapters.{all_entries}
 use Rattle.gw_gate.specs.Journal.{Journal, end}
 use Rattle.gw_run.specs.Report.{report_of}
@@ -9,18 +8,6 @@ use Rattle.gw_run.proofs.join.settled.Goals as goal
 -- the parts are the chapters and the gate
 are : (lent parts js : List Journal) (gate counted : Journal) → lent ≡ parts → parts ≡ js ++ gate ∷ [] → gate ≡ counted → lent ≡ js ++ counted ∷ []
 are lent parts js gate counted value made same = value ∙ made ∙ ap (λ (j : Journal). js ++ j ∷ []) same
-
-pub returns-then-not-branch-clause-unsettled : goal.returns-then-not-branch-clause-unsettled
-returns-then-not-branch-clause-unsettled g c is settled =
-    let parts = are _ _ _ _ _ c.deref.ensures.value c.in_ok-parts.ensures c.gate-gate.ensures in
-    let told = exact _ c.args.chapters.now c.args.counted.now _ c.args.passes.now _ parts c.since.ensures.since c.in_ok-is_settled.ensures in
-    false≢true (sym c.if-not-branch.true ∙ told.1 settled)
-
-pub returns-clause-settled : goal.returns-clause-settled
-returns-clause-settled g c =
-    let parts = are _ _ _ _ _ c.deref.ensures.value c.in_ok-parts.ensures c.gate-gate.ensures in
-    (exact _ c.args.chapters.now c.args.counted.now _ c.args.passes.now _ parts c.since.ensures.since c.in_ok-is_settled.ensures).0
-    c.if-not-branch.false
 
 pub returns-clause-report : goal.returns-clause-report
 returns-clause-report g c =

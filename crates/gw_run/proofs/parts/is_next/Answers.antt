@@ -2,41 +2,36 @@ use Rattle.std.proofs.Common.{◌≡◌, ◌+◌, ◌∙◌, None, slice_get, ap
 use Rattle.std.proofs.lemmas.Option.{none-some}
 use Rattle.std.specs.Arc.{arc_value}
 use Rattle.gw_reorder.proofs.Places.{equals, equal_numbers}
-use Rattle.gw_gate.specs.own.Books.{journal_of}
 use Rattle.gw_gate.specs.Entries.{entries_seen, start_seen}
 use Rattle.gw_gate.specs.Seen.{plan_seen}
-use Rattle.gw_gate.specs.Journal.{Journal, Start, end, start_after}
+use Rattle.gw_gate.specs.Journal.{Journal, Start, end}
 use Rattle.gw_gate.proofs.Entering.{as_long}
+use Rattle.gw_gate.proofs.Releasing.{some_is}
 use Rattle.gw_run.specs.own.Joins.{plans_at}
-use Rattle.gw_run.proofs.Following.{accepted_count, arrived_count, denies, passed_there, plan_is, plan_there, starts_so, version_is}
+use Rattle.gw_run.proofs.Following.{accepted_count, arrived_count, denies, starts_so, turned}
 use Rattle.gw_run.proofs.parts.is_next.Goals as goal
 
 pub returns-in_default : goal.returns-in_default
 returns-in_default c =
-    let j = journal_of (start_seen c.part.inside.start.now) (entries_seen c.part.inside.entries.now) in
-    let there = passed_there _ _ _ _ _ c.deref.ensures.value (as_long c.part.inside.entries.now) c.part.invariant.plans.rising c.passed-turn.ensures in
-    let none : None ≡ slice_get (plans_at c.part.inside.plans.items) c.passed-turn.result =
-    c.in_default.ensures ∙ ap (λ l. slice_get (plans_at l) c.passed-turn.result) c.deref-2.ensures.value in
-    absurd (none-some (start_after j).plan (none ∙ plan_there j _ _ c.part.invariant.plans c.passed-turn.result there))
+    let last = turned _ _ _ _ _ _ c.part.invariant.plans c.deref.ensures.value (as_long c.part.inside.entries.now) c.passed-turn.ensures in
+    let none = c.in_default.ensures ∙ ap (λ l. slice_get (plans_at l) c.passed-turn.result) c.deref-2.ensures.value in
+    absurd (none-some _ (none ∙ last.plan))
 
 pub returns-then-not-is_above : goal.returns-then-not-is_above
 returns-then-not-is_above c =
-    let j = journal_of (start_seen c.part.inside.start.now) (entries_seen c.part.inside.entries.now) in
-    let there = passed_there _ _ _ _ _ c.deref.ensures.value (as_long c.part.inside.entries.now) c.part.invariant.plans.rising c.passed-turn.ensures in
+    let last = turned _ _ _ _ _ _ c.part.invariant.plans c.deref.ensures.value (as_long c.part.inside.entries.now) c.passed-turn.ensures in
     rw (← c.part.view_is, ← c.next.view_is)
     (denies c.is_above.result c.if-not-is_above.true c.is_above.ensures
-    (λ e. ap (λ (s : Start). s.version) e ∙ version_is j _ _ c.part.invariant.plans c.passed-turn.result there))
+    (λ e. ap (λ (s : Start). s.version) e ∙ last.version))
 
 pub returns-then-not-are_same : goal.returns-then-not-are_same
 returns-then-not-are_same c =
-    let j = journal_of (start_seen c.part.inside.start.now) (entries_seen c.part.inside.entries.now) in
-    let there = passed_there _ _ _ _ _ c.deref.ensures.value (as_long c.part.inside.entries.now) c.part.invariant.plans.rising c.passed-turn.ensures in
+    let last = turned _ _ _ _ _ _ c.part.invariant.plans c.deref.ensures.value (as_long c.part.inside.entries.now) c.passed-turn.ensures in
     let q = plan_seen (arc_value c.in-Some.plan.now) in
-    let last = plan_is j _ _ c.part.invariant.plans c.passed-turn.result there q
-    (c.in-Some.ensures ∙ ap (λ l. slice_get (plans_at l) c.passed-turn.result) c.deref-2.ensures.value) in
+    let same = some_is q _ (c.in-Some.ensures ∙ ap (λ l. slice_get (plans_at l) c.passed-turn.result) c.deref-2.ensures.value ∙ last.plan) in
     rw (← c.part.view_is, ← c.next.view_is)
     (denies c.are_same.result c.if-not-are_same.true c.are_same.ensures
-    (λ e. ap plan_seen c.deref-3.ensures ∙ last ∙ sym (ap (λ (s : Start). s.plan) e) ∙ sym (ap plan_seen c.deref-4.ensures)))
+    (λ e. ap plan_seen c.deref-3.ensures ∙ same ∙ sym (ap (λ (s : Start). s.plan) e) ∙ sym (ap plan_seen c.deref-4.ensures)))
 
 pub returns-then-not-is_above-2 : goal.returns-then-not-is_above-2
 returns-then-not-is_above-2 c =
@@ -54,17 +49,15 @@ returns-then-not-is_above-3 c =
 
 pub returns : goal.returns
 returns c =
-    let j = journal_of (start_seen c.part.inside.start.now) (entries_seen c.part.inside.entries.now) in
-    let there = passed_there _ _ _ _ _ c.deref.ensures.value (as_long c.part.inside.entries.now) c.part.invariant.plans.rising c.passed-turn.ensures in
+    let last = turned _ _ _ _ _ _ c.part.invariant.plans c.deref.ensures.value (as_long c.part.inside.entries.now) c.passed-turn.ensures in
     let q = plan_seen (arc_value c.in-Some.plan.now) in
-    let last = plan_is j _ _ c.part.invariant.plans c.passed-turn.result there q
-    (c.in-Some.ensures ∙ ap (λ l. slice_get (plans_at l) c.passed-turn.result) c.deref-2.ensures.value) in
+    let same = some_is q _ (c.in-Some.ensures ∙ ap (λ l. slice_get (plans_at l) c.passed-turn.result) c.deref-2.ensures.value ∙ last.plan) in
     let from = ap (λ (k : Journal). k.start.entries) c.next.view_is ∙ sym c.start.ensures in
     let to = c.end.ensures ∙ sym (ap (λ (k : Journal). end k) c.part.view_is) in
     rw (← c.part.view_is, ← c.next.view_is) (
-      λ t. starts_so (start_seen c.next.inside.start.now) (start_after j)
-          (c.is_above.ensures.0 c.if-not-is_above.false ∙ sym (version_is j _ _ c.part.invariant.plans c.passed-turn.result there))
-          (sym (ap plan_seen c.deref-4.ensures) ∙ sym (c.are_same.ensures.0 c.if-not-are_same.false) ∙ ap plan_seen c.deref-3.ensures ∙ last)
+      λ t. starts_so (start_seen c.next.inside.start.now) _
+          (c.is_above.ensures.0 c.if-not-is_above.false ∙ sym last.version)
+          (sym (ap plan_seen c.deref-4.ensures) ∙ sym (c.are_same.ensures.0 c.if-not-are_same.false) ∙ ap plan_seen c.deref-3.ensures ∙ same)
           (c.is_above-2.ensures.0 c.if-not-is_above-2.false
           ∙ ap (λ n. c.part.inside.start.now.acceptances + n) (c.count-accepted.ensures ∙ sym (accepted_count (entries_seen c.part.inside.entries.now))))
           (c.is_above-3.ensures.0 c.if-not-is_above-3.false

@@ -3,7 +3,7 @@ use Rattle.std.specs.Prelude.{count_by}
 use Rattle.std.proofs.lemmas.List.{take_all}
 use Rattle.gw_gate.specs.Chapters.{all_entries}
 use Rattle.gw_run.specs.Report.{is_of}
-use Rattle.gw_run.proofs.Following.{count_few, count_next}
+use Rattle.gw_run.proofs.Following.{count_few}
 use Rattle.gw_run.proofs.report.count_all.Goals as goal
 
 pub overflow_add-all : goal.overflow_add-all
@@ -12,11 +12,6 @@ overflow_add-all c =
     (rw c.entries.ensures at c.count-all.ensures) in
     let most = c.requires in
     omega (arith, few, most)
-
-pub loop-part-preserved : goal.loop-part-preserved
-loop-part-preserved c =
-    count_next c.args.kind c.args.parts.now c.loop-part.part-index c.part-item.result _ _ c.loop-part-test.true c.part-item.is c.loop-part.invariant
-    (rw c.entries.ensures at c.count-all.ensures)
 
 pub returns : goal.returns
 returns c = c.loop-part.invariant ∙ ap (λ l. count_by (is_of c.args.kind) (all_entries l)) (take_all c.loop-part.part-index c.args.parts.now (search rules))
