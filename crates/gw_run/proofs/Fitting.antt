@@ -7,8 +7,7 @@ use Rattle.gw_gate.specs.Parts.{PlanSeen}
 use Rattle.gw_gate.specs.Journal.{Journal, current}
 use Rattle.gw_gate.specs.Replies.{most}
 use Rattle.gw_crew.specs.Notes.{WasFull}
-use Rattle.gw_run.specs.Settled.{fits}
-use Rattle.gw_run.specs.Turns.{First, HoldsFrom, IsFirstFrom, Passes}
+use Rattle.gw_run.specs.Turns.{HoldsFrom, IsFirstFrom, Passes}
 use Rattle.gw_run.specs.own.Joins.{IsFirstIn, PlansAt, begun, in_force, is_suited}
 use Rattle.gw_run.proofs.Turning.{passed}
 

@@ -1,5 +1,5 @@
 -- How often numbers are those of receipts.
-use Rattle.std.proofs.Common.{◌≡◌, ◌≢◌, ℕ, zero, suc, ◌+◌, ◌-◌, ◌<◌, ◌==◌, ◌&&◌, ◌⊎◌, inl, inr, Bool, true, false, List, [], ◌∷◌, ◌++◌, length, get_or}
+use Rattle.std.proofs.Common.{◌≡◌, ◌≢◌, ℕ, suc, ◌+◌, ◌<◌, ◌==◌, ◌&&◌, ◌⊎◌, inl, inr, Bool, false, List, [], ◌∷◌, ◌++◌, length, get_or}
 use Rattle.std.proofs.Common.{slice_set, take, refl, sym, ap, ◌∙◌, arith}
 use Rattle.std.specs.Prelude.{cond, min}
 use Rattle.std.specs.Option.{option_to_list}
@@ -10,7 +10,6 @@ use Rattle.std.proofs.lemmas.Bool.{cases_eq, eq-eqb, ne_eqb}
 use Rattle.std.proofs.lemmas.List.{map_more}
 use Rattle.std.proofs.lemmas.List.Elements.{filter_map-append}
 use Rattle.std.proofs.lemmas.List.Folds.{list_all-map, list_all_at}
-use Rattle.std.proofs.lemmas.List.FromFn.{get_or-range_with_len, length-range_with_len}
 use Rattle.std.proofs.lemmas.List.Sums.{sum_by_push}
 use Rattle.gw_crew.specs.declared.note.Note.{Note}
 use Rattle.gw_crew.specs.Notes.{NoteSeen, Added, ReceiptSeen, receipt_of}
@@ -18,7 +17,6 @@ use Rattle.gw_crew.specs.Seen.{note_seen, notes_seen}
 use Rattle.gw_run.specs.Passes.{PassSeen, receipts, part_count, receipt_count}
 use Rattle.gw_run.specs.Settled.{having}
 use Rattle.gw_run.specs.own.Joins.{Marks, notes_of}
-use Rattle.gw_gate.specs.Journal.{end}
 
 -- ---- one receipt more
 

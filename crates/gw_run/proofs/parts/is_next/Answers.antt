@@ -1,4 +1,4 @@
-use Rattle.std.proofs.Common.{◌≡◌, ◌+◌, ◌∙◌, None, slice_get, ap, sym}
+use Rattle.std.proofs.Common.{◌+◌, ◌∙◌, slice_get, ap, sym}
 use Rattle.std.proofs.lemmas.Option.{none-some}
 use Rattle.std.specs.Arc.{arc_value}
 use Rattle.gw_reorder.proofs.Places.{equals, equal_numbers}

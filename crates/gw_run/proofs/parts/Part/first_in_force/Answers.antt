@@ -1,8 +1,8 @@
-use Rattle.std.proofs.Common.{◌≡◌, ◌-◌, ◌∙◌, ap, sym, false, true, refl, Bool, slice_get}
+use Rattle.std.proofs.Common.{◌∙◌, sym, refl}
 use Rattle.gw_gate.specs.own.Books.{journal_of}
 use Rattle.gw_gate.specs.Entries.{entries_seen, start_seen}
 use Rattle.gw_crew.specs.Seen.{note_seen}
-use Rattle.gw_run.specs.own.Joins.{in_force, is_suited, plans_at, suits}
+use Rattle.gw_run.specs.own.Joins.{in_force, suits}
 use Rattle.gw_run.proofs.Fitting.{place_is, suits_before, suits_from, suits_never}
 use Rattle.gw_run.proofs.parts.Part.first_in_force.Goals as goal
 
