@@ -1,0 +1,8 @@
+use Rattle.std.proofs.lemmas.Result.{on_ok_weaker}
+use Rattle.gw_page.specs.Rows.{clock}
+use Rattle.gw_page.proofs.Joins.{five}
+use Rattle.gw_page.proofs.parts.put_clock.Goals as goal
+
+pub returns : goal.returns
+unfolding clock
+returns c = on_ok_weaker c.put-5.result (five _ _ _ _ _ _ _ _ _ _ _ c.in_ok-put.ensures c.in_ok-put-2.ensures c.in_ok-put-3.ensures c.in_ok-put-4.ensures) c.put-5.ensures

@@ -1,0 +1,4 @@
+pub mod Answers
+pub mod Escapes
+pub mod Rows
+pub mod Samples

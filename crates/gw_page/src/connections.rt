@@ -1,0 +1,39 @@
+//! One connection.
+use crate::{Figures, Site};
+use http_server::{Config, Connection, serve};
+use http1::Limits;
+use std::alloc::Global;
+use std::hash::RandomState;
+use std::io;
+use std::io::{Read, Write};
+
+/// The most bytes of a request's head. A request has no body.
+const HEAD: usize = 8_192;
+
+fn config() -> Config {
+    Config {
+        limits: Limits {
+            max_head_len: HEAD,
+            max_extensions_len: HEAD,
+            max_trailers_len: HEAD,
+        },
+        max_body_len: 0,
+        max_pending: 65_536,
+        read_size: HEAD,
+    }
+}
+
+/// Answers one request of a connection by these figures. `keys` are secret: the other end chooses the names of headers.
+///
+/// The errors are those of the reader and the writer, and an allocation failure.
+pub fn answer<R: Read, W: Write>(
+    alloc: Global,
+    keys: RandomState,
+    figures: &Figures,
+    reader: &mut R,
+    writer: &mut W,
+) -> io::Result<()> {
+    let mut site = Site { alloc, figures };
+    let mut connection = Connection::new(alloc, keys, config());
+    serve(&mut connection, &mut site, reader, writer)
+}

@@ -1,0 +1,24 @@
+//! What a gateway shows of itself over HTTP: a page, its metrics and its health, from figures that are given as a value.
+//!
+//! [`answer()`] answers one request of a connection: `/` by [`page`], `/metrics` by [`metrics`], `/health` by [`health`].
+#![tactic(auto)]
+
+mod connections;
+mod exposition;
+mod figure;
+mod figures;
+mod html;
+mod parts;
+mod place;
+mod samples;
+mod site;
+mod texts;
+mod wellness;
+
+pub use connections::answer;
+pub use exposition::metrics;
+pub use figures::{Figures, Receiver, Refusal, Refused};
+pub use html::page;
+pub use place::Place;
+pub use site::Site;
+pub use wellness::{health, is_well};
