@@ -1,4 +1,5 @@
 pub mod Answers
+pub mod Connections
 pub mod Escapes
 pub mod Rows
 pub mod Samples

@@ -19,7 +19,7 @@ cell text = codes "<td>" ++ text ++ codes "</td>"
 
 -- how a receiver stands, in words
 unfoldable pub connection : Receiver → List ℕ
-connection r = if r.is_connected then codes "connected" else codes "not connected for " ++ decimal r.down ++ codes " s"
+connection r = if r.is_connected then codes "connected" else codes "<strong>not connected</strong> for " ++ decimal r.down ++ codes " s"
 
 unfoldable pub standing : Receiver → List ℕ
 standing r = if r.is_held then connection r ++ codes ", held" else connection r

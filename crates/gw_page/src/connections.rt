@@ -1,4 +1,8 @@
 //! One connection.
+ghost use Rattle.std.specs.Prelude.{◌≡◌, ℕ, List};
+ghost use Rattle.std.specs.Io.KnownBytes.{Appends, Consumes};
+ghost use Rattle.gw_page.specs.Connections.{Answered, limits};
+
 use crate::{Figures, Site};
 use http_server::{Config, Connection, serve};
 use http1::Limits;
@@ -10,7 +14,9 @@ use std::io::{Read, Write};
 /// The most bytes of a request's head. A request has no body.
 const HEAD: usize = 8_192;
 
-fn config() -> Config {
+fn limits() -> Config
+    ensures { result ≡ limits }
+{
     Config {
         limits: Limits {
             max_head_len: HEAD,
@@ -32,8 +38,13 @@ pub fn answer<R: Read, W: Write>(
     figures: &Figures,
     reader: &mut R,
     writer: &mut W,
-) -> io::Result<()> {
+) -> io::Result<()>
+    ensures { (read : List ℕ) × (written : List ℕ)
+        × Consumes (R.remaining reader.old) (R.remaining reader.new) read
+        × Appends (W.contents writer.old) (W.contents writer.new) written
+        × Answered figures.now read written }
+{
     let mut site = Site { alloc, figures };
-    let mut connection = Connection::new(alloc, keys, config());
+    let mut connection = Connection::new(alloc, keys, limits());
     serve(&mut connection, &mut site, reader, writer)
 }

@@ -28,6 +28,7 @@ thead th { border-bottom: 2px solid #8a94a0; }
 .state { padding: .5rem .75rem; border-left: .4rem solid #1a7f37; background: #eef7f0; white-space: pre-line; }
 .state.bad { border-color: #b42318; background: #fdf0ee; }
 .note { color: #57606a; }
+strong { color: #b42318; }
 </style>
 </head>
 <body>

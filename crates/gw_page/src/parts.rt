@@ -32,7 +32,7 @@ fn put_connection(out: &mut Vec<u8>, receiver: &Receiver) -> Result<(), AllocErr
     if receiver.is_connected {
         return put(out, b"connected");
     }
-    put(out, b"not connected for ")?;
+    put(out, b"<strong>not connected</strong> for ")?;
     put_number(out, receiver.down)?;
     put(out, b" s")
 }

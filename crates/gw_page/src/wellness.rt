@@ -39,7 +39,7 @@ fn put_away(out: &mut Vec<u8>, receivers: &[Receiver]) -> Result<(), AllocError>
         if !is_near(receiver) {
             put(out, b"receiver ")?;
             put(out, &receiver.name)?;
-            put(out, b" is not connected for ")?;
+            put(out, b" has not been connected for ")?;
             put_number(out, receiver.down)?;
             put(out, b" s\n")?;
         }
