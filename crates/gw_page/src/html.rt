@@ -37,7 +37,10 @@ strong { color: #b42318; }
 
 const RECEIVERS: &[u8] = b"<h2 id=\"receivers\">Receivers</h2>
 <table class=\"numbers\" aria-labelledby=\"receivers\">
-<thead><tr><th scope=\"col\">Receiver</th><th scope=\"col\">State</th><th scope=\"col\">Waiting</th><th scope=\"col\">First waits (s)</th><th scope=\"col\">Sent</th><th scope=\"col\">AA</th><th scope=\"col\">AE</th><th scope=\"col\">AR</th></tr></thead>
+<thead>
+<tr><th scope=\"col\">Receiver</th><th scope=\"col\">State</th><th scope=\"col\">Waiting</th>
+<th scope=\"col\">First waits (s)</th><th scope=\"col\">Sent</th><th scope=\"col\">AA</th><th scope=\"col\">AE</th><th scope=\"col\">AR</th></tr>
+</thead>
 <tbody>
 ";
 
@@ -48,7 +51,10 @@ const SENDERS: &[u8] = b"</tbody>
 
 const REFUSALS: &[u8] = b"<h2 id=\"refusals\">Last refusals</h2>
 <table aria-labelledby=\"refusals\">
-<thead><tr><th scope=\"col\">Time (UTC)</th><th scope=\"col\">Session</th><th scope=\"col\">Number</th><th scope=\"col\">Answer</th><th scope=\"col\">Code</th><th scope=\"col\">Place</th></tr></thead>
+<thead>
+<tr><th scope=\"col\">Time (UTC)</th><th scope=\"col\">Session</th><th scope=\"col\">Number</th>
+<th scope=\"col\">Answer</th><th scope=\"col\">Code</th><th scope=\"col\">Place</th></tr>
+</thead>
 <tbody>
 ";
 

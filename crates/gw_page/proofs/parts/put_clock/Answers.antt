@@ -5,4 +5,7 @@ use Rattle.gw_page.proofs.parts.put_clock.Goals as goal
 
 pub returns : goal.returns
 unfolding clock
-returns c = on_ok_weaker c.put-5.result (five _ _ _ _ _ _ _ _ _ _ _ c.in_ok-put.ensures c.in_ok-put-2.ensures c.in_ok-put-3.ensures c.in_ok-put-4.ensures) c.put-5.ensures
+returns c =
+    let joined = five _ _ _ _ _ _ _ _ _ _ _
+    c.in_ok-put.ensures c.in_ok-put-2.ensures c.in_ok-put-3.ensures c.in_ok-put-4.ensures in
+    on_ok_weaker c.put-5.result joined c.put-5.ensures

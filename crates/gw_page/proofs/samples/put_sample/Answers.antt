@@ -5,4 +5,7 @@ use Rattle.gw_page.proofs.samples.put_sample.Goals as goal
 
 pub returns : goal.returns
 unfolding sample
-returns c = on_ok_weaker c.put-2.result (four _ _ _ _ _ _ _ _ _ c.in_ok-put.ensures c.in_ok-put_label.ensures (rw c.figure_of.ensures at c.in_ok-put_number.ensures)) c.put-2.ensures
+returns c =
+    let joined = four _ _ _ _ _ _ _ _ _
+    c.in_ok-put.ensures c.in_ok-put_label.ensures (rw c.figure_of.ensures at c.in_ok-put_number.ensures) in
+    on_ok_weaker c.put-2.result joined c.put-2.ensures
