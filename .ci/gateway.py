@@ -26,6 +26,14 @@ def numbered(number):
     return ANSWERS[0].replace(b"|G1|", b"|G%d|" % number)
 
 
+def logged(answer):
+    """What the log of refusals says of an answer: its number, the message's control id, the code, the condition and the place."""
+    header, acknowledged, error = (it.split(b"|") for it in answer.strip(b"\x0b\x1c\r").split(b"\r"))
+    place = [error[2]] if error[2] else []
+    control = acknowledged[2] if len(acknowledged) > 2 else b"-"
+    return b" ".join([header[9], control, acknowledged[1], error[3].split(b"^")[0], *place]).decode()
+
+
 class Receiver:
     """A receiver that takes one connection after another, and keeps what came. It acknowledges each block by the next of its codes, the last of them for ever.
     `None` closes the connection instead."""

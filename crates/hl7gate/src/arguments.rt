@@ -29,7 +29,7 @@ const STAMP: &[(&str, &str, &str)] = &[(
 )];
 
 /// The options of `gateway`.
-const SIZES: &[(&str, &str, &str)] = &[
+const ON_GATEWAY: &[(&str, &str, &str)] = &[
     (
         "workers",
         "N",
@@ -39,6 +39,11 @@ const SIZES: &[(&str, &str, &str)] = &[
         "connections",
         "N",
         "How many connections are open at once, from 1 to 1000 [default: 1000]",
+    ),
+    (
+        "status",
+        "ADDRESS",
+        "The address of a page, metrics and health over HTTP; without a host it is on this machine alone [default: none]",
     ),
 ];
 
@@ -143,7 +148,7 @@ const FORMS: [Form; 9] = [
             ),
         ],
         optional: &[],
-        options: SIZES,
+        options: ON_GATEWAY,
     },
     Form {
         name: "tell",

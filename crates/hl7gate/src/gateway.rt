@@ -13,6 +13,7 @@ mod links;
 mod numbers;
 mod outgoing;
 mod overlong;
+mod page;
 mod refusals;
 mod refused;
 mod resend;
@@ -22,7 +23,9 @@ mod safety;
 mod segments;
 mod senders;
 mod status;
+mod tally;
 mod tell;
+mod watch;
 mod whole;
 
 pub(crate) use command::gateway;

@@ -11,6 +11,7 @@ use crate::gateway::hub::Hub;
 use crate::gateway::late::look_at_all;
 use crate::gateway::numbers::Numbers;
 use crate::gateway::outgoing::Outgoing;
+use crate::gateway::page::{Pages, show_all};
 use crate::gateway::rounds::rounds;
 use crate::gateway::row::{Row, RowFault};
 use crate::gateway::senders::accept_all;
@@ -29,6 +30,7 @@ use std::fs::File;
 use std::io::{Eprint, Read, Write};
 use std::net::{Net, SocketAddr, TcpListener, TcpStream};
 use std::os::unix::net::{UnixListener, UnixStream};
+use std::random::RandomSource;
 use std::rt::Files;
 use std::sync::{Arc, Wait};
 use std::thread;
@@ -142,10 +144,12 @@ fn go_on<
     begun: (Numbers, Gate),
     listener: TcpListener,
     control: UnixListener,
+    pages: Option<Pages>,
     sizes: Sizes,
 ) -> Option<RunFault> {
     let at = listener.local_addr().ok();
     let (mut numbers, gate) = begun;
+    let shown_at = pages.as_ref().and_then(|pages| pages.address());
     let mut end = None;
     thread::scope(
         thread::scope_env(),
@@ -165,6 +169,12 @@ fn go_on<
             let mut has_all = scope.spawn(accept).is_ok()
                 && scope.spawn(look).is_ok()
                 && scope.spawn(hear).is_ok();
+            if let Some(pages) = pages {
+                let show = move ||
+                    requires { IsSync R.row }
+                { show_all(hub, pages) };
+                has_all = has_all && scope.spawn(show).is_ok();
+            }
             for number in 0..hub.spools.len() {
                 let send = move ||
                     requires { IsSync R.row × IsSend D.row × IsSync D.row }
@@ -176,7 +186,7 @@ fn go_on<
             }
             end = rounds(hub, gate, &mut numbers, sizes.workers);
             hub.end_sending();
-            wake(hub.rt, at, &hub.folder.path);
+            wake(hub.rt, [at, shown_at], &hub.folder.path);
         },
     );
     end
@@ -185,11 +195,13 @@ fn go_on<
 /// Wakes the threads that accept connections.
 fn wake<R: Net<Stream = TcpStream, Listener = TcpListener> + AllocGlobal>(
     rt: &R,
-    at: Option<SocketAddr>,
+    places: [Option<SocketAddr>; 2],
     folder: &str,
 ) {
-    if let Some(at) = at {
-        let _ = TcpStream::connect_timeout(rt, &at, Duration::from_secs(1));
+    for place in &places {
+        if let Some(at) = place {
+            let _ = TcpStream::connect_timeout(rt, at, Duration::from_secs(1));
+        }
     }
     if let Ok(path) = control_path(rt.alloc(), folder) {
         let _ = UnixStream::connect(rt, path.as_str());
@@ -205,6 +217,7 @@ fn keep<
         + Clock
         + Files<File = File, Dir = D>
         + Eprint
+        + RandomSource
         + AllocGlobal
         + Sync
         + Clone
@@ -227,9 +240,10 @@ fn keep<
         return Err(Ended::Unwritten { file: path });
     };
     let listener = listen(rt, words)?;
+    let pages = Pages::listen(rt, words)?;
     let hub = Hub::new(rt, alloc, start, &folder, &plan, spools)?;
     let begun = Numbers::open(rt, &folder, plan)?;
-    Ok(go_on(&hub, begun, listener, control, sizes))
+    Ok(go_on(&hub, begun, listener, control, pages, sizes))
 }
 
 /// Does what the words say, and answers the status.
@@ -240,6 +254,7 @@ pub(crate) fn gateway<
         + Clock
         + Files<File = File, Dir = D>
         + Eprint
+        + RandomSource
         + AllocGlobal
         + Sync
         + Clone

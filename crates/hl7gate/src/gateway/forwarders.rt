@@ -61,7 +61,7 @@ impl<
         for _ in rt.forever() {
             let before = outbox.count();
             let mut reader = Reads::new(Answers::new(rt, self.outgoing, stream));
-            let mut writer = Writes::new(Records::new(stream, self.sent));
+            let mut writer = Writes::new(Records::new(stream, self.sent, &self.outgoing.tally));
             let ended = forward(rt.alloc(), outbox, &mut reader, &mut writer);
             if outbox.count() > before {
                 self.pause = 1;
@@ -102,6 +102,7 @@ impl<
         let name = self.to.name.as_slice();
         let address = self.to.address.as_slice();
         let mut is_down = false;
+        self.outgoing.set_connected(rt, false);
         for _ in rt.forever() {
             if let Some(stream) = connect(rt, address) {
                 is_down = false;

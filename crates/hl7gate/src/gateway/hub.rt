@@ -2,6 +2,7 @@
 use crate::gateway::folder::Folder;
 use crate::gateway::outgoing::Outgoing;
 use crate::gateway::safety::Safe;
+use crate::gateway::watch::Watch;
 use crate::gateway::whole::Held;
 use gw_ack::Stamp;
 use gw_plan::Plan;
@@ -57,6 +58,7 @@ pub(crate) struct Hub<'f, R: Wait> {
     destinations: Vec<Destination>,
     pub(crate) spools: Vec<Outgoing<'f>>,
     pub(crate) safe: Safe,
+    pub(crate) watch: Watch,
     lobby: Mutex<Lobby>,
     news: Condvar,
     phase: AtomicU64,
@@ -127,6 +129,7 @@ impl<'f, R: Wait> Hub<'f, R> {
         spools: Vec<Outgoing<'f>>,
     ) -> Result<Self, AllocError> {
         let safe = Safe::new(alloc, spools.len())?;
+        let watch = Watch::new(alloc)?;
         let destinations = destinations_of(alloc, &folder.path, plan)?;
         Ok(Hub {
             rt,
@@ -135,6 +138,7 @@ impl<'f, R: Wait> Hub<'f, R> {
             destinations,
             spools,
             safe,
+            watch,
             lobby: Mutex::new(Lobby {
                 senders: Vec::new(alloc),
                 open: 0,
@@ -288,6 +292,7 @@ impl<'f, R: Wait> Hub<'f, R> {
         }
         lobby.open = lobby.open.saturating_add(1);
         lobby.taken = lobby.taken.saturating_add(1);
+        self.watch.set_senders(lobby.open, lobby.taken);
         Some(lobby.taken)
     }
 
@@ -296,6 +301,7 @@ impl<'f, R: Wait> Hub<'f, R> {
         let mut lobby = self.lobby.lock(self.rt);
         if lobby.senders.push(sender).is_err() {
             lobby.open = lobby.open.saturating_sub(1);
+            self.watch.set_senders(lobby.open, lobby.taken);
         }
         drop(lobby);
         self.news.notify_all();
@@ -305,6 +311,7 @@ impl<'f, R: Wait> Hub<'f, R> {
     pub(crate) fn leave(&self) {
         let mut lobby = self.lobby.lock(self.rt);
         lobby.open = lobby.open.saturating_sub(1);
+        self.watch.set_senders(lobby.open, lobby.taken);
     }
 }
 

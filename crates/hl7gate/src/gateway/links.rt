@@ -1,5 +1,6 @@
 //! The connection to a receiver: made, watched, written and read.
 use crate::gateway::outgoing::Outgoing;
+use crate::gateway::tally::Tally;
 use libc::net::{IPPROTO_TCP, SO_KEEPALIVE, SOL_SOCKET, TCP_USER_TIMEOUT, setsockopt};
 use std::cell::Cell;
 use std::io;
@@ -97,11 +98,19 @@ impl<R: Wait> Read for Answers<'_, '_, R> {
 pub(crate) struct Records<'a> {
     stream: &'a TcpStream,
     sent: &'a Cell<bool>,
+    tally: &'a Tally,
+    // no message was written yet
+    is_new: bool,
 }
 
 impl<'a> Records<'a> {
-    pub(crate) fn new(stream: &'a TcpStream, sent: &'a Cell<bool>) -> Self {
-        Records { stream, sent }
+    pub(crate) fn new(stream: &'a TcpStream, sent: &'a Cell<bool>, tally: &'a Tally) -> Self {
+        Records {
+            stream,
+            sent,
+            tally,
+            is_new: true,
+        }
     }
 
     // Whether the receiver has ended the connection, or it has failed.
@@ -126,6 +135,10 @@ impl Write for Records<'_> {
         if !self.sent.get() && self.has_ended() {
             return Err(Error::from(ErrorKind::BrokenPipe));
         }
+        if self.is_new || !self.sent.get() {
+            self.tally.count_sent();
+        }
+        self.is_new = false;
         self.sent.set(true);
         let mut stream = self.stream;
         stream.write(buf)

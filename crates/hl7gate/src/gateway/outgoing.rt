@@ -5,6 +5,7 @@ use crate::gateway::ages::Ages;
 use crate::gateway::refused::Refused;
 use crate::gateway::row::{Row, RowFault};
 use crate::gateway::safety::Safe;
+use crate::gateway::tally::Tally;
 use gw_ack::Ack;
 use gw_forward::{Outbox, Store, StoreFault};
 use gw_spool::SpoolFault;
@@ -26,6 +27,7 @@ pub(crate) struct Outgoing<'f> {
     news: Condvar,
     /// It is held while the file of what the receiver refuses is added to, or renamed.
     pub(crate) refusals: Mutex<()>,
+    pub(crate) tally: Tally,
 }
 
 #[derive(Drop)]
@@ -94,6 +96,7 @@ impl<'f> Outgoing<'f> {
             }),
             news: Condvar::new(),
             refusals: Mutex::new(()),
+            tally: Tally::new(),
         }
     }
 
@@ -138,7 +141,8 @@ impl<'f> Outgoing<'f> {
     }
 
     /// Whether the receiver is connected, from here on.
-    pub(crate) fn set_connected<R: Wait>(&self, rt: &R, is_connected: bool) {
+    pub(crate) fn set_connected<R: Wait + Clock>(&self, rt: &R, is_connected: bool) {
+        self.tally.set_connected(rt, is_connected);
         self.queue.lock(rt).is_connected = is_connected;
     }
 
@@ -373,6 +377,7 @@ impl<R: Wait + Clock + Files<File = File> + Eprint + AllocGlobal> Outbox for Emp
     }
 
     fn settle(&mut self, bytes: &[u8], ack: Ack) -> Result<bool, StoreFault> {
+        self.outgoing.tally.count_answer(ack);
         match ack {
             Ack::AA => self.drop_first(true),
             Ack::AE => self.refuse(bytes, "AE"),

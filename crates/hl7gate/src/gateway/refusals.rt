@@ -1,30 +1,37 @@
-//! The log of the messages that were refused: a line for each answer that isn't AA. Of a message it has the control id alone.
-use gw_er7::{Message, Place, ReadFault, Segment, read};
+//! What is noted of each answer that isn't AA: a line of the log, which has the message's control id, and what the page shows, which hasn't.
+use crate::gateway::hub::Hub;
+use crate::gateway::watch::{Noted, Word};
+use gw_er7::{Message, Place, Segment, read};
 use gw_mllp::Decoder;
 use memchr::memmem::find;
 use std::alloc::{AllocError, Global};
-use std::fs::File;
 use std::io;
 use std::io::Write;
 use std::net::TcpStream;
 use std::os::unix::fs::FileExt;
+use std::sync::Wait;
 
 /// A sender's connection as its answers are written, with the log.
 #[derive(Drop)]
-pub(crate) struct Logged<'a> {
+pub(crate) struct Logged<'a, 'f, R: Wait> {
     alloc: Global,
+    hub: &'a Hub<'f, R>,
     stream: &'a TcpStream,
-    log: &'a File,
     session: u64,
     answers: Decoder,
 }
 
-impl<'a> Logged<'a> {
-    pub(crate) fn new(alloc: Global, stream: &'a TcpStream, log: &'a File, session: u64) -> Self {
+impl<'a, 'f, R: Wait> Logged<'a, 'f, R> {
+    pub(crate) fn new(
+        alloc: Global,
+        hub: &'a Hub<'f, R>,
+        stream: &'a TcpStream,
+        session: u64,
+    ) -> Self {
         Logged {
             alloc,
+            hub,
             stream,
-            log,
             session,
             answers: Decoder::new(alloc),
         }
@@ -40,16 +47,26 @@ impl<'a> Logged<'a> {
                 return;
             };
             if !is_accepted(&content)
-                && let Ok(line) = line_of(self.alloc, self.session, &content)
+                && let Ok(answer) = read(self.alloc, &content)
             {
-                // (the file is opened to be added to)
-                let _ = self.log.write_all_at(&line, 0);
+                self.note(&answer);
             }
+        }
+    }
+
+    // Notes an answer that isn't AA.
+    fn note(&self, answer: &Message) {
+        self.hub
+            .watch
+            .note(self.hub.rt, noted_of(self.session, answer));
+        if let Ok(line) = line_of(self.alloc, self.session, answer) {
+            // (the file is opened to be added to)
+            let _ = self.hub.folder.log.write_all_at(&line, 0);
         }
     }
 }
 
-impl Write for Logged<'_> {
+impl<R: Wait> Write for Logged<'_, '_, R> {
     fn write(&mut self, buf: &[u8]) -> io::Result<usize> {
         let mut stream = self.stream;
         let count = stream.write(buf)?;
@@ -103,12 +120,7 @@ fn put_error(line: &mut Vec<u8>, error: &Segment<'_>) -> Result<(), AllocError> 
 }
 
 /// The line of an answer: its time and number, the session, the message's control id, MSA-1, and the code and place of ERR.
-fn line_of(alloc: Global, session: u64, content: &[u8]) -> Result<Vec<u8>, AllocError> {
-    let answer: Message = match read(alloc, content) {
-        Ok(answer) => answer,
-        Err(ReadFault::Memory) => return Err(AllocError),
-        Err(_) => return Ok(Vec::new(alloc)),
-    };
+fn line_of(alloc: Global, session: u64, answer: &Message) -> Result<Vec<u8>, AllocError> {
     let mut line = Vec::new(alloc);
     for i in 0..answer.segment_count() {
         let segment = answer.segment(i);
@@ -129,4 +141,63 @@ fn line_of(alloc: Global, session: u64, content: &[u8]) -> Result<Vec<u8>, Alloc
     }
     line.push(b'\n')?;
     Ok(line)
+}
+
+/// The time of an answer in fourteen digits, or zeros.
+fn time_of(digits: &[u8]) -> [u8; 14] {
+    match <[u8; 14]>::try_from(digits) {
+        Ok(time) => time,
+        Err(_) => [b'0'; 14],
+    }
+}
+
+fn word_of(text: &[u8]) -> Word {
+    let mut word = Word::new();
+    word.add(text);
+    word
+}
+
+/// The place, as ERR has it.
+fn place_of(error: &Segment<'_>) -> Word {
+    let mut place = Word::new();
+    for comp in 1..=error.comps(2, 1) {
+        if comp > 1 {
+            place.add(b"^");
+        }
+        place.add(error.text(Place {
+            field: 2,
+            rep: 1,
+            comp,
+            sub: 1,
+        }));
+    }
+    place
+}
+
+/// What the page shows of an answer: of the message its place alone, no value and no control id.
+fn noted_of(session: u64, answer: &Message) -> Noted {
+    let mut noted = Noted {
+        time: [b'0'; 14],
+        session,
+        number: Word::new(),
+        answer: Word::new(),
+        code: Word::new(),
+        place: Word::new(),
+    };
+    for i in 0..answer.segment_count() {
+        let segment = answer.segment(i);
+        match &segment.name() {
+            b"MSH" => {
+                noted.time = time_of(field_of(&segment, 7));
+                noted.number = word_of(field_of(&segment, 10));
+            }
+            b"MSA" => noted.answer = word_of(field_of(&segment, 1)),
+            b"ERR" => {
+                noted.code = word_of(field_of(&segment, 3));
+                noted.place = place_of(&segment);
+            }
+            _ => {}
+        }
+    }
+    noted
 }

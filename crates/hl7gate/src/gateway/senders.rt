@@ -142,7 +142,7 @@ fn answer_at_gate<L: Ledger, R: Wait + AllocGlobal + Clock + Eprint>(
         needs: &needs,
     };
     let mut clock = Utc::new(hub.rt, hub.start);
-    let logged = Logged::new(alloc, &sender.stream, &hub.folder.log, sender.number);
+    let logged = Logged::new(alloc, hub, &sender.stream, sender.number);
     let waiting = Waiting::new(hub.rt, &hub.safe, &needs);
     let mut writer = Barrier::new(Writes::new(logged), waiting);
     let mut reader = Reads::new(&mut whole);
@@ -170,7 +170,7 @@ fn turn_away<R: Wait + AllocGlobal + Clock>(
     let mut judge = TurnedAway {
         clock: Utc::new(hub.rt, hub.start),
     };
-    let logged = Logged::new(alloc, &sender.stream, &hub.folder.log, sender.number);
+    let logged = Logged::new(alloc, hub, &sender.stream, sender.number);
     let mut writer = Writes::new(logged);
     let mut reader = Reads::new(&mut whole);
     let answered = answer_blocks(alloc, &mut judge, &mut reader, &mut writer);

@@ -1,0 +1,275 @@
+//! The page, the metrics and the health of a gateway, over HTTP: one connection at a time, for five seconds at most.
+use crate::ended::Ended;
+use crate::gateway::hub::{Counters, Destination, Hub};
+use crate::gateway::outgoing::{Outgoing, State};
+use crate::gateway::tally::Tallied;
+use crate::gateway::watch::Seen;
+use crate::stamps::stamp_of;
+use clap::ArgMatches;
+use gw_page::{Figures, Receiver, answer};
+use gw_stream::RunFault;
+use std::alloc::{AllocError, Global};
+use std::hash::RandomState;
+use std::io::{Eprint, Error, ErrorKind, Read, Write};
+use std::net::{Net, Shutdown, SocketAddr, TcpListener, TcpStream};
+use std::random::RandomSource;
+use std::sync::Wait;
+use std::time::{Clock, Duration, Instant};
+use std::{io, thread};
+
+/// How many seconds a request and its answer may take, and how many the other end has to close its connection.
+const PATIENCE: u64 = 5;
+
+const CLOSE: u64 = 1;
+
+/// How many milliseconds a read or a write waits before the gateway is looked at.
+const LOOK: u64 = 200;
+
+/// How many bytes that come behind a request are passed over at once, and how often.
+const PIECE: usize = 4_096;
+
+const PIECES: u64 = 256;
+
+/// The listener of the page, and secret keys for its server.
+#[derive(Drop)]
+pub(crate) struct Pages {
+    listener: TcpListener,
+    keys: RandomState,
+}
+
+/// The address that a word means: without a host it is on this machine alone.
+fn address_of(alloc: Global, word: &str) -> Result<String, AllocError> {
+    if word.starts_with(':') {
+        return format!(in alloc; "127.0.0.1{word}");
+    }
+    if word.bytes().all(|byte| byte.is_ascii_digit()) {
+        return format!(in alloc; "127.0.0.1:{word}");
+    }
+    String::from_str(alloc, word)
+}
+
+impl Pages {
+    /// Listens at the address of `--status`, where the words have one.
+    pub(crate) fn listen<
+        'a,
+        R: Net<Stream = TcpStream, Listener = TcpListener> + Eprint + RandomSource + AllocGlobal,
+    >(rt: &R, words: &ArgMatches<'a>) -> Result<Option<Self>, Ended<'a>> {
+        let Some(address) = words.get_str("status") else {
+            return Ok(None);
+        };
+        let place = address_of(rt.alloc(), address)?;
+        let Ok(listener) = TcpListener::bind(rt, place.as_str()) else {
+            return Err(Ended::Unheard { address });
+        };
+        let Ok(keys) = RandomState::new(rt) else {
+            return Err(Ended::Run(RunFault::Read));
+        };
+        if let Ok(at) = listener.local_addr() {
+            let _ = eprintln!(rt; "status at http://{at}/");
+        }
+        Ok(Some(Pages { listener, keys }))
+    }
+
+    /// Where it listens.
+    pub(crate) fn address(&self) -> Option<SocketAddr> {
+        self.listener.local_addr().ok()
+    }
+}
+
+/// A receiver's figures.
+fn receiver_of<R: Wait + Clock + AllocGlobal>(
+    rt: &R,
+    to: &Destination,
+    spool: &Outgoing<'_>,
+) -> Result<Receiver, AllocError> {
+    let State {
+        waiting,
+        stuck,
+        is_connected,
+        is_held,
+        ..
+    } = spool.state(rt);
+    let Tallied { sent, aa, ae, ar } = spool.tally.counts();
+    Ok(Receiver {
+        name: to.name.as_slice().to_vec(rt.alloc())?,
+        is_connected,
+        is_held,
+        down: spool.tally.away(rt),
+        waiting,
+        oldest: stuck,
+        sent,
+        aa,
+        ae,
+        ar,
+    })
+}
+
+/// The figures of the receivers, in the plan's order.
+fn receivers_of<R: Wait + Clock + AllocGlobal>(
+    hub: &Hub<'_, R>,
+) -> Result<Vec<Receiver>, AllocError> {
+    let mut receivers = Vec::new(hub.rt.alloc());
+    for (number, spool) in hub.spools.iter().enumerate() {
+        if let Some(to) = hub.destination(number) {
+            receivers.push(receiver_of(hub.rt, to, spool)?)?;
+        }
+    }
+    Ok(receivers)
+}
+
+/// The time in fourteen digits, or zeros.
+fn time_of<R: Clock>(rt: &R) -> [u8; 14] {
+    let mut digits = [b'0'; 14];
+    if let Some(stamp) = stamp_of(rt, None)
+        && let Ok(now) = <[u8; 14]>::try_from(stamp.digits())
+    {
+        digits = now;
+    }
+    digits
+}
+
+/// The figures of this moment.
+fn figures_of<R: Wait + Clock + AllocGlobal>(hub: &Hub<'_, R>) -> Result<Figures, AllocError> {
+    let Counters {
+        rounds,
+        version,
+        accepted,
+        is_short,
+        ..
+    } = hub.counters();
+    let (open, sessions) = hub.watch.senders();
+    let Seen {
+        refusals,
+        codes,
+        refused,
+    } = hub.watch.seen(hub.rt, hub.rt.alloc())?;
+    Ok(Figures {
+        time: time_of(hub.rt),
+        rounds,
+        plan: version,
+        accepted,
+        refused,
+        open,
+        sessions,
+        entries: hub.entries(),
+        is_short,
+        has_failed: hub.fault().is_some(),
+        receivers: receivers_of(hub)?,
+        codes,
+        refusals,
+    })
+}
+
+/// A connection that is read and written up to a moment, or to the end of the gateway.
+#[derive(Drop)]
+struct Patient<'a, 'f, R: Wait> {
+    hub: &'a Hub<'f, R>,
+    stream: &'a TcpStream,
+    since: Instant,
+    patience: Duration,
+}
+
+impl<R: Wait + Clock> Patient<'_, '_, R> {
+    fn is_over(&self) -> bool {
+        match self.since.elapsed(self.hub.rt) {
+            Ok(passed) => passed >= self.patience || self.hub.has_ended(),
+            Err(_) => true,
+        }
+    }
+}
+
+impl<R: Wait + Clock> Read for Patient<'_, '_, R> {
+    fn read(&mut self, buf: &mut [u8]) -> io::Result<usize> {
+        for _ in 0..PATIENCE * 1_000 / LOOK {
+            if self.is_over() {
+                break;
+            }
+            let mut stream = self.stream;
+            match stream.read(buf) {
+                Err(error) if error.kind() == ErrorKind::WouldBlock => {}
+                read => return read,
+            }
+        }
+        Err(Error::from(ErrorKind::TimedOut))
+    }
+}
+
+impl<R: Wait + Clock> Write for Patient<'_, '_, R> {
+    fn write(&mut self, buf: &[u8]) -> io::Result<usize> {
+        for _ in 0..PATIENCE * 1_000 / LOOK {
+            if self.is_over() {
+                break;
+            }
+            let mut stream = self.stream;
+            match stream.write(buf) {
+                Err(error) if error.kind() == ErrorKind::WouldBlock => {}
+                written => return written,
+            }
+        }
+        Err(Error::from(ErrorKind::TimedOut))
+    }
+
+    fn flush(&mut self) -> io::Result<()> {
+        Ok(())
+    }
+}
+
+/// A connection with this many seconds from now on.
+fn limited<'a, 'f, R: Wait + Clock>(
+    hub: &'a Hub<'f, R>,
+    stream: &'a TcpStream,
+    seconds: u64,
+) -> io::Result<Patient<'a, 'f, R>> {
+    Ok(Patient {
+        hub,
+        stream,
+        since: Instant::now(hub.rt)?,
+        patience: Duration::from_secs(seconds),
+    })
+}
+
+/// Passes over what still comes, so that the answer isn't lost with it.
+fn pass_over<R: Wait + Clock>(hub: &Hub<'_, R>, stream: &TcpStream) -> io::Result<()> {
+    stream.shutdown(Shutdown::Write)?;
+    let mut rest = limited(hub, stream, CLOSE)?;
+    let mut piece = [0u8; PIECE];
+    for _ in 0..PIECES {
+        if rest.read(&mut piece)? == 0 {
+            break;
+        }
+    }
+    Ok(())
+}
+
+/// Answers one connection.
+fn show<R: Wait + Clock + AllocGlobal>(
+    hub: &Hub<'_, R>,
+    keys: RandomState,
+    stream: &TcpStream,
+) -> io::Result<()> {
+    let look = Some(Duration::from_millis(LOOK));
+    stream.set_read_timeout(look)?;
+    stream.set_write_timeout(look)?;
+    stream.set_nodelay(true)?;
+    let figures = figures_of(hub)?;
+    let mut reader = limited(hub, stream, PATIENCE)?;
+    let mut writer = limited(hub, stream, PATIENCE)?;
+    answer(hub.rt.alloc(), keys, &figures, &mut reader, &mut writer)?;
+    pass_over(hub, stream)
+}
+
+/// Answers one connection after another, until the gateway ends.
+pub(crate) fn show_all<R: Wait + Clock + AllocGlobal>(hub: &Hub<'_, R>, pages: Pages) {
+    let Pages { listener, keys } = pages;
+    for _ in hub.rt.forever() {
+        let accepted = listener.accept();
+        if hub.has_ended() {
+            return;
+        }
+        match accepted {
+            // (whoever doesn't take the answer has none)
+            Ok((stream, _peer)) => drop(show(hub, keys, &stream)),
+            Err(_) => thread::sleep(hub.rt, Duration::from_millis(LOOK)),
+        }
+    }
+}
