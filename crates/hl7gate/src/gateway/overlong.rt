@@ -101,7 +101,7 @@ pub(crate) fn reject<R: Wait + Clock + AllocGlobal>(
         return Ok(());
     };
     let block = block_of(hub, alloc, &header, number)?;
-    let mut writer = Logged::new(alloc, stream, &hub.folder.log, session);
+    let mut writer = Logged::new(alloc, hub, stream, session);
     if writer.write_all(&block).is_ok() {
         let _ = stream.shutdown(Shutdown::Write);
         read_rest(hub, stream);
