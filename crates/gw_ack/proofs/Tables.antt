@@ -2,9 +2,9 @@
 use Rattle.std.proofs.Common.{◌≡◌, ◌≢◌, ℕ, zero, suc, ◌+◌, ◌<◌, true, false, List, [], ◌∷◌, ◌++◌, length, map, take, get_or, None, Some}
 use Rattle.std.proofs.Common.{refl, sym, ap, subst, ◌∙◌, append_assoc, arith}
 use Rattle.std.proofs.lemmas.List.{append-nil, length-map, length-take-le, map-append, map_push, take_more}
+use Rattle.std.proofs.lemmas.List.Elements.{All-from_recursion, All-get_or}
 use Rattle.std.proofs.lemmas.Option.{slice_get_within, get_or_from_slice_get}
 use Rattle.std.specs.Prelude.{slice_get}
-use Rattle.std.specs.List.{AllByRecursion}
 use Rattle.std.specs.Ordering.{nat_cmp}
 use Rattle.std.specs.Cmp.Lexicographic.{slice_cmp, nat_list_cmp_total}
 use Rattle.std.specs.FinMap as texts
@@ -89,17 +89,12 @@ with_last-push change [] s = refl
 with_last-push change (x ∷ []) s = refl
 with_last-push change (x ∷ y ∷ ss) s = ap (λ (rest : List SegmentValue). x ∷ rest) (with_last-push change (y ∷ ss) s)
 
-All-at : {X : Type 0} (P : X → Type 0) (xs : List X) (i : ℕ) (d : X) → AllByRecursion P xs → i < length xs → P (get_or xs i d)
-All-at P [] i d h lt = absurd (omega arith)
-All-at P (x ∷ xs) zero d h lt = h.0
-All-at P (x ∷ xs) (suc i) d h lt = All-at P xs i d h.1 (omega arith)
-
 -- a row isn't at the place of one before it
 distinct_before : (rows : List Entry) (i : ℕ) (d : Entry) → Distinct rows → i < length rows → Apart (get_or rows i d).0 (take i rows)
 distinct_before [] i d h lt = absurd (omega arith)
 distinct_before (e ∷ rows) zero d h lt = tt
 distinct_before (e ∷ rows) (suc i) d h lt =
-    (λ same. All-at (λ x. e.0 ≢ x.0) rows i d h.0 (omega arith) (sym same), distinct_before rows i d h.1 (omega arith))
+    (λ same. All-get_or (λ x. e.0 ≢ x.0) rows i d (omega arith) (All-from_recursion (λ x. e.0 ≢ x.0) rows h.0) (sym same), distinct_before rows i d h.1 (omega arith))
 
 free : (key : List ℕ) (rows : List Entry) → Apart key rows → find (slice_cmp nat_cmp) key rows ≡ None
 free key [] h = refl
@@ -119,7 +114,7 @@ module _ (name : List ℕ) (begun now : List SegmentValue) (rows : List Entry) (
   may_put =
       subst (MayPut e.0 e.1) (sym so_far)
       (builds.may_put e.0 e.1 begun (made name (take i rows)) (get-from_entries nat_list_cmp_total (take i rows) e.0 ∙ none_there)
-      (subst (IsEntry (first_field name)) (sym is) (All-at (IsEntry (first_field name)) rows i d lawful.each lt)))
+      (subst (IsEntry (first_field name)) (sym is) (All-get_or (IsEntry (first_field name)) rows i d lt (All-from_recursion (IsEntry (first_field name)) rows lawful.each))))
 
   -- and is put
   pub put_step : (then : List SegmentValue) → then ≡ with_last (λ s. record s { at = texts.insert s.at e.0 e.1 }) now

@@ -1,9 +1,10 @@
 //! What an answer takes from the header of the message that it answers.
-ghost use Rattle.std.specs.Prelude.{◌≡◌, IfOk};
+ghost use Rattle.std.specs.Prelude.{◌≡◌, IfOk, ◌++◌, OnOk};
 ghost use Rattle.std.specs.FinMap as texts;
 ghost use Rattle.gw_er7.specs.Message.{text_of};
-ghost use Rattle.gw_ack.specs.Headers.{control_of};
-ghost use Rattle.gw_ack.specs.Seen.{entries};
+ghost use Rattle.gw_ack.specs.Headers.{control_of, HeaderValue, IsHeaderValue, header_from, header_of, blank};
+ghost use Rattle.gw_ack.specs.Seen.{entries, rows};
+ghost use Rattle.gw_ack.specs.Answers.{copied, or_production};
 
 use crate::rows::{Row, add_copy, add_field};
 use gw_er7::{Message, Place, Segment};
@@ -36,9 +37,6 @@ impl Drop for Header {
 }
 
 impl Model for Header {
-    ghost use Rattle.gw_ack.specs.Headers.{HeaderValue, IsHeaderValue, header_from};
-    ghost use Rattle.gw_ack.specs.Seen.{entries};
-
     ghost Value = { HeaderValue };
 
     ghost view = { λ h. header_from (entries h.texts.items) h.event.items h.control.items };
@@ -84,11 +82,6 @@ fn texts_of(alloc: Global, segment: &Segment<'_>) -> Result<Vec<HeaderText>, All
 }
 
 impl Header {
-    ghost use Rattle.std.specs.Prelude.{◌≡◌, ◌++◌, IfOk, OnOk};
-    ghost use Rattle.gw_ack.specs.Answers.{copied, or_production};
-    ghost use Rattle.gw_ack.specs.Headers.{IsHeaderValue, header_of, blank};
-    ghost use Rattle.gw_ack.specs.Seen.{rows};
-
     /// The header of a message. The one error is an allocation failure.
     pub fn of(alloc: Global, message: &Message) -> Result<Header, AllocError>
         ensures { IfOk result (λ header. header ≡ header_of message.now) }

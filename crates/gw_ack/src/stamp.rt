@@ -1,6 +1,6 @@
 //! The time stamp of an answer.
-ghost use Rattle.std.specs.Prelude.{◌↔◌, IsTrue, EachIndex, slice_index};
-ghost use Rattle.gw_ack.specs.Stamps.{IsDigit};
+ghost use Rattle.std.specs.Prelude.{◌↔◌, IsTrue, EachIndex, slice_index, ℕ, List, ◌≡◌, IsSome, IfSome};
+ghost use Rattle.gw_ack.specs.Stamps.{IsDigit, IsStamp};
 
 use std::marker::Model;
 
@@ -11,9 +11,6 @@ pub struct Stamp {
 }
 
 impl Model for Stamp {
-    ghost use Rattle.std.specs.Prelude.{ℕ, List};
-    ghost use Rattle.gw_ack.specs.Stamps.{IsStamp};
-
     ghost Value = { List ℕ };
 
     ghost view = { λ s. s.digits };
@@ -31,9 +28,6 @@ fn are_digits(text: &[u8]) -> bool
 }
 
 impl Stamp {
-    ghost use Rattle.std.specs.Prelude.{◌≡◌, ◌↔◌, IsSome, IfSome};
-    ghost use Rattle.gw_ack.specs.Stamps.{IsStamp};
-
     /// The stamp of these digits, where they are fourteen. It takes no memory.
     pub fn from_digits(text: &[u8]) -> Option<Stamp>
         ensures some { IsSome result ↔ IsStamp text.now }

@@ -3,13 +3,12 @@ use Rattle.std.proofs.Common.{◌≡◌, ◌≤◌, ◌+◌, ℕ, List, [], ◌�
 use Rattle.std.proofs.Common.{append_assoc, append-nil}
 use Rattle.std.proofs.lemmas.Result.{IfOk-weaker, on_err_weaker}
 use Rattle.gw_er7.specs.Message.{SegmentValue}
-use Rattle.gw_gate.specs.Journal.{WasAccepted}
 use Rattle.gw_gate.specs.Parts.{PlanSeen, ConformingSeen}
 use Rattle.gw_gate.specs.Seen.{message_seen}
 use Rattle.gw_gate.proofs.Asking.{same_messages}
 use Rattle.gw_ack.specs.declared.reply.Reply.{Reply}
 use Rattle.gw_ack.specs.declared.reply.Reply.TheVariants.{Accept, Reject}
-use Rattle.gw_crew.specs.Notes.{NoteSeen, Looked, WasStale, WasFull, Added}
+use Rattle.gw_crew.specs.Notes.{NoteSeen, Looked, WasStale}
 use Rattle.gw_crew.specs.own.Turns.{Adds}
 use Rattle.gw_session.specs.declared.doors.NumberedReply.{NumberedReply}
 use Rattle.gw_session.specs.Sessions.{Decides, HasCode, IsCutShort, IsOutcome, Judged, Tries}
