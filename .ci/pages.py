@@ -90,7 +90,9 @@ def page(gateway):
     status, head, text = got(gateway, "/")
     same("the page's status and type", (200, True), (status, "content-type: text/html; charset=utf-8" in head.lower()))
     rows = [re.findall(r"<td>(.*?)</td>", it) for it in re.findall(r"<tr>.*?</tr>", text)]
-    same("the receivers' rows", sorted([["connected", "0", "0", f"{aa + ae}", f"{aa}", f"{ae}", "0"] for aa, ae in ((len(LEFT["WARDS"]) - 1, 1), (len(LEFT["ARCHIVE"]), 0))]), sorted(it for it in rows if len(it) == 7))
+    taken = (len(LEFT["WARDS"]) - 1, 1), (len(LEFT["ARCHIVE"]), 0)
+    stated = [["connected", "0", "0", f"{aa + ae}", f"{aa}", f"{ae}", "0"] for aa, ae in taken]
+    same("the receivers' rows", sorted(stated), sorted(it for it in rows if len(it) == 7))
     told = [(it[2:]) for it in rows if len(it) == 6]
     stated = [[number, code, condition, "".join(place)] for number, _, code, condition, *place in (logged(it).split() for it in reversed(refusals))]
     same("the last refusals", stated, told)
