@@ -385,3 +385,33 @@ def full_disk(gateway):
             came = {control(it) for it in receiver.blocks}
             same(f"what {name} got of what was answered AR", set(), came & set(turned_away[b"AR", b"207"]))
         gateway.kill()
+
+
+def no_room(gateway):
+    """Others take the disk's last byte while a thousand messages wait. A receiver that comes then is sent nothing, since no acknowledgment could be kept:
+    else the gateway would end at one, and send that message anew. It can't be started then. Once there is room the receiver gets all, none twice."""
+    names, wards, others = [b"M%07d" % it for it in range(1000)], Receiver(), gateway.folder / "others"
+    wards.close()
+    with small_disk(gateway.folder):
+        gateway.play(WARDS=wards, ARCHIVE=Receiver())
+        gateway.start()
+        same("the codes of answers", [(b"AA", None)], list(send(gateway, iter(names), len(names))))
+        gateway.receivers["ARCHIVE"].gets("ARCHIVE", names, gateway.until)
+        # (so that its last acknowledgment is on the disk)
+        time.sleep(0.5)
+        (gateway.folder / "reserve").write_bytes(b"")
+        fill(others)
+        gateway.wait("the disk is full: nothing is sent until there is some room")
+        wards.open(wards.port)
+        gateway.wait(f"receiver WARDS at {wards.address} connected")
+        time.sleep(0.5)
+        same("what WARDS got", [], wards.blocks)
+        same("what the gateway's end was", None, gateway.process.poll())
+        gateway.kill()
+        gateway.start(waits=False)
+        gateway.ends(3, ["fault 3", "folder/numbers: the file can't be made or written"])
+        same("what WARDS got", [], wards.blocks)
+        others.unlink()
+        gateway.start()
+        wards.gets("WARDS", names, gateway.until)
+        gateway.kill()

@@ -5,7 +5,7 @@ use crate::arguments::parse;
 use crate::ended::Ended;
 use crate::gateway::control;
 use crate::gateway::control::{attend_all, control_path};
-use crate::gateway::folder::Folder;
+use crate::gateway::folder::{Folder, Room};
 use crate::gateway::forwarders::forward_all;
 use crate::gateway::hub::Hub;
 use crate::gateway::late::look_at_all;
@@ -103,21 +103,34 @@ fn open_spools<'f, 'a, R: Files<File = File> + Clock + Eprint + AllocGlobal + Cl
     Ok(spools)
 }
 
+/// Looks whether the disk has room.
+fn look_at_disk<R: Wait + Clock + Eprint>(hub: &Hub<'_, R>) {
+    let room = hub.folder.room();
+    let is_short = room != Room::Enough;
+    if is_short != hub.is_short() {
+        let _ = if is_short {
+            eprintln!(hub.rt;
+                "the disk is short of room: messages are answered AR until 64 MB are free\n{}: free some room",
+                hub.folder.path
+            )
+        } else {
+            eprintln!(hub.rt; "the disk has room again: messages are taken")
+        };
+        hub.set_short(is_short);
+    }
+    let is_full = room == Room::Nothing;
+    if is_full != hub.is_full() {
+        if is_full {
+            let _ = eprintln!(hub.rt; "the disk is full: nothing is sent until there is some room");
+        }
+        hub.set_full(is_full);
+    }
+}
+
 /// Looks from time to time whether the disk has room, and which receivers are late, until the gateway can't go on.
 fn watch_all<R: Wait + Clock + Eprint + AllocGlobal>(hub: &Hub<'_, R>) {
     for _ in hub.rt.forever() {
-        let is_short = !hub.folder.has_reserve();
-        if is_short != hub.is_short() {
-            let _ = if is_short {
-                eprintln!(hub.rt;
-                    "the disk is short of room: messages are answered AR until 64 MB are free\n{}: free some room",
-                    hub.folder.path
-                )
-            } else {
-                eprintln!(hub.rt; "the disk has room again: messages are taken")
-            };
-            hub.set_short(is_short);
-        }
+        look_at_disk(hub);
         look_at_all(hub);
         for _fifth in 0..LOOK {
             if hub.has_ended() {
@@ -151,6 +164,8 @@ fn go_on<
     let (mut numbers, gate) = begun;
     let shown_at = pages.as_ref().and_then(|pages| pages.address());
     let mut end = None;
+    // (before anything is sent)
+    look_at_disk(hub);
     thread::scope(
         thread::scope_env(),
         hub.rt,

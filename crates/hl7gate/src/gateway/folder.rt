@@ -95,16 +95,35 @@ pub(crate) fn sync_folder<R: Files<File = File>>(rt: &R, path: &str) -> io::Resu
     File::open(rt, path)?.sync_all()
 }
 
-/// Fills the reserve. False: there is no room for it.
-fn fill(file: &File) -> bool {
+/// What room the disk has.
+#[derive(Clone, Copy, PartialEq, Eq)]
+pub(crate) enum Room {
+    /// The reserve is there.
+    Enough,
+    /// Some room, but not as much as the reserve takes.
+    Little,
+    /// None, or hardly any.
+    Nothing,
+}
+
+/// Fills the reserve, where there is room for it.
+fn fill(file: &File) -> Room {
     let zeros = [0u8; PIECE as usize];
     for piece in 0..RESERVE / PIECE {
         if file.write_all_at(&zeros, piece * PIECE).is_err() {
             let _ = file.set_len(0);
-            return false;
+            return if piece > 0 {
+                Room::Little
+            } else {
+                Room::Nothing
+            };
         }
     }
-    file.sync_data().is_ok()
+    if file.sync_data().is_ok() {
+        Room::Enough
+    } else {
+        Room::Little
+    }
 }
 
 impl Folder {
@@ -164,10 +183,10 @@ impl Folder {
         }
     }
 
-    /// Whether the reserve is there: where it was used it is filled again, if the disk has room.
-    pub(crate) fn has_reserve(&self) -> bool {
+    /// What room the disk has. Where the reserve was used it is filled again, if there is room for it.
+    pub(crate) fn room(&self) -> Room {
         match self.reserve.metadata() {
-            Ok(of) if of.len() == RESERVE => true,
+            Ok(of) if of.len() == RESERVE => Room::Enough,
             _ => fill(&self.reserve),
         }
     }

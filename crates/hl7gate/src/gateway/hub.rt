@@ -63,6 +63,7 @@ pub(crate) struct Hub<'f, R: Wait> {
     news: Condvar,
     phase: AtomicU64,
     is_short: AtomicBool,
+    is_full: AtomicBool,
     // behind the last entry of the journal that a session saw, over all chapters
     entries: AtomicU64,
     rounds: AtomicU64,
@@ -147,6 +148,7 @@ impl<'f, R: Wait> Hub<'f, R> {
             news: Condvar::new(),
             phase: AtomicU64::new(RUNNING),
             is_short: AtomicBool::new(false),
+            is_full: AtomicBool::new(false),
             entries: AtomicU64::new(0),
             rounds: AtomicU64::new(0),
             version: AtomicU64::new(0),
@@ -231,6 +233,19 @@ impl<'f, R: Wait> Hub<'f, R> {
     /// Whether the disk is short of room from here on.
     pub(crate) fn set_short(&self, is_short: bool) {
         self.is_short.store(is_short, Ordering::SeqCst);
+    }
+
+    /// Whether the disk is full.
+    pub(crate) fn is_full(&self) -> bool {
+        self.is_full.load(Ordering::SeqCst)
+    }
+
+    /// Whether the disk is full from here on. Nothing is sent then: no acknowledgment could be kept.
+    pub(crate) fn set_full(&self, is_full: bool) {
+        self.is_full.store(is_full, Ordering::SeqCst);
+        for spool in &self.spools {
+            spool.set_full(self.rt, is_full);
+        }
     }
 
     /// A message was accepted, and the journal has as many entries, over all chapters.

@@ -145,10 +145,23 @@ fn start_in<'a, R: Files + Clock + Eprint + AllocGlobal>(
     start_by_clock(rt, &path, plan)
 }
 
-/// The numbers of a gateway, and up to which entry the file says that they may have been given.
-#[derive(Drop)]
+/// Writes the file of these numbers. Where the disk is full it takes the reserve's room.
+fn write<R: Files<File = File> + AllocGlobal>(
+    rt: &R,
+    folder: &Folder,
+    given: Given,
+) -> io::Result<()> {
+    let line = given.line(rt.alloc())?;
+    if write_file(rt, &folder.path, NAME, line.as_bytes()).is_ok() {
+        return Ok(());
+    }
+    folder.reserve.set_len(0)?;
+    write_file(rt, &folder.path, NAME, line.as_bytes())
+}
+
+/// The numbers of a gateway: up to which entry the file says that they may have been given.
+#[derive(Clone, Copy)]
 pub(crate) struct Numbers {
-    folder: String,
     taken: u64,
 }
 
@@ -167,11 +180,8 @@ impl Numbers {
         let Ok(gate) = Gate::begin_from(alloc, start) else {
             return Err(Ended::Run(RunFault::Memory));
         };
-        let mut numbers = Numbers {
-            folder: String::from_str(alloc, &folder.path)?,
-            taken: 0,
-        };
-        match numbers.take(rt, &gate) {
+        let mut numbers = Numbers { taken: 0 };
+        match numbers.take(rt, folder, &gate) {
             Ok(()) => Ok((numbers, gate)),
             Err(error) => {
                 let name = format!(in alloc; "{}/{NAME}", folder.path)?;
@@ -181,32 +191,33 @@ impl Numbers {
     }
 
     // Takes numbers behind those of a gate.
-    fn take<R: Files<File = File> + AllocGlobal>(&mut self, rt: &R, gate: &Gate) -> io::Result<()> {
+    fn take<R: Files<File = File> + AllocGlobal>(
+        &mut self,
+        rt: &R,
+        folder: &Folder,
+        gate: &Gate,
+    ) -> io::Result<()> {
         let given = Given::of(gate, MARGIN);
-        self.write(rt, given)?;
+        write(rt, folder, given)?;
         self.taken = given.entries;
         Ok(())
-    }
-
-    fn write<R: Files<File = File> + AllocGlobal>(&self, rt: &R, given: Given) -> io::Result<()> {
-        let line = given.line(rt.alloc())?;
-        write_file(rt, &self.folder, NAME, line.as_bytes())
     }
 
     /// Sees to it that numbers for another round are taken.
     pub(crate) fn go_on<R: Files<File = File> + Eprint + AllocGlobal>(
         &mut self,
         rt: &R,
+        folder: &Folder,
         gate: &Gate,
     ) -> Result<(), RunFault> {
         if self.taken.saturating_sub(gate.end()) > MAX_ENTRIES as u64 {
             return Ok(());
         }
-        match self.take(rt, gate) {
+        match self.take(rt, folder, gate) {
             Ok(()) => Ok(()),
             Err(error) if error.kind() == ErrorKind::OutOfMemory => Err(RunFault::Memory),
             Err(_) => {
-                let folder = self.folder.as_str();
+                let folder = folder.path.as_str();
                 let _ = eprintln!(rt; "{folder}/{NAME}: the file can't be made or written");
                 Err(RunFault::Write)
             }
@@ -214,7 +225,12 @@ impl Numbers {
     }
 
     /// The gateway ends, and gives no number any more. Where the file can't be written, some numbers are passed over.
-    pub(crate) fn end<R: Files<File = File> + AllocGlobal>(&self, rt: &R, gate: &Gate) {
-        let _ = self.write(rt, Given::of(gate, 0));
+    pub(crate) fn end<R: Files<File = File> + AllocGlobal>(
+        self,
+        rt: &R,
+        folder: &Folder,
+        gate: &Gate,
+    ) {
+        let _ = write(rt, folder, Given::of(gate, 0));
     }
 }

@@ -35,6 +35,7 @@ struct Queue<'f> {
     row: Row<'f>,
     has_ended: bool,
     is_held: bool,
+    is_full: bool,
     is_connected: bool,
     taken: u64,
     refused: u64,
@@ -88,6 +89,7 @@ impl<'f> Outgoing<'f> {
                 row,
                 has_ended: false,
                 is_held: false,
+                is_full: false,
                 is_connected: false,
                 taken: 0,
                 refused: 0,
@@ -140,6 +142,12 @@ impl<'f> Outgoing<'f> {
         self.news.notify_all();
     }
 
+    /// Sends nothing while the disk is full.
+    pub(crate) fn set_full<R: Wait>(&self, rt: &R, is_full: bool) {
+        self.queue.lock(rt).is_full = is_full;
+        self.news.notify_all();
+    }
+
     /// Whether the receiver is connected, from here on.
     pub(crate) fn set_connected<R: Wait + Clock>(&self, rt: &R, is_connected: bool) {
         self.tally.set_connected(rt, is_connected);
@@ -171,6 +179,7 @@ impl<'f> Outgoing<'f> {
             }
             if let Some(bytes) = queue.row.first()
                 && !queue.is_held
+                && !queue.is_full
             {
                 return Ok(Some(bytes.to_vec(alloc)?));
             }

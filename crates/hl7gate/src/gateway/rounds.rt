@@ -266,7 +266,7 @@ fn round_and_numbers<
     D: Read + Drop + Send + Sync,
 >(hub: &Hub<'_, R>, gate: Gate, numbers: &mut Numbers, workers: u64) -> Result<Gate, RunFault> {
     let next = round::<Brand, R, D>(hub, Blank::new(PARTS), gate, workers)?;
-    numbers.go_on(hub.rt, &next)?;
+    numbers.go_on(hub.rt, hub.folder, &next)?;
     Ok(next)
 }
 
@@ -285,7 +285,7 @@ pub(crate) fn rounds<
             }
         }
         if hub.has_ended() {
-            numbers.end(hub.rt, &gate);
+            numbers.end(hub.rt, hub.folder, &gate);
             return hub.fault();
         }
     }
