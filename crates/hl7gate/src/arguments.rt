@@ -152,7 +152,7 @@ const FORMS: [Form; 9] = [
     },
     Form {
         name: "tell",
-        about: "Sends a word to the gateway that works in a folder, and prints its answer: status, swap PATH, hold NAME, go NAME, resend NAME, stop",
+        about: "Sends a word to the gateway that works in a folder, and prints its answer: status, swap PATH, install PATH, hold NAME, go NAME, resend NAME, stop",
         words: &[
             ("FOLDER", "The folder of the gateway"),
             ("WORD", "The word"),

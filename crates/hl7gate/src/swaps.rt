@@ -15,7 +15,7 @@ use std::sync::ledger::Ledger;
 
 /// Why the plan of a file isn't swapped in.
 #[derive(Drop)]
-enum Unswapped<'a> {
+pub(crate) enum Unswapped<'a> {
     /// The file can't be read, or its text isn't a plan.
     Text(Ended<'a>),
     /// The gate refuses it.
@@ -49,7 +49,7 @@ fn swap_file<'a, L: Ledger, R: Wait + Files + Eprint + AllocGlobal>(
 }
 
 /// Why the plan of a file isn't swapped in: the lines that say so.
-fn lines_of<R: AllocGlobal>(rt: &R, path: &str, why: &Unswapped<'_>) -> Vec<u8> {
+pub(crate) fn lines_of<R: AllocGlobal>(rt: &R, path: &str, why: &Unswapped<'_>) -> Vec<u8> {
     let mut lines = Vec::new(rt.alloc());
     match why {
         Unswapped::Text(Ended::Unread { .. }) => {
@@ -77,6 +77,7 @@ fn tell_unswapped<R: Eprint + AllocGlobal>(rt: &R, path: &str, why: &Unswapped<'
 }
 
 /// Swaps in the plan of a file, and gives its version, or the lines that say why it isn't swapped in.
+/// Where the plan has other receivers, they name the word that takes it.
 pub(crate) fn swap_or_lines<L: Ledger, R: Wait + Files + Eprint + AllocGlobal>(
     door: &mut Reporter<'_, '_, L, R>,
     rt: &R,
@@ -84,7 +85,13 @@ pub(crate) fn swap_or_lines<L: Ledger, R: Wait + Files + Eprint + AllocGlobal>(
 ) -> Result<u64, Vec<u8>> {
     match swap_file(door, rt, path) {
         Ok(version) => Ok(version),
-        Err(why) => Err(lines_of(rt, path, &why)),
+        Err(why) => {
+            let mut lines = lines_of(rt, path, &why);
+            if let Unswapped::Gate(SwapFault::Unlike) = &why {
+                let _ = writeln!(lines, "`install {path}` takes a plan with other receivers");
+            }
+            Err(lines)
+        }
     }
 }
 

@@ -8,12 +8,13 @@ use crate::gateway::control::{attend_all, control_path};
 use crate::gateway::folder::{Folder, Room};
 use crate::gateway::forwarders::forward_all;
 use crate::gateway::hub::Hub;
+use crate::gateway::install::install;
 use crate::gateway::late::look_at_all;
+use crate::gateway::lobby::Lobby;
 use crate::gateway::numbers::Numbers;
-use crate::gateway::outgoing::Outgoing;
 use crate::gateway::page::{Pages, show_all};
+use crate::gateway::receivers::Receivers;
 use crate::gateway::rounds::rounds;
-use crate::gateway::row::{Row, RowFault};
 use crate::gateway::senders::accept_all;
 use crate::plans::read_plan;
 use crate::report::{DONE, USAGE, tell, tell_words};
@@ -22,10 +23,7 @@ use crate::stamps::stamp_of;
 use clap::ArgMatches;
 use gw_ack::Stamp;
 use gw_gate::Gate;
-use gw_plan::{Plan, Receiver};
-use gw_spool::SpoolFault;
 use gw_stream::RunFault;
-use std::alloc::Global;
 use std::fs::File;
 use std::io::{Eprint, Read, Write};
 use std::net::{Net, SocketAddr, TcpListener, TcpStream};
@@ -52,57 +50,6 @@ struct Sizes {
     connections: u64,
 }
 
-/// Why a spool can't be opened.
-fn unopened<'a>(alloc: Global, fault: RowFault, folder: &str) -> Ended<'a> {
-    let RowFault { fault, path } = fault;
-    let file = match path {
-        Some(path) => Ok(path),
-        None => String::from_str(alloc, folder),
-    };
-    match (fault, file) {
-        (SpoolFault::Memory, _) | (_, Err(_)) => Ended::Run(RunFault::Memory),
-        (SpoolFault::Damaged { at }, Ok(file)) => Ended::Damaged { file, at },
-        (_, Ok(file)) => Ended::Unwritten { file },
-    }
-}
-
-/// The spool of a receiver. Its name is letters, digits and `_`, so it lies in the folder and nowhere else.
-fn open_spool<'f, 'a, R: Files<File = File> + Clock + Eprint + AllocGlobal + Clone + Drop>(
-    rt: &R,
-    folder: &'f Folder,
-    receiver: &Receiver,
-) -> Result<Outgoing<'f>, Ended<'a>> {
-    let alloc = rt.alloc();
-    let name = receiver.name.escape_ascii();
-    let path = format!(in alloc; "{}/spool/{name}", folder.path)?;
-    let row = match Row::open(rt, path, &folder.reserve) {
-        Ok(row) => row,
-        Err(fault) => return Err(unopened(alloc, fault, &folder.path)),
-    };
-    let waiting = row.waiting();
-    if waiting > 0 {
-        let name = receiver.name.escape_ascii();
-        let _ = eprintln!(rt;
-            "receiver {name}: {waiting} messages wait in {}",
-            folder.path
-        );
-    }
-    Ok(Outgoing::new(rt, row))
-}
-
-/// The spools of a plan's receivers, in their order.
-fn open_spools<'f, 'a, R: Files<File = File> + Clock + Eprint + AllocGlobal + Clone + Drop>(
-    rt: &R,
-    folder: &'f Folder,
-    plan: &Plan,
-) -> Result<Vec<Outgoing<'f>>, Ended<'a>> {
-    let mut spools = Vec::new(rt.alloc());
-    for receiver in plan.receivers() {
-        spools.push(open_spool(rt, folder, receiver)?)?;
-    }
-    Ok(spools)
-}
-
 /// Looks whether the disk has room.
 fn look_at_disk<R: Wait + Clock + Eprint>(hub: &Hub<'_, R>) {
     let room = hub.folder.room();
@@ -119,12 +66,11 @@ fn look_at_disk<R: Wait + Clock + Eprint>(hub: &Hub<'_, R>) {
         hub.set_short(is_short);
     }
     let is_full = room == Room::Nothing;
-    if is_full != hub.is_full() {
-        if is_full {
-            let _ = eprintln!(hub.rt; "the disk is full: nothing is sent until there is some room");
-        }
-        hub.set_full(is_full);
+    if is_full && !hub.is_full() {
+        let _ = eprintln!(hub.rt; "the disk is full: nothing is sent until there is some room");
     }
+    // (also for receivers that are new)
+    hub.set_full(is_full);
 }
 
 /// Looks from time to time whether the disk has room, and which receivers are late, until the gateway can't go on.
@@ -133,7 +79,7 @@ fn watch_all<R: Wait + Clock + Eprint + AllocGlobal>(hub: &Hub<'_, R>) {
         look_at_disk(hub);
         look_at_all(hub);
         for _fifth in 0..LOOK {
-            if hub.has_ended() {
+            if hub.is_closing() {
                 return;
             }
             thread::sleep(hub.rt, Duration::from_millis(200));
@@ -141,7 +87,7 @@ fn watch_all<R: Wait + Clock + Eprint + AllocGlobal>(hub: &Hub<'_, R>) {
     }
 }
 
-/// Goes on until it is stopped, or can't go on: that is the fault.
+/// Goes on with these receivers, until a plan is to be installed: the gate of the next round. An error is that it was stopped, or can't go on: that is the fault.
 fn go_on<
     R: Net<Stream = TcpStream, Listener = TcpListener>
         + Threads
@@ -150,20 +96,19 @@ fn go_on<
         + Files<File = File, Dir = D>
         + Eprint
         + AllocGlobal
-        + Sync,
+        + Sync
+        + Clone
+        + Drop,
     D: Read + Drop + Send + Sync,
 >(
     hub: &Hub<'_, R>,
-    begun: (Numbers, Gate),
-    listener: TcpListener,
-    control: UnixListener,
-    pages: Option<Pages>,
-    sizes: Sizes,
-) -> Option<RunFault> {
-    let at = listener.local_addr().ok();
-    let (mut numbers, gate) = begun;
-    let shown_at = pages.as_ref().and_then(|pages| pages.address());
-    let mut end = None;
+    begun: (&mut Numbers, Gate),
+    control: &UnixListener,
+    pages: Option<&Pages>,
+    workers: u64,
+) -> Result<Gate, Option<RunFault>> {
+    let (numbers, gate) = begun;
+    let mut end = Err(None);
     // (before anything is sent)
     look_at_disk(hub);
     thread::scope(
@@ -172,55 +117,145 @@ fn go_on<
         |scope|
             requires { IsSync R.row × IsSend D.row × IsSync D.row }
         {
-            let accept = move ||
-                requires { IsSync R.row }
-            { accept_all(hub, listener, sizes.connections) };
             let look = move ||
                 requires { IsSync R.row }
-            { watch_all(hub) };
+            {
+                watch_all(hub);
+                hub.exit();
+            };
             let hear = move ||
                 requires { IsSync R.row × IsSend D.row × IsSync D.row }
-            { attend_all(hub, control) };
-            let mut has_all = scope.spawn(accept).is_ok()
-                && scope.spawn(look).is_ok()
-                && scope.spawn(hear).is_ok();
-            if let Some(pages) = pages {
-                let show = move ||
-                    requires { IsSync R.row }
-                { show_all(hub, pages) };
-                has_all = has_all && scope.spawn(show).is_ok();
-            }
+            {
+                attend_all(hub, control);
+                hub.exit();
+            };
+            let show = move ||
+                requires { IsSync R.row }
+            {
+                show_all(hub, pages);
+                hub.exit();
+            };
+            hub.enter(hub.spools.len().saturating_add(3));
+            let mut has_all = scope.spawn(look).is_ok()
+                && scope.spawn(hear).is_ok()
+                && scope.spawn(show).is_ok();
             for number in 0..hub.spools.len() {
                 let send = move ||
                     requires { IsSync R.row × IsSend D.row × IsSync D.row }
-                { forward_all(hub, number) };
+                {
+                    forward_all(hub, number);
+                    hub.exit();
+                };
                 has_all = has_all && scope.spawn(send).is_ok();
             }
             if !has_all {
                 hub.fail(RunFault::Memory);
             }
-            end = rounds(hub, gate, &mut numbers, sizes.workers);
+            end = rounds(hub, gate, numbers, workers);
             hub.end_sending();
-            wake(hub.rt, [at, shown_at], &hub.folder.path);
+            wake_control(hub.rt, &hub.folder.path);
+            wake(hub.rt, address_of(pages));
         },
     );
     end
 }
 
-/// Wakes the threads that accept connections.
-fn wake<R: Net<Stream = TcpStream, Listener = TcpListener> + AllocGlobal>(
-    rt: &R,
-    places: [Option<SocketAddr>; 2],
-    folder: &str,
-) {
-    for place in &places {
-        if let Some(at) = place {
-            let _ = TcpStream::connect_timeout(rt, at, Duration::from_secs(1));
+/// Goes on under one plan after the other, until it is stopped, or can't go on: that is the fault.
+fn go_on_for_ever<
+    R: Net<Stream = TcpStream, Listener = TcpListener>
+        + Threads
+        + Wait
+        + Clock
+        + Files<File = File, Dir = D>
+        + Eprint
+        + AllocGlobal
+        + Sync
+        + Clone
+        + Drop,
+    D: Read + Drop + Send + Sync,
+>(
+    hub: Hub<'_, R>,
+    begun: (Numbers, Gate),
+    control: &UnixListener,
+    pages: Option<&Pages>,
+    workers: u64,
+) -> Option<RunFault> {
+    let rt = hub.rt;
+    let mut hub = hub;
+    let (mut numbers, mut gate) = begun;
+    for _ in rt.forever() {
+        match go_on(&hub, (&mut numbers, gate), control, pages, workers) {
+            Err(fault) => return fault,
+            Ok(last) => match install(&mut hub, last) {
+                Ok(next) => gate = next,
+                Err(fault) => return Some(fault),
+            },
         }
     }
+    unreachable!()
+}
+
+/// Wakes the thread that hears words.
+fn wake_control<R: Net + AllocGlobal>(rt: &R, folder: &str) {
     if let Ok(path) = control_path(rt.alloc(), folder) {
         let _ = UnixStream::connect(rt, path.as_str());
     }
+}
+
+/// Where the page is.
+fn address_of(pages: Option<&Pages>) -> Option<SocketAddr> {
+    pages?.address()
+}
+
+/// Wakes the thread that accepts connections at an address.
+fn wake<R: Net<Stream = TcpStream, Listener = TcpListener>>(rt: &R, at: Option<SocketAddr>) {
+    if let Some(at) = at {
+        let _ = TcpStream::connect_timeout(rt, &at, Duration::from_secs(1));
+    }
+}
+
+/// Takes senders in, while it goes on.
+fn take_in<
+    R: Net<Stream = TcpStream, Listener = TcpListener>
+        + Threads
+        + Wait
+        + Clock
+        + Files<File = File, Dir = D>
+        + Eprint
+        + AllocGlobal
+        + Sync
+        + Clone
+        + Drop,
+    D: Read + Drop + Send + Sync,
+>(
+    hub: Hub<'_, R>,
+    begun: (Numbers, Gate),
+    listener: TcpListener,
+    control: &UnixListener,
+    pages: Option<&Pages>,
+    sizes: Sizes,
+) -> Option<RunFault> {
+    let (rt, lobby) = (hub.rt, hub.lobby);
+    let at = listener.local_addr().ok();
+    let mut end = None;
+    thread::scope(
+        thread::scope_env(),
+        rt,
+        |scope|
+            requires { IsSync R.row × IsSend D.row × IsSync D.row }
+        {
+            let accept = move ||
+                requires { IsSync R.row }
+            { accept_all(rt, lobby, listener, sizes.connections) };
+            if scope.spawn(accept).is_err() {
+                hub.fail(RunFault::Memory);
+            }
+            end = go_on_for_ever(hub, begun, control, pages, sizes.workers);
+            lobby.close();
+            wake(rt, at);
+        },
+    );
+    end
 }
 
 /// Keeps what it accepts in FOLDER, under the plan of the file PLAN, at ADDRESS.
@@ -249,16 +284,17 @@ fn keep<
     };
     let plan = Arc::new(alloc, read_plan(rt, words)?)?;
     let folder = Folder::open(rt, words.get_str("FOLDER").unwrap_or(""))?;
-    let spools = open_spools(rt, &folder, &plan)?;
+    let receivers = Receivers::open(rt, &folder, &plan)?;
     let path = control_path(alloc, &folder.path)?;
     let Ok(control) = control::listen(rt, &path) else {
         return Err(Ended::Unwritten { file: path });
     };
     let listener = listen(rt, words)?;
     let pages = Pages::listen(rt, words)?;
-    let hub = Hub::new(rt, alloc, start, &folder, &plan, spools)?;
+    let lobby = Lobby::new(alloc);
+    let hub = Hub::new(rt, alloc, start, &folder, &lobby, receivers)?;
     let begun = Numbers::open(rt, &folder, plan)?;
-    Ok(go_on(&hub, begun, listener, control, pages, sizes))
+    Ok(take_in(hub, begun, listener, &control, pages.as_ref(), sizes))
 }
 
 /// Does what the words say, and answers the status.

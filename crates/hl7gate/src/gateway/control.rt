@@ -1,5 +1,6 @@
 //! Words to a running gateway, over the socket FOLDER/control: a line comes, an answer goes back, and the connection ends.
 use crate::gateway::hub::Hub;
+use crate::gateway::install::{Ready, ready_or_lines};
 use crate::gateway::resend::resend;
 use crate::gateway::status;
 use std::alloc::{AllocError, Global};
@@ -20,7 +21,8 @@ const LONGEST: u64 = 4_096;
 const PATIENCE: u64 = 5;
 
 /// Which words there are.
-const WORDS: &str = "status [--json], swap PATH, hold NAME, go NAME, resend NAME, stop";
+const WORDS: &str =
+    "status [--json], swap PATH, install PATH, hold NAME, go NAME, resend NAME, stop";
 
 /// The path of a folder's socket.
 pub(crate) fn control_path(alloc: Global, folder: &str) -> Result<String, AllocError> {
@@ -90,31 +92,52 @@ fn read_line<R: AllocGlobal>(rt: &R, stream: &UnixStream) -> io::Result<String> 
     }
 }
 
-/// Answers one connection.
-fn attend<R: Wait + Clock + Files<File = File> + Eprint + AllocGlobal>(
+/// Has the plan of this file installed: who asked is answered when it is. Where it can't be, the answer says why.
+fn ask_install<R: Wait + Clock + Files<File = File> + Eprint + AllocGlobal + Clone + Drop>(
     hub: &Hub<'_, R>,
-    stream: &UnixStream,
+    path: &str,
+    stream: UnixStream,
+) -> io::Result<()> {
+    match ready_or_lines(hub, path) {
+        Ok((text, receivers)) => {
+            hub.begin_install(Ready::new(text, receivers, stream));
+            Ok(())
+        }
+        Err(lines) => {
+            let mut writer = stream;
+            writer.write_all(b"refused\n")?;
+            writer.write_all(&lines)
+        }
+    }
+}
+
+/// Answers one connection.
+fn attend<R: Wait + Clock + Files<File = File> + Eprint + AllocGlobal + Clone + Drop>(
+    hub: &Hub<'_, R>,
+    stream: UnixStream,
 ) -> io::Result<()> {
     stream.set_read_timeout(Some(Duration::from_secs(PATIENCE)))?;
     stream.set_write_timeout(Some(Duration::from_secs(PATIENCE)))?;
-    let line = read_line(hub.rt, stream)?;
-    let text = answer(hub, line.trim_end())?;
+    let line = read_line(hub.rt, &stream)?;
+    let line = line.trim_end();
+    if let Some(path) = line.strip_prefix("install ") {
+        return ask_install(hub, path, stream);
+    }
+    let text = answer(hub, line)?;
     let mut writer = stream;
     writer.write_all(text.as_bytes())
 }
 
-/// Answers one connection after another, until the gateway ends.
-pub(crate) fn attend_all<R: Wait + Clock + Files<File = File> + Eprint + AllocGlobal>(
-    hub: &Hub<'_, R>,
-    listener: UnixListener,
-) {
+/// Answers one connection after another, until the gateway ends, or its receivers change.
+pub(crate) fn attend_all<
+    R: Wait + Clock + Files<File = File> + Eprint + AllocGlobal + Clone + Drop,
+>(hub: &Hub<'_, R>, listener: &UnixListener) {
     for _ in hub.rt.forever() {
-        let accepted = listener.accept();
-        if hub.has_ended() {
-            return;
+        if let Ok((stream, _peer)) = listener.accept() {
+            let _ = attend(hub, stream);
         }
-        if let Ok((stream, _peer)) = accepted {
-            let _ = attend(hub, &stream);
+        if hub.is_closing() {
+            return;
         }
     }
 }

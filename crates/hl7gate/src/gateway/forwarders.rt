@@ -142,6 +142,28 @@ impl<
     }
 }
 
+/// Sends a receiver what waits for it, until the gateway ends. `sent` is whether bytes of the first message may have been sent.
+fn forward_to<
+    'f,
+    R: Wait
+        + Clock
+        + Net<Stream = TcpStream, Listener = TcpListener>
+        + Files<File = File>
+        + Eprint
+        + AllocGlobal,
+>(hub: &Hub<'f, R>, outgoing: &Outgoing<'f>, to: &Destination, sent: &Cell<bool>) {
+    let refused = Refused::new(hub.rt.alloc(), &to.refused);
+    let mut outbox = Emptying::new(hub.rt, outgoing, &to.name, refused, sent);
+    let mut forwarder = Forwarder {
+        hub,
+        outgoing,
+        to,
+        sent,
+        pause: 1,
+    };
+    forwarder.run(&mut outbox);
+}
+
 /// Sends the receiver of this number what waits for it, until the gateway ends.
 pub(crate) fn forward_all<
     R: Wait
@@ -154,16 +176,8 @@ pub(crate) fn forward_all<
     let (Some(outgoing), Some(to)) = (hub.spools.get(number), hub.destination(number)) else {
         return;
     };
-    // (what waits from before may have been sent then)
-    let sent = Cell::new(outgoing.waiting(hub.rt) > 0);
-    let refused = Refused::new(hub.rt.alloc(), &to.refused);
-    let mut outbox = Emptying::new(hub.rt, outgoing, &to.name, refused, &sent);
-    let mut forwarder = Forwarder {
-        hub,
-        outgoing,
-        to,
-        sent: &sent,
-        pause: 1,
-    };
-    forwarder.run(&mut outbox);
+    // (what waits from before the start may have been sent then)
+    let sent = Cell::new(outgoing.is_begun(hub.rt));
+    forward_to(hub, outgoing, to, &sent);
+    outgoing.set_begun(hub.rt, sent.get());
 }

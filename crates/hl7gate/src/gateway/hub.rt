@@ -1,11 +1,13 @@
 //! What all rounds of a gateway share.
 use crate::gateway::folder::Folder;
+use crate::gateway::install::Ready;
+use crate::gateway::lobby::Lobby;
 use crate::gateway::outgoing::Outgoing;
+use crate::gateway::receivers::{Prepared, Receivers};
 use crate::gateway::safety::Safe;
 use crate::gateway::watch::Watch;
 use crate::gateway::whole::Held;
 use gw_ack::Stamp;
-use gw_plan::Plan;
 use gw_stream::{Counts, RunFault};
 use std::alloc::{AllocError, Global};
 use std::mem::replace;
@@ -40,27 +42,18 @@ const OVER: u64 = 2;
 /// How many milliseconds pass at most until the end of the gateway is seen.
 const LOOK: u64 = 100;
 
-/// The senders that no session attends to, how many connections there are, and how many there were.
-#[derive(Drop)]
-struct Lobby {
-    senders: Vec<Sender>,
-    open: u64,
-    taken: u64,
-}
-
-/// What all rounds share: the spools, what is on the disk, the senders, and how the gateway stands.
+/// What all rounds share: the spools, what is on the disk, the senders, and how the gateway stands. The receivers change with an install.
 #[derive(Drop)]
 pub(crate) struct Hub<'f, R: Wait> {
     pub(crate) rt: &'f R,
     pub(crate) start: Stamp,
     pub(crate) folder: &'f Folder,
-    // of each receiver, in the plan's order
+    pub(crate) lobby: &'f Lobby,
+    // of each receiver, in the plan's order; behind them those that are gone from the plan
     destinations: Vec<Destination>,
     pub(crate) spools: Vec<Outgoing<'f>>,
     pub(crate) safe: Safe,
     pub(crate) watch: Watch,
-    lobby: Mutex<Lobby>,
-    news: Condvar,
     phase: AtomicU64,
     is_short: AtomicBool,
     is_full: AtomicBool,
@@ -74,6 +67,9 @@ pub(crate) struct Hub<'f, R: Wait> {
     fault: Mutex<Option<RunFault>>,
     swap: Mutex<Swap>,
     swapped: Condvar,
+    install: Mutex<Option<Ready<'f>>>,
+    is_installing: AtomicBool,
+    helpers: AtomicU64,
 }
 
 /// A plan that is to be swapped in: its path, or what came of it.
@@ -102,50 +98,28 @@ pub(crate) struct Destination {
     pub(crate) refused: String,
 }
 
-/// The receivers of a plan, in its order. A name is letters, digits and `_`, so each file lies in the folder and nowhere else.
-fn destinations_of(
-    alloc: Global,
-    folder: &str,
-    plan: &Plan,
-) -> Result<Vec<Destination>, AllocError> {
-    let mut destinations = Vec::new(alloc);
-    for receiver in plan.receivers() {
-        let name = receiver.name.escape_ascii();
-        destinations.push(Destination {
-            refused: format!(in alloc; "{folder}/refused/{name}.mllp")?,
-            name: receiver.name.to_vec(alloc)?,
-            address: receiver.address.to_vec(alloc)?,
-        })?;
-    }
-    Ok(destinations)
-}
-
 impl<'f, R: Wait> Hub<'f, R> {
     pub(crate) fn new(
         rt: &'f R,
         alloc: Global,
         start: Stamp,
         folder: &'f Folder,
-        plan: &Plan,
-        spools: Vec<Outgoing<'f>>,
+        lobby: &'f Lobby,
+        receivers: Receivers<'f>,
     ) -> Result<Self, AllocError> {
-        let safe = Safe::new(alloc, spools.len())?;
-        let watch = Watch::new(alloc)?;
-        let destinations = destinations_of(alloc, &folder.path, plan)?;
+        let Receivers {
+            destinations,
+            spools,
+        } = receivers;
         Ok(Hub {
             rt,
             start,
             folder,
+            lobby,
+            safe: Safe::new(alloc, spools.len())?,
             destinations,
             spools,
-            safe,
-            watch,
-            lobby: Mutex::new(Lobby {
-                senders: Vec::new(alloc),
-                open: 0,
-                taken: 0,
-            }),
-            news: Condvar::new(),
+            watch: Watch::new(alloc)?,
             phase: AtomicU64::new(RUNNING),
             is_short: AtomicBool::new(false),
             is_full: AtomicBool::new(false),
@@ -158,6 +132,9 @@ impl<'f, R: Wait> Hub<'f, R> {
             fault: Mutex::new(None),
             swap: Mutex::new(Swap::None),
             swapped: Condvar::new(),
+            install: Mutex::new(None),
+            is_installing: AtomicBool::new(false),
+            helpers: AtomicU64::new(0),
         })
     }
 
@@ -168,9 +145,12 @@ impl<'f, R: Wait> Hub<'f, R> {
 
     /// The number of the receiver of this name.
     pub(crate) fn number_of(&self, name: &str) -> Option<usize> {
-        self.destinations
-            .iter()
-            .position(|to| to.name.as_slice() == name.as_bytes())
+        number_in(&self.destinations, name.as_bytes())
+    }
+
+    /// Whether there is a receiver of this name.
+    pub(crate) fn has_receiver(&self, name: &[u8]) -> bool {
+        number_in(&self.destinations, name).is_some()
     }
 
     /// Whether the round is about to end, or takes no message any more.
@@ -197,6 +177,7 @@ impl<'f, R: Wait> Hub<'f, R> {
     pub(crate) fn stop(&self) {
         let fault = self.fault.lock(self.rt);
         self.has_stopped.store(true, Ordering::SeqCst);
+        self.lobby.close();
         // (no round begins between)
         self.end_round();
         drop(fault);
@@ -222,7 +203,7 @@ impl<'f, R: Wait> Hub<'f, R> {
     /// The round takes no message any more.
     pub(crate) fn end_round(&self) {
         self.phase.store(OVER, Ordering::SeqCst);
-        self.news.notify_all();
+        self.lobby.wake();
     }
 
     /// Whether the disk is short of room.
@@ -272,8 +253,7 @@ impl<'f, R: Wait> Hub<'f, R> {
 
     /// How many connections there are, and how many there were in all.
     pub(crate) fn senders(&self) -> (u64, u64) {
-        let lobby = self.lobby.lock(self.rt);
-        (lobby.open, lobby.taken)
+        self.lobby.counts(self.rt)
     }
 
     /// How many entries the journal had when somebody looked last, over all chapters.
@@ -287,6 +267,7 @@ impl<'f, R: Wait> Hub<'f, R> {
         if first.is_none() {
             *first = Some(fault);
         }
+        self.lobby.close();
         // (no round begins between)
         self.end_round();
         drop(first);
@@ -299,35 +280,50 @@ impl<'f, R: Wait> Hub<'f, R> {
         *self.fault.lock(self.rt)
     }
 
-    /// A connection was taken: its number, or None where there are `most` already.
-    pub(crate) fn admit(&self, most: u64) -> Option<u64> {
-        let mut lobby = self.lobby.lock(self.rt);
-        if lobby.open >= most {
-            return None;
-        }
-        lobby.open = lobby.open.saturating_add(1);
-        lobby.taken = lobby.taken.saturating_add(1);
-        self.watch.set_senders(lobby.open, lobby.taken);
-        Some(lobby.taken)
+    /// Whether what works beside the rounds is to end: the gateway ends, or its receivers change.
+    pub(crate) fn is_closing(&self) -> bool {
+        self.is_installing() || self.has_ended()
     }
 
-    /// This sender waits for a session. Where there is no memory for it, its connection ends.
-    pub(crate) fn queue(&self, sender: Sender) {
-        let mut lobby = self.lobby.lock(self.rt);
-        if lobby.senders.push(sender).is_err() {
-            lobby.open = lobby.open.saturating_sub(1);
-            self.watch.set_senders(lobby.open, lobby.taken);
-        }
-        drop(lobby);
-        self.news.notify_all();
+    /// Whether a plan with other receivers is to be installed.
+    pub(crate) fn is_installing(&self) -> bool {
+        self.is_installing.load(Ordering::SeqCst)
     }
 
-    /// A connection has ended.
-    pub(crate) fn leave(&self) {
-        let mut lobby = self.lobby.lock(self.rt);
-        lobby.open = lobby.open.saturating_sub(1);
-        self.watch.set_senders(lobby.open, lobby.taken);
+    /// A plan is to be installed: what works beside the rounds ends first, and then the round.
+    pub(crate) fn begin_install(&self, install: Ready<'f>) {
+        *self.install.lock(self.rt) = Some(install);
+        self.is_installing.store(true, Ordering::SeqCst);
+        self.end_sending();
     }
+
+    /// What is to be installed.
+    pub(crate) fn take_install(&self) -> Option<Ready<'f>> {
+        self.is_installing.store(false, Ordering::SeqCst);
+        self.install.lock(self.rt).take()
+    }
+
+    /// As many threads begin that work beside the rounds.
+    pub(crate) fn enter(&self, threads: usize) {
+        self.helpers.store(threads as u64, Ordering::SeqCst);
+    }
+
+    /// A thread that works beside the rounds has ended.
+    pub(crate) fn exit(&self) {
+        self.helpers.fetch_sub(1, Ordering::SeqCst);
+    }
+
+    /// Whether all threads that work beside the rounds have ended.
+    pub(crate) fn is_alone(&self) -> bool {
+        self.helpers.load(Ordering::SeqCst) == 0
+    }
+}
+
+/// The number of the receiver of this name.
+pub(crate) fn number_in(destinations: &[Destination], name: &[u8]) -> Option<usize> {
+    destinations
+        .iter()
+        .position(|to| to.name.as_slice() == name)
 }
 
 impl<R: Wait + Clock + AllocGlobal> Hub<'_, R> {
@@ -374,17 +370,33 @@ impl<R: Wait + Clock + AllocGlobal> Hub<'_, R> {
     }
 }
 
+impl<'f, R: Wait + AllocGlobal> Hub<'f, R> {
+    /// These are the receivers from here on, under the plan of this version. A spool of theirs that is open already goes on.
+    pub(crate) fn change(
+        &mut self,
+        version: u64,
+        receivers: Prepared<'f>,
+    ) -> Result<(), AllocError> {
+        let alloc = self.rt.alloc();
+        let old = Receivers {
+            destinations: replace(&mut self.destinations, Vec::new(alloc)),
+            spools: replace(&mut self.spools, Vec::new(alloc)),
+        };
+        let Receivers {
+            destinations,
+            spools,
+        } = receivers.over(self.rt, old)?;
+        self.safe = Safe::new(alloc, spools.len())?;
+        self.destinations = destinations;
+        self.spools = spools;
+        self.version.store(version, Ordering::SeqCst);
+        Ok(())
+    }
+}
+
 impl<R: Wait + Clock> Hub<'_, R> {
     /// A sender that waits for a session, if one comes within this time.
     pub(crate) fn next(&self, time: Duration) -> Option<Sender> {
-        let mut lobby = self.lobby.lock(self.rt);
-        if let Some(sender) = lobby.senders.pop() {
-            return Some(sender);
-        }
-        if self.is_over() {
-            return None;
-        }
-        let (mut lobby, _) = self.news.wait_timeout(self.rt, lobby, time);
-        lobby.senders.pop()
+        self.lobby.next(self.rt, time, self.is_over())
     }
 }

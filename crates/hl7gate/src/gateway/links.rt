@@ -79,13 +79,14 @@ impl<'a, 'f, R: Wait> Answers<'a, 'f, R> {
 impl<R: Wait> Read for Answers<'_, '_, R> {
     fn read(&mut self, buf: &mut [u8]) -> io::Result<usize> {
         for _second in 0..ANSWER {
-            if self.outgoing.has_ended(self.rt) {
-                break;
-            }
             let mut stream = self.stream;
             match stream.read(buf) {
                 Err(error) if error.kind() == ErrorKind::WouldBlock => {}
                 read => return read,
+            }
+            // (an acknowledgment that is due has had a second to come)
+            if self.outgoing.has_ended(self.rt) {
+                break;
             }
         }
         Err(Error::from(ErrorKind::TimedOut))

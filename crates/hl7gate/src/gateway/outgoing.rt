@@ -34,9 +34,13 @@ pub(crate) struct Outgoing<'f> {
 struct Queue<'f> {
     row: Row<'f>,
     has_ended: bool,
+    // whether its receiver is gone from the plan: it is sent what waits, and no more
+    is_leaving: bool,
     is_held: bool,
     is_full: bool,
     is_connected: bool,
+    // whether bytes of the first record may have been sent
+    is_begun: bool,
     taken: u64,
     refused: u64,
     ages: Ages,
@@ -82,15 +86,18 @@ impl Queue<'_> {
 impl<'f> Outgoing<'f> {
     /// The spool over this row. What waits already counts from now on.
     pub(crate) fn new<R: Clock + AllocGlobal>(rt: &R, row: Row<'f>) -> Self {
+        let waiting = row.waiting();
         let mut ages = Ages::new(rt.alloc());
-        ages.spool(rt, row.waiting());
+        ages.spool(rt, waiting);
         Outgoing {
             queue: Mutex::new(Queue {
                 row,
                 has_ended: false,
+                is_leaving: false,
                 is_held: false,
                 is_full: false,
                 is_connected: false,
+                is_begun: waiting > 0,
                 taken: 0,
                 refused: 0,
                 ages,
@@ -129,6 +136,23 @@ impl<'f> Outgoing<'f> {
     pub(crate) fn end<R: Wait>(&self, rt: &R) {
         self.queue.lock(rt).has_ended = true;
         self.news.notify_all();
+    }
+
+    /// It is sent again. Where its receiver is leaving, that is until nothing waits.
+    pub(crate) fn resume<R: Wait>(&self, rt: &R, is_leaving: bool) {
+        let mut queue = self.queue.lock(rt);
+        queue.has_ended = false;
+        queue.is_leaving = is_leaving;
+    }
+
+    /// Whether bytes of the first record may have been sent already.
+    pub(crate) fn is_begun<R: Wait>(&self, rt: &R) -> bool {
+        self.queue.lock(rt).is_begun
+    }
+
+    /// Whether bytes of the first record may have been sent, as a forwarder leaves it.
+    pub(crate) fn set_begun<R: Wait>(&self, rt: &R, is_begun: bool) {
+        self.queue.lock(rt).is_begun = is_begun;
     }
 
     /// Whether nothing more is sent.
@@ -182,6 +206,9 @@ impl<'f> Outgoing<'f> {
                 && !queue.is_full
             {
                 return Ok(Some(bytes.to_vec(alloc)?));
+            }
+            if queue.is_leaving && queue.row.waiting() == 0 {
+                return Ok(None);
             }
             queue = self.news.wait(rt, queue);
         }

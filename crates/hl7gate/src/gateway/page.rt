@@ -137,7 +137,7 @@ fn figures_of<R: Wait + Clock + AllocGlobal>(hub: &Hub<'_, R>) -> Result<Figures
         is_short,
         ..
     } = hub.counters();
-    let (open, sessions) = hub.watch.senders();
+    let (open, sessions) = hub.senders();
     let Seen {
         refusals,
         codes,
@@ -160,7 +160,7 @@ fn figures_of<R: Wait + Clock + AllocGlobal>(hub: &Hub<'_, R>) -> Result<Figures
     })
 }
 
-/// A connection that is read and written up to a moment, or to the end of the gateway.
+/// A connection that is read and written up to a moment, or until the gateway ends or its receivers change.
 #[derive(Drop)]
 struct Patient<'a, 'f, R: Wait> {
     hub: &'a Hub<'f, R>,
@@ -172,7 +172,7 @@ struct Patient<'a, 'f, R: Wait> {
 impl<R: Wait + Clock> Patient<'_, '_, R> {
     fn is_over(&self) -> bool {
         match self.since.elapsed(self.hub.rt) {
-            Ok(passed) => passed >= self.patience || self.hub.has_ended(),
+            Ok(passed) => passed >= self.patience || self.hub.is_closing(),
             Err(_) => true,
         }
     }
@@ -258,17 +258,19 @@ fn show<R: Wait + Clock + AllocGlobal>(
     pass_over(hub, stream)
 }
 
-/// Answers one connection after another, until the gateway ends.
-pub(crate) fn show_all<R: Wait + Clock + AllocGlobal>(hub: &Hub<'_, R>, pages: Pages) {
-    let Pages { listener, keys } = pages;
+/// Answers one connection after another, while the receivers stay.
+pub(crate) fn show_all<R: Wait + Clock + AllocGlobal>(hub: &Hub<'_, R>, pages: Option<&Pages>) {
+    let Some(pages) = pages else {
+        return;
+    };
     for _ in hub.rt.forever() {
-        let accepted = listener.accept();
-        if hub.has_ended() {
+        let accepted = pages.listener.accept();
+        if hub.is_closing() {
             return;
         }
         match accepted {
             // (whoever doesn't take the answer has none)
-            Ok((stream, _peer)) => drop(show(hub, keys, &stream)),
+            Ok((stream, _peer)) => drop(show(hub, pages.keys, &stream)),
             Err(_) => thread::sleep(hub.rt, Duration::from_millis(LOOK)),
         }
     }

@@ -158,10 +158,11 @@ fn swap_asked<L: Ledger, R: Wait + Clock + Files<File = File> + Eprint + AllocGl
     hub.end_swap(swapped.ok(), answer);
 }
 
-/// Ends the round where its journal is long, after notice.
+/// Ends the round after notice, where its journal is long, or where a plan is to be installed and nothing works beside the round any more.
 fn look<R: Wait + Clock>(hub: &Hub<'_, R>, begun: u64, notice: Option<Instant>) -> Option<Instant> {
+    let is_long = hub.entries().saturating_sub(begun) >= LONG;
     match notice {
-        None if hub.entries().saturating_sub(begun) >= LONG => {
+        None if is_long || hub.is_installing() => {
             hub.end_soon();
             match Instant::now(hub.rt) {
                 Ok(now) => Some(now),
@@ -175,7 +176,8 @@ fn look<R: Wait + Clock>(hub: &Hub<'_, R>, begun: u64, notice: Option<Instant>) 
         Some(since) => {
             match since.elapsed(hub.rt) {
                 Ok(passed) if passed < Duration::from_millis(NOTICE) => {}
-                _ => hub.end_round(),
+                _ if is_long || !hub.is_installing() || hub.is_alone() => hub.end_round(),
+                _ => {}
             }
             notice
         }
@@ -270,23 +272,32 @@ fn round_and_numbers<
     Ok(next)
 }
 
-/// Rounds, until the gateway is stopped, or can't go on: that is the fault.
+/// Rounds, until a plan is to be installed: the gate of the next. An error is that the gateway was stopped, or can't go on: that is the fault.
 pub(crate) fn rounds<
     R: Threads + Wait + Clock + Files<File = File, Dir = D> + Eprint + AllocGlobal + Sync,
     D: Read + Drop + Send + Sync,
->(hub: &Hub<'_, R>, first: Gate, numbers: &mut Numbers, workers: u64) -> Option<RunFault> {
+>(
+    hub: &Hub<'_, R>,
+    first: Gate,
+    numbers: &mut Numbers,
+    workers: u64,
+) -> Result<Gate, Option<RunFault>> {
     let mut gate = first;
     for _ in hub.rt.forever() {
         match round_and_numbers(hub, gate, numbers, workers) {
             Ok(next) => gate = next,
             Err(fault) => {
                 hub.fail(fault);
-                return Some(fault);
+                return Err(Some(fault));
             }
         }
         if hub.has_ended() {
             numbers.end(hub.rt, hub.folder, &gate);
-            return hub.fault();
+            return Err(hub.fault());
+        }
+        // (what is left in a journal belongs to the plan that it was begun under)
+        if hub.is_installing() && hub.is_alone() && gate.journal().is_empty() {
+            return Ok(gate);
         }
     }
     unreachable!()

@@ -4,6 +4,7 @@ ghost use Rattle.std.specs.Prelude.{⊤};
 use crate::doors::{Reporter, Who};
 use crate::gateway::hub::{Hub, Sender};
 use crate::gateway::links::watch;
+use crate::gateway::lobby::Lobby;
 use crate::gateway::overlong::{is_overlong, reject};
 use crate::gateway::refusals::Logged;
 use crate::gateway::safety::{Needs, Waiting};
@@ -212,7 +213,7 @@ pub(crate) fn attend<L: Ledger, R: Wait + AllocGlobal + Clock + Eprint>(
     let number = sender.number;
     match answer(service, hub, &mut sender) {
         Ok(End::Paused) => {
-            hub.queue(sender);
+            hub.lobby.queue(hub.rt, sender);
             return;
         }
         Ok(End::Gone) => {
@@ -231,7 +232,7 @@ pub(crate) fn attend<L: Ledger, R: Wait + AllocGlobal + Clock + Eprint>(
             let _ = eprintln!(hub.rt; "session {number} ended: fault {}: {fault}", fault.number());
         }
     }
-    hub.leave();
+    hub.lobby.leave(hub.rt);
 }
 
 /// The sender at a connection that was taken.
@@ -247,31 +248,32 @@ fn sender_at(alloc: Global, number: u64, stream: TcpStream) -> Sender {
     }
 }
 
-/// Accepts connections, at most as many at once, until the gateway can't go on.
+/// Accepts connections, at most as many at once, until the lobby is closed.
 pub(crate) fn accept_all<R: Wait + AllocGlobal + Clock + Eprint>(
-    hub: &Hub<'_, R>,
+    rt: &R,
+    lobby: &Lobby,
     listener: TcpListener,
     most: u64,
 ) {
-    for _ in hub.rt.forever() {
+    for _ in rt.forever() {
         match listener.accept() {
             Ok((stream, peer)) => {
-                if hub.has_ended() {
+                if lobby.is_closed() {
                     return;
                 }
-                match hub.admit(most) {
+                match lobby.admit(rt, most) {
                     Some(number) => {
-                        let _ = eprintln!(hub.rt; "session {number} from {peer}");
-                        hub.queue(sender_at(hub.rt.alloc(), number, stream));
+                        let _ = eprintln!(rt; "session {number} from {peer}");
+                        lobby.queue(rt, sender_at(rt.alloc(), number, stream));
                     }
                     None => {
-                        let _ = eprintln!(hub.rt;
+                        let _ = eprintln!(rt;
                             "a connection from {peer} was closed: {most} are open (--connections)"
                         );
                     }
                 }
             }
-            Err(_) => thread::sleep(hub.rt, Duration::from_millis(PAUSE)),
+            Err(_) => thread::sleep(rt, Duration::from_millis(PAUSE)),
         }
     }
 }

@@ -49,6 +49,10 @@ fn send<'a, R: Net + AllocGlobal, O: Write>(
         }
         Err(_) => return Err(Ended::Unanswered { path: folder }),
     };
+    // (it ended before it answered)
+    if answer.is_empty() {
+        return Err(Ended::Unanswered { path: folder });
+    }
     write_all(output, &answer)?;
     Ok(if answer.starts_with(b"refused") {
         REFUSED

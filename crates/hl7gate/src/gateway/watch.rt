@@ -1,8 +1,7 @@
-//! What the page shows of senders: how many are connected, and the last answers that weren't AA.
+//! What the page shows of answers: the last that weren't AA, and how many there were of each code.
 use gw_page::{Refusal, Refused};
 use std::alloc::{AllocError, Global};
 use std::collections::VecDeque;
-use std::sync::atomic::{AtomicU64, Ordering};
 use std::sync::{Mutex, Wait};
 
 /// How many refusals are kept.
@@ -67,8 +66,6 @@ struct Refusals {
 /// What is seen of senders. Only the answers that aren't AA wait for its lock, and nothing is allocated or written under it.
 #[derive(Drop)]
 pub(crate) struct Watch {
-    open: AtomicU64,
-    taken: AtomicU64,
     refusals: Mutex<Refusals>,
 }
 
@@ -105,25 +102,11 @@ fn refusal_of(alloc: Global, noted: &Noted) -> Result<Refusal, AllocError> {
 impl Watch {
     pub(crate) fn new(alloc: Global) -> Result<Self, AllocError> {
         Ok(Watch {
-            open: AtomicU64::new(0),
-            taken: AtomicU64::new(0),
             refusals: Mutex::new(Refusals {
                 last: VecDeque::with_capacity(alloc, LAST)?,
                 counts: [0; CODES],
             }),
         })
-    }
-
-    /// So many connections are open, of so many that there were.
-    pub(crate) fn set_senders(&self, open: u64, taken: u64) {
-        self.open.store(open, Ordering::SeqCst);
-        self.taken.store(taken, Ordering::SeqCst);
-    }
-
-    /// How many connections are open, and how many there were.
-    pub(crate) fn senders(&self) -> (u64, u64) {
-        let open = self.open.load(Ordering::SeqCst);
-        (open, self.taken.load(Ordering::SeqCst))
     }
 
     /// A message was refused.
