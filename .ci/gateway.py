@@ -102,6 +102,7 @@ class Gateway:
     def __init__(self, program, room):
         self.program, self.room, self.until, self.since = program, Path(room), time.monotonic() + SECONDS, stamp()
         self.folder, self.process, self.port, self.receivers, self.lines = self.room / "folder", None, 0, {}, []
+        self.shown, self.asked = 0, 1
         self.folder.mkdir()
         # (so that not each trial writes it; `full_disk` has the gateway make it)
         with open(self.folder / "reserve", "wb") as reserve:

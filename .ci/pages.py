@@ -139,6 +139,7 @@ def page_hangs(gateway):
 def page_when_short(gateway):
     """While the disk is short of room the page says so, and the health is 503. A message that is turned away is counted, and on the page."""
     gateway.play(WARDS=Receiver(), ARCHIVE=Receiver())
+    (gateway.folder / "reserve").unlink()
     (gateway.folder / "reserve").symlink_to("/dev/full")
     shown(gateway)
     gateway.wait("the disk is short of room: messages are answered AR until 64 MB are free")
