@@ -131,11 +131,9 @@ fn go_on<
             };
             let show = move ||
                 requires { IsSync R.row }
-            {
-                show_all(hub, pages);
-                hub.exit();
-            };
-            hub.enter(hub.spools.len().saturating_add(3));
+            { show_all(hub, pages) };
+            // (the page's thread is woken below, when the round is over)
+            hub.enter(hub.spools.len().saturating_add(2));
             let mut has_all = scope.spawn(look).is_ok()
                 && scope.spawn(hear).is_ok()
                 && scope.spawn(show).is_ok();
