@@ -106,7 +106,11 @@ fn write_line(
         } = breach;
         write!(
             out,
-            "{{\"message\":{arrival},\"code\":{code},\"segment\":\"{first}{second}{third}\",\"sequence\":{sequence},\"field\":{field},\"repetition\":{rep},\"component\":{comp},\"subcomponent\":{sub},\"rule\":\"{words}\""
+            "{{\"message\":{arrival},\"code\":{code},\"segment\":\"{first}{second}{third}\",\"sequence\":{sequence},"
+        )?;
+        write!(
+            out,
+            "\"field\":{field},\"repetition\":{rep},\"component\":{comp},\"subcomponent\":{sub},\"rule\":\"{words}\""
         )?;
         if let Some(text) = text {
             write!(out, ",\"value\":\"")?;
