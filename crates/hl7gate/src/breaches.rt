@@ -230,11 +230,11 @@ impl Tally {
                 "messages {messages}, conforming {conforming}, breaches {breaches}"
             )?;
         }
-        let mut between = if form.is_json { "" } else { ": " };
+        let mut is_first = true;
         for (spot, count) in spots.iter() {
-            write!(out, "{between}")?;
+            write_between(out, form, is_first)?;
             write_spot(out, form, *spot, *count)?;
-            between = if form.is_json { "," } else { ", " };
+            is_first = false;
         }
         if form.is_json {
             return writeln!(out, "]}}");
@@ -249,6 +249,16 @@ fn write_unread(out: &mut Vec<u8>, form: Form, arrival: u64, fault: ReadFault) -
         return writeln!(out, "{{\"message\":{arrival},\"unreadable\":\"{fault}\"}}");
     }
     writeln!(out, "message {arrival}: can't be read: {fault}")
+}
+
+/// What stands before a place of the last line.
+fn write_between(out: &mut Vec<u8>, form: Form, is_first: bool) -> io::Result<()> {
+    match (form.is_json, is_first) {
+        (true, true) => Ok(()),
+        (true, false) => out.write_all(b","),
+        (false, true) => out.write_all(b": "),
+        (false, false) => out.write_all(b", "),
+    }
 }
 
 /// How often a place was broken.
