@@ -211,6 +211,25 @@ impl Tally {
         }
     }
 
+    /// Reports what came in the frames that have ended.
+    fn add_all(
+        &mut self,
+        alloc: Global,
+        profile: &Profile,
+        decoder: &mut Decoder,
+        form: Form,
+        out: &mut Vec<u8>,
+    ) -> Result<(), RunFault> {
+        // (a piece ends fewer frames than it has bytes)
+        for _ in 0..PIECE {
+            let Some(content) = decoder.next_block() else {
+                return Ok(());
+            };
+            self.add(alloc, profile, content, form, out)?;
+        }
+        Ok(())
+    }
+
     /// The last line: how many messages there were, and how often each place was broken.
     fn write_end(&self, form: Form, out: &mut Vec<u8>) -> io::Result<()> {
         let Tally {
@@ -332,9 +351,7 @@ fn report_all<I: Read, O: Write>(
         let at_end = piece.is_empty();
         let fed = decoder.feed(piece);
         let mut out = Vec::new(alloc);
-        while let Some(content) = decoder.next_block() {
-            tally.add(alloc, profile, content, form, &mut out)?;
-        }
+        tally.add_all(alloc, profile, &mut decoder, form, &mut out)?;
         write_all(output, &out)?;
         if let Err(fault) = fed {
             return Err(frame_fault(fault));
