@@ -382,6 +382,10 @@ pub(crate) fn report<'a, R: Files + AllocGlobal, I: Read, O: Write, E: Write>(
     };
     let mut tally = Tally::new(alloc);
     let reported = report_all(alloc, &profile, form, &mut tally, input, output);
+    if let Err(RunFault::Memory) = reported {
+        // (the message at which it ended is counted, and not reported)
+        return Err(Ended::Run(RunFault::Memory));
+    }
     let mut out = Vec::new(alloc);
     if tally.write_end(form, &mut out).is_err() {
         return Err(Ended::Run(RunFault::Memory));
