@@ -1,8 +1,8 @@
 //! What a person needs of a map that a rule refuses: the file and its line, what the rule demands, and what to do.
-use crate::elements::{Named, tell_name};
+use crate::elements::{Named, print_name};
 use crate::maps::ProfilePair;
 use crate::report::say;
-use crate::subjects::Told;
+use crate::subjects::Explanation;
 use gw_check::FieldAt;
 use gw_maplang::Map;
 use gw_resolve::{Failure, FailureSite, Item};
@@ -196,18 +196,18 @@ impl Refusal<'_> {
     }
 
     /// Reports the fields that are passed over.
-    fn tell_unread<E: Write>(&self, errors: &mut E) {
+    fn print_unread<E: Write>(&self, errors: &mut E) {
         for (i, field) in self.refused.unread.iter().enumerate() {
             if i > 0 {
                 say(errors, b", ");
             }
-            tell_name(errors, &self.sides.source, whole(&field.at, field.field));
+            print_name(errors, &self.sides.source, whole(&field.at, field.field));
         }
         say(errors, b": neither read nor dropped");
     }
 
     /// Reports what nothing gives, of the failures of a rule at a line. False where something gives it all.
-    fn tell_missing<E: Write>(
+    fn print_missing<E: Write>(
         &self,
         alloc: Global,
         errors: &mut E,
@@ -226,7 +226,7 @@ impl Refusal<'_> {
                     say(errors, b", ");
                 }
                 any = true;
-                tell_name(errors, &self.sides.target, whole(&at, mark.field));
+                print_name(errors, &self.sides.target, whole(&at, mark.field));
             }
         }
         if any {
@@ -236,7 +236,7 @@ impl Refusal<'_> {
     }
 
     /// Reports what the line of a failure makes, and of what.
-    fn tell_made<E: Write>(
+    fn print_made<E: Write>(
         &self,
         alloc: Global,
         errors: &mut E,
@@ -246,23 +246,23 @@ impl Refusal<'_> {
         let Some(site) = site_at(sites, failure.mark.line) else {
             return Ok(());
         };
-        let told = Told {
+        let explanation = Explanation {
             sides: self.sides,
             map: &self.refused.map,
             site,
         };
-        told.tell(alloc, errors, failure)
+        explanation.tell(alloc, errors, failure)
     }
 
     /// Reports what the failures of a rule at a line speak of: all that nothing gives, and the first part that something gives.
-    fn tell_subject<E: Write>(
+    fn print_subject<E: Write>(
         &self,
         alloc: Global,
         errors: &mut E,
         found: &Found,
         failures: &[Failure],
     ) -> Result<(), AllocError> {
-        let is_told = self.tell_missing(alloc, errors, &found.sites, failures)?;
+        let is_told = self.print_missing(alloc, errors, &found.sites, failures)?;
         let Some(given) = first_given(failures) else {
             return Ok(());
         };
@@ -270,14 +270,14 @@ impl Refusal<'_> {
             say(errors, b"; ");
         }
         if given.rule == 9 {
-            self.tell_unread(errors);
+            self.print_unread(errors);
             return Ok(());
         }
-        self.tell_made(alloc, errors, &found.sites, given)
+        self.print_made(alloc, errors, &found.sites, given)
     }
 
     /// Reports a rule that fails as well, at the line that stands first in the text: of a label the line itself, and what the rule demands.
-    fn tell_other<E: Write>(
+    fn print_other<E: Write>(
         &self,
         alloc: Global,
         errors: &mut E,
@@ -297,14 +297,14 @@ impl Refusal<'_> {
             say(errors, b": ");
             say(errors, demand(rule));
         } else {
-            self.tell_subject(alloc, errors, found, failures)?;
+            self.print_subject(alloc, errors, found, failures)?;
         }
         say(errors, b"\n");
         Ok(())
     }
 
     /// Reports how many more rules fail, and each in a line of its own.
-    fn tell_others<E: Write>(
+    fn print_others<E: Write>(
         &self,
         alloc: Global,
         errors: &mut E,
@@ -322,7 +322,7 @@ impl Refusal<'_> {
             text = behind(text, line.saturating_sub(at));
             at = *line;
             if (*line, *rule) != (least.mark.line, least.rule) {
-                self.tell_other(alloc, errors, found, failures, text)?;
+                self.print_other(alloc, errors, found, failures, text)?;
             }
         }
         Ok(())
@@ -344,10 +344,10 @@ impl Refusal<'_> {
         if rule > LAST_OF_LABELS
             && let Some(failures) = found.alike.get(&(line, rule))
         {
-            self.tell_subject(alloc, errors, found, failures)?;
+            self.print_subject(alloc, errors, found, failures)?;
             say(errors, b"\n");
         }
         let _ = writeln!(errors, "{}", advice(rule));
-        self.tell_others(alloc, errors, found)
+        self.print_others(alloc, errors, found)
     }
 }

@@ -2,7 +2,7 @@
 use crate::ended::Ended;
 use crate::maps::read_profile;
 use crate::refusals::{letters, write_place};
-use crate::report::{DONE, REFUSED, tell_if_none, write_all};
+use crate::report::{DONE, REFUSED, print_if_none, write_all};
 use clap::ArgMatches;
 use gw_er7::{Message, Place, ReadFault, read_block};
 use gw_mllp::{Decoder, FrameFault};
@@ -392,7 +392,7 @@ pub(crate) fn report<'a, R: Files + AllocGlobal, I: Read, O: Write, E: Write>(
     }
     write_all(output, &out)?;
     reported?;
-    tell_if_none(errors, tally.messages);
+    print_if_none(errors, tally.messages);
     if tally.conforming == tally.messages {
         return Ok(DONE);
     }

@@ -76,11 +76,11 @@ impl<'a, 'n, L: Ledger, R: Wait + Eprint> Door for Reporter<'a, 'n, L, R> {
         if let Some(at) = entry_at(self.pass.notes(), earlier)
             && self.is_warning(at)
         {
-            tell_warning(self.rt);
+            print_warning(self.rt);
         }
         if is_full(&answer) && !self.met_full {
             self.met_full = true;
-            tell_full(self.rt, self.who);
+            print_full(self.rt, self.who);
         }
         answer
     }
@@ -116,7 +116,7 @@ fn closed_in(chapters: &[Chapter]) -> usize {
 }
 
 /// Reports that three quarters of the journal are used.
-fn tell_warning<R: Eprint>(rt: &R) {
+fn print_warning<R: Eprint>(rt: &R) {
     let used = WARNING + 1;
     let _ = eprintln!(rt;
         "the journal has {used} of {MAX_ENTRIES} entries: end the service before it is full"
@@ -124,7 +124,7 @@ fn tell_warning<R: Eprint>(rt: &R) {
 }
 
 /// Reports who meets a full journal, and what comes of it.
-fn tell_full<R: Eprint>(rt: &R, who: Who<'_>) {
+fn print_full<R: Eprint>(rt: &R, who: Who<'_>) {
     let _ = match who {
         Who::Session(number) => {
             eprintln!(rt; "session {number} meets a full journal: its messages are refused")

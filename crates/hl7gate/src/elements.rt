@@ -46,7 +46,7 @@ fn nodes_of(node: &Node) -> &[Node] {
 }
 
 /// Names the labels that lead to a node.
-fn tell_path<E: Write>(errors: &mut E, nodes: &[Node], at: &[usize]) {
+fn print_path<E: Write>(errors: &mut E, nodes: &[Node], at: &[usize]) {
     let mut level = nodes;
     for (i, number) in at.iter().enumerate() {
         let Some(node) = level.get(*number) else {
@@ -61,14 +61,14 @@ fn tell_path<E: Write>(errors: &mut E, nodes: &[Node], at: &[usize]) {
 }
 
 /// Reports an element as a map names it: the first component and subcomponent aren't named.
-pub(crate) fn tell_name<E: Write>(errors: &mut E, profile: &Profile, named: Named<'_>) {
+pub(crate) fn print_name<E: Write>(errors: &mut E, profile: &Profile, named: Named<'_>) {
     let Named {
         at,
         field,
         comp,
         sub,
     } = named;
-    tell_path(errors, profile.nodes(), at);
+    print_path(errors, profile.nodes(), at);
     if field > 0 {
         let _ = write!(errors, "-{field}");
     }
@@ -90,7 +90,7 @@ fn usage_word(usage: Usage) -> &'static str {
 }
 
 /// Reports a usage, and how often an element may come.
-fn tell_usage<E: Write>(errors: &mut E, usage: Usage, card: Option<Card>) {
+fn print_usage<E: Write>(errors: &mut E, usage: Usage, card: Option<Card>) {
     say(errors, usage_word(usage).as_bytes());
     let Some(card) = card else {
         return;
@@ -106,7 +106,7 @@ fn tell_usage<E: Write>(errors: &mut E, usage: Usage, card: Option<Card>) {
 const AT_THE_CAP: &[u8] = b"more than 4,294,967,295";
 
 /// Reports how often something comes.
-pub(crate) fn tell_interval<E: Write>(errors: &mut E, count: Interval) {
+pub(crate) fn print_interval<E: Write>(errors: &mut E, count: Interval) {
     let Interval { least, greatest } = count;
     if least >= CAP {
         say(errors, AT_THE_CAP);
@@ -125,23 +125,23 @@ pub(crate) fn tell_interval<E: Write>(errors: &mut E, count: Interval) {
 }
 
 /// Reports the name of a profile.
-pub(crate) fn tell_profile<E: Write>(errors: &mut E, profile: &Profile) {
+pub(crate) fn print_profile<E: Write>(errors: &mut E, profile: &Profile) {
     say(errors, b" in ");
     say(errors, profile.name());
 }
 
 /// Reports what a profile says of an element, which it may not list.
-fn tell_what<E: Write>(errors: &mut E, profile: &Profile, said: Option<(Usage, Option<Card>)>) {
+fn print_what<E: Write>(errors: &mut E, profile: &Profile, said: Option<(Usage, Option<Card>)>) {
     match said {
         None => {
             say(errors, b" isn't listed");
         }
         Some((usage, card)) => {
             say(errors, b" is ");
-            tell_usage(errors, usage, card);
+            print_usage(errors, usage, card);
         }
     }
-    tell_profile(errors, profile);
+    print_profile(errors, profile);
 }
 
 /// The field of a component or subcomponent.
@@ -166,45 +166,45 @@ pub(crate) fn node_at<'a>(nodes: &'a [Node], at: &[usize]) -> Option<&'a Node> {
 }
 
 /// Reports how the node to which the numbers lead may come.
-pub(crate) fn tell_node<E: Write>(errors: &mut E, profile: &Profile, at: &[usize]) {
+pub(crate) fn print_node<E: Write>(errors: &mut E, profile: &Profile, at: &[usize]) {
     let said = match node_at(profile.nodes(), at) {
         None => None,
         Some(node) => Some((usage_of(node), Some(node.card()))),
     };
-    tell_path(errors, profile.nodes(), at);
-    tell_what(errors, profile, said);
+    print_path(errors, profile.nodes(), at);
+    print_what(errors, profile, said);
 }
 
 /// Reports how a field may come.
-pub(crate) fn tell_field<E: Write>(errors: &mut E, profile: &Profile, spot: &ElementPath) {
+pub(crate) fn print_field<E: Write>(errors: &mut E, profile: &Profile, spot: &ElementPath) {
     let said = match field_at(profile, spot) {
         None => None,
         Some(field) => Some((field.usage, Some(field.card))),
     };
-    tell_name(errors, profile, whole_field(spot));
-    tell_what(errors, profile, said);
+    print_name(errors, profile, whole_field(spot));
+    print_what(errors, profile, said);
 }
 
 /// Reports how a component may come.
-pub(crate) fn tell_comp<E: Write>(errors: &mut E, profile: &Profile, spot: &ElementPath) {
+pub(crate) fn print_comp<E: Write>(errors: &mut E, profile: &Profile, spot: &ElementPath) {
     let said = match comp_at(profile, spot) {
         None => None,
         Some(comp) => Some((comp.usage, None)),
     };
-    tell_name(errors, profile, whole_field(spot));
+    print_name(errors, profile, whole_field(spot));
     let comp = spot.comp;
     let _ = write!(errors, ".{comp}");
-    tell_what(errors, profile, said);
+    print_what(errors, profile, said);
 }
 
 /// Reports how a subcomponent may come.
-pub(crate) fn tell_sub<E: Write>(errors: &mut E, profile: &Profile, spot: &ElementPath) {
+pub(crate) fn print_sub<E: Write>(errors: &mut E, profile: &Profile, spot: &ElementPath) {
     let said = match sub_at(profile, spot) {
         None => None,
         Some(sub) => Some((sub.usage, None)),
     };
-    tell_name(errors, profile, whole_field(spot));
+    print_name(errors, profile, whole_field(spot));
     let ElementPath { comp, sub, .. } = spot;
     let _ = write!(errors, ".{comp}.{sub}");
-    tell_what(errors, profile, said);
+    print_what(errors, profile, said);
 }

@@ -33,7 +33,7 @@ mod tickets;
 use arguments::{is_command, process_words};
 use gateway::{gateway, tell};
 use program::command;
-use report::tell_unread_words;
+use report::print_unread_words;
 use serve::serving;
 use std::process::ExitCode;
 use streams::open_closed;
@@ -61,7 +61,7 @@ fn main(rt: HostRuntime) -> ExitCode {
             &mut rt.stdout(),
             &mut rt.stderr(),
         ),
-        Err(error) => tell_unread_words(&mut rt.stderr(), &error),
+        Err(error) => print_unread_words(&mut rt.stderr(), &error),
     };
     ExitCode::from(status)
 }

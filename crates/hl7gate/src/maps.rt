@@ -261,7 +261,7 @@ fn write_translation<'a, R: AllocGlobal, I: Read, O: Write>(
 }
 
 /// Reports the rule that refuses a map, and what a person needs to mend it, and answers the status.
-fn tell_refusal<'a, E: Write>(
+fn print_refusal<'a, E: Write>(
     alloc: Global,
     refusal: Refusal<'_>,
     errors: &mut E,
@@ -292,7 +292,7 @@ fn translate_judged<'a, R: AllocGlobal, I: Read, O: Write, E: Write>(
                 written,
                 refused,
             };
-            tell_refusal(rt.alloc(), refusal, errors)
+            print_refusal(rt.alloc(), refusal, errors)
         }
     }
 }

@@ -5,7 +5,7 @@ use crate::ended::Ended;
 use crate::identity::identity;
 use crate::maps::{check, read_profile, translate};
 use crate::plans::run;
-use crate::report::{DONE, USAGE, status_if, tell, tell_if_none, tell_words};
+use crate::report::{DONE, USAGE, print_if_none, print_words, status_if, tell};
 use crate::stamps::stamp_of;
 use clap::ArgMatches;
 use gw_stream::{Counts, Reads, Writes, answer_stream};
@@ -39,7 +39,7 @@ fn validated<'a, R: Files + Clock + AllocGlobal, I: Read, O: Write, E: Write>(
     errors: &mut E,
 ) -> Result<u8, Ended<'a>> {
     let counts = validate(rt, words, input, output)?;
-    tell_if_none(errors, counts.answered);
+    print_if_none(errors, counts.answered);
     Ok(status_if(counts.aa == counts.answered))
 }
 
@@ -52,7 +52,7 @@ fn ran<'a, R: Files + Clock + AllocGlobal, I: Read, O: Write, E: Write + IsTermi
     errors: &mut E,
 ) -> Result<u8, Ended<'a>> {
     let counts = run(rt, words, input, output, errors)?;
-    tell_if_none(errors, counts.answered);
+    print_if_none(errors, counts.answered);
     Ok(DONE)
 }
 
@@ -84,7 +84,7 @@ pub fn command<R: Files + Clock + AllocGlobal, I: Read, O: Write, E: Write + IsT
     errors: &mut E,
 ) -> u8 {
     match parse(rt.alloc(), words) {
-        Err(error) => tell_words(output, errors, &error),
+        Err(error) => print_words(output, errors, &error),
         Ok(matches) => match done(rt, &matches, input, output, errors) {
             Ok(status) => status,
             Err(ended) => tell(errors, &ended),

@@ -1,5 +1,5 @@
 //! What is printed of a text or a message that was refused.
-use crate::report::{REFUSED, tell_fault};
+use crate::report::{REFUSED, print_fault};
 use gw_er7::ReadFault;
 use gw_maplang::MapFault;
 use gw_plan::PlanFault;
@@ -39,7 +39,7 @@ pub(crate) fn letters(name: [u8; 3]) -> (char, char, char) {
 }
 
 // The first line of a refusal: its number, with its line or name.
-fn tell_number<E: Write>(errors: &mut E, word: &str, number: u8, place: Place) {
+fn print_number<E: Write>(errors: &mut E, word: &str, number: u8, place: Place) {
     let _ = match place {
         Place::Whole => writeln!(errors, "{word} refused {number}"),
         Place::Line(line) => writeln!(errors, "{word} refused {number} line {line}"),
@@ -51,7 +51,7 @@ fn tell_number<E: Write>(errors: &mut E, word: &str, number: u8, place: Place) {
 }
 
 /// Reports a refusal: on the first line its number, with its line or name; on the next where the text came from, and what was expected there or is wrong with it.
-fn tell_refused<E: Write, F: Display>(
+fn print_refused<E: Write, F: Display>(
     errors: &mut E,
     subject: Subject<'_>,
     number: u8,
@@ -59,14 +59,14 @@ fn tell_refused<E: Write, F: Display>(
     fault: &F,
 ) -> u8 {
     if number == NO_MEMORY {
-        return tell_fault(errors, RunFault::Memory);
+        return print_fault(errors, RunFault::Memory);
     }
     let Subject {
         word,
         from,
         expected,
     } = subject;
-    tell_number(errors, word, number, place);
+    print_number(errors, word, number, place);
     let _ = match (place, expected) {
         (Place::Line(line), Some(said)) => writeln!(errors, "{from}:{line}: {said}"),
         _ => writeln!(errors, "{from}: {fault}"),
@@ -75,7 +75,7 @@ fn tell_refused<E: Write, F: Display>(
 }
 
 /// Reports why the text of a file is no profile.
-pub(crate) fn tell_profile<E: Write>(
+pub(crate) fn print_profile<E: Write>(
     errors: &mut E,
     path: &str,
     fault: ProfileFault,
@@ -96,11 +96,11 @@ pub(crate) fn tell_profile<E: Write>(
         from: path,
         expected,
     };
-    tell_refused(errors, subject, fault.number(), place, &fault)
+    print_refused(errors, subject, fault.number(), place, &fault)
 }
 
 /// Reports why the text of a file is no map.
-pub(crate) fn tell_map<E: Write>(
+pub(crate) fn print_map<E: Write>(
     errors: &mut E,
     path: &str,
     fault: MapFault,
@@ -119,11 +119,11 @@ pub(crate) fn tell_map<E: Write>(
         from: path,
         expected,
     };
-    tell_refused(errors, subject, fault.number(), place, &fault)
+    print_refused(errors, subject, fault.number(), place, &fault)
 }
 
 /// Reports why the text of a file is no plan.
-pub(crate) fn tell_plan<E: Write>(
+pub(crate) fn print_plan<E: Write>(
     errors: &mut E,
     path: &str,
     fault: PlanFault,
@@ -138,17 +138,17 @@ pub(crate) fn tell_plan<E: Write>(
         from: path,
         expected,
     };
-    tell_refused(errors, subject, fault.number(), place, &fault)
+    print_refused(errors, subject, fault.number(), place, &fault)
 }
 
 /// Prints why standard input is no message.
-pub(crate) fn tell_message<E: Write>(errors: &mut E, fault: ReadFault) -> u8 {
+pub(crate) fn print_message<E: Write>(errors: &mut E, fault: ReadFault) -> u8 {
     let subject = Subject {
         word: "message",
         from: "standard input",
         expected: None,
     };
-    tell_refused(errors, subject, fault.number(), Place::Whole, &fault)
+    print_refused(errors, subject, fault.number(), Place::Whole, &fault)
 }
 
 /// Writes where a breach is: the segment's name, its sequence, field, repetition, component and subcomponent, up to the last that is said.
@@ -170,7 +170,7 @@ pub(crate) fn write_place<O: Write>(output: &mut O, breach: Breach) -> io::Resul
 }
 
 /// Reports what a message breaks: the code and the place.
-pub(crate) fn tell_breach<E: Write>(errors: &mut E, breach: Breach) -> u8 {
+pub(crate) fn print_breach<E: Write>(errors: &mut E, breach: Breach) -> u8 {
     let code = breach.code();
     let _ = write!(errors, "breaks {code} ");
     let _ = write_place(errors, breach);

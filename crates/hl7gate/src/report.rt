@@ -1,6 +1,6 @@
 //! What a command prints, and its status.
 use crate::ended::Ended;
-use crate::refusals::{tell_breach, tell_map, tell_message, tell_plan, tell_profile};
+use crate::refusals::{print_breach, print_map, print_message, print_plan, print_profile};
 use clap::Error;
 use clap::error::ErrorKind;
 use gw_run::Report;
@@ -24,7 +24,7 @@ pub(crate) const FAULT: u8 = 3;
 pub(crate) const NO_MEMORY: u8 = 4;
 
 /// Reports that no message was found in a stream, where none was: it may be a file without frames.
-pub(crate) fn tell_if_none<E: Write>(errors: &mut E, messages: u64) {
+pub(crate) fn print_if_none<E: Write>(errors: &mut E, messages: u64) {
     if messages == 0 {
         let _ = writeln!(
             errors,
@@ -34,7 +34,7 @@ pub(crate) fn tell_if_none<E: Write>(errors: &mut E, messages: u64) {
 }
 
 /// Says that the open journal is full, where it is.
-pub(crate) fn tell_if_full<E: Write>(errors: &mut E, is_full: bool) {
+pub(crate) fn print_if_full<E: Write>(errors: &mut E, is_full: bool) {
     if is_full {
         let _ = writeln!(
             errors,
@@ -44,7 +44,7 @@ pub(crate) fn tell_if_full<E: Write>(errors: &mut E, is_full: bool) {
 }
 
 /// Reports what a service did.
-pub(crate) fn tell_report<O: Write, E: Write>(
+pub(crate) fn print_report<O: Write, E: Write>(
     output: &mut O,
     errors: &mut E,
     report: Report,
@@ -61,7 +61,7 @@ pub(crate) fn tell_report<O: Write, E: Write>(
         "accepted {accepted} refused {refused} kept {kept} released {released} entries {entries}"
     ) {
         Ok(()) => DONE,
-        Err(_) => tell_fault(errors, RunFault::Write),
+        Err(_) => print_fault(errors, RunFault::Write),
     }
 }
 
@@ -71,7 +71,7 @@ pub(crate) fn status_if(accepted: bool) -> u8 {
 }
 
 /// Reports a fault by its number.
-pub(crate) fn tell_fault<E: Write>(errors: &mut E, fault: RunFault) -> u8 {
+pub(crate) fn print_fault<E: Write>(errors: &mut E, fault: RunFault) -> u8 {
     let number = fault.number();
     let _ = writeln!(errors, "fault {number}");
     match fault {
@@ -94,8 +94,8 @@ pub(crate) fn write_all<O: Write>(output: &mut O, bytes: &[u8]) -> Result<(), Ru
 }
 
 // Reports a fault of a file or an address, which is named.
-fn tell_device<E: Write>(errors: &mut E, fault: RunFault, name: &str, said: &str) -> u8 {
-    let status = tell_fault(errors, fault);
+fn print_device<E: Write>(errors: &mut E, fault: RunFault, name: &str, said: &str) -> u8 {
+    let status = print_fault(errors, fault);
     let _ = writeln!(errors, "{name}: {said}");
     status
 }
@@ -120,10 +120,10 @@ pub(crate) fn tell<E: Write>(errors: &mut E, ended: &Ended<'_>) -> u8 {
             USAGE
         }
         Ended::Unheard { address } => {
-            tell_device(errors, RunFault::Read, address, "can't be listened on")
+            print_device(errors, RunFault::Read, address, "can't be listened on")
         }
         Ended::Unread { path } => {
-            tell_device(
+            print_device(
                 errors,
                 RunFault::Read,
                 path,
@@ -134,19 +134,19 @@ pub(crate) fn tell<E: Write>(errors: &mut E, ended: &Ended<'_>) -> u8 {
             path,
             fault,
             expected,
-        } => tell_profile(errors, path, *fault, text_of(expected)),
+        } => print_profile(errors, path, *fault, text_of(expected)),
         Ended::Map {
             path,
             fault,
             expected,
-        } => tell_map(errors, path, *fault, text_of(expected)),
+        } => print_map(errors, path, *fault, text_of(expected)),
         Ended::Plan {
             path,
             fault,
             expected,
-        } => tell_plan(errors, path, *fault, text_of(expected)),
+        } => print_plan(errors, path, *fault, text_of(expected)),
         Ended::Unwritten { file } => {
-            tell_device(
+            print_device(
                 errors,
                 RunFault::Write,
                 file,
@@ -154,7 +154,7 @@ pub(crate) fn tell<E: Write>(errors: &mut E, ended: &Ended<'_>) -> u8 {
             )
         }
         Ended::Taken { path } => {
-            tell_device(
+            print_device(
                 errors,
                 RunFault::Write,
                 path,
@@ -162,7 +162,7 @@ pub(crate) fn tell<E: Write>(errors: &mut E, ended: &Ended<'_>) -> u8 {
             )
         }
         Ended::Unanswered { path } => {
-            tell_device(
+            print_device(
                 errors,
                 RunFault::Read,
                 path,
@@ -170,23 +170,23 @@ pub(crate) fn tell<E: Write>(errors: &mut E, ended: &Ended<'_>) -> u8 {
             )
         }
         Ended::Damaged { file, at } => {
-            let status = tell_fault(errors, RunFault::Read);
+            let status = print_fault(errors, RunFault::Read);
             let _ = writeln!(
                 errors,
                 "{file}: damaged at byte {at}; nothing was sent. Move this file away, and send again what it had"
             );
             status
         }
-        Ended::Message { fault } => tell_message(errors, *fault),
-        Ended::Breaks(breach) => tell_breach(errors, *breach),
-        Ended::Run(fault) => tell_fault(errors, *fault),
+        Ended::Message { fault } => print_message(errors, *fault),
+        Ended::Breaks(breach) => print_breach(errors, *breach),
+        Ended::Run(fault) => print_fault(errors, *fault),
     }
 }
 
 /// Reports what the words lack, or the help or version that they ask for.
-pub(crate) fn tell_words<O: Write, E: Write>(output: &mut O, errors: &mut E, error: &Error) -> u8 {
+pub(crate) fn print_words<O: Write, E: Write>(output: &mut O, errors: &mut E, error: &Error) -> u8 {
     if error.kind() == ErrorKind::OutOfMemory {
-        return tell_fault(errors, RunFault::Memory);
+        return print_fault(errors, RunFault::Memory);
     }
     if error.use_stderr() {
         let _ = write!(errors, "{error}");
@@ -194,14 +194,14 @@ pub(crate) fn tell_words<O: Write, E: Write>(output: &mut O, errors: &mut E, err
     }
     match write!(output, "{error}") {
         Ok(()) => DONE,
-        Err(_) => tell_fault(errors, RunFault::Write),
+        Err(_) => print_fault(errors, RunFault::Write),
     }
 }
 
 /// Reports that the words of the command line can't be read.
-pub(crate) fn tell_unread_words<E: Write>(errors: &mut E, error: &io::Error) -> u8 {
+pub(crate) fn print_unread_words<E: Write>(errors: &mut E, error: &io::Error) -> u8 {
     if error.kind() == io::ErrorKind::OutOfMemory {
-        return tell_fault(errors, RunFault::Memory);
+        return print_fault(errors, RunFault::Memory);
     }
     let _ = writeln!(errors, "error: a word of the command line isn't text");
     USAGE

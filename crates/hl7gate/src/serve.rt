@@ -5,7 +5,7 @@ use crate::arguments::parse;
 use crate::ended::Ended;
 use crate::hands::{Sizes, with_couriers};
 use crate::plans::read_plan;
-use crate::report::{DONE, USAGE, tell, tell_fault, tell_if_full, tell_report, tell_words};
+use crate::report::{DONE, USAGE, print_fault, print_if_full, print_report, print_words, tell};
 use crate::stamps::stamp_of;
 use crate::threads::{Line, PARTS, Served, Service};
 use clap::ArgMatches;
@@ -187,15 +187,15 @@ pub(crate) fn serving<
 >(rt: &R, words: &[String], paths: I, output: &mut O, errors: &mut E) -> u8 {
     let matches = match parse(rt.alloc(), words) {
         Ok(matches) => matches,
-        Err(error) => return tell_words(output, errors, &error),
+        Err(error) => return print_words(output, errors, &error),
     };
     let Some(("serve", words)) = matches.subcommand() else {
         return USAGE;
     };
     match serve(rt, words, paths) {
         Ok(Served { report, is_full }) => {
-            tell_if_full(errors, is_full);
-            tell_report(output, errors, report)
+            print_if_full(errors, is_full);
+            print_report(output, errors, report)
         }
         Err(ended) => tell(errors, &ended),
     }

@@ -1,7 +1,7 @@
 //! What a failure of a map speaks of, in the field's words: the part of the target that fails, what the source has for it, and what prevents them.
 use crate::elements::{
-    element_of, node_at, tell_comp, tell_field, tell_interval, tell_name, tell_node, tell_profile,
-    tell_sub,
+    element_of, node_at, print_comp, print_field, print_interval, print_name, print_node,
+    print_profile, print_sub,
 };
 use crate::maps::ProfilePair;
 use crate::report::say;
@@ -14,7 +14,7 @@ use std::io::Write;
 
 /// What a line of a map makes, with the map and its profiles.
 #[derive(Clone, Copy)]
-pub(crate) struct Told<'a> {
+pub(crate) struct Explanation<'a> {
     pub(crate) sides: &'a ProfilePair,
     pub(crate) map: &'a Map,
     pub(crate) site: &'a Site,
@@ -118,40 +118,40 @@ fn absent_on_the_way<'a>(profile: &Profile, spot: &'a ElementPath) -> Option<&'a
 }
 
 /// Reports an element of a profile by its own numbers.
-fn tell_part<E: Write>(errors: &mut E, profile: &Profile, spot: &ElementPath) {
+fn print_part<E: Write>(errors: &mut E, profile: &Profile, spot: &ElementPath) {
     if spot.field == 0 {
-        tell_node(errors, profile, &spot.at);
+        print_node(errors, profile, &spot.at);
     } else if spot.comp == 0 {
-        tell_field(errors, profile, spot);
+        print_field(errors, profile, spot);
     } else if spot.sub == 0 || is_forbidden_comp(profile, spot) {
-        tell_comp(errors, profile, spot);
+        print_comp(errors, profile, spot);
     } else {
-        tell_sub(errors, profile, spot);
+        print_sub(errors, profile, spot);
     }
 }
 
 /// Reports whether what is read is there: by its field, or by its component where that may be absent.
-fn tell_read<E: Write>(errors: &mut E, profile: &Profile, spot: &ElementPath) {
+fn print_read<E: Write>(errors: &mut E, profile: &Profile, spot: &ElementPath) {
     if spot.field > 0 && spot.comp > 0 && !is_sure_comp(profile, spot) {
-        tell_comp(errors, profile, spot);
+        print_comp(errors, profile, spot);
     } else if spot.field > 0 {
-        tell_field(errors, profile, spot);
+        print_field(errors, profile, spot);
     } else {
-        tell_node(errors, profile, &spot.at);
+        print_node(errors, profile, &spot.at);
     }
 }
 
 /// Reports why what is read may be absent: by a node on the way to it, where one may be, or by itself.
-fn tell_absent<E: Write>(errors: &mut E, profile: &Profile, spot: &ElementPath) {
+fn print_absent<E: Write>(errors: &mut E, profile: &Profile, spot: &ElementPath) {
     match absent_on_the_way(profile, spot) {
-        Some(at) => tell_node(errors, profile, at),
-        None => tell_read(errors, profile, spot),
+        Some(at) => print_node(errors, profile, at),
+        None => print_read(errors, profile, spot),
     }
 }
 
-impl Told<'_> {
+impl Explanation<'_> {
     /// Reports what the source has for a part of the target of which rule 5 or 11 fails.
-    fn tell_source<E: Write>(
+    fn print_source<E: Write>(
         &self,
         errors: &mut E,
         rule: u8,
@@ -161,25 +161,25 @@ impl Told<'_> {
         let source = &self.sides.source;
         say(errors, b", and ");
         if is_copy(self.site) && mark.comp > 0 {
-            tell_part(errors, source, from);
+            print_part(errors, source, from);
         } else if rule == 5 {
-            tell_absent(errors, source, from);
+            print_absent(errors, source, from);
         } else {
-            tell_read(errors, source, from);
+            print_read(errors, source, from);
         }
     }
 
     /// Reports how often the target asks for a part of what the line makes, and what gives it.
-    fn tell_often<E: Write>(&self, errors: &mut E, failure: Failure, parts: &Parts) {
+    fn print_often<E: Write>(&self, errors: &mut E, failure: Failure, parts: &Parts) {
         let Failure { rule, mark } = failure;
-        tell_part(errors, &self.sides.target, &parts.target);
+        print_part(errors, &self.sides.target, &parts.target);
         if let (4, Some(count)) = (rule, mark.count) {
             say(errors, b", and the map gives it ");
-            tell_interval(errors, count);
+            print_interval(errors, count);
         } else if rule == 5 && mark.comp > 0 && !is_copy(self.site) {
             say(errors, b", and no leaf is always there for it");
         } else if let Some(from) = &parts.source {
-            self.tell_source(errors, rule, mark, from);
+            self.print_source(errors, rule, mark, from);
         }
     }
 }
@@ -194,7 +194,7 @@ fn unit(count: Count) -> &'static str {
     }
 }
 
-fn tell_most<E: Write>(errors: &mut E, len: Option<u32>, count: Count) {
+fn print_most<E: Write>(errors: &mut E, len: Option<u32>, count: Count) {
     let unit = unit(count);
     let _ = match len {
         None => write!(errors, "any number of {unit}"),
@@ -207,11 +207,11 @@ fn len_of(sub: Option<&SubShape>) -> Option<u32> {
 }
 
 /// Reports how long a text of an element may be, by the count of its profile.
-fn tell_length<E: Write>(errors: &mut E, profile: &Profile, spot: &ElementPath) {
-    tell_name(errors, profile, element_of(spot));
+fn print_length<E: Write>(errors: &mut E, profile: &Profile, spot: &ElementPath) {
+    print_name(errors, profile, element_of(spot));
     say(errors, b" has ");
-    tell_most(errors, len_of(sub_at(profile, spot)), profile.count());
-    tell_profile(errors, profile);
+    print_most(errors, len_of(sub_at(profile, spot)), profile.count());
+    print_profile(errors, profile);
 }
 
 // ---- tables
@@ -224,8 +224,8 @@ fn table_of(sub: Option<&SubShape>) -> Option<&[u8]> {
 }
 
 /// Reports the table of an element.
-fn tell_table<E: Write>(errors: &mut E, profile: &Profile, spot: &ElementPath) {
-    tell_name(errors, profile, element_of(spot));
+fn print_table<E: Write>(errors: &mut E, profile: &Profile, spot: &ElementPath) {
+    print_name(errors, profile, element_of(spot));
     match table_of(sub_at(profile, spot)) {
         None => {
             say(errors, b" has no table");
@@ -235,7 +235,7 @@ fn tell_table<E: Write>(errors: &mut E, profile: &Profile, spot: &ElementPath) {
             say(errors, name);
         }
     }
-    tell_profile(errors, profile);
+    print_profile(errors, profile);
 }
 
 /// Whether a text is no longer, by this count.
@@ -269,15 +269,15 @@ fn first_strange<'a>(sides: &'a ProfilePair, from: &SubShape, to: &SubShape) -> 
 // ---- what prevents a map
 
 /// Prints a text that prevents the map.
-fn tell_text<E: Write>(errors: &mut E, text: &[u8], said: &str) {
+fn print_text<E: Write>(errors: &mut E, text: &[u8], said: &str) {
     say(errors, b": ");
     say(errors, text);
     say(errors, said.as_bytes());
 }
 
-impl Told<'_> {
+impl Explanation<'_> {
     /// Reports the table of the map in which a text is looked up, where it is.
-    fn tell_lookup<E: Write>(&self, errors: &mut E) -> bool {
+    fn print_lookup<E: Write>(&self, errors: &mut E) -> bool {
         let Origin::LookedUp(name, _) = &self.site.origin else {
             return false;
         };
@@ -287,12 +287,12 @@ impl Told<'_> {
     }
 
     /// Reports the table of the target and that of the source, and a text that only the source's has.
-    fn tell_strange<E: Write>(&self, errors: &mut E, to: &ElementPath, from: &ElementPath) {
+    fn print_strange<E: Write>(&self, errors: &mut E, to: &ElementPath, from: &ElementPath) {
         let ProfilePair { source, target } = self.sides;
-        tell_table(errors, target, to);
+        print_table(errors, target, to);
         say(errors, b", and ");
-        tell_table(errors, source, from);
-        if self.tell_lookup(errors) {
+        print_table(errors, source, from);
+        if self.print_lookup(errors) {
             return;
         }
         let to = sub_at(target, to);
@@ -300,17 +300,17 @@ impl Told<'_> {
         if let (Some(to), Some(from)) = (to, from)
             && let Some(text) = first_strange(self.sides, from, to)
         {
-            tell_text(errors, text, " is unknown to the target");
+            print_text(errors, text, " is unknown to the target");
         }
     }
 
     /// Reports the length that the target takes, and that of the source.
-    fn tell_long<E: Write>(&self, errors: &mut E, to: &ElementPath, from: &ElementPath) {
+    fn print_long<E: Write>(&self, errors: &mut E, to: &ElementPath, from: &ElementPath) {
         let ProfilePair { source, target } = self.sides;
-        tell_length(errors, target, to);
+        print_length(errors, target, to);
         say(errors, b", and ");
-        tell_length(errors, source, from);
-        if self.tell_lookup(errors) {
+        print_length(errors, source, from);
+        if self.print_lookup(errors) {
             return;
         }
         let most = len_of(sub_at(target, to));
@@ -318,17 +318,17 @@ impl Told<'_> {
         if let (Some(most), Some(from)) = (most, from)
             && let Some(text) = first_long(self.sides, from, most)
         {
-            tell_text(errors, text, " is longer");
+            print_text(errors, text, " is longer");
         }
     }
 
     /// Reports the table of what is looked up, and a text that has no row.
-    fn tell_unrowed<E: Write>(&self, errors: &mut E) {
+    fn print_unrowed<E: Write>(&self, errors: &mut E) {
         let Origin::LookedUp(name, from) = &self.site.origin else {
             return;
         };
         let source = &self.sides.source;
-        tell_table(errors, source, from);
+        print_table(errors, source, from);
         let Some(sub) = sub_at(source, from) else {
             return;
         };
@@ -336,12 +336,12 @@ impl Told<'_> {
             return;
         };
         if let Some(text) = unrowed(source, sub, rows) {
-            tell_text(errors, text, " has no row");
+            print_text(errors, text, " has no row");
         }
     }
 
     /// Reports a constant, and what the target takes.
-    fn tell_constant<E: Write>(&self, errors: &mut E, to: &ElementPath) {
+    fn print_constant<E: Write>(&self, errors: &mut E, to: &ElementPath) {
         let Origin::Text(text) = &self.site.origin else {
             return;
         };
@@ -350,24 +350,24 @@ impl Told<'_> {
         let size = measure(target.count(), text);
         match len {
             Some(most) if size > u64::from(most) => {
-                tell_length(errors, target, to);
+                print_length(errors, target, to);
                 let _ = write!(errors, ", and this has {size}");
             }
-            _ => tell_table(errors, target, to),
+            _ => print_table(errors, target, to),
         }
     }
 }
 
-impl Told<'_> {
+impl Explanation<'_> {
     /// Reports the elements of which rule 6 or 7 fails.
-    fn tell_texts<E: Write>(&self, errors: &mut E, rule: u8, parts: &Parts) {
+    fn print_texts<E: Write>(&self, errors: &mut E, rule: u8, parts: &Parts) {
         let Some(from) = &parts.source else {
             return;
         };
         if rule == 6 {
-            self.tell_strange(errors, &parts.target, from);
+            self.print_strange(errors, &parts.target, from);
         } else {
-            self.tell_long(errors, &parts.target, from);
+            self.print_long(errors, &parts.target, from);
         }
     }
 
@@ -380,10 +380,10 @@ impl Told<'_> {
     ) -> Result<(), AllocError> {
         let parts = parts_at(alloc, self.site, failure.mark)?;
         match failure.rule {
-            6 | 7 => self.tell_texts(errors, failure.rule, &parts),
-            10 => self.tell_unrowed(errors),
-            12 => self.tell_constant(errors, &parts.target),
-            _ => self.tell_often(errors, failure, &parts),
+            6 | 7 => self.print_texts(errors, failure.rule, &parts),
+            10 => self.print_unrowed(errors),
+            12 => self.print_constant(errors, &parts.target),
+            _ => self.print_often(errors, failure, &parts),
         }
         Ok(())
     }

@@ -70,7 +70,7 @@ pub(crate) fn lines_of<R: AllocGlobal>(rt: &R, path: &str, why: &Unswapped<'_>) 
 }
 
 /// Reports on standard error why the plan of a file isn't swapped in.
-fn tell_unswapped<R: Eprint + AllocGlobal>(rt: &R, path: &str, why: &Unswapped<'_>) {
+fn print_unswapped<R: Eprint + AllocGlobal>(rt: &R, path: &str, why: &Unswapped<'_>) {
     if let Ok(lines) = String::from_utf8(lines_of(rt, path, why)) {
         let _ = eprint!(rt; "{lines}");
     }
@@ -161,7 +161,7 @@ fn swap_one<L: Ledger, R: Wait + Files + Print + Eprint + AllocGlobal>(
         Ok(version) => {
             let _ = println!(rt; "swapped {version}");
         }
-        Err(why) => tell_unswapped(rt, path, &why),
+        Err(why) => print_unswapped(rt, path, &why),
     }
 }
 

@@ -317,14 +317,14 @@ impl<L: Ledger, R: Wait + AllocGlobal + Clock + Eprint> Service<'_, L, R> {
                 );
             }
             Err((fault, why)) => {
-                self.tell_courier(name, fault, why);
+                self.print_courier(name, fault, why);
                 self.outcome.lock(self.rt).of_courier(receiver, fault);
             }
         }
     }
 
     /// The courier of a receiver ended by a fault: of a line, this one.
-    fn tell_courier(&self, name: &[u8], fault: RunFault, why: Unacknowledged) {
+    fn print_courier(&self, name: &[u8], fault: RunFault, why: Unacknowledged) {
         let name = name.escape_ascii();
         let number = fault.number();
         let _ = match fault {

@@ -17,7 +17,7 @@ use crate::gateway::receivers::Receivers;
 use crate::gateway::rounds::rounds;
 use crate::gateway::senders::accept_all;
 use crate::plans::read_plan;
-use crate::report::{DONE, USAGE, tell, tell_words};
+use crate::report::{DONE, USAGE, print_words, tell};
 use crate::serve::{count_or, listen};
 use crate::stamps::stamp_of;
 use clap::ArgMatches;
@@ -314,7 +314,7 @@ pub(crate) fn gateway<
 >(rt: &R, words: &[String], output: &mut O, errors: &mut E) -> u8 {
     let matches = match parse(rt.alloc(), words) {
         Ok(matches) => matches,
-        Err(error) => return tell_words(output, errors, &error),
+        Err(error) => return print_words(output, errors, &error),
     };
     let Some(("gateway", words)) = matches.subcommand() else {
         return USAGE;

@@ -106,7 +106,7 @@ impl<
         for _ in rt.forever() {
             if let Some(stream) = connect(rt, address) {
                 is_down = false;
-                self.tell_connected();
+                self.print_connected();
                 self.outgoing.set_connected(rt, true);
                 let after = self.send_over(outbox, &stream);
                 self.outgoing.set_connected(rt, false);
@@ -128,7 +128,7 @@ impl<
         }
     }
 
-    fn tell_connected(&self) {
+    fn print_connected(&self) {
         let rt = self.hub.rt;
         let name = self.to.name.escape_ascii();
         let address = self.to.address.escape_ascii();

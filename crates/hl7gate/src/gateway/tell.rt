@@ -2,7 +2,7 @@
 use crate::arguments::parse;
 use crate::ended::Ended;
 use crate::gateway::control::control_path;
-use crate::report::{DONE, REFUSED, USAGE, tell as tell_ended, tell_words, write_all};
+use crate::report::{DONE, REFUSED, USAGE, print_words, tell as print_ended, write_all};
 use clap::ArgMatches;
 use gw_stream::RunFault;
 use std::alloc::{AllocError, Global};
@@ -70,13 +70,13 @@ pub(crate) fn tell<R: Net + AllocGlobal, O: Write, E: Write>(
 ) -> u8 {
     let matches = match parse(rt.alloc(), words) {
         Ok(matches) => matches,
-        Err(error) => return tell_words(output, errors, &error),
+        Err(error) => return print_words(output, errors, &error),
     };
     let Some(("tell", words)) = matches.subcommand() else {
         return USAGE;
     };
     match send(rt, words, output) {
         Ok(status) => status,
-        Err(ended) => tell_ended(errors, &ended),
+        Err(ended) => print_ended(errors, &ended),
     }
 }
