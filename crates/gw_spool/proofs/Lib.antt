@@ -5,4 +5,7 @@ mod Ways
 mod Past
 mod Entries
 mod Sound
+mod Joining
+mod Slots
+mod Rowed
 pub mod Mirrored

@@ -1,6 +1,6 @@
 -- One step more of a mirrored file.
-use Rattle.std.proofs.Common.{◌≡◌, ◌⊎◌, inl, inr, ⊎_elim, ℕ, ◌+◌, ◌≤◌, ◌<◌, List, [], ◌∷◌, length, take, drop, refl, sym, arith}
-use Rattle.gw_spool.specs.Device.{Elapses, Torn, Cut}
+use Rattle.std.proofs.Common.{◌⊎◌, inl, inr, ⊎_elim, ℕ, List, ◌∷◌, refl, arith}
+use Rattle.gw_spool.specs.Device.{Elapses, Torn}
 use Rattle.gw_spool.specs.Mirrors.{StepSeen, MirrorState, may_after, left_after, moment, left_since, may_leave}
 
 pub torn_none : (at n : ℕ) (c : List ℕ) → Torn at n c c

@@ -5,3 +5,5 @@ pub mod Memory
 pub mod Numbers
 pub mod own
 pub mod Mirrors
+pub mod Folder
+pub mod Rows

@@ -123,7 +123,7 @@ fn open_file<D: Device>(
 }
 
 impl<D: Device> Spool<D> {
-    ghost use Rattle.std.specs.Prelude.{◌≡◌, ◌≢◌, ◌↔◌, ◌⊎◌, ◌<◌, ◌^◌, [], false, true, ℕ, List};
+    ghost use Rattle.std.specs.Prelude.{◌≡◌, ◌≢◌, ◌↔◌, ◌⊎◌, ◌+◌, ◌<◌, ◌^◌, [], false, true, ℕ, List};
     ghost use Rattle.std.specs.Prelude.{slice_get, length, drop, option_map, IfOk, IfErr, IsErrOf, OnOk, OnErr};
     ghost use Rattle.gw_spool.specs.Device.{LeavesOnly, Only};
     ghost use Rattle.gw_spool.specs.File.{Keeps, KeepsAs, KeepsEither, AllKeep, IsDamagedAt};
@@ -334,6 +334,20 @@ impl<D: Device> Spool<D> {
         ensures { result ≡ length self.now.kept }
     {
         self.kept.len()
+    }
+
+    /// How many records are not synced yet.
+    pub fn unsynced(&self) -> usize
+        ensures { result ≡ length self.now.appended }
+    {
+        self.appended.len()
+    }
+
+    /// How many bytes the file has, but for the gate at its end.
+    pub fn size(&self) -> usize
+        ensures { self.now.broken ≡ false → result + 1 ≡ length (D.seen self.now.device) }
+    {
+        self.end
     }
 
     /// The first record that is synced and not acknowledged.

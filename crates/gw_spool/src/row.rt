@@ -1,0 +1,654 @@
+//! A row: records that wait on a disk in the numbered files of a folder, its segments, so that what waits takes no memory.
+//!
+//! The first segment is read and the last one is written. Those between are on the disk alone.
+use crate::device::{Device, DeviceFault};
+use crate::fault::SpoolFault;
+use crate::folder::Folder;
+use crate::spool::Spool;
+use std::alloc::Global;
+use std::marker::Model;
+use std::mem;
+
+/// How many bytes a segment has before the next one is begun.
+const LONG: usize = 1_048_576;
+
+/// Why a row did not do what was asked, and the number of the segment, where it is one's.
+#[derive(Clone, Copy, Debug, PartialEq, Eq)]
+pub struct RowFault {
+    /// The fault.
+    pub fault: SpoolFault,
+    /// The segment's number.
+    pub number: Option<u64>,
+}
+
+/// Records that wait on a disk until they are acknowledged, in the order in which they were appended.
+#[derive(Drop)]
+pub struct Row<D: Device> {
+    alloc: Global,
+    first: u64,
+    last: u64,
+    // the first segment, where it isn't the last
+    reading: Option<Spool<D>>,
+    writing: Spool<D>,
+    waiting: u64,
+    is_lost: bool,
+}
+
+impl<D: Device> Model for Row<D> {
+    ghost use Rattle.gw_spool.specs.Rows.{RowState};
+
+    ghost Value = { RowState D };
+
+    ghost view = { λ r. record {
+      first = r.first;
+      last = r.last;
+      reading = r.reading;
+      writing = r.writing;
+      waiting = r.waiting;
+      is_lost = r.is_lost;
+    } };
+}
+
+ghost use Rattle.std.specs.Prelude.{◌≡◌, ◌≢◌, ◌<◌, ◌≤◌, ◌+◌, [], List, ℕ, Some, Ok, length, IfOk, IfErr, OnOk, OnErr};
+ghost use Rattle.gw_spool.specs.File.{Keeps, AllKeep};
+ghost use Rattle.gw_spool.specs.Folder.{There, LeavesAt, SameBut, may_leave_at, put};
+ghost use Rattle.gw_spool.specs.Folder.{IsWhole, joined};
+ghost use Rattle.gw_spool.specs.Rows.{RowState, IsOpen, IsRow, put_reading, disk};
+ghost use Rattle.gw_spool.specs.own.Rowing.{AllAt, Goes, NoneBelow, IsOpenOrNone, IsFound, IsFilled, IsPassing, StillWaits, with_reading};
+
+// The spool over the segment of this number. At `Err` the segment is closed.
+fn open_segment<D: Device + Drop, F: Folder<D>>(
+    alloc: Global,
+    folder: &mut F,
+    number: u64,
+) -> Result<Spool<D>, SpoolFault>
+    ensures known { F.known folder.old → F.known folder.new }
+    ensures others { F.known folder.old → SameBut number (F.files folder.old) (F.files folder.new) }
+    ensures opened { F.known folder.old → (records : List (List ℕ)) →
+        AllKeep records (may_leave_at D.may_leave (F.files folder.old number)) →
+        IfOk result (λ s. IsOpen D.may_leave s records []) }
+    ensures any_moment { F.known folder.old → (records : List (List ℕ)) →
+        AllKeep records (may_leave_at D.may_leave (F.files folder.old number)) →
+        IfOk result (λ s. LeavesAt D.moment D.left_since (F.files folder.old number) (There s.device) (Keeps records)) }
+    ensures any_moment_err { F.known folder.old → (records : List (List ℕ)) →
+        AllKeep records (may_leave_at D.may_leave (F.files folder.old number)) →
+        OnErr result (LeavesAt D.moment D.left_since (F.files folder.old number) (F.files folder.new number) (Keeps records)) }
+    ensures whole { F.known folder.old → IfOk result (λ s. IsWhole D.may_leave (F.files folder.old number)) }
+{
+    let file = folder.open(number)?;
+    match Spool::open(alloc, file) {
+        Ok(spool) => Ok(spool),
+        Err((fault, file)) => {
+            folder.close(number, file);
+            Err(fault)
+        }
+    }
+}
+
+// The fault of a segment.
+fn at_segment(number: u64, fault: SpoolFault) -> RowFault
+    ensures { result ≡ record { fault = fault; number = Some number } }
+{
+    RowFault {
+        fault,
+        number: Some(number),
+    }
+}
+
+// Counts the records of a segment.
+fn count_one<D: Device + Drop, F: Folder<D>>(
+    alloc: Global,
+    folder: &mut F,
+    number: u64,
+    count: u64,
+) -> Result<u64, RowFault>
+    ensures known { F.known folder.old → F.known folder.new }
+    ensures any_moment { F.known folder.old → (skip : ℕ) (each : ℕ → List (List ℕ)) →
+        AllAt D.may_leave skip each (F.files folder.old) → number ≢ skip →
+        Goes D.moment D.left_since skip each (F.files folder.old) (F.files folder.new) }
+    ensures counted { F.known folder.old → (records : List (List ℕ)) →
+        AllKeep records (may_leave_at D.may_leave (F.files folder.old number)) →
+        IfOk result (λ more. more ≡ count + length records) }
+    ensures others { F.known folder.old → SameBut number (F.files folder.old) (F.files folder.new) }
+    ensures whole { F.known folder.old → IfOk result (λ more. IsWhole D.may_leave (F.files folder.old number)) }
+{
+    let spool = match open_segment(alloc, folder, number) {
+        Ok(spool) => spool,
+        Err(fault) => return Err(at_segment(number, fault)),
+    };
+    let len = spool.len() as u64;
+    folder.close(number, spool.into_device());
+    match count.checked_add(len) {
+        Some(more) => Ok(more),
+        None => Err(at_segment(number, SpoolFault::Full)),
+    }
+}
+
+// How many records the segments before the last have. Each is read.
+fn count_all<D: Device + Drop, F: Folder<D>>(
+    alloc: Global,
+    folder: &mut F,
+    first: u64,
+    last: u64,
+) -> Result<u64, RowFault>
+    ensures known { F.known folder.old → F.known folder.new }
+    ensures any_moment { F.known folder.old → (skip : ℕ) (each : ℕ → List (List ℕ)) → last ≤ skip →
+        AllAt D.may_leave skip each (F.files folder.old) →
+        Goes D.moment D.left_since skip each (F.files folder.old) (F.files folder.new) }
+    ensures counted { F.known folder.old → (skip : ℕ) (each : ℕ → List (List ℕ)) → last ≤ skip →
+        AllAt D.may_leave skip each (F.files folder.old) → NoneBelow first each → first ≤ last →
+        IfOk result (λ count. count ≡ length (joined each last)) }
+    ensures rest { F.known folder.old → first ≤ last →
+        IfOk result (λ count. (n : ℕ) → last ≤ n → F.files folder.new n ≡ F.files folder.old n) }
+    ensures whole { F.known folder.old →
+        IfOk result (λ count. (n : ℕ) → first ≤ n → n < last → IsWhole D.may_leave (F.files folder.old n)) }
+{
+    let mut count = 0u64;
+    for number in first..last {
+        count = count_one(alloc, folder, number, count)?;
+    }
+    Ok(count)
+}
+
+// The spool over a segment that has a record. One that has none is removed.
+fn open_or_remove<D: Device + Drop, F: Folder<D>>(
+    alloc: Global,
+    folder: &mut F,
+    number: u64,
+) -> Result<Option<Spool<D>>, RowFault>
+    ensures known { F.known folder.old → F.known folder.new }
+    ensures any_moment_err { F.known folder.old → (skip : ℕ) (each : ℕ → List (List ℕ)) →
+        AllAt D.may_leave skip each (F.files folder.old) → number ≢ skip →
+        OnErr result (Goes D.moment D.left_since skip each (F.files folder.old) (F.files folder.new)) }
+    ensures any_moment { F.known folder.old → (skip : ℕ) (each : ℕ → List (List ℕ)) →
+        AllAt D.may_leave skip each (F.files folder.old) → number ≢ skip →
+        IfOk result (λ r. Goes D.moment D.left_since skip each (F.files folder.old) (put_reading number r (F.files folder.new))) }
+    ensures found { F.known folder.old → (records : List (List ℕ)) →
+        AllKeep records (may_leave_at D.may_leave (F.files folder.old number)) →
+        IfOk result (IsOpenOrNone D.may_leave records) }
+{
+    let spool = match open_segment(alloc, folder, number) {
+        Ok(spool) => spool,
+        Err(fault) => return Err(at_segment(number, fault)),
+    };
+    if spool.len() > 0 {
+        return Ok(Some(spool));
+    }
+    folder.remove(number, spool.into_device());
+    Ok(None)
+}
+
+// The first segment before the last that has a record, and its spool. Those before it are removed.
+fn first_with_record<D: Device + Drop, F: Folder<D>>(
+    alloc: Global,
+    folder: &mut F,
+    first: u64,
+    last: u64,
+) -> Result<(u64, Option<Spool<D>>), RowFault>
+    ensures known { F.known folder.old → F.known folder.new }
+    ensures any_moment_err { F.known folder.old → (skip : ℕ) (each : ℕ → List (List ℕ)) → last ≤ skip →
+        AllAt D.may_leave skip each (F.files folder.old) →
+        OnErr result (Goes D.moment D.left_since skip each (F.files folder.old) (F.files folder.new)) }
+    ensures found { F.known folder.old → (skip : ℕ) (each : ℕ → List (List ℕ)) → last ≤ skip →
+        AllAt D.may_leave skip each (F.files folder.old) → NoneBelow first each → first ≤ last →
+        IfOk result (λ r. IsFound D.moment D.left_since D.may_leave skip last each
+        (F.files folder.old) (F.files folder.new) r.0 r.1) }
+{
+    for number in first..last {
+        match open_or_remove(alloc, folder, number) {
+            Ok(Some(spool)) => return Ok((number, Some(spool))),
+            Ok(None) => {}
+            Err(fault) => return Err(fault),
+        }
+    }
+    Ok((last, None))
+}
+
+// Gives back the segment that is read.
+fn give_back<D: Device + Drop, F: Folder<D>>(folder: &mut F, number: u64, reading: Option<Spool<D>>)
+    ensures known { F.known folder.old → F.known folder.new }
+    ensures closed { F.known folder.old → (n : ℕ) →
+        F.files folder.new n ≡ put_reading number reading (F.files folder.old) n }
+{
+    match reading {
+        Some(spool) => folder.close(number, spool.into_device()),
+        None => {}
+    }
+}
+
+// The row of a folder with these segments, in which so many records wait.
+fn open_ends<D: Device + Drop, F: Folder<D>>(
+    alloc: Global,
+    folder: &mut F,
+    first: u64,
+    last: u64,
+    waiting: u64,
+) -> Result<Row<D>, RowFault>
+    ensures known { F.known folder.old → F.known folder.new }
+    ensures row { F.known folder.old → (each : ℕ → List (List ℕ)) →
+        IsFilled D.may_leave (F.files folder.old) first last each →
+        IfOk result (λ row. IsRow D.may_leave row (F.files folder.new) each []) }
+    ensures any_moment { F.known folder.old → (each : ℕ → List (List ℕ)) →
+        IsFilled D.may_leave (F.files folder.old) first last each →
+        IfOk result (λ row. (n : ℕ) → LeavesAt D.moment D.left_since (F.files folder.old n)
+        (disk row (F.files folder.new) n) (Keeps (each n))) }
+    ensures any_moment_err { F.known folder.old → (each : ℕ → List (List ℕ)) →
+        IsFilled D.may_leave (F.files folder.old) first last each →
+        OnErr result ((n : ℕ) → LeavesAt D.moment D.left_since (F.files folder.old n)
+        (F.files folder.new n) (Keeps (each n))) }
+    ensures waiting { IfOk result (λ row. row.waiting ≡ waiting) }
+{
+    let (first, reading) = match first_with_record(alloc, folder, first, last) {
+        Ok(found) => found,
+        Err(fault) => return Err(fault),
+    };
+    match open_segment(alloc, folder, last) {
+        Ok(writing) => Ok(Row {
+            alloc,
+            first,
+            last,
+            reading,
+            writing,
+            waiting,
+            is_lost: false,
+        }),
+        Err(fault) => {
+            give_back(folder, first, reading);
+            Err(at_segment(last, fault))
+        }
+    }
+}
+
+impl<D: Device + Drop> Row<D> {
+    ghost use Rattle.std.specs.Prelude.{◌≡◌, ◌≢◌, ◌⊎◌, ◌+◌, ◌-◌, ◌++◌, ◌∷◌, [], ℕ, List, None, true};
+    ghost use Rattle.std.specs.Prelude.{slice_get, length, drop, option_map, IfOk, OnOk, OnErr};
+    ghost use Rattle.gw_spool.specs.File.{Keeps, KeepsEither};
+    ghost use Rattle.gw_spool.specs.Folder.{Slot, LeavesAt, HoldsAll, FilesKeep, FilesKeepEither, put};
+    ghost use Rattle.gw_spool.specs.Rows.{IsRow, Waits, HasFailed, LeavesFiles, disk};
+
+    /// The records that the segments of a folder keep, in the order of their numbers. Each segment is read: one that is damaged is a fault.
+    pub fn open<F: Folder<D>>(alloc: Global, folder: &mut F) -> Result<Row<D>, RowFault>
+        ensures known { F.known folder.old → F.known folder.new }
+        ensures kept { F.known folder.old → (kept : List (List ℕ)) → HoldsAll D.may_leave (F.files folder.old) kept →
+            IfOk result (λ row. Waits D.may_leave row (F.files folder.new) kept []) }
+
+        // None that is damaged is passed over.
+        ensures whole { F.known folder.old →
+            IfOk result (λ row. (n : ℕ) → IsWhole D.may_leave (F.files folder.old n)) }
+
+        // A crash at any moment leaves the same records.
+        ensures any_moment { F.known folder.old → (kept : List (List ℕ)) → HoldsAll D.may_leave (F.files folder.old) kept →
+            IfOk result (λ row. LeavesFiles D.moment D.left_since D.may_leave (F.files folder.old)
+            (disk row (F.files folder.new)) (FilesKeep kept)) }
+        ensures any_moment_err { F.known folder.old → (kept : List (List ℕ)) → HoldsAll D.may_leave (F.files folder.old) kept →
+            OnErr result (LeavesFiles D.moment D.left_since D.may_leave (F.files folder.old)
+            (F.files folder.new) (FilesKeep kept)) }
+    {
+        let (first, last) = match folder.numbers() {
+            Ok(ends) => ends,
+            Err(fault) => {
+                return Err(RowFault {
+                    fault: SpoolFault::from(fault),
+                    number: None,
+                });
+            }
+        };
+        let count = match count_all(alloc, folder, first, last) {
+            Ok(count) => count,
+            Err(fault) => return Err(fault),
+        };
+        let waiting = match count_one(alloc, folder, last, count) {
+            Ok(waiting) => waiting,
+            Err(fault) => return Err(fault),
+        };
+        match open_ends(alloc, folder, first, last, waiting) {
+            Ok(row) => Ok(row),
+            Err(fault) => Err(fault),
+        }
+    }
+
+    /// How many records are synced and not acknowledged.
+    pub fn waiting(&self) -> u64
+        ensures { (slots : ℕ → Slot D) (kept appended : List (List ℕ)) →
+            Waits D.may_leave self.now slots kept appended → result ≡ length kept }
+    {
+        self.waiting
+    }
+
+    /// The first record that is synced and not acknowledged.
+    pub fn first(&self) -> Option<&[u8]>
+        ensures { (slots : ℕ → Slot D) (kept appended : List (List ℕ)) →
+            Waits D.may_leave self.now slots kept appended →
+            option_map (λ bytes. bytes.now) result ≡ slice_get kept 0 }
+    {
+        match &self.reading {
+            Some(spool) => spool.first(),
+            None => self.writing.first(),
+        }
+    }
+
+    /// Puts a record behind the others; it is kept once it is synced.
+    pub fn append(&mut self, bytes: &[u8]) -> Result<(), SpoolFault>
+        ensures ok { (slots : ℕ → Slot D) (kept appended : List (List ℕ)) →
+            Waits D.may_leave self.old slots kept appended →
+            OnOk result (Waits D.may_leave self.new slots kept (appended ++ bytes.now ∷ [])) }
+        ensures err { (slots : ℕ → Slot D) (kept appended : List (List ℕ)) →
+            Waits D.may_leave self.old slots kept appended →
+            OnErr result (Waits D.may_leave self.new slots kept appended) }
+    {
+        if self.is_lost {
+            return Err(SpoolFault::Device);
+        }
+        self.writing.append(bytes)
+    }
+
+    // Begins the next segment. Where its file can't be made, the last one goes on.
+    fn begin_next<F: Folder<D>>(&mut self, folder: &mut F)
+        ensures known { F.known folder.old → F.known folder.new }
+        ensures waiting { self.new.waiting ≡ self.old.waiting }
+        ensures row { F.known folder.old → (each : ℕ → List (List ℕ)) →
+            IsRow D.may_leave self.old (F.files folder.old) each [] → each self.old.last ≢ [] →
+            IsRow D.may_leave self.new (F.files folder.new) each [] }
+        ensures any_moment { F.known folder.old → (each : ℕ → List (List ℕ)) →
+            IsRow D.may_leave self.old (F.files folder.old) each [] → each self.old.last ≢ [] →
+            (n : ℕ) → LeavesAt D.moment D.left_since (disk self.old (F.files folder.old) n)
+            (disk self.new (F.files folder.new) n) (Keeps (each n)) }
+    {
+        let Some(next) = self.last.checked_add(1) else {
+            return;
+        };
+        let Ok(spool) = open_segment(self.alloc, folder, next) else {
+            return;
+        };
+        let written = mem::replace(&mut self.writing, spool);
+        let last = self.last;
+        self.last = next;
+        if self.reading.is_some() {
+            folder.close(last, written.into_device());
+            return;
+        }
+        self.reading = Some(written);
+    }
+
+    // Brings all that was appended to the disk. Says whether the next segment is to be begun.
+    fn sync_last(&mut self) -> Result<bool, SpoolFault>
+        ensures row { (slots : ℕ → Slot D) (each : ℕ → List (List ℕ)) (appended : List (List ℕ)) →
+            IsRow D.may_leave self.old slots each appended →
+            OnOk result (IsRow D.may_leave self.new slots
+            (put self.old.last (each self.old.last ++ appended) each) []) }
+        ensures any_moment { (slots : ℕ → Slot D) (each : ℕ → List (List ℕ)) (appended : List (List ℕ)) →
+            IsRow D.may_leave self.old slots each appended →
+            (n : ℕ) → LeavesAt D.moment D.left_since (disk self.old slots n) (disk self.new slots n)
+            (KeepsEither (each n) (put self.old.last (each self.old.last ++ appended) each n)) }
+        ensures err { (slots : ℕ → Slot D) (each : ℕ → List (List ℕ)) (appended : List (List ℕ)) →
+            IsRow D.may_leave self.old slots each appended →
+            OnErr result (IsRow D.may_leave self.new slots each appended ⊎ HasFailed self.new) }
+        ensures waiting { OnOk result (self.new.waiting ≡ self.old.waiting + length self.old.writing.appended) }
+        ensures waiting_err { OnErr result (self.new.waiting ≡ self.old.waiting) }
+        ensures last { self.new.last ≡ self.old.last }
+        ensures used { result ≡ Ok true → self.old.writing.appended ≢ [] }
+    {
+        if self.is_lost {
+            return Err(SpoolFault::Device);
+        }
+        let more = self.writing.unsynced();
+        let Some(waiting) = self.waiting.checked_add(more as u64) else {
+            return Err(SpoolFault::Full);
+        };
+        match self.writing.sync() {
+            Ok(()) => {
+                self.waiting = waiting;
+                Ok(more > 0 && self.writing.size() >= LONG)
+            }
+            Err(fault) => Err(fault),
+        }
+    }
+
+    /// At `Ok` all that was appended is kept, whatever crash comes. Behind a segment of 1 MiB or more the next one is begun.
+    pub fn sync<F: Folder<D>>(&mut self, folder: &mut F) -> Result<(), SpoolFault>
+        ensures known { F.known folder.old → F.known folder.new }
+        ensures ok { F.known folder.old → (kept appended : List (List ℕ)) →
+            Waits D.may_leave self.old (F.files folder.old) kept appended →
+            OnOk result (Waits D.may_leave self.new (F.files folder.new) (kept ++ appended) []) }
+        ensures err { F.known folder.old → (kept appended : List (List ℕ)) →
+            Waits D.may_leave self.old (F.files folder.old) kept appended →
+            OnErr result (Waits D.may_leave self.new (F.files folder.new) kept appended ⊎ HasFailed self.new) }
+
+        // A crash at any moment leaves what was synced, or that with all that was appended.
+        ensures any_moment { F.known folder.old → (kept appended : List (List ℕ)) →
+            Waits D.may_leave self.old (F.files folder.old) kept appended →
+            LeavesFiles D.moment D.left_since D.may_leave (disk self.old (F.files folder.old))
+            (disk self.new (F.files folder.new)) (FilesKeepEither kept (kept ++ appended)) }
+    {
+        match self.sync_last() {
+            Ok(true) => {
+                self.begin_next(folder);
+                Ok(())
+            }
+            Ok(false) => Ok(()),
+            Err(fault) => Err(fault),
+        }
+    }
+
+    // Drops the first record of the last segment, which is the only one that is open.
+    fn acknowledge_last(&mut self) -> Result<(), RowFault>
+        ensures row { (slots : ℕ → Slot D) (each : ℕ → List (List ℕ)) (appended : List (List ℕ)) →
+            IsRow D.may_leave self.old slots each appended → self.old.reading ≡ None →
+            OnOk result (IsRow D.may_leave self.new slots
+            (put self.old.last (drop 1 (each self.old.last)) each) appended) }
+        ensures any_moment { (slots : ℕ → Slot D) (each : ℕ → List (List ℕ)) (appended : List (List ℕ)) →
+            IsRow D.may_leave self.old slots each appended → self.old.reading ≡ None →
+            (n : ℕ) → LeavesAt D.moment D.left_since (disk self.old slots n) (disk self.new slots n)
+            (KeepsEither (each n) (put self.old.last (drop 1 (each self.old.last)) each n)) }
+        ensures err { (slots : ℕ → Slot D) (each : ℕ → List (List ℕ)) (appended : List (List ℕ)) →
+            IsRow D.may_leave self.old slots each appended → self.old.reading ≡ None →
+            OnErr result (IsRow D.may_leave self.new slots each appended ⊎ HasFailed self.new) }
+        ensures waiting { OnOk result (self.new.waiting ≡ self.old.waiting - 1) }
+        ensures waiting_err { OnErr result (self.new.waiting ≡ self.old.waiting) }
+    {
+        match self.writing.acknowledge() {
+            Ok(()) => {
+                self.waiting = self.waiting.saturating_sub(1);
+                Ok(())
+            }
+            Err(fault) => Err(at_segment(self.last, fault)),
+        }
+    }
+
+    // Goes on behind the first segment, which has no record any more.
+    fn advance<F: Folder<D>>(&mut self, folder: &mut F, spool: Spool<D>) -> Result<(), RowFault>
+        requires { self.old.reading ≡ None }
+        ensures known { F.known folder.old → F.known folder.new }
+        ensures row { F.known folder.old → (each : ℕ → List (List ℕ)) (appended : List (List ℕ)) →
+            IsPassing D.may_leave self.old spool (F.files folder.old) each appended →
+            OnOk result (IsRow D.may_leave self.new (F.files folder.new) each appended) }
+        ensures any_moment { F.known folder.old → (each : ℕ → List (List ℕ)) (appended : List (List ℕ)) →
+            IsPassing D.may_leave self.old spool (F.files folder.old) each appended →
+            (n : ℕ) → LeavesAt D.moment D.left_since
+            (disk (with_reading self.old spool) (F.files folder.old) n)
+            (disk self.new (F.files folder.new) n) (Keeps (each n)) }
+        ensures failed { OnErr result (HasFailed self.new) }
+        ensures waiting { self.new.waiting ≡ self.old.waiting }
+    {
+        folder.remove(self.first, spool.into_device());
+        let Some(next) = self.first.checked_add(1) else {
+            self.is_lost = true;
+            return Err(at_segment(self.first, SpoolFault::Full));
+        };
+        match first_with_record(self.alloc, folder, next, self.last) {
+            Ok((first, reading)) => {
+                self.first = first;
+                self.reading = reading;
+                Ok(())
+            }
+            Err(fault) => {
+                self.is_lost = true;
+                Err(fault)
+            }
+        }
+    }
+
+    // Drops the first record of the first segment, which isn't the last.
+    fn acknowledge_first<F: Folder<D>>(
+        &mut self,
+        folder: &mut F,
+        spool: Spool<D>,
+    ) -> Result<(), RowFault>
+        requires { self.old.reading ≡ None }
+        ensures known { F.known folder.old → F.known folder.new }
+        ensures row { F.known folder.old → (each : ℕ → List (List ℕ)) (appended : List (List ℕ)) →
+            IsRow D.may_leave (with_reading self.old spool) (F.files folder.old) each appended →
+            OnOk result (IsRow D.may_leave self.new (F.files folder.new)
+            (put self.old.first (drop 1 (each self.old.first)) each) appended) }
+        ensures any_moment { F.known folder.old → (each : ℕ → List (List ℕ)) (appended : List (List ℕ)) →
+            IsRow D.may_leave (with_reading self.old spool) (F.files folder.old) each appended →
+            (n : ℕ) → LeavesAt D.moment D.left_since
+            (disk (with_reading self.old spool) (F.files folder.old) n)
+            (disk self.new (F.files folder.new) n)
+            (KeepsEither (each n) (put self.old.first (drop 1 (each self.old.first)) each n)) }
+        ensures err { F.known folder.old → (each : ℕ → List (List ℕ)) (appended : List (List ℕ)) →
+            IsRow D.may_leave (with_reading self.old spool) (F.files folder.old) each appended →
+            OnErr result (StillWaits D.may_leave self.new (F.files folder.new) each appended self.old.waiting ⊎ HasFailed self.new) }
+        ensures waiting { OnOk result (self.new.waiting ≡ self.old.waiting - 1) }
+    {
+        let mut spool = spool;
+        match spool.acknowledge() {
+            Ok(()) => {}
+            Err(fault) => {
+                self.reading = Some(spool);
+                return Err(at_segment(self.first, fault));
+            }
+        }
+        self.waiting = self.waiting.saturating_sub(1);
+        if spool.len() > 0 {
+            self.reading = Some(spool);
+            return Ok(());
+        }
+        self.advance(folder, spool)
+    }
+
+    /// At `Ok` the first record is never given again, whatever crash comes. Where none waits, nothing is done.
+    pub fn acknowledge<F: Folder<D>>(&mut self, folder: &mut F) -> Result<(), RowFault>
+        ensures known { F.known folder.old → F.known folder.new }
+        ensures ok { F.known folder.old → (kept appended : List (List ℕ)) →
+            Waits D.may_leave self.old (F.files folder.old) kept appended →
+            OnOk result (Waits D.may_leave self.new (F.files folder.new) (drop 1 kept) appended) }
+        ensures err { F.known folder.old → (kept appended : List (List ℕ)) →
+            Waits D.may_leave self.old (F.files folder.old) kept appended →
+            OnErr result (Waits D.may_leave self.new (F.files folder.new) kept appended ⊎ HasFailed self.new) }
+
+        // A crash at any moment leaves what was synced, with the first record or without.
+        ensures any_moment { F.known folder.old → (kept appended : List (List ℕ)) →
+            Waits D.may_leave self.old (F.files folder.old) kept appended →
+            LeavesFiles D.moment D.left_since D.may_leave (disk self.old (F.files folder.old))
+            (disk self.new (F.files folder.new)) (FilesKeepEither kept (drop 1 kept)) }
+    {
+        if self.is_lost {
+            return Err(RowFault {
+                fault: SpoolFault::Device,
+                number: None,
+            });
+        }
+        match self.reading.take() {
+            Some(spool) => match self.acknowledge_first(folder, spool) {
+                Ok(()) => Ok(()),
+                Err(fault) => Err(fault),
+            },
+            None => match self.acknowledge_last() {
+                Ok(()) => Ok(()),
+                Err(fault) => Err(fault),
+            },
+        }
+    }
+}
+
+#[cfg(test)]
+mod tests {
+    use super::*;
+    use crate::memory::Memory;
+    use std::test::Fail;
+
+    // A folder of one file that is there, and of others that may be made as far as a number.
+    #[derive(Drop)]
+    struct Shelf {
+        alloc: Global,
+        most: u64,
+        opened: u64,
+        removed: u64,
+    }
+
+    impl Folder<Memory> for Shelf {
+        ghost use Rattle.gw_spool.specs.Folder.{Nothing};
+
+        ghost known = { λ _. ⊥ };
+
+        ghost files = { λ _ _. Nothing };
+
+        fn numbers(&mut self) -> Result<(u64, u64), DeviceFault> {
+            Ok((1, 1))
+        }
+
+        fn open(&mut self, number: u64) -> Result<Memory, DeviceFault> {
+            if number > self.most {
+                return Err(DeviceFault::Failed);
+            }
+            self.opened = number;
+            Ok(Memory::new(self.alloc, Vec::new(self.alloc)))
+        }
+
+        fn close(&mut self, _number: u64, _file: Memory) {}
+
+        fn remove(&mut self, number: u64, _file: Memory) {
+            self.removed = number;
+        }
+    }
+
+    fn shelf_up_to(alloc: Global, most: u64) -> Shelf {
+        Shelf {
+            alloc,
+            most,
+            opened: 0,
+            removed: 0,
+        }
+    }
+
+    // A row of a record of 1 MiB and another one behind it.
+    fn filled(alloc: Global, shelf: &mut Shelf) -> Result<Row<Memory>, SpoolFault> {
+        let mut long = Vec::new(alloc);
+        long.resize(LONG, 7)?;
+        let mut row = match Row::open(alloc, shelf) {
+            Ok(row) => row,
+            Err(fault) => return Err(fault.fault),
+        };
+        row.append(&long)?;
+        row.sync(shelf)?;
+        row.append(b"second")?;
+        row.sync(shelf)?;
+        Ok(row)
+    }
+
+    #[test]
+    fn a_long_segment_is_followed_by_the_next(rt: HostRuntime) -> Result<(), Fail> {
+        let alloc = rt.alloc();
+        let mut shelf = shelf_up_to(alloc, 9);
+        let mut row = filled(alloc, &mut shelf)?;
+        assert_eq!(rt; shelf.opened, 2);
+        assert_eq!(rt; row.waiting(), 2);
+        assert!(rt; row.acknowledge(&mut shelf).is_ok());
+        assert_eq!(rt; shelf.removed, 1);
+        assert_eq!(rt; row.first(), Some(b"second".as_slice()));
+        Ok(())
+    }
+
+    #[test]
+    fn the_last_goes_on_where_no_next_can_be_made(rt: HostRuntime) -> Result<(), Fail> {
+        let alloc = rt.alloc();
+        let mut shelf = shelf_up_to(alloc, 1);
+        let mut row = filled(alloc, &mut shelf)?;
+        assert_eq!(rt; row.waiting(), 2);
+        assert!(rt; row.acknowledge(&mut shelf).is_ok());
+        assert_eq!(rt; shelf.removed, 0);
+        assert_eq!(rt; row.first(), Some(b"second".as_slice()));
+        Ok(())
+    }
+}
