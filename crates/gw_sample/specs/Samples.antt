@@ -1,0 +1,23 @@
+-- What a sample is (HL7 v2.5.1 chapter 2, 2.6 "Message construction rules" and 2.12: message profiles).
+use Rattle.std.specs.Prelude.{◌≡◌, List, Option, IfSome}
+use Rattle.gw_er7.specs.Message.{SegmentValue}
+use Rattle.gw_er7.specs.Reading.{Reads}
+use Rattle.gw_er7.specs.Written.{written}
+use Rattle.gw_profile.specs.Shapes.{ProfileValue}
+use Rattle.gw_profile.specs.Seen.{profile_value}
+use Rattle.gw_validate.specs.Conforming.{Conforms}
+use Rattle.gw_validate.specs.Fitting.{TreeValue}
+
+-- what is written for the message reads as it again
+abbrev pub IsReadAgain : List SegmentValue → Type 0
+IsReadAgain m = Reads (written m) m
+
+-- the tree's message conforms to this profile, and what is written for it reads as it again
+pub record Samples (p : ProfileValue) (t : TreeValue) : Type 0 where
+  pub profile : profile_value t.profile ≡ p
+  pub conforms : Conforms p t.message
+  pub again : IsReadAgain t.message
+
+-- one, where there is one
+abbrev pub IsSample : ProfileValue → Option TreeValue → Type 0
+IsSample p found = IfSome found (Samples p)

@@ -1,0 +1,51 @@
+//! How much of a profile a sample shows.
+
+use gw_profile::{Card, Usage};
+
+/// How much of a profile a sample shows.
+#[derive(Clone, Copy, PartialEq, Eq, Debug, Drop)]
+pub enum Extent {
+    /// What has to be there, as often as it has to.
+    Least,
+    /// Each element that may be there, and twice what may come twice.
+    Most,
+    /// The least, and in each field the components up to the ninth that the profile doesn't list.
+    LeastBeyond,
+    /// The most, and those components.
+    MostBeyond,
+}
+
+/// Whether only what has to be there is asked for, of what the profile lists.
+fn is_least(extent: Extent) -> bool {
+    match extent {
+        Extent::Least | Extent::LeastBeyond => true,
+        Extent::Most | Extent::MostBeyond => false,
+    }
+}
+
+/// Whether components are asked for that the profile doesn't list.
+pub(crate) fn is_beyond(extent: Extent) -> bool {
+    match extent {
+        Extent::LeastBeyond | Extent::MostBeyond => true,
+        Extent::Least | Extent::Most => false,
+    }
+}
+
+/// How often a sample has an element of this cardinality.
+pub(crate) fn count(extent: Extent, card: Card) -> u32 {
+    let Card { min, max } = card;
+    match max {
+        _ if is_least(extent) || min > 1 => min,
+        Some(max) if max < 2 => max,
+        _ => 2,
+    }
+}
+
+/// Whether a sample has a component or subcomponent of this usage in what is present around it.
+pub(crate) fn is_shown(extent: Extent, usage: Usage) -> bool {
+    match usage {
+        Usage::R => true,
+        Usage::X => false,
+        _ => !is_least(extent),
+    }
+}
