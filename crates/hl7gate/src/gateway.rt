@@ -23,7 +23,6 @@ mod resend;
 mod rounds;
 mod row;
 mod safety;
-mod segments;
 mod senders;
 mod status;
 mod tally;
@@ -32,4 +31,4 @@ mod watch;
 mod whole;
 
 pub(crate) use command::gateway;
-pub(crate) use tell::tell;
+pub(crate) use tell::send;

@@ -118,6 +118,31 @@ fn swap_lines<L: Ledger, R: Wait + Files + Print + Eprint + AllocGlobal, I: Read
     read
 }
 
+/// What comes next on standard input.
+#[derive(Clone, Copy)]
+enum Next {
+    Line,
+    NoText,
+    End,
+}
+
+/// Reads the next line into `line`, which is empty.
+fn read_next<I: Read + Drop>(
+    lines: &mut BufReader<I>,
+    line: &mut String,
+) -> Result<Next, RunFault> {
+    let error = match lines.read_line(line) {
+        Ok(0) => return Ok(Next::End),
+        Ok(_) => return Ok(Next::Line),
+        Err(error) => error.kind(),
+    };
+    match error {
+        ErrorKind::InvalidData => Ok(Next::NoText),
+        ErrorKind::OutOfMemory => Err(RunFault::Memory),
+        _ => Err(RunFault::Read),
+    }
+}
+
 fn swap_with<L: Ledger, R: Wait + Files + Print + Eprint + AllocGlobal, I: Read + Drop>(
     service: &Service<'_, L, R>,
     door: &mut Reporter<'_, '_, L, R>,
@@ -127,19 +152,18 @@ fn swap_with<L: Ledger, R: Wait + Files + Print + Eprint + AllocGlobal, I: Read 
     let Ok(mut lines) = BufReader::new(rt.alloc(), paths) else {
         return Err(RunFault::Memory);
     };
+    let mut line = String::new(rt.alloc());
     for _ in rt.forever() {
-        let mut line = String::new(rt.alloc());
-        match lines.read_line(&mut line) {
-            Ok(0) => return Ok(()),
-            Ok(_) => match path_of(&line) {
+        line.clear();
+        match read_next(&mut lines, &mut line)? {
+            Next::End => return Ok(()),
+            Next::NoText => {
+                let _ = eprintln!(rt; "plan unread\na line of standard input isn't text");
+            }
+            Next::Line => match path_of(&line) {
                 "cut" => cut_one(service, door),
                 path => swap_one(door, rt, path),
             },
-            Err(error) if error.kind() == ErrorKind::InvalidData => {
-                let _ = eprintln!(rt; "plan unread\na line of standard input isn't text");
-            }
-            Err(error) if error.kind() == ErrorKind::OutOfMemory => return Err(RunFault::Memory),
-            Err(_) => return Err(RunFault::Read),
         }
     }
     unreachable!()

@@ -1,7 +1,6 @@
 //! The command `gateway`: its words, its folder, its threads.
 ghost use Rattle.std.specs.Thread.{IsSend, IsSync};
 
-use crate::arguments::parse;
 use crate::ended::Ended;
 use crate::gateway::control;
 use crate::gateway::control::{attend_all, control_path};
@@ -17,15 +16,16 @@ use crate::gateway::receivers::Receivers;
 use crate::gateway::rounds::rounds;
 use crate::gateway::senders::accept_all;
 use crate::plans::read_plan;
-use crate::report::{DONE, USAGE, print_words, tell};
+use crate::report::DONE;
 use crate::serve::{count_or, listen};
 use crate::stamps::stamp_of;
 use clap::ArgMatches;
 use gw_ack::Stamp;
 use gw_gate::Gate;
+use gw_plan::Plan;
 use gw_stream::RunFault;
 use std::fs::File;
-use std::io::{Eprint, Read, Write};
+use std::io::{Eprint, Read};
 use std::net::{Net, SocketAddr, TcpListener, TcpStream};
 use std::os::unix::net::{UnixListener, UnixStream};
 use std::random::RandomSource;
@@ -48,6 +48,46 @@ const LOOK: u64 = 25;
 struct Sizes {
     workers: u64,
     connections: u64,
+}
+
+/// The sizes that the words ask for.
+fn sizes_of<'a>(words: &ArgMatches<'a>) -> Result<Sizes, Ended<'a>> {
+    Ok(Sizes {
+        workers: count_or(words, "workers", WORKERS)?,
+        connections: count_or(words, "connections", CONNECTIONS)?,
+    })
+}
+
+/// Where senders, words and readers of the page come in.
+#[derive(Drop)]
+struct Ports {
+    senders: TcpListener,
+    control: UnixListener,
+    pages: Option<Pages>,
+}
+
+impl Ports {
+    /// Listens at the folder's socket and at the addresses of the words.
+    fn open<
+        'a,
+        R: Net<Stream = TcpStream, Listener = TcpListener>
+            + Files<File = File>
+            + Eprint
+            + RandomSource
+            + AllocGlobal,
+    >(rt: &R, words: &ArgMatches<'a>, folder: &Folder) -> Result<Self, Ended<'a>> {
+        let path = control_path(rt.alloc(), &folder.path)?;
+        let Ok(control) = control::listen(rt, &path) else {
+            return Err(Ended::Unwritten { file: path });
+        };
+        let senders = listen(rt, words)?;
+        let pages = Pages::listen(rt, words)?;
+        Ok(Ports {
+            senders,
+            control,
+            pages,
+        })
+    }
 }
 
 /// Looks whether the disk has room.
@@ -225,16 +265,14 @@ fn take_in<
         + Clone
         + Drop,
     D: Read + Drop + Send + Sync,
->(
-    hub: Hub<'_, R>,
-    begun: (Numbers, Gate),
-    listener: TcpListener,
-    control: &UnixListener,
-    pages: Option<&Pages>,
-    sizes: Sizes,
-) -> Option<RunFault> {
+>(hub: Hub<'_, R>, begun: (Numbers, Gate), ports: Ports, sizes: Sizes) -> Option<RunFault> {
     let (rt, lobby) = (hub.rt, hub.lobby);
-    let at = listener.local_addr().ok();
+    let Ports {
+        senders,
+        control,
+        pages,
+    } = ports;
+    let at = senders.local_addr().ok();
     let mut end = None;
     thread::scope(
         thread::scope_env(),
@@ -244,11 +282,11 @@ fn take_in<
         {
             let accept = move ||
                 requires { IsSync R.row }
-            { accept_all(rt, lobby, listener, sizes.connections) };
+            { accept_all(rt, lobby, senders, sizes.connections) };
             if scope.spawn(accept).is_err() {
                 hub.fail(RunFault::Memory);
             }
-            end = go_on_for_ever(hub, begun, control, pages, sizes.workers);
+            end = go_on_for_ever(hub, begun, &control, pages.as_ref(), sizes.workers);
             lobby.close();
             wake(rt, at);
         },
@@ -256,8 +294,8 @@ fn take_in<
     end
 }
 
-/// Keeps what it accepts in FOLDER, under the plan of the file PLAN, at ADDRESS.
-fn keep<
+/// Keeps what it accepts in this folder, under a plan, at ADDRESS.
+fn keep_in<
     'a,
     R: Net<Stream = TcpStream, Listener = TcpListener>
         + Threads
@@ -271,32 +309,25 @@ fn keep<
         + Clone
         + Drop,
     D: Read + Drop + Send + Sync,
->(rt: &R, words: &ArgMatches<'a>) -> Result<Option<RunFault>, Ended<'a>> {
-    let alloc = rt.alloc();
-    let sizes = Sizes {
-        workers: count_or(words, "workers", WORKERS)?,
-        connections: count_or(words, "connections", CONNECTIONS)?,
-    };
-    let Some(start) = stamp_of(rt, None) else {
-        return Err(Ended::Stamp);
-    };
-    let plan = Arc::new(alloc, read_plan(rt, words)?)?;
-    let folder = Folder::open(rt, words.get_str("FOLDER").unwrap_or(""))?;
-    let receivers = Receivers::open(rt, &folder, &plan)?;
-    let path = control_path(alloc, &folder.path)?;
-    let Ok(control) = control::listen(rt, &path) else {
-        return Err(Ended::Unwritten { file: path });
-    };
-    let listener = listen(rt, words)?;
-    let pages = Pages::listen(rt, words)?;
-    let lobby = Lobby::new(alloc);
-    let hub = Hub::new(rt, alloc, start, &folder, &lobby, receivers)?;
-    let begun = Numbers::open(rt, &folder, plan)?;
-    Ok(take_in(hub, begun, listener, &control, pages.as_ref(), sizes))
+>(
+    rt: &R,
+    words: &ArgMatches<'a>,
+    folder: &Folder,
+    plan: Arc<Plan>,
+    start: Stamp,
+    sizes: Sizes,
+) -> Result<Option<RunFault>, Ended<'a>> {
+    let receivers = Receivers::open(rt, folder, &plan)?;
+    let ports = Ports::open(rt, words, folder)?;
+    let lobby = Lobby::new(rt.alloc());
+    let hub = Hub::new(rt, rt.alloc(), start, folder, &lobby, receivers)?;
+    let begun = Numbers::open(rt, folder, plan)?;
+    Ok(take_in(hub, begun, ports, sizes))
 }
 
-/// Does what the words say, and answers the status.
+/// Keeps what it accepts in FOLDER, under the plan of the file PLAN, at ADDRESS, and answers the status.
 pub(crate) fn gateway<
+    'a,
     R: Net<Stream = TcpStream, Listener = TcpListener>
         + Threads
         + Wait
@@ -309,19 +340,15 @@ pub(crate) fn gateway<
         + Clone
         + Drop,
     D: Read + Drop + Send + Sync,
-    O: Write,
-    E: Write,
->(rt: &R, words: &[String], output: &mut O, errors: &mut E) -> u8 {
-    let matches = match parse(rt.alloc(), words) {
-        Ok(matches) => matches,
-        Err(error) => return print_words(output, errors, &error),
+>(rt: &R, words: &ArgMatches<'a>) -> Result<u8, Ended<'a>> {
+    let sizes = sizes_of(words)?;
+    let Some(start) = stamp_of(rt, None) else {
+        return Err(Ended::Stamp);
     };
-    let Some(("gateway", words)) = matches.subcommand() else {
-        return USAGE;
-    };
-    match keep(rt, words) {
-        Ok(None) => DONE,
-        Ok(Some(fault)) => tell(errors, &Ended::Run(fault)),
-        Err(ended) => tell(errors, &ended),
+    let plan = Arc::new(rt.alloc(), read_plan(rt, words)?)?;
+    let folder = Folder::open(rt, words.get_str("FOLDER").unwrap_or(""))?;
+    match keep_in(rt, words, &folder, plan, start, sizes)? {
+        None => Ok(DONE),
+        Some(fault) => Err(Ended::Run(fault)),
     }
 }

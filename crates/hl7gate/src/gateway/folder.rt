@@ -82,12 +82,21 @@ pub(crate) fn write_file<R: Files<File = File> + AllocGlobal>(
 ) -> io::Result<()> {
     let path = format!(in rt.alloc(); "{folder}/{name}")?;
     let next = format!(in rt.alloc(); "{folder}/{name}.new")?;
-    let file = open_private(rt, &next)?;
-    file.set_len(0)?;
-    file.write_all_at(bytes, 0)?;
-    file.sync_all()?;
+    write_whole(rt, &next, bytes)?;
     fs::rename(rt, next.as_str(), path.as_str())?;
     sync_folder(rt, folder)
+}
+
+/// Has the file of this path hold these bytes alone, on the disk.
+fn write_whole<R: Files<File = File> + AllocGlobal>(
+    rt: &R,
+    path: &str,
+    bytes: &[u8],
+) -> io::Result<()> {
+    let file = open_private(rt, path)?;
+    file.set_len(0)?;
+    file.write_all_at(bytes, 0)?;
+    file.sync_all()
 }
 
 /// Brings to the disk which files a folder has.

@@ -99,7 +99,6 @@ impl<
     // Connects, sends, and connects anew, until nothing more is sent.
     fn run<O: Outbox>(&mut self, outbox: &mut O) {
         let rt = self.hub.rt;
-        let name = self.to.name.as_slice();
         let address = self.to.address.as_slice();
         let mut is_down = false;
         self.outgoing.set_connected(rt, false);
@@ -115,17 +114,21 @@ impl<
                 }
             } else if !is_down {
                 is_down = true;
-                let _ = eprintln!(rt;
-                    "receiver {} can't be connected; it is tried until it is\n{}: can't be connected",
-                    name.escape_ascii(),
-                    address.escape_ascii()
-                );
+                self.print_down();
             }
             self.wait();
             if self.outgoing.has_ended(rt) {
                 return;
             }
         }
+    }
+
+    fn print_down(&self) {
+        let name = self.to.name.escape_ascii();
+        let address = self.to.address.escape_ascii();
+        let _ = eprintln!(self.hub.rt;
+            "receiver {name} can't be connected; it is tried until it is\n{address}: can't be connected"
+        );
     }
 
     fn print_connected(&self) {

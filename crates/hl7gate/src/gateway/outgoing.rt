@@ -3,7 +3,7 @@ ghost use Rattle.std.specs.Prelude.{None};
 
 use crate::gateway::ages::Ages;
 use crate::gateway::refused::Refused;
-use crate::gateway::row::{Row, RowFault};
+use crate::gateway::row::{Place, RowFault, Waiting};
 use crate::gateway::safety::Safe;
 use crate::gateway::tally::Tally;
 use gw_ack::Ack;
@@ -32,7 +32,8 @@ pub(crate) struct Outgoing<'f> {
 
 #[derive(Drop)]
 struct Queue<'f> {
-    row: Row<'f>,
+    place: Place<'f>,
+    row: Waiting<'f>,
     has_ended: bool,
     // whether its receiver is gone from the plan: it is sent what waits, and no more
     is_leaving: bool,
@@ -76,21 +77,27 @@ impl Queue<'_> {
         rt: &R,
     ) -> Result<(), RowFault> {
         let before = self.row.waiting();
-        self.row.sync(rt)?;
+        self.place.sync(rt, &mut self.row)?;
         let more = self.row.waiting().saturating_sub(before);
         self.ages.spool(rt, more);
         Ok(())
     }
+
+    // Drops the first record, for good.
+    fn acknowledge<R: Files<File = File> + AllocGlobal>(&mut self, rt: &R) -> Result<(), RowFault> {
+        self.place.acknowledge(rt, &mut self.row)
+    }
 }
 
 impl<'f> Outgoing<'f> {
-    /// The spool over this row. What waits already counts from now on.
-    pub(crate) fn new<R: Clock + AllocGlobal>(rt: &R, row: Row<'f>) -> Self {
+    /// The spool over this row, whose segments lie in this place. What waits already counts from now on.
+    pub(crate) fn new<R: Clock + AllocGlobal>(rt: &R, place: Place<'f>, row: Waiting<'f>) -> Self {
         let waiting = row.waiting();
         let mut ages = Ages::new(rt.alloc());
         ages.spool(rt, waiting);
         Outgoing {
             queue: Mutex::new(Queue {
+                place,
                 row,
                 has_ended: false,
                 is_leaving: false,
@@ -355,7 +362,7 @@ impl<R: Wait + Clock + Files<File = File> + Eprint + AllocGlobal> Emptying<'_, '
 
     fn acknowledge(&self, is_taken: bool) -> Result<(), RowFault> {
         let mut queue = self.outgoing.queue.lock(self.rt);
-        queue.row.acknowledge(self.rt)?;
+        queue.acknowledge(self.rt)?;
         queue.ages.drop_first();
         if is_taken {
             queue.taken = queue.taken.saturating_add(1);

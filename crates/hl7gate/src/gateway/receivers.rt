@@ -4,7 +4,7 @@ use crate::files::read_all;
 use crate::gateway::folder::{Folder, unwritten, write_file};
 use crate::gateway::hub::{Destination, Hub, number_in};
 use crate::gateway::outgoing::Outgoing;
-use crate::gateway::row::{Row, RowFault};
+use crate::gateway::row::{Place, RowFault};
 use gw_plan::Plan;
 use gw_spool::SpoolFault;
 use gw_stream::RunFault;
@@ -57,7 +57,11 @@ fn open_spool<'f, 'a, R: Files<File = File> + Clock + Eprint + AllocGlobal + Clo
 ) -> Result<Outgoing<'f>, Ended<'a>> {
     let alloc = rt.alloc();
     let path = format!(in alloc; "{}/spool/{}", folder.path, name.escape_ascii())?;
-    let row = match Row::open(rt, path, &folder.reserve) {
+    let place = Place {
+        path,
+        reserve: &folder.reserve,
+    };
+    let row = match place.open(rt) {
         Ok(row) => row,
         Err(fault) => return Err(unopened(alloc, fault, &folder.path)),
     };
@@ -69,7 +73,7 @@ fn open_spool<'f, 'a, R: Files<File = File> + Clock + Eprint + AllocGlobal + Clo
             folder.path
         );
     }
-    Ok(Outgoing::new(rt, row))
+    Ok(Outgoing::new(rt, place, row))
 }
 
 /// The address that was kept for a receiver, if one was.
@@ -223,19 +227,29 @@ pub(crate) fn prepare<
     };
     for receiver in plan.receivers() {
         let to = destination_of(alloc, &folder.path, &receiver.name, &receiver.address)?;
-        let spool = if hub.has_receiver(&to.name) {
-            None
-        } else {
-            Some(open_spool(hub.rt, folder, &to.name)?)
-        };
+        prepared.open(hub, &to.name)?;
         keep_address(hub.rt, folder, &to)?;
-        prepared.opened.push(spool)?;
         prepared.destinations.push(to)?;
     }
     Ok(prepared)
 }
 
 impl<'f> Prepared<'f> {
+    // Opens the spool of a receiver, where the gateway hasn't.
+    fn open<'a, R: Wait + Clock + Files<File = File> + Eprint + AllocGlobal + Clone + Drop>(
+        &mut self,
+        hub: &Hub<'f, R>,
+        name: &[u8],
+    ) -> Result<(), Ended<'a>> {
+        let spool = if hub.has_receiver(name) {
+            None
+        } else {
+            Some(open_spool(hub.rt, hub.folder, name)?)
+        };
+        self.opened.push(spool)?;
+        Ok(())
+    }
+
     /// These receivers in place of the old ones. Behind them are the old ones that are gone, where something waits for them.
     pub(crate) fn over<R: Wait + AllocGlobal>(
         self,

@@ -1,8 +1,7 @@
 //! The command `tell`: a line for a running gateway, and its answer.
-use crate::arguments::parse;
 use crate::ended::Ended;
 use crate::gateway::control::control_path;
-use crate::report::{DONE, REFUSED, USAGE, print_words, tell as print_ended, write_all};
+use crate::report::{DONE, REFUSED, write_all};
 use clap::ArgMatches;
 use gw_stream::RunFault;
 use std::alloc::{AllocError, Global};
@@ -34,7 +33,7 @@ fn asked<R: Net + AllocGlobal>(rt: &R, path: &str, line: &str) -> io::Result<Vec
 }
 
 /// Sends the words to the gateway of FOLDER, prints what it answers, and gives the status.
-fn send<'a, R: Net + AllocGlobal, O: Write>(
+pub(crate) fn send<'a, R: Net + AllocGlobal, O: Write>(
     rt: &R,
     words: &ArgMatches<'a>,
     output: &mut O,
@@ -59,24 +58,4 @@ fn send<'a, R: Net + AllocGlobal, O: Write>(
     } else {
         DONE
     })
-}
-
-/// Does what the words say, and answers the status.
-pub(crate) fn tell<R: Net + AllocGlobal, O: Write, E: Write>(
-    rt: &R,
-    words: &[String],
-    output: &mut O,
-    errors: &mut E,
-) -> u8 {
-    let matches = match parse(rt.alloc(), words) {
-        Ok(matches) => matches,
-        Err(error) => return print_words(output, errors, &error),
-    };
-    let Some(("tell", words)) = matches.subcommand() else {
-        return USAGE;
-    };
-    match send(rt, words, output) {
-        Ok(status) => status,
-        Err(ended) => print_ended(errors, &ended),
-    }
 }
