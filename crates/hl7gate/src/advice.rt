@@ -14,11 +14,12 @@ use std::io::Write;
 /// The rules up to this one are on labels: of them the line itself says what they speak of.
 const LAST_OF_LABELS: u8 = 3;
 
-/// The file of a map, and its text.
+/// The file of a map, its text, and how many lines of the file come before it.
 #[derive(Drop)]
 pub(crate) struct Written<'a> {
     pub(crate) path: &'a str,
     pub(crate) text: Vec<u8>,
+    pub(crate) above: u32,
 }
 
 /// A map that a rule refuses: the least failure, all of them, the fields that the map passes over, and its items without labels.
@@ -195,15 +196,13 @@ impl Refusal<'_> {
         Ok(Found { sites, alike })
     }
 
-    /// Reports the fields that are passed over.
+    /// Reports the fields that are passed over, each as the line that drops it.
     fn print_unread<E: Write>(&self, errors: &mut E) {
-        for (i, field) in self.refused.unread.iter().enumerate() {
-            if i > 0 {
-                say(errors, b", ");
-            }
+        say(errors, b"neither read nor dropped:");
+        for field in self.refused.unread.as_slice() {
+            say(errors, b"\ndrop ");
             print_name(errors, &self.sides.source, whole(&field.at, field.field));
         }
-        say(errors, b": neither read nor dropped");
     }
 
     /// Reports what nothing gives, of the failures of a rule at a line. False where something gives it all.
@@ -290,7 +289,7 @@ impl Refusal<'_> {
         };
         let path = self.written.path;
         let rule = first.rule;
-        let line = first.mark.line;
+        let line = self.written.above.saturating_add(first.mark.line);
         let _ = write!(errors, "{path}:{line}: K{rule}: ");
         if rule <= LAST_OF_LABELS {
             say(errors, first_line(text));
@@ -335,10 +334,11 @@ impl Refusal<'_> {
         errors: &mut E,
         found: &Found,
     ) -> Result<(), AllocError> {
-        let Written { path, text } = self.written;
+        let Written { path, text, above } = self.written;
         let rule = self.refused.least.rule;
         let line = self.refused.least.mark.line;
-        let _ = write!(errors, "{path}:{line}: ");
+        let number = above.saturating_add(line);
+        let _ = write!(errors, "{path}:{number}: ");
         say(errors, line_at(text, line));
         say(errors, b"\n");
         if rule > LAST_OF_LABELS

@@ -56,10 +56,10 @@ const ON_MAP: &[(&str, &str)] = &[
 
 /// What `serve` does.
 const ON_SERVE: &str =
-    "Answers the messages of so many connections (MLLP) by a plan, and sends each receiver of the plan what it is due; each line on standard input is the file of a plan that takes its place";
+    "Answers the messages of a number of connections (MLLP) by a plan, and sends each receiver the translations that its routes name; each line on standard input is the path of a plan to swap in";
 
 /// All commands, in the order in which the help lists them.
-const FORMS: [Form; 9] = [
+const FORMS: &[Form] = &[
     Form {
         name: "validate",
         about: "Answers each message of a stream on standard input (MLLP) by a profile",
@@ -89,8 +89,37 @@ const FORMS: [Form; 9] = [
         options: &[],
     },
     Form {
+        name: "sample",
+        about: "Prints a message that conforms to a profile, made up from the profile alone, without a frame",
+        words: &[("PROFILE", "The file of the message profile")],
+        optional: &[],
+        options: &[
+            (
+                "least",
+                "",
+                "Has what has to be there alone; this is so where neither is given",
+            ),
+            (
+                "most",
+                "",
+                "Has each element that may be there, and twice what may come twice",
+            ),
+        ],
+    },
+    Form {
         name: "check",
-        about: "Tells whether the rules allow a map: whether each message that conforms to SOURCE has a translation that conforms to TARGET",
+        about: "Says whether the rules allow a map: whether each message that conforms to SOURCE has a translation that conforms to TARGET",
+        words: ON_MAP,
+        optional: &[],
+        options: &[(
+            "hints",
+            "",
+            "Prints of an allowed map too what may not be meant: a drop of what is read, a source without MSH-18",
+        )],
+    },
+    Form {
+        name: "explain",
+        about: "Does as check, and prints made-up messages that show why a map is refused, or what an accepted map leaves out",
         words: ON_MAP,
         optional: &[],
         options: &[],
@@ -99,6 +128,27 @@ const FORMS: [Form; 9] = [
         name: "translate",
         about: "Translates the message on standard input, which has no frame, by a map that the rules allow",
         words: ON_MAP,
+        optional: &[],
+        options: &[],
+    },
+    Form {
+        name: "profile",
+        about: "Prints what a profile has, or why it is refused",
+        words: &[("FILE", "The file of the message profile")],
+        optional: &[],
+        options: &[],
+    },
+    Form {
+        name: "map",
+        about: "Prints what a map has, or why its text is refused; the rules of the checker are for check",
+        words: &[("FILE", "The file of the map")],
+        optional: &[],
+        options: &[],
+    },
+    Form {
+        name: "plan",
+        about: "Prints what a plan has, or what is wrong with it: of a refused map all that check prints",
+        words: &[("PLAN", "The file of the plan")],
         optional: &[],
         options: &[],
     },
@@ -135,7 +185,7 @@ const FORMS: [Form; 9] = [
     },
     Form {
         name: "gateway",
-        about: "Answers the messages of senders (MLLP) by a plan without end, keeps what it accepts in a folder, and sends it to the receivers of the plan",
+        about: "Answers messages (MLLP) by a plan until it is stopped, keeps what it accepts in a folder, and sends it to the receivers of the plan",
         words: &[
             ("PLAN", "The file of the plan"),
             (
@@ -161,14 +211,6 @@ const FORMS: [Form; 9] = [
         options: &[("json", "", "Prints the status as JSON")],
     },
 ];
-
-/// Whether the words ask for this command.
-pub(crate) fn is_command(words: &[String], name: &str) -> bool {
-    match words.get(1) {
-        Some(word) => word.as_str() == name,
-        None => false,
-    }
-}
 
 /// A word that a command needs, or may have.
 fn word<'a>(alloc: Global, name: &'a str, help: &'a str, is_needed: bool) -> Arg<'a> {
@@ -218,7 +260,7 @@ fn program<'a>(alloc: Global) -> Result<Command<'a>, AllocError> {
 /// The program with all its commands.
 fn grammar<'a>(alloc: Global) -> Result<Command<'a>, AllocError> {
     let mut program = program(alloc)?;
-    for form in &FORMS {
+    for form in FORMS {
         program = program.subcommand(command(alloc, form)?)?;
     }
     Ok(program)

@@ -1,6 +1,8 @@
 //! The command `report`: every breach of each message of a stream.
 use crate::ended::Ended;
-use crate::maps::read_profile;
+use crate::files::read_text;
+use crate::maps::parse_profile;
+use crate::places::PlaceLines;
 use crate::refusals::{letters, write_place};
 use crate::report::{DONE, REFUSED, print_if_none, write_all};
 use clap::ArgMatches;
@@ -20,7 +22,7 @@ use std::sync::Arc;
 const PIECE: usize = 65_536;
 
 /// Where messages break a profile: the condition code, the letters of the segment's name, the field, the component, the subcomponent.
-type Spot = [usize; 7];
+pub(crate) type Spot = [usize; 7];
 
 /// What was reported so far.
 #[derive(Drop)]
@@ -31,6 +33,13 @@ struct Tally {
     spots: BTreeMap<Spot, u64>,
 }
 
+/// A profile, and the lines of its text.
+#[derive(Drop)]
+struct Spelled {
+    profile: Arc<Profile>,
+    lines: PlaceLines,
+}
+
 /// What a line shows.
 #[derive(Clone, Copy)]
 struct Form {
@@ -39,7 +48,7 @@ struct Form {
 }
 
 /// What a kind of breach is, in words.
-fn words_of(kind: Kind) -> &'static str {
+pub(crate) fn words_of(kind: Kind) -> &'static str {
     match kind {
         Kind::OutOfOrder => "no segment of this name may stand here",
         Kind::MissingSegment => "the message ends where this segment has to come",
@@ -71,7 +80,7 @@ fn text_of<'a>(message: &'a Message, number: usize, breach: Breach) -> Option<&'
 }
 
 /// The letters of a segment name, as numbers.
-fn spot_of(breach: Breach) -> Spot {
+pub(crate) fn spot_of(breach: Breach) -> Spot {
     let [first, second, third] = breach.segment;
     [
         usize::from(breach.code()),
@@ -84,44 +93,60 @@ fn spot_of(breach: Breach) -> Spot {
     ]
 }
 
-/// A line for a breach.
-fn write_line(
+/// A breach as JSON, with the line of the profile and the value where they are said.
+fn write_json(
     out: &mut Vec<u8>,
-    form: Form,
     arrival: u64,
     breach: Breach,
+    line: Option<u32>,
     text: Option<&[u8]>,
 ) -> io::Result<()> {
     let code = breach.code();
     let words = words_of(breach.kind);
-    if form.is_json {
-        let (first, second, third) = letters(breach.segment);
-        let Breach {
-            sequence,
-            field,
-            rep,
-            comp,
-            sub,
-            ..
-        } = breach;
-        write!(
-            out,
-            "{{\"message\":{arrival},\"code\":{code},\"segment\":\"{first}{second}{third}\",\"sequence\":{sequence},"
-        )?;
-        write!(
-            out,
-            "\"field\":{field},\"repetition\":{rep},\"component\":{comp},\"subcomponent\":{sub},\"rule\":\"{words}\""
-        )?;
-        if let Some(text) = text {
-            write!(out, ",\"value\":\"")?;
-            write_text(out, text)?;
-            write!(out, "\"")?;
-        }
-        return writeln!(out, "}}");
+    let (first, second, third) = letters(breach.segment);
+    let Breach {
+        sequence,
+        field,
+        rep,
+        comp,
+        sub,
+        ..
+    } = breach;
+    write!(
+        out,
+        "{{\"message\":{arrival},\"code\":{code},\"segment\":\"{first}{second}{third}\",\"sequence\":{sequence},"
+    )?;
+    write!(
+        out,
+        "\"field\":{field},\"repetition\":{rep},\"component\":{comp},\"subcomponent\":{sub},\"rule\":\"{words}\""
+    )?;
+    if let Some(line) = line {
+        write!(out, ",\"line\":{line}")?;
     }
+    if let Some(text) = text {
+        write!(out, ",\"value\":\"")?;
+        write_text(out, text)?;
+        write!(out, "\"")?;
+    }
+    writeln!(out, "}}")
+}
+
+/// A breach in words, likewise.
+fn write_words(
+    out: &mut Vec<u8>,
+    arrival: u64,
+    breach: Breach,
+    line: Option<u32>,
+    text: Option<&[u8]>,
+) -> io::Result<()> {
+    let code = breach.code();
+    let words = words_of(breach.kind);
     write!(out, "message {arrival}: {code} ")?;
     write_place(out, breach)?;
     write!(out, ": {words}")?;
+    if let Some(line) = line {
+        write!(out, " (profile line {line})")?;
+    }
     if let Some(text) = text {
         write!(out, ": ")?;
         write_text(out, text)?;
@@ -167,12 +192,12 @@ impl Tally {
     fn add_message(
         &mut self,
         alloc: Global,
-        profile: &Profile,
+        spelled: &Spelled,
         message: &Message,
         form: Form,
         out: &mut Vec<u8>,
     ) -> Result<(), RunFault> {
-        let found = breaches(alloc, profile, message)?;
+        let found = breaches(alloc, &spelled.profile, message)?;
         if found.is_empty() {
             self.conforming = self.conforming.saturating_add(1);
         }
@@ -183,7 +208,13 @@ impl Tally {
             } else {
                 None
             };
-            if write_line(out, form, self.messages, breach, text).is_err() {
+            let line = spelled.lines.line_of(breach);
+            let written = if form.is_json {
+                write_json(out, self.messages, breach, line, text)
+            } else {
+                write_words(out, self.messages, breach, line, text)
+            };
+            if written.is_err() {
                 return Err(RunFault::Memory);
             }
             self.count(breach)?;
@@ -195,14 +226,14 @@ impl Tally {
     fn add(
         &mut self,
         alloc: Global,
-        profile: &Profile,
+        spelled: &Spelled,
         content: Vec<u8>,
         form: Form,
         out: &mut Vec<u8>,
     ) -> Result<(), RunFault> {
         self.messages = self.messages.saturating_add(1);
         match read_block(content) {
-            Ok(message) => self.add_message(alloc, profile, &message, form, out),
+            Ok(message) => self.add_message(alloc, spelled, &message, form, out),
             Err((ReadFault::Memory, _)) => Err(RunFault::Memory),
             Err((fault, _)) => match write_unread(out, form, self.messages, fault) {
                 Ok(()) => Ok(()),
@@ -215,7 +246,7 @@ impl Tally {
     fn add_all(
         &mut self,
         alloc: Global,
-        profile: &Profile,
+        spelled: &Spelled,
         decoder: &mut Decoder,
         form: Form,
         out: &mut Vec<u8>,
@@ -225,7 +256,7 @@ impl Tally {
             let Some(content) = decoder.next_block() else {
                 return Ok(());
             };
-            self.add(alloc, profile, content, form, out)?;
+            self.add(alloc, spelled, content, form, out)?;
         }
         Ok(())
     }
@@ -338,7 +369,7 @@ fn frame_fault(fault: FrameFault) -> RunFault {
 /// Reports all messages of a stream.
 fn report_all<I: Read, O: Write>(
     alloc: Global,
-    profile: &Profile,
+    spelled: &Spelled,
     form: Form,
     tally: &mut Tally,
     input: &mut I,
@@ -351,7 +382,7 @@ fn report_all<I: Read, O: Write>(
         let at_end = piece.is_empty();
         let fed = decoder.feed(piece);
         let mut out = Vec::new(alloc);
-        tally.add_all(alloc, profile, &mut decoder, form, &mut out)?;
+        tally.add_all(alloc, spelled, &mut decoder, form, &mut out)?;
         write_all(output, &out)?;
         if let Err(fault) = fed {
             return Err(frame_fault(fault));
@@ -366,6 +397,18 @@ fn report_all<I: Read, O: Write>(
     Err(RunFault::Turns)
 }
 
+/// The profile of the file PROFILE, and the lines of its text.
+fn read_spelled<'a, R: Files + AllocGlobal>(
+    rt: &R,
+    words: &ArgMatches<'a>,
+) -> Result<Spelled, Ended<'a>> {
+    let path = words.get_str("PROFILE").unwrap_or("");
+    let text = read_text(rt, path)?;
+    let profile = parse_profile(rt.alloc(), path, &text)?;
+    let lines = PlaceLines::of(rt.alloc(), &text)?;
+    Ok(Spelled { profile, lines })
+}
+
 /// Reports every breach of each message of a stream by a profile, and returns the status: done where each message conforms.
 pub(crate) fn report<'a, R: Files + AllocGlobal, I: Read, O: Write, E: Write>(
     rt: &R,
@@ -375,13 +418,13 @@ pub(crate) fn report<'a, R: Files + AllocGlobal, I: Read, O: Write, E: Write>(
     errors: &mut E,
 ) -> Result<u8, Ended<'a>> {
     let alloc = rt.alloc();
-    let profile: Arc<Profile> = read_profile(rt, words, "PROFILE")?;
+    let spelled = read_spelled(rt, words)?;
     let form = Form {
         is_json: words.get_flag("json"),
         has_values: words.get_flag("values"),
     };
     let mut tally = Tally::new(alloc);
-    let reported = report_all(alloc, &profile, form, &mut tally, input, output);
+    let reported = report_all(alloc, &spelled, form, &mut tally, input, output);
     if let Err(RunFault::Memory) = reported {
         // (the message at which it ended is counted, and not reported)
         return Err(Ended::Run(RunFault::Memory));

@@ -31,14 +31,14 @@ fn usage_of(node: &Node) -> Usage {
     }
 }
 
-fn label_of(node: &Node) -> &[u8] {
+pub(crate) fn label_of(node: &Node) -> &[u8] {
     match node {
         Node::Seg(segment) => &segment.label,
         Node::Group(group) => &group.label,
     }
 }
 
-fn nodes_of(node: &Node) -> &[Node] {
+pub(crate) fn nodes_of(node: &Node) -> &[Node] {
     match node {
         Node::Seg(_) => &[],
         Node::Group(group) => &group.nodes,

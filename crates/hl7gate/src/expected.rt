@@ -1,37 +1,121 @@
 //! What was expected at a line that is no line of its form, and what is wrong with a profile or a map of a plan.
+use crate::above::{
+    begin_above, closed_above, depth_of, open_above, said_above, word_at, words_in,
+};
 use crate::advice::{advice, behind, line_at};
 use crate::refusals::letters;
-use gw_lines::{Expected, keyword_of};
+use gw_lines::{Expected, Word, keyword_of};
 use gw_maplang::MapFault;
 use gw_plan::PlanFault;
 use gw_profile::ProfileFault;
 use std::alloc::{AllocError, Global};
 
-/// What is printed of a line whose words are no line of a profile; nothing for any other fault.
+/// What was expected, and the line that was found.
+fn expected_of(alloc: Global, pattern: &[u8], found: &[u8]) -> Result<String, AllocError> {
+    let expected = Expected { pattern, found };
+    format!(in alloc; "{expected}")
+}
+
+/// What is printed of a line that says again what stands above it.
+fn of_duplicate(alloc: Global, text: &[u8], line: u32) -> Result<String, AllocError> {
+    let found = line_at(text, line);
+    let keyword = keyword_of(found);
+    match said_above(alloc, text, line)? {
+        0 => expected_of(alloc, b"each value once", found),
+        above if depth_of(keyword) > 0 => {
+            let pattern = format!(in alloc; "a greater number than in line {above}")?;
+            expected_of(alloc, pattern.as_bytes(), found)
+        }
+        above => format!(in alloc; "line {above} says this already"),
+    }
+}
+
+/// What goes with the usage of a line of a profile.
+fn usage_pattern(words: &[Word<'_>]) -> &'static [u8] {
+    let is_renamed = word_at(words, 2) == b"as".as_slice();
+    let usage = word_at(words, if is_renamed { 4 } else { 2 });
+    if usage == b"C".as_slice() || usage == b"CE".as_slice() {
+        b"usage R, RE, O or X; C and CE are not supported"
+    } else if usage == b"R".as_slice() {
+        b"R with a cardinality from 1 on, as 1..1 or 1..*"
+    } else if usage != b"X".as_slice() {
+        b"RE and O with a cardinality from 0 to 1 or more, as 0..1 or 0..*"
+    } else if word_at(words, 0) == b"group".as_slice() {
+        b"a group of usage R, RE or O; leave out one that nobody sends"
+    } else {
+        b"X with the cardinality 0..0"
+    }
+}
+
+/// What is printed of a line whose usage and cardinality don't agree.
+fn of_usage(alloc: Global, text: &[u8], line: u32) -> Result<String, AllocError> {
+    let found = line_at(text, line);
+    let words = words_in(alloc, found)?;
+    expected_of(alloc, usage_pattern(&words), found)
+}
+
+/// What is printed where the end of a group or flat is missing at this line; nothing where none is open.
+fn of_unclosed(alloc: Global, text: &[u8], line: u32) -> Result<Option<String>, AllocError> {
+    let found = line_at(text, line);
+    if !found.is_empty() && found != b"stop".as_slice() {
+        return Ok(None);
+    }
+    match open_above(alloc, text, line)? {
+        0 => Ok(None),
+        open => {
+            let pattern = format!(in alloc; "the end of what line {open} begins")?;
+            Ok(Some(expected_of(alloc, pattern.as_bytes(), found)?))
+        }
+    }
+}
+
+/// What is printed of a line that is no line of a profile, with the line that would hold it and takes none.
+fn of_profile_line(alloc: Global, text: &[u8], line: u32) -> Result<String, AllocError> {
+    if let Some(said) = of_unclosed(alloc, text, line)? {
+        return Ok(said);
+    }
+    let expected = gw_profile::expected(alloc, text, line)?;
+    match closed_above(alloc, text, line)? {
+        0 => format!(in alloc; "{expected}"),
+        closed => format!(in alloc; "{expected}; line {closed} takes no line below it"),
+    }
+}
+
+/// What is printed of a line that is no line of a map.
+fn of_map_line(alloc: Global, text: &[u8], line: u32) -> Result<String, AllocError> {
+    if let Some(said) = of_unclosed(alloc, text, line)? {
+        return Ok(said);
+    }
+    let expected = gw_maplang::expected(alloc, text, line)?;
+    format!(in alloc; "{expected}")
+}
+
+/// What a person needs of a line for which a profile is refused; nothing where the fault says it all.
 pub(crate) fn in_profile(
     alloc: Global,
     text: &[u8],
     fault: ProfileFault,
 ) -> Result<Option<String>, AllocError> {
-    let ProfileFault::Syntax(line) = fault else {
-        return Ok(None);
+    let said = match fault {
+        ProfileFault::Syntax(line) => of_profile_line(alloc, text, line)?,
+        ProfileFault::Usage(line) => of_usage(alloc, text, line)?,
+        ProfileFault::Duplicate(line) => of_duplicate(alloc, text, line)?,
+        _ => return Ok(None),
     };
-    let expected = gw_profile::expected(alloc, text, line)?;
-    let said = format!(in alloc; "{expected}")?;
     Ok(Some(said))
 }
 
-/// What is printed of a line whose words are no line of a map; nothing for any other fault.
+/// What a person needs of a line for which a map is refused; nothing where the fault says it all.
 pub(crate) fn in_map(
     alloc: Global,
     text: &[u8],
     fault: MapFault,
 ) -> Result<Option<String>, AllocError> {
-    let MapFault::Syntax(line) = fault else {
-        return Ok(None);
+    let said = match fault {
+        MapFault::Syntax(line) => of_map_line(alloc, text, line)?,
+        MapFault::Duplicate(line) => of_duplicate(alloc, text, line)?,
+        _ => return Ok(None),
     };
-    let expected = gw_maplang::expected(alloc, text, line)?;
-    let said = format!(in alloc; "{expected}")?;
     Ok(Some(said))
 }
 
@@ -120,19 +204,20 @@ fn expected_at<'a>(
 
 /// What was expected at a line of a plan; behind the last line what is missing.
 fn of_plan(alloc: Global, text: &[u8], line: u32) -> Result<String, AllocError> {
-    let expected = match gw_lines::line_at(alloc, text, line)? {
-        None => Expected {
-            pattern: b"plan NAME, or the stop of a profile or map",
-            found: b"",
-        },
-        Some(found) => expected_at(alloc, text, line, found)?,
+    let Some(found) = gw_lines::line_at(alloc, text, line)? else {
+        return match begin_above(text, line) {
+            0 => expected_of(alloc, b"plan NAME", b""),
+            begin => format!(in alloc;
+                "expected: the stop of what line {begin} begins, found: \"\""
+            ),
+        };
     };
+    let expected = expected_at(alloc, text, line, found)?;
     format!(in alloc; "{expected}")
 }
 
-/// The text behind a `begin` line, up to the line `stop`.
-fn inner_text(text: &[u8], begin: u32) -> &[u8] {
-    let whole = behind(text, begin);
+/// The lines before the first line `stop`.
+pub(crate) fn up_to_stop(whole: &[u8]) -> &[u8] {
     let mut rest = whole;
     for _ in 0..whole.len() {
         if line_at(rest, 1) == b"stop".as_slice() {
@@ -145,7 +230,7 @@ fn inner_text(text: &[u8], begin: u32) -> &[u8] {
 
 /// The fault of an ambiguous profile, which has a name; `begin` is the line before its text.
 fn ambiguous(alloc: Global, text: &[u8], begin: u32) -> Result<ProfileFault, AllocError> {
-    match gw_profile::parse(alloc, inner_text(text, begin)) {
+    match gw_profile::parse(alloc, up_to_stop(behind(text, begin))) {
         Err(ProfileFault::Memory) => Err(AllocError),
         Err(fault) => Ok(fault),
         // (what was refused is refused again)
@@ -177,11 +262,10 @@ fn profile_fault(
 /// What is wrong with a profile of a plan.
 fn of_profile(alloc: Global, text: &[u8], line: u32, number: u8) -> Result<String, AllocError> {
     let fault = profile_fault(alloc, text, line, number)?;
+    if let Some(said) = in_profile(alloc, text, fault)? {
+        return format!(in alloc; "profile refused {number}: {said}");
+    }
     match fault {
-        ProfileFault::Syntax(_) => {
-            let expected = gw_profile::expected(alloc, text, line)?;
-            format!(in alloc; "profile refused 2: {expected}")
-        }
         ProfileFault::Ambiguous(name) => {
             let (first, second, third) = letters(name);
             format!(in alloc; "profile refused 7 {first}{second}{third}: {fault}")
@@ -205,12 +289,11 @@ fn map_fault(line: u32, number: u8) -> MapFault {
 
 /// What is wrong with a map of a plan.
 fn of_map(alloc: Global, text: &[u8], line: u32, number: u8) -> Result<String, AllocError> {
-    if number == 2 {
-        let expected = gw_maplang::expected(alloc, text, line)?;
-        return format!(in alloc; "map refused 2: {expected}");
-    }
     let fault = map_fault(line, number);
-    format!(in alloc; "map refused {number}: {fault}")
+    match in_map(alloc, text, fault)? {
+        None => format!(in alloc; "map refused {number}: {fault}"),
+        Some(said) => format!(in alloc; "map refused {number}: {said}"),
+    }
 }
 
 /// What a rule demands that a map of a plan breaks.
@@ -232,6 +315,7 @@ pub(crate) fn in_plan(
         PlanFault::Profile { number, .. } => of_profile(alloc, text, line, number)?,
         PlanFault::Map { number, .. } => of_map(alloc, text, line, number)?,
         PlanFault::Check { rule, .. } => of_rule(alloc, text, line, rule)?,
+        PlanFault::Duplicate(_) => of_duplicate(alloc, text, line)?,
         _ => return Ok(None),
     };
     Ok(Some(said))

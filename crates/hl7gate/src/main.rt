@@ -1,28 +1,35 @@
 //! The message gateway's program: it reads a command line, and does what it says.
 //!
-//! `program::command` does it over any reader and two writers, but for `serve` and `gateway`, which also take the network and threads; here are the process's own.
+//! `program::command` does it over any reader and two writers, but for `serve`, `gateway` and `tell`, which also take the network or threads; here are the process's own.
 #![tactic(auto)]
 
+mod above;
 mod advice;
 mod arguments;
 mod breaches;
+mod contents;
 mod doors;
 mod elements;
 mod ended;
 mod expected;
+mod explain;
 mod files;
 mod gateway;
 mod hands;
 mod heard;
+mod hints;
 mod identity;
 mod maps;
 mod outcome;
+mod places;
 mod plans;
 mod program;
 mod progress;
 mod refusals;
 mod report;
+mod sample;
 mod serve;
+mod skeleton;
 mod stamps;
 mod streams;
 mod subjects;
@@ -30,38 +37,71 @@ mod swaps;
 mod threads;
 mod tickets;
 
-use arguments::{is_command, process_words};
-use gateway::{gateway, tell};
+use arguments::{parse, process_words};
+use clap::ArgMatches;
+use ended::Ended;
+use gateway::{gateway, send};
 use program::command;
-use report::print_unread_words;
+use report::{print_unread_words, print_words, status_of};
 use serve::serving;
+use std::fs::File;
+use std::io::{Eprint, IsTerminal, Print, Read, Write};
+use std::net::{Net, TcpListener, TcpStream};
 use std::process::ExitCode;
+use std::random::RandomSource;
+use std::rt::Files;
+use std::sync::Wait;
+use std::thread::Threads;
+use std::time::Clock;
 use streams::open_closed;
+
+/// Does the command of these words, and answers the status: 0 done, 1 refused, 2 usage, 3 a fault of a device, a frame or a run, 4 allocation failure.
+fn done<
+    'a,
+    R: Net<Stream = TcpStream, Listener = TcpListener>
+        + Threads
+        + Wait
+        + Clock
+        + Files<File = File, Dir = D>
+        + Print
+        + Eprint
+        + RandomSource
+        + AllocGlobal
+        + Sync
+        + Clone
+        + Drop,
+    D: Read + Drop + Send + Sync,
+    I: Read + Drop + Send,
+    O: Write,
+    E: Write + IsTerminal,
+>(
+    rt: &R,
+    words: &ArgMatches<'a>,
+    input: I,
+    output: &mut O,
+    errors: &mut E,
+) -> Result<u8, Ended<'a>> {
+    let mut input = input;
+    match words.subcommand() {
+        Some(("gateway", words)) => gateway(rt, words),
+        Some(("tell", words)) => send(rt, words, output),
+        Some(("serve", words)) => serving(rt, words, input, output, errors),
+        _ => command(rt, words, &mut input, output, errors),
+    }
+}
 
 fn main(rt: HostRuntime) -> ExitCode {
     open_closed(&rt);
+    let (mut output, mut errors) = (rt.stdout(), rt.stderr());
     let status = match process_words(&rt) {
-        Ok(words) if is_command(&words, "gateway") => {
-            gateway(&rt, words.as_slice(), &mut rt.stdout(), &mut rt.stderr())
-        }
-        Ok(words) if is_command(&words, "tell") => {
-            tell(&rt, words.as_slice(), &mut rt.stdout(), &mut rt.stderr())
-        }
-        Ok(words) if is_command(&words, "serve") => serving(
-            &rt,
-            words.as_slice(),
-            rt.stdin(),
-            &mut rt.stdout(),
-            &mut rt.stderr(),
-        ),
-        Ok(words) => command(
-            &rt,
-            words.as_slice(),
-            &mut rt.stdin(),
-            &mut rt.stdout(),
-            &mut rt.stderr(),
-        ),
-        Err(error) => print_unread_words(&mut rt.stderr(), &error),
+        Err(error) => print_unread_words(&mut errors, &error),
+        Ok(words) => match parse(rt.alloc(), &words) {
+            Err(error) => print_words(&mut output, &mut errors, &error),
+            Ok(matches) => {
+                let ended = done(&rt, &matches, rt.stdin(), &mut output, &mut errors);
+                status_of(&mut errors, &ended)
+            }
+        },
     };
     ExitCode::from(status)
 }

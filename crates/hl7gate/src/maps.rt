@@ -7,6 +7,7 @@ use crate::advice::{Refusal, Refused, Written};
 use crate::ended::Ended;
 use crate::expected;
 use crate::files::{read_all, read_text};
+use crate::hints::print_hints;
 use crate::report::{DONE, REFUSED, write_all};
 use clap::ArgMatches;
 use gw_check::CheckedMap;
@@ -22,7 +23,11 @@ use std::rt::Files;
 use std::sync::Arc;
 
 /// The profile of a file's text.
-fn parse_profile<'a>(alloc: Global, path: &'a str, text: &[u8]) -> Result<Arc<Profile>, Ended<'a>> {
+pub(crate) fn parse_profile<'a>(
+    alloc: Global,
+    path: &'a str,
+    text: &[u8],
+) -> Result<Arc<Profile>, Ended<'a>> {
     match gw_profile::parse(alloc, text) {
         Ok(profile) => Ok(Arc::new(alloc, profile)?),
         Err(fault) => {
@@ -65,13 +70,13 @@ impl ProfilePair {
 
 /// What the rules say of a map.
 #[derive(Drop)]
-enum Judged {
+pub(crate) enum Judged {
     Allowed(CheckedMap),
     Refused(Refused),
 }
 
 /// The profiles of the files SOURCE and TARGET, in this order.
-fn read_sides<'a, R: Files + AllocGlobal>(
+pub(crate) fn read_sides<'a, R: Files + AllocGlobal>(
     rt: &R,
     words: &ArgMatches<'a>,
 ) -> Result<ProfilePair, Ended<'a>> {
@@ -80,18 +85,23 @@ fn read_sides<'a, R: Files + AllocGlobal>(
     Ok(ProfilePair { source, target })
 }
 
-/// The text of the file MAP.
-fn read_written<'a, R: Files + AllocGlobal>(
+/// The text of the file that a word names.
+pub(crate) fn read_written<'a, R: Files + AllocGlobal>(
     rt: &R,
     words: &ArgMatches<'a>,
+    word: &str,
 ) -> Result<Written<'a>, Ended<'a>> {
-    let path = words.get_str("MAP").unwrap_or("");
+    let path = words.get_str(word).unwrap_or("");
     let text = read_text(rt, path)?;
-    Ok(Written { path, text })
+    Ok(Written {
+        path,
+        text,
+        above: 0,
+    })
 }
 
 /// The map of a file's text.
-fn parse_map<'a>(alloc: Global, written: &Written<'a>) -> Result<Map, Ended<'a>> {
+pub(crate) fn parse_map<'a>(alloc: Global, written: &Written<'a>) -> Result<Map, Ended<'a>> {
     match gw_maplang::parse(alloc, &written.text) {
         Ok(map) => Ok(map),
         Err(fault) => {
@@ -106,7 +116,11 @@ fn parse_map<'a>(alloc: Global, written: &Written<'a>) -> Result<Map, Ended<'a>>
 }
 
 /// What the rules say of a map between two profiles.
-fn examined<'a>(alloc: Global, sides: &ProfilePair, map: Map) -> Result<Judged, Ended<'a>> {
+pub(crate) fn examined<'a>(
+    alloc: Global,
+    sides: &ProfilePair,
+    map: Map,
+) -> Result<Judged, Ended<'a>> {
     let ProfilePair { source, target } = sides.shared()?;
     match gw_check::examine(alloc, source, target, map) {
         Ok(checked) => Ok(Judged::Allowed(checked)),
@@ -130,7 +144,7 @@ fn examined<'a>(alloc: Global, sides: &ProfilePair, map: Map) -> Result<Judged, 
 }
 
 /// The map of a text, by the rules.
-fn judge<'a>(
+pub(crate) fn judge<'a>(
     alloc: Global,
     sides: &ProfilePair,
     written: &Written<'a>,
@@ -153,7 +167,7 @@ fn write_rule<'a, O: Write>(
 }
 
 /// Prints the rule that refuses a map, and answers the status; what a person needs to mend it goes to `errors`.
-fn write_refusal<'a, O: Write, E: Write>(
+pub(crate) fn write_refusal<'a, O: Write, E: Write>(
     alloc: Global,
     refusal: Refusal<'_>,
     output: &mut O,
@@ -166,9 +180,21 @@ fn write_refusal<'a, O: Write, E: Write>(
 }
 
 // Prints that the rules allow a map, and answers the status.
-fn write_accepted<'a, O: Write>(output: &mut O) -> Result<u8, Ended<'a>> {
+pub(crate) fn write_accepted<'a, O: Write>(output: &mut O) -> Result<u8, Ended<'a>> {
     write_all(output, b"accepted\n")?;
     Ok(DONE)
+}
+
+// The same, with what may not be meant.
+fn write_hinted<'a, O: Write, E: Write>(
+    alloc: Global,
+    written: &Written<'_>,
+    map: &CheckedMap,
+    output: &mut O,
+    errors: &mut E,
+) -> Result<u8, Ended<'a>> {
+    print_hints(alloc, written, map, errors)?;
+    write_accepted(output)
 }
 
 // Prints what the rules say of a map, and answers the status.
@@ -176,11 +202,13 @@ fn write_judged<'a, O: Write, E: Write>(
     alloc: Global,
     sides: &ProfilePair,
     written: &Written<'a>,
+    has_hints: bool,
     output: &mut O,
     errors: &mut E,
 ) -> Result<u8, Ended<'a>> {
     let judged = judge(alloc, sides, written)?;
     match &judged {
+        Judged::Allowed(map) if has_hints => write_hinted(alloc, written, map, output, errors),
         Judged::Allowed(_) => write_accepted(output),
         Judged::Refused(refused) => {
             let refusal = Refusal {
@@ -202,8 +230,9 @@ pub(crate) fn check<'a, R: Files + AllocGlobal, O: Write, E: Write>(
     errors: &mut E,
 ) -> Result<u8, Ended<'a>> {
     let sides = read_sides(rt, words)?;
-    let written = read_written(rt, words)?;
-    write_judged(rt.alloc(), &sides, &written, output, errors)
+    let written = read_written(rt, words, "MAP")?;
+    let has_hints = words.get_flag("hints");
+    write_judged(rt.alloc(), &sides, &written, has_hints, output, errors)
 }
 
 /// The tree of message bytes that conform to a profile.
@@ -237,7 +266,7 @@ fn translated<'a, R: AllocGlobal>(
 }
 
 /// Writes a message without a frame.
-fn write_message<'a, O: Write>(
+pub(crate) fn write_message<'a, O: Write>(
     alloc: Global,
     message: &Message,
     output: &mut O,
@@ -261,14 +290,14 @@ fn write_translation<'a, R: AllocGlobal, I: Read, O: Write>(
 }
 
 /// Reports the rule that refuses a map, and what a person needs to mend it, and answers the status.
-fn print_refusal<'a, E: Write>(
+pub(crate) fn print_refusal<'a, E: Write>(
     alloc: Global,
     refusal: Refusal<'_>,
     errors: &mut E,
 ) -> Result<u8, Ended<'a>> {
     let found = refusal.found(alloc)?;
     let Failure { rule, mark } = refusal.refused.least;
-    let line = mark.line;
+    let line = refusal.written.above.saturating_add(mark.line);
     let _ = writeln!(errors, "refused K{rule} line {line}");
     refusal.tell(alloc, errors, &found)?;
     Ok(REFUSED)
@@ -307,6 +336,6 @@ pub(crate) fn translate<'a, R: Files + AllocGlobal, I: Read, O: Write, E: Write>
     errors: &mut E,
 ) -> Result<u8, Ended<'a>> {
     let sides = read_sides(rt, words)?;
-    let written = read_written(rt, words)?;
+    let written = read_written(rt, words, "MAP")?;
     translate_judged(rt, &sides, &written, input, output, errors)
 }

@@ -1,11 +1,13 @@
 //! The commands, over any reader and two writers.
-use crate::arguments::parse;
 use crate::breaches::report;
+use crate::contents::{map, plan, profile};
 use crate::ended::Ended;
+use crate::explain::explain;
 use crate::identity::identity;
 use crate::maps::{check, read_profile, translate};
 use crate::plans::run;
-use crate::report::{DONE, USAGE, print_if_none, print_words, status_if, tell};
+use crate::report::{DONE, USAGE, print_if_none, status_if};
+use crate::sample::sample;
 use crate::stamps::stamp_of;
 use clap::ArgMatches;
 use gw_stream::{Counts, Reads, Writes, answer_stream};
@@ -57,7 +59,7 @@ fn ran<'a, R: Files + Clock + AllocGlobal, I: Read, O: Write, E: Write + IsTermi
 }
 
 /// Does the command of these words, and answers the status.
-fn done<'a, R: Files + Clock + AllocGlobal, I: Read, O: Write, E: Write + IsTerminal>(
+pub(crate) fn command<'a, R: Files + Clock + AllocGlobal, I: Read, O: Write, E: Write + IsTerminal>(
     rt: &R,
     words: &ArgMatches<'a>,
     input: &mut I,
@@ -69,25 +71,13 @@ fn done<'a, R: Files + Clock + AllocGlobal, I: Read, O: Write, E: Write + IsTerm
         Some(("report", words)) => report(rt, words, input, output, errors),
         Some(("run", words)) => ran(rt, words, input, output, errors),
         Some(("identity", words)) => identity(rt, words, output),
+        Some(("sample", words)) => sample(rt, words, output, errors),
         Some(("check", words)) => check(rt, words, output, errors),
+        Some(("explain", words)) => explain(rt, words, output, errors),
         Some(("translate", words)) => translate(rt, words, input, output, errors),
+        Some(("profile", words)) => profile(rt, words, output),
+        Some(("map", words)) => map(rt, words, output),
+        Some(("plan", words)) => plan(rt, words, output, errors),
         _ => Ok(USAGE),
-    }
-}
-
-/// Does what the words say, and returns the status: 0 done, 1 refused, 2 usage, 3 a fault of a device, a frame or a run, 4 allocation failure.
-pub fn command<R: Files + Clock + AllocGlobal, I: Read, O: Write, E: Write + IsTerminal>(
-    rt: &R,
-    words: &[String],
-    input: &mut I,
-    output: &mut O,
-    errors: &mut E,
-) -> u8 {
-    match parse(rt.alloc(), words) {
-        Err(error) => print_words(output, errors, &error),
-        Ok(matches) => match done(rt, &matches, input, output, errors) {
-            Ok(status) => status,
-            Err(ended) => tell(errors, &ended),
-        },
     }
 }

@@ -198,6 +198,14 @@ pub(crate) fn print_words<O: Write, E: Write>(output: &mut O, errors: &mut E, er
     }
 }
 
+/// The status of a command. Where it could not go on, that is reported.
+pub(crate) fn status_of<E: Write>(errors: &mut E, ended: &Result<u8, Ended<'_>>) -> u8 {
+    match ended {
+        Ok(status) => *status,
+        Err(ended) => tell(errors, ended),
+    }
+}
+
 /// Reports that the words of the command line can't be read.
 pub(crate) fn print_unread_words<E: Write>(errors: &mut E, error: &io::Error) -> u8 {
     if error.kind() == io::ErrorKind::OutOfMemory {

@@ -1,11 +1,10 @@
 //! The command that serves on the network.
 ghost use Rattle.std.specs.Prelude.{◌≡◌};
 
-use crate::arguments::parse;
 use crate::ended::Ended;
 use crate::hands::{Sizes, with_couriers};
 use crate::plans::read_plan;
-use crate::report::{DONE, USAGE, print_fault, print_if_full, print_report, print_words, tell};
+use crate::report::{print_if_full, print_report};
 use crate::stamps::stamp_of;
 use crate::threads::{Line, PARTS, Served, Service};
 use clap::ArgMatches;
@@ -171,6 +170,7 @@ fn serve<
 
 /// Serves as the words say, and answers the status.
 pub(crate) fn serving<
+    'a,
     R: Net<Stream = TcpStream, Listener = TcpListener>
         + Threads
         + Wait
@@ -184,19 +184,14 @@ pub(crate) fn serving<
     I: Read + Drop + Send,
     O: Write,
     E: Write,
->(rt: &R, words: &[String], paths: I, output: &mut O, errors: &mut E) -> u8 {
-    let matches = match parse(rt.alloc(), words) {
-        Ok(matches) => matches,
-        Err(error) => return print_words(output, errors, &error),
-    };
-    let Some(("serve", words)) = matches.subcommand() else {
-        return USAGE;
-    };
-    match serve(rt, words, paths) {
-        Ok(Served { report, is_full }) => {
-            print_if_full(errors, is_full);
-            print_report(output, errors, report)
-        }
-        Err(ended) => tell(errors, &ended),
-    }
+>(
+    rt: &R,
+    words: &ArgMatches<'a>,
+    paths: I,
+    output: &mut O,
+    errors: &mut E,
+) -> Result<u8, Ended<'a>> {
+    let Served { report, is_full } = serve(rt, words, paths)?;
+    print_if_full(errors, is_full);
+    Ok(print_report(output, errors, report))
 }

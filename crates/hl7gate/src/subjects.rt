@@ -28,7 +28,7 @@ struct Parts {
 }
 
 /// What a line reads, where it reads anything.
-fn read_of(site: &Site) -> Option<&ElementPath> {
+pub(crate) fn read_of(site: &Site) -> Option<&ElementPath> {
     match &site.origin {
         Origin::Unsaid | Origin::Text(_) => None,
         Origin::Read(from) | Origin::Repeated(from) => Some(from),

@@ -1,0 +1,118 @@
+//! What `check --hints` says of a map that the rules allow: which `drop` lines name what is read too, and that the source doesn't list MSH-18.
+use crate::advice::Written;
+use crate::elements::{label_of, nodes_of};
+use crate::subjects::read_of;
+use gw_check::CheckedMap;
+use gw_maplang::Dropped;
+use gw_profile::{Node, Profile};
+use gw_subjects::{Site, sites};
+use std::alloc::{AllocError, Global};
+use std::collections::BTreeMap;
+use std::io::Write;
+
+/// The character set of a message (chapter 2, 2.15.9.18).
+const CHARACTER_SET: u32 = 18;
+
+/// The number of the node with this label, and the nodes below it.
+fn labelled<'p>(level: &'p [Node], label: &[u8]) -> Option<(usize, &'p [Node])> {
+    for (number, node) in level.iter().enumerate() {
+        if label_of(node) == label {
+            return Some((number, nodes_of(node)));
+        }
+    }
+    None
+}
+
+/// The numbers of the nodes that lead to what a `drop` names, and that of its field, where it names one.
+fn place_of(alloc: Global, profile: &Profile, dropped: &Dropped) -> Result<Vec<usize>, AllocError> {
+    let mut place = Vec::new(alloc);
+    let mut level = profile.nodes();
+    for label in dropped.path.as_slice() {
+        if let Some((number, below)) = labelled(level, label) {
+            place.push(number)?;
+            level = below;
+        }
+    }
+    if let Some(field) = dropped.field {
+        place.push(field as usize)?;
+    }
+    Ok(place)
+}
+
+/// Notes that a line reads a field: by the place of the field, and by that of each node around it.
+fn note_read(
+    alloc: Global,
+    reads: &mut BTreeMap<Vec<usize>, u32>,
+    site: &Site,
+) -> Result<(), AllocError> {
+    let Some(from) = read_of(site) else {
+        return Ok(());
+    };
+    if from.field == 0 {
+        return Ok(());
+    }
+    let mut place = Vec::new(alloc);
+    for number in from.at.as_slice() {
+        place.push(*number)?;
+        reads.insert(Vec::from_slice(alloc, &place)?, site.line)?;
+    }
+    place.push(from.field as usize)?;
+    reads.insert(place, site.line)?;
+    Ok(())
+}
+
+/// Reports each `drop` of what is read too.
+fn print_drops<E: Write>(
+    alloc: Global,
+    written: &Written<'_>,
+    map: &CheckedMap,
+    errors: &mut E,
+) -> Result<(), AllocError> {
+    let path = written.path;
+    let mut reads = BTreeMap::new(alloc);
+    let sites = sites(alloc, map.items())?;
+    for site in sites.as_slice() {
+        note_read(alloc, &mut reads, site)?;
+    }
+    for dropped in map.map().drops() {
+        let place = place_of(alloc, map.source(), dropped)?;
+        if let Some(reader) = reads.get(&place) {
+            let line = dropped.line;
+            let _ = writeln!(
+                errors,
+                "{path}:{line}: hint: line {reader} reads what this drops"
+            );
+        }
+    }
+    Ok(())
+}
+
+/// Whether a profile lists MSH-18.
+fn lists_characters(profile: &Profile) -> bool {
+    match profile.nodes().first() {
+        Some(Node::Seg(header)) => {
+            header
+                .fields
+                .iter()
+                .any(|field| field.number == CHARACTER_SET)
+        }
+        _ => false,
+    }
+}
+
+/// Reports what a person may want to look at in a map that the rules allow.
+pub(crate) fn print_hints<E: Write>(
+    alloc: Global,
+    written: &Written<'_>,
+    map: &CheckedMap,
+    errors: &mut E,
+) -> Result<(), AllocError> {
+    print_drops(alloc, written, map, errors)?;
+    if !lists_characters(map.source()) {
+        let _ = writeln!(
+            errors,
+            "hint: the source doesn't list MSH-18, so the rules don't ask for it: without it a receiver takes each text for ASCII"
+        );
+    }
+    Ok(())
+}
