@@ -216,7 +216,7 @@ fn give_back<D: Device + Drop, F: Folder<D>>(folder: &mut F, number: u64, readin
     }
 }
 
-// The row of a folder with these segments, in which so many records wait.
+// The row of a folder with these segments, in which this number of records waits.
 fn open_ends<D: Device + Drop, F: Folder<D>>(
     alloc: Global,
     folder: &mut F,

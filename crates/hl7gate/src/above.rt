@@ -19,7 +19,7 @@ pub(crate) fn words_in(alloc: Global, line: &[u8]) -> Result<Vec<Word<'_>>, Allo
     }
 }
 
-/// The word of this number, from 0, where the line has so many.
+/// The word of this number, from 0; empty where the line has fewer.
 pub(crate) fn word_at<'t>(words: &[Word<'t>], number: usize) -> &'t [u8] {
     match words.get(number) {
         Some(word) => bytes_of(*word),

@@ -43,7 +43,7 @@ pub record IsPassing {D : Type 0} (may_leave : D → List ℕ → Type 0) (row :
   pub writes : IsOpen may_leave row.writing (each row.last) appended
   pub here : row.is_lost ≡ false
 
--- the records of each number are on the disk, and so many wait
+-- the records of each number are on the disk, and this number of records waits
 pub record StillWaits {D : Type 0} (may_leave : D → List ℕ → Type 0) (row : RowState D) (slots : ℕ → Slot D) (each : ℕ → List (List ℕ))
     (appended : List (List ℕ)) (waiting : ℕ) : Type 0 where
   pub is : IsRow may_leave row slots each appended
