@@ -1,4 +1,4 @@
-//! `measure PROGRAM BASELINE PROFILES TRAFFIC ROUNDS`: runs the program and the baseline, with owned texts and with borrowed ones, over each stream, compares their answers, and prints what they took.
+//! `measure PROGRAM BASELINE PROFILES TRAFFIC ROUNDS`: runs the program and the baseline's three forms over each stream, compares their answers, and prints what they took.
 //!
 //! It reads no file whole: a child's peak counts what its parent had when it began.
 //! Times are processor seconds (user and system) of the best of ROUNDS rounds, which other work on the machine disturbs less than the clock's.
@@ -22,14 +22,16 @@ struct Bench {
     rounds: usize,
 }
 
-/// What the program and the baseline's two forms took for a stream.
+/// The forms of the baseline.
+const FORMS: [&str; 3] = ["owned", "lending", "slices"];
+
+/// What the program and the baseline's forms took for a stream.
 struct Row {
     name: &'static str,
     bytes: f64,
     messages: usize,
     program: Taken,
-    baseline: Taken,
-    lending: Taken,
+    forms: [Taken; 3],
 }
 
 impl Row {
@@ -63,8 +65,6 @@ impl Bench {
         let profile = self.profiles.join(profile);
         let input = self.traffic.join(name);
         let answers = self.traffic.join(format!("{name}.program"));
-        let plain = self.traffic.join(format!("{name}.baseline"));
-        let lent = self.traffic.join(format!("{name}.lending"));
         let program = best(self.rounds, || {
             run(
                 Command::new(&self.program)
@@ -75,61 +75,60 @@ impl Bench {
                 &answers,
             )
         })?;
-        let baseline = best(self.rounds, || {
-            run(
-                Command::new(&self.baseline).arg(&profile).arg(STAMP),
-                &input,
-                &plain,
-            )
-        })?;
-        let lending = best(self.rounds, || {
-            run(
-                Command::new(&self.baseline)
-                    .arg(&profile)
-                    .args([STAMP, "lending"]),
-                &input,
-                &lent,
-            )
-        })?;
-        let same = same_answers(&answers, &plain)?.filter(|_| program.status == baseline.status);
-        let lent = same_answers(&answers, &lent)?.filter(|_| program.status == lending.status);
-        let (Some(messages), Some(_)) = (same, lent) else {
-            return Err(io::Error::other(format!(
-                "{name}: the answers or the statuses differ"
-            )));
-        };
+        let mut messages = 0;
+        let mut forms = [program; 3];
+        for (form, taken) in FORMS.iter().zip(&mut forms) {
+            let other = self.traffic.join(format!("{name}.{form}"));
+            *taken = best(self.rounds, || {
+                run(
+                    Command::new(&self.baseline)
+                        .arg(&profile)
+                        .args([STAMP, form]),
+                    &input,
+                    &other,
+                )
+            })?;
+            let same = same_answers(&answers, &other)?;
+            messages = same
+                .filter(|_| program.status == taken.status)
+                .ok_or_else(|| {
+                    io::Error::other(format!(
+                        "{name}, {form}: the answers or the statuses differ"
+                    ))
+                })?;
+        }
         Ok(Row {
             name,
             bytes: fs::metadata(input)?.len() as f64,
             messages,
             program,
-            baseline,
-            lending,
+            forms,
         })
     }
 
+    /// What the program takes, and how many times as fast as each form of the baseline it is, and how many times as much memory it takes.
     fn print_honest(&self, streams: &[(&'static str, &str)]) -> io::Result<()> {
-        println!("| Stream | MB | Messages | Program MB/s | messages/s | peak kB | Baseline MB/s | messages/s | peak kB | Speed ratio | Memory ratio | Lending MB/s | peak kB | Speed ratio |");
-        println!("|---|---|---|---|---|---|---|---|---|---|---|---|---|---|");
+        println!("| Stream | MB | Messages | MB/s | messages/s | peak kB | speed to owned | lending | slices | memory to owned | lending | slices |");
+        println!("|---|---|---|---|---|---|---|---|---|---|---|---|");
         for (name, profile) in streams {
             let row = self.row(name, profile)?;
-            println!(
-                "| {} | {:.1} | {} | {:.1} | {:.0} | {} | {:.1} | {:.0} | {} | {:.2} | {:.2} | {:.1} | {} | {:.2} |",
+            print!(
+                "| {} | {:.1} | {} | {:.1} | {:.0} | {} |",
                 row.name,
                 row.bytes / 1e6,
                 row.messages,
                 row.speed(row.program),
                 row.messages as f64 / row.program.seconds,
                 row.program.kilobytes,
-                row.speed(row.baseline),
-                row.messages as f64 / row.baseline.seconds,
-                row.baseline.kilobytes,
-                row.baseline.seconds / row.program.seconds,
-                row.program.kilobytes as f64 / row.baseline.kilobytes as f64,
-                row.speed(row.lending),
-                row.lending.kilobytes,
-                row.lending.seconds / row.program.seconds,
             );
+            for form in row.forms {
+                print!(" {:.2} |", form.seconds / row.program.seconds);
+            }
+            for form in row.forms {
+                let times = row.program.kilobytes as f64 / form.kilobytes as f64;
+                print!(" {times:.2} |");
+            }
+            println!();
         }
         Ok(())
     }
@@ -143,21 +142,22 @@ impl Bench {
     ) -> io::Result<()> {
         let honest = self.row(honest, profile)?;
         println!(
-            "| Stream | Program MB/s | peak kB | times {} | Baseline MB/s | peak kB | times {} |",
+            "| Stream | Program MB/s | peak kB | times {} | Slices MB/s | peak kB | times {} |",
             honest.name, honest.name
         );
         println!("|---|---|---|---|---|---|---|");
         for name in streams {
             let row = self.row(name, profile)?;
+            let [_, _, slices] = row.forms;
             println!(
                 "| {} | {:.1} | {} | {:.2} | {:.1} | {} | {:.2} |",
                 row.name,
                 row.speed(row.program),
                 row.program.kilobytes,
                 honest.speed(honest.program) / row.speed(row.program),
-                row.speed(row.baseline),
-                row.baseline.kilobytes,
-                honest.speed(honest.baseline) / row.speed(row.baseline),
+                row.speed(slices),
+                slices.kilobytes,
+                honest.speed(honest.forms[2]) / row.speed(slices),
             );
         }
         Ok(())
@@ -168,6 +168,7 @@ impl Bench {
         self.print_honest(&[
             ("admissions", adt),
             ("reports", oru),
+            ("small", adt),
             ("results_5000", oru),
             ("megabyte", oru),
             ("sixty_kilobytes", oru),

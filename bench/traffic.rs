@@ -250,6 +250,28 @@ fn admission(dice: &mut Dice, number: u64) -> String {
     text
 }
 
+/// The least that an admission says.
+fn small_admission(dice: &mut Dice, number: u64) -> String {
+    let mut text = header(dice, "ADMIT", "ADT^A01^ADT_A01", number);
+    let _ = write!(text, "EVN||{}\r", dice.moment());
+    let (family, given) = (dice.one(&FAMILIES), dice.one(&GIVEN));
+    let _ = write!(
+        text,
+        "PID|1||{}^^^{AUTHORITY}^MR||{family}^{given}^^^^^L||{}|{}||2106-3^White^HL70005|^^{}^SW^^^H\r",
+        dice.digits(8),
+        dice.day(),
+        dice.one(&["F", "M"]),
+        dice.one(&TOWNS)
+    );
+    let _ = write!(
+        text,
+        "PV1|1|I|W02^17^3^{AUTHORITY}|A|||{}||||||||||||{}^^^{AUTHORITY}^VN\r",
+        doctor(dice),
+        dice.digits(8)
+    );
+    text
+}
+
 fn result_line(dice: &mut Dice, i: u64) -> String {
     let (code, name, unit, range) = TESTS[dice.below(TESTS.len() as u64) as usize];
     let local = dice.digits(3);
@@ -377,6 +399,8 @@ fn main() -> io::Result<()> {
     }
     let short_lines = filled(dice, "NTE|1", "\rNTE|1", 60_000);
     save_copies(folder, "short_lines", short_lines, 12_000_000)?;
+    let small: Vec<String> = (0..48_000).map(|i| small_admission(dice, i)).collect();
+    save(folder, "small", &small)?;
     save(folder, "unreadable", &vec!["A".repeat(1_500); 16_000])?;
     save(folder, "tiny_blocks", &vec!["A".to_string(); 200_000])
 }

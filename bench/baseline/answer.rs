@@ -3,7 +3,7 @@ use crate::message::Message;
 use crate::profile::Profile;
 use crate::validate::{validate, Breach};
 
-fn text_of(code: u16) -> &'static str {
+pub fn text_of(code: u16) -> &'static str {
     match code {
         100 => "Segment sequence error",
         101 => "Required field missing",

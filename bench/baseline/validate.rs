@@ -10,12 +10,12 @@ pub struct Breach {
     pub place: [usize; 4],
 }
 
-const SEQUENCE: u16 = 100;
+pub const SEQUENCE: u16 = 100;
 pub const MISSING: u16 = 101;
 pub const DATA: u16 = 102;
-const TABLE: u16 = 103;
+pub const TABLE: u16 = 103;
 
-fn can_begin(nodes: &[Node], name: [u8; 3]) -> bool {
+pub fn can_begin(nodes: &[Node], name: [u8; 3]) -> bool {
     for node in nodes {
         let (begins, min) = match node {
             Node::Segment {
@@ -34,7 +34,7 @@ fn can_begin(nodes: &[Node], name: [u8; 3]) -> bool {
 }
 
 /// The first name of the fewest segments that fit.
-fn first_due(nodes: &[Node]) -> Option<[u8; 3]> {
+pub fn first_due(nodes: &[Node]) -> Option<[u8; 3]> {
     nodes.iter().find_map(|node| match node {
         Node::Segment { name, card, .. } if card.min > 0 => Some(*name),
         Node::Group { card, nodes } if card.min > 0 => first_due(nodes),
