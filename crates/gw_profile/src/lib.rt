@@ -28,6 +28,7 @@ pub use node::{GroupNode, Node, SegNode};
 pub use numbered::{comp_of, field_of, sub_of};
 pub use patterns::expected;
 pub use profile::Profile;
+pub use rules::{add_first_names, is_optional};
 pub use shape::{Card, CompShape, Count, FieldShape, SubShape, Usage};
 pub use table::Table;
 pub use text::parse;

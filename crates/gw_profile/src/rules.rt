@@ -29,8 +29,8 @@ impl Node {
     }
 }
 
-/// Whether each node may be absent.
-pub(crate) fn is_optional(nodes: &[Node]) -> bool
+/// Whether each of these nodes may be absent: none has a least number above 0.
+pub fn is_optional(nodes: &[Node]) -> bool
     ensures { result ≡ spec.is_optional (forest nodes.now) }
 {
     for node in nodes {
@@ -54,13 +54,14 @@ fn add_first_of(out: &mut Vec<[u8; 3]>, node: &Node) -> Result<(), AllocError>
             out.push(segment.name)?;
             Ok(())
         }
-        Node::Group(group) => add_first(out, &group.nodes),
+        Node::Group(group) => add_first_names(out, &group.nodes),
     }
 }
 
-// Adds the names that can begin a list of these nodes.
+/// Adds the names that can begin a list of these nodes: of each node up to and with the first that has to come.
+/// The one error is an allocation failure.
 #[cycle(first)]
-fn add_first(out: &mut Vec<[u8; 3]>, nodes: &[Node]) -> Result<(), AllocError>
+pub fn add_first_names(out: &mut Vec<[u8; 3]>, nodes: &[Node]) -> Result<(), AllocError>
     ensures { OnOk result (out.new.items ≡ out.old.items ++ spec.first_names (forest nodes.now)) }
 {
     for node in nodes {
@@ -301,7 +302,7 @@ fn group_ambiguous(
     ensures kept { OnOk result (far.new.items ≡ far.old.items) }
 {
     let mut first = Vec::new(alloc);
-    add_first(&mut first, nodes)?;
+    add_first_names(&mut first, nodes)?;
     if let Some(name) = clash(card, &first, near, &far[start..]) {
         return Ok(Some(name));
     }

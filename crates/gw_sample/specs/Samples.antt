@@ -12,6 +12,10 @@ use Rattle.gw_validate.specs.Fitting.{TreeValue}
 abbrev pub IsReadAgain : List SegmentValue → Type 0
 IsReadAgain m = Reads (written m) m
 
+-- a message that conforms to the profile
+abbrev pub HasOne : ProfileValue → Type 0
+HasOne p = (m : List SegmentValue) × Conforms p m
+
 -- the tree's message conforms to this profile, and what is written for it reads as it again
 pub record Samples (p : ProfileValue) (t : TreeValue) : Type 0 where
   pub profile : profile_value t.profile ≡ p

@@ -3,6 +3,7 @@
 
 mod drawing;
 mod extent;
+pub mod laws;
 mod leaf;
 mod parts;
 mod sampling;

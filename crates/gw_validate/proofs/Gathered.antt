@@ -9,7 +9,7 @@ use Rattle.gw_profile.specs.Names.{stands}
 use Rattle.gw_validate.specs.Conforming.{numbers, segment_at, named}
 use Rattle.gw_validate.proofs.Listed.{numbers_step}
 
-take_segment : (m : List SegmentValue) (i : ℕ) → i < length m → take (suc i) m ≡ take i m ++ segment_at m i ∷ []
+pub take_segment : (m : List SegmentValue) (i : ℕ) → i < length m → take (suc i) m ≡ take i m ++ segment_at m i ∷ []
 take_segment [] i lt = absurd (omega arith)
 take_segment (s ∷ m) zero lt = refl
 take_segment (s ∷ m) (suc i) lt = ap (λ l. s ∷ l) (take_segment m i (omega arith))

@@ -7,6 +7,7 @@ pub mod Runs
 pub mod Walking
 pub mod Joined
 pub mod Passed
+pub mod Going
 pub mod Unique
 pub mod Rows
 pub mod Building

@@ -11,8 +11,10 @@ use Rattle.gw_profile.specs.Shapes.{Forest, nothing, segment, group, GroupValue}
 use Rattle.gw_validate.specs.own.Residual.{less, append, has_room, when, pass, or_else, after_name, seg, grp}
 use Rattle.gw_profile.specs.Seen.{node_forest, row_forest, forest}
 use Rattle.gw_profile.specs.Nodes.{card_of}
-use Rattle.std.specs.Prelude.{◌&&◌}
+use Rattle.std.specs.Prelude.{◌&&◌, if◌then◌else◌}
 use Rattle.gw_validate.specs.own.Tests.{can_begin, node_begins}
+use Rattle.gw_profile.specs.LookAhead.{first_names}
+use Rattle.gw_validate.specs.own.Firsts.{first_of}
 use Rattle.gw_validate.specs.own.Shortest.{shortest, shortest_node}
 use Rattle.gw_validate.specs.own.State.{due_forest, frame_forest, stack_on, left_out, NodeTried, TriesNode, Tries}
 use Rattle.gw_validate.specs.declared.walk.Step.{Step}
@@ -38,6 +40,11 @@ due_group g due rest =
 pub shortest_node_group : (g : declared_group.GroupNode) → shortest_node (Group g) ≡ shortest (forest g.nodes.items)
 shortest_node_group g =
     let row = row_of (Group g) in ap shortest (row_items row.0 row.1 ∙ ap forest (items_hidden-the_row-Node-0 g.nodes))
+
+pub first_of_group : (g : declared_group.GroupNode) (most : Option ℕ) → has_room most ≡ true → first_names (forest g.nodes.items) ≡ first_of (Group g) most
+first_of_group g most room =
+    let row = row_of (Group g) in
+    sym (ap first_names (row_items row.0 row.1 ∙ ap forest (items_hidden-the_row-Node-0 g.nodes))) ∙ ap (λ b. if b then first_names (row_forest row.1) else []) (sym room)
 
 pub stack_on-push : (old : List Frame) (f : Frame) (behind : Forest) → stack_on (old ++ f ∷ []) behind ≡ append (frame_forest f) (stack_on old behind)
 stack_on-push [] f behind = refl

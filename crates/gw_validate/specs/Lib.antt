@@ -5,6 +5,7 @@ pub mod Trees
 pub mod Stored
 pub mod Conforming
 pub mod Broken
+pub mod Next
 pub mod Fitting
 pub mod Viewing
 pub mod Verdict

@@ -9,6 +9,7 @@ mod fields;
 mod gather;
 pub mod laws;
 mod listing;
+mod next;
 mod occ;
 mod occurrences;
 mod search;
@@ -18,6 +19,7 @@ mod walk;
 
 pub use breach::{Breach, Kind};
 pub use collect::breaches;
+pub use next::next_names;
 pub use occ::Occ;
 pub use tree::Tree;
 pub use verdict::{Verdict, validate};

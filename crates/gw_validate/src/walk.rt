@@ -14,10 +14,10 @@ use std::alloc::{AllocError, Global};
 
 /// A node with how often it may still come, and the nodes behind it.
 #[derive(Clone, Copy)]
-struct Frame<'a> {
-    node: &'a Node,
-    due: Card,
-    rest: &'a [Node],
+pub(crate) struct Frame<'a> {
+    pub(crate) node: &'a Node,
+    pub(crate) due: Card,
+    pub(crate) rest: &'a [Node],
 }
 
 /// What a list of names is.
@@ -159,7 +159,7 @@ fn take_frame<'a>(
 }
 
 // Goes on by one name, if the names so far and this one begin a list that fits.
-fn advance<'a>(stack: &mut Vec<Frame<'a>>, name: [u8; 3]) -> Result<bool, AllocError>
+pub(crate) fn advance<'a>(stack: &mut Vec<Frame<'a>>, name: [u8; 3]) -> Result<bool, AllocError>
     ensures { IfOk result (λ yes. Advances (stack_on stack.old.items nothing) name (stack_on stack.new.items nothing) yes) }
 {
     while let Some(frame) = stack.pop() {
@@ -215,7 +215,7 @@ fn missing(mut stack: Vec<Frame>) -> Option<[u8; 3]>
 }
 
 // Where nothing was read yet.
-fn start(alloc: Global, nodes: &[Node]) -> Result<Vec<Frame<'_>>, AllocError>
+pub(crate) fn start(alloc: Global, nodes: &[Node]) -> Result<Vec<Frame<'_>>, AllocError>
     ensures { IfOk result (λ stack. stack_on stack.items nothing ≡ forest nodes.now) }
 {
     let mut stack = Vec::with_capacity(alloc, 8)?;

@@ -10,11 +10,11 @@ use gw_er7::{Message, Place, ReadFault, read_block};
 use gw_mllp::{Decoder, FrameFault};
 use gw_profile::Profile;
 use gw_stream::RunFault;
-use gw_validate::{Breach, Kind, breaches};
+use gw_validate::{Breach, Kind, breaches, next_names};
 use std::alloc::{AllocError, Global};
 use std::collections::BTreeMap;
 use std::io;
-use std::io::{ErrorKind, Read, Write};
+use std::io::{ErrorKind, IsTerminal, Read, Write};
 use std::rt::Files;
 use std::sync::Arc;
 
@@ -45,6 +45,17 @@ struct Spelled {
 struct Form {
     is_json: bool,
     has_values: bool,
+    has_colours: bool,
+}
+
+/// A breach of a message, with the line of the profile, the value and the names that may stand there, where they are said.
+#[derive(Clone, Copy)]
+struct Said<'a> {
+    arrival: u64,
+    breach: Breach,
+    line: Option<u32>,
+    text: Option<&'a [u8]>,
+    next: &'a [[u8; 3]],
 }
 
 /// What a kind of breach is, in words.
@@ -93,14 +104,29 @@ pub(crate) fn spot_of(breach: Breach) -> Spot {
     ]
 }
 
-/// A breach as JSON, with the line of the profile and the value where they are said.
-fn write_json(
-    out: &mut Vec<u8>,
-    arrival: u64,
-    breach: Breach,
-    line: Option<u32>,
-    text: Option<&[u8]>,
-) -> io::Result<()> {
+/// The names that may stand where the segments don't fit, and none of another breach.
+fn next_of(
+    alloc: Global,
+    profile: &Profile,
+    message: &Message,
+    number: usize,
+    kind: Kind,
+) -> Result<Vec<[u8; 3]>, AllocError> {
+    match kind {
+        Kind::OutOfOrder | Kind::MissingSegment => next_names(alloc, profile, message, number),
+        _ => Ok(Vec::new(alloc)),
+    }
+}
+
+/// A breach as JSON.
+fn write_json(out: &mut Vec<u8>, said: Said<'_>) -> io::Result<()> {
+    let Said {
+        arrival,
+        breach,
+        line,
+        text,
+        next,
+    } = said;
     let code = breach.code();
     let words = words_of(breach.kind);
     let (first, second, third) = letters(breach.segment);
@@ -120,6 +146,7 @@ fn write_json(
         out,
         "\"field\":{field},\"repetition\":{rep},\"component\":{comp},\"subcomponent\":{sub},\"rule\":\"{words}\""
     )?;
+    write_next_json(out, next)?;
     if let Some(line) = line {
         write!(out, ",\"line\":{line}")?;
     }
@@ -131,27 +158,72 @@ fn write_json(
     writeln!(out, "}}")
 }
 
-/// A breach in words, likewise.
-fn write_words(
-    out: &mut Vec<u8>,
-    arrival: u64,
-    breach: Breach,
-    line: Option<u32>,
-    text: Option<&[u8]>,
-) -> io::Result<()> {
-    let code = breach.code();
-    let words = words_of(breach.kind);
-    write!(out, "message {arrival}: {code} ")?;
-    write_place(out, breach)?;
+/// The names that may stand there, as a list, where there are any.
+fn write_next_json(out: &mut Vec<u8>, next: &[[u8; 3]]) -> io::Result<()> {
+    for (i, name) in next.iter().enumerate() {
+        let (first, second, third) = letters(*name);
+        let before = if i == 0 { ",\"may\":[" } else { "," };
+        write!(out, "{before}\"{first}{second}{third}\"")?;
+    }
+    if next.is_empty() {
+        return Ok(());
+    }
+    write!(out, "]")
+}
+
+/// The names that may stand there, in words: ` (PID may)`, ` (NK1 or PV1 may)`.
+fn write_next(out: &mut Vec<u8>, next: &[[u8; 3]]) -> io::Result<()> {
+    for (i, name) in next.iter().enumerate() {
+        let (first, second, third) = letters(*name);
+        let before = if i == 0 {
+            " ("
+        } else if next.len() - i == 1 {
+            " or "
+        } else {
+            ", "
+        };
+        write!(out, "{before}{first}{second}{third}")?;
+    }
+    if next.is_empty() {
+        return Ok(());
+    }
+    write!(out, " may)")
+}
+
+/// A condition code, in red on a terminal.
+fn write_code(out: &mut Vec<u8>, form: Form, code: u16) -> io::Result<()> {
+    if form.has_colours {
+        return write!(out, "\x1b[31m{code}\x1b[0m");
+    }
+    write!(out, "{code}")
+}
+
+/// A breach in words.
+fn write_words(out: &mut Vec<u8>, form: Form, said: Said<'_>) -> io::Result<()> {
+    let arrival = said.arrival;
+    let words = words_of(said.breach.kind);
+    write!(out, "message {arrival}: ")?;
+    write_code(out, form, said.breach.code())?;
+    write!(out, " ")?;
+    write_place(out, said.breach)?;
     write!(out, ": {words}")?;
-    if let Some(line) = line {
+    write_next(out, said.next)?;
+    if let Some(line) = said.line {
         write!(out, " (profile line {line})")?;
     }
-    if let Some(text) = text {
+    if let Some(text) = said.text {
         write!(out, ": ")?;
         write_text(out, text)?;
     }
     writeln!(out)
+}
+
+/// A breach in the form that is asked for.
+fn write_breach(out: &mut Vec<u8>, form: Form, said: Said<'_>) -> io::Result<()> {
+    if form.is_json {
+        return write_json(out, said);
+    }
+    write_words(out, form, said)
 }
 
 /// A text as its printable characters; each other byte, and each quote and backslash, as `\u00` and two digits. So JSON can have it too.
@@ -208,12 +280,15 @@ impl Tally {
             } else {
                 None
             };
-            let line = spelled.lines.line_of(breach);
-            let written = if form.is_json {
-                write_json(out, self.messages, breach, line, text)
-            } else {
-                write_words(out, self.messages, breach, line, text)
+            let next = next_of(alloc, &spelled.profile, message, number, breach.kind)?;
+            let said = Said {
+                arrival: self.messages,
+                breach,
+                line: spelled.lines.line_of(breach),
+                text,
+                next: &next,
             };
+            let written = write_breach(out, form, said);
             if written.is_err() {
                 return Err(RunFault::Memory);
             }
@@ -410,7 +485,7 @@ fn read_spelled<'a, R: Files + AllocGlobal>(
 }
 
 /// Reports every breach of each message of a stream by a profile, and returns the status: done where each message conforms.
-pub(crate) fn report<'a, R: Files + AllocGlobal, I: Read, O: Write, E: Write>(
+pub(crate) fn report<'a, R: Files + AllocGlobal, I: Read, O: Write + IsTerminal, E: Write>(
     rt: &R,
     words: &ArgMatches<'a>,
     input: &mut I,
@@ -422,6 +497,7 @@ pub(crate) fn report<'a, R: Files + AllocGlobal, I: Read, O: Write, E: Write>(
     let form = Form {
         is_json: words.get_flag("json"),
         has_values: words.get_flag("values"),
+        has_colours: output.is_terminal(),
     };
     let mut tally = Tally::new(alloc);
     let reported = report_all(alloc, &spelled, form, &mut tally, input, output);

@@ -72,7 +72,7 @@ fn done<
         + Drop,
     D: Read + Drop + Send + Sync,
     I: Read + Drop + Send,
-    O: Write,
+    O: Write + IsTerminal,
     E: Write + IsTerminal,
 >(
     rt: &R,

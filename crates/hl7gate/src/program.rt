@@ -59,7 +59,13 @@ fn ran<'a, R: Files + Clock + AllocGlobal, I: Read, O: Write, E: Write + IsTermi
 }
 
 /// Does the command of these words, and answers the status.
-pub(crate) fn command<'a, R: Files + Clock + AllocGlobal, I: Read, O: Write, E: Write + IsTerminal>(
+pub(crate) fn command<
+    'a,
+    R: Files + Clock + AllocGlobal,
+    I: Read,
+    O: Write + IsTerminal,
+    E: Write + IsTerminal,
+>(
     rt: &R,
     words: &ArgMatches<'a>,
     input: &mut I,

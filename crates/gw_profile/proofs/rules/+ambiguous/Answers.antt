@@ -58,7 +58,7 @@ group_ambiguous-returns-clause-found t c =
     let after = c.args.near.now.keys ++ joined (drop c.args.start c.args.far.now.items) in
     subst (λ (o : Option (List ℕ)). IfOk c.inner_ambiguous.result (λ found. found ≡ o))
     (group_more c.args.card (forest c.args.nodes.now) after (c.in_ok-again.again.keys ++ joined (drop c.args.start (c.args.far.now.items ++ c.args.near.now ∷ []))) c.deref-3.result.now
-    (c.deref-3.ensures.value ∙ c.in_ok-add_first.ensures ∙ ap (λ (l : List (List ℕ)). l ++ first_names (forest c.args.nodes.now)) c.new-first.ensures.items)
+    (c.deref-3.ensures.value ∙ c.in_ok-add_first_names.ensures ∙ ap (λ (l : List (List ℕ)). l ++ first_names (forest c.args.nodes.now)) c.new-first.ensures.items)
     (ap (λ (f : List (List ℕ)). clash c.args.card f after) (c.deref-3.ensures.value ∙ sym c.deref.ensures.value)
     ∙ ap (λ (s : List Set). clash c.args.card c.deref.result.now (c.args.near.now.keys ++ joined (drop c.args.start s))) (sym c.deref-2.ensures.value)
     ∙ ap (λ (s : List Set). clash c.args.card c.deref.result.now (c.args.near.now.keys ++ joined s)) (sym (take_rest c.deref-2.result.now c.args.start)) ∙ sym c.clash.ensures ∙ c.in_default.is)
@@ -71,8 +71,8 @@ ambiguous-returns-in_err-name t c = record { found = IfOk-from_err _ _ c.from_re
 pub ambiguous-returns-in_err-put_before : goal.ambiguous-returns-in_err-put_before
 ambiguous-returns-in_err-put_before t c = record { found = IfOk-from_err _ _ c.from_residual-in_err-put_before.ensures.0; kept = IfOk-from_err _ _ c.from_residual-in_err-put_before.ensures.0 }
 
-pub group_ambiguous-returns-in_err-add_first : goal.group_ambiguous-returns-in_err-add_first
-group_ambiguous-returns-in_err-add_first t c = record { found = IfOk-from_err _ _ c.from_residual.ensures.0; kept = IfOk-from_err _ _ c.from_residual.ensures.0; near = IfOk-from_err _ _ c.from_residual.ensures.0 }
+pub group_ambiguous-returns-in_err-add_first_names : goal.group_ambiguous-returns-in_err-add_first_names
+group_ambiguous-returns-in_err-add_first_names t c = record { found = IfOk-from_err _ _ c.from_residual.ensures.0; kept = IfOk-from_err _ _ c.from_residual.ensures.0; near = IfOk-from_err _ _ c.from_residual.ensures.0 }
 
 pub group_ambiguous-returns-in_err-again : goal.group_ambiguous-returns-in_err-again
 group_ambiguous-returns-in_err-again t c = record { found = IfOk-from_err _ _ c.from_residual-in_err-again.ensures.0; kept = IfOk-from_err _ _ c.from_residual-in_err-again.ensures.0; near = IfOk-from_err _ _ c.from_residual-in_err-again.ensures.0 }

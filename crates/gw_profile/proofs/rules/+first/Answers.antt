@@ -9,6 +9,6 @@ use Rattle.gw_profile.proofs.rules.+first.Goals as goal
 
 pub add_first_of-returns-in-Group : goal.add_first_of-returns-in-Group
 add_first_of-returns-in-Group t c =
-    subst (λ (l : List (List ℕ)). OnOk c.add_first.result (c.add_first.new.out.items ≡ c.args.out.now.items ++ l))
+    subst (λ (l : List (List ℕ)). OnOk c.add_first_names.result (c.add_first_names.new.out.items ≡ c.args.out.now.items ++ l))
     (ap (λ l. first_names (forest l)) c.deref.ensures.value ∙ first_of_group c.in-Group.group (sym (c.if-not-allows.ensures ∙ ap (λ (k : Card). allows k.max 1) (c.card.ensures ∙ ap card_of c.in-Group.is))) ∙ ap first_of_node (sym c.in-Group.is))
-    c.add_first.ensures
+    c.add_first_names.ensures

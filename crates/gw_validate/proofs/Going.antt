@@ -1,0 +1,131 @@
+-- The names with which a list goes on.
+use Rattle.std.proofs.Common.{◌≡◌, ℕ, zero, suc, ◌+◌, ◌<◌, ◌≤◌, Bool, true, false, List, [], ◌∷◌, ◌++◌, Option, Some, None, refl, sym, ap, ◌∙◌, subst, arith, length, take, drop, map, append_assoc, append-nil}
+use Rattle.std.specs.Prelude.{◌&&◌, ◌==◌, if◌then◌else◌, ◌↔◌}
+use Rattle.std.proofs.lemmas.List.{take_all, map-append, take-append-drop}
+use Rattle.gw_er7.specs.Message.{SegmentValue}
+use Rattle.gw_profile.specs.declared.shape.Card.{Card}
+use Rattle.gw_profile.specs.declared.node.Node.{Node, Seg, Group'}
+use Rattle.gw_profile.specs.Among.{Among}
+use Rattle.gw_profile.specs.Line.{allows}
+use Rattle.gw_profile.specs.LookAhead.{first_names, is_optional}
+use Rattle.gw_profile.specs.Names.{stands}
+use Rattle.gw_profile.specs.Seen.{row_forest}
+use Rattle.gw_profile.specs.Shapes.{Forest, nothing, segment, group}
+use Rattle.gw_profile.specs.Deterministic.{Name, First, Determined}
+use Rattle.gw_profile.proofs.Ambiguity.{allows_is, first_named}
+use Rattle.gw_validate.specs.declared.walk.Frame.{Frame}
+use Rattle.gw_validate.specs.Conforming.{names, named, segment_at, listed}
+use Rattle.gw_validate.specs.Cuts.{Begins, Fits}
+use Rattle.gw_validate.specs.Next.{AreNext}
+use Rattle.gw_validate.specs.own.Firsts.{first_of}
+use Rattle.gw_validate.specs.own.Residual.{has_room, append, after_name}
+use Rattle.gw_validate.specs.own.State.{due_forest, frame_forest, stack_on}
+use Rattle.gw_validate.proofs.Exact.{Steps, step}
+use Rattle.gw_validate.proofs.Gathered.{take_segment}
+use Rattle.gw_validate.proofs.Listed.{listed_more}
+use Rattle.gw_validate.proofs.Passed.{left_more, begins, stuck}
+use Rattle.gw_validate.proofs.Runs.{left, Run, Runs, run}
+use Rattle.gw_validate.proofs.Walking.{stack_on-push}
+
+-- ---- the names of the first segments
+
+names_next : (f : Forest) (m : List SegmentValue) (i : ℕ) → i < length m → names f (take (i + 1) m) ≡ names f (take i m) ++ (if stands f (named m i) then named m i ∷ [] else [])
+names_next f m i lt =
+    let one : i + 1 ≡ suc i = omega arith in
+    ap (λ n. names f (take n m)) one ∙ ap (names f) (take_segment m i lt)
+    ∙ ap (map (λ (s : SegmentValue). s.name)) (listed_more f (take i m) (segment_at m i))
+    ∙ map-append _ (listed f (take i m)) _
+    ∙ ap (λ l. names f (take i m) ++ l) (by (stands f (named m i)))
+  where
+    by : (b : Bool) → map (λ (s : SegmentValue). s.name) (if b then segment_at m i ∷ [] else []) ≡ (if b then named m i ∷ [] else [])
+    by true = refl
+    by false = refl
+
+module _ (f : Forest) (m : List SegmentValue) (i : ℕ) (lt : i < length m) (found : List Name) (so_far : found ≡ names f (take i m)) (name : Name) (is : name ≡ named m i) (there : Bool) (tells : there ≡ stands f name) where
+  same : stands f (named m i) ≡ there
+  same = ap (stands f) (sym is) ∙ sym tells
+
+  pub name_found : there ≡ true → (new : List Name) → new ≡ found ++ name ∷ [] → new ≡ names f (take (i + 1) m)
+  name_found so new pushed =
+      pushed ∙ ap (λ l. l ++ name ∷ []) so_far ∙ ap (λ n. names f (take i m) ++ n ∷ []) is
+      ∙ sym (names_next f m i lt ∙ ap (λ b. names f (take i m) ++ (if b then named m i ∷ [] else [])) (same ∙ so))
+
+  pub name_passed : there ≡ false → found ≡ names f (take (i + 1) m)
+  name_passed never =
+      so_far ∙ sym (append-nil (names f (take i m))) ∙ sym (names_next f m i lt ∙ ap (λ b. names f (take i m) ++ (if b then named m i ∷ [] else [])) (same ∙ never))
+
+pub names_all : (f : Forest) (m : List SegmentValue) (i count number : ℕ) (found : List Name) → count ≡ length m → count ≤ i → i ≤ number → found ≡ names f (take i m) → found ≡ names f (take number m)
+names_all f m i count number found long end le so_far =
+    so_far ∙ ap (names f) (take_all i m (omega (arith, long, end)) ∙ sym (take_all number m (omega (arith, long, end, le))))
+
+-- ---- the first names of what is left
+
+room_allows : (most : Option ℕ) → allows most 1 ≡ has_room most
+room_allows None = refl
+room_allows (Some zero) = refl
+room_allows (Some (suc n)) = (allows_is (Some (suc n)) 1).1 (omega arith)
+
+pub first_due : (n : Node) (due : Card) (rest : Forest) → first_names (due_forest n due rest) ≡ first_of n due.max ++ (if due.min == 0 then first_names rest else [])
+first_due (Seg s) due rest =
+    ap (λ b. (if b then s.name ∷ [] else []) ++ (if due.min == 0 then first_names rest else [])) (room_allows due.max)
+first_due (Group' label usage card shape row) due rest =
+    ap (λ b. (if b then first_names (row_forest row) else []) ++ (if due.min == 0 then first_names rest else [])) (room_allows due.max)
+
+pub optional_due : (n : Node) (due : Card) (rest : Forest) → is_optional (due_forest n due rest) ≡ (due.min == 0) && is_optional rest
+optional_due (Seg s) due rest = refl
+optional_due (Group' label usage card shape row) due rest = refl
+
+joined : (own : List Name) (zero all : Bool) (rest behind both : List Name) → both ≡ rest ++ (if all then behind else []) → own ++ (if zero then both else []) ≡ (own ++ (if zero then rest else [])) ++ (if zero && all then behind else [])
+joined own true all rest behind both e = ap (λ l. own ++ l) e ∙ sym (append_assoc own rest _)
+joined own false all rest behind both e = sym (append-nil (own ++ []))
+
+first-join : (f g : Forest) → first_names (append f g) ≡ first_names f ++ (if is_optional f then first_names g else [])
+first-join nothing g = refl
+first-join (segment s rest) g = joined (if allows s.card.max 1 then s.name ∷ [] else []) (s.card.min == 0) (is_optional rest) (first_names rest) (first_names g) (first_names (append rest g)) (first-join rest g)
+first-join (group v nodes rest) g = joined (if allows v.card.max 1 then first_names nodes else []) (v.card.min == 0) (is_optional rest) (first_names rest) (first_names g) (first_names (append rest g)) (first-join rest g)
+
+module _ (f : Frame) (start rest popped : List Frame) (found new : List Name) (absent : Bool) (same : first_names (stack_on start nothing) ≡ found ++ first_names (stack_on popped nothing)) (pop : popped ≡ rest ++ f ∷ []) (added : new ≡ found ++ first_names (frame_forest f)) (tells : absent ≡ is_optional (frame_forest f)) where
+  split : first_names (stack_on start nothing) ≡ new ++ (if absent then first_names (stack_on rest nothing) else [])
+  split =
+      same
+      ∙ ap (λ l. found ++ first_names (stack_on l nothing)) pop
+      ∙ ap (λ h. found ++ first_names h) (stack_on-push rest f nothing)
+      ∙ ap (λ l. found ++ l) (first-join (frame_forest f) (stack_on rest nothing))
+      ∙ sym (append_assoc found (first_names (frame_forest f)) _)
+      ∙ ap (λ l. l ++ (if is_optional (frame_forest f) then first_names (stack_on rest nothing) else [])) (sym added)
+      ∙ ap (λ b. new ++ (if b then first_names (stack_on rest nothing) else [])) (sym tells)
+
+  pub first_on : absent ≡ true → first_names (stack_on start nothing) ≡ new ++ first_names (stack_on rest nothing)
+  first_on so = split ∙ ap (λ b. new ++ (if b then first_names (stack_on rest nothing) else [])) so
+
+  pub first_ended : absent ≡ false → new ≡ first_names (stack_on start nothing)
+  first_ended never = sym (split ∙ ap (λ b. new ++ (if b then first_names (stack_on rest nothing) else [])) never ∙ append-nil new)
+
+pub first_all : (start popped : List Frame) (found : List Name) → first_names (stack_on start nothing) ≡ found ++ first_names (stack_on popped nothing) → popped ≡ [] → found ≡ first_names (stack_on start nothing)
+first_all start popped found same end = sym (same ∙ ap (λ l. found ++ first_names (stack_on l nothing)) end ∙ append-nil found)
+
+-- ---- which names go on
+
+-- none goes on where the names don't begin a list
+pub none_next : (f : Forest) (before : List Name) (i : ℕ) → (Begins f (take i before) → ⊥) → (found : List Name) → found ≡ [] → AreNext f before found
+none_next f before i never found none x = (λ h. absurd (subst (Among x) none h), λ b. absurd (never (front b)))
+  where
+    front : Begins f (before ++ x ∷ []) → Begins f (take i before)
+    front b = (
+      drop i before ++ (x ∷ [] ++ b.0),
+      subst (Fits f) (ap (λ l. (l ++ x ∷ []) ++ b.0) (sym (take-append-drop i before)) ∙ append_assoc (take i before ++ drop i before) (x ∷ []) b.0 ∙ append_assoc (take i before) (drop i before) (x ∷ [] ++ b.0)) b.1,
+    )
+
+module _ (f : Forest) (A : Name → Type 0) (wf : Determined f A) (before : List Name) (g : Forest) (e : left f before ≡ Some g) where
+  kept : Determined g A
+  kept = (let r : Run f A before g = subst (Runs f A before) e (run before f A wf) in r.kept)
+
+  goes : (x : Name) (o : Option Forest) → after_name g x ≡ o → Steps g A x o → First g x ↔ Begins f (before ++ x ∷ [])
+  goes x None is s = (λ h. absurd (s h), λ b. absurd (stuck f A wf before g e x is b))
+  goes x (Some k) is s = (λ h. begins f A wf (before ++ x ∷ []) k (left_more f before x g e ∙ is), λ b. s.first)
+
+  pub are_next : (found : List Name) → found ≡ first_names g → AreNext f before found
+  are_next found is x =
+      let here = first_named g x in
+      let on = goes x (after_name g x) refl (step g A kept x) in
+      (λ h. on.0 (here.0 (subst (Among x) is h)), λ b. subst (Among x) (sym is) (here.1 (on.1 b)))
