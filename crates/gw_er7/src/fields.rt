@@ -183,7 +183,7 @@ fn push_other(
     let from = taken.bytes.len();
     push_canonical(&mut taken.bytes, delimiters, raw, plain)?;
     let len = taken.bytes.len() - from;
-    taken.spans.push(&TextSpan { place, from, len })?;
+    taken.spans.push(TextSpan { place, from, len })?;
     Ok(())
 }
 
@@ -216,7 +216,7 @@ fn push_value(
         from: at,
         len: raw.len(),
     };
-    taken.spans.push(&span)?;
+    taken.spans.push(span)?;
     Ok(())
 }
 

@@ -36,16 +36,20 @@ pub(crate) struct NarrowSpan<P, L> {
 
 /// A width of numbers: `said` is the number that one says, and `most` the largest that fits.
 pub(crate) trait Number: Copy {
-    ghost use Rattle.std.specs.Prelude.{◌≡◌, ◌≤◌, ◌↔◌, ℕ, IsSome, IfSome};
+    ghost use Rattle.std.specs.Prelude.{◌≡◌, ◌≤◌, ◌↔◌, ℕ, IsTrue};
 
     ghost said: { Self → ℕ };
 
     ghost most: { ℕ };
 
-    /// The number in this width, where it fits.
-    fn narrowed(number: usize) -> Option<Self>
-        ensures same { IfSome result (λ narrow. said narrow ≡ number) }
-        ensures fits { IsSome result ↔ (number ≤ most) };
+    /// Whether the number fits in this width.
+    fn fits(number: usize) -> bool
+        ensures { IsTrue result ↔ (number ≤ most) };
+
+    /// The number in this width.
+    fn narrowed(number: usize) -> Self
+        requires { number ≤ most }
+        ensures { said result ≡ number };
 
     fn widened(self) -> usize
         ensures { result ≡ said self };
@@ -59,8 +63,13 @@ impl Number for u8 {
     ghost most = { 2 ^ 8 - 1 };
 
     #[inline(always)]
-    fn narrowed(number: usize) -> Option<u8> {
-        u8::try_from(number).ok()
+    fn fits(number: usize) -> bool {
+        number <= u8::MAX as usize
+    }
+
+    #[inline(always)]
+    fn narrowed(number: usize) -> u8 {
+        number as u8
     }
 
     #[inline(always)]
@@ -77,8 +86,13 @@ impl Number for u16 {
     ghost most = { 2 ^ 16 - 1 };
 
     #[inline(always)]
-    fn narrowed(number: usize) -> Option<u16> {
-        u16::try_from(number).ok()
+    fn fits(number: usize) -> bool {
+        number <= u16::MAX as usize
+    }
+
+    #[inline(always)]
+    fn narrowed(number: usize) -> u16 {
+        number as u16
     }
 
     #[inline(always)]
@@ -95,8 +109,13 @@ impl Number for u32 {
     ghost most = { 2 ^ 32 - 1 };
 
     #[inline(always)]
-    fn narrowed(number: usize) -> Option<u32> {
-        u32::try_from(number).ok()
+    fn fits(number: usize) -> bool {
+        number <= u32::MAX as usize
+    }
+
+    #[inline(always)]
+    fn narrowed(number: usize) -> u32 {
+        number as u32
     }
 
     #[inline(always)]
@@ -107,7 +126,7 @@ impl Number for u32 {
 
 /// A width of spans: `said` is what one says, as a span of 48 bytes; the largest number of a place that fits is `farthest`, and of the others `largest`.
 pub(crate) trait Width: Copy {
-    ghost use Rattle.std.specs.Prelude.{◌≡◌, ◌↔◌, ℕ, IsSome, IfSome};
+    ghost use Rattle.std.specs.Prelude.{◌≡◌, ◌↔◌, ℕ, IsTrue};
     ghost use Rattle.gw_er7.specs.declared.spans.TextSpan.{TextSpan};
     ghost use Rattle.gw_er7.specs.own.Spans.{IsUpTo};
 
@@ -117,10 +136,14 @@ pub(crate) trait Width: Copy {
 
     ghost largest: { ℕ };
 
-    /// The span in this width, where its numbers fit.
-    fn narrowed(span: TextSpan) -> Option<Self>
-        ensures same { IfSome result (λ narrow. said narrow ≡ span) }
-        ensures fits { IsSome result ↔ IsUpTo farthest largest span };
+    /// Whether the numbers of the span fit in this width.
+    fn fits(span: TextSpan) -> bool
+        ensures { IsTrue result ↔ IsUpTo farthest largest span };
+
+    /// The span in this width.
+    fn narrowed(span: TextSpan) -> Self
+        requires { IsUpTo farthest largest span }
+        ensures { said result ≡ span };
 
     fn widened(self) -> TextSpan
         ensures { result ≡ said self };
@@ -138,15 +161,25 @@ impl<P: Number, L: Number> Width for NarrowSpan<P, L> {
     ghost largest = { L.most };
 
     #[inline(always)]
-    fn narrowed(span: TextSpan) -> Option<NarrowSpan<P, L>> {
-        Some(NarrowSpan {
-            field: P::narrowed(span.place.field)?,
-            rep: P::narrowed(span.place.rep)?,
-            comp: P::narrowed(span.place.comp)?,
-            sub: P::narrowed(span.place.sub)?,
-            from: L::narrowed(span.from)?,
-            len: L::narrowed(span.len)?,
-        })
+    fn fits(span: TextSpan) -> bool {
+        P::fits(span.place.field)
+            && P::fits(span.place.rep)
+            && P::fits(span.place.comp)
+            && P::fits(span.place.sub)
+            && L::fits(span.from)
+            && L::fits(span.len)
+    }
+
+    #[inline(always)]
+    fn narrowed(span: TextSpan) -> NarrowSpan<P, L> {
+        NarrowSpan {
+            field: P::narrowed(span.place.field),
+            rep: P::narrowed(span.place.rep),
+            comp: P::narrowed(span.place.comp),
+            sub: P::narrowed(span.place.sub),
+            from: L::narrowed(span.from),
+            len: L::narrowed(span.len),
+        }
     }
 
     #[inline(always)]
@@ -174,8 +207,12 @@ impl Width for TextSpan {
 
     ghost largest = { 2 ^ 64 - 1 };
 
-    fn narrowed(span: TextSpan) -> Option<TextSpan> {
-        Some(span)
+    fn fits(span: TextSpan) -> bool {
+        true
+    }
+
+    fn narrowed(span: TextSpan) -> TextSpan {
+        span
     }
 
     fn widened(self) -> TextSpan {
@@ -239,8 +276,8 @@ pub(crate) trait Store: Drop {
         ensures { IfOk result (λ made. spans made ≡ []) };
 
     /// Puts a span behind the others.
-    fn push(&mut self, span: &TextSpan) -> Result<(), AllocError>
-        ensures ok { OnOk result (spans self.new ≡ spans self.old ++ span.now ∷ []) }
+    fn push(&mut self, span: TextSpan) -> Result<(), AllocError>
+        ensures ok { OnOk result (spans self.new ≡ spans self.old ++ span ∷ []) }
         ensures err { OnErr result (spans self.new ≡ spans self.old) };
 
     /// Puts the spans from this number on in the order of their places. It takes no memory.
@@ -281,8 +318,8 @@ impl Store for Vec<TextSpan> {
         Ok(Vec::with_capacity(alloc, room)?)
     }
 
-    fn push(&mut self, span: &TextSpan) -> Result<(), AllocError> {
-        self.push(*span)?;
+    fn push(&mut self, span: TextSpan) -> Result<(), AllocError> {
+        self.push(span)?;
         Ok(())
     }
 
@@ -316,7 +353,7 @@ fn widen_into<N: Width, L: Store>(others: &mut L, narrow: &[N]) -> Result<(), Al
     ensures { OnOk result (L.spans others.new ≡ L.spans others.old ++ map N.said narrow.now) }
 {
     for span in narrow {
-        others.push(&span.widened())?;
+        others.push(span.widened())?;
     }
     Ok(())
 }
@@ -348,8 +385,8 @@ impl<N: Width, L: Store> Spans<N, L> {
     ghost use Rattle.std.specs.Prelude.{◌≡◌, ◌++◌, ◌∷◌, [], OnOk, OnErr};
 
     /// Puts a span behind the others that doesn't fit in the narrow width: none is narrow from now on.
-    fn push_wide(&mut self, span: &TextSpan) -> Result<(), AllocError>
-        ensures ok { OnOk result (self.new ≡ self.old ++ span.now ∷ []) }
+    fn push_wide(&mut self, span: TextSpan) -> Result<(), AllocError>
+        ensures ok { OnOk result (self.new ≡ self.old ++ span ∷ []) }
         ensures err { OnErr result (self.new ≡ self.old) }
     {
         if self.narrow.is_empty() {
@@ -366,17 +403,17 @@ impl<N: Width, L: Store> Spans<N, L> {
     /// Puts a span behind the others, whatever its width.
     #[cold]
     #[inline(never)]
-    fn push_any(&mut self, span: &TextSpan) -> Result<(), AllocError>
-        ensures ok { OnOk result (self.new ≡ self.old ++ span.now ∷ []) }
+    fn push_any(&mut self, span: TextSpan) -> Result<(), AllocError>
+        ensures ok { OnOk result (self.new ≡ self.old ++ span ∷ []) }
         ensures err { OnErr result (self.new ≡ self.old) }
     {
         if self.narrow.is_empty() && self.others.len() > 0 {
             return self.others.push(span);
         }
-        let Some(narrow) = N::narrowed(*span) else {
+        if !N::fits(span) {
             return self.push_wide(span);
-        };
-        self.narrow.push(narrow)?;
+        }
+        self.narrow.push(N::narrowed(span))?;
         Ok(())
     }
 }
@@ -403,13 +440,11 @@ impl<N: Width, L: Store> Store for Spans<N, L> {
 
     // Most spans are narrow, and there is room for them.
     #[inline(always)]
-    fn push(&mut self, span: &TextSpan) -> Result<(), AllocError> {
+    fn push(&mut self, span: TextSpan) -> Result<(), AllocError> {
         let len = self.narrow.len();
-        if 0 < len && len < self.narrow.capacity() {
-            if let Some(narrow) = N::narrowed(*span) {
-                self.narrow.push_reserved(narrow);
-                return Ok(());
-            }
+        if 0 < len && len < self.narrow.capacity() && N::fits(span) {
+            self.narrow.push_reserved(N::narrowed(span));
+            return Ok(());
         }
         self.push_any(span)
     }

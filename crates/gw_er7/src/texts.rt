@@ -72,7 +72,7 @@ impl Texts {
             from,
             len: text.len(),
         };
-        match self.spans.push(&span) {
+        match self.spans.push(span) {
             Ok(()) => Ok(()),
             Err(_) => {
                 self.bytes.truncate(from);
