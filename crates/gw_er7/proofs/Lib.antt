@@ -38,3 +38,6 @@ pub mod Builds
 pub mod Sames
 pub mod Controls
 pub mod Lies
+pub mod Tables
+pub mod Placed
+pub mod Wholes

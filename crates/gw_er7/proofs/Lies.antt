@@ -1,26 +1,57 @@
 -- Values that lie among the bytes that were taken in.
-use Rattle.std.proofs.Common.{◌≡◌, ℕ, ◌+◌, ◌≤◌, List, [], ◌∷◌, ◌++◌, length, take, drop, Option, None, Some, refl, sym, ap, ◌∙◌, append_assoc, append-nil, arith}
+use Rattle.std.proofs.Common.{◌≡◌, ℕ, ◌+◌, ◌-◌, ◌<◌, ◌≤◌, ◌⊎◌, inl, inr, List, [], ◌∷◌, ◌++◌, length, take, drop, Option, None, Some, sym, ap, subst, ◌∙◌, append_assoc, append-nil, arith}
 use Rattle.std.specs.List.{position_or_len}
-use Rattle.std.proofs.lemmas.List.{map-append, length-append, take_all, drop_all}
+use Rattle.std.proofs.lemmas.Bool.{cases_lt}
+use Rattle.std.proofs.lemmas.List.{map-append, length-append, length-take, length-drop, take-append-drop, take_all, drop_all}
 use Rattle.std.proofs.Math.Seq.{drop-append_seam, take-append_seam}
 use denote.Ref.{Bor}
 use Rattle.gw_er7.specs.declared.delimiters.Delimiters.{Delimiters}
 use Rattle.gw_er7.specs.declared.spans.TextSpan.{TextSpan}
 use Rattle.gw_er7.specs.Text.{canon}
 use Rattle.gw_er7.specs.View.{Held, held_at, held}
-use Rattle.gw_er7.specs.own.Separators.{Lies, Grows, IsCut}
+use Rattle.gw_er7.specs.own.Separators.{Lies, IsCut}
 use Rattle.gw_er7.proofs.Heads.{stops, canon-head}
 
-pub lies_last : (old new part : List ℕ) → new ≡ old ++ part → Lies new (length old) part
-lies_last old new part e = record { before = old; after = []; is = e ∙ ap (λ (x : List ℕ). old ++ x) (sym (append-nil part)); long = refl }
-
-pub lies_grown : (old new : List ℕ) (at : ℕ) (part : List ℕ) → Lies old at part → Grows old new → Lies new at part
-lies_grown old new at part l g = record {
+-- it lies there still, where others are put behind
+pub lies_grown : (bytes more : List ℕ) (at : ℕ) (part : List ℕ) → Lies bytes at part → Lies (bytes ++ more) at part
+lies_grown bytes more at part l = record {
   before = l.before;
-  after = l.after ++ g.more;
-  is = g.is ∙ ap (λ (x : List ℕ). x ++ g.more) l.is ∙ append_assoc l.before (part ++ l.after) g.more ∙ ap (λ (x : List ℕ). l.before ++ x) (append_assoc part l.after g.more);
+  after = l.after ++ more;
+  is = ap (λ (x : List ℕ). x ++ more) l.is ∙ append_assoc l.before (part ++ l.after) more ∙ ap (λ (x : List ℕ). l.before ++ x) (append_assoc part l.after more);
   long = l.long;
 }
+
+-- nothing lies where it ends
+lies_end : (bytes : List ℕ) (at : ℕ) (part : List ℕ) → Lies bytes at part → Lies bytes (at + length part) []
+lies_end bytes at part l = record {
+  before = l.before ++ part;
+  after = l.after;
+  is = l.is ∙ sym (append_assoc l.before part l.after);
+  long = omega (arith, length-append l.before part, l.long);
+}
+
+-- what stands behind the first bytes
+lies_after : (bytes : List ℕ) (at skip : ℕ) (part : List ℕ) → skip ≤ length part → Lies bytes at part → Lies bytes (at + skip) (drop skip part)
+lies_after bytes at skip part le l = record {
+  before = l.before ++ take skip part;
+  after = l.after;
+  is = l.is ∙ ap (λ (x : List ℕ). l.before ++ (x ++ l.after)) (sym (take-append-drop skip part)) ∙ ap (λ (x : List ℕ). l.before ++ x) (append_assoc (take skip part) (drop skip part) l.after)
+      ∙ sym (append_assoc l.before (take skip part) (drop skip part ++ l.after));
+  long = omega (arith, le, length-append l.before (take skip part), length-take skip part, l.long);
+}
+
+-- the same, also where there are too few
+pub lies_skipped : (bytes : List ℕ) (at skip : ℕ) (part rest : List ℕ) → rest ≡ drop skip part → Lies bytes at part → Lies bytes (at + length part - length rest) rest
+lies_skipped bytes at skip part rest e l = by (cases_lt (length part) skip)
+  where
+    by : (length part < skip) ⊎ (skip ≤ length part) → Lies bytes (at + length part - length rest) rest
+    by (inr le) =
+        let place : at + skip ≡ at + length part - length rest = omega (arith, le, ap length e, length-drop skip part) in
+        subst (λ (n : ℕ). Lies bytes n rest) place (subst (λ (x : List ℕ). Lies bytes (at + skip) x) (sym e) (lies_after bytes at skip part le l))
+    by (inl lt) =
+        let none : rest ≡ [] = e ∙ drop_all skip part (omega (arith, lt)) in
+        let place : at + length part ≡ at + length part - length rest = omega (arith, ap length none) in
+        subst (λ (n : ℕ). Lies bytes n rest) place (subst (λ (x : List ℕ). Lies bytes (at + length part) x) (sym none) (lies_end bytes at part l))
 
 pub lies_first : (bytes : List ℕ) (at : ℕ) (part value behind : List ℕ) → part ≡ value ++ behind → Lies bytes at part → Lies bytes at value
 lies_first bytes at part value behind e l = record {

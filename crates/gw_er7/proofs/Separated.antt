@@ -10,7 +10,7 @@ use Rattle.std.proofs.lemmas.Grind.{common_steps}
 use Rattle.std.proofs.lemmas.List.Splits.{slice_split_none, slice_split_at}
 use Rattle.gw_er7.specs.declared.delimiters.Delimiters.{Delimiters}
 use Rattle.gw_er7.specs.Text.{canon}
-use Rattle.gw_er7.specs.Entries.{Entry, under, numbered, level, value}
+use Rattle.gw_er7.specs.Entries.{Entry, under, numbered, level, value, fields}
 use Rattle.gw_er7.specs.own.Separators.{separators, is_separator, next_numbers, value_at, IsClear, IsLastValue, IsNextValue}
 
 -- the entries of bytes that are cut at these separators, the highest first
@@ -79,6 +79,10 @@ from_first d (t ∷ ts) bytes = numbered_by d t 1 ts bytes (from_first d ts (hea
 
 numbered_from : (d : Delimiters) (t n : ℕ) (ts bytes : List ℕ) → rest d (t ∷ ts) (n ∷ map (λ t. 1) ts) bytes ≡ numbered (entries_at d ts) n (cut t bytes)
 numbered_from d t n ts bytes = numbered_by d t n ts bytes (from_first d ts (head (cut t bytes)))
+
+-- and of a segment's fields the entries of all
+pub rest_first : (d : Delimiters) (first : ℕ) (bytes : List ℕ) → rest d (separators d) (first ∷ 1 ∷ 1 ∷ 1 ∷ []) bytes ≡ fields d first bytes
+rest_first d first bytes = numbered_from d d.field first (d.repetition ∷ d.component ∷ d.subcomponent ∷ []) bytes
 
 -- bytes without a separator are one value
 last_value : (d : Delimiters) (ts ns bytes : List ℕ) → length ns ≡ length ts → IsClear ts bytes → rest d ts ns bytes ≡ value_at d ns bytes

@@ -1,4 +1,5 @@
 -- The program's own words: no public contract rests on them.
+pub mod Classes
 pub mod Separators
 pub mod Gathered
 pub mod Ordered

@@ -4,60 +4,60 @@ ghost use Rattle.std.specs.List.{position_or_len};
 ghost use Rattle.gw_er7.specs.Message.{numbers};
 ghost use Rattle.gw_er7.specs.Entries.{fields};
 ghost use Rattle.gw_er7.specs.Text.{is_special};
-ghost use Rattle.gw_er7.specs.own.Separators.{separators, is_separator, is_mark, next_numbers, value_at, held_in, taken_by, Keeps, IsCut, Lies, Grows};
+ghost use Rattle.gw_er7.specs.own.Separators.{separators, is_separator, is_mark, next_numbers, value_at, bytes_of, held_in, taken_by, Keeps, IsCut, Lies};
 ghost use Rattle.gw_er7.specs.View.{AreInside};
 
-use crate::delimiters::{Delimiters, STANDARD};
-use crate::escapes::{is_special, push_canonical};
+use crate::classes::{ByteClasses, Class};
+use crate::escapes::push_canonical;
 use crate::place::Place;
 use crate::spans::{MessageSpans, Store, TextSpan};
-use crate::texts::Texts;
 use std::alloc::{AllocError, Global};
 
-fn is_separator(delimiters: Delimiters, byte: u8) -> bool
-    ensures { result ≡ is_separator (separators delimiters) byte }
+fn is_separator(classes: &ByteClasses, byte: u8) -> bool
+    ensures { result ≡ is_separator (separators classes.now) byte }
 {
-    byte == delimiters.field
-        || byte == delimiters.repetition
-        || byte == delimiters.component
-        || byte == delimiters.subcomponent
+    !matches!(classes.class(byte), Class::Text | Class::Escape)
 }
 
-fn first_separator(delimiters: Delimiters, bytes: &[u8]) -> Option<usize>
-    ensures { result ≡ position (λ b. is_separator (separators delimiters) b) bytes.now }
+fn first_separator(classes: &ByteClasses, bytes: &[u8]) -> Option<usize>
+    ensures { result ≡ position (λ b. is_separator (separators classes.now) b) bytes.now }
 {
-    bytes
-        .iter()
-        .position(|byte| is_separator(delimiters, *byte))
+    bytes.iter().position(|byte| is_separator(classes, *byte))
 }
 
 /// The bytes up to the first separator, and the separator and the bytes behind it where there is one.
-fn cut_at_separator(delimiters: Delimiters, bytes: &[u8]) -> (&[u8], Option<(u8, &[u8])>)
-    ensures { IsCut (separators delimiters) bytes.now result.0.now result.1 }
+fn cut_at_separator<'a>(
+    classes: &ByteClasses,
+    bytes: &'a [u8],
+) -> (&'a [u8], Option<(u8, &'a [u8])>)
+    ensures { IsCut (separators classes.now) bytes.now result.0.now result.1 }
 {
-    match first_separator(delimiters, bytes) {
+    match first_separator(classes, bytes) {
         None => (bytes, None),
         Some(at) => (&bytes[..at], Some((bytes[at], &bytes[at + 1..]))),
     }
 }
 
-/// Where a value ends, or the first byte of it that doesn't stand for itself.
-fn first_mark(delimiters: Delimiters, bytes: &[u8]) -> Option<usize>
-    ensures { result ≡ position (λ b. is_mark delimiters b) bytes.now }
+// Whether the byte ends a value, or doesn't stand for itself.
+#[inline(always)]
+fn is_mark(classes: &ByteClasses, byte: u8) -> bool
+    ensures { result ≡ is_mark classes.now byte }
 {
-    if delimiters == STANDARD {
-        return bytes.iter().position(|byte| is_special(*byte));
-    }
-    bytes.iter().position(|byte| {
-        is_special(*byte) || *byte == delimiters.escape || is_separator(delimiters, *byte)
-    })
+    !matches!(classes.class(byte), Class::Text)
+}
+
+/// Where a value ends, or the first byte of it that doesn't stand for itself.
+fn first_mark(classes: &ByteClasses, bytes: &[u8]) -> Option<usize>
+    ensures { result ≡ position (λ b. is_mark classes.now b) bytes.now }
+{
+    bytes.iter().position(|byte| is_mark(classes, *byte))
 }
 
 /// How many bytes stand before that one, or how many there are where there is none.
-fn plain_len(delimiters: Delimiters, bytes: &[u8]) -> usize
-    ensures { result ≡ position_or_len (λ b. is_mark delimiters b) bytes.now }
+fn plain_len(classes: &ByteClasses, bytes: &[u8]) -> usize
+    ensures { result ≡ position_or_len (λ b. is_mark classes.now b) bytes.now }
 {
-    first_mark(delimiters, bytes).unwrap_or(bytes.len())
+    first_mark(classes, bytes).unwrap_or(bytes.len())
 }
 
 /// A raw value, the first bytes of which stand for themselves, and the separator and the bytes behind it where there is one.
@@ -69,11 +69,11 @@ struct Cut<'a> {
 }
 
 /// The value with which bytes begin: most are looked through once, up to the separator behind them.
-fn cut_value(delimiters: Delimiters, bytes: &[u8]) -> Cut<'_>
-    ensures cut { IsCut (separators delimiters) bytes.now result.raw.now result.behind }
-    ensures plain { result.plain ≡ position_or_len (λ b. is_special b || b == delimiters.escape) result.raw.now }
+fn cut_value<'a>(classes: &ByteClasses, bytes: &'a [u8]) -> Cut<'a>
+    ensures cut { IsCut (separators classes.now) bytes.now result.raw.now result.behind }
+    ensures plain { result.plain ≡ position_or_len (λ b. is_special b || b == classes.now.escape) result.raw.now }
 {
-    let plain = plain_len(delimiters, bytes);
+    let plain = plain_len(classes, bytes);
     if plain >= bytes.len() {
         return Cut {
             raw: bytes,
@@ -81,84 +81,80 @@ fn cut_value(delimiters: Delimiters, bytes: &[u8]) -> Cut<'_>
             behind: None,
         };
     }
-    if is_separator(delimiters, bytes[plain]) {
+    if is_separator(classes, bytes[plain]) {
         return Cut {
             raw: &bytes[..plain],
             plain,
             behind: Some((bytes[plain], &bytes[plain + 1..])),
         };
     }
-    let (raw, behind) = cut_at_separator(delimiters, bytes);
+    let (raw, behind) = cut_at_separator(classes, bytes);
     Cut { raw, plain, behind }
 }
 
 /// The place behind a separator: its own number is one more, and the lower ones begin again.
-fn next_place(delimiters: Delimiters, place: Place, separator: u8) -> Place
+fn next_place(classes: &ByteClasses, place: Place, separator: u8) -> Place
     requires field { place.field < 2 ^ 64 - 1 }
     requires rep { place.rep < 2 ^ 64 - 1 }
     requires comp { place.comp < 2 ^ 64 - 1 }
     requires sub { place.sub < 2 ^ 64 - 1 }
-    requires separates { is_separator (separators delimiters) separator ≡ true }
-    ensures next { numbers result ≡ next_numbers (separators delimiters) (numbers place) separator }
+    requires separates { is_separator (separators classes.now) separator ≡ true }
+    ensures next { numbers result ≡ next_numbers (separators classes.now) (numbers place) separator }
     ensures field { result.field ≤ place.field + 1 }
     ensures rep { result.rep ≤ place.rep + 1 }
     ensures comp { result.comp ≤ place.comp + 1 }
     ensures sub { result.sub ≤ place.sub + 1 }
 {
     let first = Place { sub: 1, ..place };
-    if separator == delimiters.field {
-        return Place {
+    match classes.class(separator) {
+        Class::Field => Place {
             field: place.field + 1,
             rep: 1,
             comp: 1,
             sub: 1,
-        };
-    }
-    if separator == delimiters.repetition {
-        return Place {
+        },
+        Class::Repetition => Place {
             rep: place.rep + 1,
             comp: 1,
             ..first
-        };
-    }
-    if separator == delimiters.component {
-        return Place {
+        },
+        Class::Component => Place {
             comp: place.comp + 1,
             ..first
-        };
-    }
-    Place {
-        sub: place.sub + 1,
-        ..place
+        },
+        _ => Place {
+            sub: place.sub + 1,
+            ..place
+        },
     }
 }
 
-/// The texts of the message that is being read: spans, and the one buffer in which their texts lie, with the separators between them.
+/// The texts of the message that is being read. Most lie among the message bytes, and those that differ from their raw values lie behind these.
 #[derive(Drop)]
-pub(crate) struct SegmentTexts {
+pub(crate) struct SegmentTexts<'a> {
     pub(crate) spans: MessageSpans,
-    pub(crate) bytes: Vec<u8>,
+    pub(crate) content: &'a [u8],
+    pub(crate) others: Vec<u8>,
 }
 
-impl SegmentTexts {
+impl<'a> SegmentTexts<'a> {
     ghost use Rattle.std.specs.Prelude.{[]};
 
-    /// No text, with capacity for the usual number of texts in `len` message bytes: one for every five bytes.
-    pub(crate) fn with_room(alloc: Global, len: usize) -> Result<SegmentTexts, AllocError>
-        ensures inside { IfOk result (λ t. AreInside t.bytes.items t.spans) }
+    /// No text, with capacity for the usual number of texts in the message bytes: one for every five bytes.
+    pub(crate) fn with_room(
+        alloc: Global,
+        content: &'a [u8],
+    ) -> Result<SegmentTexts<'a>, AllocError>
+        ensures inside { IfOk result (λ t. AreInside (bytes_of t) t.spans) }
         ensures none { IfOk result (λ t. held_in t ≡ []) }
+        ensures content { IfOk result (λ t. t.content.now ≡ content.now) }
     {
-        let spans = MessageSpans::with_room(alloc, len / 5)?;
-        let bytes = Vec::with_capacity(alloc, len)?;
-        Ok(SegmentTexts { spans, bytes })
-    }
-
-    /// The texts.
-    pub(crate) fn close(self) -> Texts
-        requires { AreInside self.bytes.items self.spans }
-        ensures { result ≡ held_in self }
-    {
-        Texts::of(self.spans, self.bytes)
+        let spans = MessageSpans::with_room(alloc, content.len() / 5)?;
+        Ok(SegmentTexts {
+            spans,
+            content,
+            others: Vec::new(alloc),
+        })
     }
 }
 
@@ -166,50 +162,54 @@ impl SegmentTexts {
 #[cold]
 #[inline(never)]
 fn push_other(
-    taken: &mut SegmentTexts,
-    delimiters: Delimiters,
+    taken: &mut SegmentTexts<'_>,
+    classes: &ByteClasses,
     place: Place,
     raw: &[u8],
     plain: usize,
 ) -> Result<(), AllocError>
-    requires inside { AreInside taken.old.bytes.items taken.old.spans }
+    requires inside { AreInside (bytes_of taken.old) taken.old.spans }
     requires some { 0 < length raw.now }
-    requires plain { plain ≡ position_or_len (λ b. is_special b || b == delimiters.escape) raw.now }
-    ensures inside { OnOk result (AreInside taken.new.bytes.items taken.new.spans) }
-    ensures grown { OnOk result (Grows taken.old.bytes.items taken.new.bytes.items) }
+    requires plain { plain ≡ position_or_len (λ b. is_special b || b == classes.now.escape) raw.now }
+    ensures inside { OnOk result (AreInside (bytes_of taken.new) taken.new.spans) }
+    ensures content { OnOk result (taken.new.content.now ≡ taken.old.content.now) }
     ensures kept { OnOk result (Keeps taken.old taken.new) }
-    ensures entries { OnOk result (taken_by taken.new ≡ taken_by taken.old ++ value_at delimiters (numbers place) raw.now) }
+    ensures entries { OnOk result (taken_by taken.new ≡ taken_by taken.old ++ value_at classes.now (numbers place) raw.now) }
 {
-    let from = taken.bytes.len();
-    push_canonical(&mut taken.bytes, delimiters, raw, plain)?;
-    let len = taken.bytes.len() - from;
-    taken.spans.push(TextSpan { place, from, len })?;
+    let from = taken.others.len();
+    push_canonical(&mut taken.others, classes.delimiters(), raw, plain)?;
+    let span = TextSpan {
+        place,
+        from: taken.content.len() + from,
+        len: taken.others.len() - from,
+    };
+    taken.spans.push(span)?;
     Ok(())
 }
 
-/// Reads the raw value at a place, which lies among the bytes. Its first `plain` bytes stand for themselves: where all do, it is its own text.
+/// Reads the raw value at a place, which lies among the message bytes. Its first `plain` bytes stand for themselves: where all do, it is its own text.
 #[inline(always)]
 fn push_value(
-    taken: &mut SegmentTexts,
-    delimiters: Delimiters,
+    taken: &mut SegmentTexts<'_>,
+    classes: &ByteClasses,
     place: Place,
     at: usize,
     raw: &[u8],
     plain: usize,
 ) -> Result<(), AllocError>
-    requires inside { AreInside taken.old.bytes.items taken.old.spans }
-    requires lies { Lies taken.old.bytes.items at raw.now }
-    requires plain { plain ≡ position_or_len (λ b. is_special b || b == delimiters.escape) raw.now }
-    ensures inside { OnOk result (AreInside taken.new.bytes.items taken.new.spans) }
-    ensures grown { OnOk result (Grows taken.old.bytes.items taken.new.bytes.items) }
+    requires inside { AreInside (bytes_of taken.old) taken.old.spans }
+    requires lies { Lies taken.old.content.now at raw.now }
+    requires plain { plain ≡ position_or_len (λ b. is_special b || b == classes.now.escape) raw.now }
+    ensures inside { OnOk result (AreInside (bytes_of taken.new) taken.new.spans) }
+    ensures content { OnOk result (taken.new.content.now ≡ taken.old.content.now) }
     ensures kept { OnOk result (Keeps taken.old taken.new) }
-    ensures entries { OnOk result (taken_by taken.new ≡ taken_by taken.old ++ value_at delimiters (numbers place) raw.now) }
+    ensures entries { OnOk result (taken_by taken.new ≡ taken_by taken.old ++ value_at classes.now (numbers place) raw.now) }
 {
     if raw.is_empty() {
         return Ok(());
     }
     if plain < raw.len() {
-        return push_other(taken, delimiters, place, raw, plain);
+        return push_other(taken, classes, place, raw, plain);
     }
     let span = TextSpan {
         place,
@@ -220,31 +220,21 @@ fn push_value(
     Ok(())
 }
 
-/// Takes in the bytes of fields, among which most texts lie. It gives where the first of the bytes lies.
-fn take_bytes(taken: &mut SegmentTexts, bytes: &[u8]) -> Result<usize, AllocError>
-    requires inside { AreInside taken.old.bytes.items taken.old.spans }
-    ensures inside { OnOk result (AreInside taken.new.bytes.items taken.new.spans) }
-    ensures kept { OnOk result (Keeps taken.old taken.new) }
-    ensures entries { OnOk result (taken_by taken.new ≡ taken_by taken.old) }
-    ensures lies { IfOk result (λ at. Lies taken.new.bytes.items at bytes.now) }
-{
-    let at = taken.bytes.len();
-    taken.bytes.extend_from_slice(bytes)?;
-    Ok(at)
-}
-
-/// Takes in the fields of a segment, the first of which has this number.
+/// Takes in the fields of a segment, which lie among the message bytes; the first of them has this number.
 pub(crate) fn take_fields(
-    taken: &mut SegmentTexts,
-    delimiters: Delimiters,
+    taken: &mut SegmentTexts<'_>,
+    classes: &ByteClasses,
     first: usize,
+    at: usize,
     bytes: &[u8],
 ) -> Result<(), AllocError>
     requires first { first ≤ 3 }
-    requires inside { AreInside taken.old.bytes.items taken.old.spans }
-    ensures inside { OnOk result (AreInside taken.new.bytes.items taken.new.spans) }
+    requires inside { AreInside (bytes_of taken.old) taken.old.spans }
+    requires lies { Lies taken.old.content.now at bytes.now }
+    ensures inside { OnOk result (AreInside (bytes_of taken.new) taken.new.spans) }
+    ensures content { OnOk result (taken.new.content.now ≡ taken.old.content.now) }
     ensures kept { OnOk result (Keeps taken.old taken.new) }
-    ensures entries { OnOk result (taken_by taken.new ≡ taken_by taken.old ++ fields delimiters first bytes.now) }
+    ensures entries { OnOk result (taken_by taken.new ≡ taken_by taken.old ++ fields classes.now first bytes.now) }
 {
     let mut place = Place {
         field: first,
@@ -252,16 +242,16 @@ pub(crate) fn take_fields(
         comp: 1,
         sub: 1,
     };
-    let mut at = take_bytes(taken, bytes)?;
+    let mut here = at;
     let mut rest = bytes;
     loop {
-        let cut = cut_value(delimiters, rest);
-        push_value(taken, delimiters, place, at, cut.raw, cut.plain)?;
+        let cut = cut_value(classes, rest);
+        push_value(taken, classes, place, here, cut.raw, cut.plain)?;
         let Some((separator, later)) = cut.behind else {
             return Ok(());
         };
-        place = next_place(delimiters, place, separator);
-        at += cut.raw.len() + 1;
+        place = next_place(classes, place, separator);
+        here += cut.raw.len() + 1;
         rest = later;
     }
 }

@@ -3,6 +3,7 @@
 
 mod builder;
 mod checks;
+mod classes;
 mod counts;
 mod decide;
 mod delimiters;

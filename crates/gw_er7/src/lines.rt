@@ -3,6 +3,7 @@ ghost use Rattle.std.specs.Prelude.{◌≡◌, ℕ, ◌+◌, ◌-◌, ◌^◌, �
 ghost use Rattle.std.specs.List.{slice_split};
 ghost use Rattle.gw_er7.specs.Content.{is_line_end, placed, lines_from, Begins, first_bad};
 ghost use Rattle.gw_er7.specs.Faults.{Faulty, Passes};
+ghost use Rattle.gw_er7.specs.own.Gathered.{HasHeader};
 
 use crate::checks::{first_control, header_delimiters, is_header, is_segment_line};
 use crate::delimiters::Delimiters;
@@ -82,9 +83,9 @@ pub(crate) struct Checked<'a> {
     pub(crate) header: NextLine<'a>,
 }
 
-/// Tests message bytes for their faults, in order.
-pub(crate) fn check(content: &[u8]) -> Result<Checked<'_>, ReadFault>
-    ensures { MatchResult result (Passes content.now) (Faulty content.now) }
+/// Tests message bytes for the faults that come before those of the lines behind the first.
+pub(crate) fn check_header(content: &[u8]) -> Result<Checked<'_>, ReadFault>
+    ensures { MatchResult result (HasHeader content.now) (Faulty content.now) }
 {
     let Some(header) = next_line(0, content) else {
         return Err(ReadFault::Empty);
@@ -98,10 +99,19 @@ pub(crate) fn check(content: &[u8]) -> Result<Checked<'_>, ReadFault>
     let Some(delimiters) = header_delimiters(header.bytes) else {
         return Err(ReadFault::BadDelimiters);
     };
+    Ok(Checked { delimiters, header })
+}
+
+/// Tests message bytes for their faults, in order.
+pub(crate) fn check(content: &[u8]) -> Result<Checked<'_>, ReadFault>
+    ensures { MatchResult result (Passes content.now) (Faulty content.now) }
+{
+    let checked = check_header(content)?;
+    let header = checked.header;
     let behind = header.at + header.bytes.len() + 1;
-    let count = count_segments(delimiters.field, behind, header.behind)?;
+    let count = count_segments(checked.delimiters.field, behind, header.behind)?;
     if count >= 10_000 {
         return Err(ReadFault::TooManySegments);
     }
-    Ok(Checked { delimiters, header })
+    Ok(checked)
 }

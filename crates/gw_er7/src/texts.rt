@@ -44,7 +44,7 @@ impl Texts {
     }
 
     /// The texts that these spans say of these bytes.
-    pub(crate) fn of(spans: MessageSpans, bytes: Vec<u8>) -> Texts
+    pub(crate) fn among(bytes: Vec<u8>, spans: MessageSpans) -> Texts
         requires { AreInside bytes.items spans }
         ensures { result ≡ held bytes.items spans }
     {

@@ -31,9 +31,13 @@ abbrev pub value_at : Delimiters → List ℕ → List ℕ → List Entry
 value_at d ns [] = []
 value_at d ns (b ∷ bs) = (ns, canon d (b ∷ bs)) ∷ []
 
+-- the message bytes, and the texts behind them
+abbrev pub bytes_of : SegmentTexts → List ℕ
+bytes_of t = t.content.now ++ t.others.items
+
 -- what was read so far
 abbrev pub held_in : SegmentTexts → List Held
-held_in t = held t.bytes.items t.spans
+held_in t = held (bytes_of t) t.spans
 
 abbrev pub taken_by : SegmentTexts → List Entry
 taken_by t = entries_of (held_in t)
@@ -48,11 +52,6 @@ pub record Lies (bytes : List ℕ) (at : ℕ) (part : List ℕ) : Type 0 where
   pub after : List ℕ
   pub is : bytes ≡ before ++ (part ++ after)
   pub long : length before ≡ at
-
--- others were put behind these bytes
-pub record Grows (old new : List ℕ) : Type 0 where
-  pub more : List ℕ
-  pub is : new ≡ old ++ more
 
 -- it has no separator
 abbrev pub IsClear : List ℕ → List ℕ → Type 0

@@ -6,7 +6,7 @@ use Rattle.gw_er7.proofs.Separated.{found_none, found_before, found_whole}
 use Rattle.gw_er7.proofs.fields.cut_at_separator.Goals as goal
 
 pub returns-in-None : goal.returns-in-None
-returns-in-None c = record { whole = refl; clear = found_none (is_separator (separators c.args.delimiters)) c.args.bytes.now (sym c.first_separator.ensures ∙ c.in-None.is) }
+returns-in-None c = record { whole = refl; clear = found_none (is_separator (separators c.args.classes.now)) c.args.bytes.now (sym c.first_separator.ensures ∙ c.in-None.is) }
 
 pub returns-in-Some : goal.returns-in-Some
 returns-in-Some c =
@@ -14,7 +14,7 @@ returns-in-Some c =
     let at = c.in-Some.at in
     let found = sym c.first_separator.ensures ∙ c.in-Some.is in
     record {
-      whole = found_whole (is_separator (separators c.args.delimiters)) bytes at found ∙ ap (λ (x : List ℕ). take at bytes ++ get_or bytes at 0 ∷ x) (sym (take_rest bytes (at + 1)));
-      clear = found_before (is_separator (separators c.args.delimiters)) bytes at found;
-      separates = (position-Some (is_separator (separators c.args.delimiters)) bytes at 0 found).1;
+      whole = found_whole (is_separator (separators c.args.classes.now)) bytes at found ∙ ap (λ (x : List ℕ). take at bytes ++ get_or bytes at 0 ∷ x) (sym (take_rest bytes (at + 1)));
+      clear = found_before (is_separator (separators c.args.classes.now)) bytes at found;
+      separates = (position-Some (is_separator (separators c.args.classes.now)) bytes at 0 found).1;
     }

@@ -1,17 +1,18 @@
 use Rattle.std.proofs.Common.{◌≡◌, ◌++◌, ◌+◌, ◌≤◌, length}
 use Rattle.gw_er7.specs.Message.{numbers}
 use Rattle.gw_er7.specs.Entries.{fields}
-use Rattle.gw_er7.specs.own.Separators.{separators, taken_by, Keeps, Lies}
+use Rattle.gw_er7.specs.own.Separators.{separators, bytes_of, taken_by, Keeps, Lies}
 use Rattle.gw_er7.specs.View.{AreInside}
 use Rattle.gw_er7.proofs.Separated.{rest}
 use Rattle.gw_er7.proofs.fields.take_fields.Given as goal
 
 abbrev pub invariant-loop-separator : goal.invariant-loop-separator
 invariant-loop-separator l = record {
-  inside : AreInside l.taken.bytes.items l.taken.spans;
+  inside : AreInside (bytes_of l.taken) l.taken.spans;
+  content : l.taken.content.now ≡ l.fn.taken.content.now;
   kept : Keeps l.fn.taken l.taken;
-  read : taken_by l.taken ++ rest l.delimiters (separators l.delimiters) (numbers l.place) l.rest ≡ taken_by l.fn.taken ++ fields l.delimiters l.fn.first l.fn.bytes;
-  lies : Lies l.taken.bytes.items l.at l.rest;
+  read : taken_by l.taken ++ rest l.classes (separators l.classes) (numbers l.place) l.rest ≡ taken_by l.fn.taken ++ fields l.classes l.fn.first l.fn.bytes;
+  lies : Lies l.fn.taken.content.now l.here l.rest;
   field : l.place.field + length l.rest ≤ length l.fn.bytes + 3;
   rep : l.place.rep + length l.rest ≤ length l.fn.bytes + 3;
   comp : l.place.comp + length l.rest ≤ length l.fn.bytes + 3;
