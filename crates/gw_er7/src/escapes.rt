@@ -51,11 +51,11 @@ fn push_plainly(text: &mut Vec<u8>, byte: u8) -> Result<(), AllocError>
     ensures { OnOk result (text.new.items ≡ text.old.items ++ plainly byte) }
 {
     match byte {
-        b'|' => push_escaped(text, b"F"),
-        b'^' => push_escaped(text, b"S"),
-        b'&' => push_escaped(text, b"T"),
-        b'~' => push_escaped(text, b"R"),
-        b'\\' => push_escaped(text, b"E"),
+        b'|' => text.extend_from_slice(b"\\F\\"),
+        b'^' => text.extend_from_slice(b"\\S\\"),
+        b'&' => text.extend_from_slice(b"\\T\\"),
+        b'~' => text.extend_from_slice(b"\\R\\"),
+        b'\\' => text.extend_from_slice(b"\\E\\"),
         _ => {
             text.push(byte)?;
             Ok(())

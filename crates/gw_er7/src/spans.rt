@@ -438,7 +438,7 @@ impl<N: Width, L: Store> Store for Spans<N, L> {
         })
     }
 
-    // Most spans are narrow, and there is room for them.
+    // Most spans are narrow, and there is room for them. For the others the span is put together anew: so its numbers stay in registers here.
     #[inline(always)]
     fn push(&mut self, span: TextSpan) -> Result<(), AllocError> {
         let len = self.narrow.len();
@@ -446,7 +446,23 @@ impl<N: Width, L: Store> Store for Spans<N, L> {
             self.narrow.push_reserved(N::narrowed(span));
             return Ok(());
         }
-        self.push_any(span)
+        let Place {
+            field,
+            rep,
+            comp,
+            sub,
+        } = span.place;
+        let place = Place {
+            field,
+            rep,
+            comp,
+            sub,
+        };
+        self.push_any(TextSpan {
+            place,
+            from: span.from,
+            len: span.len,
+        })
     }
 
     fn sort_from(&mut self, first: usize) {
