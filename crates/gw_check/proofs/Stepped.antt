@@ -1,5 +1,5 @@
 -- The nodes of a level, one after the other.
-use Rattle.std.proofs.lemmas.List.{drop_all, take_all, length-drop, append-nil}
+use Rattle.std.proofs.lemmas.List.{drop_all, take_all, length-drop}
 use Rattle.std.proofs.Common.{◌≡◌, ℕ, zero, suc, ◌+◌, ◌-◌, ◌≤◌, ◌<◌, List, [], ◌∷◌, ◌++◌, length, take, drop, drop-cons, get_or, refl, sym, ap, ◌∙◌, arith}
 use Rattle.gw_profile.specs.declared.node.Node.{Node, Seg, Group'}
 use Rattle.std.specs.Global.{Vec}
@@ -36,9 +36,6 @@ pub record LevelSoFar (scope : List Element) (holder : ℕ) (nodes : List Node) 
       ≡ now ++ (level_failures scope holder j (forest (drop j nodes)) (all_items tables (drop done items)))
 
 module _ (scope : List Element) (holder : ℕ) (nodes : List Node) (items : List Item) (first : List Failure) where
-  pub level_begun : LevelSoFar scope holder nodes items first 0 0 first
-  level_begun = record { within = omega arith; found_so_far = λ tables. refl }
-
   pub level_more : (j done count : ℕ) (m : Mark) (n : Node) (old new : Vec declared.Failure) → j < length nodes → n ≡ get_or nodes j n → Leads j (drop done items) count → ((tables : List TableValue) → m ≡ node_mark holder j (all_items tables (take count (drop done items)))) → ((tables : List TableValue) → NotesNode tables scope m n (take count (drop done items)) old new) → LevelSoFar scope holder nodes items first j done (failures old.items) → LevelSoFar scope holder nodes items first (j + 1) (done + count) (failures new.items)
   level_more j done count m n old new low at leads marked notes h =
       record {
@@ -64,10 +61,6 @@ module _ (scope : List Element) (holder : ℕ) (nodes : List Node) (items : List
 
       behind : drop count (drop done items) ≡ drop (done + count) items
       behind = drop_drop done count items
-
-  pub level_ended : (j done : ℕ) (now : List Failure) (tables : List TableValue) → length nodes ≤ j → LevelSoFar scope holder nodes items first j done now → now ≡ first ++ level_failures scope holder 0 (forest nodes) (all_items tables items)
-  level_ended j done now tables end h =
-      sym (h.found_so_far tables ∙ ap (λ n. now ++ level_failures scope holder j (forest n) (all_items tables (drop done items))) (drop_all j nodes end) ∙ append-nil now)
 
 -- what is lent from there on
 pub from_there : {X : Type 0} (l : List X) (done : ℕ) → take (length l - done) (drop done l) ≡ drop done l

@@ -1,5 +1,5 @@
 -- The failures within items, one after the other.
-use Rattle.std.proofs.Common.{◌≡◌, ℕ, zero, suc, ◌+◌, ◌<◌, ◌≤◌, List, [], ◌∷◌, ◌++◌, length, drop, get_or, sym, ap, ◌∙◌, subst, arith, IfOk, Result, Ok, Err}
+use Rattle.std.proofs.Common.{◌≡◌, ℕ, zero, suc, ◌+◌, ◌<◌, ◌≤◌, List, [], ◌∷◌, ◌++◌, length, drop, get_or, sym, ap, ◌∙◌, subst, arith}
 use Rattle.std.proofs.lemmas.List.{append-nil, append_assoc}
 use Rattle.std.specs.Global.{Vec}
 use Rattle.gw_profile.specs.Shapes as profiles
@@ -19,10 +19,6 @@ use Rattle.gw_resolve.specs.Noted.{Notes}
 use Rattle.gw_check.specs.Found.{weight, weight_one, weight_all, NotesLevel}
 use Rattle.gw_resolve.proofs.Noting.{front, added_one}
 use Rattle.gw_resolve.proofs.Rows.{group_items, flat_items}
-
-pub where_ok : {A E : Type 0} (P Q : A → Type 0) (r : Result A E) → ((x : A) → P x → Q x) → IfOk r P → IfOk r Q
-where_ok P Q (Ok x) f h = f x h
-where_ok P Q (Err e) f h = tt
 
 -- lent twice
 pub level_same : (a b : List elements.ScopeNode) (is js : List Item) → a ≡ b → is ≡ js → (tables : List TableValue) (holder : ℕ) (nodes : Forest) (old new : Vec declared.Failure) → NotesLevel tables (scope a) holder 0 nodes is old new → NotesLevel tables (scope b) holder 0 nodes js old new

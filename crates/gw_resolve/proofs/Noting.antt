@@ -16,9 +16,9 @@ use Rattle.gw_maplang.proofs.Rows.{group_items, flat_items}
 use Rattle.gw_maplang.specs.Shapes.{Items, nothing}
 use Rattle.gw_maplang.specs.Seen.{path, items_all, with_item, row_items, all_items, rule}
 use Rattle.gw_resolve.specs.Places.{Element, within}
-use Rattle.gw_resolve.specs.Failures.{Failure, at_line, fails, where_so, or_later}
+use Rattle.gw_resolve.specs.Failures.{Failure, where_so, or_later}
 use Rattle.gw_resolve.specs.own.Looking.{each_within}
-use Rattle.gw_resolve.specs.Naming.{but_last, place_of, place_or, walk_failures, has_place, ends_at_segment, is_single_place, walked_if, source_leads, source_failures, rule_failures, path_failures}
+use Rattle.gw_resolve.specs.Naming.{but_last, place_of, place_or, walk_failures, segments_failures, has_place, ends_at_segment, walked_if, source_leads, source_failures, rule_failures, path_failures}
 
 -- one more, and those behind it
 pub added_one : {A : Type 0} (old new a b whole : List A) → whole ≡ a ++ b → new ≡ old ++ a → old ++ whole ≡ new ++ b
@@ -127,25 +127,19 @@ named_all found p0 paths more t0 targets p d t a b e f g h =
 
 -- ---- the failures of one item
 
-abbrev led : ℕ → Bool → Bool → List Failure
-led line leads once = fails 1 (at_line line) (not leads) ++ fails 2 (at_line line) (not once)
-
 -- of a segment for each that is walked
-pub from_paths : (scope inner : List Element) (s : FromItem) (leads once : Bool) (p : List (Vec ℕ)) (rules : List Rule) → p ≡ s.path.items → rules ≡ s.rules.items
-    → leads ≡ ends_at_segment scope (place_of scope (items_all p)) → once ≡ is_single_place scope but_last (place_of scope (items_all p)) → inner ≡ within scope (place_or scope (items_all p))
-    → led s.line leads once ++ where_so leads (flat_map (rule_failures inner) (map rule rules)) ≡ path_failures scope (with_item (SegFrom s) nothing)
-from_paths scope inner s leads once p rules a b c d e =
-    (λ i. led s.line (leads' i) (once' i) ++ where_so (leads' i) (flat_map (rule_failures (inner' i)) (map rule (b i))))
+pub from_paths : (scope inner : List Element) (s : FromItem) (leads : Bool) (p : List (Vec ℕ)) (rules : List Rule) → p ≡ s.path.items → rules ≡ s.rules.items
+    → leads ≡ ends_at_segment scope (place_of scope (items_all p)) → inner ≡ within scope (place_or scope (items_all p))
+    → segments_failures scope s.line (items_all p) ++ where_so leads (flat_map (rule_failures inner) (map rule rules)) ≡ path_failures scope (with_item (SegFrom s) nothing)
+from_paths scope inner s leads p rules a b c d =
+    (λ i. segments_failures scope s.line (items_all (a i)) ++ where_so (leads' i) (flat_map (rule_failures (inner' i)) (map rule (b i))))
     ∙ sym (append-nil (source_failures scope s.line (Some (path s.path)) ++ where_so (source_leads scope (Some (path s.path))) (flat_map (rule_failures (walked_if scope (Some (path s.path)))) (map rule s.rules.items))))
   where
     leads' : leads ≡ ends_at_segment scope (place_of scope (path s.path))
     leads' = c ∙ ap (λ x. ends_at_segment scope (place_of scope (items_all x))) a
 
-    once' : once ≡ is_single_place scope but_last (place_of scope (path s.path))
-    once' = d ∙ ap (λ x. is_single_place scope but_last (place_of scope (items_all x))) a
-
     inner' : inner ≡ within scope (place_or scope (path s.path))
-    inner' = e ∙ ap (λ x. within scope (place_or scope (items_all x))) a
+    inner' = d ∙ ap (λ x. within scope (place_or scope (items_all x))) a
 
 -- of what is walked, and of the items within
 walked : (scope inner : List Element) (line : ℕ) (leads : Bool) (p : List (Vec ℕ)) (items : List Item) → leads ≡ has_place (place_of scope (items_all p)) → inner ≡ within scope (place_or scope (items_all p))

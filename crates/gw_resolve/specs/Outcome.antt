@@ -9,6 +9,8 @@ use Rattle.gw_maplang.specs.declared.rule.Rule.{Rule as TheirRule}
 use Rattle.gw_resolve.specs.declared.named.ResolvedMap.{ResolvedMap}
 use Rattle.gw_resolve.specs.declared.named.Resolving as declared
 use Rattle.gw_resolve.specs.declared.failure.Failure.{Failure}
+use Rattle.gw_resolve.specs.declared.items.ResolvedItem.{ResolvedItem}
+use Rattle.gw_resolve.specs.declared.lost.NameFailures.{NameFailures}
 use Rattle.gw_resolve.specs.declared.resolved.At.{At}
 use Rattle.gw_resolve.specs.declared.resolved.Item.{Item}
 use Rattle.gw_resolve.specs.declared.resolved.Making.{Making}
@@ -16,6 +18,7 @@ use Rattle.gw_resolve.specs.declared.resolved.Rule.{Rule}
 use Rattle.gw_resolve.specs.Failures.{Failure as Told, where_so, or_later}
 use Rattle.gw_resolve.specs.Places.{Element}
 use Rattle.gw_resolve.specs.Naming as spec
+use Rattle.gw_resolve.specs.Noted.{Notes}
 use Rattle.gw_resolve.specs.Naming.{naming_failures, resolved}
 use Rattle.gw_resolve.specs.Seen as seen
 use Rattle.gw_resolve.specs.Seen.{failures, with_item, all_items, left_out}
@@ -59,6 +62,13 @@ target_failures nodes j from = spec.target_failures nodes j (raw.with_item from 
 -- the number of the node of an item, j where it has none
 abbrev pub reached : Forest → ℕ → TheirItem → ℕ
 reached nodes j from = spec.node_or j nodes (spec.first_or (spec.labels (raw.with_item from nothing)))
+
+-- an item of a level, behind one of node j: what is made of it, its node, and its failures
+pub record ResolvesItem (scope : List Element) (nodes : Forest) (j : ℕ) (from : TheirItem) (old new : NameFailures) (made : ResolvedItem) : Type 0 where
+  pub item : MakesItem scope nodes from made.item
+  pub node : made.node ≡ reached nodes j from
+  pub paths : Notes old.paths new.paths (path_failures scope from)
+  pub targets : Notes old.targets new.targets (target_failures nodes j from)
 
 -- behind the first failures come more, up to the kept ones: where there are any, those behind them are taken back
 abbrev pub Hides : List Failure → List Failure → ℕ → ℕ → Type 0

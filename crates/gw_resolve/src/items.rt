@@ -6,16 +6,16 @@ ghost use Rattle.gw_profile.specs.Labels.{nodes_in};
 ghost use Rattle.gw_resolve.specs.Naming as spec;
 ghost use Rattle.gw_resolve.specs.Noted.{Notes};
 ghost use Rattle.gw_resolve.specs.Places.{within as scope_within};
-ghost use Rattle.gw_resolve.specs.Outcome.{MakesItem, MakesItems, MakesRules, path_failures, target_failures, reached};
+ghost use Rattle.gw_resolve.specs.Outcome.{MakesItems, MakesRules, ResolvesItem, path_failures};
 ghost use Rattle.gw_resolve.specs.Seen.{scope as walked, place as seen_place};
 
 use crate::element::{ScopeNode, enter, nodes_of_child};
 use crate::failure::Failure;
-use crate::led::{note_led, segments_led, walk_led};
+use crate::led::{PathUse, lead};
 use crate::lost::{NameFailures, hide_both, hide_unled, mark};
 use crate::resolved::{FlatItem, GroupItem, Item, Rule, ScopePath, SegmentItem};
 use crate::rules::rules;
-use crate::targets::{TargetNode, flat_target, group_target, segment_target};
+use crate::targets::{NodeKind, TargetNode, flat_target, label_target};
 use gw_profile::Level;
 use std::alloc::{AllocError, Global};
 
@@ -54,8 +54,7 @@ fn enter_path<'a, 'p>(
     ensures inner { IfOk result (λ e. walked e.inner.items ≡ scope_within (walked scope.now) (spec.place_or (walked scope.now) (raw.items_all path.now))) }
     ensures failures { OnOk result (Notes found.old found.new (spec.walk_failures (walked scope.now) line (raw.items_all path.now))) }
 {
-    let led = walk_led(alloc, scope, path)?;
-    note_led(found, line, &led)?;
+    let led = lead(alloc, found, scope, line, path, PathUse::Walk)?;
     let inner = enter(alloc, scope, &led.place)?;
     Ok(Entered {
         place: led.place,
@@ -75,8 +74,14 @@ fn rules_walked(
     ensures rules { IfOk result (λ r. MakesRules (spec.walked_if (walked scope.now) (Some (raw.path made.now.path))) made.now.rules.items r.rules.items) }
     ensures failures { OnOk result (Notes paths.old paths.new (path_failures (walked scope.now) (SegFrom made.now))) }
 {
-    let led = segments_led(alloc, scope, &made.path)?;
-    note_led(paths, made.line, &led)?;
+    let led = lead(
+        alloc,
+        paths,
+        scope,
+        made.line,
+        &made.path,
+        PathUse::WalkSegments,
+    )?;
     let kept = paths.len();
     let inner = enter(alloc, scope, &led.place)?;
     let rules = rules(alloc, paths, &inner, &made.rules)?;
@@ -112,12 +117,16 @@ fn segment_from(
     j: usize,
     made: &gw_maplang::FromItem,
 ) -> Result<ResolvedItem, AllocError>
-    ensures item { IfOk result (λ l. MakesItem (walked scope.now) (nodes_in level.entry) (SegFrom made.now) l.item) }
-    ensures node { IfOk result (λ l. l.node ≡ reached (nodes_in level.entry) j (SegFrom made.now)) }
-    ensures paths { OnOk result (Notes lost.old.paths lost.new.paths (path_failures (walked scope.now) (SegFrom made.now))) }
-    ensures targets { OnOk result (Notes lost.old.targets lost.new.targets (target_failures (nodes_in level.entry) j (SegFrom made.now))) }
+    ensures { IfOk result (ResolvesItem (walked scope.now) (nodes_in level.entry) j (SegFrom made.now) lost.old lost.new) }
 {
-    let aimed = segment_target(&mut lost.targets, level, j, made.line, &made.label)?;
+    let aimed = label_target(
+        &mut lost.targets,
+        level,
+        NodeKind::Segment,
+        j,
+        made.line,
+        &made.label,
+    )?;
     let ruled = rules_walked(alloc, &mut lost.paths, scope, made)?;
     Ok(segment(made.line, aimed, Some(ruled.place), ruled.rules))
 }
@@ -131,12 +140,16 @@ fn segment_always(
     j: usize,
     made: &gw_maplang::AlwaysItem,
 ) -> Result<ResolvedItem, AllocError>
-    ensures item { IfOk result (λ l. MakesItem (walked scope.now) (nodes_in level.entry) (SegAlways made.now) l.item) }
-    ensures node { IfOk result (λ l. l.node ≡ reached (nodes_in level.entry) j (SegAlways made.now)) }
-    ensures paths { OnOk result (Notes lost.old.paths lost.new.paths (path_failures (walked scope.now) (SegAlways made.now))) }
-    ensures targets { OnOk result (Notes lost.old.targets lost.new.targets (target_failures (nodes_in level.entry) j (SegAlways made.now))) }
+    ensures { IfOk result (ResolvesItem (walked scope.now) (nodes_in level.entry) j (SegAlways made.now) lost.old lost.new) }
 {
-    let aimed = segment_target(&mut lost.targets, level, j, made.line, &made.label)?;
+    let aimed = label_target(
+        &mut lost.targets,
+        level,
+        NodeKind::Segment,
+        j,
+        made.line,
+        &made.label,
+    )?;
     let rules = rules(alloc, &mut lost.paths, scope, &made.rules)?;
     Ok(segment(made.line, aimed, None, rules))
 }
@@ -152,14 +165,18 @@ fn group(
     j: usize,
     made: &gw_maplang::GroupItem,
 ) -> Result<ResolvedItem, AllocError>
-    ensures item { IfOk result (λ l. MakesItem (walked scope.now) (nodes_in level.entry) (EachAs made.now) l.item) }
-    ensures node { IfOk result (λ l. l.node ≡ reached (nodes_in level.entry) j (EachAs made.now)) }
-    ensures paths { OnOk result (Notes lost.old.paths lost.new.paths (path_failures (walked scope.now) (EachAs made.now))) }
-    ensures targets { OnOk result (Notes lost.old.targets lost.new.targets (target_failures (nodes_in level.entry) j (EachAs made.now))) }
+    ensures { IfOk result (ResolvesItem (walked scope.now) (nodes_in level.entry) j (EachAs made.now) lost.old lost.new) }
 {
     let before = lost.targets.len();
     let entered = enter_path(alloc, &mut lost.paths, scope, made.line, &made.path)?;
-    let aimed = group_target(&mut lost.targets, level, j, made.line, &made.label)?;
+    let aimed = label_target(
+        &mut lost.targets,
+        level,
+        NodeKind::Group,
+        j,
+        made.line,
+        &made.label,
+    )?;
     let kept = mark(lost);
     let below = nodes_of_child(level, aimed.child);
     let items = resolve_items(alloc, lost, &entered.inner, below, &made.items)?;
@@ -186,10 +203,7 @@ fn flat(
     j: usize,
     made: &gw_maplang::FlatItem,
 ) -> Result<ResolvedItem, AllocError>
-    ensures item { IfOk result (λ l. MakesItem (walked scope.now) (nodes_in level.entry) (EachFlat made.now) l.item) }
-    ensures node { IfOk result (λ l. l.node ≡ reached (nodes_in level.entry) j (EachFlat made.now)) }
-    ensures paths { OnOk result (Notes lost.old.paths lost.new.paths (path_failures (walked scope.now) (EachFlat made.now))) }
-    ensures targets { OnOk result (Notes lost.old.targets lost.new.targets (target_failures (nodes_in level.entry) j (EachFlat made.now))) }
+    ensures { IfOk result (ResolvesItem (walked scope.now) (nodes_in level.entry) j (EachFlat made.now) lost.old lost.new) }
 {
     let before = lost.targets.len();
     let entered = enter_path(alloc, &mut lost.paths, scope, made.line, &made.path)?;
@@ -216,10 +230,7 @@ fn resolve_item(
     j: usize,
     item: &gw_maplang::Item,
 ) -> Result<ResolvedItem, AllocError>
-    ensures item { IfOk result (λ l. MakesItem (walked scope.now) (nodes_in level.entry) item.now l.item) }
-    ensures node { IfOk result (λ l. l.node ≡ reached (nodes_in level.entry) j item.now) }
-    ensures paths { OnOk result (Notes lost.old.paths lost.new.paths (path_failures (walked scope.now) item.now)) }
-    ensures targets { OnOk result (Notes lost.old.targets lost.new.targets (target_failures (nodes_in level.entry) j item.now)) }
+    ensures { IfOk result (ResolvesItem (walked scope.now) (nodes_in level.entry) j item.now lost.old lost.new) }
 {
     match item {
         gw_maplang::Item::SegFrom(made) => segment_from(alloc, lost, scope, level, j, made),

@@ -1,10 +1,9 @@
 //! Where the source paths of a map lead, and whether they may (1 and 2).
-ghost use Rattle.std.specs.Prelude.{◌≡◌, ◌++◌, not, IfOk, OnOk, Some};
+ghost use Rattle.std.specs.Prelude.{◌≡◌, IfOk, OnOk, Some};
 ghost use Rattle.gw_maplang.specs.Seen.{items_all};
 ghost use Rattle.gw_profile.specs.Labels.{nodes_in};
 ghost use Rattle.gw_profile.specs.Line.{allows};
-ghost use Rattle.gw_resolve.specs.Failures.{at_line, fails};
-ghost use Rattle.gw_resolve.specs.own.Looking.{comes_often, place_there, all_steps};
+ghost use Rattle.gw_resolve.specs.own.Looking.{comes_often, place_there, single_steps, leads, lead_failures};
 ghost use Rattle.gw_resolve.specs.Naming as spec;
 ghost use Rattle.gw_resolve.specs.Noted.{Notes};
 ghost use Rattle.gw_resolve.specs.Order.{is_segment};
@@ -18,12 +17,19 @@ use crate::resolved::ScopePath;
 use gw_profile::{Card, Level};
 use std::alloc::{AllocError, Global};
 
-/// Where a path leads: a place that stands for none, whether it leads to what is sought, and whether its steps come once.
+/// What a path is for: elements are walked, segments are walked, or the one segment is read.
+#[derive(Clone, Copy)]
+pub(crate) enum PathUse {
+    Walk,
+    WalkSegments,
+    Read,
+}
+
+/// Where a path leads: a place that stands for none, and whether it leads to what is sought.
 #[derive(Drop)]
 pub(crate) struct PathTarget {
     pub(crate) place: ScopePath,
     pub(crate) leads: bool,
-    pub(crate) once: bool,
 }
 
 // ---- steps that may come often
@@ -82,23 +88,24 @@ fn start_of<'a, 'p>(scope: &[ScopeNode<'a, 'p>], place: &ScopePath) -> Option<&'
     nodes_of(scope[scope.len() - 1 - place.out])
 }
 
-// No step of the place may come more than once, its last aside.
-fn is_walked_once(scope: &[ScopeNode<'_, '_>], place: Option<&ScopePath>) -> bool
-    ensures { result ≡ spec.is_single_place (walked scope.now) spec.but_last (place_there place.entry) }
+// The steps that may not come often: of what is walked all but the last.
+fn single_steps(how: PathUse, steps: &[usize]) -> &[usize]
+    ensures { result.now ≡ single_steps how steps.now }
 {
-    match place {
-        None => true,
-        Some(place) => are_single(start_of(scope, place), but_last(&place.steps)),
+    match how {
+        PathUse::Walk => but_last(steps),
+        PathUse::WalkSegments => but_last(steps),
+        PathUse::Read => steps,
     }
 }
 
-// No step of the place may come more than once.
-fn is_read_once(scope: &[ScopeNode<'_, '_>], place: Option<&ScopePath>) -> bool
-    ensures { result ≡ spec.is_single_place (walked scope.now) all_steps (place_there place.entry) }
+// No such step of the place may come more than once.
+fn is_once(how: PathUse, scope: &[ScopeNode<'_, '_>], place: Option<&ScopePath>) -> bool
+    ensures { result ≡ spec.is_single_place (walked scope.now) (single_steps how) (place_there place.entry) }
 {
     match place {
         None => true,
-        Some(place) => are_single(start_of(scope, place), &place.steps),
+        Some(place) => are_single(start_of(scope, place), single_steps(how, &place.steps)),
     }
 }
 
@@ -126,74 +133,37 @@ pub(crate) fn ends_at_segment(scope: &[ScopeNode<'_, '_>], place: Option<&ScopeP
 
 // ---- paths
 
-/// Where a path leads to what is walked; its last step may come often.
-pub(crate) fn walk_led(
-    alloc: Global,
-    scope: &[ScopeNode<'_, '_>],
-    path: &[Vec<u8>],
-) -> Result<PathTarget, AllocError>
-    ensures place { IfOk result (λ l. seen_place l.place ≡ spec.place_or (walked scope.now) (items_all path.now)) }
-    ensures leads { IfOk result (λ l. l.leads ≡ spec.has_place (spec.place_of (walked scope.now) (items_all path.now))) }
-    ensures once { IfOk result (λ l. l.once ≡ spec.is_single_place (walked scope.now) spec.but_last (spec.place_of (walked scope.now) (items_all path.now))) }
+// Whether the place is one, and a segment's where segments are sought.
+fn leads(how: PathUse, scope: &[ScopeNode<'_, '_>], place: Option<&ScopePath>) -> bool
+    ensures { result ≡ leads how (walked scope.now) (place_there place.entry) }
 {
-    let place = place_of(alloc, scope, path)?;
-    let leads = place.is_some();
-    let once = is_walked_once(scope, place.as_ref());
-    Ok(PathTarget {
-        place: or_itself(alloc, place),
-        leads,
-        once,
-    })
+    match how {
+        PathUse::Walk => place.is_some(),
+        PathUse::WalkSegments => ends_at_segment(scope, place),
+        PathUse::Read => ends_at_segment(scope, place),
+    }
 }
 
-/// Where a path leads to the segments that are walked; its last step may come often.
-pub(crate) fn segments_led(
+/// Where the path of this line leads; adds the failures of a path that leads nowhere, or by steps that come often.
+pub(crate) fn lead(
     alloc: Global,
-    scope: &[ScopeNode<'_, '_>],
-    path: &[Vec<u8>],
-) -> Result<PathTarget, AllocError>
-    ensures place { IfOk result (λ l. seen_place l.place ≡ spec.place_or (walked scope.now) (items_all path.now)) }
-    ensures leads { IfOk result (λ l. l.leads ≡ spec.ends_at_segment (walked scope.now) (spec.place_of (walked scope.now) (items_all path.now))) }
-    ensures once { IfOk result (λ l. l.once ≡ spec.is_single_place (walked scope.now) spec.but_last (spec.place_of (walked scope.now) (items_all path.now))) }
-{
-    let place = place_of(alloc, scope, path)?;
-    let leads = ends_at_segment(scope, place.as_ref());
-    let once = is_walked_once(scope, place.as_ref());
-    Ok(PathTarget {
-        place: or_itself(alloc, place),
-        leads,
-        once,
-    })
-}
-
-/// Where a path leads to the one segment that is read.
-pub(crate) fn read_led(
-    alloc: Global,
-    scope: &[ScopeNode<'_, '_>],
-    path: &[Vec<u8>],
-) -> Result<PathTarget, AllocError>
-    ensures place { IfOk result (λ l. seen_place l.place ≡ spec.place_or (walked scope.now) (items_all path.now)) }
-    ensures leads { IfOk result (λ l. l.leads ≡ spec.ends_at_segment (walked scope.now) (spec.place_of (walked scope.now) (items_all path.now))) }
-    ensures once { IfOk result (λ l. l.once ≡ spec.is_single_place (walked scope.now) all_steps (spec.place_of (walked scope.now) (items_all path.now))) }
-{
-    let place = place_of(alloc, scope, path)?;
-    let leads = ends_at_segment(scope, place.as_ref());
-    let once = is_read_once(scope, place.as_ref());
-    Ok(PathTarget {
-        place: or_itself(alloc, place),
-        leads,
-        once,
-    })
-}
-
-/// Takes note of a path that leads nowhere, or by steps that come often.
-pub(crate) fn note_led(
     found: &mut Vec<Failure>,
+    scope: &[ScopeNode<'_, '_>],
     line: u32,
-    led: &PathTarget,
-) -> Result<(), AllocError>
-    ensures { OnOk result (Notes found.old found.new (fails 1 (at_line line) (not led.now.leads) ++ fails 2 (at_line line) (not led.now.once))) }
+    path: &[Vec<u8>],
+    how: PathUse,
+) -> Result<PathTarget, AllocError>
+    ensures place { IfOk result (λ l. seen_place l.place ≡ spec.place_or (walked scope.now) (items_all path.now)) }
+    ensures leads { IfOk result (λ l. l.leads ≡ leads how (walked scope.now) (spec.place_of (walked scope.now) (items_all path.now))) }
+    ensures failures { OnOk result (Notes found.old found.new (lead_failures how (walked scope.now) line (items_all path.now))) }
 {
-    note(found, 1, at_line(line), !led.leads)?;
-    note(found, 2, at_line(line), !led.once)
+    let place = place_of(alloc, scope, path)?;
+    let leads = leads(how, scope, place.as_ref());
+    let once = is_once(how, scope, place.as_ref());
+    note(found, 1, at_line(line), !leads)?;
+    note(found, 2, at_line(line), !once)?;
+    Ok(PathTarget {
+        place: or_itself(alloc, place),
+        leads,
+    })
 }

@@ -10,7 +10,7 @@ ghost use Rattle.gw_resolve.specs.Seen.{scope as walked};
 
 use crate::element::ScopeNode;
 use crate::failure::Failure;
-use crate::led::{note_led, read_led};
+use crate::led::{PathUse, lead};
 use crate::resolved::{At, Making, Reference, ResolvedLeaf, Rule, Source};
 use gw_maplang::{FieldPath, LeafRule, Ref};
 use std::alloc::{AllocError, Global};
@@ -25,8 +25,7 @@ fn reference(
     ensures made { IfOk result (λ r. seen.reference r ≡ spec.reference (walked scope.now) (raw.field_path from.now)) }
     ensures failures { OnOk result (Notes found.old found.new (spec.read_failures (walked scope.now) line (raw.field_path from.now))) }
 {
-    let led = read_led(alloc, scope, &from.path)?;
-    note_led(found, line, &led)?;
+    let led = lead(alloc, found, scope, line, &from.path, PathUse::Read)?;
     Ok(Reference {
         place: led.place,
         field: from.field,

@@ -7,7 +7,7 @@ ghost use Rattle.gw_profile.specs.Labels.{nodes_in};
 ghost use Rattle.gw_resolve.specs.Failures.{at_line, fails};
 ghost use Rattle.gw_resolve.specs.Naming as spec;
 ghost use Rattle.gw_resolve.specs.Noted.{Notes};
-ghost use Rattle.gw_resolve.specs.Order.{is_segment, is_group};
+ghost use Rattle.gw_resolve.specs.own.Looking.{is_kind};
 ghost use Rattle.gw_resolve.specs.Places as places;
 ghost use Rattle.gw_resolve.specs.Seen.{element as seen};
 
@@ -93,6 +93,13 @@ fn first_or(items: &[Item]) -> &[u8]
 
 // ---- target nodes
 
+/// What a label of an item names.
+#[derive(Clone, Copy)]
+pub(crate) enum NodeKind {
+    Segment,
+    Group,
+}
+
 /// The target node of a label: its number in the map without labels, and the one behind which the next item stands.
 #[derive(Clone, Copy)]
 pub(crate) struct TargetNode {
@@ -122,25 +129,14 @@ fn child_if<'a, 'p>(
     }
 }
 
-fn is_segment_at(level: Option<&Level<'_>>, number: Option<usize>) -> bool
-    ensures { result ≡ is_segment (option_and_then (places.child (nodes_in level.entry)) number) }
+// Whether the node is of this kind.
+fn is_kind(kind: NodeKind, node: Option<ScopeNode<'_, '_>>) -> bool
+    ensures { result ≡ is_kind kind (option_map seen node.entry) }
 {
-    match child_if(level, number) {
-        None => false,
-        Some(ScopeNode::Segment(_)) => true,
-        Some(ScopeNode::Group(_, _)) => false,
-        Some(ScopeNode::Whole(_)) => false,
-    }
-}
-
-fn is_group_at(level: Option<&Level<'_>>, number: Option<usize>) -> bool
-    ensures { result ≡ is_group (option_and_then (places.child (nodes_in level.entry)) number) }
-{
-    match child_if(level, number) {
-        None => false,
-        Some(ScopeNode::Segment(_)) => false,
-        Some(ScopeNode::Group(_, _)) => true,
-        Some(ScopeNode::Whole(_)) => false,
+    match (node, kind) {
+        (Some(ScopeNode::Segment(_)), NodeKind::Segment) => true,
+        (Some(ScopeNode::Group(_, _)), NodeKind::Group) => true,
+        _ => false,
     }
 }
 
@@ -158,42 +154,23 @@ fn note_target(
     note(found, 3, at_line(line), node < j)
 }
 
-/// The target node of a segment that comes behind one of node j.
-pub(crate) fn segment_target(
+/// The target node of the label of a segment or group that comes behind one of node j.
+pub(crate) fn label_target(
     found: &mut Vec<Failure>,
     level: Option<&Level<'_>>,
+    kind: NodeKind,
     j: usize,
     line: u32,
     label: &[u8],
 ) -> Result<TargetNode, AllocError>
-    ensures failures { OnOk result (Notes found.old found.new (spec.label_failures (nodes_in level.entry) is_segment j line label.now)) }
+    ensures failures { OnOk result (Notes found.old found.new (spec.label_failures (nodes_in level.entry) (is_kind kind) j line label.now)) }
     ensures child { IfOk result (λ a. a.child ≡ spec.node_or 0 (nodes_in level.entry) label.now) }
     ensures node { IfOk result (λ a. a.node ≡ spec.node_or j (nodes_in level.entry) label.now) }
 {
     let number = labelled(level, label);
     let node = number_or(j, number);
-    note_target(found, line, is_segment_at(level, number), j, node)?;
-    Ok(TargetNode {
-        child: number_or(0, number),
-        node,
-    })
-}
-
-/// The target node of a group that comes behind one of node j.
-pub(crate) fn group_target(
-    found: &mut Vec<Failure>,
-    level: Option<&Level<'_>>,
-    j: usize,
-    line: u32,
-    label: &[u8],
-) -> Result<TargetNode, AllocError>
-    ensures failures { OnOk result (Notes found.old found.new (spec.label_failures (nodes_in level.entry) is_group j line label.now)) }
-    ensures child { IfOk result (λ a. a.child ≡ spec.node_or 0 (nodes_in level.entry) label.now) }
-    ensures node { IfOk result (λ a. a.node ≡ spec.node_or j (nodes_in level.entry) label.now) }
-{
-    let number = labelled(level, label);
-    let node = number_or(j, number);
-    note_target(found, line, is_group_at(level, number), j, node)?;
+    let fits = is_kind(kind, child_if(level, number));
+    note_target(found, line, fits, j, node)?;
     Ok(TargetNode {
         child: number_or(0, number),
         node,

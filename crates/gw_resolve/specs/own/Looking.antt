@@ -1,5 +1,5 @@
 -- Parts of the looking up of labels.
-use Rattle.std.specs.Prelude.{◌≡◌, ℕ, ◌+◌, Bool, false, if◌then◌else◌, List, [], ◌∷◌, ◌++◌, Option, Some, None, option_map}
+use Rattle.std.specs.Prelude.{◌≡◌, ℕ, ◌+◌, Bool, false, not, if◌then◌else◌, List, [], ◌∷◌, ◌++◌, Option, Some, None, option_map}
 use Rattle.std.specs.Global.{Vec}
 use Rattle.gw_profile.specs.Line.{allows}
 use Rattle.gw_profile.specs.Shapes.{Forest}
@@ -11,8 +11,11 @@ use Rattle.gw_resolve.specs.declared.element.CountedNode.{CountedNode as TheFoun
 use Rattle.gw_resolve.specs.declared.resolved.ScopePath as places
 use Rattle.gw_resolve.specs.Seen.{place}
 use Rattle.gw_profile.specs.Labels.{labelled}
-use Rattle.gw_resolve.specs.Failures.{Failure, where_so}
-use Rattle.gw_resolve.specs.Naming.{has_label, itself, or_else, steps_of, place_of, place_or, has_place, walk_failures, path_failures}
+use Rattle.gw_resolve.specs.Failures.{Failure, at_line, fails, where_so}
+use Rattle.gw_resolve.specs.Order.{is_segment, is_group}
+use Rattle.gw_resolve.specs.declared.led.PathUse as uses
+use Rattle.gw_resolve.specs.declared.targets.NodeKind as kinds
+use Rattle.gw_resolve.specs.Naming.{has_label, itself, or_else, steps_of, place_of, place_or, but_last, has_place, ends_at_segment, is_single_place, walk_failures, path_failures}
 
 -- the node of this number of the innermost element
 abbrev pub inwards : ℕ → Place
@@ -43,9 +46,26 @@ place_there p = option_map (λ (b : Bor places.ScopePath). place b.now) p
 abbrev pub each_within : List Element → ℕ → Path → Items → List Failure
 each_within scope line path items = walk_failures scope line path ++ where_so (has_place (place_of scope path)) (path_failures (within scope (place_or scope path)) items)
 
--- no step is left out
-abbrev pub all_steps : List ℕ → List ℕ
-all_steps steps = steps
+-- the steps that may not come often: of what is walked all but the last
+abbrev pub single_steps : uses.PathUse → List ℕ → List ℕ
+single_steps uses.TheVariants.Walk = but_last
+single_steps uses.TheVariants.WalkSegments = but_last
+single_steps uses.TheVariants.Read = λ steps. steps
+
+-- a path leads to what is sought
+abbrev pub leads : uses.PathUse → List Element → Option Place → Bool
+leads uses.TheVariants.Walk scope place = has_place place
+leads uses.TheVariants.WalkSegments scope place = ends_at_segment scope place
+leads uses.TheVariants.Read scope place = ends_at_segment scope place
+
+abbrev pub lead_failures : uses.PathUse → List Element → ℕ → Path → List Failure
+lead_failures how scope line path =
+    fails 1 (at_line line) (not (leads how scope (place_of scope path))) ++ fails 2 (at_line line) (not (is_single_place scope (single_steps how) (place_of scope path)))
+
+-- what a label of an item names
+abbrev pub is_kind : kinds.NodeKind → Option Element → Bool
+is_kind kinds.TheVariants.Segment = is_segment
+is_kind kinds.TheVariants.Group = is_group
 
 -- What is counted is what was counted below, times the element's own count.
 abbrev pub IsTimes : Element → Option TheFound → Option TheFound → Type 0

@@ -1,7 +1,7 @@
-use Rattle.std.proofs.Common.{ap, ◌∙◌, ◌++◌, map, flat_map, not}
+use Rattle.std.proofs.Common.{ap, ◌∙◌, ◌++◌, map, flat_map}
 use Rattle.std.proofs.lemmas.List.{append_assoc}
 use Rattle.gw_maplang.specs.Seen as raw
-use Rattle.gw_resolve.specs.Failures.{at_line, fails, where_so}
+use Rattle.gw_resolve.specs.Failures.{where_so}
 use Rattle.gw_resolve.specs.Naming as spec
 use Rattle.gw_resolve.specs.Places.{within}
 use Rattle.gw_resolve.specs.Seen.{scope as walked, failure, failures}
@@ -20,13 +20,13 @@ returns-clause-rules c = λ tables.
 pub returns-clause-failures : goal.returns-clause-failures
 returns-clause-failures c =
     let first = failures c.args.paths.now.items in
-    let own = fails 1 (at_line c.args.made.now.line) (not c.in_ok-led.led.leads) ++ fails 2 (at_line c.args.made.now.line) (not c.in_ok-led.led.once) in
+    let own = spec.segments_failures (walked c.args.scope.now) c.args.made.now.line (raw.items_all c.deref.result.now) in
     let later = flat_map (spec.rule_failures (walked c.deref-2.result.now)) (map raw.rule c.deref-3.result.now) in
     c.hide_unled.ensures (first ++ own) later
-    (as_many failure c.note_led.new.found.items (first ++ own) _ (c.len-kept.ensures ∙ c.note_led.new.found.ok.0) c.in_ok-note_led.ensures)
-    (found_both failure first c.note_led.new.found.items c.rules.new.found.items own later c.in_ok-note_led.ensures c.in_ok-rules.ensures.failures)
+    (as_many failure c.lead.new.found.items (first ++ own) _ (c.len-kept.ensures ∙ c.lead.new.found.ok.0) c.in_ok-led.ensures.failures)
+    (found_both failure first c.lead.new.found.items c.rules.new.found.items own later c.in_ok-led.ensures.failures c.in_ok-rules.ensures.failures)
     ∙ append_assoc first own (where_so c.in_ok-led.led.leads later)
     ∙ ap (λ l. first ++ l)
-    (from_paths (walked c.args.scope.now) (walked c.deref-2.result.now) c.args.made.now c.in_ok-led.led.leads c.in_ok-led.led.once c.deref.result.now c.deref-3.result.now
-    c.deref.ensures.value c.deref-3.ensures.value c.in_ok-led.ensures.leads c.in_ok-led.ensures.once
+    (from_paths (walked c.args.scope.now) (walked c.deref-2.result.now) c.args.made.now c.in_ok-led.led.leads c.deref.result.now c.deref-3.result.now
+    c.deref.ensures.value c.deref-3.ensures.value c.in_ok-led.ensures.leads
     (ap walked c.deref-2.ensures.value ∙ c.in_ok-inner.ensures ∙ ap (within (walked c.args.scope.now)) c.in_ok-led.ensures.place))
