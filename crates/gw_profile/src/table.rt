@@ -7,7 +7,10 @@ use indexmap::IndexSet;
 use std::alloc::{AllocError, Global};
 use std::marker::Model;
 
-/// The values of a table, in order and each once. A value is looked up by its hash.
+/// The most values that are compared one by one: a hash of the value takes longer.
+const FEW: usize = 12;
+
+/// The values of a table, in order and each once. A value is looked up by its hash, where there are more than a few.
 #[derive(Drop)]
 pub struct Table {
     pub(crate) values: IndexSet<Vec<u8>>,
@@ -31,6 +34,18 @@ fn put(alloc: Global, values: &mut IndexSet<Vec<u8>>, value: &[u8]) -> Result<bo
     Ok(new)
 }
 
+// Whether this is one of the values, each compared.
+fn is_one_of(values: &[Vec<u8>], value: &[u8]) -> bool
+    ensures { result ≡ is_among value.now (map (λ v. v.items) values.now) }
+{
+    for other in values {
+        if value == other.as_slice() {
+            return true;
+        }
+    }
+    false
+}
+
 impl Table {
     /// The table of these values; `None` if one occurs twice.
     pub(crate) fn of(alloc: Global, values: &[&[u8]]) -> Result<Option<Table>, AllocError>
@@ -49,6 +64,9 @@ impl Table {
     pub fn contains(&self, value: &[u8]) -> bool
         ensures { result ≡ is_among value.now self.now }
     {
+        if self.values.len() <= FEW {
+            return is_one_of(self.values.as_slice(), value);
+        }
         self.values.contains(value)
     }
 
