@@ -11,31 +11,29 @@ use Rattle.std.proofs.lemmas.Bool.{cases_lt}
 use Rattle.std.proofs.lemmas.Grind.{common_steps}
 use Rattle.std.proofs.lemmas.Map.Text.{is_eq-slice_cmp}
 use Rattle.gw_er7.specs.Message.{SegmentValue}
-use Rattle.gw_profile.specs.declared.node.Node.{Node}
-use Rattle.gw_profile.specs.Shapes.{Forest, nothing, FieldValue, ProfileValue}
-use Rattle.gw_profile.specs.Seen.{forest, node_forest}
+use Rattle.gw_profile.specs.declared.shape.FieldShape.{FieldShape}
+use denote.Ref.{Bor}
+use Rattle.gw_profile.specs.Shapes.{Forest, FieldValue, ProfileValue}
 use Rattle.gw_profile.specs.Deterministic.{Name, Determined, NoName}
 use Rattle.gw_validate.specs.declared.breach.Breach.{Breach}
 use Rattle.gw_validate.specs.declared.fields.Spot.{Spot}
-use Rattle.gw_validate.specs.declared.occurrences.Occurrences.{Occurrences}
-use Rattle.gw_validate.specs.declared.occurrences.Found.{Found}
 use Rattle.gw_validate.specs.Breaches.{SegmentBreach}
 use Rattle.gw_validate.specs.Broken.{IsTreeOf, Assigns, Breaks, out_of_order, missing, in_segment, sequence, spot_of}
 use Rattle.gw_validate.specs.Conforming.{NamesFit, numbers, segment_at, named}
 use Rattle.gw_validate.specs.Every.{Before, Has, Rising, AreAll, AreBreaches, BreaksAt, IsNamed, place_of}
-use Rattle.gw_validate.specs.Trees.{Tree, assigned, assigned_all}
+use Rattle.gw_validate.specs.Trees.{Tree, assigned}
 use Rattle.gw_validate.specs.own.Finding.{found_key, Collects, Finds, IsAlone, breach_of, count_of}
 use Rattle.gw_validate.specs.own.Gathering.{Under, Gathers}
 use Rattle.gw_validate.specs.own.Least.{BreachAt, segment_key}
-use Rattle.gw_validate.specs.own.Occurring.{each_tree, tree_from}
+use Rattle.gw_validate.specs.own.Judging.{IsShaped}
+use Rattle.gw_validate.specs.own.Taking.{paired, shape_of}
 use Rattle.gw_validate.proofs.Counting.{counted_yes, counted_no}
 use Rattle.gw_validate.proofs.Flat.{tree_flat, assigned_flat}
 use Rattle.gw_validate.proofs.Gathering.{all_join, all_none, all_same}
 use Rattle.gw_validate.proofs.Judged.{begins_whole, fit_begins, segment_is, tree_names_fit}
 use Rattle.gw_validate.proofs.Listed.{RisesFrom, numbers_rise, numbers_below}
 use Rattle.gw_validate.proofs.Names.{names_equal}
-use Rattle.gw_validate.proofs.Rows.{one_tree}
-use Rattle.gw_validate.proofs.Searching.{cons_at, nodes_here}
+use Rattle.gw_validate.proofs.Searching.{pairs_here, pairs_over}
 use Rattle.gw_validate.proofs.Unique as unique
 
 -- ---- lists of pairs
@@ -86,46 +84,15 @@ pub finds_end : (profile : ProfileValue) (m : List SegmentValue) (shape : List F
 finds_end profile m shape n s spots items i a b here g same le is =
     finds_one profile m shape n s spots a b here g (is ∙ ap (λ l. a ++ at_number n l) (take_whole items i le ∙ same))
 
--- ---- segments, groups and nodes in turn
+-- ---- segments in turn
 
-module _ (B : List FieldValue → ℕ → List ℕ → Type 0) (shape : List FieldValue) (ns : List ℕ) (o : List (ℕ × Spot)) where
-  abbrev Pairs : List ℕ → List (ℕ × List FieldValue)
-  Pairs l = map (λ i. (i, shape)) l
+module _ (B : List FieldValue → ℕ → List ℕ → Type 0) (ns : List ℕ) (shapes : List (Bor (List FieldShape))) (o : List (ℕ × Spot)) (i : ℕ) (a : List (ℕ × Spot)) (on : (c : List (ℕ × Spot)) → Finds B (paired (drop i ns) (drop i shapes)) a c → Finds B (paired ns shapes) o c) where
+  pub segments_on : (n : ℕ) (s : Bor (List FieldShape)) (b : List (ℕ × Spot)) → i < length ns → i < length shapes → n ≡ get_or ns i n → s ≡ get_or shapes i s → Finds B ((n, shape_of s) ∷ []) a b → (c : List (ℕ × Spot)) → Finds B (paired (drop (i + 1) ns) (drop (i + 1) shapes)) b c → Finds B (paired ns shapes) o c
+  segments_on n s b here lt number at one c h =
+      on c (subst (λ ps. Finds B ps a c) (sym (pairs_here ns shapes i n s here lt number at)) (finds_join B ((n, shape_of s) ∷ []) (paired (drop (i + 1) ns) (drop (i + 1) shapes)) a b c one h))
 
-  pub segments_on : (i n : ℕ) (a b : List (ℕ × Spot)) → i < length ns → n ≡ get_or ns i n → Finds B ((n, shape) ∷ []) a b → ((c : List (ℕ × Spot)) → Finds B (Pairs (drop i ns)) a c → Finds B (Pairs ns) o c) → (c : List (ℕ × Spot)) → Finds B (Pairs (drop (i + 1) ns)) b c → Finds B (Pairs ns) o c
-  segments_on i n a b lt at one on c h =
-      on c (subst (λ l. Finds B (Pairs l) a c) (sym (cons_at ns i n lt at)) (finds_join B ((n, shape) ∷ []) (Pairs (drop (i + 1) ns)) a b c one h))
-
-  pub segments_end : (i : ℕ) (a : List (ℕ × Spot)) → length ns ≤ i → ((c : List (ℕ × Spot)) → Finds B (Pairs (drop i ns)) a c → Finds B (Pairs ns) o c) → Finds B (Pairs ns) o a
-  segments_end i a le on =
-      let past : drop i ns ≡ [] = grind (arith, common_steps) in
-      on a (subst (λ l. Finds B (Pairs l) a a) (sym past) (finds_none B a))
-
-module _ (B : List FieldValue → ℕ → List ℕ → Type 0) (F : Found → Tree) (gs : List Found) (f : Forest) (o : List (ℕ × Spot)) where
-  pub groups_on : (i : ℕ) (g : Found) (a b : List (ℕ × Spot)) → i < length gs → g ≡ get_or gs i g → Finds B (assigned (F g) f) a b → ((c : List (ℕ × Spot)) → Finds B (assigned_all (each_tree F (drop i gs)) f) a c → Finds B (assigned_all (each_tree F gs) f) o c) → (c : List (ℕ × Spot)) → Finds B (assigned_all (each_tree F (drop (i + 1) gs)) f) b c → Finds B (assigned_all (each_tree F gs) f) o c
-  groups_on i g a b lt at one on c h =
-      on c (subst (λ l. Finds B (assigned_all (each_tree F l) f) a c) (sym (cons_at gs i g lt at)) (finds_join B (assigned (F g) f) (assigned_all (each_tree F (drop (i + 1) gs)) f) a b c one h))
-
-  pub groups_end : (i : ℕ) (a : List (ℕ × Spot)) → length gs ≤ i → ((c : List (ℕ × Spot)) → Finds B (assigned_all (each_tree F (drop i gs)) f) a c → Finds B (assigned_all (each_tree F gs) f) o c) → Finds B (assigned_all (each_tree F gs) f) o a
-  groups_end i a le on =
-      let past : drop i gs ≡ [] = grind (arith, common_steps) in
-      on a (subst (λ l. Finds B (assigned_all (each_tree F l) f) a a) (sym past) (finds_none B a))
-
-module _ (B : List FieldValue → ℕ → List ℕ → Type 0) (listed : List ℕ) (at : ℕ → Option Occurrences) (ns : List Node) (o : List (ℕ × Spot)) where
-  abbrev From : ℕ → List (ℕ × List FieldValue)
-  From i = assigned (tree_from listed at i (forest (drop i ns))) (forest (drop i ns))
-
-  abbrev Whole : List (ℕ × List FieldValue)
-  Whole = assigned (tree_from listed at 0 (forest ns)) (forest ns)
-
-  pub nodes_on : (i : ℕ) (n : Node) (a b : List (ℕ × Spot)) → i < length ns → n ≡ get_or ns i n → Finds B (assigned (one_tree listed at i n) (node_forest n nothing)) a b → ((c : List (ℕ × Spot)) → Finds B (From i) a c → Finds B Whole o c) → (c : List (ℕ × Spot)) → Finds B (From (i + 1)) b c → Finds B Whole o c
-  nodes_on i n a b lt is one on c h =
-      on c (subst (λ l. Finds B l a c) (sym (nodes_here listed at ns i n lt is)) (finds_join B (assigned (one_tree listed at i n) (node_forest n nothing)) (From (i + 1)) a b c one h))
-
-  pub nodes_end : (i : ℕ) (a : List (ℕ × Spot)) → length ns ≤ i → ((c : List (ℕ × Spot)) → Finds B (From i) a c → Finds B Whole o c) → Finds B Whole o a
-  nodes_end i a le on =
-      let past : drop i ns ≡ [] = grind (arith, common_steps) in
-      on a (subst (λ l. Finds B (assigned (tree_from listed at i (forest l)) (forest l)) a a) (sym past) (finds_none B a))
+  pub segments_end : length shapes ≤ i → Finds B (paired ns shapes) o a
+  segments_end le = on a (subst (λ ps. Finds B ps a a) (sym (pairs_over ns shapes i le)) (finds_none B a))
 
 -- ---- how many segments of a name there are
 
@@ -320,6 +287,18 @@ module _ (p : ProfileValue) (m : List SegmentValue) (wf : Determined p.nodes NoN
 
       label : (x : ℕ × Spot) → Has (map found_key spots) (found_key x) → IsNamed p m (breach_of m x)
       label (n, s) h = record { breaks = breaks_inside n (segment_key s) (inside.each (n ∷ segment_key s) h); counted = refl }
+
+-- ---- the same by the shapes of the segments
+
+module _ (p : ProfileValue) (m : List SegmentValue) (wf : Determined p.nodes NoName) (taken : List ℕ) (is : taken ≡ numbers p.nodes m) (shapes : List (Bor (List FieldShape))) (shape : IsShaped p m shapes) (spots : List (ℕ × Spot)) (found : Finds (BreachAt p m) (paired taken shapes) [] spots) where
+  by_tree : Finds (BreachAt p m) (assigned shape.assigns.tree p.nodes) [] spots
+  by_tree = subst (λ ps. Finds (BreachAt p m) ps [] spots) (ap (λ l. paired l shapes) is ∙ sym shape.assigns.pairs_are) found
+
+  pub shaped_within : AllByRecursion (λ (x : ℕ × Spot). x.0 < length m) spots
+  shaped_within = spots_within p m wf shape.assigns.tree shape.assigns.is spots by_tree
+
+  pub shaped_breaches : AreBreaches p m (map (breach_of m) spots)
+  shaped_breaches = are_breaches p m wf shape.assigns.tree shape.assigns.is spots by_tree
 
 -- ---- the one breach of names that don't fit
 

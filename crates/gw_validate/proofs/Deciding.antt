@@ -1,6 +1,11 @@
 -- What the steps of a verdict say together.
 use Rattle.std.proofs.Common.{◌≡◌, ℕ, zero, suc, ◌+◌, ◌<◌, inl, inr, List, [], ◌∷◌, Some, None, refl, sym, ap, ◌∙◌, subst, arith, length, map, take, get_or, slice_get}
 use Rattle.std.specs.List.{AllByRecursion}
+use Rattle.std.specs.Prelude.{◌↔◌, Option, IfSome, IsNone}
+use Rattle.std.specs.declared.vec.Vec.{Vec}
+use Rattle.std.specs.declared.alloc.Global.{Global}
+use denote.Ref.{Bor}
+use Rattle.gw_profile.specs.declared.shape.FieldShape.{FieldShape}
 use Rattle.gw_er7.specs.Message.{SegmentValue}
 use Rattle.gw_profile.specs.Shapes.{Forest, FieldValue, ProfileValue}
 use Rattle.gw_profile.specs.Deterministic.{Name, Determined, NoName}
@@ -11,16 +16,18 @@ use Rattle.gw_validate.specs.Cuts.{Fits, Begins, IsShortest}
 use Rattle.gw_validate.specs.Conforming.{names, NamesFit, numbers, segment_at, named, Conforms}
 use Rattle.gw_validate.specs.declared.occurrences.Found.{Found}
 use Rattle.gw_validate.specs.Trees.{Tree, IsTree, flatten, assigned}
-use Rattle.gw_validate.specs.own.Judging.{HasKept}
+use Rattle.gw_validate.specs.own.Judging.{HasKept, IsShaped, IsFirst}
 use Rattle.gw_validate.specs.own.Occurring.{tree_of, IsOrdered}
-use Rattle.gw_validate.specs.own.Least.{Searched, BreachAt}
+use Rattle.gw_validate.specs.own.Taking.{paired, shape_of}
+use Rattle.gw_validate.specs.own.Least.{ShapeRises, EachRises, Searched, BreachAt}
 use Rattle.gw_validate.specs.Broken.{IsTreeOf, Breaks, sequence, spot_of, IsLeast}
 use Rattle.gw_validate.specs.Breaches.{NotAfter}
 use Rattle.gw_validate.specs.own.Finding.{IsAlone}
 use Rattle.gw_validate.proofs.Leasts.{not_after_self}
 use Rattle.gw_validate.proofs.Listed.{Place, place, numbers_below}
 use Rattle.gw_validate.proofs.Flat.{tree_flat, assigned_flat}
-use Rattle.gw_validate.proofs.Judged.{names_are, names_take, NoneBefore, AloneAt, order_breaks, order_alone, missing_breaks, missing_alone, segment_breaks, segment_least, meets_all, tree_message, breaks_nothing}
+use Rattle.gw_validate.proofs.Judged.{names_are, names_take, NoneBefore, AloneAt, order_breaks, order_alone, missing_breaks, missing_alone, segment_breaks, segment_least, meets_all, tree_message, message_tree, tree_names_fit, breaks_nothing}
+use Rattle.gw_validate.proofs.Taking.{shapes_rise}
 
 pub taken_fit : (f : Forest) (m : List SegmentValue) (taken : List ℕ) → taken ≡ numbers f m → NamesFit f m → Fits f (map (named m) taken)
 taken_fit f m taken e h = subst (Fits f) (sym (ap (map (named m)) e ∙ names_are f m)) h
@@ -123,16 +130,59 @@ module _ (p : ProfileValue) (m : List SegmentValue) (wf : Determined p.nodes NoN
             in_search (x ∷ ps) n q a (inl s) = subst (λ k. k < length m) (sym s.0) a.0
             in_search (x ∷ ps) n q a (inr s) = in_search ps n q a.1 s.1
 
-  -- it conforms, and what is kept is its tree
-  pub fits_judged : (found : Found) (taken : List ℕ) (is : taken ≡ numbers p.nodes m) → IsTree (named m) (tree_of taken p.nodes found) p.nodes taken → IsOrdered p.nodes found
-      → Searched (BreachAt p m) (assigned (tree_of taken p.nodes found) p.nodes) None → HasKept p m taken found
-  fits_judged found taken is tree ordered s =
-      let here = tree_is (tree_of taken p.nodes found) taken is tree in
+  -- the shapes that the walk found are those of the message's segments
+  pub shaped : (ns : List Name) (shapes : Vec (Bor (List FieldShape)) Global) → ns ≡ map (named m) (numbers p.nodes m) → EachRises p.nodes → Answers p.nodes ns (answer.Fits shapes) → IsShaped p m shapes.items
+  shaped ns shapes is each walked =
+      let same : length shapes.items ≡ length (numbers p.nodes m) = walked.1.same ∙ ap length is ∙ count_named (numbers p.nodes m) in
+      let assigns = walked.1.assigns (named m) (numbers p.nodes m) (sym is) in
       record {
-        conforms = tree_message p m wf (tree_of taken p.nodes found) here (meets_all p m wf (tree_of taken p.nodes found) here s);
-        tree = here;
-        kept = record { ordered = ordered; within = taken_within p.nodes m taken is };
+        determined = wf;
+        fits = names_fit p.nodes m ns is walked.0;
+        same = same;
+        assigns = assigns;
+        rises = shapes_rise (named m) p.nodes (numbers p.nodes m) shapes.items each same assigns;
       }
+    where
+      count_named : (xs : List ℕ) → length (map (named m) xs) ≡ length xs
+      count_named [] = refl
+      count_named (x ∷ xs) = ap suc (count_named xs)
+
+  module _ (taken : List ℕ) (is : taken ≡ numbers p.nodes m) (shapes : List (Bor (List FieldShape))) (shape : IsShaped p m shapes) where
+    pub shapes_same : length shapes ≡ length taken
+    shapes_same = shape.same ∙ ap length (sym is)
+
+    pairs : paired taken shapes ≡ assigned shape.assigns.tree p.nodes
+    pairs = ap (λ l. paired l shapes) is ∙ sym shape.assigns.pairs_are
+
+    pub none_found : Searched (BreachAt p m) (paired taken shapes) None → Conforms p m
+    none_found s =
+        tree_message p m wf shape.assigns.tree shape.assigns.is
+        (meets_all p m wf shape.assigns.tree shape.assigns.is (subst (λ ps. Searched (BreachAt p m) ps None) pairs s))
+
+    pub one_found : (n : ℕ) (q : List ℕ) (b : Breach) → Searched (BreachAt p m) (paired taken shapes) (Some (n, q)) → b.segment ≡ named m n → b.sequence ≡ sequence m n (named m n) → spot_of b ≡ q → IsLeast p m b × (Conforms p m → ⊥)
+    one_found n q b s es eq ek =
+        not_conforming b
+        (segment_judged shape.assigns.tree (numbers p.nodes m) refl shape.assigns.is n q b (subst (λ ps. Searched (BreachAt p m) ps (Some (n, q))) pairs s) es eq ek)
+
+  pub conforming_fits : Conforms p m → NamesFit p.nodes m
+  conforming_fits h = let t = message_tree p m wf h in tree_names_fit p m wf t.tree t.is
+
+  -- it conforms, and what is kept is its tree
+  pub fits_judged : (found : Found) (taken : List ℕ) (is : taken ≡ numbers p.nodes m) → IsTree (named m) (tree_of taken p.nodes found) p.nodes taken → IsOrdered p.nodes found → Conforms p m → HasKept p m taken found
+  fits_judged found taken is tree ordered conforms = record {
+    conforms = conforms;
+    tree = tree_is (tree_of taken p.nodes found) taken is tree;
+    kept = record { ordered = ordered; within = taken_within p.nodes m taken is };
+  }
+
+-- none exactly where the message conforms
+pub first_exact : (p : ProfileValue) (m : List SegmentValue) (first : Option Breach) → IsFirst p m first → IsNone first ↔ Conforms p m
+first_exact p m None h = ((λ n. h), (λ c. refl))
+first_exact p m (Some b) h = ((λ n. absurd (cc)), (λ c. absurd (h.1 c)))
+
+pub first_least : (p : ProfileValue) (m : List SegmentValue) (first : Option Breach) → IsFirst p m first → IfSome first (IsLeast p m)
+first_least p m None h = tt
+first_least p m (Some b) h = h.0
 
 -- what is alone is the least
 pub alone_least : (p : ProfileValue) (m : List SegmentValue) (x : ℕ × Breach) → IsAlone p m x → IsLeast p m x.1 × (Conforms p m → ⊥)

@@ -1,7 +1,7 @@
 -- The names with which a list goes on.
-use Rattle.std.proofs.Common.{◌≡◌, ℕ, zero, suc, ◌+◌, ◌<◌, ◌≤◌, Bool, true, false, List, [], ◌∷◌, ◌++◌, Option, Some, None, refl, sym, ap, ◌∙◌, subst, arith, length, take, drop, map, append_assoc, append-nil}
+use Rattle.std.proofs.Common.{◌≡◌, ℕ, zero, suc, ◌+◌, ◌<◌, ◌≤◌, Bool, true, false, List, [], ◌∷◌, ◌++◌, Option, Some, None, refl, sym, ap, ◌∙◌, subst, arith, length, take, drop, map, append_assoc, append-nil, get_or}
 use Rattle.std.specs.Prelude.{◌&&◌, ◌==◌, if◌then◌else◌, ◌↔◌}
-use Rattle.std.proofs.lemmas.List.{take_all, map-append, take-append-drop}
+use Rattle.std.proofs.lemmas.List.{take_all, map-append, take-append-drop, take_more}
 use Rattle.gw_er7.specs.Message.{SegmentValue}
 use Rattle.gw_profile.specs.declared.shape.Card.{Card}
 use Rattle.gw_profile.specs.declared.node.Node.{Node, Seg, Group'}
@@ -105,6 +105,17 @@ pub first_all : (start popped : List Frame) (found : List Name) → first_names 
 first_all start popped found same end = sym (same ∙ ap (λ l. found ++ first_names (stack_on l nothing)) end ∙ append-nil found)
 
 -- ---- which names go on
+
+-- one name more
+module _ (f : Forest) (A : Name → Type 0) (wf : Determined f A) (before : List Name) (i : ℕ) (g new : Forest) (e : left f (take i before) ≡ Some g) (lt : i < length before) where
+  pub taken_one : after_name g (get_or before i []) ≡ Some new → left f (take (i + 1) before) ≡ Some new
+  taken_one go = ap (left f) (take_more before i [] lt) ∙ left_more f (take i before) (get_or before i []) g e ∙ go
+
+  pub taken_none : after_name g (get_or before i []) ≡ None → Begins f (take (i + 1) before) → ⊥
+  taken_none go b = stuck f A wf (take i before) g e (get_or before i []) go (subst (Begins f) (take_more before i [] lt) b)
+
+pub at_last : (f g : Forest) (before : List Name) (i : ℕ) → left f (take i before) ≡ Some g → length before ≤ i → left f before ≡ Some g
+at_last f g before i e le = ap (left f) (sym (take_all i before le)) ∙ e
 
 -- none goes on where the names don't begin a list
 pub none_next : (f : Forest) (before : List Name) (i : ℕ) → (Begins f (take i before) → ⊥) → (found : List Name) → found ≡ [] → AreNext f before found

@@ -14,6 +14,12 @@ use Rattle.gw_validate.specs.own.Shortest.{head, several, shortest, shortest_nod
 use Rattle.gw_validate.specs.own.State.{due_forest, frame_forest, stack_on, Tries}
 use Rattle.gw_validate.proofs.Walking.{append_assoc_forest, stack_on-push, node_due}
 use Rattle.gw_profile.specs.Deterministic.{Name, Optional}
+use denote.Ref.{Bor}
+use Rattle.gw_profile.specs.declared.shape.FieldShape.{FieldShape}
+use Rattle.gw_profile.specs.Shapes.{FieldValue}
+use Rattle.gw_validate.specs.own.State.{Advances}
+use Rattle.gw_validate.specs.own.Taking.{Takes, shape_of}
+use Rattle.gw_validate.proofs.Taking.{takes_join, takes_behind}
 
 -- what becomes of a name where h stands behind f
 abbrev pub Joins : Forest → Forest → Name → Option Forest → Option Forest → Type 0
@@ -55,24 +61,40 @@ append_nothing nothing = refl
 append_nothing (segment sv rest) = ap (λ r. seg sv sv.card.min sv.card.max r) (append_nothing rest)
 append_nothing (group gv ch rest) = ap (λ r. grp gv gv.card.min gv.card.max ch r) (append_nothing rest)
 
-module _ (f : Frame) (x : Name) (start rest new popped : List Frame) (same : after_name (stack_on start nothing) x ≡ after_name (stack_on popped nothing) x) (pop : popped ≡ rest ++ f ∷ []) where
+-- what comes of the frames that are left comes of all
+pub record Comes (start here : List Frame) (x : Name) : Type 0 where
+  pub same : after_name (stack_on start nothing) x ≡ after_name (stack_on here nothing) x
+  pub led : (shape : List FieldValue) (g : Forest) → Takes (stack_on here nothing) x shape g → Takes (stack_on start nothing) x shape g
+
+pub comes_all : (start : List Frame) (x : Name) → Comes start start x
+comes_all start x = record { same = refl; led = λ shape g t. t }
+
+module _ (f : Frame) (x : Name) (start rest new popped : List Frame) (come : Comes start popped x) (pop : popped ≡ rest ++ f ∷ []) where
   split : stack_on popped nothing ≡ append (frame_forest f) (stack_on rest nothing)
   split = ap (λ l. stack_on l nothing) pop ∙ stack_on-push rest f nothing
 
-  pub advance_taken : Tries (frame_forest f) x rest new Taken → after_name (stack_on start nothing) x ≡ Some (stack_on new nothing)
-  advance_taken t =
-      same ∙ ap (λ g. after_name g x) split
-      ∙ joins_at (frame_forest f) (stack_on rest nothing) x (Some t.0) t.1
-      ∙ ap Some (sym (t.2 nothing))
+  led_split : (shape : List FieldValue) (g : Forest) → Takes (append (frame_forest f) (stack_on rest nothing)) x shape g → Takes (stack_on start nothing) x shape g
+  led_split shape g t = come.led shape g (subst (λ k. Takes k x shape g) (sym split) t)
+
+  pub advance_taken : (fields : Bor (List FieldShape)) → Tries (frame_forest f) x rest new (Taken fields) → Advances (stack_on start nothing) x (stack_on new nothing) (Some fields)
+  advance_taken fields t = (
+    come.same ∙ ap (λ g. after_name g x) split
+        ∙ joins_at (frame_forest f) (stack_on rest nothing) x (Some t.0) t.1
+        ∙ ap Some (sym (t.2 nothing)),
+    subst (Takes (stack_on start nothing) x (shape_of fields)) (sym (t.2 nothing))
+        (led_split (shape_of fields) (append t.0 (stack_on rest nothing)) (takes_join (frame_forest f) t.0 (stack_on rest nothing) x (shape_of fields) t.3)),
+  )
 
   pub advance_stuck : Tries (frame_forest f) x rest new Stuck → after_name (stack_on start nothing) x ≡ None
   advance_stuck t =
-      same ∙ ap (λ g. after_name g x) split ∙ (joins_at (frame_forest f) (stack_on rest nothing) x None t.0).1 t.1
+      come.same ∙ ap (λ g. after_name g x) split ∙ (joins_at (frame_forest f) (stack_on rest nothing) x None t.0).1 t.1
 
-  pub advance_passed : Tries (frame_forest f) x rest new Passed → after_name (stack_on start nothing) x ≡ after_name (stack_on new nothing) x
-  advance_passed t =
-      same ∙ ap (λ g. after_name g x) split ∙ (joins_at (frame_forest f) (stack_on rest nothing) x None t.0).0 t.1
-      ∙ ap (λ l. after_name (stack_on l nothing) x) (sym t.2)
+  pub advance_passed : Tries (frame_forest f) x rest new Passed → Comes start new x
+  advance_passed t = record {
+    same = come.same ∙ ap (λ g. after_name g x) split ∙ (joins_at (frame_forest f) (stack_on rest nothing) x None t.0).0 t.1
+        ∙ ap (λ l. after_name (stack_on l nothing) x) (sym t.2);
+    led = λ shape g k. led_split shape g (takes_behind (frame_forest f) g (stack_on rest nothing) x shape t.1 (subst (λ l. Takes (stack_on l nothing) x shape g) t.2 k));
+  }
 
 abbrev pub first_of_two : Option Name → Option Name → Option Name
 first_of_two None o = o

@@ -4,6 +4,7 @@ pub mod Cuts
 pub mod Step
 pub mod Exact
 pub mod Runs
+pub mod Taking
 pub mod Walking
 pub mod Joined
 pub mod Passed

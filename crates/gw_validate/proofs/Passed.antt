@@ -1,5 +1,7 @@
 -- What a walk says of a list of names.
-use Rattle.std.proofs.Common.{◌≡◌, ℕ, ◌+◌, ◌<◌, ◌≤◌, Bool, true, false, List, [], ◌∷◌, ◌++◌, Option, Some, None, refl, sym, ap, ◌∙◌, subst, arith, length, take, get_or, append_assoc, append-nil}
+use Rattle.std.specs.declared.vec.Vec.{Vec}
+use Rattle.std.specs.declared.alloc.Global.{Global}
+use Rattle.std.proofs.Common.{◌≡◌, ℕ, ◌+◌, ◌<◌, ◌≤◌, List, [], ◌∷◌, ◌++◌, Option, Some, None, refl, sym, ap, ◌∙◌, subst, arith, length, take, get_or, append_assoc, append-nil}
 use Rattle.gw_profile.specs.Shapes.{Forest}
 use Rattle.gw_validate.specs.Cuts.{Fits}
 use Rattle.gw_validate.specs.Cuts.{Begins, IsShortest}
@@ -10,10 +12,14 @@ use Rattle.gw_validate.specs.declared.walk.Answer.TheVariants as answer
 use Rattle.std.proofs.lemmas.List.{take_more}
 use Rattle.std.proofs.lemmas.Grind.{common_steps}
 use Rattle.gw_validate.specs.own.State.{Advances}
-use Rattle.gw_validate.proofs.Step.{fits_first}
+use Rattle.gw_validate.proofs.Step.{fits_first, empty_fits}
 use Rattle.gw_validate.proofs.Exact.{Steps, step}
 use Rattle.gw_validate.proofs.Runs.{and_then, left, Run, Runs, run, run_begins, run_shortest, shortest_fits, shortest_least}
 use Rattle.gw_profile.specs.Deterministic.{Name, Determined}
+use denote.Ref.{Bor}
+use Rattle.gw_profile.specs.declared.shape.FieldShape.{FieldShape}
+use Rattle.gw_validate.specs.own.Taking.{TakesAll}
+use Rattle.gw_validate.proofs.Taking.{takes_more, takes_suit}
 
 pub left_more : (f : Forest) (w : List Name) (x : Name) (g : Forest) → left f w ≡ Some g → left f (w ++ x ∷ []) ≡ after_name g x
 left_more f [] x g e = last (after_name f x) ∙ ap (λ k. after_name k x) f_is
@@ -43,12 +49,18 @@ module _ (f : Forest) (A : Name → Type 0) (wf : Determined f A) (w : List Name
   pub stuck : (x : Name) → after_name g x ≡ None → Begins f (w ++ x ∷ []) → ⊥
   stuck x n b = cannot x n (fits_first g A run_of.kept x b.0 (run_of.forth (x ∷ b.0) (subst (Fits f) (append_assoc w (x ∷ []) b.0) b.1)))
 
-  pub complete : head (shortest g) ≡ None → Fits f w
-  complete n = subst (Fits f) (append-nil w) (run_of.back [] (empty (shortest g) n (shortest_fits g A run_of.kept)))
-    where
-      empty : (l : List Name) → head l ≡ None → Fits g l → Fits g []
-      empty [] n h = h
-      empty (x ∷ l) n h = absurd (cc)
+  empty : (l : List Name) → head l ≡ None → Fits g l → Fits g []
+  empty [] n h = h
+  empty (x ∷ l) n h = absurd (cc)
+
+  at_rest : head (shortest g) ≡ None → Fits g []
+  at_rest n = empty (shortest g) n (shortest_fits g A run_of.kept)
+
+  pub complete : (shapes : Vec (Bor (List FieldShape)) Global) → TakesAll f w shapes.items g → head (shortest g) ≡ None → Answers f w (answer.Fits shapes)
+  complete shapes all n = (
+    subst (Fits f) (append-nil w) (run_of.back [] (at_rest n)),
+    takes_suit f w shapes.items g all (empty_fits g A run_of.kept (at_rest n)),
+  )
 
   pub incomplete : (x : Name) → head (shortest g) ≡ Some x → Answers f w (answer.Missing x)
   incomplete x n = at (shortest g) n refl
@@ -62,17 +74,28 @@ module _ (f : Forest) (A : Name → Type 0) (wf : Determined f A) (w : List Name
             subst (IsShortest f w) (e ∙ ap (λ z. z ∷ l) same) (run_shortest f A w g run_of),
           )
 
-module _ (f : Forest) (A : Name → Type 0) (wf : Determined f A) (names : List Name) (i : ℕ) (g new : Forest) (o : Bool) (e : left f (take i names) ≡ Some g) (go : Advances g (get_or names i []) new o) where
+-- where the walk stands after some names
+pub record Walked (f : Forest) (names : List Name) (shapes : List (Bor (List FieldShape))) (g : Forest) : Type 0 where
+  pub left_is : left f names ≡ Some g
+  pub takes : TakesAll f names shapes g
+
+module _ (f : Forest) (A : Name → Type 0) (wf : Determined f A) (names : List Name) (shapes : List (Bor (List FieldShape))) (i : ℕ) (g new : Forest) (walked : Walked f (take i names) shapes g) where
   more : i < length names → take (i + 1) names ≡ take i names ++ get_or names i [] ∷ []
   more lt = take_more names i [] lt
 
-  pub out_of_order : i < length names → o ≡ false → Answers f names (answer.OutOfOrder i)
-  out_of_order lt no_way =
-      (lt, begins f A wf (take i names) g e, λ b. stuck f A wf (take i names) g e (get_or names i []) (rw no_way at go) (subst (Begins f) (more lt) b))
+  pub out_of_order : i < length names → Advances g (get_or names i []) new None → Answers f names (answer.OutOfOrder i)
+  out_of_order lt go =
+      (lt, begins f A wf (take i names) g walked.left_is, λ b. stuck f A wf (take i names) g walked.left_is (get_or names i []) go (subst (Begins f) (more lt) b))
 
-  pub goes_on : i < length names → o ≡ true → left f (take (i + 1) names) ≡ Some new
-  goes_on lt yes_way =
-      ap (left f) (more lt) ∙ left_more f (take i names) (get_or names i []) g e ∙ (rw yes_way at go)
+  pub goes_on : i < length names → (s : Bor (List FieldShape)) (later : List (Bor (List FieldShape))) → later ≡ shapes ++ s ∷ [] → Advances g (get_or names i []) new (Some s) → Walked f (take (i + 1) names) later new
+  goes_on lt s later is go = record {
+    left_is = ap (left f) (more lt) ∙ left_more f (take i names) (get_or names i []) g walked.left_is ∙ go.0;
+    takes = subst (λ l. TakesAll f (take (i + 1) names) l new) (sym is) (subst (λ w. TakesAll f w (shapes ++ s ∷ []) new) (sym (more lt)) (takes_more f (take i names) shapes g (get_or names i []) s new walked.takes go.1));
+  }
 
-pub at_end : (f g : Forest) (names : List Name) (i : ℕ) → left f (take i names) ≡ Some g → length names ≤ i → left f names ≡ Some g
-at_end f g names i e le = ap (left f) (sym (let all : take i names ≡ names = grind (arith, common_steps) in all)) ∙ e
+pub at_end : (f g : Forest) (names : List Name) (shapes : List (Bor (List FieldShape))) (i : ℕ) → Walked f (take i names) shapes g → length names ≤ i → Walked f names shapes g
+at_end f g names shapes i w le =
+    subst (λ l. Walked f l shapes g) (let all : take i names ≡ names = grind (arith, common_steps) in all) w
+
+pub at_start : (f g : Forest) (names : List Name) → g ≡ f → Walked f (take 0 names) [] g
+at_start f g names e = record { left_is = ap Some (sym e); takes = sym e }

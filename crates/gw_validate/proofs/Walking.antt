@@ -1,5 +1,6 @@
 -- The walk's frames stand for what is left of the forest.
-use Rattle.std.proofs.Common.{◌≡◌, ℕ, zero, suc, ◌+◌, ◌-◌, ◌<◌, inl, inr, Bool, true, false, List, [], ◌∷◌, ◌++◌, Option, Some, None, refl, sym, ap, ◌∙◌, subst, arith, length, drop, get_or, drop-cons}
+use Rattle.std.proofs.Common.{◌≡◌, ℕ, zero, suc, ◌+◌, ◌-◌, ◌<◌, ◌≤◌, inl, inr, Bool, true, false, List, [], ◌∷◌, ◌++◌, Option, Some, None, refl, sym, ap, ◌∙◌, subst, arith, length, map, drop, get_or, drop-cons}
+use Rattle.std.proofs.lemmas.Grind.{common_steps}
 use Rattle.gw_validate.proofs.Names.{name_tells, equal_names}
 use mathlib.Core.Former.{Count}
 use Rattle.gw_profile.specs.declared.shape.Card.{Card}
@@ -9,7 +10,7 @@ use Rattle.gw_profile.specs.declared.node.Node.{Node, Seg, Group, Group', Row_of
 use Rattle.gw_validate.specs.declared.walk.Frame.{Frame}
 use Rattle.gw_profile.specs.Shapes.{Forest, nothing, segment, group, GroupValue}
 use Rattle.gw_validate.specs.own.Residual.{less, append, has_room, when, pass, or_else, after_name, seg, grp}
-use Rattle.gw_profile.specs.Seen.{node_forest, row_forest, forest}
+use Rattle.gw_profile.specs.Seen.{node_forest, row_forest, forest, segment_value}
 use Rattle.gw_profile.specs.Nodes.{card_of}
 use Rattle.std.specs.Prelude.{◌&&◌, if◌then◌else◌}
 use Rattle.gw_validate.specs.own.Tests.{can_begin, node_begins}
@@ -20,6 +21,12 @@ use Rattle.gw_validate.specs.own.State.{due_forest, frame_forest, stack_on, left
 use Rattle.gw_validate.specs.declared.walk.Step.{Step}
 use Rattle.gw_validate.specs.declared.walk.Step.TheVariants.{Taken, Passed, Stuck}
 use Rattle.gw_profile.specs.Deterministic.{Name, Optional}
+use denote.Ref.{Bor}
+use Rattle.gw_profile.specs.Shapes.{FieldValue}
+use Rattle.gw_profile.specs.declared.shape.FieldShape.{FieldShape}
+use Rattle.gw_profile.specs.Seen.{field}
+use Rattle.gw_validate.specs.own.Taking.{Takes, shape_of}
+use Rattle.gw_validate.proofs.Taking.{takes_segment, takes_group, takes_past_segment, takes_past_group}
 
 row_items : (n : _) (row : Row_of-Node n) → row_forest row ≡ forest (items-the_row-Node n row)
 row_items n end_of-Node = refl
@@ -75,43 +82,76 @@ passed_group g due rest x other =
     middle : after_name (grp (value_of g) due.min due.max (forest g.nodes.items) rest) x ≡ pass due.min (after_name rest x)
     middle = rw other (never (has_room due.max) _)
 
-pub tried_left_out : (m : ℕ) (all others : Option Forest) (old new : List Frame) → all ≡ pass m others → new ≡ old → NodeTried m all others old new (left_out m)
-tried_left_out zero all others old new e s = (refl, e, s)
-tried_left_out (suc m) all others old new e s = (λ z. omega arith, e, s)
+pub tried_left_out : (m : ℕ) (all others : Forest) (x : Name) (old new : List Frame) → after_name all x ≡ pass m (after_name others x) → new ≡ old → NodeTried m all others x old new (left_out m)
+tried_left_out zero all others x old new e s = (refl, e, s)
+tried_left_out (suc m) all others x old new e s = (λ z. omega arith, e, s)
+
+-- a segment behind a node that may be left out
+pub takes_past : (node : Node) (due : Card) (rest g : Forest) (x : Name) (shape : List FieldValue) → due.min ≡ 0 → Takes rest x shape g → Takes (due_forest node due rest) x shape g
+takes_past (Seg s) due rest g x shape none takes = takes_past_segment (segment_value s) due.min due.max rest g x shape none takes
+takes_past (Group' lb u c shape row) due rest g x sh none takes =
+    takes_past_group (record { label = lb.items; usage = u; card = c }) due.min due.max (row_forest row) rest g x sh none takes
 
 pub append_assoc_forest : (f g h : Forest) → append (append f g) h ≡ append f (append g h)
 append_assoc_forest nothing g h = refl
 append_assoc_forest (segment sv rest) g h = ap (λ r. seg sv sv.card.min sv.card.max r) (append_assoc_forest rest g h)
 append_assoc_forest (group gv ch rest) g h = ap (λ r. grp gv gv.card.min gv.card.max ch r) (append_assoc_forest rest g h)
 
+due_optional : (n : Node) (due : Card) (rest : Forest) → due.min ≡ 0 → Optional rest → Optional (due_forest n due rest)
+due_optional (Seg s) due rest none o = (none, o)
+due_optional (Group' lb u c shape row) due rest none o = (none, o)
+
+rest_optional : (n : Node) (due : Card) (rest : Forest) → Optional (due_forest n due rest) → Optional rest
+rest_optional (Seg s) due rest o = o.1
+rest_optional (Group' lb u c shape row) due rest o = o.1
+
+min_optional : (n : Node) (due : Card) (rest : Forest) → Optional (due_forest n due rest) → due.min ≡ 0
+min_optional (Seg s) due rest o = o.0
+min_optional (Group' lb u c shape row) due rest o = o.0
+
 module _ (f : Frame) (due' : Card) (x : Name) (old mid new : List Frame) where
   abbrev Left : Frame
   Left = record { node = f.node; due = due'; rest = f.rest }
 
-  pub tried_segment : (s : declared_segment.SegNode) → f.node.now ≡ Seg s → has_room f.due.max ≡ true → s.name ≡ x → due'.min ≡ f.due.min - 1 → due'.max ≡ less f.due.max → new ≡ old ++ Left ∷ [] → TriesNode f x old new Taken
-  tried_segment s is room here min max pushed = (
+  pub tried_segment : (s : declared_segment.SegNode) (fields : Bor (List FieldShape)) → f.node.now ≡ Seg s → fields.now ≡ s.fields.items → has_room f.due.max ≡ true → s.name ≡ x → due'.min ≡ f.due.min - 1 → due'.max ≡ less f.due.max → new ≡ old ++ Left ∷ [] → TriesNode f x old new (Taken fields)
+  tried_segment s fields is fields_are room here min max pushed = (
     frame_forest Left,
     ap (λ n. after_name (due_forest n f.due (forest f.rest.now)) x) is
         ∙ taken_segment s f.due due' (forest f.rest.now) x room here min max
         ∙ ap (λ n. Some (due_forest n due' (forest f.rest.now))) (sym is),
-    λ behind. ap (λ l. stack_on l behind) pushed ∙ stack_on-push old Left behind,
+    (λ behind. ap (λ l. stack_on l behind) pushed ∙ stack_on-push old Left behind),
+    subst (λ n. Takes (due_forest n f.due (forest f.rest.now)) x (shape_of fields) (due_forest n due' (forest f.rest.now))) (sym is)
+        (subst (λ (l : List FieldShape). Takes (due_forest (Seg s) f.due (forest f.rest.now)) x (map field l) (due_forest (Seg s) due' (forest f.rest.now))) (sym fields_are)
+        (takes_segment (segment_value s) f.due.min due'.min f.due.max due'.max (forest f.rest.now) x room here min max)),
   )
 
-  pub tried_group : (g : declared_group.GroupNode) (children : List Node) → f.node.now ≡ Group g → children ≡ g.nodes.items → has_room f.due.max ≡ true → due'.min ≡ f.due.min - 1 → due'.max ≡ less f.due.max → mid ≡ old ++ Left ∷ [] → Tries (forest children) x mid new Taken → TriesNode f x old new Taken
-  tried_group g children is items room min max pushed tried = (
+  pub tried_group : (g : declared_group.GroupNode) (children : List Node) (fields : Bor (List FieldShape)) → f.node.now ≡ Group g → children ≡ g.nodes.items → has_room f.due.max ≡ true → due'.min ≡ f.due.min - 1 → due'.max ≡ less f.due.max → mid ≡ old ++ Left ∷ [] → Tries (forest children) x mid new (Taken fields) → TriesNode f x old new (Taken fields)
+  tried_group g children fields is items room min max pushed tried = (
     append tried.0 (frame_forest Left),
     ap (λ n. after_name (due_forest n f.due (forest f.rest.now)) x) is
         ∙ taken_group g f.due due' (forest f.rest.now) tried.0 x room (ap (λ l. after_name (forest l) x) (sym items) ∙ tried.1) min max
         ∙ ap (λ n. Some (append tried.0 (due_forest n due' (forest f.rest.now)))) (sym is),
-    λ behind. tried.2 behind
+    (λ behind. tried.2 behind
         ∙ ap (λ l. append tried.0 (stack_on l behind)) pushed
         ∙ ap (append tried.0) (stack_on-push old Left behind)
-        ∙ sym (append_assoc_forest tried.0 (frame_forest Left) (stack_on old behind)),
+        ∙ sym (append_assoc_forest tried.0 (frame_forest Left) (stack_on old behind))),
+    subst (λ n. Takes (due_forest n f.due (forest f.rest.now)) x (shape_of fields) (append tried.0 (due_forest n due' (forest f.rest.now)))) (sym is) whole,
   )
+    where
+      inner : Takes (forest g.nodes.items) x (shape_of fields) tried.0
+      inner = subst (λ l. Takes (forest l) x (shape_of fields) tried.0) items tried.3
+
+      of_groups : Takes (grp (value_of g) f.due.min f.due.max (forest g.nodes.items) (forest f.rest.now)) x (shape_of fields) (append tried.0 (grp (value_of g) due'.min due'.max (forest g.nodes.items) (forest f.rest.now)))
+      of_groups = takes_group (value_of g) f.due.min due'.min f.due.max due'.max (forest g.nodes.items) (forest f.rest.now) tried.0 x (shape_of fields) room min max inner
+
+      whole : Takes (due_forest (Group g) f.due (forest f.rest.now)) x (shape_of fields) (append tried.0 (due_forest (Group g) due' (forest f.rest.now)))
+      whole =
+          subst (λ k. Takes k x (shape_of fields) (append tried.0 (due_forest (Group g) due' (forest f.rest.now)))) (sym (due_group g f.due (forest f.rest.now)))
+          (subst (λ k. Takes (grp (value_of g) f.due.min f.due.max (forest g.nodes.items) (forest f.rest.now)) x (shape_of fields) (append tried.0 k)) (sym (due_group g due' (forest f.rest.now))) of_groups)
 
   -- a group whose children do not take the name
-  pub untried_group : (g : declared_group.GroupNode) (children : List Node) → f.node.now ≡ Group g → children ≡ g.nodes.items → (s : Step) → (s ≡ Taken → ⊥) → Tries (forest children) x mid new s → (after_name (frame_forest f) x ≡ pass f.due.min (after_name (forest f.rest.now) x)) × (new ≡ mid)
-  untried_group g children is items Taken other tried = absurd (other refl)
+  pub untried_group : (g : declared_group.GroupNode) (children : List Node) → f.node.now ≡ Group g → children ≡ g.nodes.items → (s : Step) → ((fields : Bor (List FieldShape)) → s ≡ Taken fields → ⊥) → Tries (forest children) x mid new s → (after_name (frame_forest f) x ≡ pass f.due.min (after_name (forest f.rest.now) x)) × (new ≡ mid)
+  untried_group g children is items (Taken fields) other tried = absurd (other fields refl)
   untried_group g children is items Passed other tried = (untaken tried.0, tried.2)
     where
       untaken : after_name (forest children) x ≡ None → after_name (frame_forest f) x ≡ pass f.due.min (after_name (forest f.rest.now) x)
@@ -124,33 +164,71 @@ module _ (f : Frame) (due' : Card) (x : Name) (old mid new : List Frame) where
     tried.2,
   )
 
+  -- a node that may be left out, and the name tried on the nodes behind it
+  pub tried_behind : (s : Step) → TriesNode f x old mid Passed → Tries (forest f.rest.now) x mid new s → Tries (frame_forest f) x old new s
+  tried_behind (Taken fields) node tried = (
+    tried.0,
+    node.1 ∙ tried.1,
+    (λ behind. tried.2 behind ∙ ap (λ l. append tried.0 (stack_on l behind)) node.2),
+    takes_past f.node.now f.due (forest f.rest.now) tried.0 x (shape_of fields) node.0 tried.3,
+  )
+  tried_behind Passed node tried = (node.1 ∙ tried.0, due_optional f.node.now f.due (forest f.rest.now) node.0 tried.1, tried.2 ∙ node.2)
+  tried_behind Stuck node tried = (node.1 ∙ tried.0, (λ o. tried.1 (rest_optional f.node.now f.due (forest f.rest.now) o)), tried.2 ∙ node.2)
+
 pub node_due : (node : Node) (rest : Forest) → node_forest node rest ≡ due_forest node (card_of node) rest
 node_due (Seg s) rest = refl
 node_due (Group' lb u c shape row) rest = refl
 
--- what comes of the first node comes of all
-pub tried_nodes : (node : Node) (rest all : List Node) (x : Name) (start old new : List Frame) (s : Step) → after_name (forest all) x ≡ after_name (forest (node ∷ rest)) x → (Optional (forest all) → Optional (forest (node ∷ rest))) → old ≡ start → (s ≡ Passed → ⊥) → NodeTried (card_of node).min (after_name (due_forest node (card_of node) (forest rest)) x) (after_name (forest rest) x) old new s → Tries (forest all) x start new s
-tried_nodes node rest all x start old new Taken same closed kept other tried = (
-  tried.0,
-  same ∙ ap (λ f. after_name f x) (node_due node (forest rest)) ∙ tried.1,
-  λ behind. tried.2 behind ∙ ap (λ l. append tried.0 (stack_on l behind)) kept,
-)
-tried_nodes node rest all x start old new Passed same closed kept other tried = absurd (other refl)
-tried_nodes node rest all x start old new Stuck same closed kept other tried = (
-  same ∙ ap (λ f. after_name f x) (node_due node (forest rest)) ∙ tried.1,
-  λ o. tried.0 (demanded node (closed o)),
-  tried.2 ∙ kept,
-)
-  where
-    demanded : (n : Node) → Optional (forest (n ∷ rest)) → (card_of n).min ≡ 0
-    demanded (Seg s) o = o.0
-    demanded (Group' lb u c shape row) o = o.0
+-- what comes of the nodes from one on comes of all
+pub record Reaches (all here : List Node) (x : Name) : Type 0 where
+  pub same : after_name (forest all) x ≡ after_name (forest here) x
+  pub open_still : Optional (forest here) → Optional (forest all)
+  pub closed_still : Optional (forest all) → Optional (forest here)
+  pub led : (shape : List FieldValue) (g : Forest) → Takes (forest here) x shape g → Takes (forest all) x shape g
 
-pub tried_at : (node : Node) (due : Card) (rest all : List Node) (x : Name) (start old new : List Frame) (i : ℕ) (s : Step) → i < length all → node ≡ get_or all i node → due ≡ card_of node → rest ≡ drop (i + 1) all → after_name (forest all) x ≡ after_name (forest (drop i all)) x → (Optional (forest all) → Optional (forest (drop i all))) → old ≡ start → (s ≡ Passed → ⊥) → NodeTried due.min (after_name (due_forest node due (forest rest)) x) (after_name (forest rest) x) old new s → Tries (forest all) x start new s
-tried_at node due rest all x start old new i s lt node_is due_is rest_is same closed kept other tried =
-    let one : suc i ≡ i + 1 = omega arith in
-    let cons : drop i all ≡ node ∷ rest = drop-cons all i node lt ∙ ap (λ n. n ∷ drop (suc i) all) (sym node_is) ∙ ap (λ l. node ∷ l) (ap (λ j. drop j all) one ∙ sym rest_is) in
-    tried_nodes node rest all x start old new s (same ∙ ap (λ l. after_name (forest l) x) cons) (λ o. subst (λ l. Optional (forest l)) cons (closed o)) kept other (subst (λ d. NodeTried d.min (after_name (due_forest node d (forest rest)) x) (after_name (forest rest) x) old new s) due_is tried)
+pub reaches_all : (all : List Node) (x : Name) → Reaches all all x
+reaches_all all x = record { same = refl; open_still = λ o. o; closed_still = λ o. o; led = λ shape g t. t }
+
+module _ (node : Node) (due : Card) (rest all : List Node) (x : Name) (start old new : List Frame) (i : ℕ) (lt : i < length all) (node_is : node ≡ get_or all i node) (due_is : due ≡ card_of node) (rest_is : rest ≡ drop (i + 1) all) (reach : Reaches all (drop i all) x) where
+  cons : drop i all ≡ node ∷ rest
+  cons =
+      let one : suc i ≡ i + 1 = omega arith in
+      drop-cons all i node lt ∙ ap (λ n. n ∷ drop (suc i) all) (sym node_is) ∙ ap (λ l. node ∷ l) (ap (λ j. drop j all) one ∙ sym rest_is)
+
+  here : forest (drop i all) ≡ due_forest node due (forest rest)
+  here = ap forest cons ∙ node_due node (forest rest) ∙ ap (λ d. due_forest node d (forest rest)) (sym due_is)
+
+  pub tried_at : (s : Step) → old ≡ start → (s ≡ Passed → ⊥) → NodeTried due.min (due_forest node due (forest rest)) (forest rest) x old new s → Tries (forest all) x start new s
+  tried_at (Taken fields) kept other tried = (
+    tried.0,
+    reach.same ∙ ap (λ f. after_name f x) here ∙ tried.1,
+    (λ behind. tried.2 behind ∙ ap (λ l. append tried.0 (stack_on l behind)) kept),
+    reach.led (shape_of fields) tried.0 (subst (λ f. Takes f x (shape_of fields) tried.0) (sym here) tried.3),
+  )
+  tried_at Passed kept other tried = absurd (other refl)
+  tried_at Stuck kept other tried = (
+    reach.same ∙ ap (λ f. after_name f x) here ∙ tried.1,
+    (λ o. tried.0 (min_optional node due (forest rest) (subst Optional here (reach.closed_still o)))),
+    tried.2 ∙ kept,
+  )
+
+  pub reaches_on : NodeTried due.min (due_forest node due (forest rest)) (forest rest) x old new Passed → Reaches all (drop (i + 1) all) x
+  reaches_on tried =
+      subst (λ l. Reaches all l x) rest_is
+      (record {
+        same = reach.same ∙ ap (λ f. after_name f x) here ∙ tried.1;
+        open_still = λ o. reach.open_still (subst Optional (sym here) (due_optional node due (forest rest) tried.0 o));
+        closed_still = λ o. rest_optional node due (forest rest) (subst Optional here (reach.closed_still o));
+        led = λ shape g t. reach.led shape g (subst (λ f. Takes f x shape g) (sym here) (takes_past node due (forest rest) g x shape tried.0 t));
+      })
+
+pub tried_end : (all : List Node) (x : Name) (start old : List Frame) (i : ℕ) → length all ≤ i → Reaches all (drop i all) x → old ≡ start → Tries (forest all) x start old Passed
+tried_end all x start old i le reach kept =
+    let past : drop i all ≡ [] = grind (arith, common_steps) in (
+      reach.same ∙ ap (λ l. after_name (forest l) x) past,
+      reach.open_still (subst (λ l. Optional (forest l)) (sym past) tt),
+      kept,
+    )
 
 pub begins_group : (g : declared_group.GroupNode) (x : Name) → has_room g.card.max ≡ true → can_begin (forest g.nodes.items) x ≡ node_begins (Group g) x
 begins_group g x roomy =

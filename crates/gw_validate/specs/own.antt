@@ -3,6 +3,7 @@ pub mod Residual
 pub mod Occurring
 pub mod Shortest
 pub mod Firsts
+pub mod Taking
 pub mod State
 pub mod Tests
 pub mod Joining

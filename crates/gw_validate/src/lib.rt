@@ -22,4 +22,4 @@ pub use collect::breaches;
 pub use next::next_names;
 pub use occ::Occ;
 pub use tree::Tree;
-pub use verdict::{Verdict, validate};
+pub use verdict::{Verdict, first_breach, validate};

@@ -64,9 +64,9 @@ fn next_of(alloc: Global, nodes: &[Node], names: &[[u8; 3]]) -> Result<Vec<[u8; 
 {
     let mut stack = start(alloc, nodes)?;
     for (i, name) in names.iter().enumerate() {
-        if !advance(&mut stack, *name)? {
+        let Some(_) = advance(&mut stack, *name)? else {
             return Ok(Vec::new(alloc));
-        }
+        };
     }
     first_of_stack(alloc, stack)
 }

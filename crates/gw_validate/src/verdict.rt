@@ -1,26 +1,25 @@
 //! Whether a message conforms to a profile, and if not, what it breaks first.
-ghost use Rattle.std.specs.Prelude.{MatchOption, ◌≡◌, ◌<◌, ◌+◌, ◌^◌, ◌↔◌, take, IfOk, IfErr, IsTrue};
+ghost use Rattle.std.specs.Prelude.{◌≡◌, ◌<◌, ◌+◌, ◌^◌, ◌↔◌, take, IfOk, IfErr, IfSome, IsNone, IsTrue};
 ghost use Rattle.std.specs.Arc.{arc_value};
 ghost use Rattle.std.specs.List.{count_by};
 ghost use Rattle.std.specs.Str.{bytes_eq};
 ghost use Rattle.gw_profile.specs.Seen.{profile_value, forest};
-ghost use Rattle.gw_validate.specs.Conforming.{NamesFit, numbers, Conforms};
+ghost use Rattle.gw_validate.specs.Conforming.{numbers, Conforms};
 ghost use Rattle.gw_validate.specs.own.Least.{segment_key};
-ghost use Rattle.gw_validate.specs.Broken.{sequence, spot_of};
+ghost use Rattle.gw_validate.specs.Broken.{sequence, spot_of, IsLeast};
 ghost use Rattle.gw_validate.specs.Verdict.{is_fit, IfFits, IfBreaks, HasTree, HasBreach};
-ghost use Rattle.gw_validate.specs.own.Finding.{IsAlone};
-ghost use Rattle.gw_validate.specs.own.Judging.{IsJudged};
+ghost use Rattle.gw_validate.specs.own.Judging.{IsJudged, IsPlaced, IsFirst};
 
 use crate::breach::{Breach, Kind};
 use crate::build::build;
 use crate::fields::{Spot, of_kind};
 use crate::listing::{listed, name_at, names_of};
 use crate::occurrences::Found;
-use crate::search::search_nodes;
+use crate::search::search;
 use crate::tree::Tree;
 use crate::walk::{Answer, walk};
 use gw_er7::Message;
-use gw_profile::Profile;
+use gw_profile::{FieldShape, Profile};
 use std::alloc::{AllocError, Global};
 use std::sync::Arc;
 
@@ -75,53 +74,63 @@ fn breach_at(message: &Message, number: usize, name: [u8; 3], spot: Spot) -> Bre
     }
 }
 
-// What a message is whose names fit.
-fn judge_segments(
-    alloc: Global,
-    profile: &Profile,
-    message: &Message,
-    taken: Vec<usize>,
-) -> Result<Judged, AllocError>
-    requires taken { taken.items ≡ numbers (forest profile.now.nodes) message.now }
-    requires fits { NamesFit (forest profile.now.nodes) message.now }
-    ensures { IfOk result (IsJudged (profile_value profile.now) message.now) }
-{
-    let found = build(alloc, profile.nodes(), message, &taken)?;
-    match search_nodes(profile, message, &taken, &found, profile.nodes()) {
-        None => Ok(Judged::Fits(taken, found)),
-        Some((number, spot)) => Ok(Judged::Breaks(breach_at(
-            message,
-            number,
-            name_at(message, number),
-            spot,
-        ))),
-    }
+// Where the names of a message stand in a profile.
+#[derive(Drop)]
+pub(crate) enum Placed<'a> {
+    /// They fit: each of the segments that the profile knows has these fields.
+    Shapes(Vec<&'a [FieldShape]>),
+    /// They don't fit: the one breach, with the number of its segment.
+    Alone(usize, Breach),
 }
 
-// The one breach of a message whose names don't fit, with the number of its segment. `taken` are the numbers of those that the profile knows.
-pub(crate) fn misplaced(
+// Where the names of a message stand in a profile. `taken` are the numbers of the segments that the profile knows.
+pub(crate) fn place_segments<'a>(
     alloc: Global,
-    profile: &Profile,
+    profile: &'a Profile,
     message: &Message,
     taken: &[usize],
-) -> Result<Option<(usize, Breach)>, AllocError>
+) -> Result<Placed<'a>, AllocError>
     requires { taken.now ≡ numbers (forest profile.now.nodes) message.now }
-    ensures { IfOk result (λ o. MatchOption o (NamesFit (forest profile.now.nodes) message.now) (IsAlone (profile_value profile.now) message.now)) }
+    ensures { IfOk result (IsPlaced (profile_value profile.now) message.now) }
 {
     let names = names_of(alloc, message, taken)?;
     match walk(alloc, profile.nodes(), &names)? {
-        Answer::Fits => Ok(None),
+        Answer::Fits(shapes) => Ok(Placed::Shapes(shapes)),
         Answer::OutOfOrder(i) => {
             let number = taken[i];
             let name = name_at(message, number);
             let spot = of_kind(Kind::OutOfOrder);
-            Ok(Some((number, breach_at(message, number, name, spot))))
+            Ok(Placed::Alone(number, breach_at(message, number, name, spot)))
         }
         Answer::Missing(name) => {
             let number = message.segment_count();
             let spot = of_kind(Kind::MissingSegment);
-            Ok(Some((number, breach_at(message, number, name, spot))))
+            Ok(Placed::Alone(number, breach_at(message, number, name, spot)))
         }
+    }
+}
+
+// What a message breaks first. `taken` are the numbers of the segments that the profile knows.
+fn least(
+    alloc: Global,
+    profile: &Profile,
+    message: &Message,
+    taken: &[usize],
+) -> Result<Option<Breach>, AllocError>
+    requires { taken.now ≡ numbers (forest profile.now.nodes) message.now }
+    ensures { IfOk result (λ first. IsFirst (profile_value profile.now) message.now first) }
+{
+    match place_segments(alloc, profile, message, taken)? {
+        Placed::Alone(_, breach) => Ok(Some(breach)),
+        Placed::Shapes(shapes) => match search(profile, message, taken, &shapes) {
+            None => Ok(None),
+            Some((number, spot)) => Ok(Some(breach_at(
+                message,
+                number,
+                name_at(message, number),
+                spot,
+            ))),
+        },
     }
 }
 
@@ -130,10 +139,26 @@ fn judge(alloc: Global, profile: &Profile, message: &Message) -> Result<Judged, 
     ensures { IfOk result (IsJudged (profile_value profile.now) message.now) }
 {
     let taken = listed(alloc, profile, message)?;
-    match misplaced(alloc, profile, message, &taken)? {
-        None => judge_segments(alloc, profile, message, taken),
-        Some((_, breach)) => Ok(Judged::Breaks(breach)),
+    match least(alloc, profile, message, &taken)? {
+        Some(breach) => Ok(Judged::Breaks(breach)),
+        None => {
+            let found = build(alloc, profile.nodes(), message, &taken)?;
+            Ok(Judged::Fits(taken, found))
+        }
     }
+}
+
+/// The first breach of a message: none exactly where it conforms to the profile. It makes no tree. Err is allocation failure.
+pub fn first_breach(
+    alloc: Global,
+    profile: &Profile,
+    message: &Message,
+) -> Result<Option<Breach>, AllocError>
+    ensures exact { IfOk result (λ first. IsNone first ↔ Conforms (profile_value profile.now) message.now) }
+    ensures breach { IfOk result (λ first. IfSome first (IsLeast (profile_value profile.now) message.now)) }
+{
+    let taken = listed(alloc, profile, message)?;
+    least(alloc, profile, message, &taken)
 }
 
 /// Validates a message against a profile: it conforms, with its one tree, or it breaks the profile, with its first breach and the message. Err is allocation failure, with the message.

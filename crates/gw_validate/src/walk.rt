@@ -9,7 +9,7 @@ ghost use Rattle.gw_validate.specs.own.Shortest.{head, several, shortest, shorte
 ghost use Rattle.gw_validate.specs.own.Answers.{Answers};
 ghost use Rattle.gw_profile.specs.Deterministic.{Determined, NoName};
 
-use gw_profile::{Card, Node};
+use gw_profile::{Card, FieldShape, Node};
 use std::alloc::{AllocError, Global};
 
 /// A node with how often it may still come, and the nodes behind it.
@@ -21,10 +21,10 @@ pub(crate) struct Frame<'a> {
 }
 
 /// What a list of names is.
-#[derive(Clone, Copy, Drop)]
-pub(crate) enum Answer {
-    /// It fits.
-    Fits,
+#[derive(Drop)]
+pub(crate) enum Answer<'a> {
+    /// It fits, and the segment of each name has these fields.
+    Fits(Vec<&'a [FieldShape]>),
     /// The names up to this one begin no list that fits, and those before it begin one.
     OutOfOrder(usize),
     /// The names begin a list that fits, and the shortest completion begins with this name.
@@ -32,10 +32,10 @@ pub(crate) enum Answer {
 }
 
 /// What came of a name.
-#[derive(Drop)]
-enum Step {
-    /// It was read.
-    Taken,
+#[derive(Clone, Copy, Drop)]
+enum Step<'a> {
+    /// A segment of these fields takes it.
+    Taken(&'a [FieldShape]),
     /// It cannot come here, but what stands here may be left out.
     Passed,
     /// It cannot come here, and something else must.
@@ -74,7 +74,7 @@ pub(crate) fn less_one(due: Card) -> Card
 }
 
 // What comes of a name that the node does not take.
-fn left_out(due: Card) -> Step
+fn left_out<'a>(due: Card) -> Step<'a>
     ensures { result ≡ left_out due.min }
 {
     if due.min == 0 {
@@ -89,7 +89,7 @@ fn take_node<'a>(
     stack: &mut Vec<Frame<'a>>,
     frame: Frame<'a>,
     name: [u8; 3],
-) -> Result<Step, AllocError>
+) -> Result<Step<'a>, AllocError>
     ensures { IfOk result (λ s. TriesNode frame.entry name stack.old.items stack.new.items s) }
 {
     if !has_room(frame.due) {
@@ -103,7 +103,7 @@ fn take_node<'a>(
         Node::Seg(segment) => {
             if same_name(segment.name, name) {
                 stack.push(left)?;
-                return Ok(Step::Taken);
+                return Ok(Step::Taken(&segment.fields));
             }
             Ok(left_out(frame.due))
         }
@@ -111,7 +111,7 @@ fn take_node<'a>(
             let depth = stack.len();
             stack.push(left)?;
             match take_nodes(stack, &group.nodes, name)? {
-                Step::Taken => Ok(Step::Taken),
+                Step::Taken(fields) => Ok(Step::Taken(fields)),
                 _ => {
                     stack.truncate(depth);
                     Ok(left_out(frame.due))
@@ -126,7 +126,7 @@ fn take_nodes<'a>(
     stack: &mut Vec<Frame<'a>>,
     nodes: &'a [Node],
     name: [u8; 3],
-) -> Result<Step, AllocError>
+) -> Result<Step<'a>, AllocError>
     ensures { IfOk result (λ s. Tries (forest nodes.now) name stack.old.items stack.new.items s) }
 {
     for (i, node) in nodes.iter().enumerate() {
@@ -148,28 +148,31 @@ fn take_frame<'a>(
     stack: &mut Vec<Frame<'a>>,
     frame: Frame<'a>,
     name: [u8; 3],
-) -> Result<Step, AllocError>
+) -> Result<Step<'a>, AllocError>
     ensures { IfOk result (λ s. Tries (frame_forest frame.entry) name stack.old.items stack.new.items s) }
 {
     match take_node(stack, frame, name)? {
         Step::Passed => take_nodes(stack, frame.rest, name),
-        Step::Taken => Ok(Step::Taken),
+        Step::Taken(fields) => Ok(Step::Taken(fields)),
         Step::Stuck => Ok(Step::Stuck),
     }
 }
 
-// Goes on by one name, if the names so far and this one begin a list that fits.
-pub(crate) fn advance<'a>(stack: &mut Vec<Frame<'a>>, name: [u8; 3]) -> Result<bool, AllocError>
-    ensures { IfOk result (λ yes. Advances (stack_on stack.old.items nothing) name (stack_on stack.new.items nothing) yes) }
+// Goes on by one name, if the names so far and this one begin a list that fits: the fields of its segment.
+pub(crate) fn advance<'a>(
+    stack: &mut Vec<Frame<'a>>,
+    name: [u8; 3],
+) -> Result<Option<&'a [FieldShape]>, AllocError>
+    ensures { IfOk result (λ fields. Advances (stack_on stack.old.items nothing) name (stack_on stack.new.items nothing) fields) }
 {
     while let Some(frame) = stack.pop() {
         match take_frame(stack, frame, name)? {
-            Step::Taken => return Ok(true),
-            Step::Stuck => return Ok(false),
+            Step::Taken(fields) => return Ok(Some(fields)),
+            Step::Stuck => return Ok(None),
             Step::Passed => {}
         }
     }
-    Ok(false)
+    Ok(None)
 }
 
 // The first name of the fewest occurrences that are still due.
@@ -231,18 +234,24 @@ pub(crate) fn start(alloc: Global, nodes: &[Node]) -> Result<Vec<Frame<'_>>, All
 }
 
 /// What the list of names is.
-pub(crate) fn walk(alloc: Global, nodes: &[Node], names: &[[u8; 3]]) -> Result<Answer, AllocError>
+pub(crate) fn walk<'a>(
+    alloc: Global,
+    nodes: &'a [Node],
+    names: &[[u8; 3]],
+) -> Result<Answer<'a>, AllocError>
     requires { Determined (forest nodes.now) NoName }
     ensures { IfOk result (λ answer. Answers (forest nodes.now) names.now answer) }
 {
     let mut stack = start(alloc, nodes)?;
+    let mut shapes = Vec::with_capacity(alloc, names.len())?;
     for (i, name) in names.iter().enumerate() {
-        if !advance(&mut stack, *name)? {
+        let Some(fields) = advance(&mut stack, *name)? else {
             return Ok(Answer::OutOfOrder(i));
-        }
+        };
+        shapes.push(fields)?;
     }
     match missing(stack) {
-        None => Ok(Answer::Fits),
+        None => Ok(Answer::Fits(shapes)),
         Some(name) => Ok(Answer::Missing(name)),
     }
 }

@@ -1,13 +1,16 @@
 -- Where a walk over a profile stands, as what is left of its forest.
-use Rattle.std.specs.Prelude.{◌≡◌, Bool, true, false, ℕ, zero, suc, List, [], ◌∷◌, Option, Some, None}
+use Rattle.std.specs.Prelude.{◌≡◌, ℕ, zero, suc, List, [], ◌∷◌, Option, Some, None}
+use denote.Ref.{Bor}
 use Rattle.gw_profile.specs.declared.shape.Card.{Card}
 use Rattle.gw_profile.specs.declared.node.Node.{Node, Seg, Group'}
+use Rattle.gw_profile.specs.declared.shape.FieldShape.{FieldShape}
 use Rattle.gw_profile.specs.Shapes.{Forest}
 use Rattle.gw_profile.specs.Seen.{row_forest, forest, segment_value}
 use Rattle.gw_validate.specs.declared.walk.Frame.{Frame}
 use Rattle.gw_validate.specs.declared.walk.Step.{Step}
 use Rattle.gw_validate.specs.declared.walk.Step.TheVariants.{Taken, Passed, Stuck}
 use Rattle.gw_validate.specs.own.Residual.{append, after_name, seg, grp}
+use Rattle.gw_validate.specs.own.Taking.{Takes, shape_of}
 use Rattle.gw_profile.specs.Deterministic.{Name, Optional}
 
 -- a node of which these occurrences are left
@@ -30,7 +33,7 @@ Pushed old new g = (behind : Forest) → stack_on new behind ≡ append g (stack
 
 -- one name, tried on a forest
 abbrev pub Tries : Forest → Name → List Frame → List Frame → Step → Type 0
-Tries f x old new Taken = (g : Forest) × (after_name f x ≡ Some g) × Pushed old new g
+Tries f x old new (Taken fields) = (g : Forest) × (after_name f x ≡ Some g) × Pushed old new g × Takes f x (shape_of fields) g
 Tries f x old new Passed = (after_name f x ≡ None) × Optional f × (new ≡ old)
 Tries f x old new Stuck = (after_name f x ≡ None) × (Optional f → ⊥) × (new ≡ old)
 
@@ -39,18 +42,17 @@ abbrev pub left_out : ℕ → Step
 left_out zero = Passed
 left_out (suc n) = Stuck
 
--- one name, tried on the node before others
-abbrev pub NodeTried : ℕ → Option Forest → Option Forest → List Frame → List Frame → Step → Type 0
-NodeTried min all others old new Taken = (g : Forest) × (all ≡ Some g) × Pushed old new g
-NodeTried min all others old new Passed = (min ≡ 0) × (all ≡ others) × (new ≡ old)
-NodeTried min all others old new Stuck = (min ≡ 0 → ⊥) × (all ≡ None) × (new ≡ old)
+-- one name, tried on the first node of a forest, with the others behind it
+abbrev pub NodeTried : ℕ → Forest → Forest → Name → List Frame → List Frame → Step → Type 0
+NodeTried min all others x old new (Taken fields) = (g : Forest) × (after_name all x ≡ Some g) × Pushed old new g × Takes all x (shape_of fields) g
+NodeTried min all others x old new Passed = (min ≡ 0) × (after_name all x ≡ after_name others x) × (new ≡ old)
+NodeTried min all others x old new Stuck = (min ≡ 0 → ⊥) × (after_name all x ≡ None) × (new ≡ old)
 
 -- one name, tried on the frame's node
 abbrev pub TriesNode : Frame → Name → List Frame → List Frame → Step → Type 0
-TriesNode f x old new s =
-    NodeTried f.due.min (after_name (frame_forest f) x) (after_name (forest f.rest.now) x) old new s
+TriesNode f x old new s = NodeTried f.due.min (frame_forest f) (forest f.rest.now) x old new s
 
--- goes on from f to g by a name, or cannot
-abbrev pub Advances : Forest → Name → Forest → Bool → Type 0
-Advances f x g true = after_name f x ≡ Some g
-Advances f x g false = after_name f x ≡ None
+-- goes on from f to g by a name, which a segment of these fields takes, or cannot
+abbrev pub Advances : Forest → Name → Forest → Option (Bor (List FieldShape)) → Type 0
+Advances f x g None = after_name f x ≡ None
+Advances f x g (Some fields) = (after_name f x ≡ Some g) × Takes f x (shape_of fields) g

@@ -1,18 +1,21 @@
-use Rattle.gw_profile.specs.Deterministic.{NoName}
+use Rattle.std.proofs.Common.{ap, ◌∙◌, take}
+use Rattle.std.proofs.lemmas.List.{take_all}
 use Rattle.std.proofs.lemmas.Result.{IfOk-weaker}
-use Rattle.gw_validate.proofs.Going.{none_next, are_next}
-use Rattle.gw_validate.proofs.Passed.{out_of_order, goes_on, at_end}
+use Rattle.gw_profile.specs.Deterministic.{NoName}
+use Rattle.gw_profile.specs.Seen.{forest}
+use Rattle.gw_profile.specs.Shapes.{nothing}
+use Rattle.gw_validate.proofs.Going.{none_next, are_next, taken_one, taken_none, at_last}
 use Rattle.gw_validate.proofs.next.next_of.Goals as goal
 
-pub returns-then-not-branch : goal.returns-then-not-branch
-returns-then-not-branch c =
-    let stuck = out_of_order _ NoName c.requires c.args.names.now c.loop-i.i _ _ c.in_ok-advance.field-0 c.loop-i.invariant c.in_ok-advance.ensures c.loop-i-test.true c.if-not-branch.true in
-    none_next _ c.args.names.now _ stuck.2 _ c.new.ensures.items
-
-pub returns : goal.returns
-returns c =
-    IfOk-weaker c.first_of_stack.result _ _ (λ found. are_next _ NoName c.requires c.args.names.now _ (at_end _ _ c.args.names.now c.loop-i.i c.loop-i.invariant c.loop-i-test.false) found.items) c.first_of_stack.ensures
+pub returns-in_default : goal.returns-in_default
+returns-in_default c =
+    none_next _ c.args.names.now _ (taken_none _ NoName c.requires c.args.names.now c.loop-i.i _ nothing c.loop-i.invariant c.loop-i-test.true (rw c.in_default.is at c.in_ok-advance.ensures)) _ c.new.ensures.items
 
 pub loop-i-preserved : goal.loop-i-preserved
 loop-i-preserved c =
-    goes_on _ NoName c.requires c.args.names.now c.loop-i.i _ _ c.in_ok-advance.field-0 c.loop-i.invariant c.in_ok-advance.ensures c.loop-i-test.true c.if-not-branch.false
+    let went = rw c.in-Some.is at c.in_ok-advance.ensures in
+    taken_one _ NoName c.requires c.args.names.now c.loop-i.i _ _ c.loop-i.invariant c.loop-i-test.true went.0
+
+pub returns : goal.returns
+returns c =
+    IfOk-weaker c.first_of_stack.result _ _ (λ found. are_next _ NoName c.requires c.args.names.now _ (at_last _ _ c.args.names.now c.loop-i.i c.loop-i.invariant c.loop-i-test.false) found.items) c.first_of_stack.ensures

@@ -1,20 +1,26 @@
 use Rattle.std.proofs.Common.{sym}
-use Rattle.gw_validate.proofs.Passed.{out_of_order, goes_on, at_end, complete, incomplete}
+use Rattle.gw_validate.proofs.Passed.{out_of_order, goes_on, at_end, at_start, complete, incomplete}
+use Rattle.gw_profile.specs.Shapes.{nothing}
 use Rattle.gw_profile.specs.Deterministic.{NoName}
 use Rattle.gw_validate.proofs.walk.walk.Goals as goal
 
-pub returns-then-not-branch : goal.returns-then-not-branch
-returns-then-not-branch c =
-    out_of_order _ NoName c.requires c.args.names.now c.loop-i.i _ _ c.in_ok-advance.field-0 c.loop-i.invariant c.in_ok-advance.ensures c.loop-i-test.true c.if-not-branch.true
+pub loop-i-init : goal.loop-i-init
+loop-i-init c = rw c.in_ok-shapes.ensures.items (at_start _ _ c.args.names.now c.in_ok-stack.ensures)
+
+pub returns-in_default : goal.returns-in_default
+returns-in_default c =
+    out_of_order _ NoName c.requires c.args.names.now c.loop-i.shapes.items c.loop-i.i _ nothing c.loop-i.invariant c.loop-i-test.true (rw c.in_default.is at c.in_ok-fields.ensures)
 
 pub loop-i-preserved : goal.loop-i-preserved
 loop-i-preserved c =
-    goes_on _ NoName c.requires c.args.names.now c.loop-i.i _ _ c.in_ok-advance.field-0 c.loop-i.invariant c.in_ok-advance.ensures c.loop-i-test.true c.if-not-branch.false
+    goes_on _ NoName c.requires c.args.names.now c.loop-i.shapes.items c.loop-i.i _ _ c.loop-i.invariant c.loop-i-test.true c.in-Some.fields c.push.new.self.items c.in_ok-push.ensures.items (rw c.in-Some.is at c.in_ok-fields.ensures)
 
 pub returns-in-None : goal.returns-in-None
 returns-in-None c =
-    complete _ NoName c.requires c.args.names.now _ (at_end _ _ c.args.names.now c.loop-i.i c.loop-i.invariant c.loop-i-test.false) (sym c.in-None.ensures)
+    let walked = at_end _ _ c.args.names.now c.loop-i.shapes.items c.loop-i.i c.loop-i.invariant c.loop-i-test.false in
+    complete _ NoName c.requires c.args.names.now _ walked.left_is c.loop-i.shapes walked.takes (sym c.in-None.ensures)
 
-pub returns-in-Some : goal.returns-in-Some
-returns-in-Some c =
-    incomplete _ NoName c.requires c.args.names.now _ (at_end _ _ c.args.names.now c.loop-i.i c.loop-i.invariant c.loop-i-test.false) c.in-Some.name (sym c.in-Some.ensures)
+pub returns : goal.returns
+returns c =
+    let walked = at_end _ _ c.args.names.now c.loop-i.shapes.items c.loop-i.i c.loop-i.invariant c.loop-i-test.false in
+    incomplete _ NoName c.requires c.args.names.now _ walked.left_is c.in-Some-missing.name (sym c.in-Some-missing.ensures)

@@ -1,9 +1,9 @@
-use Rattle.std.proofs.Common.{◌≡◌, take, Some}
+use Rattle.std.proofs.Common.{take}
 use Rattle.gw_profile.specs.Seen.{forest}
 use Rattle.gw_validate.specs.own.State.{stack_on}
 use Rattle.gw_profile.specs.Shapes.{nothing}
-use Rattle.gw_validate.proofs.Runs.{left}
+use Rattle.gw_validate.proofs.Passed.{Walked}
 use Rattle.gw_validate.proofs.walk.walk.Given as goal
 
 abbrev pub invariant-loop-i : goal.invariant-loop-i
-invariant-loop-i l = left (forest l.nodes) (take l.i l.names) ≡ Some (stack_on l.stack.items nothing)
+invariant-loop-i l = Walked (forest l.nodes) (take l.i l.names) l.shapes.items (stack_on l.stack.items nothing)
