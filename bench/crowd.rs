@@ -3,7 +3,7 @@
 //! It prints the ports of its receivers. Then each line of its input is a word. `form DIGITS R R ..` is a message in hexadecimal digits,
 //! with `CONTROLID` for MSH-10, and the receivers that it goes to; senders take turns at the forms. `go PORT` starts the senders,
 //! `gone R` and `there R` take receiver R away and back, `look` prints how many messages were accepted and how many senders send,
-//! `stop` ends the senders, and `end` prints what was found and ends it all.
+//! `rest` has the senders pause until `on`, `stop` ends them, and `end` prints what was found and ends it all.
 use std::error::Error;
 use std::io::{self, BufRead, BufReader, ErrorKind, Write};
 use std::net::{TcpListener, TcpStream};
@@ -23,6 +23,7 @@ type Outcome<T> = Result<T, Box<dyn Error + Send + Sync>>;
 #[derive(Default)]
 struct Shared {
     accepted: AtomicU64,
+    rests: AtomicBool,
     is_over: AtomicBool,
     is_end: AtomicBool,
 }
@@ -73,11 +74,17 @@ impl Got {
     }
 }
 
+/// The control id of a sender's message: three digits and nine.
+fn control_of(sender: usize, number: usize) -> String {
+    format!("{sender:03}{number:09}")
+}
+
 /// The sender and the number of a control id.
 fn parts(control: &[u8]) -> Outcome<(usize, usize)> {
-    let (letter, digits) = control.split_first().ok_or("no control id")?;
-    let sender = usize::from(letter.wrapping_sub(b'A'));
-    Ok((sender, std::str::from_utf8(digits)?.parse()?))
+    let (sender, number) = std::str::from_utf8(control)?
+        .split_at_checked(3)
+        .ok_or("a strange control id")?;
+    Ok((sender.parse()?, number.parse()?))
 }
 
 /// A listener at a port that the system gives to nobody who connects: it may be left and taken again.
@@ -190,11 +197,11 @@ fn send_over(
     let mut reader = BufReader::with_capacity(65_536, line.try_clone()?);
     let mut answer = Vec::new();
     while (sent.times.len() as u64) < share && !shared.is_over.load(Relaxed) {
-        let control = format!(
-            "{}{:08}",
-            (b'A' + at as u8) as char,
-            sent.accepted.len() + 1
-        );
+        if shared.rests.load(Relaxed) {
+            thread::sleep(Duration::from_millis(20));
+            continue;
+        }
+        let control = control_of(at, sent.accepted.len() + 1);
         // (until it is answered it isn't known to be accepted)
         sent.accepted.push(false);
         let begun = Instant::now();
@@ -315,6 +322,8 @@ fn main() -> Outcome<()> {
             }
             "gone" => gone[at()?].store(true, Relaxed),
             "there" => gone[at()?].store(false, Relaxed),
+            "rest" => shared.rests.store(true, Relaxed),
+            "on" => shared.rests.store(false, Relaxed),
             "stop" => shared.is_over.store(true, Relaxed),
             "look" => {
                 let running = sending.iter().filter(|it| !it.is_finished()).count();
