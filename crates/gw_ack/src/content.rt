@@ -41,7 +41,7 @@ fn msh<'a>(
 ) -> Result<Vec<Row<'a>>, AllocError>
     ensures { (arrival : ℕ) → number.now ≡ 71 ∷ decimal arrival → IfOk result (λ table. rows table.items ≡ msh header.now stamp.now arrival) }
 {
-    let mut table = Vec::new(alloc);
+    let mut table = Vec::with_capacity(alloc, 16)?;
     header.add_receiver(&mut table)?;
     header.add_sender(&mut table)?;
     add_field(&mut table, 7, &[stamp])?;
@@ -57,7 +57,7 @@ fn msh<'a>(
 fn msa<'a>(alloc: Global, code: &'a [u8], control: &'a [u8]) -> Result<Vec<Row<'a>>, AllocError>
     ensures { IfOk result (λ table. rows table.items ≡ msa code.now control.now) }
 {
-    let mut table = Vec::new(alloc);
+    let mut table = Vec::with_capacity(alloc, 2)?;
     add_field(&mut table, 1, &[code])?;
     add_field(&mut table, 2, &[control])?;
     Ok(table)

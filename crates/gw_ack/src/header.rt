@@ -1,9 +1,9 @@
 //! What an answer takes from the header of the message that it answers.
-ghost use Rattle.std.specs.Prelude.{◌≡◌, IfOk, ◌++◌, OnOk};
+ghost use Rattle.std.specs.Prelude.{◌≡◌, IfOk, ◌++◌, OnOk, List, ℕ, length};
 ghost use Rattle.std.specs.FinMap as texts;
 ghost use Rattle.gw_er7.specs.Message.{text_of};
-ghost use Rattle.gw_ack.specs.Headers.{control_of, HeaderValue, IsHeaderValue, header_from, header_of, blank};
-ghost use Rattle.gw_ack.specs.Seen.{entries, rows};
+ghost use Rattle.gw_ack.specs.Headers.{control_of, HeaderValue, IsHeaderValue, header_of, blank};
+ghost use Rattle.gw_ack.specs.Seen.{entries, rows, text_in};
 ghost use Rattle.gw_ack.specs.Answers.{copied, or_production};
 
 use crate::rows::{Row, add_copy, add_field};
@@ -11,24 +11,36 @@ use gw_er7::{Message, Place, Segment};
 use std::alloc::{AllocError, Global};
 use std::marker::Model;
 
+/// Bytes of a header's texts for which room is taken at once: most take fewer.
+const HEADER_ROOM: usize = 128;
+
+/// Where a text lies among the bytes of a header.
+#[derive(Clone, Copy)]
+pub(crate) struct Span {
+    from: usize,
+    len: usize,
+}
+
 /// A text of the header segment.
 #[derive(Drop)]
 pub(crate) struct HeaderText {
     pub(crate) place: Place,
-    pub(crate) text: Vec<u8>,
+    pub(crate) span: Span,
 }
 
 /// What an answer takes from the header of a message: MSH-3 to MSH-6 and MSH-11, repetition 1, MSH-9.2 and MSH-10.
 pub struct Header {
+    bytes: Vec<u8>,
     texts: Vec<HeaderText>,
-    event: Vec<u8>,
-    control: Vec<u8>,
+    event: Span,
+    control: Span,
 }
 
 // (by hand: so no crate above proves again how its parts are dropped)
 impl Drop for Header {
     fn drop(self) {
         let Header {
+            bytes: _,
             texts: _,
             event: _,
             control: _,
@@ -37,11 +49,35 @@ impl Drop for Header {
 }
 
 impl Model for Header {
+    ghost use Rattle.gw_ack.specs.Headers.{HeaderValue, IsHeaderValue};
+    ghost use Rattle.gw_ack.specs.Seen.{seen_header};
+
     ghost Value = { HeaderValue };
 
-    ghost view = { λ h. header_from (entries h.texts.items) h.event.items h.control.items };
+    ghost view = { λ h. seen_header h.bytes.items h.texts.items h.event h.control };
 
-    ghost invariant = { λ h. IsHeaderValue (header_from (entries h.texts.items) h.event.items h.control.items) };
+    ghost invariant = { λ h. IsHeaderValue (seen_header h.bytes.items h.texts.items h.event h.control) };
+}
+
+/// The text of a span. It takes no memory.
+pub(crate) fn text_in(bytes: &[u8], span: Span) -> &[u8]
+    ensures { result.now ≡ text_in bytes.now span }
+{
+    let (_, behind) = bytes.split_at(span.from.min(bytes.len()));
+    &behind[..span.len.min(behind.len())]
+}
+
+// Puts a text behind the others; gives where it lies.
+fn push_text(bytes: &mut Vec<u8>, text: &[u8]) -> Result<Span, AllocError>
+    ensures span { IfOk result (λ span. span ≡ record { from = length bytes.old.items; len = length text.now }) }
+    ensures behind { OnOk result (bytes.new.items ≡ bytes.old.items ++ text.now) }
+{
+    let span = Span {
+        from: bytes.len(),
+        len: text.len(),
+    };
+    bytes.extend_from_slice(text)?;
+    Ok(span)
 }
 
 /// The first subcomponent of a field. It takes no memory.
@@ -65,17 +101,21 @@ pub fn control_of(message: &Message) -> &[u8]
     first_text(&message.segment(0), 10)
 }
 
-/// The texts of a segment, each with its place.
-fn texts_of(alloc: Global, segment: &Segment<'_>) -> Result<Vec<HeaderText>, AllocError>
-    ensures { IfOk result (λ found. entries found.items ≡ texts.entries segment.now.at) }
+/// The texts of a segment, each with its place. Their bytes go behind the others.
+fn texts_of(
+    alloc: Global,
+    segment: &Segment<'_>,
+    bytes: &mut Vec<u8>,
+) -> Result<Vec<HeaderText>, AllocError>
+    ensures { IfOk result (λ found. (more : List ℕ) → entries (bytes.new.items ++ more) found.items ≡ texts.entries segment.now.at) }
 {
-    let mut found = Vec::new(alloc);
+    let mut found = Vec::with_capacity(alloc, segment.value_count())?;
     for i in 0..segment.value_count() {
         let value = segment.value(i);
-        let text = Vec::from_slice(alloc, value.text)?;
+        let span = push_text(bytes, value.text)?;
         found.push(HeaderText {
             place: value.place,
-            text,
+            span,
         })?;
     }
     Ok(found)
@@ -97,10 +137,15 @@ impl Header {
             comp: 2,
             sub: 1,
         };
+        let mut bytes = Vec::with_capacity(alloc, HEADER_ROOM)?;
+        let texts = texts_of(alloc, &msh, &mut bytes)?;
+        let event = push_text(&mut bytes, msh.text(event))?;
+        let control = push_text(&mut bytes, first_text(&msh, 10))?;
         Ok(Header {
-            texts: texts_of(alloc, &msh)?,
-            event: Vec::from_slice(alloc, msh.text(event))?,
-            control: Vec::from_slice(alloc, first_text(&msh, 10))?,
+            bytes,
+            texts,
+            event,
+            control,
         })
     }
 
@@ -108,10 +153,12 @@ impl Header {
     pub fn blank(alloc: Global) -> Header
         ensures { result ≡ blank }
     {
+        let nowhere = Span { from: 0, len: 0 };
         Header {
+            bytes: Vec::new(alloc),
             texts: Vec::new(alloc),
-            event: Vec::new(alloc),
-            control: Vec::new(alloc),
+            event: nowhere,
+            control: nowhere,
         }
     }
 
@@ -119,7 +166,7 @@ impl Header {
     pub(crate) fn event(&self) -> &[u8]
         ensures { result.now ≡ self.now.event }
     {
-        &self.event
+        text_in(&self.bytes, self.event)
     }
 
     /// The control id, MSH-10.
@@ -127,7 +174,7 @@ impl Header {
         ensures value { result.now ≡ self.now.control }
         ensures header { IsHeaderValue self.now }
     {
-        &self.control
+        text_in(&self.bytes, self.control)
     }
 
     /// Adds the receiver of the message as the sender of the answer.
@@ -135,16 +182,16 @@ impl Header {
         ensures { OnOk result (rows table.new.items
             ≡ (rows table.old.items ++ copied 3 self.now.receiving_application) ++ copied 4 self.now.receiving_facility) }
     {
-        add_copy(table, 3, &self.texts, 5)?;
-        add_copy(table, 4, &self.texts, 6)
+        add_copy(table, 3, &self.bytes, &self.texts, 5)?;
+        add_copy(table, 4, &self.bytes, &self.texts, 6)
     }
 
     /// Adds the sender of the message as the receiver of the answer.
     pub(crate) fn add_sender<'a>(&'a self, table: &mut Vec<Row<'a>>) -> Result<(), AllocError>
         ensures { OnOk result (rows table.new.items ≡ (rows table.old.items ++ copied 5 self.now.sending_application) ++ copied 6 self.now.sending_facility) }
     {
-        add_copy(table, 5, &self.texts, 3)?;
-        add_copy(table, 6, &self.texts, 4)
+        add_copy(table, 5, &self.bytes, &self.texts, 3)?;
+        add_copy(table, 6, &self.bytes, &self.texts, 4)
     }
 
     /// Adds the processing id of the message, production where it says none.
@@ -152,7 +199,7 @@ impl Header {
         ensures { OnOk result (rows table.new.items ≡ rows table.old.items ++ copied 11 (or_production self.now.processing)) }
     {
         let before = table.len();
-        add_copy(table, 11, &self.texts, 11)?;
+        add_copy(table, 11, &self.bytes, &self.texts, 11)?;
         if table.len() == before {
             return add_field(table, 11, &[b"P"]);
         }

@@ -7,9 +7,9 @@ ghost use Rattle.gw_er7.specs.Written.{strip, those};
 ghost use Rattle.gw_ack.specs.Answers.{component, components, copied, field};
 ghost use Rattle.gw_ack.specs.Headers.{first_repetition};
 ghost use Rattle.gw_ack.specs.Rows.{AreRows};
-ghost use Rattle.gw_ack.specs.Seen.{entries, rows};
+ghost use Rattle.gw_ack.specs.Seen.{entries, rows, text_in};
 
-use crate::header::HeaderText;
+use crate::header::{HeaderText, text_in};
 use gw_er7::{Builder, Place};
 use std::alloc::AllocError;
 
@@ -60,11 +60,12 @@ pub(crate) fn add_field<'a>(
 fn add_copied<'a>(
     table: &mut Vec<Row<'a>>,
     number: usize,
+    bytes: &'a [u8],
     from: usize,
-    found: &'a HeaderText,
+    found: &HeaderText,
 ) -> Result<(), AllocError>
     ensures { OnOk result (rows table.new.items
-        ≡ rows table.old.items ++ copied number (those 1 (strip from (numbers found.now.place) found.now.text.items))) }
+        ≡ rows table.old.items ++ copied number (those 1 (strip from (numbers found.now.place) (text_in bytes.now found.now.span)))) }
 {
     if found.place.field != from {
         return Ok(());
@@ -80,7 +81,7 @@ fn add_copied<'a>(
     };
     table.push(Row {
         place,
-        text: &found.text,
+        text: text_in(bytes, found.span),
     })?;
     Ok(())
 }
@@ -89,13 +90,14 @@ fn add_copied<'a>(
 pub(crate) fn add_copy<'a>(
     table: &mut Vec<Row<'a>>,
     number: usize,
-    texts: &'a [HeaderText],
+    bytes: &'a [u8],
+    texts: &[HeaderText],
     from: usize,
 ) -> Result<(), AllocError>
-    ensures { OnOk result (rows table.new.items ≡ rows table.old.items ++ copied number (first_repetition from (entries texts.now))) }
+    ensures { OnOk result (rows table.new.items ≡ rows table.old.items ++ copied number (first_repetition from (entries bytes.now texts.now))) }
 {
     for found in texts {
-        add_copied(table, number, from, found)?;
+        add_copied(table, number, bytes, from, found)?;
     }
     Ok(())
 }

@@ -9,5 +9,5 @@ nine a b c d e f g h i t₁ t₂ t₃ t₄ t₅ t₆ t₇ e₁ e₂ e₃ e₄ e�
 
 pub returns : goal.returns
 returns c arrival is =
-    nine _ _ _ _ _ _ _ _ _ _ _ _ _ _ _ _ (rw c.new-table.ensures.items at c.in_ok-add_receiver.ensures) c.in_ok-add_sender.ensures c.in_ok-add_field.ensures
+    nine _ _ _ _ _ _ _ _ _ _ _ _ _ _ _ _ (rw c.in_ok-table.ensures.items at c.in_ok-add_receiver.ensures) c.in_ok-add_sender.ensures c.in_ok-add_field.ensures
     (rw c.event-event.ensures at c.in_ok-add_field-2.ensures) (rw is at c.in_ok-add_field-3.ensures) c.in_ok-add_processing.ensures c.in_ok-add_field-4.ensures

@@ -6,4 +6,4 @@ use Rattle.gw_ack.proofs.rows.add_copy.Given as goal
 
 abbrev pub invariant-loop-found : goal.invariant-loop-found
 invariant-loop-found l =
-    rows l.table.items ≡ rows l.fn.table.items ++ copied l.number (first_repetition l.from (entries (take l.found-index l.texts)))
+    rows l.table.items ≡ rows l.fn.table.items ++ copied l.number (first_repetition l.from (entries l.bytes (take l.found-index l.texts)))
