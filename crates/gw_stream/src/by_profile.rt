@@ -7,7 +7,7 @@ use crate::judge::{Judge, Outcome};
 use gw_ack::{INTERNAL, Reply, Stamp};
 use gw_er7::Message;
 use gw_profile::Profile;
-use gw_validate::{Verdict, validate};
+use gw_validate::first_breach;
 use std::alloc::{AllocError, Global};
 use std::sync::Arc;
 
@@ -29,10 +29,9 @@ fn validated(
     let Some(message) = what else {
         return Ok(Reply::Reject(INTERNAL));
     };
-    match validate(alloc, profile.clone()?, message) {
-        Ok(Verdict::Fits(_tree)) => Ok(Reply::Accept),
-        Ok(Verdict::Breaks(breach, _message)) => Ok(Reply::Refuse(breach)),
-        Err(_message) => Err(AllocError),
+    match first_breach(alloc, profile, &message)? {
+        None => Ok(Reply::Accept),
+        Some(breach) => Ok(Reply::Refuse(breach)),
     }
 }
 
