@@ -144,7 +144,8 @@ impl Books {
 
     // Where the journal starts.
     pub(crate) fn start(&self) -> &Start
-        ensures { start_seen result.now ≡ self.now.start }
+        ensures start { start_seen result.now ≡ self.now.start }
+        ensures can { CanStart self.now.start }
     {
         &self.start
     }

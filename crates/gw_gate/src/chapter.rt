@@ -2,6 +2,7 @@
 
 use crate::event::Entry;
 use gw_plan::Plan;
+use std::alloc::AllocError;
 use std::marker::Model;
 use std::sync::Arc;
 
@@ -19,7 +20,7 @@ pub struct Start {
 pub(crate) const MOST_IN_ALL: u64 = 9_000_000_000_000_000_000;
 
 impl Start {
-    ghost use Rattle.std.specs.Prelude.{◌↔◌, ◌≡◌, IsTrue};
+    ghost use Rattle.std.specs.Prelude.{◌↔◌, ◌≡◌, IfOk, IsTrue};
     ghost use Rattle.std.specs.Arc.{arc_value};
     ghost use Rattle.gw_gate.specs.Chapters.{CanStart};
     ghost use Rattle.gw_gate.specs.Entries.{start_seen};
@@ -49,6 +50,19 @@ impl Start {
             && self.acceptances <= self.entries
             && self.arrivals <= self.entries
             && self.entries <= MOST_IN_ALL
+    }
+
+    // The same start. The one error is an allocation failure.
+    pub(crate) fn try_clone(&self) -> Result<Start, AllocError>
+        ensures { IfOk result (λ s. start_seen s ≡ start_seen self.now) }
+    {
+        Ok(Start {
+            version: self.version,
+            plan: Arc::try_clone(&self.plan)?,
+            acceptances: self.acceptances,
+            arrivals: self.arrivals,
+            entries: self.entries,
+        })
     }
 }
 

@@ -16,7 +16,7 @@ use crate::chapter::Start;
 use crate::event::{Entry, Event, Reply};
 use crate::plans::{admitted_by_plan, made_by_plan};
 use gw_plan::Plan;
-use std::alloc::Global;
+use std::alloc::{AllocError, Global};
 use std::marker::Model;
 use std::sync::Arc;
 
@@ -80,6 +80,17 @@ impl Gate {
                 books: Books::open(alloc, start, plan),
             }),
             Err(_) => Err(start),
+        }
+    }
+
+    /// Another gate, whose journal is empty and starts where this one's does. So behind a cut the numbers go on in it, as they would in this one.
+    /// The one error is an allocation failure.
+    pub fn begin_beside(&self, alloc: Global) -> Result<Self, AllocError>
+        ensures { IfOk result (λ g. g ≡ from self.now.start) }
+    {
+        match Gate::begin_from(alloc, self.books.start().try_clone()?) {
+            Ok(gate) => Ok(gate),
+            Err(_) => Err(AllocError),
         }
     }
 

@@ -262,6 +262,17 @@ fn a_message_stays_under_its_plan(rt: HostRuntime) -> Result<(), Fail> {
 }
 
 #[test]
+fn numbers_go_on_in_another_gate(rt: HostRuntime) -> Result<(), Fail> {
+    let plan = plan(rt.alloc(), "ONE")?;
+    let mut gate = begun(rt.alloc(), &plan)?;
+    assert_eq!(rt; replied(&mut gate, Event::Refuse(207))?, ("Refused", 1));
+    assert_eq!(rt; replied(&mut gate, Event::Cut)?, ("Closed", 1));
+    let mut next = gate.begin_beside(rt.alloc())?;
+    assert_eq!(rt; replied(&mut next, Event::Refuse(207))?, ("Refused", 2));
+    Ok(())
+}
+
+#[test]
 fn a_full_journal_takes_no_entry(rt: HostRuntime) -> Result<(), Fail> {
     let plan = plan(rt.alloc(), "ONE")?;
     let mut gate = begun(rt.alloc(), &plan)?;
