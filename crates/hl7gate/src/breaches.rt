@@ -50,7 +50,7 @@ struct Form {
 
 /// A breach of a message, with the line of the profile, the value and the names that may stand there, where they are said.
 #[derive(Clone, Copy)]
-struct Said<'a> {
+struct BreachLine<'a> {
     arrival: u64,
     breach: Breach,
     line: Option<u32>,
@@ -119,8 +119,8 @@ fn next_of(
 }
 
 /// A breach as JSON.
-fn write_json(out: &mut Vec<u8>, said: Said<'_>) -> io::Result<()> {
-    let Said {
+fn write_json(out: &mut Vec<u8>, said: BreachLine<'_>) -> io::Result<()> {
+    let BreachLine {
         arrival,
         breach,
         line,
@@ -199,7 +199,7 @@ fn write_code(out: &mut Vec<u8>, form: Form, code: u16) -> io::Result<()> {
 }
 
 /// A breach in words.
-fn write_words(out: &mut Vec<u8>, form: Form, said: Said<'_>) -> io::Result<()> {
+fn write_words(out: &mut Vec<u8>, form: Form, said: BreachLine<'_>) -> io::Result<()> {
     let arrival = said.arrival;
     let words = words_of(said.breach.kind);
     write!(out, "message {arrival}: ")?;
@@ -219,7 +219,7 @@ fn write_words(out: &mut Vec<u8>, form: Form, said: Said<'_>) -> io::Result<()> 
 }
 
 /// A breach in the form that is asked for.
-fn write_breach(out: &mut Vec<u8>, form: Form, said: Said<'_>) -> io::Result<()> {
+fn write_breach(out: &mut Vec<u8>, form: Form, said: BreachLine<'_>) -> io::Result<()> {
     if form.is_json {
         return write_json(out, said);
     }
@@ -281,7 +281,7 @@ impl Tally {
                 None
             };
             let next = next_of(alloc, &spelled.profile, message, number, breach.kind)?;
-            let said = Said {
+            let said = BreachLine {
                 arrival: self.messages,
                 breach,
                 line: spelled.lines.line_of(breach),
