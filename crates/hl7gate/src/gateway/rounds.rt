@@ -335,7 +335,7 @@ fn play_all<
                 let play_one = move ||
                     requires { IsSync R.row × IsSend D.row × IsSync D.row }
                 { play(hub, relay, gate, workers) };
-                let playing = match (&*scope).spawn(play_one) {
+                let playing = match scope.spawn(play_one) {
                     Ok(thread) => Some(thread),
                     Err(refused) => {
                         (refused.value)();
