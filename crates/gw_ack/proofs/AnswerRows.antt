@@ -8,8 +8,7 @@ use Rattle.std.proofs.lemmas.Fmt.{decimal_is_IsNumeral}
 use Rattle.gw_er7.specs.Text.{IsCanonical, is_canonical}
 use Rattle.gw_er7.specs.Names.{is_name}
 use Rattle.gw_er7.specs.Entries.{Entry}
-use Rattle.gw_er7.specs.Message.{first_number}
-use Rattle.gw_er7.proofs.Builds.{begun_header, canonical_of}
+use Rattle.gw_er7.proofs.Builds.{canonical_of}
 use Rattle.gw_ack.specs.declared.receipt.Ack.{Ack}
 use Rattle.gw_ack.specs.declared.receipt.Ack.TheVariants.{AA, AE, AR}
 use Rattle.gw_ack.specs.Stamps.{IsStamp}
@@ -18,7 +17,6 @@ use Rattle.gw_ack.specs.Conditions.{condition, said, named, location_for, header
 use Rattle.gw_ack.specs.Answers.{ack_text, copied, field, or_production, msh, msa, err}
 use Rattle.gw_ack.specs.Rows.{AreRows, IsRepetition}
 use Rattle.gw_ack.proofs.Lawful.{byte_is_plain, plain_is_canonical, digits_are_plain, name_is_canonical, digits_are_canonical}
-use Rattle.gw_ack.proofs.Tables.{begins}
 use Rattle.gw_ack.proofs.Lawful.{From, next, no_rows, copied_piece, field_piece}
 
 either : {A : Type 0} (P : A → Type 0) (b : Bool) (x y : A) → P x → P y → P (if b then x else y)
@@ -70,18 +68,18 @@ location_for_is_canonical code =
 production : (es : List Entry) → IsRepetition es → IsRepetition (or_production es)
 production [] h = record {
   each = (record { count_is = refl; positive = (omega arith, (omega arith, tt)); text = canonical_of (codes "P") refl; some = λ e. absurd cc }, tt);
-  distinct = (tt, tt);
+  sorted = tt;
 }
 production (e ∷ es) h = h
 
 copy : (least low number : ℕ) (es others : List Entry) → low ≤ number → 0 < number → least ≤ number → IsRepetition es
-    → From first_number least (number + 1) others → From first_number least low (copied number es ++ others)
-copy least low number es others le some after h = next first_number least low number (copied number es) others le (copied_piece least number es some after h)
+    → From least (number + 1) others → From least low (copied number es ++ others)
+copy least low number es others le some after h = next least low number (copied number es) others le (copied_piece least number es some after h)
 
 parts : (least low number : ℕ) (texts : List (List ℕ)) (others : List Entry) → low ≤ number → 0 < number → least ≤ number → AllByRecursion IsCanonical texts
-    → From first_number least (number + 1) others → From first_number least low (field number texts ++ others)
+    → From least (number + 1) others → From least low (field number texts ++ others)
 parts least low number texts others le some after h =
-    next first_number least low number (field number texts) others le (field_piece least number texts some after h)
+    next least low number (field number texts) others le (field_piece least number texts some after h)
 
 pub msh_rows : (h : HeaderValue) (stamp : List ℕ) (arrival : ℕ) → IsHeaderValue h → IsStamp stamp → arrival < 2 ^ 64 → AreRows 3 (msh h stamp arrival)
 msh_rows h stamp arrival lawful is_stamp lt =
@@ -95,19 +93,16 @@ msh_rows h stamp arrival lawful is_stamp lt =
     (parts 3 10 10 ((71 ∷ decimal arrival) ∷ []) _ (omega arith) (omega arith) (omega arith) (number_is_canonical arrival lt, tt)
     (copy 3 11 11 (or_production h.processing) _ (omega arith) (omega arith) (omega arith) (production h.processing lawful.processing)
     (parts 3 12 12 (codes "2.5.1" ∷ []) _ (omega arith) (omega arith) (omega arith) (canonical_of (codes "2.5.1") refl, tt)
-    (no_rows first_number 3 13)))))))))).lawful
+    (no_rows 3 13)))))))))).lawful
 
 pub msa_rows : (ack : Ack) (control : List ℕ) → IsCanonical control → AreRows 1 (msa (ack_text ack) control)
 msa_rows ack control lawful =
     (parts 1 1 1 (ack_text ack ∷ []) _ (omega arith) (omega arith) (omega arith) (ack_is_canonical ack, tt)
-    (parts 1 2 2 (control ∷ []) _ (omega arith) (omega arith) (omega arith) (lawful, tt) (no_rows first_number 1 3))).lawful
+    (parts 1 2 2 (control ∷ []) _ (omega arith) (omega arith) (omega arith) (lawful, tt) (no_rows 1 3))).lawful
 
 pub err_rows : (location : List (List ℕ)) (code : ℕ) → AllByRecursion IsCanonical location → code < 2 ^ 64 → AreRows 1 (err location code)
 err_rows location code each lt =
     (parts 1 1 2 location _ (omega arith) (omega arith) (omega arith) each
     (parts 1 3 3 (decimal code ∷ condition code ∷ codes "HL70357" ∷ []) _ (omega arith) (omega arith) (omega arith)
     (decimal_is_canonical code lt, (condition_is_canonical code, (canonical_of (codes "HL70357") refl, tt)))
-    (parts 1 4 4 (codes "E" ∷ []) _ (omega arith) (omega arith) (omega arith) (canonical_of (codes "E") refl, tt) (no_rows first_number 1 5)))).lawful
-
--- for the MSH and the MSA of an answer
-pub ruleset opening = (msh_rows, msa_rows, begins, begun_header)
+    (parts 1 4 4 (codes "E" ∷ []) _ (omega arith) (omega arith) (omega arith) (canonical_of (codes "E") refl, tt) (no_rows 1 5)))).lawful

@@ -1,13 +1,14 @@
 -- The rows of an answer can stand in a message.
-use Rattle.std.proofs.Common.{◌≡◌, ◌≢◌, ℕ, suc, ◌+◌, ◌<◌, ◌≤◌, true, List, [], ◌∷◌, ◌++◌, length, map, get_or, refl, sym, ap, subst, ◌∙◌, arith}
-use Rattle.std.proofs.Common.{Option, None, Some, Ordering, Equal}
+use Rattle.std.proofs.Common.{◌≡◌, ℕ, suc, ◌+◌, ◌<◌, ◌≤◌, true, List, [], ◌∷◌, ◌++◌, length, map, refl, sym, ap, subst, ◌∙◌, arith}
+use Rattle.std.proofs.Common.{Option, None, Some, Ordering, Less}
 use Rattle.std.proofs.lemmas.Bool.{and_parts, cond_both, eqb-true}
 use Rattle.std.proofs.lemmas.Bool.Decides.{nat_tests}
 use Rattle.std.proofs.lemmas.Str.Parse.{digit_from_value}
 use Rattle.std.specs.Prelude.{◌==◌, T, slice_index, EachIndex, unwrap_or}
 use Rattle.std.specs.List.{AllByRecursion}
 use Rattle.std.specs.Str.Parse.{AllDigits}
-use Rattle.std.specs.Ordering.{is_lt}
+use Rattle.std.specs.Ordering.{is_lt, ordering_then}
+use Rattle.std.specs.Cmp.{nat_cmp_is}
 use Rattle.std.specs.FinMap as texts
 use Rattle.std.specs.FinMap.Entries.{is_sorted, below_all}
 use Rattle.gw_er7.specs.Entries.{Entry}
@@ -19,10 +20,10 @@ use Rattle.gw_er7.proofs.Again.{name-each}
 use Rattle.gw_er7.proofs.Builds.{canonical_of}
 use Rattle.gw_er7.proofs.Each.{Each-append, Each-weaker}
 use Rattle.gw_er7.proofs.Once.{get_kept}
-use Rattle.gw_er7.proofs.Sorted.{order, cmp-same, first, second}
-use Rattle.gw_ack.specs.Answers.{component, components, field, copied}
+use Rattle.gw_er7.proofs.Sorted.{order, cmp-same, both, first, second}
+use Rattle.gw_ack.specs.Answers.{components, field, copied}
 use Rattle.gw_ack.specs.Headers.{IsHeaderValue, header_in, first_repetition}
-use Rattle.gw_ack.specs.Rows.{Apart, Distinct, AreRows, IsKeyed, IsRepetition}
+use Rattle.gw_ack.specs.Rows.{AreRows, IsKeyed, IsRepetition}
 
 -- ---- what stands under a number
 
@@ -44,34 +45,29 @@ those-keyed number count =
     those-each number (IsKeyed (suc count)) (IsKeyed count) (λ key text is.
     record { count_is = omega (arith, is.count_is); positive = is.positive.1; text = is.text; some = is.some })
 
-those-apart : (number : ℕ) (key : List ℕ) (es : List Entry) → Apart (number ∷ key) es → Apart key (those number es)
-those-apart number key =
-    those-each number (λ e. number ∷ key ≢ e.0) (λ e. key ≢ e.0) (λ other text apart same. apart (ap (λ (l : List ℕ). number ∷ l) same))
+-- those of entries in order are in order
+strip-below : (number : ℕ) (key other text : List ℕ) (rest : List Entry) → T (is_lt (order (number ∷ key) other)) → T (below_all order key rest)
+    → T (below_all order key (strip number other text ++ rest))
+strip-below number key [] text rest h k = k
+strip-below number key (m ∷ other) text rest h k =
+    cond_both (m == number) ((other, text) ∷ []) [] (λ front. T (below_all order key (front ++ rest)))
+    (λ is. both _ _ (subst (λ (r : Ordering). T (is_lt r)) (cmp-same number key other)
+    (subst (λ (j : ℕ). T (is_lt (order (number ∷ key) (j ∷ other)))) (eqb-true m number is) h)) k) (λ _. k)
 
-under-distinct : (number : ℕ) (key text : List ℕ) (es : List Entry) → Apart key es → Distinct (those number es)
-    → Distinct (strip number key text ++ those number es)
-under-distinct number [] text es apart rest = rest
-under-distinct number (m ∷ key) text es apart rest =
-    cond_both (m == number) ((key, text) ∷ []) [] (λ front. Distinct (front ++ those number es))
-    (λ is. (those-apart number key es (subst (λ (k : ℕ). Apart (k ∷ key) es) (eqb-true m number is) apart), rest)) (λ _. rest)
+those-below : (number : ℕ) (key : List ℕ) (es : List Entry) → T (below_all order (number ∷ key) es) → T (below_all order key (those number es))
+those-below number key [] h = tt
+those-below number key (e ∷ es) h = strip-below number key e.0 e.1 (those number es) (first _ _ h) (those-below number key es (second _ _ h))
 
-those-distinct : (number : ℕ) (es : List Entry) → Distinct es → Distinct (those number es)
-those-distinct number [] h = tt
-those-distinct number (e ∷ es) h = under-distinct number e.0 e.1 es h.0 (those-distinct number es h.1)
+strip-sorted : (number : ℕ) (key text : List ℕ) (es : List Entry) → T (below_all order key es) → T (is_sorted order (those number es))
+    → T (is_sorted order (strip number key text ++ those number es))
+strip-sorted number [] text es h k = k
+strip-sorted number (m ∷ key) text es h k =
+    cond_both (m == number) ((key, text) ∷ []) [] (λ front. T (is_sorted order (front ++ those number es)))
+    (λ is. both _ _ (those-below number key es (subst (λ (j : ℕ). T (below_all order (j ∷ key) es)) (eqb-true m number is) h)) k) (λ _. k)
 
--- entries in order are at places of their own
-cmp-equal : (key : List ℕ) → order key key ≡ Equal
-cmp-equal [] = refl
-cmp-equal (n ∷ key) = cmp-same n key key ∙ cmp-equal key
-
-apart_below : (key : List ℕ) (es : List Entry) → T (below_all order key es) → Apart key es
-apart_below key [] h = tt
-apart_below key (e ∷ es) h =
-    (λ same. subst (λ (r : Ordering). T (is_lt r)) (ap (order key) (sym same) ∙ cmp-equal key) (first _ _ h), apart_below key es (second _ _ h))
-
-distinct_sorted : (es : List Entry) → T (is_sorted order es) → Distinct es
-distinct_sorted [] h = tt
-distinct_sorted (e ∷ es) h = (apart_below e.0 es (first _ _ h), distinct_sorted es (second _ _ h))
+those-sorted : (number : ℕ) (es : List Entry) → T (is_sorted order es) → T (is_sorted order (those number es))
+those-sorted number [] h = tt
+those-sorted number (e ∷ es) h = strip-sorted number e.0 e.1 es (first _ _ h) (those-sorted number es (second _ _ h))
 
 repetition_is_lawful : (least number : ℕ) (es : List Entry) → T (is_sorted order es) → AllByRecursion (IsEntry least) es
     → IsRepetition (first_repetition number es)
@@ -79,8 +75,8 @@ repetition_is_lawful least number es sorted each =
     let four : AllByRecursion (IsKeyed 4) es =
     Each-weaker (IsEntry least) (IsKeyed 4) (λ e h. record { count_is = h.key.four; positive = h.key.positive; text = h.text; some = h.some }) es each in
     record {
+      sorted = those-sorted 1 (those number es) (those-sorted number es sorted);
       each = those-keyed 1 2 (those number es) (those-keyed number 3 es four);
-      distinct = those-distinct 1 (those number es) (those-distinct number es (distinct_sorted es sorted));
     }
 
 -- ---- texts
@@ -138,38 +134,50 @@ header_is_lawful s h =
       processing = lawful 11;
     }
 
--- ---- rows of a table, by the number that their keys have at a level
+-- ---- rows of a table, field by field
 
-pub record Piece (level : List ℕ → ℕ) (least number : ℕ) (rows : List Entry) : Type 0 where
+lower : (key other : List ℕ) → first_number key < first_number other → T (is_lt (order key other))
+lower key [] h = absurd (omega arith)
+lower [] (m ∷ other) h = tt
+lower (n ∷ key) (m ∷ other) h = subst (λ (r : Ordering). T (is_lt (ordering_then r (order key other)))) (nat_cmp_is n m Less h) tt
+
+below-later : (number : ℕ) (key : List ℕ) (others : List Entry) → first_number key ≡ number → AllByRecursion (λ e. number + 1 ≤ first_number e.0) others
+    → T (below_all order key others)
+below-later number key [] is h = tt
+below-later number key (e ∷ others) is h = both _ _ (lower key e.0 (omega (arith, is, h.0))) (below-later number key others is h.1)
+
+below-append : (key : List ℕ) (es rest : List Entry) → T (below_all order key es) → T (below_all order key rest) → T (below_all order key (es ++ rest))
+below-append key [] rest h k = k
+below-append key (e ∷ es) rest h k = both _ _ (first _ _ h) (below-append key es rest (second _ _ h) k)
+
+pub record Piece (least number : ℕ) (rows : List Entry) : Type 0 where
   pub lawful : AreRows least rows
-  pub here : AllByRecursion (λ e. level e.0 ≡ number) rows
+  pub here : AllByRecursion (λ e. first_number e.0 ≡ number) rows
 
--- rows from this number on
-pub record From (level : List ℕ → ℕ) (least low : ℕ) (rows : List Entry) : Type 0 where
+-- rows from this field on
+pub record From (least low : ℕ) (rows : List Entry) : Type 0 where
   pub lawful : AreRows least rows
-  pub from : AllByRecursion (λ e. low ≤ level e.0) rows
+  pub from : AllByRecursion (λ e. low ≤ first_number e.0) rows
 
-pub no_rows : (level : List ℕ → ℕ) (least low : ℕ) → From level least low []
-no_rows level least low = record { lawful = record { each = tt; distinct = tt }; from = tt }
+pub no_rows : (least low : ℕ) → From least low []
+no_rows least low = record { lawful = record { sorted = tt; each = tt }; from = tt }
 
-joined : (level : List ℕ → ℕ) (number : ℕ) (rows others : List Entry) → Distinct rows → AllByRecursion (λ e. level e.0 ≡ number) rows → Distinct others
-    → AllByRecursion (λ e. number + 1 ≤ level e.0) others → Distinct (rows ++ others)
-joined level number [] others d h e k = e
-joined level number (r ∷ rows) others d h e k =
-    let apart : Apart r.0 others =
-    Each-weaker (λ x. number + 1 ≤ level x.0) (λ x. r.0 ≢ x.0) (λ x le same. absurd (omega (arith, le, h.0, ap level same))) others k in
-    (Each-append (λ x. r.0 ≢ x.0) rows others d.0 apart, joined level number rows others d.1 h.1 e k)
+joined : (number : ℕ) (rows others : List Entry) → T (is_sorted order rows) → AllByRecursion (λ e. first_number e.0 ≡ number) rows → T (is_sorted order others)
+    → AllByRecursion (λ e. number + 1 ≤ first_number e.0) others → T (is_sorted order (rows ++ others))
+joined number [] others d h e k = e
+joined number (r ∷ rows) others d h e k =
+    both _ _ (below-append r.0 rows others (first _ _ d) (below-later number r.0 others h.0 k)) (joined number rows others (second _ _ d) h.1 e k)
 
-pub next : (level : List ℕ → ℕ) (least low number : ℕ) (rows others : List Entry) → low ≤ number → Piece level least number rows
-    → From level least (number + 1) others → From level least low (rows ++ others)
-next level least low number rows others le piece rest = record {
+pub next : (least low number : ℕ) (rows others : List Entry) → low ≤ number → Piece least number rows → From least (number + 1) others
+    → From least low (rows ++ others)
+next least low number rows others le piece rest = record {
   lawful = record {
+    sorted = joined number rows others piece.lawful.sorted piece.here rest.lawful.sorted rest.from;
     each = Each-append (IsEntry least) rows others piece.lawful.each rest.lawful.each;
-    distinct = joined level number rows others piece.lawful.distinct piece.here rest.lawful.distinct rest.from;
   };
-  from = Each-append (λ e. low ≤ level e.0) rows others
-      (Each-weaker (λ e. level e.0 ≡ number) (λ e. low ≤ level e.0) (λ e is. omega (arith, is, le)) rows piece.here)
-      (Each-weaker (λ e. number + 1 ≤ level e.0) (λ e. low ≤ level e.0) (λ e is. omega (arith, is, le)) others rest.from);
+  from = Each-append (λ e. low ≤ first_number e.0) rows others
+      (Each-weaker (λ e. first_number e.0 ≡ number) (λ e. low ≤ first_number e.0) (λ e is. omega (arith, is, le)) rows piece.here)
+      (Each-weaker (λ e. number + 1 ≤ first_number e.0) (λ e. low ≤ first_number e.0) (λ e is. omega (arith, is, le)) others rest.from);
 }
 
 -- a field that is a copy
@@ -177,50 +185,52 @@ mapped : (P Q : Entry → Type 0) (f : Entry → Entry) → ((e : Entry) → P e
 mapped P Q f to [] h = tt
 mapped P Q f to (e ∷ es) h = (to e h.0, mapped P Q f to es h.1)
 
-copied-distinct : (number : ℕ) (es : List Entry) → Distinct es → Distinct (copied number es)
-copied-distinct number [] h = tt
-copied-distinct number (e ∷ es) h = (
-  mapped (λ x. e.0 ≢ x.0) (λ x. number ∷ 1 ∷ e.0 ≢ x.0) (λ x. (number ∷ 1 ∷ x.0, x.1)) (λ x apart same. apart (let k : e.0 ≡ x.0 = cc in k)) es h.0,
-  copied-distinct number es h.1,
-)
+copied-below : (number : ℕ) (key : List ℕ) (es : List Entry) → T (below_all order key es) → T (below_all order (number ∷ 1 ∷ key) (copied number es))
+copied-below number key [] h = tt
+copied-below number key (e ∷ es) h =
+    both _ _ (subst (λ (r : Ordering). T (is_lt r)) (sym (cmp-same number (1 ∷ key) (1 ∷ e.0) ∙ cmp-same 1 key e.0)) (first _ _ h))
+    (copied-below number key es (second _ _ h))
 
-pub copied_piece : (least number : ℕ) (es : List Entry) → 0 < number → least ≤ number → IsRepetition es → Piece first_number least number (copied number es)
+copied-sorted : (number : ℕ) (es : List Entry) → T (is_sorted order es) → T (is_sorted order (copied number es))
+copied-sorted number [] h = tt
+copied-sorted number (e ∷ es) h = both _ _ (copied-below number e.0 es (first _ _ h)) (copied-sorted number es (second _ _ h))
+
+pub copied_piece : (least number : ℕ) (es : List Entry) → 0 < number → least ≤ number → IsRepetition es → Piece least number (copied number es)
 copied_piece least number es some le h = record {
   lawful = record {
+    sorted = copied-sorted number es h.sorted;
     each = mapped (IsKeyed 2) (IsEntry least) (λ x. (number ∷ 1 ∷ x.0, x.1)) (λ x is. record {
       key = record { four = omega (arith, is.count_is); positive = (some, (omega arith, is.positive)); field = le };
       text = is.text;
       some = is.some;
     }) es h.each;
-    distinct = copied-distinct number es h.distinct;
   };
   here = mapped (IsKeyed 2) (λ x. first_number x.0 ≡ number) (λ x. (number ∷ 1 ∷ x.0, x.1)) (λ x is. refl) es h.each;
 }
 
 -- a field of components
-abbrev component_number : List ℕ → ℕ
-component_number key = get_or key 2 0
+components-each : (least number comp : ℕ) (parts : List (List ℕ)) → 0 < number → least ≤ number → 0 < comp → AllByRecursion IsCanonical parts
+    → AllByRecursion (IsEntry least) (components number comp parts)
+components-each least number comp [] some le pos h = tt
+components-each least number comp ([] ∷ parts) some le pos h = components-each least number (comp + 1) parts some le (omega arith) h.1
+components-each least number comp ((b ∷ text) ∷ parts) some le pos h = (
+  record { key = record { four = refl; positive = (some, (omega arith, (pos, (omega arith, tt)))); field = le }; text = h.0; some = λ e. absurd cc },
+  components-each least number (comp + 1) parts some le (omega arith) h.1,
+)
 
-component_piece : (least number comp : ℕ) (text : List ℕ) → 0 < number → least ≤ number → 0 < comp → IsCanonical text
-    → Piece component_number least comp (component number comp text)
-component_piece least number comp [] some le pos is = record { lawful = record { each = tt; distinct = tt }; here = tt }
-component_piece least number comp (b ∷ text) some le pos is = record {
-  lawful = record {
-    each = (
-      record { key = record { four = refl; positive = (some, (omega arith, (pos, (omega arith, tt)))); field = le }; text = is; some = λ e. absurd cc },
-      tt,
-    );
-    distinct = (tt, tt);
-  };
-  here = (refl, tt);
-}
+components-below : (number before comp : ℕ) (parts : List (List ℕ)) → before < comp
+    → T (below_all order (number ∷ 1 ∷ before ∷ 1 ∷ []) (components number comp parts))
+components-below number before comp [] lt = tt
+components-below number before comp ([] ∷ parts) lt = components-below number before (comp + 1) parts (omega (arith, lt))
+components-below number before comp ((b ∷ text) ∷ parts) lt =
+    both _ _ (subst (λ (r : Ordering). T (is_lt r)) (sym (cmp-same number (1 ∷ before ∷ 1 ∷ []) (1 ∷ comp ∷ 1 ∷ []) ∙ cmp-same 1 (before ∷ 1 ∷ []) (comp ∷ 1 ∷ [])))
+    (lower (before ∷ 1 ∷ []) (comp ∷ 1 ∷ []) lt)) (components-below number before (comp + 1) parts (omega (arith, lt)))
 
-components_from : (least number comp : ℕ) (parts : List (List ℕ)) → 0 < number → least ≤ number → 0 < comp → AllByRecursion IsCanonical parts
-    → From component_number least comp (components number comp parts)
-components_from least number comp [] some le pos h = no_rows component_number least comp
-components_from least number comp (text ∷ parts) some le pos h =
-    next component_number least comp comp (component number comp text) (components number (comp + 1) parts) (omega arith)
-    (component_piece least number comp text some le pos h.0) (components_from least number (comp + 1) parts some le (omega arith) h.1)
+components-sorted : (number comp : ℕ) (parts : List (List ℕ)) → T (is_sorted order (components number comp parts))
+components-sorted number comp [] = tt
+components-sorted number comp ([] ∷ parts) = components-sorted number (comp + 1) parts
+components-sorted number comp ((b ∷ text) ∷ parts) =
+    both _ _ (components-below number comp (comp + 1) parts (omega arith)) (components-sorted number (comp + 1) parts)
 
 components-here : (number comp : ℕ) (parts : List (List ℕ)) → AllByRecursion (λ e. first_number e.0 ≡ number) (components number comp parts)
 components-here number comp [] = tt
@@ -228,6 +238,8 @@ components-here number comp ([] ∷ parts) = components-here number (comp + 1) p
 components-here number comp ((b ∷ text) ∷ parts) = (refl, components-here number (comp + 1) parts)
 
 pub field_piece : (least number : ℕ) (parts : List (List ℕ)) → 0 < number → least ≤ number → AllByRecursion IsCanonical parts
-    → Piece first_number least number (field number parts)
-field_piece least number parts some le h =
-    record { lawful = (components_from least number 1 parts some le (omega arith) h).lawful; here = components-here number 1 parts }
+    → Piece least number (field number parts)
+field_piece least number parts some le h = record {
+  lawful = record { sorted = components-sorted number 1 parts; each = components-each least number 1 parts some le (omega arith) h };
+  here = components-here number 1 parts;
+}

@@ -1,4 +1,5 @@
 pub mod Lawful
 pub mod AnswerRows
+pub mod Lines
 pub mod Tables
 pub mod Says

@@ -1,27 +1,18 @@
 -- Tables of rows, row by row.
-use Rattle.std.proofs.Common.{◌≡◌, ◌≢◌, ℕ, zero, suc, ◌+◌, ◌<◌, true, false, List, [], ◌∷◌, ◌++◌, length, map, take, drop, get_or, None, Some}
-use Rattle.std.proofs.Common.{refl, sym, ap, subst, ◌∙◌, append_assoc, arith}
+use Rattle.std.proofs.Common.{◌≡◌, ℕ, suc, ◌+◌, ◌<◌, List, [], ◌∷◌, ◌++◌, length, map, take, drop, get_or, Some}
+use Rattle.std.proofs.Common.{refl, sym, ap, ◌∙◌, append_assoc, arith}
 use Rattle.std.proofs.lemmas.List.{append-nil, length-map, length-take-le, map-append, map_push, take_more}
-use Rattle.std.proofs.lemmas.List.Elements.{All-from_recursion, All-get_or}
 use Rattle.std.proofs.lemmas.Option.{slice_get_within, get_or_from_slice_get}
 use Rattle.std.specs.Prelude.{slice_get}
-use Rattle.std.specs.Ordering.{nat_cmp}
-use Rattle.std.specs.Cmp.Lexicographic.{slice_cmp, nat_list_cmp_total}
 use Rattle.std.specs.FinMap as texts
-use Rattle.std.specs.FinMap.{find, from_entries_push, get-from_entries, slice_cmp-IsAntisymmetric, nat_cmp-IsAntisymmetric}
 use Rattle.gw_er7.specs.Entries.{Entry}
-use Rattle.gw_er7.specs.Message.{Texts, SegmentValue, IsEntry, first_field, numbers, text_of}
-use Rattle.gw_er7.specs.Names.{is_header, is_name}
+use Rattle.gw_er7.specs.Message.{SegmentValue, numbers, text_of}
 use Rattle.gw_er7.specs.Written.{those, strip}
-use Rattle.gw_er7.specs.Building.{IsBegun, MayPut, with_last}
-use Rattle.gw_er7.proofs.Builds as builds
-use Rattle.gw_er7.proofs.Keys.{no_tie}
 use Rattle.gw_ack.specs.declared.header.HeaderText.{HeaderText}
 use Rattle.gw_ack.specs.Headers.{first_repetition, header_from, header_in}
 use Rattle.gw_ack.specs.declared.header.Span.{Span}
 use Rattle.gw_ack.specs.Seen.{entries, seen_header, text_in}
 use Rattle.gw_ack.specs.Answers.{component, components, field, copied}
-use Rattle.gw_ack.specs.Rows.{Apart, Distinct, AreRows}
 
 -- ---- a step of each loop
 
@@ -118,54 +109,3 @@ seen_is s bytes bytes' bytes'' event control found ev co each is at is' at' e c 
     ap (λ (l : List Entry). header_from l (text_in bytes'' ev) (text_in bytes'' co)) es
     ∙ ap (λ (t : List ℕ). header_from (texts.entries s.at) t (text_in bytes'' co)) first
     ∙ ap (λ (t : List ℕ). header_from (texts.entries s.at) (text_of s.at 9 1 2 1) t) second
-
--- ---- a segment in the making
-
-pub begins : (ss : List SegmentValue) (name : List ℕ) → 0 < length ss → IsBegun ss → is_name name ≡ true → is_header name ≡ false
-    → IsBegun (ss ++ builds.begun name ∷ [])
-begins [] name some is named other = absurd (omega arith)
-begins (s ∷ ss) name some is named other = builds.begun_named (s ∷ ss) name is named other
-
-with_last-push : (change : SegmentValue → SegmentValue) (ss : List SegmentValue) (s : SegmentValue) → with_last change (ss ++ s ∷ []) ≡ ss ++ change s ∷ []
-with_last-push change [] s = refl
-with_last-push change (x ∷ []) s = refl
-with_last-push change (x ∷ y ∷ ss) s = ap (λ (rest : List SegmentValue). x ∷ rest) (with_last-push change (y ∷ ss) s)
-
--- a row isn't at the place of one before it
-distinct_before : (rows : List Entry) (i : ℕ) (d : Entry) → Distinct rows → i < length rows → Apart (get_or rows i d).0 (take i rows)
-distinct_before [] i d h lt = absurd (omega arith)
-distinct_before (e ∷ rows) zero d h lt = tt
-distinct_before (e ∷ rows) (suc i) d h lt =
-    (λ same. All-get_or (λ x. e.0 ≢ x.0) rows i d (omega arith) (All-from_recursion (λ x. e.0 ≢ x.0) rows h.0) (sym same), distinct_before rows i d h.1 (omega arith))
-
-free : (key : List ℕ) (rows : List Entry) → Apart key rows → find (slice_cmp nat_cmp) key rows ≡ None
-free key [] h = refl
-free key (e ∷ rows) h = rw (no_tie key e.0 h.0) (free key rows h.1)
-
--- the segment of these rows
-abbrev pub made : List ℕ → List Entry → SegmentValue
-made name rows = record { name = name; at = texts.from_entries {R = slice_cmp nat_cmp} rows }
-
-module _ (name : List ℕ) (begun now : List SegmentValue) (rows : List Entry) (i : ℕ) (d e : Entry) (lawful : AreRows (first_field name) rows)
-    (lt : i < length rows) (is : e ≡ get_or rows i d) (so_far : now ≡ begun ++ made name (take i rows) ∷ []) where
-  none_there : find (slice_cmp nat_cmp) e.0 (take i rows) ≡ None
-  none_there = free e.0 (take i rows) (subst (λ (x : Entry). Apart x.0 (take i rows)) (sym is) (distinct_before rows i d lawful.distinct lt))
-
-  -- the next row may be put
-  pub may_put : MayPut e.0 e.1 now
-  may_put =
-      subst (MayPut e.0 e.1) (sym so_far)
-      (builds.may_put e.0 e.1 begun (made name (take i rows)) (get-from_entries nat_list_cmp_total (take i rows) e.0 ∙ none_there)
-      (subst (IsEntry (first_field name)) (sym is) (All-get_or (IsEntry (first_field name)) rows i d lt (All-from_recursion (IsEntry (first_field name)) rows lawful.each))))
-
-  -- and is put
-  pub put_step : (then : List SegmentValue) → then ≡ with_last (λ s. record s { at = texts.insert s.at e.0 e.1 }) now
-      → then ≡ begun ++ made name (take (i + 1) rows) ∷ []
-  put_step then f =
-      let change : SegmentValue → SegmentValue = λ (s : SegmentValue). record s { at = texts.insert s.at e.0 e.1 } in
-      let more : take (i + 1) rows ≡ take i rows ++ e ∷ [] = take_more rows i d lt ∙ ap (λ (x : Entry). take i rows ++ x ∷ []) (sym is) in
-      let put : texts.insert (texts.from_entries {R = slice_cmp nat_cmp} (take i rows)) e.0 e.1 ≡ texts.from_entries (take (i + 1) rows) =
-      sym (ap (λ (es : List Entry). texts.from_entries {R = slice_cmp nat_cmp} es) more
-      ∙ from_entries_push nat_list_cmp_total (slice_cmp-IsAntisymmetric nat_cmp-IsAntisymmetric) (take i rows) e.0 e.1 none_there) in
-      f ∙ ap (with_last change) so_far ∙ with_last-push change begun (made name (take i rows))
-      ∙ ap (λ (m : Texts). begun ++ record { name = name; at = m } ∷ []) put

@@ -1,23 +1,17 @@
 -- Rows of an answer's table that a segment can hold.
-use Rattle.std.specs.Prelude.{◌≡◌, ◌≢◌, ℕ, ◌<◌, List, [], ◌∷◌, length}
+use Rattle.std.specs.Prelude.{◌≡◌, ◌≢◌, ℕ, ◌<◌, T, List, [], length}
 use Rattle.std.specs.List.{AllByRecursion}
+use Rattle.std.specs.Ordering.{nat_cmp}
+use Rattle.std.specs.Cmp.Lexicographic.{slice_cmp}
+use Rattle.std.specs.FinMap.{is_sorted}
 use Rattle.gw_er7.specs.Entries.{Entry}
 use Rattle.gw_er7.specs.Message.{IsEntry}
 use Rattle.gw_er7.specs.Text.{IsCanonical}
 
--- the key is none of these rows'
-abbrev pub Apart : List ℕ → List Entry → Type 0
-Apart key rows = AllByRecursion (λ e. key ≢ e.0) rows
-
--- no two rows have one key
-abbrev pub Distinct : List Entry → Type 0
-Distinct [] = Unit {0}
-Distinct (e ∷ rows) = Apart e.0 rows × Distinct rows
-
--- rows for a segment whose first field is this one, each at a place of its own
+-- rows for a segment whose first field is this one, in order of place
 pub record AreRows (first : ℕ) (rows : List Entry) : Type 0 where
+  pub sorted : T (is_sorted (slice_cmp nat_cmp) rows)
   pub each : AllByRecursion (IsEntry first) rows
-  pub distinct : Distinct rows
 
 -- a text that may stand at a place of which this many numbers are still to be said, each counted from 1
 pub record IsKeyed (count : ℕ) (e : Entry) : Type 0 where
@@ -26,7 +20,7 @@ pub record IsKeyed (count : ℕ) (e : Entry) : Type 0 where
   pub text : IsCanonical e.1
   pub some : e.1 ≢ []
 
--- the texts of a repetition, by component and subcomponent, each at a place of its own
+-- the texts of a repetition, by component and subcomponent, in order
 pub record IsRepetition (texts : List Entry) : Type 0 where
+  pub sorted : T (is_sorted (slice_cmp nat_cmp) texts)
   pub each : AllByRecursion (IsKeyed 2) texts
-  pub distinct : Distinct texts

@@ -2,9 +2,10 @@
 use Rattle.std.specs.Prelude.{ℕ, List, map, take, drop}
 use Rattle.gw_er7.specs.Entries.{Entry}
 use Rattle.gw_er7.specs.Message.{numbers}
+use Rattle.gw_er7.specs.View.{placed}
+use Rattle.gw_er7.specs.declared.view.Value.{Value}
 use Rattle.gw_ack.specs.declared.header.HeaderText.{HeaderText}
 use Rattle.gw_ack.specs.declared.header.Span.{Span}
-use Rattle.gw_ack.specs.declared.rows.Row.{Row}
 use Rattle.gw_ack.specs.Headers.{HeaderValue, header_from}
 
 -- the text of a span
@@ -18,8 +19,6 @@ entries bytes = map (λ t. (numbers t.place, text_in bytes t.span))
 abbrev pub seen_header : List ℕ → List HeaderText → Span → Span → HeaderValue
 seen_header bytes texts event control = header_from (entries bytes texts) (text_in bytes event) (text_in bytes control)
 
-abbrev pub row : Row → Entry
-row r = (numbers r.place, r.text.now)
-
-abbrev pub rows : List Row → List Entry
-rows = map row
+-- the rows of a table
+abbrev pub rows : List Value → List Entry
+rows = placed

@@ -1,7 +1,8 @@
 //! Answers, as contents.
-ghost use Rattle.std.specs.Prelude.{◌≡◌, ◌<◌, ◌++◌, ◌∷◌, [], ℕ, codes, length, map, IfOk};
+ghost use Rattle.std.specs.Prelude.{◌≡◌, ◌++◌, ◌∷◌, [], ℕ, codes, map, IfOk, OnOk};
 ghost use Rattle.std.specs.Fmt.{decimal};
 ghost use Rattle.std.specs.List.{AllByRecursion};
+ghost use Rattle.gw_er7.specs.Message.{IsMessage, IsOther};
 ghost use Rattle.gw_er7.specs.Text.{IsCanonical};
 ghost use Rattle.gw_er7.specs.Written.{written};
 ghost use Rattle.gw_ack.specs.declared.receipt.Ack.TheVariants as ack;
@@ -15,11 +16,14 @@ use crate::condition::{condition, location_for, named, said};
 use crate::header::Header;
 use crate::receipt::Ack;
 use crate::reply::Reply;
-use crate::rows::{Row, add_field, add_segment};
+use crate::rows::add_field;
 use crate::stamp::Stamp;
-use gw_er7::{Builder, write};
+use gw_er7::{Value, write_segment};
 use gw_validate::Breach;
 use std::alloc::{AllocError, Global};
+
+/// Bytes of an answer for which room is taken at once: most take fewer.
+const ROOM: usize = 256;
 
 /// The text of an acknowledgment code.
 fn code_text<'a>(ack: Ack) -> &'a [u8]
@@ -38,7 +42,7 @@ fn msh<'a>(
     header: &'a Header,
     stamp: &'a [u8],
     number: &'a [u8],
-) -> Result<Vec<Row<'a>>, AllocError>
+) -> Result<Vec<Value<'a>>, AllocError>
     ensures { (arrival : ℕ) → number.now ≡ 71 ∷ decimal arrival → IfOk result (λ table. rows table.items ≡ msh header.now stamp.now arrival) }
 {
     let mut table = Vec::with_capacity(alloc, 16)?;
@@ -54,7 +58,7 @@ fn msh<'a>(
 }
 
 /// The rows of the answer's MSA.
-fn msa<'a>(alloc: Global, code: &'a [u8], control: &'a [u8]) -> Result<Vec<Row<'a>>, AllocError>
+fn msa<'a>(alloc: Global, code: &'a [u8], control: &'a [u8]) -> Result<Vec<Value<'a>>, AllocError>
     ensures { IfOk result (λ table. rows table.items ≡ msa code.now control.now) }
 {
     let mut table = Vec::with_capacity(alloc, 2)?;
@@ -69,7 +73,7 @@ fn err<'a>(
     location: &[&'a [u8]],
     number: &'a [u8],
     code: u16,
-) -> Result<Vec<Row<'a>>, AllocError>
+) -> Result<Vec<Value<'a>>, AllocError>
     ensures { number.now ≡ decimal code → IfOk result (λ table. rows table.items ≡ err (map (λ part. part.now) location.now) code) }
 {
     let mut table = Vec::new(alloc);
@@ -80,54 +84,54 @@ fn err<'a>(
     Ok(table)
 }
 
-/// The MSH and the MSA of an answer.
-#[tactic(auto, using(crate::proofs::AnswerRows::opening))]
-fn begun(
-    alloc: Global,
+/// Writes the MSH and the MSA of an answer.
+fn write_opening(
+    content: &mut Vec<u8>,
     header: &Header,
     stamp: &Stamp,
     arrival: u64,
     ack: Ack,
-) -> Result<Builder, AllocError>
-    ensures { IfOk result (λ builder. builder ≡ acknowledged ack header.now stamp.now arrival) }
+) -> Result<(), AllocError>
+    ensures lawful { OnOk result (IsMessage (acknowledged ack header.now stamp.now arrival)) }
+    ensures lines { OnOk result (content.new.items
+        ≡ content.old.items ++ written (acknowledged ack header.now stamp.now arrival)) }
 {
+    let alloc = *content.allocator();
     let number = format!(in alloc; "G{arrival}")?;
     let digits = stamp.digits();
     let control = header.control();
-    let mut builder = Builder::new(alloc);
     let msh = msh(alloc, header, digits, number.as_bytes())?;
-    add_segment(&mut builder, *b"MSH", &msh)?;
+    write_segment(content, *b"MSH", &msh)?;
     let msa = msa(alloc, code_text(ack), control)?;
-    add_segment(&mut builder, *b"MSA", &msa)?;
-    Ok(builder)
+    write_segment(content, *b"MSA", &msa)
 }
 
-/// Adds an ERR to an answer, where `number` is the code in decimal.
-#[tactic(auto, using(crate::proofs::AnswerRows::err_rows, crate::proofs::Tables::begins))]
-fn add_err<'a>(
-    alloc: Global,
-    builder: Builder,
+/// Writes an ERR, where `number` is the code in decimal.
+fn write_err<'a>(
+    content: &mut Vec<u8>,
     location: &[&'a [u8]],
     number: &'a [u8],
     code: u16,
-) -> Result<Builder, AllocError>
-    requires some { 0 < length builder }
+) -> Result<(), AllocError>
     requires number { number.now ≡ decimal code }
     requires location { AllByRecursion IsCanonical (map (λ part. part.now) location.now) }
-    ensures { IfOk result (λ whole. whole ≡ builder ++ segment (codes "ERR") (err (map (λ part. part.now) location.now) code) ∷ []) }
+    ensures lawful { OnOk result (AllByRecursion IsOther
+        (segment (codes "ERR") (err (map (λ part. part.now) location.now) code) ∷ [])) }
+    ensures line { OnOk result (content.new.items
+        ≡ content.old.items ++ written (segment (codes "ERR") (err (map (λ part. part.now) location.now) code) ∷ [])) }
 {
-    let mut builder = builder;
+    let alloc = *content.allocator();
     let err = err(alloc, location, number, code)?;
-    add_segment(&mut builder, *b"ERR", &err)?;
-    Ok(builder)
+    write_segment(content, *b"ERR", &err)
 }
 
-/// Adds the ERR that names the place of a breach, as far as it is said.
+/// Writes the ERR that names the place of a breach, as far as it is said.
 #[tactic(auto, using(crate::proofs::AnswerRows::named_is_canonical))]
-fn add_breach(alloc: Global, builder: Builder, breach: &Breach) -> Result<Builder, AllocError>
-    requires { 0 < length builder }
-    ensures { IfOk result (λ whole. whole ≡ builder ++ reason (Refuse breach.now)) }
+fn write_breach(content: &mut Vec<u8>, breach: &Breach) -> Result<(), AllocError>
+    ensures lawful { OnOk result (AllByRecursion IsOther (reason (Refuse breach.now))) }
+    ensures line { OnOk result (content.new.items ≡ content.old.items ++ written (reason (Refuse breach.now))) }
 {
+    let alloc = *content.allocator();
     let segment = Vec::from_slice(alloc, named(&breach.segment))?;
     let sequence = said(alloc, breach.sequence)?;
     let field = said(alloc, breach.field)?;
@@ -136,27 +140,26 @@ fn add_breach(alloc: Global, builder: Builder, breach: &Breach) -> Result<Builde
     let sub = said(alloc, breach.sub)?;
     let code = breach.code();
     let number = format!(in alloc; "{code}")?;
-    add_err(
-        alloc,
-        builder,
+    write_err(
+        content,
         &[&segment, &sequence, &field, &rep, &comp, &sub],
         number.as_bytes(),
         code,
     )
 }
 
-/// Adds the ERR that reports why a message isn't accepted.
+/// Writes the ERR that reports why a message isn't accepted, where it isn't.
 #[tactic(auto, using(crate::proofs::AnswerRows::location_for_is_canonical))]
-fn add_reason(alloc: Global, builder: Builder, reply: Reply) -> Result<Builder, AllocError>
-    requires { 0 < length builder }
-    ensures { IfOk result (λ whole. whole ≡ builder ++ reason reply) }
+fn write_reason(content: &mut Vec<u8>, reply: Reply) -> Result<(), AllocError>
+    ensures lawful { OnOk result (AllByRecursion IsOther (reason reply)) }
+    ensures line { OnOk result (content.new.items ≡ content.old.items ++ written (reason reply)) }
 {
     match reply {
-        Reply::Accept => Ok(builder),
-        Reply::Refuse(breach) => add_breach(alloc, builder, &breach),
+        Reply::Accept => Ok(()),
+        Reply::Refuse(breach) => write_breach(content, &breach),
         Reply::Reject(code) => {
-            let number = format!(in alloc; "{code}")?;
-            add_err(alloc, builder, location_for(code), number.as_bytes(), code)
+            let number = format!(in *content.allocator(); "{code}")?;
+            write_err(content, location_for(code), number.as_bytes(), code)
         }
     }
 }
@@ -172,11 +175,9 @@ pub fn answer(
     ensures content { IfOk result (λ content. content.items ≡ written (said_by header.now stamp arrival reply)) }
     ensures read { IfOk result (λ content. Acknowledges content.items header.now.control (ack_of reply)) }
 {
-    let begun = begun(alloc, header, &stamp, arrival, reply.ack())?;
-    let message = add_reason(alloc, begun, reply)?.finish();
-    // (its clause says what every message keeps)
-    let _count = message.segment_count();
-    let content = write(alloc, &message)?;
+    let mut content = Vec::with_capacity(alloc, ROOM)?;
+    write_opening(&mut content, header, &stamp, arrival, reply.ack())?;
+    write_reason(&mut content, reply)?;
     Ok(content)
 }
 

@@ -6,8 +6,8 @@ ghost use Rattle.gw_ack.specs.Headers.{control_of, HeaderValue, IsHeaderValue, h
 ghost use Rattle.gw_ack.specs.Seen.{entries, rows, text_in};
 ghost use Rattle.gw_ack.specs.Answers.{copied, or_production};
 
-use crate::rows::{Row, add_copy, add_field};
-use gw_er7::{Message, Place, Segment};
+use crate::rows::{add_copy, add_field};
+use gw_er7::{Message, Place, Segment, Value};
 use std::alloc::{AllocError, Global};
 use std::marker::Model;
 
@@ -178,7 +178,7 @@ impl Header {
     }
 
     /// Adds the receiver of the message as the sender of the answer.
-    pub(crate) fn add_receiver<'a>(&'a self, table: &mut Vec<Row<'a>>) -> Result<(), AllocError>
+    pub(crate) fn add_receiver<'a>(&'a self, table: &mut Vec<Value<'a>>) -> Result<(), AllocError>
         ensures { OnOk result (rows table.new.items
             ≡ (rows table.old.items ++ copied 3 self.now.receiving_application) ++ copied 4 self.now.receiving_facility) }
     {
@@ -187,7 +187,7 @@ impl Header {
     }
 
     /// Adds the sender of the message as the receiver of the answer.
-    pub(crate) fn add_sender<'a>(&'a self, table: &mut Vec<Row<'a>>) -> Result<(), AllocError>
+    pub(crate) fn add_sender<'a>(&'a self, table: &mut Vec<Value<'a>>) -> Result<(), AllocError>
         ensures { OnOk result (rows table.new.items ≡ (rows table.old.items ++ copied 5 self.now.sending_application) ++ copied 6 self.now.sending_facility) }
     {
         add_copy(table, 5, &self.bytes, &self.texts, 3)?;
@@ -195,7 +195,7 @@ impl Header {
     }
 
     /// Adds the processing id of the message, production where it says none.
-    pub(crate) fn add_processing<'a>(&'a self, table: &mut Vec<Row<'a>>) -> Result<(), AllocError>
+    pub(crate) fn add_processing<'a>(&'a self, table: &mut Vec<Value<'a>>) -> Result<(), AllocError>
         ensures { OnOk result (rows table.new.items ≡ rows table.old.items ++ copied 11 (or_production self.now.processing)) }
     {
         let before = table.len();

@@ -1,5 +1,5 @@
 -- Entries that are written one after the other: each text behind the separators that lead to its key.
-use Rattle.std.proofs.Common.{◌≡◌, ℕ, suc, ◌+◌, ◌-◌, true, List, [], ◌∷◌, ◌++◌, map, drop, refl, arith}
+use Rattle.std.proofs.Common.{◌≡◌, ℕ, suc, ◌+◌, ◌-◌, true, List, [], ◌∷◌, ◌++◌, map, refl, arith}
 use Rattle.std.proofs.lemmas.Grind.{common_steps}
 use Rattle.std.proofs.lemmas.Bool.Decides.{nat_tests}
 use Rattle.std.specs.Prelude.{◌==◌}
@@ -9,7 +9,6 @@ use Rattle.gw_er7.specs.Message.{numbers}
 use Rattle.gw_er7.specs.Entries.{Entry, under}
 use Rattle.gw_er7.specs.own.Gaps.{levels, leads, gaps}
 use Rattle.gw_er7.specs.own.Ordered.{IsAbove, Above}
-use Rattle.gw_er7.specs.View.{Held, entries_of}
 
 abbrev pub ones : List ℕ → List ℕ
 ones [] = []
@@ -56,7 +55,7 @@ steps-under t ts n ns (e ∷ es) later h =
 -- ---- a loop over the texts
 
 -- a text was written
-pub stepped : (xs : List Held) (i : ℕ) (x : Held) (from : Place) (out mid new target : List ℕ) → drop i xs ≡ x ∷ drop (i + 1) xs
-    → mid ≡ out ++ gaps levels (numbers from) (numbers x.place) → new ≡ mid ++ x.text
-    → out ++ steps levels (numbers from) (entries_of (drop i xs)) ≡ target → new ++ steps levels (numbers x.place) (entries_of (drop (i + 1) xs)) ≡ target
-stepped xs i x from out mid new target next m e h = grind (arith, common_steps)
+pub stepped : (es later : List Entry) (to : Place) (text : List ℕ) (from : Place) (out mid new target : List ℕ) → es ≡ (numbers to, text) ∷ later
+    → mid ≡ out ++ gaps levels (numbers from) (numbers to) → new ≡ mid ++ text
+    → out ++ steps levels (numbers from) es ≡ target → new ++ steps levels (numbers to) later ≡ target
+stepped es later to text from out mid new target next m e h = grind (arith, common_steps)

@@ -12,6 +12,7 @@ use Rattle.std.specs.Coded.{Coded, code_by, coded×, coded_ℕ, coded_list}
 use Rattle.gw_er7.specs.declared.place.Place.{Place}
 use Rattle.gw_er7.specs.declared.spans.TextSpan.{TextSpan}
 use Rattle.gw_er7.specs.declared.start.SegmentHead.{SegmentHead}
+use Rattle.gw_er7.specs.declared.view.Value.{Value}
 use Rattle.gw_er7.specs.Message.{numbers, Texts, SegmentValue, IsEntry, IsSegment, IsMessage}
 use Rattle.gw_er7.specs.Building.{IsBegun}
 use Rattle.gw_er7.specs.Entries.{Entry}
@@ -46,6 +47,10 @@ entry_of h = (numbers h.place, h.text)
 
 abbrev pub entries_of : List Held → List Entry
 entries_of = map entry_of
+
+-- texts that are borrowed, each with its place
+abbrev pub placed : List Value → List Entry
+placed = map (λ v. (numbers v.place, v.text.now))
 
 -- the text is held at a place below this one
 abbrev pub is_below : List ℕ → Held → Bool

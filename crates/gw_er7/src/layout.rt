@@ -1,7 +1,12 @@
 //! How texts are written.
 ghost use Rattle.std.specs.Prelude.{◌≡◌, ◌-◌, ◌<◌, ◌++◌, ◌==◌, ◌&&◌, if◌then◌else◌, replicate, OnOk, IfOk, MatchResult};
-ghost use Rattle.gw_er7.specs.Message.{first_field, numbers};
-ghost use Rattle.gw_er7.specs.View.{entries_of};
+ghost use Rattle.std.specs.Prelude.{T};
+ghost use Rattle.std.specs.List.{AllByRecursion};
+ghost use Rattle.std.specs.Ordering.{nat_cmp};
+ghost use Rattle.std.specs.Cmp.Lexicographic.{slice_cmp};
+ghost use Rattle.std.specs.FinMap.{is_sorted};
+ghost use Rattle.gw_er7.specs.Message.{first_field, numbers, IsEntry};
+ghost use Rattle.gw_er7.specs.View.{entries_of, placed};
 ghost use Rattle.gw_er7.specs.Written.{fields_text, behind_separator, delimiters_text, closed_line};
 ghost use Rattle.gw_er7.specs.own.Ordered.{IsOrdered};
 ghost use Rattle.gw_er7.specs.own.Gaps.{levels, gaps};
@@ -9,6 +14,7 @@ ghost use Rattle.gw_er7.specs.own.Gaps.{levels, gaps};
 use crate::checks::is_header;
 use crate::place::Place;
 use crate::values::Values;
+use crate::view::Value;
 use std::alloc::AllocError;
 
 /// Writes the separators of a level that lead from one number to another.
@@ -79,6 +85,26 @@ fn write_fields(out: &mut Vec<u8>, first: usize, values: &Values<'_>) -> Result<
     Ok(())
 }
 
+/// Writes the fields of texts as `write_fields` does.
+fn write_texts(out: &mut Vec<u8>, first: usize, texts: &[Value<'_>]) -> Result<(), AllocError>
+    requires from { 0 < first }
+    requires ordered { IsOrdered first (placed texts.now) }
+    ensures { OnOk result (out.new.items ≡ out.old.items ++ fields_text first (placed texts.now)) }
+{
+    let mut here = Place {
+        field: first,
+        rep: 1,
+        comp: 1,
+        sub: 1,
+    };
+    for value in texts {
+        write_gaps(out, here, value.place)?;
+        out.extend_from_slice(value.text)?;
+        here = value.place;
+    }
+    Ok(())
+}
+
 /// Writes a name, and in MSH the delimiters; gives the number of the first field behind them.
 fn write_name(out: &mut Vec<u8>, name: [u8; 3]) -> Result<usize, AllocError>
     ensures { MatchResult result (λ first. (first ≡ first_field name) × (out.new.items ≡ out.old.items ++ (name ++ delimiters_text name))) (λ _. Unit {0}) }
@@ -104,6 +130,23 @@ fn write_behind(out: &mut Vec<u8>, first: usize, values: &Values<'_>) -> Result<
     write_fields(out, first, values)
 }
 
+/// Writes the fields of texts behind a separator, where there are some.
+fn write_texts_behind(
+    out: &mut Vec<u8>,
+    first: usize,
+    texts: &[Value<'_>],
+) -> Result<(), AllocError>
+    requires from { 0 < first }
+    requires ordered { IsOrdered first (placed texts.now) }
+    ensures { OnOk result (out.new.items ≡ out.old.items ++ behind_separator first (placed texts.now)) }
+{
+    if texts.is_empty() {
+        return Ok(());
+    }
+    out.push(b'|')?;
+    write_texts(out, first, texts)
+}
+
 /// Writes the line of a segment, and its end.
 pub(crate) fn write_line(
     out: &mut Vec<u8>,
@@ -115,6 +158,23 @@ pub(crate) fn write_line(
 {
     let first = write_name(out, name)?;
     write_behind(out, first, values)?;
+    out.push(b'\r')?;
+    Ok(())
+}
+
+/// Writes the line of a segment with these texts, which stand in order of place, and its end (chapter 2, 2.6).
+/// The one error is an allocation failure; then the line may be there in part.
+pub fn write_segment(
+    out: &mut Vec<u8>,
+    name: [u8; 3],
+    texts: &[Value<'_>],
+) -> Result<(), AllocError>
+    requires sorted { T (is_sorted (slice_cmp nat_cmp) (placed texts.now)) }
+    requires each { AllByRecursion (IsEntry (first_field name)) (placed texts.now) }
+    ensures { OnOk result (out.new.items ≡ out.old.items ++ closed_line name (placed texts.now)) }
+{
+    let first = write_name(out, name)?;
+    write_texts_behind(out, first, texts)?;
     out.push(b'\r')?;
     Ok(())
 }

@@ -35,6 +35,7 @@ pub use laws::{
     canonical_is_decided, canonical_stays, reads_once, reads_or_fails, rows, rows_of_reading,
     rows_of_writing, written_has_no_idle_separator, written_is_read, written_is_the_one,
 };
+pub use layout::write_segment;
 pub use message::Message;
 pub use place::Place;
 pub use reader::{read, read_block};

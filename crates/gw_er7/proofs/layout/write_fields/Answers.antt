@@ -1,6 +1,6 @@
 use Rattle.std.proofs.Common.{ap, arith, List, ℕ, ◌+◌, ◌++◌, ◌∷◌, drop, ◌∙◌}
 use Rattle.std.proofs.lemmas.List.{drop_more}
-use Rattle.gw_er7.specs.View.{Held}
+use Rattle.gw_er7.specs.View.{Held, entries_of}
 use Rattle.gw_er7.proofs.Flat.{fields}
 use Rattle.gw_er7.proofs.Steps.{stepped}
 use Rattle.gw_er7.proofs.layout.write_fields.Goals as goal
@@ -14,4 +14,4 @@ loop-i-preserved c =
     let i = c.loop-i.i in
     let h : Held = record { place = c.at-value.result.place; text = c.at-value.result.text.now } in
     let next = drop_more values i h (omega (arith, c.loop-i-test.true, c.len-i-end.ensures)) ∙ ap (λ (x : Held). x ∷ drop (i + 1) values) (c.at-value.ensures h) in
-    stepped values i h c.loop-i.here c.loop-i.out.items _ c.extend_from_slice.new.self.items _ next c.in_ok-write_gaps.ensures c.in_ok-extend_from_slice.ensures.items c.loop-i.invariant
+    stepped (entries_of (drop i values)) (entries_of (drop (i + 1) values)) h.place h.text c.loop-i.here c.loop-i.out.items _ c.extend_from_slice.new.self.items _ (ap entries_of next) c.in_ok-write_gaps.ensures c.in_ok-extend_from_slice.ensures.items c.loop-i.invariant
