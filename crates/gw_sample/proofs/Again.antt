@@ -19,8 +19,13 @@ each_line d [] ss is = absurd is
 each_line d (l ∷ ls) [] is = absurd is
 each_line d (l ∷ ls) (s ∷ ss) is = ap suc (others d ls ss is.1)
 
+-- what was read has no more segments than a message
+pub few : (content : List ℕ) (m : List SegmentValue) → Reads content m → 10000 < length m → ⊥
+few content m reads many =
+    let same : length m ≡ length (lines content) = each_line (delimiters_of (header_line (lines content))) (lines content) m reads.segments in
+    reads.readable TooManySegments (omega (arith, many, same))
+
 pub again : (content : List ℕ) (m : List SegmentValue) → Reads content m → IsMessage m → Reads (written m) m
 again content m reads is =
-    let few : 10000 < length (lines content) → ⊥ = reads.readable TooManySegments in
-    let same : length m ≡ length (lines content) = each_line (delimiters_of (header_line (lines content))) (lines content) m reads.segments in
-    reads_again m is (omega (arith, few, same))
+    let some : 10000 < length m → ⊥ = few content m reads in
+    reads_again m is (omega (arith, some))

@@ -1,5 +1,5 @@
 -- What a sample is (HL7 v2.5.1 chapter 2, 2.6 "Message construction rules" and 2.12: message profiles).
-use Rattle.std.specs.Prelude.{◌≡◌, List, Option, IfSome}
+use Rattle.std.specs.Prelude.{◌≡◌, ◌<◌, List, length, Option, IfSome}
 use Rattle.gw_er7.specs.Message.{SegmentValue}
 use Rattle.gw_er7.specs.Reading.{Reads}
 use Rattle.gw_er7.specs.Written.{written}
@@ -15,6 +15,10 @@ IsReadAgain m = Reads (written m) m
 -- a message that conforms to the profile
 abbrev pub HasOne : ProfileValue → Type 0
 HasOne p = (m : List SegmentValue) × Conforms p m
+
+-- each message that conforms to the profile has more segments than a message that is read
+abbrev pub TooLarge : ProfileValue → Type 0
+TooLarge p = (m : List SegmentValue) → Conforms p m → 10000 < length m
 
 -- the tree's message conforms to this profile, and what is written for it reads as it again
 pub record Samples (p : ProfileValue) (t : TreeValue) : Type 0 where

@@ -18,7 +18,7 @@ pub enum Texts {
 const PLAIN: &[u8] = b"A";
 
 /// The null value, which every leaf allows that may be present: it is exempt from length and table (chapter 2, 2.5.3).
-const NULL: &[u8] = b"\"\"";
+pub(crate) const NULL: &[u8] = b"\"\"";
 
 /// The ends of a table: the first of its shortest values, and of its longest.
 #[derive(Clone, Copy, Drop)]

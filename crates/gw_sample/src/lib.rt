@@ -5,6 +5,7 @@ mod drawing;
 mod extent;
 pub mod laws;
 mod leaf;
+mod least;
 mod parts;
 mod sampling;
 mod text;

@@ -1,12 +1,15 @@
 //! The sample of a profile.
-ghost use Rattle.std.specs.Prelude.{IfOk, IfSome};
+ghost use Rattle.std.specs.Prelude.{◌≤◌, ◌↔◌, length, IfOk, IfSome, IsNone, IsSome};
 ghost use Rattle.std.specs.Arc.{arc_value};
-ghost use Rattle.gw_profile.specs.Seen.{profile_value};
-ghost use Rattle.gw_sample.specs.Samples.{IsSample, IsReadAgain};
+ghost use Rattle.gw_profile.specs.Seen.{profile_value, forest};
+ghost use Rattle.gw_validate.specs.Conforming.{Conforms};
+ghost use Rattle.gw_sample.specs.Samples.{IsSample, IsReadAgain, TooLarge};
+ghost use Rattle.gw_sample.specs.own.Least.{least};
 
 use crate::drawing::draw;
 use crate::extent::Extent;
 use crate::leaf::Texts;
+use crate::least::{has_room, least_message};
 use crate::text::Undrawn;
 use gw_er7::{Message, ReadFault, read};
 use gw_profile::Profile;
@@ -46,10 +49,25 @@ fn drawn(
     }
 }
 
-/// A message that conforms to the profile, made up from the profile alone, with its tree. Its texts are the values of the profile's tables,
-/// and plain ones; none is from a message. None where what was made up is larger than a message: over 1,048,576 bytes or 10,000 segments.
-/// The one error is allocation failure.
-pub fn sample(
+// The tree of a message, where it conforms to the profile.
+fn tree_of(
+    alloc: Global,
+    profile: &Arc<Profile>,
+    message: Message,
+) -> Result<Option<Tree>, AllocError>
+    requires { IsReadAgain message }
+    ensures sample { IfOk result (IsSample (profile_value (arc_value profile.now))) }
+    ensures found { IfOk result (λ found. Conforms (profile_value (arc_value profile.now)) message → IsSome found) }
+{
+    match validate(alloc, profile.clone()?, message) {
+        Ok(Verdict::Fits(tree)) => Ok(Some(tree)),
+        Ok(Verdict::Breaks(_, _)) => Ok(None),
+        Err(_) => Err(AllocError),
+    }
+}
+
+// A sample as it is drawn. None where it is larger than a message, or no sample.
+fn drawn_tree(
     alloc: Global,
     profile: &Arc<Profile>,
     extent: Extent,
@@ -57,12 +75,56 @@ pub fn sample(
 ) -> Result<Option<Tree>, AllocError>
     ensures { IfOk result (IsSample (profile_value (arc_value profile.now))) }
 {
-    let Some(message) = drawn(alloc, profile, extent, texts)? else {
+    match drawn(alloc, profile, extent, texts)? {
+        Some(message) => tree_of(alloc, profile, message),
+        None => Ok(None),
+    }
+}
+
+// The same, or else the least sample with these texts.
+fn drawn_or_least(
+    alloc: Global,
+    profile: &Arc<Profile>,
+    extent: Extent,
+    texts: Texts,
+) -> Result<Option<Tree>, AllocError>
+    ensures { IfOk result (IsSample (profile_value (arc_value profile.now))) }
+{
+    match drawn_tree(alloc, profile, extent, texts)? {
+        Some(drawn) => Ok(Some(drawn)),
+        None if extent == Extent::Least => Ok(None),
+        None => drawn_tree(alloc, profile, Extent::Least, texts),
+    }
+}
+
+// The least message, which isn't larger than a message.
+fn least_tree(alloc: Global, profile: &Arc<Profile>) -> Result<Option<Tree>, AllocError>
+    requires { length (least (forest (arc_value profile.now).nodes)) ≤ 10000 }
+    ensures sample { IfOk result (IsSample (profile_value (arc_value profile.now))) }
+    ensures found { IfOk result IsSome }
+{
+    let message = least_message(alloc, profile)?;
+    tree_of(alloc, profile, message)
+}
+
+/// A message that conforms to the profile, made up from the profile alone, with its tree. Its texts are the values of the profile's tables,
+/// and plain ones; none is from a message. Where what was made up is larger than a message, over 1,048,576 bytes or 10,000 segments, it is the
+/// least that conforms: with these texts, or else with `""` in each place that needs one, however many bytes that has.
+/// None exactly where each message that conforms has more than 10,000 segments. The one error is allocation failure.
+pub fn sample(
+    alloc: Global,
+    profile: &Arc<Profile>,
+    extent: Extent,
+    texts: Texts,
+) -> Result<Option<Tree>, AllocError>
+    ensures sample { IfOk result (IsSample (profile_value (arc_value profile.now))) }
+    ensures none { IfOk result (λ found. IsNone found ↔ TooLarge (profile_value (arc_value profile.now))) }
+{
+    if !has_room(profile) {
         return Ok(None);
-    };
-    match validate(alloc, profile.clone()?, message) {
-        Ok(Verdict::Fits(tree)) => Ok(Some(tree)),
-        Ok(Verdict::Breaks(_, _)) => Ok(None),
-        Err(_) => Err(AllocError),
+    }
+    match drawn_or_least(alloc, profile, extent, texts)? {
+        Some(tree) => Ok(Some(tree)),
+        None => least_tree(alloc, profile),
     }
 }

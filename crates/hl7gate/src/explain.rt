@@ -137,7 +137,7 @@ struct Pair {
     made: Message,
 }
 
-/// A sample with its translation. None where it is larger than a message.
+/// A sample with its translation. None where each has more segments than a message.
 fn translated(
     alloc: Global,
     map: &CheckedMap,

@@ -1,7 +1,7 @@
--- Each well formed profile has a message that conforms: each element as often as it has to come, and each text `""`.
-use Rattle.std.proofs.Common.{◌≡◌, ℕ, zero, suc, ◌-◌, ◌<◌, ◌≤◌, ◌⊎◌, inl, inr, Bool, true, false, List, [], ◌∷◌, ◌++◌, Option, Some, None, refl, sym, ap, ◌∙◌, subst, arith, length, map, get_or, unwrap_or, bytes_eq}
+-- The least message of a well formed profile conforms to it.
+use Rattle.std.proofs.Common.{◌≡◌, ℕ, zero, suc, ◌-◌, ◌<◌, ◌≤◌, ◌⊎◌, inl, inr, Bool, true, false, List, [], ◌∷◌, ◌++◌, Option, Some, None, refl, sym, ap, ◌∙◌, subst, arith, length, get_or, unwrap_or, bytes_eq}
 use Rattle.std.specs.Prelude.{◌||◌, if◌then◌else◌, cond, filter}
-use Rattle.std.specs.List.{AllByRecursion}
+use Rattle.std.specs.List.{AllByRecursion, flat_map}
 use Rattle.std.specs.FinMap as texts
 use Rattle.std.specs.Ordering.{nat_cmp}
 use Rattle.std.specs.Cmp.Lexicographic.{slice_cmp, nat_list_cmp_total}
@@ -15,7 +15,6 @@ use Rattle.gw_profile.specs.declared.shape.Card.{Card}
 use Rattle.gw_profile.specs.Among.{Among}
 use Rattle.gw_profile.specs.Deterministic.{Name, AtMost}
 use Rattle.gw_profile.specs.Names.{stands}
-use Rattle.gw_profile.specs.Shapes as shapes
 use Rattle.gw_profile.specs.Shapes.{SubValue, CompValue, FieldValue, Forest, nothing, segment, group, ProfileValue}
 use Rattle.gw_profile.specs.WellFormed.{Agrees, Rising, sub_numbers, comp_numbers, field_numbers, LawfulComp, LawfulField, LawfulSegment, LawfulGroup, EachSegment, EachGroup, WellFormed, table_names}
 use Rattle.gw_profile.proofs.Among.{among_append, among_if, among_one}
@@ -23,33 +22,15 @@ use Rattle.gw_validate.specs.Breaches.{is_required, is_forbidden, is_null, Count
 use Rattle.gw_validate.specs.Conforming.{listed, Seq, Conforms}
 use Rattle.gw_validate.specs.Cuts.{Many}
 use Rattle.gw_validate.proofs.Names.{name_tells, equal_names}
-
-abbrev Key : Type 0
-Key = List ℕ
-
-abbrev null : List ℕ
-null = 34 ∷ 34 ∷ []
+use Rattle.gw_sample.specs.own.Least.{Key, null, sub_keys, comp_keys, rep_keys, reps_keys, keys_of, entries_of, one_of, several_of, least}
 
 -- ---- the places of the texts
 
-abbrev keys_of_subs : ℕ → ℕ → ℕ → List SubValue → List Key
-keys_of_subs f r c [] = []
-keys_of_subs f r c (s ∷ ss) = (if is_required s.usage then (f ∷ r ∷ c ∷ s.number ∷ []) ∷ [] else []) ++ keys_of_subs f r c ss
+abbrev subs_keys : ℕ → ℕ → ℕ → List SubValue → List Key
+subs_keys f r c ss = flat_map (sub_keys f r c) ss
 
--- a component that has to come has a text at a subcomponent that no profile lists, too
-abbrev keys_of_comps : ℕ → ℕ → List CompValue → List Key
-keys_of_comps f r [] = []
-keys_of_comps f r (k ∷ ks) =
-    (if is_required k.usage then (f ∷ r ∷ k.number ∷ 100 ∷ []) ∷ keys_of_subs f r k.number k.subs else []) ++ keys_of_comps f r ks
-
--- and so has a repetition at such a component
-abbrev keys_of_reps : ℕ → FieldValue → List Key
-keys_of_reps zero v = []
-keys_of_reps (suc r) v = ((v.number ∷ suc r ∷ 100 ∷ 1 ∷ []) ∷ keys_of_comps v.number (suc r) v.comps) ++ keys_of_reps r v
-
-abbrev keys_of : List FieldValue → List Key
-keys_of [] = []
-keys_of (v ∷ vs) = keys_of_reps v.card.min v ++ keys_of vs
+abbrev comps_keys : ℕ → ℕ → List CompValue → List Key
+comps_keys f r ks = flat_map (comp_keys f r) ks
 
 -- the same as relations
 abbrev InSubs : List SubValue → ℕ → Type 0
@@ -80,27 +61,27 @@ module _ (f r c n f' r' c' n' : ℕ) (e : f' ∷ r' ∷ c' ∷ n' ∷ [] ≡ f �
   sub_is : n' ≡ n
   sub_is = ap (λ (l : List ℕ). get_or l 3 0) e
 
-subs_in : (f r c : ℕ) (ss : List SubValue) (f' r' c' n' : ℕ) → Among (f' ∷ r' ∷ c' ∷ n' ∷ []) (keys_of_subs f r c ss) → (f' ≡ f) × (r' ≡ r) × (c' ≡ c) × InSubs ss n'
+subs_in : (f r c : ℕ) (ss : List SubValue) (f' r' c' n' : ℕ) → Among (f' ∷ r' ∷ c' ∷ n' ∷ []) (subs_keys f r c ss) → (f' ≡ f) × (r' ≡ r) × (c' ≡ c) × InSubs ss n'
 subs_in f r c [] f' r' c' n' h = absurd h
-subs_in f r c (s ∷ ss) f' r' c' n' h = elim ((among_append (if is_required s.usage then (f ∷ r ∷ c ∷ s.number ∷ []) ∷ [] else []) (keys_of_subs f r c ss) (f' ∷ r' ∷ c' ∷ n' ∷ [])).0 h) [
+subs_in f r c (s ∷ ss) f' r' c' n' h = elim ((among_append (if is_required s.usage then (f ∷ r ∷ c ∷ s.number ∷ []) ∷ [] else []) (subs_keys f r c ss) (f' ∷ r' ∷ c' ∷ n' ∷ [])).0 h) [
   | inl a ↦ (let p = (among_if (is_required s.usage) ((f ∷ r ∷ c ∷ s.number ∷ []) ∷ []) (f' ∷ r' ∷ c' ∷ n' ∷ [])).0 a in
       let e = (among_one (f ∷ r ∷ c ∷ s.number ∷ []) (f' ∷ r' ∷ c' ∷ n' ∷ [])).0 p.1 in
       (field_is f r c s.number f' r' c' n' e, rep_is f r c s.number f' r' c' n' e, comp_is f r c s.number f' r' c' n' e, inl (p.0, sub_is f r c s.number f' r' c' n' e)))
   | inr b ↦ (let p = subs_in f r c ss f' r' c' n' b in (p.0, p.1, p.2, inr p.3))
 ]
 
-subs_out : (f r c : ℕ) (ss : List SubValue) (n : ℕ) → InSubs ss n → Among (f ∷ r ∷ c ∷ n ∷ []) (keys_of_subs f r c ss)
+subs_out : (f r c : ℕ) (ss : List SubValue) (n : ℕ) → InSubs ss n → Among (f ∷ r ∷ c ∷ n ∷ []) (subs_keys f r c ss)
 subs_out f r c [] n h = absurd h
 subs_out f r c (s ∷ ss) n (inl h) =
-    (among_append (if is_required s.usage then (f ∷ r ∷ c ∷ s.number ∷ []) ∷ [] else []) (keys_of_subs f r c ss) (f ∷ r ∷ c ∷ n ∷ [])).1
+    (among_append (if is_required s.usage then (f ∷ r ∷ c ∷ s.number ∷ []) ∷ [] else []) (subs_keys f r c ss) (f ∷ r ∷ c ∷ n ∷ [])).1
     (inl ((among_if (is_required s.usage) ((f ∷ r ∷ c ∷ s.number ∷ []) ∷ []) (f ∷ r ∷ c ∷ n ∷ [])).1 (h.0, inl (ap (λ (i : ℕ). f ∷ r ∷ c ∷ i ∷ []) h.1))))
 subs_out f r c (s ∷ ss) n (inr h) =
-    (among_append (if is_required s.usage then (f ∷ r ∷ c ∷ s.number ∷ []) ∷ [] else []) (keys_of_subs f r c ss) (f ∷ r ∷ c ∷ n ∷ [])).1 (inr (subs_out f r c ss n h))
+    (among_append (if is_required s.usage then (f ∷ r ∷ c ∷ s.number ∷ []) ∷ [] else []) (subs_keys f r c ss) (f ∷ r ∷ c ∷ n ∷ [])).1 (inr (subs_out f r c ss n h))
 
-comps_in : (f r : ℕ) (ks : List CompValue) (f' r' c' n' : ℕ) → Among (f' ∷ r' ∷ c' ∷ n' ∷ []) (keys_of_comps f r ks) → (f' ≡ f) × (r' ≡ r) × InComps ks c' n'
+comps_in : (f r : ℕ) (ks : List CompValue) (f' r' c' n' : ℕ) → Among (f' ∷ r' ∷ c' ∷ n' ∷ []) (comps_keys f r ks) → (f' ≡ f) × (r' ≡ r) × InComps ks c' n'
 comps_in f r [] f' r' c' n' h = absurd h
-comps_in f r (k ∷ ks) f' r' c' n' h = elim ((among_append (if is_required k.usage then (f ∷ r ∷ k.number ∷ 100 ∷ []) ∷ keys_of_subs f r k.number k.subs else []) (keys_of_comps f r ks) (f' ∷ r' ∷ c' ∷ n' ∷ [])).0 h) [
-  | inl a ↦ (let p = (among_if (is_required k.usage) ((f ∷ r ∷ k.number ∷ 100 ∷ []) ∷ keys_of_subs f r k.number k.subs) (f' ∷ r' ∷ c' ∷ n' ∷ [])).0 a in
+comps_in f r (k ∷ ks) f' r' c' n' h = elim ((among_append (if is_required k.usage then (f ∷ r ∷ k.number ∷ 100 ∷ []) ∷ subs_keys f r k.number k.subs else []) (comps_keys f r ks) (f' ∷ r' ∷ c' ∷ n' ∷ [])).0 h) [
+  | inl a ↦ (let p = (among_if (is_required k.usage) ((f ∷ r ∷ k.number ∷ 100 ∷ []) ∷ subs_keys f r k.number k.subs) (f' ∷ r' ∷ c' ∷ n' ∷ [])).0 a in
       elim p.1 [
         | inl e ↦ (field_is f r k.number 100 f' r' c' n' e, rep_is f r k.number 100 f' r' c' n' e, inl (p.0, comp_is f r k.number 100 f' r' c' n' e, inl (sub_is f r k.number 100 f' r' c' n' e)))
         | inr b ↦ (let q = subs_in f r k.number k.subs f' r' c' n' b in (q.0, q.1, inl (p.0, q.2, inr q.3)))
@@ -108,47 +89,44 @@ comps_in f r (k ∷ ks) f' r' c' n' h = elim ((among_append (if is_required k.us
   | inr b ↦ (let p = comps_in f r ks f' r' c' n' b in (p.0, p.1, inr p.2))
 ]
 
-comps_out : (f r : ℕ) (ks : List CompValue) (c n : ℕ) → InComps ks c n → Among (f ∷ r ∷ c ∷ n ∷ []) (keys_of_comps f r ks)
+comps_out : (f r : ℕ) (ks : List CompValue) (c n : ℕ) → InComps ks c n → Among (f ∷ r ∷ c ∷ n ∷ []) (comps_keys f r ks)
 comps_out f r [] c n h = absurd h
 comps_out f r (k ∷ ks) c n (inl h) =
-    (among_append (if is_required k.usage then (f ∷ r ∷ k.number ∷ 100 ∷ []) ∷ keys_of_subs f r k.number k.subs else []) (keys_of_comps f r ks) (f ∷ r ∷ c ∷ n ∷ [])).1
-    (inl ((among_if (is_required k.usage) ((f ∷ r ∷ k.number ∷ 100 ∷ []) ∷ keys_of_subs f r k.number k.subs) (f ∷ r ∷ c ∷ n ∷ [])).1 (h.0, here h.2)))
+    (among_append (if is_required k.usage then (f ∷ r ∷ k.number ∷ 100 ∷ []) ∷ subs_keys f r k.number k.subs else []) (comps_keys f r ks) (f ∷ r ∷ c ∷ n ∷ [])).1
+    (inl ((among_if (is_required k.usage) ((f ∷ r ∷ k.number ∷ 100 ∷ []) ∷ subs_keys f r k.number k.subs) (f ∷ r ∷ c ∷ n ∷ [])).1 (h.0, here h.2)))
   where
-    here : (n ≡ 100) ⊎ InSubs k.subs n → Among (f ∷ r ∷ c ∷ n ∷ []) ((f ∷ r ∷ k.number ∷ 100 ∷ []) ∷ keys_of_subs f r k.number k.subs)
+    here : (n ≡ 100) ⊎ InSubs k.subs n → Among (f ∷ r ∷ c ∷ n ∷ []) ((f ∷ r ∷ k.number ∷ 100 ∷ []) ∷ subs_keys f r k.number k.subs)
     here (inl e) = inl (ap (λ (i : ℕ). f ∷ r ∷ i ∷ n ∷ []) h.1 ∙ ap (λ (i : ℕ). f ∷ r ∷ k.number ∷ i ∷ []) e)
-    here (inr b) = inr (subst (λ (i : ℕ). Among (f ∷ r ∷ i ∷ n ∷ []) (keys_of_subs f r k.number k.subs)) (sym h.1) (subs_out f r k.number k.subs n b))
+    here (inr b) = inr (subst (λ (i : ℕ). Among (f ∷ r ∷ i ∷ n ∷ []) (subs_keys f r k.number k.subs)) (sym h.1) (subs_out f r k.number k.subs n b))
 comps_out f r (k ∷ ks) c n (inr h) =
-    (among_append (if is_required k.usage then (f ∷ r ∷ k.number ∷ 100 ∷ []) ∷ keys_of_subs f r k.number k.subs else []) (keys_of_comps f r ks) (f ∷ r ∷ c ∷ n ∷ [])).1 (inr (comps_out f r ks c n h))
+    (among_append (if is_required k.usage then (f ∷ r ∷ k.number ∷ 100 ∷ []) ∷ subs_keys f r k.number k.subs else []) (comps_keys f r ks) (f ∷ r ∷ c ∷ n ∷ [])).1 (inr (comps_out f r ks c n h))
 
-reps_in : (k : ℕ) (v : FieldValue) (f' r' c' n' : ℕ) → Among (f' ∷ r' ∷ c' ∷ n' ∷ []) (keys_of_reps k v) → (f' ≡ v.number) × (0 < r') × (r' ≤ k) × InRep v c' n'
+reps_in : (k : ℕ) (v : FieldValue) (f' r' c' n' : ℕ) → Among (f' ∷ r' ∷ c' ∷ n' ∷ []) (reps_keys v k) → (f' ≡ v.number) × (0 < r') × (r' ≤ k) × InRep v c' n'
 reps_in zero v f' r' c' n' h = absurd h
-reps_in (suc r) v f' r' c' n' h = elim ((among_append ((v.number ∷ suc r ∷ 100 ∷ 1 ∷ []) ∷ keys_of_comps v.number (suc r) v.comps) (keys_of_reps r v) (f' ∷ r' ∷ c' ∷ n' ∷ [])).0 h) [
-  | inl a ↦ elim a [
+reps_in (suc r) v f' r' c' n' h = elim ((among_append (reps_keys v r) (rep_keys v (suc r)) (f' ∷ r' ∷ c' ∷ n' ∷ [])).0 h) [
+  | inl b ↦ (let q = reps_in r v f' r' c' n' b in (q.0, q.1, omega (arith, q.2), q.3))
+  | inr a ↦ elim a [
     | inl e ↦ (let is = rep_is v.number (suc r) 100 1 f' r' c' n' e in
         (field_is v.number (suc r) 100 1 f' r' c' n' e, omega (arith, is), omega (arith, is), inl (comp_is v.number (suc r) 100 1 f' r' c' n' e, sub_is v.number (suc r) 100 1 f' r' c' n' e)))
     | inr b ↦ (let q = comps_in v.number (suc r) v.comps f' r' c' n' b in (q.0, omega (arith, q.1), omega (arith, q.1), inr q.2))
   ]
-  | inr b ↦ (let q = reps_in r v f' r' c' n' b in (q.0, q.1, omega (arith, q.2), q.3))
 ]
 
-reps_out : (k : ℕ) (v : FieldValue) (r c n : ℕ) → 0 < r → r ≤ k → InRep v c n → Among (v.number ∷ r ∷ c ∷ n ∷ []) (keys_of_reps k v)
+reps_out : (k : ℕ) (v : FieldValue) (r c n : ℕ) → 0 < r → r ≤ k → InRep v c n → Among (v.number ∷ r ∷ c ∷ n ∷ []) (reps_keys v k)
 reps_out zero v r c n some le h = absurd (omega (arith, some, le))
 reps_out (suc k) v r c n some le h = by (λ short. reps_out k v r c n some short h) (cases_lt r (suc k))
   where
-    front : List Key
-    front = (v.number ∷ suc k ∷ 100 ∷ 1 ∷ []) ∷ keys_of_comps v.number (suc k) v.comps
-
-    last : r ≡ suc k → InRep v c n → Among (v.number ∷ r ∷ c ∷ n ∷ []) front
+    last : r ≡ suc k → InRep v c n → Among (v.number ∷ r ∷ c ∷ n ∷ []) (rep_keys v (suc k))
     last e (inl i) = inl (ap (λ (j : ℕ). v.number ∷ j ∷ c ∷ n ∷ []) e ∙ ap (λ (j : ℕ). v.number ∷ suc k ∷ j ∷ n ∷ []) i.0 ∙ ap (λ (j : ℕ). v.number ∷ suc k ∷ 100 ∷ j ∷ []) i.1)
-    last e (inr i) = inr (subst (λ (j : ℕ). Among (v.number ∷ j ∷ c ∷ n ∷ []) (keys_of_comps v.number (suc k) v.comps)) (sym e) (comps_out v.number (suc k) v.comps c n i))
+    last e (inr i) = inr (subst (λ (j : ℕ). Among (v.number ∷ j ∷ c ∷ n ∷ []) (comps_keys v.number (suc k) v.comps)) (sym e) (comps_out v.number (suc k) v.comps c n i))
 
-    by : (r ≤ k → Among (v.number ∷ r ∷ c ∷ n ∷ []) (keys_of_reps k v)) → (r < suc k) ⊎ (suc k ≤ r) → Among (v.number ∷ r ∷ c ∷ n ∷ []) (keys_of_reps (suc k) v)
-    by earlier (inl lt) = (among_append front (keys_of_reps k v) (v.number ∷ r ∷ c ∷ n ∷ [])).1 (inr (earlier (omega arith)))
-    by earlier (inr ge) = (among_append front (keys_of_reps k v) (v.number ∷ r ∷ c ∷ n ∷ [])).1 (inl (last (omega (arith, le, ge)) h))
+    by : (r ≤ k → Among (v.number ∷ r ∷ c ∷ n ∷ []) (reps_keys v k)) → (r < suc k) ⊎ (suc k ≤ r) → Among (v.number ∷ r ∷ c ∷ n ∷ []) (reps_keys v (suc k))
+    by earlier (inl lt) = (among_append (reps_keys v k) (rep_keys v (suc k)) (v.number ∷ r ∷ c ∷ n ∷ [])).1 (inl (earlier (omega arith)))
+    by earlier (inr ge) = (among_append (reps_keys v k) (rep_keys v (suc k)) (v.number ∷ r ∷ c ∷ n ∷ [])).1 (inr (last (omega (arith, le, ge)) h))
 
 fields_in : (vs : List FieldValue) (f r c n : ℕ) → Among (f ∷ r ∷ c ∷ n ∷ []) (keys_of vs) → InFields vs f r c n
 fields_in [] f r c n h = absurd h
-fields_in (v ∷ vs) f r c n h = elim ((among_append (keys_of_reps v.card.min v) (keys_of vs) (f ∷ r ∷ c ∷ n ∷ [])).0 h) [
+fields_in (v ∷ vs) f r c n h = elim ((among_append (reps_keys v v.card.min) (keys_of vs) (f ∷ r ∷ c ∷ n ∷ [])).0 h) [
   | inl a ↦ inl (reps_in v.card.min v f r c n a)
   | inr b ↦ inr (fields_in vs f r c n b)
 ]
@@ -156,14 +134,11 @@ fields_in (v ∷ vs) f r c n h = elim ((among_append (keys_of_reps v.card.min v)
 fields_out : (vs : List FieldValue) (f r c n : ℕ) → InFields vs f r c n → Among (f ∷ r ∷ c ∷ n ∷ []) (keys_of vs)
 fields_out [] f r c n h = absurd h
 fields_out (v ∷ vs) f r c n (inl h) =
-    (among_append (keys_of_reps v.card.min v) (keys_of vs) (f ∷ r ∷ c ∷ n ∷ [])).1
-    (inl (subst (λ (i : ℕ). Among (i ∷ r ∷ c ∷ n ∷ []) (keys_of_reps v.card.min v)) (sym h.0) (reps_out v.card.min v r c n h.1 h.2 h.3)))
-fields_out (v ∷ vs) f r c n (inr h) = (among_append (keys_of_reps v.card.min v) (keys_of vs) (f ∷ r ∷ c ∷ n ∷ [])).1 (inr (fields_out vs f r c n h))
+    (among_append (reps_keys v v.card.min) (keys_of vs) (f ∷ r ∷ c ∷ n ∷ [])).1
+    (inl (subst (λ (i : ℕ). Among (i ∷ r ∷ c ∷ n ∷ []) (reps_keys v v.card.min)) (sym h.0) (reps_out v.card.min v r c n h.1 h.2 h.3)))
+fields_out (v ∷ vs) f r c n (inr h) = (among_append (reps_keys v v.card.min) (keys_of vs) (f ∷ r ∷ c ∷ n ∷ [])).1 (inr (fields_out vs f r c n h))
 
 -- ---- the texts
-
-abbrev entries_of : List Key → List (Key × List ℕ)
-entries_of = map (λ k. (k, null))
 
 found : (ks : List Key) (q : Key) → Among q ks → texts.find (slice_cmp nat_cmp) q (entries_of ks) ≡ Some null
 found [] q h = absurd h
@@ -352,18 +327,6 @@ module _ (p : ProfileValue) (tables : List (List ℕ)) (m : Texts) where
 
 -- ---- the message
 
-abbrev one_of : shapes.SegmentValue → SegmentValue
-one_of s = record { name = s.name; at = texts_of s.fields }
-
-abbrev several_of : ℕ → List SegmentValue → List SegmentValue
-several_of zero l = []
-several_of (suc k) l = l ++ several_of k l
-
-abbrev least : Forest → List SegmentValue
-least nothing = []
-least (segment s rest) = several_of s.card.min (one_of s ∷ []) ++ least rest
-least (group g nodes rest) = several_of g.card.min (least nodes) ++ least rest
-
 several_many : (P : List SegmentValue → Type 0) (l : List SegmentValue) → P l → (k : ℕ) → Many P k (several_of k l)
 several_many P l h zero = refl
 several_many P l h (suc k) = record { front = l; back = several_of k l; joined = refl; here = h; there = several_many P l h k }
@@ -428,8 +391,11 @@ all_kept : (there : SegmentValue → Bool) (l : List SegmentValue) → AllByRecu
 all_kept there [] h = refl
 all_kept there (s ∷ l) h = rw h.0 (ap (λ k. s ∷ k) (all_kept there l h.1))
 
-pub each_has_one : (p : ProfileValue) → WellFormed p → (m : List SegmentValue) × Conforms p m
-each_has_one p wf =
+pub least_conforms : (p : ProfileValue) → WellFormed p → Conforms p (least p.nodes)
+least_conforms p wf =
     let m = least p.nodes in
     let all : listed p.nodes m ≡ m = all_kept (λ s. stands p.nodes s.name) m (least_stands p.nodes (stands p.nodes) (λ x h. h)) in
-    (m, subst (Fit p (table_names p.tables) p.nodes) (sym all) (least_fits p (table_names p.tables) p.nodes wf.segments wf.groups))
+    subst (Fit p (table_names p.tables) p.nodes) (sym all) (least_fits p (table_names p.tables) p.nodes wf.segments wf.groups)
+
+pub each_has_one : (p : ProfileValue) → WellFormed p → (m : List SegmentValue) × Conforms p m
+each_has_one p wf = (least p.nodes, least_conforms p wf)

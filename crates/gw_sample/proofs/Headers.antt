@@ -1,0 +1,91 @@
+-- The least message from its header on.
+use Rattle.std.proofs.Common.{◌≡◌, ℕ, ◌-◌, ◌<◌, ◌≤◌, List, [], ◌∷◌, ◌++◌, length, take, drop, get_or, sym, ap, subst, ◌∙◌, arith, Result, Ok, Err}
+use Rattle.std.specs.Prelude.{IfOk}
+use Rattle.std.proofs.lemmas.List.{take_all}
+use Rattle.gw_er7.specs.Building.{IsBegun}
+use Rattle.gw_er7.specs.Message.{SegmentValue, IsMessage, first_field}
+use Rattle.gw_er7.proofs.Again.{reads_again}
+use Rattle.gw_er7.proofs.Builds as builds
+use Rattle.gw_profile.specs.declared.node.Node.{Node, Seg, Group}
+use Rattle.gw_profile.specs.declared.node.GroupNode.{GroupNode}
+use Rattle.gw_profile.specs.declared.node.SegNode.{SegNode}
+use Rattle.gw_profile.specs.Seen.{segment_value, forest, node_forest}
+use Rattle.gw_profile.specs.Shapes as shapes
+use Rattle.gw_profile.specs.Shapes.{Forest, segment, ProfileValue}
+use Rattle.gw_profile.specs.WellFormed.{Headed, EachSegment, LawfulSegment, WellFormed, table_names}
+use Rattle.gw_profile.proofs.Rows.{group_forest}
+use Rattle.gw_validate.specs.Conforming.{Conforms}
+use Rattle.gw_sample.specs.own.Least.{Key, keys_of, one_of, several_of, least, ArePlaces, MayFollow, MayHead, Adds, Fits}
+use Rattle.gw_sample.proofs.Added.{made, header_message}
+use Rattle.gw_sample.proofs.LeastConforms.{least_conforms}
+use Rattle.gw_sample.proofs.Places.{places_are}
+
+-- ---- the first node
+
+pub no_head : (nodes : List Node) → length nodes < 1 → Headed (forest nodes) → ⊥
+no_head [] lt h = absurd h
+no_head (n ∷ nodes) lt h = absurd (omega (arith, lt))
+
+pub group_head : (nodes : List Node) (first : Node) (g : GroupNode) → 1 ≤ length nodes → first ≡ get_or nodes 0 first → first ≡ Group g → Headed (forest nodes) → ⊥
+group_head [] first g le at is h = absurd h
+group_head (n ∷ nodes) first g le at is h = absurd (subst Headed (ap (λ (m : Node). node_forest m (forest nodes)) (sym at ∙ is) ∙ group_forest g (forest nodes)) h)
+
+pub segment_head : (nodes : List Node) (first : Node) (s : SegNode) → 1 ≤ length nodes → first ≡ get_or nodes 0 first → first ≡ Seg s
+    → forest nodes ≡ segment (segment_value s) (forest (take (length nodes - 1) (drop 1 nodes)))
+segment_head [] first s le at is = absurd (omega (arith, le))
+segment_head (n ∷ nodes) first s le at is =
+    let rest : take (length (n ∷ nodes) - 1) nodes ≡ nodes = take_all (length (n ∷ nodes) - 1) nodes (omega arith) in
+    ap (λ (m : Node). node_forest m (forest nodes)) (sym at ∙ is) ∙ ap (λ (l : List Node). segment (segment_value s) (forest l)) (sym rest)
+
+-- ---- the message
+
+module _ (s : shapes.SegmentValue) (rest : Forest) (may : MayHead s rest) where
+  pub head_begins : IsBegun ([] ++ builds.begun s.name ∷ [])
+  head_begins = subst (λ (name : List ℕ). IsBegun (builds.begun name ∷ [])) (sym may.header.name) builds.begun_header
+
+  pub head_placed : (ks : List Key) → ks ≡ keys_of s.fields → ArePlaces (first_field s.name) ks
+  head_placed ks e = subst (ArePlaces (first_field s.name)) (sym e) (places_are may.tables s may.lawful)
+
+  head_is : (ks : List Key) (now : List SegmentValue) → ks ≡ keys_of s.fields → now ≡ made s.name ks ∷ [] → now ≡ one_of s ∷ []
+  head_is ks now e f = f ∙ ap (λ (l : List Key). made s.name l ∷ []) e
+
+  pub rest_follows : (ks : List Key) (now : List SegmentValue) → ks ≡ keys_of s.fields → now ≡ made s.name ks ∷ [] → MayFollow rest now
+  rest_follows ks now e f = record {
+    tables = may.tables;
+    lawful = may.each;
+    others = may.others;
+    message = subst IsMessage (sym (head_is ks now e f)) (header_message may.tables s may.lawful may.header);
+  }
+
+  pub whole_added : (ks : List Key) (now new : List SegmentValue) → ks ≡ keys_of s.fields → now ≡ made s.name ks ∷ [] → Adds (least rest) now new → Adds (least (segment s rest)) [] new
+  whole_added ks now new e f a = record {
+    added =
+        a.added ∙ ap (λ (l : List SegmentValue). l ++ least rest) (head_is ks now e f)
+        ∙ ap (λ (n : ℕ). several_of n (one_of s ∷ []) ++ least rest) (sym (ap (λ card. card.min) may.header.card));
+    message = a.message;
+  }
+
+pub some_segment : (m : List SegmentValue) → IsMessage m → 0 < length m
+some_segment [] h = absurd h
+some_segment (s ∷ m) h = omega arith
+
+-- ---- of a profile
+
+pub may_head : (p : ProfileValue) (s : shapes.SegmentValue) (rest : Forest) → WellFormed p → p.nodes ≡ segment s rest → MayHead s rest
+may_head p s rest wf e =
+    let h : Headed (segment s rest) = subst Headed e wf.headed in
+    let l : EachSegment (LawfulSegment (table_names p.tables)) (segment s rest) = subst (EachSegment (LawfulSegment (table_names p.tables))) e wf.segments in
+    record { tables = table_names p.tables; lawful = l.0; header = h.0; each = l.1; others = h.1 }
+
+pub fits : (p : ProfileValue) (s : shapes.SegmentValue) (rest : Forest) (m : List SegmentValue) → WellFormed p → p.nodes ≡ segment s rest → length (least p.nodes) ≤ 10000
+    → Adds (least (segment s rest)) [] m → Fits p m
+fits p s rest m wf e few a =
+    let is : m ≡ least p.nodes = a.added ∙ ap least (sym e) in
+    record {
+      conforms = subst (Conforms p) (sym is) (least_conforms p wf);
+      again = reads_again m a.message (omega (arith, few, ap length is));
+    }
+
+pub if_ok : {A E : Type 0} (P Q : A → Type 0) (r : Result A E) → ((a : A) → P a → Q a) → IfOk r P → IfOk r Q
+if_ok P Q (Ok a) so p = so a p
+if_ok P Q (Err e) so p = tt
