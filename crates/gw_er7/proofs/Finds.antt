@@ -60,7 +60,7 @@ here (x ∷ xs) zero l d lt is = sym is
 here (x ∷ xs) (suc n) l d lt is = here xs n l d (omega arith) is
 
 -- where a test divides the texts, and one passes, so do those before it; where one doesn't, nor do those behind it
-pub all_before : (test : Held → Bool) (xs : List Held) (n : ℕ) (l : Held) → IsPartitionedBy test xs → n < length xs → l ≡ get_or xs n l → test l ≡ true → AllWithin (λ y. test y ≡ true) xs 0 (n + 1)
+all_before : (test : Held → Bool) (xs : List Held) (n : ℕ) (l : Held) → IsPartitionedBy test xs → n < length xs → l ≡ get_or xs n l → test l ≡ true → AllWithin (λ y. test y ≡ true) xs 0 (n + 1)
 all_before test xs n l h lt is passes = λ k d low high. h k n d (omega arith) lt (ap test (here xs n l d lt is) ∙ passes)
 
 pub none_from : (test : Held → Bool) (xs : List Held) (n : ℕ) (l : Held) → IsPartitionedBy test xs → n < length xs → l ≡ get_or xs n l → test l ≡ false → AllWithin (λ y. test y ≡ false) xs n (length xs)
@@ -83,13 +83,6 @@ between_up test xs low high n l h is lt at passes = record { order = omega arith
 
 pub between_down : (test : Held → Bool) (xs : List Held) (low high n : ℕ) (l : Held) → IsPartitionedBy test xs → IsBetween test xs low high → low ≤ n → n < high → l ≡ get_or xs n l → test l ≡ false → IsBetween test xs low n
 between_down test xs low high n l h is le lt at fails = record { order = le; bound = omega (arith, lt, is.bound); below = is.below; above = none_from test xs n l h (omega (arith, lt, is.bound)) at fails }
-
--- the same of places below one
-pub all_below : (q : List ℕ) (xs : List Held) (n : ℕ) (l : Held) → Sorted xs → n < length xs → l ≡ get_or xs n l → is_below q l ≡ true → AllWithin (λ y. is_below q y ≡ true) xs 0 (n + 1)
-all_below q xs n l h lt is below = all_before (is_below q) xs n l (partitioned q xs h) lt is below
-
-pub none_below : (q : List ℕ) (xs : List Held) (n : ℕ) (l : Held) → Sorted xs → n < length xs → l ≡ get_or xs n l → is_below q l ≡ false → AllWithin (λ y. is_below q y ≡ false) xs n (length xs)
-none_below q xs n l h lt is behind = none_from (is_below q) xs n l (partitioned q xs h) lt is behind
 
 -- ---- what a look-up finds
 
@@ -140,18 +133,6 @@ numbers-same p q e = grind (arith, nat_tests)
 
 same-numbers : (p q : Place) → numbers p ≡ numbers q → same p q ≡ true
 same-numbers p q e = grind (arith, nat_tests)
-
--- where a text stands at a place, those before it stand below that place, and no other does
-pub start_here : (p : Place) (xs : List Held) (n : ℕ) (l : Held) → Sorted xs → n < length xs → l ≡ get_or xs n l → same l.place p ≡ true → IsPartitionPoint (λ y. is_below (numbers p) y ≡ true) (λ y. is_below (numbers p) y ≡ false) xs n
-start_here p xs n l h lt is at = (
-  (λ k d low high. ap is_lt (ap (order (key (get_or xs k d))) (sym (ap key (here xs n l d lt is) ∙ numbers-same l.place p at)) ∙ rising_at xs k n d h high lt)),
-  none_below (numbers p) xs n l h lt is (equal_not_less (order (key l) (numbers p)) (tie (key l) (numbers p) (numbers-same l.place p at))),
-)
-  where
-    equal_not_less : (r : Ordering) → is_eq r ≡ true → is_lt r ≡ false
-    equal_not_less Less e = absurd (let z : ⊥ = cc in z)
-    equal_not_less Equal e = refl
-    equal_not_less Greater e = refl
 
 pub text_here : (p : Place) (xs : List Held) (n : ℕ) (l : Held) → Sorted xs → IsStartOf (numbers p) xs n → n < length xs → l ≡ get_or xs n l → same l.place p ≡ true → unwrap_or (find order (numbers p) (entries_of xs)) [] ≡ l.text
 text_here p xs n l h point lt is at =

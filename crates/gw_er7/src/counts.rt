@@ -1,6 +1,5 @@
 //! The last numbers that are present.
-ghost use Rattle.std.specs.Prelude.{◌≡◌, ◌≤◌, ◌∷◌, [], length, T, IsTrue, true, false};
-ghost use Rattle.std.specs.List.{AllWithin};
+ghost use Rattle.std.specs.Prelude.{◌≡◌, ◌≤◌, length, T, true, false};
 ghost use Rattle.std.specs.List.Sorted.{IsPartitionPoint};
 ghost use Rattle.std.specs.Ordering.{nat_cmp, is_le};
 ghost use Rattle.std.specs.Cmp.Lexicographic.{slice_cmp};
@@ -10,7 +9,6 @@ ghost use Rattle.gw_er7.specs.Message.{numbers};
 ghost use Rattle.gw_er7.specs.View.{entries_of, AreValues, compare_begin, is_within, IsLastUnder};
 
 use crate::place::Place;
-use crate::search::NEAR;
 use crate::values::Values;
 use std::cmp::Ordering;
 
@@ -58,51 +56,8 @@ pub(crate) fn count_within(values: &Values<'_>, prefix: &[usize]) -> usize
     low
 }
 
-// Whether the texts before this number are in fields up to this one.
-fn are_up_to(values: &Values<'_>, at: usize, field: usize) -> bool
-    requires { T (is_sorted (slice_cmp nat_cmp) (entries_of values.now)) }
-    ensures bound { IsTrue result → at ≤ length values.now }
-    ensures within { IsTrue result → AllWithin (λ h. is_within (field ∷ []) h ≡ true) values.now 0 at }
-{
-    if at == 0 {
-        return true;
-    }
-    if at > values.len() {
-        return false;
-    }
-    is_up_to(values.at(at - 1).place, field)
-}
-
-fn is_up_to(place: Place, field: usize) -> bool
-    ensures { result ≡ is_le (compare_begin (numbers place) (field ∷ [])) }
-{
-    place.field <= field
-}
-
-/// How many texts are in fields up to this one. It is found at once where that is the number named, or one of a few behind it.
-pub(crate) fn count_up_to(values: &Values<'_>, near: usize, field: usize) -> usize
-    requires { T (is_sorted (slice_cmp nat_cmp) (entries_of values.now)) }
-    ensures bound { result ≤ length values.now }
-    ensures end { IsPartitionPoint (λ h. is_within (field ∷ []) h ≡ true) (λ h. is_within (field ∷ []) h ≡ false) values.now result }
-{
-    if !are_up_to(values, near, field) {
-        return count_within(values, &[field]);
-    }
-    let mut at = near;
-    for _step in 0..NEAR {
-        if at == values.len() {
-            return at;
-        }
-        if !is_up_to(values.at(at).place, field) {
-            return at;
-        }
-        at += 1;
-    }
-    count_within(values, &[field])
-}
-
 /// The last place that begins with these numbers, where `count` texts are at places up to those that begin with them.
-pub(crate) fn last_before(values: &Values<'_>, count: usize, prefix: &[usize]) -> Option<Place>
+fn last_before(values: &Values<'_>, count: usize, prefix: &[usize]) -> Option<Place>
     requires values { AreValues values.now }
     requires bound { count ≤ length values.now }
     requires end { IsPartitionPoint (λ h. is_within prefix.now h ≡ true) (λ h. is_within prefix.now h ≡ false) values.now count }

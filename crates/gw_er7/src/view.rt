@@ -1,10 +1,10 @@
 //! Borrowed segments.
 
-use crate::counts::{count_up_to, count_within, last_before, last_under};
+use crate::counts::{count_within, last_under};
 use crate::layout::write_line;
 use crate::place::Place;
 use crate::same::{same_bytes, same_values};
-use crate::search::{count_below, count_below_near, text_behind, text_there};
+use crate::search::{count_below, text_behind};
 use crate::values::Values;
 use std::alloc::AllocError;
 use std::marker::Model;
@@ -160,11 +160,11 @@ impl<'a> Segment<'a> {
     }
 
     /// How many texts stand at places below this one: the number of the first text from there on.
-    /// It takes no memory, and a constant time where that is the number named or one of a few behind it.
-    pub fn values_before(&self, near: usize, place: Place) -> usize
+    /// It takes no memory, and time by the logarithm of the segment's values.
+    pub fn values_before(&self, place: Place) -> usize
         ensures { IsStart (numbers place) (texts.entries self.now.at) result }
     {
-        count_below_near(&self.values, near, place)
+        count_below(&self.values, place)
     }
 
     /// The numbers of the first text of a field and of the first text behind the field: the texts of the field stand between.
@@ -196,31 +196,5 @@ impl<'a> Segment<'a> {
             count_below(&self.values, place),
             count_within(&self.values, &[field, rep]),
         )
-    }
-
-    /// The text at a place as `text` gives it, and the number of the first text from that place on.
-    /// It takes no memory, and a constant time where that is the number named or one of a few behind it.
-    pub fn find_near(&self, near: usize, place: Place) -> (usize, &'a [u8])
-        ensures start { IsStart (numbers place) (texts.entries self.now.at) result.0 }
-        ensures text { result.1.now ≡ text_at self.now place }
-    {
-        if let Some(text) = text_there(&self.values, near, place) {
-            return (near, text);
-        }
-        let at = count_below_near(&self.values, near, place);
-        (at, text_behind(&self.values, at, place))
-    }
-
-    /// The number of the last repetition of a field that is present, as `reps` gives it, and the number of the first text behind the field.
-    /// It takes no memory, and a constant time where that is the number named or one of a few behind it.
-    pub fn reps_near(&self, near: usize, field: usize) -> (usize, usize)
-        ensures last { IsLast (RepAt self.now.at field) result.0 }
-        ensures behind { IsStart ((field + 1) ∷ []) (texts.entries self.now.at) result.1 }
-    {
-        let behind = count_up_to(&self.values, near, field);
-        match last_before(&self.values, behind, &[field]) {
-            Some(place) => (place.rep, behind),
-            None => (0, behind),
-        }
     }
 }

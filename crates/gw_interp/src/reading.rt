@@ -54,7 +54,7 @@ pub(crate) fn next_rep(segment: &Segment<'_>, field: usize, after: usize, last: 
         comp: 0,
         sub: 0,
     };
-    let at = segment.values_before(0, place);
+    let at = segment.values_before(place);
     let holds = at < segment.value_count();
     prove!(holds);
     segment.value(at).place.rep

@@ -30,21 +30,6 @@ fn counts(segment: &Segment<'_>) -> (usize, usize, usize, usize, usize) {
     )
 }
 
-// Whether places are found wherever they are looked for first.
-fn is_found_from(segment: &Segment<'_>, near: usize) -> bool {
-    segment.values_before(near, place(3, 1, 2, 0)) == 2
-        && stands(segment, near, place(3, 3, 1, 1), 4, b"d")
-        && stands(segment, near, place(3, 2, 1, 1), 4, b"")
-        && segment.reps_near(near, 3) == (3, 5)
-        && segment.reps_near(near, 2) == (1, 1)
-}
-
-// Whether this text stands at a place, which begins at the value of this number.
-fn stands(segment: &Segment<'_>, near: usize, at: Place, number: usize, text: &[u8]) -> bool {
-    let (found, there) = segment.find_near(near, at);
-    found == number && there == text
-}
-
 // Whether the value of this number is this text, and is found by its place.
 fn is_value(segment: &Segment<'_>, i: usize, text: &[u8]) -> bool {
     if i >= segment.value_count() {
@@ -68,8 +53,8 @@ fn has_values(segment: &Segment<'_>) -> bool {
 fn is_pid(segment: &Segment<'_>) -> bool {
     segment.reborrow().name() == *b"PID"
         && counts(segment) == (3, 3, 2, 0, 2)
-        && is_found_from(segment, 0)
-        && is_found_from(segment, 7)
+        && segment.values_before(place(3, 1, 2, 0)) == 2
+        && segment.text(place(3, 2, 1, 1)).is_empty()
         && has_values(segment)
 }
 
