@@ -1,5 +1,5 @@
 -- What a sample is (HL7 v2.5.1 chapter 2, 2.6 "Message construction rules" and 2.12: message profiles).
-use Rattle.std.specs.Prelude.{◌≡◌, ◌<◌, List, length, Option, IfSome}
+use Rattle.std.specs.Prelude.{◌≡◌, ◌<◌, ◌↔◌, List, length, Option, IfSome, IsNone}
 use Rattle.gw_er7.specs.Message.{SegmentValue}
 use Rattle.gw_er7.specs.Reading.{Reads}
 use Rattle.gw_er7.specs.Written.{written}
@@ -29,3 +29,7 @@ pub record Samples (p : ProfileValue) (t : TreeValue) : Type 0 where
 -- one, where there is one
 abbrev pub IsSample : ProfileValue → Option TreeValue → Type 0
 IsSample p found = IfSome found (Samples p)
+
+-- none exactly where the profile is too large
+abbrev pub NoneIfTooLarge : ProfileValue → Option TreeValue → Type 0
+NoneIfTooLarge p found = IsNone found ↔ TooLarge p

@@ -9,7 +9,7 @@ ghost use Rattle.gw_profile.specs.Shapes as shapes;
 ghost use Rattle.gw_profile.specs.Shapes.{nothing};
 ghost use Rattle.gw_profile.specs.WellFormed.{Headed};
 ghost use Rattle.gw_validate.specs.Breaches as breaches;
-ghost use Rattle.gw_sample.specs.own.Least.{keys, sub_keys, comp_keys, rep_keys, field_keys, keys_of, entries_of, one_of, several_of, least, ArePlaces, MayFollow, MayHead, Adds, Fits};
+ghost use Rattle.gw_sample.specs.own.Least.{keys, AreListed, sub_keys, comp_keys, rep_keys, field_keys, keys_of, with_nulls, one_of, several_of, least, ArePlaces, MayFollow, MayHead, Adds, Fits};
 
 use crate::leaf::NULL;
 use gw_er7::{Builder, Message, Place};
@@ -34,7 +34,8 @@ fn is_required(usage: Usage) -> bool
 
 // Adds the place of a subcomponent that has to come, in the component at a place.
 fn add_sub(places: &mut Vec<Place>, at: Place, sub: &SubShape) -> Result<(), AllocError>
-    ensures { OnOk result (keys places.new.items ≡ keys places.old.items ++ sub_keys at.field at.rep at.comp (seen_sub sub.now)) }
+    ensures { OnOk result (AreListed places.old.items places.new.items
+        (sub_keys at.field at.rep at.comp (seen_sub sub.now))) }
 {
     if !is_required(sub.usage) {
         return Ok(());
@@ -50,7 +51,8 @@ fn add_sub(places: &mut Vec<Place>, at: Place, sub: &SubShape) -> Result<(), All
 
 // Adds the places of the subcomponents that have to come.
 fn add_subs(places: &mut Vec<Place>, at: Place, subs: &[SubShape]) -> Result<(), AllocError>
-    ensures { OnOk result (keys places.new.items ≡ keys places.old.items ++ flat_map (sub_keys at.field at.rep at.comp) (map seen_sub subs.now)) }
+    ensures { OnOk result (AreListed places.old.items places.new.items
+        (flat_map (sub_keys at.field at.rep at.comp) (map seen_sub subs.now))) }
 {
     for sub in subs {
         add_sub(places, at, sub)?;
@@ -65,7 +67,8 @@ fn add_comp(
     rep: usize,
     comp: &CompShape,
 ) -> Result<(), AllocError>
-    ensures { OnOk result (keys places.new.items ≡ keys places.old.items ++ comp_keys field rep (seen_comp comp.now)) }
+    ensures { OnOk result (AreListed places.old.items places.new.items
+        (comp_keys field rep (seen_comp comp.now))) }
 {
     if !is_required(comp.usage) {
         return Ok(());
@@ -87,7 +90,8 @@ fn add_comps(
     rep: usize,
     comps: &[CompShape],
 ) -> Result<(), AllocError>
-    ensures { OnOk result (keys places.new.items ≡ keys places.old.items ++ flat_map (comp_keys field rep) (map seen_comp comps.now)) }
+    ensures { OnOk result (AreListed places.old.items places.new.items
+        (flat_map (comp_keys field rep) (map seen_comp comps.now))) }
 {
     for comp in comps {
         add_comp(places, field, rep, comp)?;
@@ -97,7 +101,8 @@ fn add_comps(
 
 // Adds the places of a repetition of a field.
 fn add_rep(places: &mut Vec<Place>, field: &FieldShape, rep: usize) -> Result<(), AllocError>
-    ensures { OnOk result (keys places.new.items ≡ keys places.old.items ++ rep_keys (seen_field field.now) rep) }
+    ensures { OnOk result (AreListed places.old.items places.new.items
+        (rep_keys (seen_field field.now) rep)) }
 {
     let number = field.number as usize;
     places.push(Place {
@@ -111,7 +116,8 @@ fn add_rep(places: &mut Vec<Place>, field: &FieldShape, rep: usize) -> Result<()
 
 // Adds the places of a field.
 fn add_field(places: &mut Vec<Place>, field: &FieldShape) -> Result<(), AllocError>
-    ensures { OnOk result (keys places.new.items ≡ keys places.old.items ++ field_keys (seen_field field.now)) }
+    ensures { OnOk result (AreListed places.old.items places.new.items
+        (field_keys (seen_field field.now))) }
 {
     for rep in 0..field.card.min {
         add_rep(places, field, rep as usize + 1)?;
@@ -134,7 +140,7 @@ fn places_of(alloc: Global, fields: &[FieldShape]) -> Result<Vec<Place>, AllocEr
 fn add_segment(builder: &mut Builder, name: [u8; 3], places: &[Place]) -> Result<(), AllocError>
     requires begun { IsBegun (builder.old ++ record { name = name; at = texts.empty } ∷ []) }
     requires places { ArePlaces (first_field name) (keys places.now) }
-    ensures { OnOk result (builder.new ≡ builder.old ++ record { name = name; at = texts.from_entries (entries_of (keys places.now)) } ∷ []) }
+    ensures { OnOk result (builder.new ≡ builder.old ++ with_nulls name (keys places.now) ∷ []) }
 {
     builder.begin(name)?;
     for place in places {
@@ -146,7 +152,8 @@ fn add_segment(builder: &mut Builder, name: [u8; 3], places: &[Place]) -> Result
 // Adds a segment as often as it has to come.
 fn add_segments(alloc: Global, builder: &mut Builder, segment: &SegNode) -> Result<(), AllocError>
     requires { MayFollow (shapes.segment (segment_value segment.now) nothing) builder.old }
-    ensures { OnOk result (Adds (several_of segment.now.card.min (one_of (segment_value segment.now) ∷ [])) builder.old builder.new) }
+    ensures { OnOk result (Adds (several_of segment.now.card.min (one_of (segment_value segment.now) ∷ []))
+        builder.old builder.new) }
 {
     let places = places_of(alloc, &segment.fields)?;
     for _time in 0..segment.card.min {
@@ -234,7 +241,8 @@ fn headed(nodes: &[Node]) -> (&SegNode, &[Node])
 // The message of a header and the nodes behind it.
 fn message_of(alloc: Global, header: &SegNode, rest: &[Node]) -> Result<Message, AllocError>
     requires { MayHead (segment_value header.now) (forest rest.now) }
-    ensures { IfOk result (Adds (least (shapes.segment (segment_value header.now) (forest rest.now))) []) }
+    ensures { IfOk result (Adds (least (shapes.segment (segment_value header.now) (forest rest.now)))
+        []) }
 {
     let mut builder = Builder::new(alloc);
     let places = places_of(alloc, &header.fields)?;

@@ -1,9 +1,9 @@
 //! The sample of a profile.
-ghost use Rattle.std.specs.Prelude.{◌≤◌, ◌↔◌, length, IfOk, IfSome, IsNone, IsSome};
+ghost use Rattle.std.specs.Prelude.{◌≤◌, length, IfOk, IfSome, IsSome};
 ghost use Rattle.std.specs.Arc.{arc_value};
 ghost use Rattle.gw_profile.specs.Seen.{profile_value, forest};
 ghost use Rattle.gw_validate.specs.Conforming.{Conforms};
-ghost use Rattle.gw_sample.specs.Samples.{IsSample, IsReadAgain, TooLarge};
+ghost use Rattle.gw_sample.specs.Samples.{IsSample, IsReadAgain, NoneIfTooLarge};
 ghost use Rattle.gw_sample.specs.own.Least.{least};
 
 use crate::drawing::draw;
@@ -57,7 +57,7 @@ fn tree_of(
 ) -> Result<Option<Tree>, AllocError>
     requires { IsReadAgain message }
     ensures sample { IfOk result (IsSample (profile_value (arc_value profile.now))) }
-    ensures found { IfOk result (λ found. Conforms (profile_value (arc_value profile.now)) message → IsSome found) }
+    ensures found { Conforms (profile_value (arc_value profile.now)) message → IfOk result IsSome }
 {
     match validate(alloc, profile.clone()?, message) {
         Ok(Verdict::Fits(tree)) => Ok(Some(tree)),
@@ -118,7 +118,7 @@ pub fn sample(
     texts: Texts,
 ) -> Result<Option<Tree>, AllocError>
     ensures sample { IfOk result (IsSample (profile_value (arc_value profile.now))) }
-    ensures none { IfOk result (λ found. IsNone found ↔ TooLarge (profile_value (arc_value profile.now))) }
+    ensures none { IfOk result (NoneIfTooLarge (profile_value (arc_value profile.now))) }
 {
     if !has_room(profile) {
         return Ok(None);

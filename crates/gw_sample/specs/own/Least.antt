@@ -49,8 +49,12 @@ keys_of vs = flat_map field_keys vs
 abbrev pub entries_of : List Key → List Entry
 entries_of ks = map (λ k. (k, null)) ks
 
+-- a segment with `""` at each of these places
+abbrev pub with_nulls : List ℕ → List Key → SegmentValue
+with_nulls name ks = record { name = name; at = texts.from_entries (entries_of ks) }
+
 abbrev pub one_of : shapes.SegmentValue → SegmentValue
-one_of s = record { name = s.name; at = texts.from_entries (entries_of (keys_of s.fields)) }
+one_of s = with_nulls s.name (keys_of s.fields)
 
 abbrev pub several_of : {A : Type 0} → ℕ → List A → List A
 several_of zero l = []
@@ -65,6 +69,10 @@ least (group g nodes rest) = several_of g.card.min (least nodes) ++ least rest
 
 abbrev pub keys : List Place → List Key
 keys = map numbers
+
+-- these places were put behind the others
+abbrev pub AreListed : List Place → List Place → List Key → Type 0
+AreListed old new ks = keys new ≡ keys old ++ ks
 
 -- places for `""` in a segment whose first field is this one, each once
 pub record ArePlaces (first : ℕ) (ks : List Key) : Type 0 where
