@@ -41,9 +41,10 @@ pub returns-clause-lawful : goal.returns-clause-lawful
 returns-clause-lawful c =
     let first = msh_rows c.args.header.now c.args.stamp.now c.args.arrival c.control-control.ensures.header c.digits-digits.ensures.stamp c.ranges.arrival.fits in
     let second = msa_rows c.args.ack c.args.header.now.control c.control-control.ensures.header.control in
-    in_ok c.write_segment-2.result _
-    (header_is (msh c.args.header.now c.args.stamp.now c.args.arrival) first,
-    (other_is (codes "MSA") (msa (ack_text c.args.ack) c.args.header.now.control) refl refl second, tt))
+    in_ok c.write_segment-2.result _ (
+      header_is (msh c.args.header.now c.args.stamp.now c.args.arrival) first,
+      (other_is (codes "MSA") (msa (ack_text c.args.ack) c.args.header.now.control) refl refl second, tt),
+    )
 
 pub returns-clause-lines : goal.returns-clause-lines
 returns-clause-lines c =
