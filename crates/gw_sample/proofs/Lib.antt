@@ -1,8 +1,10 @@
 pub mod Added
 pub mod Again
+pub mod Counting
 pub mod Fewest
 pub mod Headers
 pub mod LeastConforms
+pub mod OneForEach
 pub mod Places
 pub mod TooLarge
 pub mod Weights

@@ -1,4 +1,4 @@
--- When a profile has no sample: each message that conforms has more segments than one that is read.
+-- When a profile has no sample: each message that conforms has too many segments, or too many elements have to come.
 use Rattle.std.proofs.Common.{◌≡◌, ℕ, ◌<◌, ◌≤◌, inl, inr, length, Option, None, Some, Bool, false, Result, Ok, Err, subst, arith}
 use Rattle.std.specs.Prelude.{IsNone, IsSome, IsTrue, ◌↔◌, IfOk}
 use Rattle.std.proofs.lemmas.Bool.{cases_lt}
@@ -6,30 +6,39 @@ use Rattle.gw_er7.specs.Written.{written}
 use Rattle.gw_profile.specs.Seen.{Contents, forest, profile_value}
 use Rattle.gw_profile.specs.Shapes.{ProfileValue}
 use Rattle.gw_validate.specs.Fitting.{TreeValue}
-use Rattle.gw_sample.specs.Samples.{IsSample, Samples, TooLarge}
+use Rattle.gw_sample.specs.Elements.{elements}
+use Rattle.gw_sample.specs.Samples.{IsSample, Samples, TooManySegments, TooLarge}
 use Rattle.gw_sample.specs.own.Least.{least}
 use Rattle.gw_sample.proofs.Again.{few}
 use Rattle.gw_sample.proofs.Fewest.{none_shorter}
 
-no_room : (b : Bool) (n : ℕ) → IsTrue b ↔ (n ≤ 10000) → b ≡ false → 10000 < n
-no_room b n is not = elim (cases_lt 10000 n) [
+-- what isn't at most so many is more
+more : (b : Bool) (n most : ℕ) → IsTrue b ↔ (n ≤ most) → b ≡ false → most < n
+more b n most is not = elim (cases_lt most n) [
   | inl lt ↦ lt
-  | inr ge ↦ (let yes = is.1 ge in absurd (cc))
+  | inr ge ↦ (let small = is.1 ge in absurd (cc))
 ]
 
-pub too_large : (b : Bool) (found given : Contents) → found ≡ given → IsTrue b ↔ (length (least (forest found.nodes)) ≤ 10000) → b ≡ false → TooLarge (profile_value given)
-too_large b found given same is not m conforms =
-    let large : 10000 < length (least (forest given.nodes)) = subst (λ (c : Contents). 10000 < length (least (forest c.nodes))) same (no_room b (length (least (forest found.nodes))) is not) in
+pub too_many_segments : (b : Bool) (found given : Contents) → found ≡ given → IsTrue b ↔ (length (least (forest found.nodes)) ≤ 10000) → b ≡ false → TooManySegments (profile_value given)
+too_many_segments b found given same is not m conforms =
+    let large : 10000 < length (least (forest given.nodes)) = subst (λ (c : Contents). 10000 < length (least (forest c.nodes))) same (more b (length (least (forest found.nodes))) 10000 is not) in
     let long = none_shorter (profile_value given) m conforms in
     omega (arith, large, long)
 
-pub sample_is_not : (p : ProfileValue) (t : TreeValue) → Samples p t → TooLarge p → ⊥
-sample_is_not p t is large = few (written t.message) t.message is.again (large t.message is.conforms)
+pub too_many_elements : (b : Bool) (found given : Contents) → found ≡ given → IsTrue b ↔ (elements (forest found.nodes) ≤ 524288) → b ≡ false → 524288 < elements (forest given.nodes)
+too_many_elements b found given same is not = subst (λ (c : Contents). 524288 < elements (forest c.nodes)) same (more b (elements (forest found.nodes)) 524288 is not)
 
-some_is : (p : ProfileValue) (found : Option TreeValue) → IsSample p found → IsSome found → IsNone found ↔ TooLarge p
-some_is p None is some = absurd (cc)
-some_is p (Some t) is some = (λ none. absurd (cc), λ large. absurd (sample_is_not p t is large))
+pub few_elements : (b : Bool) (found given : Contents) → found ≡ given → IsTrue b ↔ (elements (forest found.nodes) ≤ 524288) → IsTrue b → elements (forest given.nodes) ≤ 524288
+few_elements b found given same is small = subst (λ (c : Contents). elements (forest c.nodes) ≤ 524288) same (is.0 small)
 
-pub found_is : {E : Type 0} (p : ProfileValue) (r : Result (Option TreeValue) E) → IfOk r (IsSample p) → IfOk r IsSome → IfOk r (λ found. IsNone found ↔ TooLarge p)
-found_is p (Ok found) is some = some_is p found is some
-found_is p (Err e) is some = tt
+pub sample_is_not : (p : ProfileValue) (t : TreeValue) → elements p.nodes ≤ 524288 → Samples p t → TooLarge p → ⊥
+sample_is_not p t small is (inl large) = few (written t.message) t.message is.again (large t.message is.conforms)
+sample_is_not p t small is (inr large) = absurd (omega (arith, small, large))
+
+some_is : (p : ProfileValue) (found : Option TreeValue) → elements p.nodes ≤ 524288 → IsSample p found → IsSome found → IsNone found ↔ TooLarge p
+some_is p None small is some = absurd (cc)
+some_is p (Some t) small is some = (λ none. absurd (cc), λ large. absurd (sample_is_not p t small is large))
+
+pub found_is : {E : Type 0} (p : ProfileValue) (r : Result (Option TreeValue) E) → elements p.nodes ≤ 524288 → IfOk r (IsSample p) → IfOk r IsSome → IfOk r (λ found. IsNone found ↔ TooLarge p)
+found_is p (Ok found) small is some = some_is p found small is some
+found_is p (Err e) small is some = tt

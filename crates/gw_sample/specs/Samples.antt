@@ -1,5 +1,5 @@
 -- What a sample is (HL7 v2.5.1 chapter 2, 2.6 "Message construction rules" and 2.12: message profiles).
-use Rattle.std.specs.Prelude.{◌≡◌, ◌<◌, ◌↔◌, List, length, Option, IfSome, IsNone}
+use Rattle.std.specs.Prelude.{◌≡◌, ◌<◌, ◌⊎◌, ◌↔◌, List, length, Option, IfSome, IsNone}
 use Rattle.gw_er7.specs.Message.{SegmentValue}
 use Rattle.gw_er7.specs.Reading.{Reads}
 use Rattle.gw_er7.specs.Written.{written}
@@ -7,6 +7,7 @@ use Rattle.gw_profile.specs.Shapes.{ProfileValue}
 use Rattle.gw_profile.specs.Seen.{profile_value}
 use Rattle.gw_validate.specs.Conforming.{Conforms}
 use Rattle.gw_validate.specs.Fitting.{TreeValue}
+use Rattle.gw_sample.specs.Elements.{elements}
 
 -- what is written for the message reads as it again
 abbrev pub IsReadAgain : List SegmentValue → Type 0
@@ -17,8 +18,12 @@ abbrev pub HasOne : ProfileValue → Type 0
 HasOne p = (m : List SegmentValue) × Conforms p m
 
 -- each message that conforms to the profile has more segments than a message that is read
+abbrev pub TooManySegments : ProfileValue → Type 0
+TooManySegments p = (m : List SegmentValue) → Conforms p m → 10000 < length m
+
+-- or more elements have to come than a message has pairs of bytes
 abbrev pub TooLarge : ProfileValue → Type 0
-TooLarge p = (m : List SegmentValue) → Conforms p m → 10000 < length m
+TooLarge p = TooManySegments p ⊎ (524288 < elements p.nodes)
 
 -- the tree's message conforms to this profile, and what is written for it reads as it again
 pub record Samples (p : ProfileValue) (t : TreeValue) : Type 0 where

@@ -1,7 +1,7 @@
 //! The least message of a profile: each element as often as it has to come, and each text `""`.
 ghost use Rattle.std.specs.Prelude.{◌≡◌, ◌++◌, ◌∷◌, [], ◌≤◌, ◌↔◌, length, map, min, OnOk, IfOk, IsTrue};
 ghost use Rattle.std.specs.FinMap as texts;
-ghost use Rattle.std.specs.List.{flat_map};
+ghost use Rattle.std.specs.List.{flat_map, sum_by};
 ghost use Rattle.gw_er7.specs.Building.{IsBegun};
 ghost use Rattle.gw_er7.specs.Message.{first_field};
 ghost use Rattle.gw_profile.specs.Seen.{sub as seen_sub, comp as seen_comp, field as seen_field, segment_value, node_forest, forest, profile_value};
@@ -9,6 +9,7 @@ ghost use Rattle.gw_profile.specs.Shapes as shapes;
 ghost use Rattle.gw_profile.specs.Shapes.{nothing};
 ghost use Rattle.gw_profile.specs.WellFormed.{Headed};
 ghost use Rattle.gw_validate.specs.Breaches as breaches;
+ghost use Rattle.gw_sample.specs.Elements.{of_field};
 ghost use Rattle.gw_sample.specs.own.Least.{keys, AreListed, sub_keys, comp_keys, rep_keys, field_keys, keys_of, with_nulls, one_of, several_of, least, ArePlaces, MayFollow, MayHead, Adds, Fits};
 
 use crate::leaf::NULL;
@@ -22,8 +23,8 @@ const MOST: u64 = 10_000;
 /// A component, and a subcomponent, that no profile lists: one behind the last that it may.
 const UNLISTED: usize = 100;
 
-// Whether an element has to come.
-fn is_required(usage: Usage) -> bool
+/// Whether an element has to come.
+pub(crate) fn is_required(usage: Usage) -> bool
     ensures { result ≡ breaches.is_required usage }
 {
     match usage {
@@ -125,9 +126,10 @@ fn add_field(places: &mut Vec<Place>, field: &FieldShape) -> Result<(), AllocErr
     Ok(())
 }
 
-// The places of the texts of a segment with these fields.
+// The places of the texts of a segment with these fields, one for each element that has to come.
 fn places_of(alloc: Global, fields: &[FieldShape]) -> Result<Vec<Place>, AllocError>
-    ensures { IfOk result (λ places. keys places.items ≡ keys_of (map seen_field fields.now)) }
+    ensures keys { IfOk result (λ places. keys places.items ≡ keys_of (map seen_field fields.now)) }
+    ensures count { IfOk result (λ places. length places.items ≡ sum_by of_field (map seen_field fields.now)) }
 {
     let mut places = Vec::new(alloc);
     for field in fields {
@@ -155,6 +157,9 @@ fn add_segments(alloc: Global, builder: &mut Builder, segment: &SegNode) -> Resu
     ensures { OnOk result (Adds (several_of segment.now.card.min (one_of (segment_value segment.now) ∷ []))
         builder.old builder.new) }
 {
+    if segment.card.min == 0 {
+        return Ok(());
+    }
     let places = places_of(alloc, &segment.fields)?;
     for _time in 0..segment.card.min {
         add_segment(builder, segment.name, &places)?;

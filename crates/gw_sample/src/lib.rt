@@ -2,6 +2,7 @@
 #![tactic(auto)]
 
 mod drawing;
+mod elements;
 mod extent;
 pub mod laws;
 mod leaf;

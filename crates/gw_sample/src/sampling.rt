@@ -7,6 +7,7 @@ ghost use Rattle.gw_sample.specs.Samples.{IsSample, IsReadAgain, NoneIfTooLarge}
 ghost use Rattle.gw_sample.specs.own.Least.{least};
 
 use crate::drawing::draw;
+use crate::elements::are_few;
 use crate::extent::Extent;
 use crate::leaf::Texts;
 use crate::least::{has_room, least_message};
@@ -110,7 +111,8 @@ fn least_tree(alloc: Global, profile: &Arc<Profile>) -> Result<Option<Tree>, All
 /// A message that conforms to the profile, made up from the profile alone, with its tree. Its texts are the values of the profile's tables,
 /// and plain ones; none is from a message. Where what was made up is larger than a message, over 1,048,576 bytes or 10,000 segments, it is the
 /// least that conforms: with these texts, or else with `""` in each place that needs one, however many bytes that has.
-/// None exactly where each message that conforms has more than 10,000 segments. The one error is allocation failure.
+/// None exactly where each message that conforms has more than 10,000 segments, or more than 524,288 repetitions, components and subcomponents
+/// have to come in one. The one error is allocation failure.
 pub fn sample(
     alloc: Global,
     profile: &Arc<Profile>,
@@ -121,6 +123,9 @@ pub fn sample(
     ensures none { IfOk result (NoneIfTooLarge (profile_value (arc_value profile.now))) }
 {
     if !has_room(profile) {
+        return Ok(None);
+    }
+    if !are_few(profile) {
         return Ok(None);
     }
     match drawn_or_least(alloc, profile, extent, texts)? {

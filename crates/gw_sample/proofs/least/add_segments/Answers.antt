@@ -16,7 +16,7 @@ add_segment-requires-clause-begun c =
 pub add_segment-requires-clause-places : goal.add_segment-requires-clause-places
 add_segment-requires-clause-places c =
     placed (segment_value c.args.segment.now) c.args.builder.now c.requires (keys c.deref-in-loop-time.result.now)
-    (ap keys c.deref-in-loop-time.ensures.value ∙ c.in_ok-places.ensures ∙ ap (λ fields. keys_of (map field fields)) c.deref.ensures.value)
+    (ap keys c.deref-in-loop-time.ensures.value ∙ c.in_ok-places.ensures.keys ∙ ap (λ fields. keys_of (map field fields)) c.deref.ensures.value)
 
 pub loop-time-preserved : goal.loop-time-preserved
 loop-time-preserved c =
@@ -25,4 +25,4 @@ loop-time-preserved c =
     let may = may_again (segment s nothing) (several_of c.loop-time._time (one_of s ∷ [])) old c.loop-time.builder c.requires c.loop-time.invariant in
     adds_again (one_of s ∷ []) old c.loop-time.builder c.add_segment.new.builder c.loop-time._time c.loop-time.invariant
     (added s c.loop-time.builder may (keys c.deref-in-loop-time.result.now) c.add_segment.new.builder
-    (ap keys c.deref-in-loop-time.ensures.value ∙ c.in_ok-places.ensures ∙ ap (λ fields. keys_of (map field fields)) c.deref.ensures.value) c.in_ok-add_segment.ensures)
+    (ap keys c.deref-in-loop-time.ensures.value ∙ c.in_ok-places.ensures.keys ∙ ap (λ fields. keys_of (map field fields)) c.deref.ensures.value) c.in_ok-add_segment.ensures)

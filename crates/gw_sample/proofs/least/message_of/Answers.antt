@@ -17,12 +17,12 @@ add_segment-requires-clause-begun c =
 pub add_segment-requires-clause-places : goal.add_segment-requires-clause-places
 add_segment-requires-clause-places c =
     head_placed (segment_value c.args.header.now) (forest c.args.rest.now) c.requires (keys c.deref-2.result.now)
-    (ap keys c.deref-2.ensures.value ∙ c.in_ok-places.ensures ∙ ap (λ fields. keys_of (map field fields)) c.deref.ensures.value)
+    (ap keys c.deref-2.ensures.value ∙ c.in_ok-places.ensures.keys ∙ ap (λ fields. keys_of (map field fields)) c.deref.ensures.value)
 
 pub add_nodes-requires : goal.add_nodes-requires
 add_nodes-requires c =
     rest_follows (segment_value c.args.header.now) (forest c.args.rest.now) c.requires (keys c.deref-2.result.now) c.add_segment.new.builder
-    (ap keys c.deref-2.ensures.value ∙ c.in_ok-places.ensures ∙ ap (λ fields. keys_of (map field fields)) c.deref.ensures.value)
+    (ap keys c.deref-2.ensures.value ∙ c.in_ok-places.ensures.keys ∙ ap (λ fields. keys_of (map field fields)) c.deref.ensures.value)
     (c.in_ok-add_segment.ensures ∙ ap (λ (b : List SegmentValue). b ++ made c.args.header.now.name (keys c.deref-2.result.now) ∷ []) c.new-builder.ensures)
 
 pub finish-requires : goal.finish-requires
@@ -32,6 +32,6 @@ pub returns : goal.returns
 returns c =
     subst (Adds (least (segment (segment_value c.args.header.now) (forest c.args.rest.now))) []) (sym c.finish.ensures)
     (whole_added (segment_value c.args.header.now) (forest c.args.rest.now) c.requires (keys c.deref-2.result.now) c.add_segment.new.builder c.add_nodes.new.builder
-    (ap keys c.deref-2.ensures.value ∙ c.in_ok-places.ensures ∙ ap (λ fields. keys_of (map field fields)) c.deref.ensures.value)
+    (ap keys c.deref-2.ensures.value ∙ c.in_ok-places.ensures.keys ∙ ap (λ fields. keys_of (map field fields)) c.deref.ensures.value)
     (c.in_ok-add_segment.ensures ∙ ap (λ (b : List SegmentValue). b ++ made c.args.header.now.name (keys c.deref-2.result.now) ∷ []) c.new-builder.ensures)
     c.in_ok-add_nodes.ensures)
