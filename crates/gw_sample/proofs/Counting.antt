@@ -1,4 +1,4 @@
--- What is counted up to a cap: sums, products, and the elements that have to come.
+-- What is counted up to a cap: sums, products, the elements that have to come, and nodes one by one.
 use Rattle.std.proofs.Common.{◌≡◌, ℕ, zero, suc, ◌+◌, ◌*◌, ◌<◌, ◌≤◌, inl, inr, List, [], ◌∷◌, ◌++◌, length, map, take, drop, get_or, sym, ap, ◌∙◌, arith, refl}
 use Rattle.std.specs.Prelude.{min}
 use Rattle.std.specs.List.{sum_by}
@@ -37,9 +37,9 @@ product_capped cap (suc k) n each some e = elim (cases_lt n cap) [
       omega (arith, a, b))
 ]
 
--- ---- nodes
+-- ---- of the elements
 
-elements_before : (n : Node) (rest : Forest) → elements (node_forest n rest) ≡ elements (node_forest n nothing) + elements rest
+pub elements_before : (n : Node) (rest : Forest) → elements (node_forest n rest) ≡ elements (node_forest n nothing) + elements rest
 elements_before (Seg s) rest = omega arith
 elements_before (Group' label usage card shape row) rest = omega arith
 
@@ -56,26 +56,28 @@ group_elements node g nodes cap each result some is items e r =
     let p = product_capped cap g.card.min (elements (forest nodes)) each some e in
     omega (arith, n, o, p, r)
 
--- the nodes from number i on are still to be counted
-pub record Counts (cap : ℕ) (nodes : List Node) (i count : ℕ) : Type 0 where
-  pub sum : min (count + elements (forest (drop i nodes))) cap ≡ min (elements (forest nodes)) cap
+-- ---- nodes one by one
+
+-- of a size, that of the nodes from number i on is still to be counted
+pub record Counts (size : Forest → ℕ) (cap : ℕ) (nodes : List Node) (i count : ℕ) : Type 0 where
+  pub sum : min (count + size (forest (drop i nodes))) cap ≡ min (size (forest nodes)) cap
   pub bound : count ≤ cap
 
-pub all_to_count : (cap : ℕ) (nodes : List Node) → Counts cap nodes 0 0
-all_to_count cap nodes = record { sum = omega arith; bound = omega arith }
+pub all_to_count : (size : Forest → ℕ) (cap : ℕ) (nodes : List Node) → Counts size cap nodes 0 0
+all_to_count size cap nodes = record { sum = omega arith; bound = omega arith }
 
-pub one_counted : (cap : ℕ) (nodes : List Node) (i : ℕ) (node : Node) (count one after : ℕ) → i < length nodes → node ≡ get_or nodes i node → Counts cap nodes i count
-    → one ≡ min (elements (node_forest node nothing)) cap → after ≡ min (count + one) cap → Counts cap nodes (i + 1) after
-one_counted cap nodes i node count one after lt at h e f =
-    let rest = forest (drop (i + 1) nodes) in
-    let n : elements (forest (drop i nodes)) ≡ elements (node_forest node nothing) + elements rest =
-    ap (λ (l : List Node). elements (forest l)) (rest_is nodes i node lt at) ∙ elements_before node rest in
-    let sum = h.sum in
-    record { sum = omega (arith, n, sum, e, f); bound = omega (arith, f) }
+module _ (size : Forest → ℕ) (before : (n : Node) (rest : Forest) → size (node_forest n rest) ≡ size (node_forest n nothing) + size rest) where
+  pub one_counted : (cap : ℕ) (nodes : List Node) (i : ℕ) (node : Node) (count one after : ℕ) → i < length nodes → node ≡ get_or nodes i node → Counts size cap nodes i count
+      → one ≡ min (size (node_forest node nothing)) cap → after ≡ min (count + one) cap → Counts size cap nodes (i + 1) after
+  one_counted cap nodes i node count one after lt at h e f =
+      let rest = forest (drop (i + 1) nodes) in
+      let n : size (forest (drop i nodes)) ≡ size (node_forest node nothing) + size rest = ap (λ (l : List Node). size (forest l)) (rest_is nodes i node lt at) ∙ before node rest in
+      let sum = h.sum in
+      record { sum = omega (arith, n, sum, e, f); bound = omega (arith, f) }
 
-pub all_counted : (cap : ℕ) (nodes : List Node) (i count : ℕ) → length nodes ≤ i → Counts cap nodes i count → count ≡ min (elements (forest nodes)) cap
-all_counted cap nodes i count le h =
-    let n : elements (forest (drop i nodes)) ≡ 0 = ap (λ (l : List Node). elements (forest l)) (past nodes i le) in
+pub all_counted : (size : Forest → ℕ) → size nothing ≡ 0 → (cap : ℕ) (nodes : List Node) (i count : ℕ) → length nodes ≤ i → Counts size cap nodes i count → count ≡ min (size (forest nodes)) cap
+all_counted size none cap nodes i count le h =
+    let n : size (forest (drop i nodes)) ≡ 0 = ap (λ (l : List Node). size (forest l)) (past nodes i le) ∙ none in
     let sum = h.sum in
     let bound = h.bound in
     omega (arith, n, sum, bound)

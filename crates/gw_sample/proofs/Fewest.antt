@@ -1,10 +1,8 @@
 -- No message that conforms has fewer segments than the least one.
-use Rattle.std.proofs.Common.{◌≡◌, ℕ, zero, suc, ◌+◌, ◌*◌, ◌<◌, ◌≤◌, inl, inr, Bool, List, [], ◌∷◌, length, sym, ap, ◌∙◌, arith, length-append, drop, get_or}
+use Rattle.std.proofs.Common.{◌≡◌, ℕ, zero, suc, ◌+◌, ◌*◌, ◌≤◌, Bool, List, [], ◌∷◌, length, sym, ap, ◌∙◌, arith, length-append}
 use Rattle.std.specs.Prelude.{filter, min}
 use Rattle.gw_er7.specs.Message.{SegmentValue}
 use Rattle.std.proofs.Math.Nat.{suc-mul}
-use Rattle.std.proofs.lemmas.Nat.{mul-le}
-use Rattle.std.proofs.lemmas.Bool.{cases_lt}
 use Rattle.std.proofs.lemmas.List.{append-nil}
 use Rattle.gw_profile.specs.declared.node.Node.{Node, Seg, Group}
 use Rattle.gw_profile.specs.declared.node.SegNode.{SegNode}
@@ -16,7 +14,8 @@ use Rattle.gw_validate.specs.Breaches.{Meets}
 use Rattle.gw_validate.specs.Cuts.{Many}
 use Rattle.gw_validate.specs.Conforming.{listed, One, Seq, Conforms}
 use Rattle.gw_sample.specs.own.Least.{one_of, several_of, least}
-use Rattle.gw_sample.proofs.Added.{rest_is, past, least_before, group_least}
+use Rattle.gw_sample.proofs.Added.{least_before, group_least}
+use Rattle.gw_sample.proofs.Counting.{product_capped}
 
 one_long : {I : Type 0} (named : I → List ℕ) (meets : List FieldValue → I → Type 0) (name : List ℕ) (shape : List FieldValue) (l : List I) → One named meets name shape l → 1 ≤ length l
 one_long named meets name shape [] h = absurd h
@@ -60,16 +59,6 @@ several_long (suc k) l =
     let more = suc-mul k (length l) in
     omega (arith, rest, more, length-append l (several_of k l))
 
-product_capped : (k n : ℕ) → min (k * min n 10001) 10001 ≡ min (k * n) 10001
-product_capped zero n = omega arith
-product_capped (suc k) n = elim (cases_lt n 10001) [
-  | inl lt ↦ (let e : min n 10001 ≡ n = omega (arith, lt) in ap (λ (m : ℕ). min (suc k * m) 10001) e)
-  | inr ge ↦ (let capped : 10001 ≤ min n 10001 = omega (arith, ge) in
-      let a = mul-le 1 10001 (suc k) (min n 10001) (omega arith) capped in
-      let b = mul-le 1 10001 (suc k) n (omega arith) ge in
-      omega (arith, a, b))
-]
-
 pub segments_counted : (node : Node) (s : SegNode) (result : ℕ) → node ≡ Seg s → result ≡ min s.card.min 10001 → result ≡ min (length (least (node_forest node nothing))) 10001
 segments_counted node s result is e =
     let n : length (least (node_forest node nothing)) ≡ s.card.min =
@@ -82,30 +71,12 @@ pub group_counted : (node : Node) (g : GroupNode) (nodes : List Node) (each resu
 group_counted node g nodes each result is items e r =
     let n : length (least (node_forest node nothing)) ≡ g.card.min * length (least (forest nodes)) =
     ap length (group_least node g nodes is items) ∙ several_long g.card.min (least (forest nodes)) in
-    let p : min (g.card.min * each) 10001 ≡ min (g.card.min * length (least (forest nodes))) 10001 =
-    ap (λ (m : ℕ). min (g.card.min * m) 10001) e ∙ product_capped g.card.min (length (least (forest nodes))) in
+    let p = product_capped 10001 g.card.min (length (least (forest nodes))) each (omega arith) e in
     r ∙ p ∙ ap (λ (m : ℕ). min m 10001) (sym n)
 
--- the nodes from number i on are still to be counted
-pub record Counts (nodes : List Node) (i count : ℕ) : Type 0 where
-  pub sum : min (count + length (least (forest (drop i nodes)))) 10001 ≡ min (length (least (forest nodes))) 10001
-  pub bound : count ≤ 10001
+-- the segments of the least message
+abbrev pub segments_in : Forest → ℕ
+segments_in f = length (least f)
 
-pub all_to_count : (nodes : List Node) → Counts nodes 0 0
-all_to_count nodes = record { sum = omega arith; bound = omega arith }
-
-pub one_counted : (nodes : List Node) (i : ℕ) (node : Node) (count one after : ℕ) → i < length nodes → node ≡ get_or nodes i node → Counts nodes i count
-    → one ≡ min (length (least (node_forest node nothing))) 10001 → after ≡ min (count + one) 10001 → Counts nodes (i + 1) after
-one_counted nodes i node count one after lt at h e f =
-    let rest = forest (drop (i + 1) nodes) in
-    let n : length (least (forest (drop i nodes))) ≡ length (least (node_forest node nothing)) + length (least rest) =
-    ap (λ (l : List Node). length (least (forest l))) (rest_is nodes i node lt at) ∙ ap length (least_before node rest) ∙ length-append (least (node_forest node nothing)) (least rest) in
-    let sum = h.sum in
-    record { sum = omega (arith, n, sum, e, f); bound = omega (arith, f) }
-
-pub all_counted : (nodes : List Node) (i count : ℕ) → length nodes ≤ i → Counts nodes i count → count ≡ min (length (least (forest nodes))) 10001
-all_counted nodes i count le h =
-    let n : length (least (forest (drop i nodes))) ≡ 0 = ap (λ (l : List Node). length (least (forest l))) (past nodes i le) in
-    let sum = h.sum in
-    let bound = h.bound in
-    omega (arith, n, sum, bound)
+pub segments_before : (n : Node) (rest : Forest) → segments_in (node_forest n rest) ≡ segments_in (node_forest n nothing) + segments_in rest
+segments_before n rest = ap length (least_before n rest) ∙ length-append (least (node_forest n nothing)) (least rest)

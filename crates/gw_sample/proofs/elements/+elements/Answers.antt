@@ -1,6 +1,7 @@
-use Rattle.std.proofs.Common.{◌∙◌, ◌*◌, ap, arith}
+use Rattle.std.proofs.Common.{◌∙◌, ◌*◌, ap, arith, refl}
 use Rattle.std.specs.Prelude.{min}
-use Rattle.gw_sample.proofs.Counting.{segment_elements, group_elements, all_to_count, one_counted, all_counted}
+use Rattle.gw_sample.specs.Elements.{elements}
+use Rattle.gw_sample.proofs.Counting.{elements_before, segment_elements, group_elements, all_to_count, one_counted, all_counted}
 use Rattle.gw_sample.proofs.elements.+elements.Goals as goal
 
 pub count_node-returns-in-Seg : goal.count_node-returns-in-Seg
@@ -12,15 +13,15 @@ count_node-returns-in-Group t c =
     c.count_nodes-each.ensures (c.min.ensures ∙ ap (λ n. min (n * c.count_nodes-each.result) 524289) c.from.ensures)
 
 pub count_nodes-loop-node-init : goal.count_nodes-loop-node-init
-count_nodes-loop-node-init t c = all_to_count 524289 c.args.nodes.now
+count_nodes-loop-node-init t c = all_to_count elements 524289 c.args.nodes.now
 
 pub count_nodes-overflow_add-count : goal.count_nodes-overflow_add-count
 count_nodes-overflow_add-count t c = omega (arith, c.loop-node.invariant.bound, c.count_node.ensures)
 
 pub count_nodes-loop-node-preserved : goal.count_nodes-loop-node-preserved
 count_nodes-loop-node-preserved t c =
-    one_counted 524289 c.args.nodes.now c.loop-node.node-index c.node-item.result c.loop-node.count c.count_node.result c.min-count.result c.loop-node-test.true c.node-item.is
+    one_counted elements elements_before 524289 c.args.nodes.now c.loop-node.node-index c.node-item.result c.loop-node.count c.count_node.result c.min-count.result c.loop-node-test.true c.node-item.is
     c.loop-node.invariant c.count_node.ensures c.min-count.ensures
 
 pub count_nodes-returns : goal.count_nodes-returns
-count_nodes-returns t c = all_counted 524289 c.args.nodes.now c.loop-node.node-index c.loop-node.count c.loop-node-test.false c.loop-node.invariant
+count_nodes-returns t c = all_counted elements refl 524289 c.args.nodes.now c.loop-node.node-index c.loop-node.count c.loop-node-test.false c.loop-node.invariant
