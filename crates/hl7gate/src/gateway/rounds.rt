@@ -278,16 +278,11 @@ fn round<
 }
 
 /// One round at this gate, up to the end of its audit. A fault ends the gateway.
-fn play<R: Threads + Wait + Clock + Files<File = File> + Eprint + AllocGlobal + Sync>(
-    hub: &Hub<'_, R>,
-    relay: &Relay,
-    gate: Gate,
-    workers: u64,
-)
-where
-    R::Dir: Read + Drop + Send + Sync,
-{
-    match round::<Brand, R, R::Dir>(hub, relay, Blank::new(PARTS), gate, workers) {
+fn play<
+    R: Threads + Wait + Clock + Files<File = File, Dir = D> + Eprint + AllocGlobal + Sync,
+    D: Read + Drop + Send + Sync,
+>(hub: &Hub<'_, R>, relay: &Relay, gate: Gate, workers: u64) {
+    match round::<Brand, R, D>(hub, relay, Blank::new(PARTS), gate, workers) {
         Ok(()) => relay.end_audit(hub.rt),
         Err(fault) => {
             hub.fail(fault);
