@@ -11,7 +11,6 @@ use Rattle.gw_ack.proofs.stamp.Stamp.TheSendSync as stamp
 use Rattle.gw_gate.proofs.Crossing.{Chapter-send, Gate-send}
 use Rattle.gw_run.proofs.Crossing.{LockedGate-sync, Receipts-send}
 use Rattle.hl7gate.specs.contracts.gateway.relay.Handed as Handed
-use Rattle.hl7gate.specs.contracts.gateway.relay.Handover as Handover
 use Rattle.hl7gate.specs.contracts.gateway.relay.Relay as Relay
 use Rattle.hl7gate.specs.contracts.outcome.Outcome as Outcome
 use Rattle.hl7gate.specs.contracts.tickets.Tickets as Tickets
@@ -45,8 +44,5 @@ Line-send a = search (Stream-send, crosses, sendable) depth 60 fits 50000
 Handed-send : IsSend (Handed.the_field).row
 Handed-send = search (Gate-send, crosses, sendable) depth 60 fits 50000
 
-Handover-send : IsSend (Handover.the_field).row
-Handover-send = search (Handed-send, crosses, sendable) depth 60 fits 50000
-
 pub Relay-sync : IsSync (Relay.the_field).row
-Relay-sync = search (Handover-send, crosses, sendable) depth 60 fits 50000
+Relay-sync = search (Handed-send, crosses, sendable) depth 60 fits 50000

@@ -12,65 +12,45 @@ enum Handed {
     Nothing,
 }
 
-/// What is handed on, and how many of the rounds that handed on a gate are under audit.
-#[derive(Drop)]
-struct Handover {
-    handed: Handed,
-    audits: u64,
-}
-
 /// Where a round leaves the gate of the next.
 #[derive(Drop)]
 pub(crate) struct Relay {
-    handover: Mutex<Handover>,
+    handed: Mutex<Handed>,
     news: Condvar,
 }
 
 impl Relay {
     pub(crate) fn new() -> Self {
-        let handover = Handover {
-            handed: Handed::Waits,
-            audits: 0,
-        };
         Relay {
-            handover: Mutex::new(handover),
+            handed: Mutex::new(Handed::Waits),
             news: Condvar::new(),
         }
     }
 
-    /// The next round begins at this gate. This round is under audit from here on.
-    pub(crate) fn hand_on<R: Wait>(&self, rt: &R, gate: Gate) {
-        let mut handover = self.handover.lock(rt);
-        handover.handed = Handed::Gate(gate);
-        handover.audits = handover.audits.saturating_add(1);
+    fn hand<R: Wait>(&self, rt: &R, handed: Handed) {
+        *self.handed.lock(rt) = handed;
         self.news.notify_all();
     }
 
-    /// The audit of a round has ended.
-    pub(crate) fn end_audit<R: Wait>(&self, rt: &R) {
-        let mut handover = self.handover.lock(rt);
-        handover.audits = handover.audits.saturating_sub(1);
-        self.news.notify_all();
+    /// The next round begins at this gate.
+    pub(crate) fn hand_on<R: Wait>(&self, rt: &R, gate: Gate) {
+        self.hand(rt, Handed::Gate(gate));
     }
 
     /// No round begins any more.
     pub(crate) fn end<R: Wait>(&self, rt: &R) {
-        self.handover.lock(rt).handed = Handed::Nothing;
-        self.news.notify_all();
+        self.hand(rt, Handed::Nothing);
     }
 
-    /// The gate that a round hands on, once no other round is under audit. None: no round begins any more.
+    /// The gate that a round hands on, once it does. None: no round begins any more.
     pub(crate) fn take<R: Wait>(&self, rt: &R) -> Option<Gate> {
-        let mut handover = self.handover.lock(rt);
+        let mut handed = self.handed.lock(rt);
         for _ in rt.forever() {
-            if handover.audits < 2 {
-                match replace(&mut handover.handed, Handed::Waits) {
-                    Handed::Waits => {}
-                    Handed::Gate(gate) => return Some(gate),
-                    Handed::Nothing => return None,
-                }
+            match replace(&mut *handed, Handed::Waits) {
+                Handed::Waits => handed = self.news.wait(rt, handed),
+                Handed::Gate(gate) => return Some(gate),
+                Handed::Nothing => return None,
             }
-            handover = self.news.wait(rt, handover);
         }
         unreachable!()
     }

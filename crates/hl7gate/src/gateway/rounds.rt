@@ -18,11 +18,12 @@ use std::alloc::{AllocError, Global};
 use std::fs::File;
 use std::io::{Eprint, Read};
 use std::marker::Brand;
+use std::mem::replace;
 use std::rt::Files;
 use std::sync::Wait;
 use std::sync::ledger::{Blank, Ledger};
 use std::thread;
-use std::thread::Threads;
+use std::thread::{JoinHandle, Threads};
 use std::time::{Clock, Duration, Instant};
 
 /// After how many entries of the journal a round ends.
@@ -282,12 +283,9 @@ fn play<
     R: Threads + Wait + Clock + Files<File = File, Dir = D> + Eprint + AllocGlobal + Sync,
     D: Read + Drop + Send + Sync,
 >(hub: &Hub<'_, R>, relay: &Relay, gate: Gate, workers: u64) {
-    match round::<Brand, R, D>(hub, relay, Blank::new(PARTS), gate, workers) {
-        Ok(()) => relay.end_audit(hub.rt),
-        Err(fault) => {
-            hub.fail(fault);
-            relay.end(hub.rt);
-        }
+    if let Err(fault) = round::<Brand, R, D>(hub, relay, Blank::new(PARTS), gate, workers) {
+        hub.fail(fault);
+        relay.end(hub.rt);
     }
 }
 
@@ -304,6 +302,20 @@ fn is_last<R: Wait + Files<File = File> + Eprint + AllocGlobal>(
     hub.has_ended() || hub.is_installing() && hub.is_alone() && next.journal().is_empty()
 }
 
+/// The gate that the round of a thread hands on, once the audit of the round before has ended: at most one is under audit.
+fn handed_on<R: Wait + Threads>(
+    rt: &R,
+    relay: &Relay,
+    audited: &mut Option<JoinHandle<()>>,
+    playing: Option<JoinHandle<()>>,
+) -> Option<Gate> {
+    let handed = relay.take(rt);
+    if let Some(thread) = replace(audited, playing) {
+        thread.join(rt);
+    }
+    handed
+}
+
 /// Rounds at this gate and those behind it, up to the last, and the ends of their audits. It gives the gate that the last hands on.
 /// Each round has a thread, which audits it beside the next.
 fn play_all<
@@ -318,15 +330,19 @@ fn play_all<
         |scope|
             requires { IsSync R.row × IsSend D.row × IsSync D.row }
         {
-            let mut gate = first;
+            let (mut gate, mut audited) = (first, None);
             for _ in rt.forever() {
                 let play_one = move ||
                     requires { IsSync R.row × IsSend D.row × IsSync D.row }
                 { play(hub, relay, gate, workers) };
-                if let Err(refused) = scope.spawn(play_one) {
-                    (refused.value)()
-                }
-                let Some(next) = relay.take(rt) else {
+                let playing = match scope.spawn(play_one) {
+                    Ok(thread) => Some(thread),
+                    Err(refused) => {
+                        (refused.value)();
+                        None
+                    }
+                };
+                let Some(next) = handed_on(rt, relay, &mut audited, playing) else {
                     return;
                 };
                 if is_last(hub, numbers, &next) {
