@@ -40,10 +40,11 @@ zip_keys t u (x ∷ xs) (y ∷ ys) z = ap₂ (λ a b. a || b) z.0.0 (zip_keys t 
 module _ (codes events words : List (Vec ℕ)) (code event : List ℕ) (i j : ℕ) (is_code : at code codes ≡ Some i) (is_event : at event events ≡ Some j) where
   slot_test : (field : ℕ) (word : List ℕ) (k : ℕ) → at word words ≡ Some k → (x : Found) (s : Slot × ℕ) → IsFound codes events words x s
       → (same_numbers ((i, j), (field, k)) x.0 ≡ is_slot code event field word s.0) × (x.1 ≡ s.1)
-  slot_test field word k is_word x s h =
-      (ap₂ (λ a b. a && b) (ap₂ (λ a b. a && b) (word_test code s.0.code codes i x.0.0.0 is_code h.code) (word_test event s.0.event events j x.0.0.1 is_event h.event))
-      (ap₂ (λ a b. a && b) (ap (nat_eq field) h.field) (word_test word s.0.word words k x.0.1.1 is_word h.word)),
-      h.number)
+  slot_test field word k is_word x s h = (
+    ap₂ (λ a b. a && b) (ap₂ (λ a b. a && b) (word_test code s.0.code codes i x.0.0.0 is_code h.code) (word_test event s.0.event events j x.0.0.1 is_event h.event))
+        (ap₂ (λ a b. a && b) (ap (nat_eq field) h.field) (word_test word s.0.word words k x.0.1.1 is_word h.word)),
+    h.number,
+  )
 
   tested : (field : ℕ) (word : List ℕ) (k : ℕ) → at word words ≡ Some k → (found : List Found) (slots : List (Slot × ℕ)) → AllFound codes events words found slots
       → AllZip (λ x s. (same_numbers ((i, j), (field, k)) x.0 ≡ is_slot code event field word s.0) × (x.1 ≡ s.1)) found slots

@@ -73,12 +73,35 @@ impl Index {
         ensures { (keys : List Key) (code event : List ℕ) → AreFound self.now (slots_from 0 keys) → IsPair self.now pair code event → result ≡ position_from (is_key code event (spec.header header.now)) 0 keys }
     {
         let rest = self.at(pair, REST, &[]);
-        let one = self.at(pair, HeaderField::SendingApplication.number(), header.sending_application);
-        let two = self.at(pair, HeaderField::SendingFacility.number(), header.sending_facility);
-        let three = self.at(pair, HeaderField::ReceivingApplication.number(), header.receiving_application);
-        let four = self.at(pair, HeaderField::ReceivingFacility.number(), header.receiving_facility);
-        let five = self.at(pair, HeaderField::MessageProfile.number(), header.message_profile);
-        sooner(rest, sooner(one, sooner(two, sooner(three, sooner(four, five)))))
+        let one = self.at(
+            pair,
+            HeaderField::SendingApplication.number(),
+            header.sending_application,
+        );
+        let two = self.at(
+            pair,
+            HeaderField::SendingFacility.number(),
+            header.sending_facility,
+        );
+        let three = self.at(
+            pair,
+            HeaderField::ReceivingApplication.number(),
+            header.receiving_application,
+        );
+        let four = self.at(
+            pair,
+            HeaderField::ReceivingFacility.number(),
+            header.receiving_facility,
+        );
+        let five = self.at(
+            pair,
+            HeaderField::MessageProfile.number(),
+            header.message_profile,
+        );
+        sooner(
+            rest,
+            sooner(one, sooner(two, sooner(three, sooner(four, five)))),
+        )
     }
 
     /// The number of the route for a message of this code, event and header, or the code of the condition (HL7 table 0357). It takes no memory.
@@ -98,7 +121,12 @@ impl Index {
     }
 
     // The numbers of a code and an event, which they get where they have none.
-    fn pair(&mut self, alloc: Global, code: &[u8], event: &[u8]) -> Result<(usize, usize), AllocError>
+    fn pair(
+        &mut self,
+        alloc: Global,
+        code: &[u8],
+        event: &[u8],
+    ) -> Result<(usize, usize), AllocError>
         ensures { IfOk result (λ pair. Numbers self.old self.new pair code.now event.now) }
     {
         let (code, _) = self.codes.insert_full(Vec::from_slice(alloc, code)?)?;

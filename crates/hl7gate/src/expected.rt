@@ -152,9 +152,11 @@ fn is_wide(alloc: Global, text: &[u8]) -> Result<bool, AllocError> {
             said += 1;
         }
         if said == 2 {
-            return Ok(words.len() == 2
-                && word_at(&words, 0) == b"language".as_slice()
-                && word_at(&words, 1) == b"2".as_slice());
+            return Ok(
+                words.len() == 2
+                    && word_at(&words, 0) == b"language".as_slice()
+                    && word_at(&words, 1) == b"2".as_slice(),
+            );
         }
     }
     Ok(false)

@@ -12,7 +12,7 @@ pub returns-then-not-branch-clause-adds : goal.returns-then-not-branch-clause-ad
 returns-then-not-branch-clause-adds c slots code event z p =
     let so_far = subst (λ items. Adding c.args.self.now c.loop-word.self c.args.pair c.number-field.result c.args.number (now_all items) c.loop-word.word-index) (sym c.as_slice-word-items.ensures.value) c.loop-word.invariant in
     let again_so = refused _ _ _ c.args.pair c.number-field.result c.args.number _ c.loop-word.word-index _ _ (now_drop _ c.loop-word.word-index _ c.loop-word-test.true) so_far c.in_ok-add.ensures.adds slots code event z p
-        c.if-not-branch.true in
+    c.if-not-branch.true in
     record {
       fresh =
           subst (λ f. false ≡ not (again (λ v. taken_by code event f c.args.number slots v) (now_all c.args.senders.now.words.items))) c.number-field.ensures

@@ -23,9 +23,9 @@ returns-in-None c =
 pub returns-else-is_some : goal.returns-else-is_some
 returns-else-is_some c =
     let none = λ (keys : List Key) (x : Indexes c.args.self.now keys).
-        looked_up (is_slot c.args.code.now c.args.event.now 0 []) (slots_from 0 keys) c.at.result c.is_some.result false
-        (c.at.ensures (slots_from 0 keys) c.args.code.now c.args.event.now (found_still _ _ c.in_ok-pair.pair c.args.code.now c.args.event.now c.in_ok-pair.ensures keys x) c.in_ok-pair.ensures.is_pair) c.is_some.ensures
-        c.if-is_some.false in
+    looked_up (is_slot c.args.code.now c.args.event.now 0 []) (slots_from 0 keys) c.at.result c.is_some.result false
+    (c.at.ensures (slots_from 0 keys) c.args.code.now c.args.event.now (found_still _ _ c.in_ok-pair.pair c.args.code.now c.args.event.now c.in_ok-pair.ensures keys x) c.in_ok-pair.ensures.is_pair) c.is_some.ensures
+    c.if-is_some.false in
     subst
     (λ (s : Option Senders). IfOk c.add_all.result (λ (added : Bool). (keys : List Key) → Indexes c.args.self.now keys → c.args.number ≡ length keys → Joins keys (record { code = c.args.code.now; event = c.args.event.now; senders = s }) c.add_all.new.self added))
     (ap (option_map said) (sym c.in-Some.is))
