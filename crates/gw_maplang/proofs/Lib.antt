@@ -11,3 +11,4 @@ pub mod Kept
 pub mod Formed
 pub mod Same
 pub mod Keywords
+pub mod Once

@@ -120,9 +120,9 @@ fn is_second(above: &[&[u8]]) -> bool
 fn is_second_at(alloc: Global, text: &[u8], at: u32) -> Result<bool, AllocError>
     ensures { IfOk result (λ second. second ≡ spec.second_at false (take (at - 1) (lines text.now))) }
 {
-    let all = lines_of(alloc, text)?;
-    let count = (at as usize).saturating_sub(1).min(all.len());
-    Ok(is_second(&all[..count]))
+    let mut above = lines_of(alloc, text)?;
+    above.truncate((at as usize).saturating_sub(1));
+    Ok(is_second(&above))
 }
 
 /// What was expected at the line of this number, from 1, of a text that is no map: the pattern of its keyword, or all keywords.
