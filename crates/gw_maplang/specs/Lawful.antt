@@ -1,7 +1,7 @@
 -- What every map keeps.
 use Rattle.std.specs.Prelude.{◌≡◌, ℕ, ◌≤◌, Bool, true, false, if◌then◌else◌, List, [], ◌∷◌, map, IfSome, codes, bytes_eq}
-use Rattle.std.specs.List.{AllByRecursion, before_first}
-use Rattle.gw_lines.specs.Spelled.{is_name, is_dot}
+use Rattle.std.specs.List.{AllByRecursion}
+use Rattle.gw_lines.specs.Spelled.{is_name}
 use Rattle.gw_lines.specs.Values.{is_value}
 use Rattle.gw_maplang.specs.declared.rule.LeafPlace.{LeafPlace}
 use Rattle.gw_maplang.specs.Among.{Among, Distinct}
@@ -107,9 +107,9 @@ LawfulRow r = (is_value r.first ≡ true) × (is_value r.second ≡ true)
 abbrev pub firsts : List Row → List (List ℕ)
 firsts = map (λ (r : Row). r.first)
 
--- one row for each first value; its values are canonical texts that aren't empty; a dot stands before a column's number
+-- one row for each first value; its values are canonical texts that aren't empty
 pub record LawfulTable (t : TableValue) : Type 0 where
-  pub named : is_name (before_first is_dot t.name) ≡ true
+  pub named : is_name t.name ≡ true
   pub each : AllByRecursion LawfulRow t.rows
   pub distinct : Distinct (firsts t.rows)
   pub other : IfSome t.other (λ value. is_value value ≡ true)
