@@ -19,7 +19,6 @@ mod page;
 mod receivers;
 mod refusals;
 mod refused;
-mod relay;
 mod resend;
 mod rounds;
 mod row;
