@@ -8,8 +8,11 @@ use Rattle.std.proofs.sync.ledger.Share.TheSendSync as share
 use Rattle.std.specs.contracts.net.SocketAddr as SocketAddr
 use Rattle.std.specs.contracts.net.TcpStream as TcpStream
 use Rattle.gw_ack.proofs.stamp.Stamp.TheSendSync as stamp
-use Rattle.gw_gate.proofs.Crossing.{Chapter-send}
+use Rattle.gw_gate.proofs.Crossing.{Chapter-send, Gate-send}
 use Rattle.gw_run.proofs.Crossing.{LockedGate-sync, Receipts-send}
+use Rattle.hl7gate.specs.contracts.gateway.relay.Handed as Handed
+use Rattle.hl7gate.specs.contracts.gateway.relay.Handover as Handover
+use Rattle.hl7gate.specs.contracts.gateway.relay.Relay as Relay
 use Rattle.hl7gate.specs.contracts.outcome.Outcome as Outcome
 use Rattle.hl7gate.specs.contracts.tickets.Tickets as Tickets
 use Rattle.hl7gate.specs.contracts.threads.Connection as Connection
@@ -36,3 +39,14 @@ Connection-send = search (Stream-send, Address-send, crosses, sendable) depth 60
 
 pub Line-send : (a : NamedLft) → IsSend (Line.the_field a).row
 Line-send a = search (Stream-send, crosses, sendable) depth 60 fits 50000
+
+-- ---- what a round of the gateway hands on
+
+Handed-send : IsSend (Handed.the_field).row
+Handed-send = search (Gate-send, crosses, sendable) depth 60 fits 50000
+
+Handover-send : IsSend (Handover.the_field).row
+Handover-send = search (Handed-send, Gate-send, crosses, sendable) depth 60 fits 50000
+
+pub Relay-sync : IsSync (Relay.the_field).row
+Relay-sync = search (Handover-send, crosses, sendable) depth 60 fits 50000

@@ -19,6 +19,7 @@ mod page;
 mod receivers;
 mod refusals;
 mod refused;
+mod relay;
 mod resend;
 mod rounds;
 mod row;

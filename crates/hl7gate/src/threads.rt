@@ -8,10 +8,12 @@ use crate::stamps::Utc;
 use crate::tickets::Tickets;
 use gw_ack::Stamp;
 use gw_gate::{Chapter, Event, Gate, MAX_ENTRIES};
-use gw_run::{Door, LockedGate, Pause, Phase, Receipts, Report, courier, cut, join_all, worker};
+use gw_run::{
+    Counted, Door, LockedGate, Pause, Phase, Receipts, Report, courier, cut, join_all, worker,
+};
 use gw_session::session;
 use gw_stream::{Counts, Reads, RunFault, Sink, Writes};
-use std::alloc::AllocError;
+use std::alloc::{AllocError, Global};
 use std::io::Eprint;
 use std::net::{SocketAddr, TcpStream};
 use std::sync::ledger::{Book, Ledger, Share};
@@ -40,6 +42,14 @@ pub(crate) struct Service<'a, L: Ledger, R: Wait> {
 pub(crate) struct Served {
     pub(crate) report: Report,
     pub(crate) is_full: bool,
+}
+
+/// What the threads of a service leave when they have ended: its gate, their notes, and the chapters that were closed.
+#[derive(Drop)]
+pub(crate) struct Left<L: Ledger> {
+    counted: Counted<L>,
+    receipts: Vec<Receipts<L>>,
+    chapters: Vec<Chapter>,
 }
 
 /// A connection that was taken: its number, from 1, the stream, and who is at its other end.
@@ -200,12 +210,13 @@ impl<'a, L: Ledger, R: Wait + Eprint + AllocGlobal> Service<'a, L, R> {
 
     /// What the gate did, unless something went wrong, or the notes of its passes and its chapters don't agree. No thread works at the gate any more.
     pub(crate) fn end(self) -> Result<Served, RunFault> {
-        let (served, _gate) = self.settle()?;
+        let alloc = self.rt.alloc();
+        let (served, _gate) = self.leave()?.audit(alloc)?;
         Ok(served)
     }
 
-    /// What the gate did, as of `end`, and the gate.
-    pub(crate) fn settle(self) -> Result<(Served, Gate), RunFault> {
+    /// What its threads leave for the audit, unless something went wrong. No thread works at the gate any more.
+    pub(crate) fn leave(self) -> Result<Left<L>, RunFault> {
         let Service {
             rt,
             gate,
@@ -222,8 +233,32 @@ impl<'a, L: Ledger, R: Wait + Eprint + AllocGlobal> Service<'a, L, R> {
         // (the parts that no thread had counted nothing)
         let unused = gate.pass(rt.alloc(), rt, tickets.into_inner().rest());
         receipts.push(unused.end())?;
-        let mut counted = gate.into_counted();
-        let report = join_all(rt.alloc(), &mut counted, receipts, chapters.into_inner())?;
+        Ok(Left {
+            counted: gate.into_counted(),
+            receipts,
+            chapters: chapters.into_inner(),
+        })
+    }
+}
+
+impl<L: Ledger> Left<L> {
+    /// A gate whose numbers go on from this service's, where all its chapters are closed. The one error is an allocation failure.
+    pub(crate) fn next_gate(&self, alloc: Global) -> Result<Option<Gate>, AllocError> {
+        let gate = self.counted.gate();
+        if !gate.journal().is_empty() {
+            return Ok(None);
+        }
+        Ok(Some(gate.begin_beside(alloc)?))
+    }
+
+    /// What the gate did, and the gate, unless the notes of its passes and its chapters don't agree.
+    pub(crate) fn audit(self, alloc: Global) -> Result<(Served, Gate), RunFault> {
+        let Left {
+            mut counted,
+            receipts,
+            chapters,
+        } = self;
+        let report = join_all(alloc, &mut counted, receipts, chapters)?;
         let is_full = counted.gate().journal().len() == MAX_ENTRIES;
         Ok((Served { report, is_full }, counted.into_gate()))
     }

@@ -62,7 +62,8 @@ pub(crate) struct Hub<'f, R: Wait> {
     rounds: AtomicU64,
     version: AtomicU64,
     accepted: AtomicU64,
-    refused: AtomicU64,
+    // those of the round
+    swaps: AtomicU64,
     has_stopped: AtomicBool,
     fault: Mutex<Option<RunFault>>,
     swap: Mutex<Swap>,
@@ -127,7 +128,7 @@ impl<'f, R: Wait> Hub<'f, R> {
             rounds: AtomicU64::new(0),
             version: AtomicU64::new(0),
             accepted: AtomicU64::new(0),
-            refused: AtomicU64::new(0),
+            swaps: AtomicU64::new(0),
             has_stopped: AtomicBool::new(false),
             fault: Mutex::new(None),
             swap: Mutex::new(Swap::None),
@@ -166,6 +167,7 @@ impl<'f, R: Wait> Hub<'f, R> {
     /// A round begins, at a journal of as many entries. It takes messages, unless the gateway ends.
     pub(crate) fn begin_round(&self, entries: u64) {
         self.entries.store(entries, Ordering::SeqCst);
+        self.swaps.store(0, Ordering::SeqCst);
         self.rounds.fetch_add(1, Ordering::SeqCst);
         let fault = self.fault.lock(self.rt);
         if fault.is_none() && !self.has_stopped.load(Ordering::SeqCst) {
@@ -229,15 +231,19 @@ impl<'f, R: Wait> Hub<'f, R> {
         }
     }
 
-    /// A message was accepted, and the journal has as many entries, over all chapters.
-    pub(crate) fn count_accepted(&self, entries: u64) {
+    /// The journal has as many entries, over all chapters.
+    pub(crate) fn set_entries(&self, entries: u64) {
         self.entries.store(entries, Ordering::SeqCst);
+    }
+
+    /// A message was accepted.
+    pub(crate) fn count_accepted(&self) {
         self.accepted.fetch_add(1, Ordering::SeqCst);
     }
 
-    /// A message was refused.
-    pub(crate) fn count_refused(&self) {
-        self.refused.fetch_add(1, Ordering::SeqCst);
+    /// How many plans were swapped in this round.
+    pub(crate) fn swaps(&self) -> u64 {
+        self.swaps.load(Ordering::SeqCst)
     }
 
     /// What it counts since its start.
@@ -246,7 +252,7 @@ impl<'f, R: Wait> Hub<'f, R> {
             rounds: self.rounds.load(Ordering::SeqCst),
             version: self.version.load(Ordering::SeqCst),
             accepted: self.accepted.load(Ordering::SeqCst),
-            refused: self.refused.load(Ordering::SeqCst),
+            refused: self.watch.refused(self.rt),
             is_short: self.is_short(),
         }
     }
@@ -364,6 +370,7 @@ impl<R: Wait + Clock + AllocGlobal> Hub<'_, R> {
     pub(crate) fn end_swap(&self, version: Option<u64>, answer: String) {
         if let Some(version) = version {
             self.version.store(version, Ordering::SeqCst);
+            self.swaps.fetch_add(1, Ordering::SeqCst);
         }
         *self.swap.lock(self.rt) = Swap::Done(answer);
         self.swapped.notify_all();

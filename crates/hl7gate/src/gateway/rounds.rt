@@ -1,4 +1,4 @@
-//! Rounds: each is a service over the connections of the gateway, audited at its end. The numbers go on from one to the next.
+//! Rounds: each is a service over the connections of the gateway, audited beside the next. The numbers go on from one to the next.
 ghost use Rattle.std.specs.Prelude.{◌≡◌};
 ghost use Rattle.std.specs.Thread.{IsSend, IsSync};
 
@@ -6,6 +6,7 @@ use crate::doors::Who;
 use crate::gateway::hub::Hub;
 use crate::gateway::numbers::Numbers;
 use crate::gateway::outgoing::Filling;
+use crate::gateway::relay::Relay;
 use crate::gateway::senders::attend;
 use crate::swaps::swap_or_lines;
 use crate::threads::{Onward, PARTS, Service};
@@ -27,8 +28,11 @@ use std::time::{Clock, Duration, Instant};
 /// After how many entries of the journal a round ends.
 const LONG: u64 = 50_000;
 
+/// After how many swaps it does: the journal keeps each plan.
+const MANY: u64 = 20;
+
 /// How many milliseconds before its end a round's sessions wait for their senders by short reads: longer than a long read takes.
-const NOTICE: u64 = 1_100;
+const NOTICE: u64 = 300;
 
 /// How many milliseconds pass at most between two looks at the journal.
 const LOOK: u64 = 20;
@@ -160,7 +164,7 @@ fn swap_asked<L: Ledger, R: Wait + Clock + Files<File = File> + Eprint + AllocGl
 
 /// Ends the round after notice, where its journal is long, or where a plan is to be installed and nothing works beside the round any more.
 fn look<R: Wait + Clock>(hub: &Hub<'_, R>, begun: u64, notice: Option<Instant>) -> Option<Instant> {
-    let is_long = hub.entries().saturating_sub(begun) >= LONG;
+    let is_long = hub.entries().saturating_sub(begun) >= LONG || hub.swaps() >= MANY;
     match notice {
         None if is_long || hub.is_installing() => {
             hub.end_soon();
@@ -240,16 +244,17 @@ fn with_spoolers<
     );
 }
 
-/// One round at this gate, up to its audit. It gives the gate of the next.
+/// One round at this gate. It hands on the gate of the next, and is audited behind that. An error is that it hands nothing on.
 fn round<
     L: Ledger + Send,
     R: Threads + Wait + Clock + Files<File = File, Dir = D> + Eprint + AllocGlobal + Sync,
     D: Read + Drop + Send + Sync,
->(hub: &Hub<'_, R>, blank: Blank, gate: Gate, workers: u64) -> Result<Gate, RunFault>
+>(hub: &Hub<'_, R>, relay: &Relay, blank: Blank, gate: Gate, workers: u64) -> Result<(), RunFault>
     requires name { blank.name ≡ L.name }
     requires parts { blank.parts ≡ L.parts }
     requires many { blank.parts ≡ 1000000 }
 {
+    let alloc = hub.rt.alloc();
     let (book, share) = blank.open::<L>();
     hub.begin_round(gate.end());
     let service = Service::new(hub.rt, hub.start, gate, book, share);
@@ -258,18 +263,89 @@ fn round<
         return Err(fault);
     }
     service.cut_last()?;
-    let (_served, gate) = service.settle()?;
-    Ok(gate)
+    let left = service.leave()?;
+    let Some(next) = left.next_gate(alloc)? else {
+        // (the next round goes on with its journal)
+        let (_served, gate) = left.audit(alloc)?;
+        relay.hand_on(hub.rt, gate);
+        return Ok(());
+    };
+    relay.hand_on(hub.rt, next);
+    if let Err(fault) = left.audit(alloc) {
+        hub.fail(fault);
+    }
+    Ok(())
 }
 
-/// One round at this gate. It gives the gate of the next, whose numbers are taken.
-fn round_and_numbers<
+/// One round at this gate, up to the end of its audit. A fault ends the gateway.
+fn play<R: Threads + Wait + Clock + Files<File = File> + Eprint + AllocGlobal + Sync>(
+    hub: &Hub<'_, R>,
+    relay: &Relay,
+    workers: u64,
+)
+where
+    R::Dir: Read + Drop + Send + Sync,
+{
+    let Some(gate) = relay.start(hub.rt) else {
+        return;
+    };
+    match round::<Brand, R, R::Dir>(hub, relay, Blank::new(PARTS), gate, workers) {
+        Ok(()) => relay.end_audit(hub.rt),
+        Err(fault) => {
+            hub.fail(fault);
+            relay.end(hub.rt);
+        }
+    }
+}
+
+/// Whether no round begins behind this one, whose gate for the next is this. Numbers for the next are taken.
+fn is_last<R: Wait + Files<File = File> + Eprint + AllocGlobal>(
+    hub: &Hub<'_, R>,
+    numbers: &mut Numbers,
+    next: &Gate,
+) -> bool {
+    if let Err(fault) = numbers.go_on(hub.rt, hub.folder, next) {
+        hub.fail(fault);
+    }
+    // (what is left in a journal belongs to the plan that it was begun under)
+    hub.has_ended() || hub.is_installing() && hub.is_alone() && next.journal().is_empty()
+}
+
+/// Rounds at this gate and those behind it, up to the last, and the ends of their audits. It gives the gate that the last hands on.
+/// Each round has a thread, which audits it beside the next.
+fn play_all<
     R: Threads + Wait + Clock + Files<File = File, Dir = D> + Eprint + AllocGlobal + Sync,
     D: Read + Drop + Send + Sync,
->(hub: &Hub<'_, R>, gate: Gate, numbers: &mut Numbers, workers: u64) -> Result<Gate, RunFault> {
-    let next = round::<Brand, R, D>(hub, Blank::new(PARTS), gate, workers)?;
-    numbers.go_on(hub.rt, hub.folder, &next)?;
-    Ok(next)
+>(hub: &Hub<'_, R>, first: Gate, numbers: &mut Numbers, workers: u64) -> Option<Gate> {
+    let (rt, relay) = (hub.rt, &Relay::new());
+    let mut last = None;
+    thread::scope(
+        thread::scope_env(),
+        rt,
+        |scope|
+            requires { IsSync R.row × IsSend D.row × IsSync D.row }
+        {
+            let mut gate = first;
+            for _ in rt.forever() {
+                relay.begin_at(rt, gate);
+                let play_one = move ||
+                    requires { IsSync R.row × IsSend D.row × IsSync D.row }
+                { play(hub, relay, workers) };
+                if let Err(refused) = scope.spawn(play_one) {
+                    (refused.value)()
+                }
+                let Some(next) = relay.take(rt) else {
+                    return;
+                };
+                if is_last(hub, numbers, &next) {
+                    last = Some(next);
+                    return;
+                }
+                gate = next;
+            }
+        },
+    );
+    last
 }
 
 /// Rounds, until a plan is to be installed: the gate of the next. An error is that the gateway was stopped, or can't go on: that is the fault.
@@ -282,23 +358,13 @@ pub(crate) fn rounds<
     numbers: &mut Numbers,
     workers: u64,
 ) -> Result<Gate, Option<RunFault>> {
-    let mut gate = first;
-    for _ in hub.rt.forever() {
-        match round_and_numbers(hub, gate, numbers, workers) {
-            Ok(next) => gate = next,
-            Err(fault) => {
-                hub.fail(fault);
-                return Err(Some(fault));
-            }
-        }
-        if hub.has_ended() {
+    let last = play_all(hub, first, numbers, workers);
+    match last {
+        Some(gate) if !hub.has_ended() => Ok(gate),
+        Some(gate) => {
             numbers.end(hub.rt, hub.folder, &gate);
-            return Err(hub.fault());
+            Err(hub.fault())
         }
-        // (what is left in a journal belongs to the plan that it was begun under)
-        if hub.is_installing() && hub.is_alone() && gate.journal().is_empty() {
-            return Ok(gate);
-        }
+        None => Err(hub.fault()),
     }
-    unreachable!()
 }

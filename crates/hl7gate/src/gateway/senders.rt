@@ -48,7 +48,7 @@ impl<L: Ledger, R: Wait + Eprint> Gatekeeper<'_, '_, '_, L, R> {
     fn count(&self) {
         if let Some(Note::Added(receipt)) = self.reporter.notes().last() {
             let entries = (receipt.at as u64).saturating_add(1);
-            self.hub.count_accepted(entries);
+            self.hub.set_entries(entries);
         }
     }
 
@@ -72,9 +72,10 @@ impl<L: Ledger, R: Wait + Eprint> Door for Gatekeeper<'_, '_, '_, L, R> {
         match &answer {
             Ok(Reply::Accepted { n, .. }) => {
                 self.needs.accepted(*n);
+                self.hub.count_accepted();
                 self.count();
             }
-            Ok(Reply::Refused { .. }) => self.hub.count_refused(),
+            Ok(Reply::Refused { .. }) => self.count(),
             _ => {}
         }
         answer

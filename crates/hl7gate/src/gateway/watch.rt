@@ -125,6 +125,16 @@ impl Watch {
         let _ = refusals.last.push_back(noted);
     }
 
+    /// How many messages were refused.
+    pub(crate) fn refused<R: Wait>(&self, rt: &R) -> u64 {
+        let refusals = self.refusals.lock(rt);
+        let mut refused: u64 = 0;
+        for count in &refusals.counts {
+            refused = refused.saturating_add(*count);
+        }
+        refused
+    }
+
     // A copy of what is under the lock, in room that was made before.
     fn copied<R: Wait>(
         &self,

@@ -26,7 +26,7 @@ const PIECE: usize = 65_536;
 const LONG: usize = 1_114_112;
 
 /// How long a read waits before the gateway is looked at, in milliseconds: as a rule, and where a round is about to end.
-const SLOW: u64 = 1_000;
+const SLOW: u64 = 250;
 
 const FAST: u64 = 4;
 
