@@ -16,11 +16,11 @@ fn extent(words: &ArgMatches<'_>) -> Option<Extent> {
     }
 }
 
-/// Reports that the sample of a profile is no message, since it is too large.
+/// Reports that what has to come by a profile is more than a message has.
 fn print_none<E: Write>(errors: &mut E, path: &str) -> u8 {
     let _ = writeln!(
         errors,
-        "{path}: its sample has more than 10000 segments or 1048576 bytes, which no message has"
+        "{path}: more than 10000 segments or 524288 elements have to come, which no message has"
     );
     REFUSED
 }
