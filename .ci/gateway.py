@@ -1,5 +1,6 @@
 """A gateway of the program in a folder, with its receivers, the lines that it prints, and the files of its spools. `.ci/gateways` plays with it."""
 import contextlib
+import json
 import re
 import signal
 import socket
@@ -180,6 +181,19 @@ class Gateway:
 
     def answered(self, got, stated):
         same_blocks("answers", [stated_once(it) for it in stated], [told_once(self.since, it or b"") for it in got])
+
+    def once(self, stated, look):
+        """What is seen, once it is as stated, or in the end."""
+        while (seen := look()) != stated and time.monotonic() < self.until:
+            time.sleep(0.05)
+        return seen
+
+    def status(self):
+        return json.loads(self.tell("status", "--json")[1])
+
+    def waiting(self):
+        """How many wait for each receiver, by their names."""
+        return [it["waiting"] for it in sorted(self.status()["receivers"], key=lambda it: it["name"])]
 
     def tell(self, *line):
         """A word to the gateway: its status, and its lines with no address."""
