@@ -7,7 +7,7 @@ use Rattle.gw_maplang.specs.Identity.{identity, same_items}
 use Rattle.gw_resolve.specs.Places.{the_whole}
 use Rattle.gw_resolve.specs.Resolved.{Items}
 use Rattle.gw_resolve.specs.Naming.{naming_failures, resolved_items, resolved}
-use Rattle.gw_check.specs.Reads.{items_read}
+use Rattle.gw_check.specs.Sites.{sites}
 use Rattle.gw_check.specs.Typed.{failures}
 use Rattle.gw_resolve.specs.Failures.{at_line, or_later}
 use Rattle.gw_check.specs.Checked.{all_failures}
@@ -30,7 +30,7 @@ module _ (p : ProfileValue) (w : WellFormed p) where
       no_more _ _
       (no_more _ _ (levels_hold (table_names p.tables) (the_whole p.nodes) [] 0 0 p.nodes (from_the_first p.nodes) w.distinct w.segments w.groups)
       (items_hold p (table_names p.tables) (the_whole p.nodes) [] 0 p.nodes (from_the_first p.nodes) w.distinct w.segments w.groups))
-      (holds 9 (at_line 0) _ (ap (λ l. not (length l == 0)) (reads_hold (items_read ([] ∷ []) (same 0 p.nodes)) [] [] 0 p.nodes (λ at field e. e))))
+      (holds 9 (at_line 0) _ (ap (λ l. not (length l == 0)) (reads_hold (sites (same 0 p.nodes)) [] [] [] 0 p.nodes (λ at field e. e))))
 
   pub identity_allowed : all_failures p p (identity p) ≡ []
   identity_allowed =

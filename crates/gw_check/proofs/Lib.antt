@@ -1,10 +1,9 @@
 pub mod Counted
 pub mod Stepped
 pub mod Within
-pub mod Passing
 pub mod Missing
 pub mod Collecting
-pub mod Accounting
+pub mod Adding
 pub mod Least
 pub mod Placing
 pub mod Keeping

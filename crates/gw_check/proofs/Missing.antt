@@ -1,72 +1,42 @@
 -- The fields that are passed over are those that are missed by what is accounted for.
-use Rattle.std.proofs.Common.{◌≡◌, ℕ, suc, ◌+◌, ◌<◌, Bool, true, false, List, [], ◌∷◌, ◌++◌, length, drop, drop-cons, get_or, refl, sym, ap, ap₂, ◌∙◌, arith}
-use Rattle.std.specs.Prelude.{◌||◌, if◌then◌else◌, flat_map}
-use Rattle.std.proofs.lemmas.List.{append_assoc}
+use Rattle.std.proofs.Common.{◌≡◌, ℕ, suc, ◌+◌, ◌<◌, List, [], ◌∷◌, ◌++◌, length, drop, get_or, refl, sym, ap, ap₂, ◌∙◌, arith}
+use Rattle.std.specs.Prelude.{◌||◌}
+use Rattle.gw_resolve.proofs.Noting.{front, added_one}
 use Rattle.gw_profile.specs.declared.node.Node.{Node, Seg, Group, Group'}
 use Rattle.gw_profile.specs.declared.node.GroupNode.{GroupNode}
-use Rattle.gw_profile.specs.Shapes.{FieldValue, SegmentValue, Forest, nothing, segment, group}
+use Rattle.gw_profile.specs.Shapes.{Forest, nothing, segment, group}
 use Rattle.gw_profile.specs.Seen.{forest, node_forest}
 use Rattle.gw_profile.proofs.Rows.{group_forest}
-use Rattle.gw_validate.specs.Breaches.{is_forbidden}
 use Rattle.gw_check.specs.declared.accounted.Accounted.{Accounted}
 use Rattle.gw_check.specs.declared.accounted.FieldAt.{FieldAt}
-use Rattle.gw_resolve.specs.Resolved.{Drop}
-use Rattle.gw_check.specs.Reads.{SourceField, passed_field, passed_over}
+use Rattle.gw_maplang.specs.Shapes.{TableValue}
+use Rattle.gw_resolve.specs.Resolved.{Items, Drop}
+use Rattle.gw_check.specs.Reads.{SourceField, reads, is_read, drops_field, drops_element, missed_within, passed_over}
+use Rattle.gw_check.specs.declared.site.Site as declared
+use Rattle.gw_check.specs.declared.site.Origin as origins
+use Rattle.gw_check.specs.Seen.{origin, all_sites}
+use Rattle.gw_check.specs.Sites.{sites}
 use Rattle.gw_resolve.specs.Positions.{Position}
-use Rattle.gw_check.specs.Collected.{Adds, Accounts, has_element, drops_element, fields_at}
-use Rattle.gw_check.specs.Unread.{missed_field, segment_missed, all_missed, within_missed, node_missed}
-use Rattle.gw_check.proofs.Passing.{is_around, around_below, at_the_top, field_dropped, field_missed, around_here}
+use Rattle.gw_check.specs.Collected.{Adds, fields_at, segment_missed, nodes_missed, within_missed, node_missed}
 
-unchosen : {A : Type 0} (b : Bool) (x y : A) → b ≡ false → (if b then x else y) ≡ y
-unchosen true x y e = absurd (cc)
-unchosen false x y e = refl
+-- what is read, whatever the map's tables are
+any_tables : (tables : List TableValue) (made : List declared.Site) (at : Position) (n : ℕ) → is_read (all_sites [] made) at n ≡ is_read (all_sites tables made) at n
+any_tables tables [] at n = refl
+any_tables tables (s ∷ more) at n = ap₂ (λ a b. a || b) (by s.origin) (any_tables tables more at n)
+  where
+    by : (o : origins.Origin) → reads (origin [] o) at n ≡ reads (origin tables o) at n
+    by origins.TheVariants.Unsaid = refl
+    by (origins.TheVariants.Text octets) = refl
+    by (origins.TheVariants.Read from) = refl
+    by (origins.TheVariants.Repeated from) = refl
+    by (origins.TheVariants.LookedUp name from) = refl
 
-none_twice : (b : Bool) → ◌≡◌ {A = List SourceField} (if b then [] else []) []
-none_twice true = refl
-none_twice false = refl
-
-module _ (reads : List SourceField) (drops : List Drop) where
-  -- ---- nothing is told of an element that is dropped
-
-  below : (above : Position) (j : ℕ) → is_around drops above ≡ true → is_around drops (above ++ j ∷ []) ≡ true
-  below above j h = around_below drops above j ∙ ap (λ b. b || drops_element drops (above ++ j ∷ [])) h
-
-  fields_hidden : (at : Position) (fs : List FieldValue) → is_around drops at ≡ true → flat_map (passed_field reads drops at) fs ≡ []
-  fields_hidden at [] h = refl
-  fields_hidden at (f ∷ fs) h = ap₂ (λ a b. a ++ b) (unchosen _ (record { at = at; field = f.number } ∷ []) [] (field_dropped reads drops at f h)) (fields_hidden at fs h)
-
-  segment_hidden : (at : Position) (s : SegmentValue) → is_around drops at ≡ true → (if is_forbidden s.usage then [] else flat_map (passed_field reads drops at) s.fields) ≡ []
-  segment_hidden at s h = ap (λ l. if is_forbidden s.usage then [] else l) (fields_hidden at s.fields h) ∙ none_twice (is_forbidden s.usage)
-
-  all_hidden : (above : Position) (j : ℕ) (nodes : Forest) → is_around drops above ≡ true → passed_over reads drops above j nodes ≡ []
-  all_hidden above j nothing h = refl
-  all_hidden above j (segment s rest) h = ap₂ (λ a b. a ++ b) (segment_hidden (above ++ j ∷ []) s (below above j h)) (all_hidden above (suc j) rest h)
-  all_hidden above j (group g nodes rest) h = ap₂ (λ a b. a ++ b) (all_hidden (above ++ j ∷ []) 0 nodes (below above j h)) (all_hidden above (suc j) rest h)
-
-  -- ---- elsewhere what is missed is
-
-  module _ (known : Accounted) (all : Accounts known reads drops) where
-    fields_same : (at : Position) (fs : List FieldValue) → is_around drops at ≡ false → flat_map (missed_field known at) fs ≡ flat_map (passed_field reads drops at) fs
-    fields_same at [] h = refl
-    fields_same at (f ∷ fs) h = ap₂ (λ a b. a ++ b) (ap (λ b. if b then record { at = at; field = f.number } ∷ [] else []) (field_missed reads drops known all at f h)) (fields_same at fs h)
-
-    same_if : (at : Position) (missed passed : List SourceField) (b : Bool) → has_element known at ≡ b → is_around drops at ≡ has_element known at → (is_around drops at ≡ false → missed ≡ passed) → (is_around drops at ≡ true → passed ≡ []) → (if has_element known at then [] else missed) ≡ passed
-    same_if at missed passed true e a f g = ap (λ b. if b then [] else missed) e ∙ sym (g (a ∙ e))
-    same_if at missed passed false e a f g = ap (λ b. if b then [] else missed) e ∙ f (a ∙ e)
-
-    segment_same : (at : Position) (s : SegmentValue) → is_around drops at ≡ has_element known at → segment_missed known at s ≡ (if is_forbidden s.usage then [] else flat_map (passed_field reads drops at) s.fields)
-    segment_same at s here = same_if at _ _ _ refl here (λ e. ap (λ l. if is_forbidden s.usage then [] else l) (fields_same at s.fields e)) (λ e. segment_hidden at s e)
-
-    same_below : (above : Position) (j : ℕ) (nodes : Forest) → is_around drops above ≡ false → all_missed known above j nodes ≡ passed_over reads drops above j nodes
-    same_below above j nothing h = refl
-    same_below above j (segment s rest) h = ap₂ (λ a b. a ++ b) (segment_same (above ++ j ∷ []) s (around_here reads drops known all above j h)) (same_below above (suc j) rest h)
-    same_below above j (group g nodes rest) h =
-        ap₂ (λ a b. a ++ b)
-        (same_if (above ++ j ∷ []) _ _ _ refl (around_here reads drops known all above j h) (λ e. same_below (above ++ j ∷ []) 0 nodes e) (λ e. all_hidden (above ++ j ∷ []) 0 nodes e))
-        (same_below above (suc j) rest h)
-
-    pub missed_fields : (nodes : Forest) → within_missed known [] nodes ≡ passed_over reads drops [] 0 nodes
-    missed_fields nodes = same_if [] _ _ _ refl (at_the_top drops ∙ sym (all.elements [])) (λ e. same_below [] 0 nodes e) (λ e. all_hidden [] 0 nodes e)
+-- none were found before
+pub missed_fields : (tables : List TableValue) (items : Items) (made : List declared.Site) (drops : List Drop) (nodes : Forest) (none found : List FieldAt) → all_sites tables made ≡ sites items → none ≡ [] →
+    Adds none found (missed_within (λ at field. is_read (all_sites [] made) at field || drops_field drops at field) (drops_element drops) [] nodes) → fields_at found ≡ passed_over items drops nodes
+missed_fields tables items made drops nodes none found same e h =
+    h ∙ ap (λ l. fields_at l ++ missed_within (λ at field. is_read (all_sites [] made) at field || drops_field drops at field) (drops_element drops) [] nodes) e
+    ∙ (λ x. missed_within (λ at field. (any_tables tables made at field ∙ ap (λ l. is_read l at field) same) x || drops_field drops at field) (drops_element drops) [] nodes)
 
 -- ---- one after the other
 
@@ -85,18 +55,17 @@ module _ (known : Accounted) where
       adds ∙ ap (λ l. fields_at old ++ within_missed known at (forest l)) items
       ∙ ap (λ l. fields_at old ++ l) (sym (by_forest at n ∙ ap (λ m. first_missed at (node_forest m nothing)) same ∙ ap (first_missed at) (group_forest g nothing)))
 
-  one_missed : (above : Position) (j : ℕ) (n : Node) (rest : Forest) → all_missed known above j (node_forest n rest) ≡ node_missed known (above ++ j ∷ []) n ++ all_missed known above (suc j) rest
+  one_missed : (above : Position) (j : ℕ) (n : Node) (rest : Forest) → nodes_missed known above j (node_forest n rest) ≡ node_missed known (above ++ j ∷ []) n ++ nodes_missed known above (suc j) rest
   one_missed above j (Seg s) rest = refl
   one_missed above j (Group' label usage card shape inner) rest = refl
 
   pub node_adds : (above at : Position) (nodes : List Node) (j : ℕ) (n : Node) (first old new : List FieldAt) → j < length nodes → n ≡ get_or nodes j n → at ≡ above ++ j ∷ [] → Adds old new (node_missed known at n) →
-      fields_at first ++ all_missed known above 0 (forest nodes) ≡ fields_at old ++ all_missed known above j (forest (drop j nodes)) →
-      fields_at first ++ all_missed known above 0 (forest nodes) ≡ fields_at new ++ all_missed known above (j + 1) (forest (drop (j + 1) nodes))
+      fields_at first ++ nodes_missed known above 0 (forest nodes) ≡ fields_at old ++ nodes_missed known above j (forest (drop j nodes)) →
+      fields_at first ++ nodes_missed known above 0 (forest nodes) ≡ fields_at new ++ nodes_missed known above (j + 1) (forest (drop (j + 1) nodes))
   node_adds above at nodes j n first old new low is where_is adds h =
       let next : suc j ≡ j + 1 = omega arith in
-      h ∙ ap (λ l. fields_at old ++ all_missed known above j (forest l)) (drop-cons nodes j n low ∙ ap (λ m. m ∷ drop (suc j) nodes) (sym is))
-      ∙ ap (λ l. fields_at old ++ l) (one_missed above j n (forest (drop (suc j) nodes)))
-      ∙ ap (λ p. fields_at old ++ (node_missed known p n ++ all_missed known above (suc j) (forest (drop (suc j) nodes)))) (sym where_is)
-      ∙ ap (λ k. fields_at old ++ (node_missed known at n ++ all_missed known above k (forest (drop k nodes)))) next
-      ∙ sym (append_assoc (fields_at old) (node_missed known at n) (all_missed known above (j + 1) (forest (drop (j + 1) nodes))))
-      ∙ ap (λ l. l ++ all_missed known above (j + 1) (forest (drop (j + 1) nodes))) (sym adds)
+      h
+      ∙ added_one (fields_at old) (fields_at new) (node_missed known at n) (nodes_missed known above (j + 1) (forest (drop (j + 1) nodes))) (nodes_missed known above j (forest (drop j nodes)))
+      (ap (λ l. nodes_missed known above j (forest l)) (front nodes j n low is) ∙ one_missed above j n (forest (drop (j + 1) nodes))
+      ∙ ap (λ p. node_missed known p n ++ nodes_missed known above (suc j) (forest (drop (j + 1) nodes))) (sym where_is)
+      ∙ ap (λ k. node_missed known at n ++ nodes_missed known above k (forest (drop (j + 1) nodes))) next) adds

@@ -6,6 +6,9 @@ use Rattle.gw_maplang.specs.Shapes.{MapValue}
 use Rattle.gw_maplang.specs.Seen.{Contents}
 use Rattle.gw_check.specs.declared.accounted.FieldAt.{FieldAt}
 use Rattle.gw_check.specs.declared.rules.Examined.{Examined}
+use Rattle.gw_check.specs.declared.site.Site as declared
+use Rattle.gw_check.specs.Seen.{all_sites}
+use Rattle.gw_check.specs.Sites.{sites}
 use Rattle.gw_check.specs.declared.rules.Judged as judged
 use Rattle.gw_check.specs.declared.rules.CheckFault as faults
 use Rattle.gw_check.specs.declared.rules.Refusal as refusals
@@ -14,9 +17,8 @@ use Rattle.gw_resolve.specs.declared.resolved.Item.{Item}
 use Rattle.gw_resolve.specs.declared.resolved.LeftOut.{LeftOut}
 use Rattle.gw_resolve.specs.Resolved.{Resolved}
 use Rattle.gw_resolve.specs.Naming.{naming_failures, resolved}
-use Rattle.gw_check.specs.Checked.{all_failures, least, broken}
+use Rattle.gw_check.specs.Checked.{all_failures, unread, least, broken}
 use Rattle.gw_check.specs.Collected.{fields_at}
-use Rattle.gw_check.specs.Unread.{unread}
 use Rattle.gw_resolve.specs.Seen.{failure, failures, all_items, left_out}
 
 -- a map without labels, as the program holds it
@@ -29,9 +31,9 @@ pub record IsUnlabelled (from to : ProfileValue) (m : MapValue) (is : List Item)
   pub target : WellFormed to
   pub items : all_items m.tables is ≡ (resolved from to m).items
 
--- these are the items of the map without labels, where that is known
-abbrev pub AreUnlabelled : ProfileValue → ProfileValue → MapValue → List Item → Type 0
-AreUnlabelled from to m is = naming_failures from to m ≡ [] → all_items m.tables is ≡ (resolved from to m).items
+-- these are what the lines of the map make, and of what, where that is known
+abbrev pub AreMade : ProfileValue → ProfileValue → MapValue → List declared.Site → Type 0
+AreMade from to m made = naming_failures from to m ≡ [] → all_sites m.tables made ≡ sites (resolved from to m).items
 
 -- where there is no failure
 abbrev pub UnlabelledIfAllowed : ProfileValue → ProfileValue → MapValue → Examined → Type 0
@@ -43,22 +45,22 @@ pub record IsAllowed (from to : ProfileValue) (m : MapValue) (is : List Item) : 
   pub none : all_failures from to m ≡ []
   pub items : all_items m.tables is ≡ (resolved from to m).items
 
--- some rule fails: the least failure, all of them, the fields of which rule 9 fails, and the items
-pub record IsBroken (from to : ProfileValue) (m : MapValue) (f : Failure) (found : List Failure) (fields : List FieldAt) (is : List Item) : Type 0 where
+-- some rule fails: the least failure, all of them, the fields of which rule 9 fails, and what each line makes
+pub record IsBroken (from to : ProfileValue) (m : MapValue) (f : Failure) (found : List Failure) (fields : List FieldAt) (of_lines : List declared.Site) : Type 0 where
   pub least : Some (failure f) ≡ least (all_failures from to m)
   pub all : failures found ≡ all_failures from to m
   pub unread : fields_at fields ≡ unread from to m
-  pub items : AreUnlabelled from to m is
+  pub made : AreMade from to m of_lines
 
 -- no rule fails, or the failures
 abbrev pub Judges : ProfileValue → ProfileValue → MapValue → judged.Judged → Type 0
 Judges from to m (judged.TheVariants.Allowed is) = IsAllowed from to m is.items
-Judges from to m (judged.TheVariants.Refused f e) = IsBroken from to m f e.findings.found.items e.findings.unread.items e.items.items
+Judges from to m (judged.TheVariants.Refused f e) = IsBroken from to m f e.found.items e.used.unread.items e.used.sites.items
 
 -- all failures, or an allocation failure; the map is returned
 abbrev pub IsTold : ProfileValue → ProfileValue → MapValue → Contents → refusals.Refusal → Type 0
 IsTold from to m given (refusals.TheVariants.Memory back) = back ≡ given
-IsTold from to m given (refusals.TheVariants.Rules first found fields is back) = IsBroken from to m first found.items fields.items is.items × (back ≡ given)
+IsTold from to m given (refusals.TheVariants.Rules first found used back) = IsBroken from to m first found.items used.unread.items used.sites.items × (back ≡ given)
 
 -- the least failing rule at its least line, or an allocation failure; the map is returned
 abbrev pub IsRefusal : ProfileValue → ProfileValue → MapValue → Contents → faults.CheckFault → Type 0

@@ -4,11 +4,21 @@ use Rattle.gw_profile.specs.Shapes.{ProfileValue}
 use Rattle.gw_maplang.specs.Shapes.{MapValue}
 use Rattle.gw_resolve.specs.Failures.{Failure, or_later}
 use Rattle.gw_resolve.specs.Naming.{naming_failures, resolved}
+use Rattle.gw_check.specs.Reads.{SourceField, passed_over}
 use Rattle.gw_check.specs.Typed.{failures}
 
 -- the rules 4 to 12 are looked at only where 1 to 3 hold
 abbrev pub all_failures : ProfileValue → ProfileValue → MapValue → List Failure
 all_failures source target map = or_later (naming_failures source target map) (failures source target (resolved source target map))
+
+abbrev none_if : List Failure → List SourceField → List SourceField
+none_if [] fields = fields
+none_if (f ∷ failures) fields = []
+
+-- the source fields of which rule 9 fails; none where labels can't be looked up
+abbrev pub unread : ProfileValue → ProfileValue → MapValue → List SourceField
+unread source target map =
+    none_if (naming_failures source target map) (passed_over (resolved source target map).items (resolved source target map).drops source.nodes)
 
 -- by rule, then by line
 abbrev pub is_before : Failure → Failure → Bool

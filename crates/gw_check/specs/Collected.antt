@@ -1,12 +1,14 @@
--- The source fields that are read, as the program collects them, and what it accounts for by them and by the drops.
-use Rattle.std.specs.Prelude.{◌≡◌, ◌++◌, ◌==◌, ◌&&◌, ◌||◌, not, false, Bool, ℕ, List, map, Option, Some, None, bytes_eq}
+-- The source fields that the program accounts for, by what lines read and by the drops, and those that are missed.
+use Rattle.std.specs.Prelude.{◌≡◌, ◌++◌, ◌||◌, Bool, ℕ, List, [], map}
 use Rattle.gw_check.specs.declared.accounted.FieldAt.{FieldAt}
 use Rattle.gw_check.specs.declared.accounted.Accounted.{Accounted}
-use Rattle.std.specs.List.{list_any}
-use Rattle.gw_profile.specs.Shapes.{FieldValue}
-use Rattle.gw_resolve.specs.Resolved.{Drop}
-use Rattle.gw_check.specs.Reads.{SourceField, is_read, may_hold}
+use Rattle.gw_profile.specs.declared.node.Node.{Node, Seg, Group'}
+use Rattle.gw_profile.specs.Seen.{segment_value, row_forest}
+use Rattle.gw_profile.specs.Shapes.{FieldValue, SegmentValue, Forest}
+use Rattle.gw_resolve.specs.Seen.{left_out}
+use Rattle.gw_check.specs.Reads.{SourceField, is_read, drops_field, drops_element, missed_field, missed_segment, missed_nodes, missed_within}
 use Rattle.gw_resolve.specs.Positions.{Position}
+use Rattle.gw_check.specs.Seen.{all_sites}
 
 abbrev pub field_at : FieldAt → SourceField
 field_at f = record { at = f.at.items; field = f.field }
@@ -14,50 +16,34 @@ field_at f = record { at = f.at.items; field = f.field }
 abbrev pub fields_at : List FieldAt → List SourceField
 fields_at = map field_at
 
--- these were read as well
+-- these were found as well
 abbrev pub Adds : List FieldAt → List FieldAt → List SourceField → Type 0
 Adds old new more = fields_at new ≡ fields_at old ++ more
 
--- ---- what is accounted for
+-- ---- what is accounted for, whatever the map's tables are
 
 -- a field by itself
 abbrev pub has_field : Accounted → Position → ℕ → Bool
-has_field known at field = list_any (λ f. bytes_eq at f.at.items && field == f.field) known.fields.keys
+has_field known at field = is_read (all_sites [] known.sites.now) at field || drops_field (map left_out known.drops.now) at field
 
 -- an element, with all that is in it
 abbrev pub has_element : Accounted → Position → Bool
-has_element known at = list_any (λ v. bytes_eq at v.items) known.elements.keys
-
--- some drop leaves out this field by itself
-abbrev pub drops_field : List Drop → Position → ℕ → Bool
-drops_field drops at field = list_any (λ d. one d.steps d.field) drops
-  where
-    one : List ℕ → Option ℕ → Bool
-    one steps None = false
-    one steps (Some number) = bytes_eq steps at && number == field
-
--- some drop leaves out the element at this position
-abbrev pub drops_element : List Drop → Position → Bool
-drops_element drops at = list_any (λ d. whole d.steps d.field) drops
-  where
-    whole : List ℕ → Option ℕ → Bool
-    whole steps None = bytes_eq steps at
-    whole steps (Some number) = false
-
--- the fields and elements that pass these tests were added
-pub record Gains (old new : Accounted) (field : Position → ℕ → Bool) (element : Position → Bool) : Type 0 where
-  pub fields : (at : Position) (number : ℕ) → has_field new at number ≡ (has_field old at number || field at number)
-  pub elements : (at : Position) → has_element new at ≡ (has_element old at || element at)
-
-abbrev pub no_element : Position → Bool
-no_element at = false
-
--- all that is read or dropped is accounted for, and nothing else
-pub record Accounts (known : Accounted) (reads : List SourceField) (drops : List Drop) : Type 0 where
-  pub fields : (at : Position) (number : ℕ) → has_field known at number ≡ (is_read reads at number || drops_field drops at number)
-  pub elements : (at : Position) → has_element known at ≡ drops_element drops at
+has_element known = drops_element (map left_out known.drops.now)
 
 -- ---- what isn't
 
-abbrev pub is_missed : Accounted → Position → FieldValue → Bool
-is_missed known at f = may_hold f.usage && not (has_field known at f.number)
+abbrev pub field_missed : Accounted → Position → FieldValue → List SourceField
+field_missed known = missed_field (has_field known)
+
+abbrev pub segment_missed : Accounted → Position → SegmentValue → List SourceField
+segment_missed known = missed_segment (has_field known) (has_element known)
+
+abbrev pub nodes_missed : Accounted → Position → ℕ → Forest → List SourceField
+nodes_missed known = missed_nodes (has_field known) (has_element known)
+
+abbrev pub within_missed : Accounted → Position → Forest → List SourceField
+within_missed known = missed_within (has_field known) (has_element known)
+
+abbrev pub node_missed : Accounted → Position → Node → List SourceField
+node_missed known at (Seg s) = segment_missed known at (segment_value s)
+node_missed known at (Group' label usage card shape inner) = within_missed known at (row_forest inner)

@@ -1,12 +1,14 @@
 pub mod Counts
 pub mod Fields
 pub mod Levels
+pub mod Sites
+pub mod Elements
 pub mod Reads
 pub mod Typed
 pub mod Checked
 pub mod Found
+pub mod Seen
 pub mod Collected
-pub mod Unread
 pub mod Kept
 pub mod Answers
 pub mod Worked

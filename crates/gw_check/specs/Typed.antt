@@ -5,7 +5,7 @@ use Rattle.gw_resolve.specs.Places.{the_whole}
 use Rattle.gw_resolve.specs.Resolved.{Resolved}
 use Rattle.gw_resolve.specs.Failures.{Failure, at_line, fails}
 use Rattle.gw_check.specs.Levels.{level_failures, items_failures}
-use Rattle.gw_check.specs.Reads.{items_read, passed_over}
+use Rattle.gw_check.specs.Reads.{passed_over}
 use Rattle.gw_resolve.specs.Order.{are_placed}
 
 -- the failures of the rules 4 to 12
@@ -13,7 +13,7 @@ abbrev pub failures : ProfileValue → ProfileValue → Resolved → List Failur
 failures source target map =
     level_failures (the_whole source.nodes ∷ []) map.line 0 target.nodes map.items
     ++ items_failures source target (the_whole source.nodes ∷ []) target.nodes map.items
-    ++ fails 9 (at_line map.line) (not (length (passed_over (items_read ([] ∷ []) map.items) map.drops [] 0 source.nodes) == 0))
+    ++ fails 9 (at_line map.line) (not (length (passed_over map.items map.drops source.nodes) == 0))
 
 -- the items are in order, and no rule fails
 pub record IsTyped (source target : ProfileValue) (map : Resolved) : Type 0 where

@@ -1,15 +1,14 @@
-//! What a map accounts for in its source, looked up by hash.
-ghost use Rattle.std.specs.Prelude.{◌≡◌, ◌∷◌, [], false, bytes_eq, IfOk, OnOk, map};
-ghost use Rattle.gw_check.specs.Reads.{is_read};
-ghost use Rattle.gw_check.specs.Collected.{Accounts, Gains, no_element, drops_field, drops_element, field_at, fields_at, has_field, has_element};
+//! What a map accounts for in its source: the fields that its lines read, and what it drops.
+ghost use Rattle.std.specs.Prelude.{◌≡◌, [], map, bytes_eq};
+ghost use Rattle.gw_check.specs.Reads as spec;
+ghost use Rattle.gw_check.specs.Seen.{site as seen_site, all_sites};
+ghost use Rattle.gw_check.specs.Collected.{has_field, has_element};
 ghost use Rattle.gw_resolve.specs.Seen.{left_out as seen_drop};
 
+use crate::site::{Origin, Site};
 use gw_resolve::LeftOut;
-use indexmap::IndexSet;
-use std::alloc::{AllocError, Global};
 
 /// A field of the segment at a position: the numbers of the nodes that lead to it, from the profile's top on and each from 0.
-#[derive(PartialEq, Eq, Hash)]
 pub struct FieldAt {
     pub at: Vec<usize>,
     pub field: u32,
@@ -22,90 +21,87 @@ impl Drop for FieldAt {
     }
 }
 
-/// The fields that are read or dropped by themselves, and the positions of the elements that are dropped with all that is in them.
-#[derive(Drop)]
-pub(crate) struct Accounted {
-    fields: IndexSet<FieldAt>,
-    elements: IndexSet<Vec<usize>>,
+/// What the lines of a map make, and of what, and what it drops.
+#[derive(Clone, Copy)]
+pub(crate) struct Accounted<'a> {
+    pub(crate) sites: &'a [Site],
+    pub(crate) drops: &'a [LeftOut],
 }
 
-fn add_field(known: &mut Accounted, field: FieldAt) -> Result<(), AllocError>
-    ensures { OnOk result (Gains known.old known.new (is_read (field_at field ∷ [])) no_element) }
+// Whether this is the field of that number, of the segment at that position.
+fn is_field(here: &[usize], number: u32, at: &[usize], field: u32) -> bool
+    ensures { result ≡ spec.is_field here.now number at.now field }
 {
-    known.fields.insert(field)?;
-    Ok(())
+    number == field && here == at
 }
 
-fn add_element(known: &mut Accounted, at: Vec<usize>) -> Result<(), AllocError>
-    ensures { OnOk result (Gains known.old known.new (λ at number. false) (bytes_eq at.items)) }
+// Whether what a line makes has the field, or a part of it.
+fn reads(site: &Site, at: &[usize], field: u32) -> bool
+    ensures { result ≡ spec.reads (seen_site [] site.now).origin at.now field }
 {
-    known.elements.insert(at)?;
-    Ok(())
+    match &site.origin {
+        Origin::Unsaid | Origin::Text(_) => false,
+        Origin::Read(from) | Origin::Repeated(from) => is_field(&from.at, from.field, at, field),
+        Origin::LookedUp(_, from) => is_field(&from.at, from.field, at, field),
+    }
 }
 
-fn add_drop(alloc: Global, known: &mut Accounted, left_out: &LeftOut) -> Result<(), AllocError>
-    ensures { OnOk result (Gains known.old known.new (drops_field (seen_drop left_out.now ∷ [])) (drops_element (seen_drop left_out.now ∷ []))) }
+fn is_read(sites: &[Site], at: &[usize], field: u32) -> bool
+    ensures { result ≡ spec.is_read (all_sites [] sites.now) at.now field }
 {
-    let at = Vec::from_slice(alloc, &left_out.steps)?;
-    match left_out.field {
-        None => add_element(known, at),
-        Some(field) => add_field(known, FieldAt { at, field }),
+    for site in sites {
+        if reads(site, at, field) {
+            return true;
+        }
     }
+    false
 }
 
-fn add_fields(known: &mut Accounted, fields: Vec<FieldAt>) -> Result<(), AllocError>
-    ensures { OnOk result (Gains known.old known.new (is_read (fields_at fields.items)) no_element) }
+// Whether one of the drops leaves out the field by itself.
+fn drops_field(drops: &[LeftOut], at: &[usize], field: u32) -> bool
+    ensures { result ≡ spec.drops_field (map seen_drop drops.now) at.now field }
 {
-    for field in fields {
-        add_field(known, field)?;
+    for dropped in drops {
+        if is_dropped(dropped, at, field) {
+            return true;
+        }
     }
-    Ok(())
+    false
 }
 
-fn add_drops(alloc: Global, known: &mut Accounted, drops: &[LeftOut]) -> Result<(), AllocError>
-    ensures { OnOk result (Gains known.old known.new (drops_field (map seen_drop drops.now)) (drops_element (map seen_drop drops.now))) }
+fn is_dropped(dropped: &LeftOut, at: &[usize], field: u32) -> bool
+    ensures { result ≡ spec.is_dropped (seen_drop dropped.now).steps (seen_drop dropped.now).field at.now field }
 {
-    for left_out in drops {
-        add_drop(alloc, known, left_out)?;
+    match dropped.field {
+        None => false,
+        Some(number) => is_field(&dropped.steps, number, at, field),
     }
-    Ok(())
 }
 
-impl Accounted {
-    /// What these reads and drops account for.
-    pub(crate) fn of(
-        alloc: Global,
-        reads: Vec<FieldAt>,
-        drops: &[LeftOut],
-    ) -> Result<Accounted, AllocError>
-        ensures { IfOk result (λ known. Accounts known (fields_at reads.items) (map seen_drop drops.now)) }
-    {
-        let mut known = Accounted {
-            fields: IndexSet::new(alloc),
-            elements: IndexSet::new(alloc),
-        };
-        add_fields(&mut known, reads)?;
-        add_drops(alloc, &mut known, drops)?;
-        Ok(known)
+fn is_dropped_whole(dropped: &LeftOut, at: &[usize]) -> bool
+    ensures { result ≡ spec.is_dropped_whole (seen_drop dropped.now).steps (seen_drop dropped.now).field at.now }
+{
+    match dropped.field {
+        None => dropped.steps.as_slice() == at,
+        Some(_) => false,
     }
+}
 
-    /// Whether this field is read, or dropped by itself.
-    pub(crate) fn has_field(
-        &self,
-        alloc: Global,
-        at: &[usize],
-        field: u32,
-    ) -> Result<bool, AllocError>
-        ensures { IfOk result (λ b. b ≡ has_field self.now at.now field) }
-    {
-        let at = Vec::from_slice(alloc, at)?;
-        Ok(self.fields.contains(&FieldAt { at, field }))
-    }
+/// Whether this field is read, or dropped by itself. It takes no memory.
+pub(crate) fn has_field(known: &Accounted<'_>, at: &[usize], field: u32) -> bool
+    ensures { result ≡ has_field known.now at.now field }
+{
+    is_read(known.sites, at, field) || drops_field(known.drops, at, field)
+}
 
-    /// Whether the element at this position is dropped, with all that is in it. It takes no memory.
-    pub(crate) fn has_element(&self, at: &[usize]) -> bool
-        ensures { result ≡ has_element self.now at.now }
-    {
-        self.elements.contains(at)
+/// Whether the element at this position is dropped, with all that is in it. It takes no memory.
+pub(crate) fn has_element(known: &Accounted<'_>, at: &[usize]) -> bool
+    ensures { result ≡ has_element known.now at.now }
+{
+    for dropped in known.drops {
+        if is_dropped_whole(dropped, at) {
+            return true;
+        }
     }
+    false
 }

@@ -1,29 +1,48 @@
-//! The fields of the source that a map passes over, each by its place.
+//! The fields of the source that a map passes over, each by its place (9).
 ghost use Rattle.std.specs.Prelude.{◌≡◌, List, map, flat_map, IfOk, OnOk};
 ghost use Rattle.gw_profile.specs.Seen.{forest, segment_value, field as seen_field};
 ghost use Rattle.gw_maplang.specs.Shapes.{TableValue};
-ghost use Rattle.gw_check.specs.Collected.{Adds, fields_at};
-ghost use Rattle.gw_check.specs.own.Seen as seen;
-ghost use Rattle.gw_check.specs.Unread as spec;
+ghost use Rattle.gw_check.specs.Collected.{Adds, fields_at, has_field, field_missed, segment_missed, node_missed, within_missed, nodes_missed};
+ghost use Rattle.gw_check.specs.Reads as spec;
+ghost use Rattle.gw_check.specs.Seen.{all_sites};
+ghost use Rattle.gw_check.specs.Sites.{sites as spec_sites};
+ghost use Rattle.gw_resolve.specs.Seen.{all_items, left_out};
 
-use crate::accounted::{Accounted, FieldAt};
-use crate::reads::{all_read, is_missed};
+use crate::accounted::{Accounted, FieldAt, has_element, has_field};
+use crate::item_sites::sites;
+use crate::site::Site;
 use gw_leaves::is_forbidden;
-use gw_profile::{FieldShape, Node, SegNode};
+use gw_profile::{FieldShape, Node, SegNode, Usage};
 use gw_resolve::{Item, LeftOut};
 use std::alloc::{AllocError, Global};
+
+fn may_hold(usage: Usage) -> bool
+    ensures { result ≡ spec.may_hold usage }
+{
+    match usage {
+        Usage::R | Usage::RE => true,
+        Usage::O | Usage::X => false,
+    }
+}
+
+// Whether the field may hold something that is required, and nothing accounts for it.
+fn is_missed(known: &Accounted<'_>, at: &[usize], field: &FieldShape) -> bool
+    ensures { result ≡ spec.is_missed (has_field known.now) at.now (seen_field field.now) }
+{
+    may_hold(field.usage) && !has_field(known, at, field.number)
+}
 
 // Adds a field, where it is missed.
 fn add_field(
     alloc: Global,
-    known: &Accounted,
+    known: &Accounted<'_>,
     at: &[usize],
     field: &FieldShape,
     found: &mut Vec<FieldAt>,
 ) -> Result<(), AllocError>
-    ensures { OnOk result (Adds found.old.items found.new.items (spec.missed_field known.now at.now (seen_field field.now))) }
+    ensures { OnOk result (Adds found.old.items found.new.items (field_missed known.now at.now (seen_field field.now))) }
 {
-    if !is_missed(alloc, known, at, field)? {
+    if !is_missed(known, at, field) {
         return Ok(());
     }
     let at = Vec::from_slice(alloc, at)?;
@@ -37,12 +56,12 @@ fn add_field(
 // Adds the fields that are missed.
 fn add_fields(
     alloc: Global,
-    known: &Accounted,
+    known: &Accounted<'_>,
     at: &[usize],
     fields: &[FieldShape],
     found: &mut Vec<FieldAt>,
 ) -> Result<(), AllocError>
-    ensures { OnOk result (Adds found.old.items found.new.items (flat_map (spec.missed_field known.now at.now) (map seen_field fields.now))) }
+    ensures { OnOk result (Adds found.old.items found.new.items (flat_map (field_missed known.now at.now) (map seen_field fields.now))) }
 {
     for field in fields {
         add_field(alloc, known, at, field, found)?;
@@ -53,14 +72,14 @@ fn add_fields(
 // Adds those of the segment at this position; a forbidden segment has none.
 fn add_segment(
     alloc: Global,
-    known: &Accounted,
+    known: &Accounted<'_>,
     at: &[usize],
     segment: &SegNode,
     found: &mut Vec<FieldAt>,
 ) -> Result<(), AllocError>
-    ensures { OnOk result (Adds found.old.items found.new.items (spec.segment_missed known.now at.now (segment_value segment.now))) }
+    ensures { OnOk result (Adds found.old.items found.new.items (segment_missed known.now at.now (segment_value segment.now))) }
 {
-    if known.has_element(at) {
+    if has_element(known, at) {
         return Ok(());
     }
     if is_forbidden(segment.usage) {
@@ -73,12 +92,12 @@ fn add_segment(
 #[cycle(gather)]
 fn add_node(
     alloc: Global,
-    known: &Accounted,
+    known: &Accounted<'_>,
     at: &[usize],
     node: &Node,
     found: &mut Vec<FieldAt>,
 ) -> Result<(), AllocError>
-    ensures { OnOk result (Adds found.old.items found.new.items (spec.node_missed known.now at.now node.now)) }
+    ensures { OnOk result (Adds found.old.items found.new.items (node_missed known.now at.now node.now)) }
 {
     match node {
         Node::Seg(segment) => add_segment(alloc, known, at, segment, found),
@@ -90,14 +109,14 @@ fn add_node(
 #[cycle(gather)]
 fn add_within(
     alloc: Global,
-    known: &Accounted,
+    known: &Accounted<'_>,
     at: &[usize],
     nodes: &[Node],
     found: &mut Vec<FieldAt>,
 ) -> Result<(), AllocError>
-    ensures { OnOk result (Adds found.old.items found.new.items (spec.within_missed known.now at.now (forest nodes.now))) }
+    ensures { OnOk result (Adds found.old.items found.new.items (within_missed known.now at.now (forest nodes.now))) }
 {
-    if known.has_element(at) {
+    if has_element(known, at) {
         return Ok(());
     }
     add_nodes(alloc, known, at, nodes, found)
@@ -107,12 +126,12 @@ fn add_within(
 #[cycle(gather)]
 fn add_nodes(
     alloc: Global,
-    known: &Accounted,
+    known: &Accounted<'_>,
     above: &[usize],
     nodes: &[Node],
     found: &mut Vec<FieldAt>,
 ) -> Result<(), AllocError>
-    ensures { OnOk result (Adds found.old.items found.new.items (spec.all_missed known.now above.now 0 (forest nodes.now))) }
+    ensures { OnOk result (Adds found.old.items found.new.items (nodes_missed known.now above.now 0 (forest nodes.now))) }
 {
     for (j, node) in nodes.iter().enumerate() {
         let mut at = Vec::from_slice(alloc, above)?;
@@ -122,18 +141,32 @@ fn add_nodes(
     Ok(())
 }
 
-/// The fields of these nodes that the items and the drops pass over, in the order of the nodes.
+/// What the lines of a map make of its source, and the fields that none of them reads.
+#[derive(Drop)]
+pub struct SourceUse {
+    /// What each line makes, and of what; nothing where a rule on labels fails.
+    pub sites: Vec<Site>,
+    /// The source fields that are neither read nor dropped, in the profile's order.
+    pub unread: Vec<FieldAt>,
+}
+
+/// What the items make, and the fields of these nodes that the items and the drops pass over, in the order of the nodes.
 pub(crate) fn passed_over(
     alloc: Global,
     nodes: &[Node],
     items: &[Item],
     drops: &[LeftOut],
-) -> Result<Vec<FieldAt>, AllocError>
-    ensures { IfOk result (λ found. (tables : List TableValue) → fields_at found.items ≡ seen.passed_over tables items.now drops.now (forest nodes.now)) }
+) -> Result<SourceUse, AllocError>
+    ensures sites { IfOk result (λ used. (tables : List TableValue) → all_sites tables used.sites.items ≡ spec_sites (all_items tables items.now)) }
+    ensures unread { IfOk result (λ used. (tables : List TableValue) →
+        fields_at used.unread.items ≡ spec.passed_over (all_items tables items.now) (map left_out drops.now) (forest nodes.now)) }
 {
-    let reads = all_read(alloc, items)?;
-    let known = Accounted::of(alloc, reads, drops)?;
-    let mut found = Vec::new(alloc);
-    add_within(alloc, &known, &[], nodes, &mut found)?;
-    Ok(found)
+    let sites = sites(alloc, items)?;
+    let known = Accounted {
+        sites: &sites,
+        drops,
+    };
+    let mut unread = Vec::new(alloc);
+    add_within(alloc, &known, &[], nodes, &mut unread)?;
+    Ok(SourceUse { sites, unread })
 }

@@ -6,21 +6,21 @@ ghost use Rattle.gw_profile.specs.WellFormed.{WellFormed};
 ghost use Rattle.gw_profile.specs.Shapes.{ProfileValue};
 ghost use Rattle.gw_maplang.specs.Seen.{map_value, Contents};
 ghost use Rattle.gw_maplang.specs.Shapes.{MapValue};
-ghost use Rattle.gw_check.specs.Answers.{AreUnlabelled, Judges, UnlabelledIfAllowed, IsRefusal, IsTold};
-ghost use Rattle.gw_check.specs.Checked.{all_failures};
+ghost use Rattle.gw_check.specs.Answers.{AreMade, Judges, UnlabelledIfAllowed, IsRefusal, IsTold};
+ghost use Rattle.gw_check.specs.Checked.{all_failures, unread};
 ghost use Rattle.gw_check.specs.Collected.{fields_at};
-ghost use Rattle.gw_check.specs.Unread.{unread};
+ghost use Rattle.gw_check.specs.Seen.{all_sites};
+ghost use Rattle.gw_check.specs.Sites.{sites};
 ghost use Rattle.gw_resolve.specs.Noted.{Notes};
-ghost use Rattle.gw_resolve.specs.Seen.{failures as seen_failures};
+ghost use Rattle.gw_resolve.specs.Seen.{failures as seen_failures, all_items};
 ghost use Rattle.gw_check.specs.own.Seen as seen;
 ghost use Rattle.gw_leaves.specs.Context as spec;
 
-use crate::accounted::FieldAt;
 use crate::checked::CheckedMap;
 use crate::failure::least;
 use crate::inside::check_items;
 use crate::level::check_level;
-use crate::overlooked::passed_over;
+use crate::overlooked::{SourceUse, passed_over};
 use gw_leaves::MapContext;
 use gw_maplang::Map;
 use gw_profile::{Level, Profile};
@@ -44,13 +44,11 @@ pub enum CheckFault {
 pub enum Refusal {
     /// Allocation failure.
     Memory(Map),
-    /// The least failure, all of them in the order of the definition, and the source fields of which rule 9 fails, in the profile's order;
-    /// and the items without labels, none where a rule on labels fails.
+    /// The least failure, all of them in the order of the definition, and what the map makes of its source.
     Rules {
         least: Failure,
         found: Vec<Failure>,
-        unread: Vec<FieldAt>,
-        items: Vec<Item>,
+        used: SourceUse,
         map: Map,
     },
 }
@@ -60,8 +58,8 @@ pub enum Refusal {
 struct Findings {
     /// The failures.
     found: Vec<Failure>,
-    /// The source fields of which rule 9 fails.
-    unread: Vec<FieldAt>,
+    /// What the map makes of its source.
+    used: SourceUse,
 }
 
 /// What the rules say of a map.
@@ -77,11 +75,11 @@ struct Examined {
 enum Judged {
     /// No rule fails, and these are its items without labels.
     Allowed(Vec<Item>),
-    /// The least failure, and all that the rules say.
-    Refused(Failure, Examined),
+    /// The least failure, and all that the rules find.
+    Refused(Failure, Findings),
 }
 
-// Adds the failures of the rules 4 to 12; the source fields of which rule 9 fails.
+// Adds the failures of the rules 4 to 12; what the map makes of its source.
 fn add_failures(
     alloc: Global,
     found: &mut Vec<Failure>,
@@ -89,12 +87,13 @@ fn add_failures(
     level: &Level<'_>,
     items: &[Item],
     drops: &[LeftOut],
-) -> Result<Vec<FieldAt>, AllocError>
+) -> Result<SourceUse, AllocError>
     requires { level.now ≡ context.now.source.nodes }
     ensures source { WellFormed (profile_value context.now.source) }
     ensures target { WellFormed (profile_value context.now.target) }
     ensures found { OnOk result (Notes found.old found.new (seen.failures context.now items.now drops.now)) }
-    ensures unread { IfOk result (λ unread. fields_at unread.items ≡ seen.unread context.now items.now drops.now) }
+    ensures unread { IfOk result (λ used. fields_at used.unread.items ≡ seen.unread context.now items.now drops.now) }
+    ensures made { IfOk result (λ used. all_sites context.now.map.tables used.sites.items ≡ sites (all_items context.now.map.tables items.now)) }
 {
     let line = context.map().line();
     let whole = context.source().nodes();
@@ -102,9 +101,9 @@ fn add_failures(
     let scope = [ScopeNode::Whole(Some(level))];
     check_level(alloc, found, &scope, line, nodes, items)?;
     check_items(alloc, found, context, &scope, nodes, items)?;
-    let unread = passed_over(alloc, whole, items, drops)?;
-    note(found, 9, at_line(line), !unread.is_empty())?;
-    Ok(unread)
+    let used = passed_over(alloc, whole, items, drops)?;
+    note(found, 9, at_line(line), !used.unread.is_empty())?;
+    Ok(used)
 }
 
 // What the rules 4 to 12 find in a map without labels.
@@ -122,11 +121,12 @@ fn find(
     ensures found { IfOk result (λ f.
         seen_failures f.found.items ≡ seen.failures (spec.context_of source.now target.now map.now) named.now.items.items named.now.drops.items) }
     ensures unread { IfOk result (λ f.
-        fields_at f.unread.items ≡ seen.unread (spec.context_of source.now target.now map.now) named.now.items.items named.now.drops.items) }
+        fields_at f.used.unread.items ≡ seen.unread (spec.context_of source.now target.now map.now) named.now.items.items named.now.drops.items) }
+    ensures made { IfOk result (λ f. all_sites map.now.tables f.used.sites.items ≡ sites (all_items map.now.tables named.now.items.items)) }
 {
     let context = MapContext::of(alloc, source, target, map, level, &named.items)?;
     let mut found = Vec::new(alloc);
-    let unread = add_failures(
+    let used = add_failures(
         alloc,
         &mut found,
         &context,
@@ -134,7 +134,7 @@ fn find(
         &named.items,
         &named.drops,
     )?;
-    Ok(Findings { found, unread })
+    Ok(Findings { found, used })
 }
 
 // What the rules say of a map; 4 to 12 are looked at only where 1 to 3 hold.
@@ -145,8 +145,8 @@ fn look(
     map: &Map,
 ) -> Result<Examined, AllocError>
     ensures found { IfOk result (λ e. seen_failures e.findings.found.items ≡ all_failures (profile_value source.now) (profile_value target.now) (map_value map.now)) }
-    ensures unread { IfOk result (λ e. fields_at e.findings.unread.items ≡ unread (profile_value source.now) (profile_value target.now) (map_value map.now)) }
-    ensures labelled { IfOk result (λ e. AreUnlabelled (profile_value source.now) (profile_value target.now) (map_value map.now) e.items.items) }
+    ensures unread { IfOk result (λ e. fields_at e.findings.used.unread.items ≡ unread (profile_value source.now) (profile_value target.now) (map_value map.now)) }
+    ensures made { IfOk result (λ e. AreMade (profile_value source.now) (profile_value target.now) (map_value map.now) e.findings.used.sites.items) }
     ensures items { IfOk result (UnlabelledIfAllowed (profile_value source.now) (profile_value target.now) (map_value map.now)) }
 {
     let from = Level::of(alloc, source)?;
@@ -155,7 +155,10 @@ fn look(
         Resolving::Refused(found) => Ok(Examined {
             findings: Findings {
                 found,
-                unread: Vec::new(alloc),
+                used: SourceUse {
+                    sites: Vec::new(alloc),
+                    unread: Vec::new(alloc),
+                },
             },
             items: Vec::new(alloc),
         }),
@@ -187,7 +190,7 @@ fn judge(alloc: Global, source: &Profile, target: &Profile, map: &Map) -> Result
 {
     let examined = look(alloc, source, target, map)?;
     match least(&examined.findings.found) {
-        Some(failure) => Ok(Judged::Refused(failure, examined)),
+        Some(failure) => Ok(Judged::Refused(failure, examined.findings)),
         None => Ok(Judged::Allowed(examined.items)),
     }
 }
@@ -207,11 +210,10 @@ pub fn examine(
 {
     match judge(alloc, &source, &target, &map) {
         Err(_) => Err(Refusal::Memory(map)),
-        Ok(Judged::Refused(least, Examined { findings, items })) => Err(Refusal::Rules {
+        Ok(Judged::Refused(least, Findings { found, used })) => Err(Refusal::Rules {
             least,
-            found: findings.found,
-            unread: findings.unread,
-            items,
+            found,
+            used,
             map,
         }),
         Ok(Judged::Allowed(items)) => Ok(CheckedMap::of(source, target, map, items)),

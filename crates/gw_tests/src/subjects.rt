@@ -1,9 +1,10 @@
 //! What the lines of a map make, and of what.
 use crate::worked::{P1, map, profile};
-use gw_check::{Refusal, examine};
+use gw_check::{
+    Origin, Refusal, Site, Taker, comp_at, examine, field_at, site_at, sub_at, untaken,
+};
 use gw_maplang::Map;
 use gw_profile::{Profile, Usage};
-use gw_subjects::{Origin, Site, comp_at, field_at, site_at, sites, sub_at, unlisted, unrowed};
 use std::test::Fail;
 
 const T1: &str =
@@ -25,11 +26,11 @@ fn lookup<'a>(
     let Origin::LookedUp(name, from) = &site_at(made, 8)?.origin else {
         return None;
     };
-    let field = field_at(source, from)?;
-    let comp = comp_at(source, from)?;
-    let sub = sub_at(source, from)?;
-    let strange = unlisted(source, sub, target.table(b"ISO")?);
-    let unrowed = unrowed(source, sub, map.table(name)?);
+    let field = field_at(source, &from.at, from.field)?;
+    let comp = comp_at(source, &from.at, from.field, from.comp)?;
+    let sub = sub_at(source, &from.at, from.field, from.comp, from.sub)?;
+    let strange = untaken(source, sub, Taker::Table(target.table(b"ISO")?));
+    let unrowed = untaken(source, sub, Taker::Rows(map.table(name)?));
     Some((field.usage, comp.number, sub.len, strange, unrowed))
 }
 
@@ -40,11 +41,10 @@ fn lookups(rt: HostRuntime) -> Result<(), Fail> {
     let source = profile(alloc, P1)?;
     let target = profile(alloc, T1)?;
     let examined = examine(alloc, source.clone()?, target.clone()?, map(alloc, M1)?);
-    let Err(Refusal::Rules { items, map, .. }) = examined else {
+    let Err(Refusal::Rules { used, map, .. }) = examined else {
         return Err("no rule refuses it".into());
     };
-    let made = sites(alloc, &items)?;
-    let found = lookup(&source, &target, &map, &made);
+    let found = lookup(&source, &target, &map, &used.sites);
     let want = (
         Usage::RE,
         1,

@@ -3,10 +3,9 @@ use crate::elements::{Named, print_name};
 use crate::maps::ProfilePair;
 use crate::report::say;
 use crate::subjects::Explanation;
-use gw_check::FieldAt;
+use gw_check::{SourceUse, site_at};
 use gw_maplang::Map;
-use gw_resolve::{Failure, FailureSite, Item};
-use gw_subjects::{Site, site_at, sites};
+use gw_resolve::Failure;
 use std::alloc::{AllocError, Global};
 use std::collections::BTreeMap;
 use std::io::Write;
@@ -22,24 +21,17 @@ pub(crate) struct Written<'a> {
     pub(crate) above: u32,
 }
 
-/// A map that a rule refuses: the least failure, all of them, the fields that the map passes over, and its items without labels.
+/// A map that a rule refuses: the least failure, all of them, and what the map makes of its source.
 #[derive(Drop)]
 pub(crate) struct Refused {
     pub(crate) least: Failure,
     pub(crate) failures: Vec<Failure>,
-    pub(crate) unread: Vec<FieldAt>,
-    pub(crate) items: Vec<Item>,
+    pub(crate) used: SourceUse,
     pub(crate) map: Map,
 }
 
-/// What the failures of a map speak of.
-#[derive(Drop)]
-pub(crate) struct Found {
-    /// What each line makes, and of what.
-    sites: Vec<Site>,
-    /// The failures of each rule at each line, in the order of the definition.
-    alike: BTreeMap<(u32, u8), Vec<Failure>>,
-}
+/// The failures of each rule at each line, in the order of the definition.
+pub(crate) type Alike = BTreeMap<(u32, u8), Vec<Failure>>;
 
 /// A map that a rule refuses, with its text and its profiles.
 #[derive(Clone, Copy)]
@@ -131,33 +123,6 @@ pub(crate) fn line_at(text: &[u8], number: u32) -> &[u8] {
     first_line(behind(text, number - 1))
 }
 
-/// A node, or the field of this number of it.
-fn whole(at: &[usize], field: u32) -> Named<'_> {
-    Named {
-        at,
-        field,
-        comp: 0,
-        sub: 0,
-    }
-}
-
-/// The numbers of the nodes that lead to what a line makes; the line of the map makes the whole.
-fn node_made(sites: &[Site], line: u32) -> &[usize] {
-    match site_at(sites, line) {
-        None => &[],
-        Some(site) => &site.target.at,
-    }
-}
-
-/// The numbers of the nodes that lead to the node of which a mark speaks, where its line makes this one.
-fn node_marked(alloc: Global, made: &[usize], mark: FailureSite) -> Result<Vec<usize>, AllocError> {
-    let mut at = Vec::from_slice(alloc, made)?;
-    if let Some(child) = mark.child {
-        at.push(child)?;
-    }
-    Ok(at)
-}
-
 /// The first failure of what something gives.
 fn first_given(failures: &[Failure]) -> Option<Failure> {
     for failure in failures {
@@ -168,124 +133,103 @@ fn first_given(failures: &[Failure]) -> Option<Failure> {
     None
 }
 
-/// The failures of each rule at each line, in the order of the definition.
-fn alike(
-    alloc: Global,
-    failures: &[Failure],
-) -> Result<BTreeMap<(u32, u8), Vec<Failure>>, AllocError> {
-    let mut alike: BTreeMap<(u32, u8), Vec<Failure>> = BTreeMap::new(alloc);
-    for failure in failures {
-        let key = (failure.mark.line, failure.rule);
-        match alike.get_mut(&key) {
-            Some(others) => others.push(*failure)?,
-            None => {
-                let mut first = Vec::new(alloc);
-                first.push(*failure)?;
-                alike.insert(key, first)?;
+impl Refusal<'_> {
+    /// The failures of each rule at each line.
+    pub(crate) fn alike(&self, alloc: Global) -> Result<Alike, AllocError> {
+        let mut alike: Alike = BTreeMap::new(alloc);
+        for failure in self.refused.failures.as_slice() {
+            let key = (failure.mark.line, failure.rule);
+            match alike.get_mut(&key) {
+                Some(others) => others.push(*failure)?,
+                None => {
+                    let mut first = Vec::new(alloc);
+                    first.push(*failure)?;
+                    alike.insert(key, first)?;
+                }
             }
         }
+        Ok(alike)
     }
-    Ok(alike)
-}
 
-impl Refusal<'_> {
-    /// What its failures speak of.
-    pub(crate) fn found(&self, alloc: Global) -> Result<Found, AllocError> {
-        let sites = sites(alloc, &self.refused.items)?;
-        let alike = alike(alloc, &self.refused.failures)?;
-        Ok(Found { sites, alike })
+    /// The numbers of the nodes that lead to what a line makes; the line of the map makes the whole.
+    fn node_made(&self, line: u32) -> &[usize] {
+        match site_at(&self.refused.used.sites, line) {
+            None => &[],
+            Some(site) => &site.target.at,
+        }
     }
 
     /// Reports the fields that are passed over, each as the line that drops it.
     fn print_unread<E: Write>(&self, errors: &mut E) {
         say(errors, b"neither read nor dropped:");
-        for field in self.refused.unread.as_slice() {
+        for field in self.refused.used.unread.as_slice() {
             say(errors, b"\ndrop ");
-            print_name(errors, &self.sides.source, whole(&field.at, field.field));
+            print_name(
+                errors,
+                &self.sides.source,
+                Named::whole(&field.at, field.field),
+            );
         }
     }
 
     /// Reports what nothing gives, of the failures of a rule at a line. False where something gives it all.
-    fn print_missing<E: Write>(
-        &self,
-        alloc: Global,
-        errors: &mut E,
-        sites: &[Site],
-        failures: &[Failure],
-    ) -> Result<bool, AllocError> {
+    fn print_missing<E: Write>(&self, errors: &mut E, failures: &[Failure]) -> bool {
         let Some(first) = failures.first() else {
-            return Ok(false);
+            return false;
         };
-        let made = node_made(sites, first.mark.line);
+        let made = self.node_made(first.mark.line);
         let mut any = false;
         for Failure { mark, .. } in failures {
             if mark.missing {
-                let at = node_marked(alloc, made, *mark)?;
                 if any {
                     say(errors, b", ");
                 }
                 any = true;
-                print_name(errors, &self.sides.target, whole(&at, mark.field));
+                let named = Named {
+                    child: mark.child,
+                    ..Named::whole(made, mark.field)
+                };
+                print_name(errors, &self.sides.target, named);
             }
         }
         if any {
             say(errors, b": no item and no rule gives it");
         }
-        Ok(any)
+        any
     }
 
     /// Reports what the line of a failure makes, and of what.
-    fn print_made<E: Write>(
-        &self,
-        alloc: Global,
-        errors: &mut E,
-        sites: &[Site],
-        failure: Failure,
-    ) -> Result<(), AllocError> {
-        let Some(site) = site_at(sites, failure.mark.line) else {
-            return Ok(());
-        };
-        let explanation = Explanation {
-            sides: self.sides,
-            map: &self.refused.map,
-            site,
-        };
-        explanation.tell(alloc, errors, failure)
+    fn print_made<E: Write>(&self, errors: &mut E, failure: Failure) {
+        if let Some(site) = site_at(&self.refused.used.sites, failure.mark.line) {
+            let explanation = Explanation {
+                sides: self.sides,
+                map: &self.refused.map,
+                site,
+            };
+            explanation.tell(errors, failure);
+        }
     }
 
     /// Reports what the failures of a rule at a line speak of: all that nothing gives, and the first part that something gives.
-    fn print_subject<E: Write>(
-        &self,
-        alloc: Global,
-        errors: &mut E,
-        found: &Found,
-        failures: &[Failure],
-    ) -> Result<(), AllocError> {
-        let is_told = self.print_missing(alloc, errors, &found.sites, failures)?;
+    fn print_subject<E: Write>(&self, errors: &mut E, failures: &[Failure]) {
+        let is_told = self.print_missing(errors, failures);
         let Some(given) = first_given(failures) else {
-            return Ok(());
+            return;
         };
         if is_told {
             say(errors, b"; ");
         }
         if given.rule == 9 {
             self.print_unread(errors);
-            return Ok(());
+        } else {
+            self.print_made(errors, given);
         }
-        self.print_made(alloc, errors, &found.sites, given)
     }
 
     /// Reports a rule that fails as well, at the line that stands first in the text: of a label the line itself, and what the rule demands.
-    fn print_other<E: Write>(
-        &self,
-        alloc: Global,
-        errors: &mut E,
-        found: &Found,
-        failures: &[Failure],
-        text: &[u8],
-    ) -> Result<(), AllocError> {
+    fn print_other<E: Write>(&self, errors: &mut E, failures: &[Failure], text: &[u8]) {
         let Some(first) = failures.first() else {
-            return Ok(());
+            return;
         };
         let path = self.written.path;
         let rule = first.rule;
@@ -296,44 +240,32 @@ impl Refusal<'_> {
             say(errors, b": ");
             say(errors, demand(rule));
         } else {
-            self.print_subject(alloc, errors, found, failures)?;
+            self.print_subject(errors, failures);
         }
         say(errors, b"\n");
-        Ok(())
     }
 
     /// Reports how many more rules fail, and each in a line of its own.
-    fn print_others<E: Write>(
-        &self,
-        alloc: Global,
-        errors: &mut E,
-        found: &Found,
-    ) -> Result<(), AllocError> {
+    fn print_others<E: Write>(&self, errors: &mut E, alike: &Alike) {
         let least = self.refused.least;
-        let more = found.alike.len().saturating_sub(1);
+        let more = alike.len().saturating_sub(1);
         if more == 0 {
-            return Ok(());
+            return;
         }
         let _ = writeln!(errors, "and {more} more:");
         let mut text = self.written.text.as_slice();
         let mut at = 1;
-        for ((line, rule), failures) in &found.alike {
+        for ((line, rule), failures) in alike {
             text = behind(text, line.saturating_sub(at));
             at = *line;
             if (*line, *rule) != (least.mark.line, least.rule) {
-                self.print_other(alloc, errors, found, failures, text)?;
+                self.print_other(errors, failures, text);
             }
         }
-        Ok(())
     }
 
     /// Reports the file with its line, what the failure speaks of, what to do, and what fails as well.
-    pub(crate) fn tell<E: Write>(
-        &self,
-        alloc: Global,
-        errors: &mut E,
-        found: &Found,
-    ) -> Result<(), AllocError> {
+    pub(crate) fn tell<E: Write>(&self, errors: &mut E, alike: &Alike) {
         let Written { path, text, above } = self.written;
         let rule = self.refused.least.rule;
         let line = self.refused.least.mark.line;
@@ -342,12 +274,12 @@ impl Refusal<'_> {
         say(errors, line_at(text, line));
         say(errors, b"\n");
         if rule > LAST_OF_LABELS
-            && let Some(failures) = found.alike.get(&(line, rule))
+            && let Some(failures) = alike.get(&(line, rule))
         {
-            self.print_subject(alloc, errors, found, failures)?;
+            self.print_subject(errors, failures);
             say(errors, b"\n");
         }
         let _ = writeln!(errors, "{}", advice(rule));
-        self.print_others(alloc, errors, found)
+        self.print_others(errors, alike);
     }
 }

@@ -1,26 +1,45 @@
 //! Elements of a profile in the field's words: their names, how often they come, and their values.
 use crate::report::say;
-use gw_profile::{Card, Node, Profile, Usage};
+use gw_check::{comp_at, field_at, sub_at};
+use gw_profile::{Card, CompShape, Node, Profile, SubShape, Usage};
 use gw_resolve::{CAP, Interval};
-use gw_subjects::{ElementPath, comp_at, field_at, sub_at};
 use std::io::Write;
 
-/// An element by its numbers: a node, or in it a field, a component, a subcomponent; 0 where the whole is meant.
+/// An element by its numbers: a node, or a node within that, or in it a field, a component, a subcomponent; 0 where the whole is meant.
 #[derive(Clone, Copy)]
 pub(crate) struct Named<'a> {
     pub(crate) at: &'a [usize],
+    pub(crate) child: Option<usize>,
     pub(crate) field: u32,
     pub(crate) comp: u32,
     pub(crate) sub: u32,
 }
 
-/// The element of a spot.
-pub(crate) fn element_of(spot: &ElementPath) -> Named<'_> {
-    Named {
-        at: &spot.at,
-        field: spot.field,
-        comp: spot.comp,
-        sub: spot.sub,
+impl<'a> Named<'a> {
+    /// A node, or the field of this number of it.
+    pub(crate) fn whole(at: &'a [usize], field: u32) -> Named<'a> {
+        Named {
+            at,
+            child: None,
+            field,
+            comp: 0,
+            sub: 0,
+        }
+    }
+
+    /// The same component, as a whole.
+    pub(crate) fn without_sub(self) -> Named<'a> {
+        Named { sub: 0, ..self }
+    }
+
+    /// What a profile lists for a component.
+    pub(crate) fn comp_in<'p>(&self, profile: &'p Profile) -> Option<&'p CompShape> {
+        comp_at(profile, self.at, self.field, self.comp)
+    }
+
+    /// What a profile lists for a subcomponent.
+    pub(crate) fn sub_in<'p>(&self, profile: &'p Profile) -> Option<&'p SubShape> {
+        sub_at(profile, self.at, self.field, self.comp, self.sub)
     }
 }
 
@@ -45,17 +64,19 @@ pub(crate) fn nodes_of(node: &Node) -> &[Node] {
     }
 }
 
-/// Names the labels that lead to a node.
-fn print_path<E: Write>(errors: &mut E, nodes: &[Node], at: &[usize]) {
+/// Names the labels that lead to a node, and to the node of this number within it.
+fn print_path<E: Write>(errors: &mut E, nodes: &[Node], at: &[usize], child: Option<usize>) {
     let mut level = nodes;
-    for (i, number) in at.iter().enumerate() {
+    let mut is_within = false;
+    for number in at.iter().chain(child.iter()) {
         let Some(node) = level.get(*number) else {
             return;
         };
-        if i > 0 {
+        if is_within {
             say(errors, b"/");
         }
         say(errors, label_of(node));
+        is_within = true;
         level = nodes_of(node);
     }
 }
@@ -64,11 +85,12 @@ fn print_path<E: Write>(errors: &mut E, nodes: &[Node], at: &[usize]) {
 pub(crate) fn print_name<E: Write>(errors: &mut E, profile: &Profile, named: Named<'_>) {
     let Named {
         at,
+        child,
         field,
         comp,
         sub,
     } = named;
-    print_path(errors, profile.nodes(), at);
+    print_path(errors, profile.nodes(), at, child);
     if field > 0 {
         let _ = write!(errors, "-{field}");
     }
@@ -130,29 +152,6 @@ pub(crate) fn print_profile<E: Write>(errors: &mut E, profile: &Profile) {
     say(errors, profile.name());
 }
 
-/// Reports what a profile says of an element, which it may not list.
-fn print_what<E: Write>(errors: &mut E, profile: &Profile, said: Option<(Usage, Option<Card>)>) {
-    match said {
-        None => {
-            say(errors, b" isn't listed");
-        }
-        Some((usage, card)) => {
-            say(errors, b" is ");
-            print_usage(errors, usage, card);
-        }
-    }
-    print_profile(errors, profile);
-}
-
-/// The field of a component or subcomponent.
-fn whole_field(spot: &ElementPath) -> Named<'_> {
-    Named {
-        comp: 0,
-        sub: 0,
-        ..element_of(spot)
-    }
-}
-
 /// The node to which the numbers lead.
 pub(crate) fn node_at<'a>(nodes: &'a [Node], at: &[usize]) -> Option<&'a Node> {
     let mut level = nodes;
@@ -165,46 +164,37 @@ pub(crate) fn node_at<'a>(nodes: &'a [Node], at: &[usize]) -> Option<&'a Node> {
     found
 }
 
-/// Reports how the node to which the numbers lead may come.
-pub(crate) fn print_node<E: Write>(errors: &mut E, profile: &Profile, at: &[usize]) {
-    let said = match node_at(profile.nodes(), at) {
-        None => None,
-        Some(node) => Some((usage_of(node), Some(node.card()))),
-    };
-    print_path(errors, profile.nodes(), at);
-    print_what(errors, profile, said);
+/// How an element may come, where a profile lists it.
+fn listed(profile: &Profile, named: Named<'_>) -> Option<(Usage, Option<Card>)> {
+    if named.field == 0 {
+        let node = node_at(profile.nodes(), named.at)?;
+        Some((usage_of(node), Some(node.card())))
+    } else if named.comp == 0 {
+        let field = field_at(profile, named.at, named.field)?;
+        Some((field.usage, Some(field.card)))
+    } else if named.sub == 0 {
+        Some((named.comp_in(profile)?.usage, None))
+    } else {
+        Some((named.sub_in(profile)?.usage, None))
+    }
 }
 
-/// Reports how a field may come.
-pub(crate) fn print_field<E: Write>(errors: &mut E, profile: &Profile, spot: &ElementPath) {
-    let said = match field_at(profile, spot) {
-        None => None,
-        Some(field) => Some((field.usage, Some(field.card))),
-    };
-    print_name(errors, profile, whole_field(spot));
-    print_what(errors, profile, said);
-}
-
-/// Reports how a component may come.
-pub(crate) fn print_comp<E: Write>(errors: &mut E, profile: &Profile, spot: &ElementPath) {
-    let said = match comp_at(profile, spot) {
-        None => None,
-        Some(comp) => Some((comp.usage, None)),
-    };
-    print_name(errors, profile, whole_field(spot));
-    let comp = spot.comp;
-    let _ = write!(errors, ".{comp}");
-    print_what(errors, profile, said);
-}
-
-/// Reports how a subcomponent may come.
-pub(crate) fn print_sub<E: Write>(errors: &mut E, profile: &Profile, spot: &ElementPath) {
-    let said = match sub_at(profile, spot) {
-        None => None,
-        Some(sub) => Some((sub.usage, None)),
-    };
-    print_name(errors, profile, whole_field(spot));
-    let ElementPath { comp, sub, .. } = spot;
-    let _ = write!(errors, ".{comp}.{sub}");
-    print_what(errors, profile, said);
+/// Reports how an element may come, by all of its numbers.
+pub(crate) fn print_element<E: Write>(errors: &mut E, profile: &Profile, named: Named<'_>) {
+    print_name(errors, profile, Named::whole(named.at, named.field));
+    for number in [named.comp, named.sub] {
+        if number > 0 {
+            let _ = write!(errors, ".{number}");
+        }
+    }
+    match listed(profile, named) {
+        None => {
+            say(errors, b" isn't listed");
+        }
+        Some((usage, card)) => {
+            say(errors, b" is ");
+            print_usage(errors, usage, card);
+        }
+    }
+    print_profile(errors, profile);
 }

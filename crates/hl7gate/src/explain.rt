@@ -70,16 +70,6 @@ fn skeleton(
     }
 }
 
-/// The numbers of a field, as a path of the source names it.
-fn named(field: &FieldAt) -> Named<'_> {
-    Named {
-        at: &field.at,
-        field: field.field,
-        comp: 0,
-        sub: 0,
-    }
-}
-
 /// The text of a map, with a `drop` of each field that it passes over.
 fn write_dropping(
     out: &mut Vec<u8>,
@@ -91,7 +81,7 @@ fn write_dropping(
     out.write_all(b"\n")?;
     for field in unread {
         out.write_all(b"drop ")?;
-        print_name(out, source, named(field));
+        print_name(out, source, Named::whole(&field.at, field.field));
         out.write_all(b"\n")?;
     }
     Ok(())
@@ -325,7 +315,7 @@ fn witnesses(
         spots: BTreeMap::new(alloc),
         out: Vec::new(alloc),
     };
-    let Some(map) = runnable(alloc, sides, written, &refused.unread)? else {
+    let Some(map) = runnable(alloc, sides, written, &refused.used.unread)? else {
         shown.conclude(
             b"no sample can be translated: a rule fails that isn't on the fields of ",
             &sides.target,
@@ -374,7 +364,7 @@ fn left_out(
     };
     match gw_check::examine(alloc, source, sides.target.clone()?, map) {
         Err(gw_check::Refusal::Memory(_)) => Err(RunFault::Memory),
-        Err(gw_check::Refusal::Rules { unread, .. }) => Ok(unread),
+        Err(gw_check::Refusal::Rules { used, .. }) => Ok(used.unread),
         Ok(_) => Ok(Vec::new(alloc)),
     }
 }
@@ -382,7 +372,7 @@ fn left_out(
 /// The fields that an accepted map leaves out, a line each.
 fn write_left_out(out: &mut Vec<u8>, source: &Profile, fields: &[FieldAt]) -> io::Result<()> {
     for field in fields {
-        print_name(out, source, named(field));
+        print_name(out, source, Named::whole(&field.at, field.field));
         out.write_all(b": left out\n")?;
     }
     Ok(())

@@ -2,10 +2,9 @@
 use crate::advice::Written;
 use crate::elements::{label_of, nodes_of};
 use crate::subjects::read_of;
-use gw_check::CheckedMap;
+use gw_check::{CheckedMap, Site, sites};
 use gw_maplang::Dropped;
 use gw_profile::{Node, Profile};
-use gw_subjects::{Site, sites};
 use std::alloc::{AllocError, Global};
 use std::collections::BTreeMap;
 use std::io::Write;

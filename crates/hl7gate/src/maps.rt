@@ -129,15 +129,13 @@ pub(crate) fn examined<'a>(
             gw_check::Refusal::Rules {
                 least,
                 found,
-                unread,
-                items,
+                used,
                 map,
             },
         ) => Ok(Judged::Refused(Refused {
             least,
             failures: found,
-            unread,
-            items,
+            used,
             map,
         })),
     }
@@ -173,9 +171,9 @@ pub(crate) fn write_refusal<'a, O: Write, E: Write>(
     output: &mut O,
     errors: &mut E,
 ) -> Result<u8, Ended<'a>> {
-    let found = refusal.found(alloc)?;
+    let alike = refusal.alike(alloc)?;
     write_rule(alloc, refusal.refused.least, output)?;
-    refusal.tell(alloc, errors, &found)?;
+    refusal.tell(errors, &alike);
     Ok(REFUSED)
 }
 
@@ -295,11 +293,11 @@ pub(crate) fn print_refusal<'a, E: Write>(
     refusal: Refusal<'_>,
     errors: &mut E,
 ) -> Result<u8, Ended<'a>> {
-    let found = refusal.found(alloc)?;
+    let alike = refusal.alike(alloc)?;
     let Failure { rule, mark } = refusal.refused.least;
     let line = refusal.written.above.saturating_add(mark.line);
     let _ = writeln!(errors, "refused K{rule} line {line}");
-    refusal.tell(alloc, errors, &found)?;
+    refusal.tell(errors, &alike);
     Ok(REFUSED)
 }
 

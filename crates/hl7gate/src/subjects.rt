@@ -1,15 +1,11 @@
 //! What a failure of a map speaks of, in the field's words: the part of the target that fails, what the source has for it, and what prevents them.
-use crate::elements::{
-    element_of, node_at, print_comp, print_field, print_interval, print_name, print_node,
-    print_profile, print_sub,
-};
+use crate::elements::{Named, node_at, print_element, print_interval, print_name, print_profile};
 use crate::maps::ProfilePair;
 use crate::report::say;
+use gw_check::{ElementPath, Origin, Site, Taker, untaken};
 use gw_maplang::Map;
 use gw_profile::{Count, Profile, SubShape, Usage, measure};
 use gw_resolve::{Failure, FailureSite};
-use gw_subjects::{ElementPath, Origin, Site, comp_at, sub_at, unlisted, unrowed};
-use std::alloc::{AllocError, Global};
 use std::io::Write;
 
 /// What a line of a map makes, with the map and its profiles.
@@ -21,10 +17,10 @@ pub(crate) struct Explanation<'a> {
 }
 
 /// The part of the target that fails, and what the source has for it, where the line reads anything.
-#[derive(Drop)]
-struct Parts {
-    target: ElementPath,
-    source: Option<ElementPath>,
+#[derive(Clone, Copy)]
+struct Parts<'a> {
+    target: Named<'a>,
+    source: Option<Named<'a>>,
 }
 
 /// What a line reads, where it reads anything.
@@ -44,70 +40,49 @@ fn is_copy(site: &Site) -> bool {
     }
 }
 
-/// A component and subcomponent of a field.
-fn part_of(
-    alloc: Global,
-    spot: &ElementPath,
-    field: u32,
-    comp: u32,
-    sub: u32,
-) -> Result<ElementPath, AllocError> {
-    let at = Vec::from_slice(alloc, &spot.at)?;
-    Ok(ElementPath {
-        at,
-        walked: spot.walked,
-        field,
-        comp,
-        sub,
-    })
-}
-
 /// What the source has for a part of what a line makes.
-fn source_of(
-    alloc: Global,
-    site: &Site,
-    mark: FailureSite,
-) -> Result<Option<ElementPath>, AllocError> {
-    let Some(from) = read_of(site) else {
-        return Ok(None);
-    };
+fn source_of(site: &Site, mark: FailureSite) -> Option<Named<'_>> {
+    let from = read_of(site)?;
     let (comp, sub) = if is_copy(site) {
         (mark.comp, mark.sub)
     } else {
         (from.comp, from.sub)
     };
-    Ok(Some(part_of(alloc, from, from.field, comp, sub)?))
+    Some(Named {
+        comp,
+        sub,
+        ..Named::whole(&from.at, from.field)
+    })
 }
 
 /// The part of what a line makes that a failure speaks of.
-fn parts_at(alloc: Global, site: &Site, mark: FailureSite) -> Result<Parts, AllocError> {
-    let target = part_of(alloc, &site.target, mark.field, mark.comp, mark.sub)?;
-    let source = source_of(alloc, site, mark)?;
-    Ok(Parts { target, source })
+fn parts_at(site: &Site, mark: FailureSite) -> Parts<'_> {
+    let target = Named {
+        comp: mark.comp,
+        sub: mark.sub,
+        ..Named::whole(&site.target.at, mark.field)
+    };
+    Parts {
+        target,
+        source: source_of(site, mark),
+    }
 }
 
 // ---- how often
 
-/// Whether a component is listed as always there.
-fn is_sure_comp(profile: &Profile, spot: &ElementPath) -> bool {
-    match comp_at(profile, spot) {
+/// Whether a component is listed with this usage.
+fn is_comp_of(profile: &Profile, named: Named<'_>, usage: Usage) -> bool {
+    match named.comp_in(profile) {
         None => false,
-        Some(comp) => comp.usage == Usage::R,
-    }
-}
-
-fn is_forbidden_comp(profile: &Profile, spot: &ElementPath) -> bool {
-    match comp_at(profile, spot) {
-        None => false,
-        Some(comp) => comp.usage == Usage::X,
+        Some(comp) => comp.usage == usage,
     }
 }
 
 /// The first node on the way to what is read that may be absent, among those that no item around the line walks.
-fn absent_on_the_way<'a>(profile: &Profile, spot: &'a ElementPath) -> Option<&'a [usize]> {
-    for (i, _number) in spot.at.iter().enumerate() {
-        let at = &spot.at[..=i];
-        if i >= spot.walked
+fn absent_on_the_way<'a>(profile: &Profile, from: &'a ElementPath) -> Option<&'a [usize]> {
+    for (i, _number) in from.at.iter().enumerate() {
+        let at = &from.at[..=i];
+        if i >= from.walked
             && let Some(node) = node_at(profile.nodes(), at)
             && node.card().min == 0
         {
@@ -117,68 +92,60 @@ fn absent_on_the_way<'a>(profile: &Profile, spot: &'a ElementPath) -> Option<&'a
     None
 }
 
-/// Reports an element of a profile by its own numbers.
-fn print_part<E: Write>(errors: &mut E, profile: &Profile, spot: &ElementPath) {
-    if spot.field == 0 {
-        print_node(errors, profile, &spot.at);
-    } else if spot.comp == 0 {
-        print_field(errors, profile, spot);
-    } else if spot.sub == 0 || is_forbidden_comp(profile, spot) {
-        print_comp(errors, profile, spot);
+/// Reports an element of a profile; of a forbidden component the whole.
+fn print_part<E: Write>(errors: &mut E, profile: &Profile, named: Named<'_>) {
+    if is_comp_of(profile, named, Usage::X) {
+        print_element(errors, profile, named.without_sub());
     } else {
-        print_sub(errors, profile, spot);
+        print_element(errors, profile, named);
     }
 }
 
 /// Reports whether what is read is there: by its field, or by its component where that may be absent.
-fn print_read<E: Write>(errors: &mut E, profile: &Profile, spot: &ElementPath) {
-    if spot.field > 0 && spot.comp > 0 && !is_sure_comp(profile, spot) {
-        print_comp(errors, profile, spot);
-    } else if spot.field > 0 {
-        print_field(errors, profile, spot);
+fn print_read<E: Write>(errors: &mut E, profile: &Profile, named: Named<'_>) {
+    if is_comp_of(profile, named, Usage::R) {
+        print_element(errors, profile, Named::whole(named.at, named.field));
     } else {
-        print_node(errors, profile, &spot.at);
-    }
-}
-
-/// Reports why what is read may be absent: by a node on the way to it, where one may be, or by itself.
-fn print_absent<E: Write>(errors: &mut E, profile: &Profile, spot: &ElementPath) {
-    match absent_on_the_way(profile, spot) {
-        Some(at) => print_node(errors, profile, at),
-        None => print_read(errors, profile, spot),
+        print_element(errors, profile, named.without_sub());
     }
 }
 
 impl Explanation<'_> {
+    /// Reports why what is read may be absent: by a node on the way to it, where one may be, or by itself.
+    fn print_absent<E: Write>(&self, errors: &mut E, from: Named<'_>) {
+        let source = &self.sides.source;
+        if let Some(path) = read_of(self.site)
+            && let Some(at) = absent_on_the_way(source, path)
+        {
+            print_element(errors, source, Named::whole(at, 0));
+            return;
+        }
+        print_read(errors, source, from);
+    }
+
     /// Reports what the source has for a part of the target of which rule 5 or 11 fails.
-    fn print_source<E: Write>(
-        &self,
-        errors: &mut E,
-        rule: u8,
-        mark: FailureSite,
-        from: &ElementPath,
-    ) {
+    fn print_source<E: Write>(&self, errors: &mut E, rule: u8, mark: FailureSite, from: Named<'_>) {
         let source = &self.sides.source;
         say(errors, b", and ");
         if is_copy(self.site) && mark.comp > 0 {
             print_part(errors, source, from);
         } else if rule == 5 {
-            print_absent(errors, source, from);
+            self.print_absent(errors, from);
         } else {
             print_read(errors, source, from);
         }
     }
 
     /// Reports how often the target asks for a part of what the line makes, and what gives it.
-    fn print_often<E: Write>(&self, errors: &mut E, failure: Failure, parts: &Parts) {
+    fn print_often<E: Write>(&self, errors: &mut E, failure: Failure, parts: Parts<'_>) {
         let Failure { rule, mark } = failure;
-        print_part(errors, &self.sides.target, &parts.target);
+        print_part(errors, &self.sides.target, parts.target);
         if let (4, Some(count)) = (rule, mark.count) {
             say(errors, b", and the map gives it ");
             print_interval(errors, count);
         } else if rule == 5 && mark.comp > 0 && !is_copy(self.site) {
             say(errors, b", and no leaf is always there for it");
-        } else if let Some(from) = &parts.source {
+        } else if let Some(from) = parts.source {
             self.print_source(errors, rule, mark, from);
         }
     }
@@ -207,10 +174,10 @@ fn len_of(sub: Option<&SubShape>) -> Option<u32> {
 }
 
 /// Reports how long a text of an element may be, by the count of its profile.
-fn print_length<E: Write>(errors: &mut E, profile: &Profile, spot: &ElementPath) {
-    print_name(errors, profile, element_of(spot));
+fn print_length<E: Write>(errors: &mut E, profile: &Profile, named: Named<'_>) {
+    print_name(errors, profile, named);
     say(errors, b" has ");
-    print_most(errors, len_of(sub_at(profile, spot)), profile.count());
+    print_most(errors, len_of(named.sub_in(profile)), profile.count());
     print_profile(errors, profile);
 }
 
@@ -224,9 +191,9 @@ fn table_of(sub: Option<&SubShape>) -> Option<&[u8]> {
 }
 
 /// Reports the table of an element.
-fn print_table<E: Write>(errors: &mut E, profile: &Profile, spot: &ElementPath) {
-    print_name(errors, profile, element_of(spot));
-    match table_of(sub_at(profile, spot)) {
+fn print_table<E: Write>(errors: &mut E, profile: &Profile, named: Named<'_>) {
+    print_name(errors, profile, named);
+    match table_of(named.sub_in(profile)) {
         None => {
             say(errors, b" has no table");
         }
@@ -238,42 +205,7 @@ fn print_table<E: Write>(errors: &mut E, profile: &Profile, spot: &ElementPath) 
     print_profile(errors, profile);
 }
 
-/// Whether a text is no longer, by this count.
-fn is_at_most(count: Count, text: &[u8], len: Option<u32>) -> bool {
-    match len {
-        None => true,
-        Some(len) => measure(count, text) <= u64::from(len),
-    }
-}
-
-/// The first listed text of a source that its own length allows and that is longer than the target's most, each by the count of its profile.
-fn first_long<'a>(sides: &'a ProfilePair, from: &SubShape, most: u32) -> Option<&'a [u8]> {
-    let ProfilePair { source, target } = sides;
-    let table = source.table(table_of(Some(from))?)?;
-    for text in table.values() {
-        if is_at_most(source.count(), text, from.len)
-            && !is_at_most(target.count(), text, Some(most))
-        {
-            return Some(text.as_slice());
-        }
-    }
-    None
-}
-
-/// The first listed text of a source that the table of a target lacks.
-fn first_strange<'a>(sides: &'a ProfilePair, from: &SubShape, to: &SubShape) -> Option<&'a [u8]> {
-    let table = sides.target.table(table_of(Some(to))?)?;
-    unlisted(&sides.source, from, table)
-}
-
 // ---- what prevents a map
-
-/// Prints a text that prevents the map.
-fn print_text<E: Write>(errors: &mut E, text: &[u8], said: &str) {
-    say(errors, b": ");
-    say(errors, text);
-    say(errors, said.as_bytes());
-}
 
 impl Explanation<'_> {
     /// Reports the table of the map in which a text is looked up, where it is.
@@ -286,69 +218,81 @@ impl Explanation<'_> {
         true
     }
 
-    /// Reports the table of the target and that of the source, and a text that only the source's has.
-    fn print_strange<E: Write>(&self, errors: &mut E, to: &ElementPath, from: &ElementPath) {
-        let ProfilePair { source, target } = self.sides;
-        print_table(errors, target, to);
-        say(errors, b", and ");
-        print_table(errors, source, from);
-        if self.print_lookup(errors) {
-            return;
-        }
-        let to = sub_at(target, to);
-        let from = sub_at(source, from);
-        if let (Some(to), Some(from)) = (to, from)
-            && let Some(text) = first_strange(self.sides, from, to)
+    /// Reports a text that the source lists and that isn't taken, where there is one.
+    fn print_untaken<E: Write>(
+        &self,
+        errors: &mut E,
+        from: Named<'_>,
+        taker: Option<Taker<'_>>,
+        said: &str,
+    ) {
+        let source = &self.sides.source;
+        if let (Some(from), Some(taker)) = (from.sub_in(source), taker)
+            && let Some(text) = untaken(source, from, taker)
         {
-            print_text(errors, text, " is unknown to the target");
+            say(errors, b": ");
+            say(errors, text);
+            say(errors, said.as_bytes());
+        }
+    }
+
+    /// The table of a part of the target.
+    fn target_table(&self, to: Named<'_>) -> Option<Taker<'_>> {
+        let target = &self.sides.target;
+        let name = table_of(to.sub_in(target))?;
+        Some(Taker::Table(target.table(name)?))
+    }
+
+    /// The length of a part of the target.
+    fn target_length(&self, to: Named<'_>) -> Option<Taker<'_>> {
+        let target = &self.sides.target;
+        let most = len_of(to.sub_in(target))?;
+        Some(Taker::Length(target.count(), Some(most)))
+    }
+
+    /// Reports the table of the target and that of the source, and a text that only the source's has.
+    fn print_strange<E: Write>(&self, errors: &mut E, to: Named<'_>, from: Named<'_>) {
+        print_table(errors, &self.sides.target, to);
+        say(errors, b", and ");
+        print_table(errors, &self.sides.source, from);
+        if !self.print_lookup(errors) {
+            let table = self.target_table(to);
+            self.print_untaken(errors, from, table, " is unknown to the target");
         }
     }
 
     /// Reports the length that the target takes, and that of the source.
-    fn print_long<E: Write>(&self, errors: &mut E, to: &ElementPath, from: &ElementPath) {
-        let ProfilePair { source, target } = self.sides;
-        print_length(errors, target, to);
+    fn print_long<E: Write>(&self, errors: &mut E, to: Named<'_>, from: Named<'_>) {
+        print_length(errors, &self.sides.target, to);
         say(errors, b", and ");
-        print_length(errors, source, from);
-        if self.print_lookup(errors) {
-            return;
-        }
-        let most = len_of(sub_at(target, to));
-        let from = sub_at(source, from);
-        if let (Some(most), Some(from)) = (most, from)
-            && let Some(text) = first_long(self.sides, from, most)
-        {
-            print_text(errors, text, " is longer");
+        print_length(errors, &self.sides.source, from);
+        if !self.print_lookup(errors) {
+            let length = self.target_length(to);
+            self.print_untaken(errors, from, length, " is longer");
         }
     }
 
+    /// The rows of the map's table of this name.
+    fn rows(&self, name: &[u8]) -> Option<Taker<'_>> {
+        Some(Taker::Rows(self.map.table(name)?))
+    }
+
     /// Reports the table of what is looked up, and a text that has no row.
-    fn print_unrowed<E: Write>(&self, errors: &mut E) {
-        let Origin::LookedUp(name, from) = &self.site.origin else {
-            return;
-        };
-        let source = &self.sides.source;
-        print_table(errors, source, from);
-        let Some(sub) = sub_at(source, from) else {
-            return;
-        };
-        let Some(rows) = self.map.table(name) else {
-            return;
-        };
-        if let Some(text) = unrowed(source, sub, rows) {
-            print_text(errors, text, " has no row");
+    fn print_unrowed<E: Write>(&self, errors: &mut E, parts: Parts<'_>) {
+        if let (Origin::LookedUp(name, _), Some(from)) = (&self.site.origin, parts.source) {
+            print_table(errors, &self.sides.source, from);
+            self.print_untaken(errors, from, self.rows(name), " has no row");
         }
     }
 
     /// Reports a constant, and what the target takes.
-    fn print_constant<E: Write>(&self, errors: &mut E, to: &ElementPath) {
+    fn print_constant<E: Write>(&self, errors: &mut E, to: Named<'_>) {
         let Origin::Text(text) = &self.site.origin else {
             return;
         };
         let target = &self.sides.target;
-        let len = len_of(sub_at(target, to));
         let size = measure(target.count(), text);
-        match len {
+        match len_of(to.sub_in(target)) {
             Some(most) if size > u64::from(most) => {
                 print_length(errors, target, to);
                 let _ = write!(errors, ", and this has {size}");
@@ -356,35 +300,17 @@ impl Explanation<'_> {
             _ => print_table(errors, target, to),
         }
     }
-}
-
-impl Explanation<'_> {
-    /// Reports the elements of which rule 6 or 7 fails.
-    fn print_texts<E: Write>(&self, errors: &mut E, rule: u8, parts: &Parts) {
-        let Some(from) = &parts.source else {
-            return;
-        };
-        if rule == 6 {
-            self.print_strange(errors, &parts.target, from);
-        } else {
-            self.print_long(errors, &parts.target, from);
-        }
-    }
 
     /// Reports what a failure at the line speaks of.
-    pub(crate) fn tell<E: Write>(
-        &self,
-        alloc: Global,
-        errors: &mut E,
-        failure: Failure,
-    ) -> Result<(), AllocError> {
-        let parts = parts_at(alloc, self.site, failure.mark)?;
-        match failure.rule {
-            6 | 7 => self.print_texts(errors, failure.rule, &parts),
-            10 => self.print_unrowed(errors),
-            12 => self.print_constant(errors, &parts.target),
-            _ => self.print_often(errors, failure, &parts),
+    pub(crate) fn tell<E: Write>(&self, errors: &mut E, failure: Failure) {
+        let parts = parts_at(self.site, failure.mark);
+        match (failure.rule, parts.source) {
+            (6, Some(from)) => self.print_strange(errors, parts.target, from),
+            (7, Some(from)) => self.print_long(errors, parts.target, from),
+            (6 | 7, None) => {}
+            (10, _) => self.print_unrowed(errors, parts),
+            (12, _) => self.print_constant(errors, parts.target),
+            _ => self.print_often(errors, failure, parts),
         }
-        Ok(())
     }
 }

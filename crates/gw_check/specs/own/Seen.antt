@@ -1,30 +1,23 @@
--- The failures and the reads of the definitions, of parts as the program holds them.
-use Rattle.std.specs.Prelude.{ℕ, ◌&&◌, not, nat_lt, List, [], ◌∷◌, ◌++◌, map, flat_map, Option, option_map}
-use Rattle.std.specs.Global.{Vec}
+-- The failures of the definitions, of parts as the program holds them.
+use Rattle.std.specs.Prelude.{ℕ, ◌&&◌, not, nat_lt, List, ◌++◌, map, Option}
 use denote.Ref.{Bor}
 use Rattle.gw_profile.specs.declared.shape.FieldShape.{FieldShape}
-use Rattle.gw_profile.specs.Shapes.{FieldValue, Forest}
+use Rattle.gw_profile.specs.Shapes.{FieldValue}
 use Rattle.gw_profile.specs.Seen.{field as field_value, profile_value}
 use Rattle.gw_maplang.specs.Seen.{map_value}
-use Rattle.gw_maplang.specs.Shapes.{TableValue}
 use Rattle.gw_validate.specs.Breaches.{is_forbidden}
-use Rattle.gw_resolve.specs.declared.resolved.At.{At}
-use Rattle.gw_resolve.specs.declared.resolved.Making.{Making}
 use Rattle.gw_resolve.specs.declared.resolved.Rule.{Rule}
-use Rattle.gw_resolve.specs.declared.resolved.SegmentItem.{SegmentItem}
 use Rattle.gw_resolve.specs.declared.resolved.Item.{Item}
 use Rattle.gw_resolve.specs.declared.resolved.LeftOut.{LeftOut}
 use Rattle.gw_resolve.specs.Failures.{Failure, fails}
 use Rattle.gw_resolve.specs.Failures.{Mark as Told}
 use Rattle.gw_resolve.specs.Intervals.{Interval, is_never, is_within}
-use Rattle.gw_resolve.specs.Resolved.{no_items}
-use Rattle.gw_resolve.specs.Seen.{mark, place, at_leaf, making, rule, with_item, all_items, left_out}
+use Rattle.gw_resolve.specs.Seen.{mark, all_items, left_out}
 use Rattle.gw_leaves.specs.declared.sources.Sources.{Sources}
 use Rattle.gw_leaves.specs.Context.{ContextValue}
 use Rattle.gw_leaves.specs.Uses.{sources_value, target_value, map_tables, some_rule, rules_value, rule_count}
 use Rattle.gw_check.specs.declared.often.Asked.{Asked}
 use Rattle.gw_check.specs.Answers.{unlabelled}
-use Rattle.gw_resolve.specs.Positions.{inner_if, positions}
 use Rattle.gw_check.specs.Fields as spec
 use Rattle.gw_check.specs.Reads as reads
 use Rattle.gw_check.specs.Reads.{SourceField}
@@ -69,36 +62,8 @@ segment_failures s holder rules = spec.segment_failures (sources_value s) (targe
 abbrev pub failures : ContextValue → List Item → List LeftOut → List Failure
 failures s items drops = typed.failures (profile_value s.source) (profile_value s.target) (unlabelled (map_value s.map) items drops)
 
--- ---- what is read
-
-abbrev pub leaves_read : List TableValue → List (Vec ℕ) → List At → List SourceField
-leaves_read tables scope leaves = flat_map (reads.at_reads (positions scope)) (map (at_leaf tables) leaves)
-
-abbrev pub making_reads : List TableValue → List (Vec ℕ) → Making → List SourceField
-making_reads tables scope m = reads.making_reads (positions scope) (making tables m)
-
-abbrev pub rules_read : List TableValue → List (Vec ℕ) → List Rule → List SourceField
-rules_read tables scope rules = reads.rules_read (positions scope) (map (rule tables) rules)
-
-abbrev pub segment_reads : List TableValue → List (Vec ℕ) → SegmentItem → List SourceField
-segment_reads tables scope s = reads.rules_read (inner_if (positions scope) (option_map place s.place)) (map (rule tables) s.rules.items)
-
-abbrev pub item_reads : List TableValue → List (Vec ℕ) → Item → List SourceField
-item_reads tables scope i = reads.items_read (positions scope) (with_item tables i no_items)
-
-abbrev pub items_read : List TableValue → List (Vec ℕ) → List Item → List SourceField
-items_read tables scope items = reads.items_read (positions scope) (all_items tables items)
-
--- from the top on
-abbrev pub all_read : List TableValue → List Item → List SourceField
-all_read tables items = reads.items_read ([] ∷ []) (all_items tables items)
-
 -- ---- what is passed over
 
--- of these nodes
-abbrev pub passed_over : List TableValue → List Item → List LeftOut → Forest → List SourceField
-passed_over tables items drops nodes = reads.passed_over (all_read tables items) (map left_out drops) [] 0 nodes
-
--- those of the source of a map
+-- of the source of a map
 abbrev pub unread : ContextValue → List Item → List LeftOut → List SourceField
-unread s items drops = passed_over s.map.tables items drops (profile_value s.source).nodes
+unread s items drops = reads.passed_over (all_items s.map.tables items) (map left_out drops) (profile_value s.source).nodes

@@ -1,8 +1,7 @@
 use Rattle.std.proofs.Common.{◌≡◌, ◌++◌, ◌+◌, ◌*◌, drop}
 use Rattle.gw_profile.specs.declared.node.Node.{size-Node}
 use Rattle.gw_profile.specs.Seen.{forest}
-use Rattle.gw_check.specs.Collected.{fields_at}
-use Rattle.gw_check.specs.Unread.{all_missed}
+use Rattle.gw_check.specs.Collected.{fields_at, nodes_missed}
 use Rattle.gw_check.proofs.overlooked.+gather.Given as goal
 
 abbrev pub decreases-add_node : goal.decreases-add_node
@@ -16,4 +15,4 @@ decreases-add_nodes l = 3 * goal.size-add_nodes l + 1
 
 abbrev pub invariant-add_nodes-loop-j : goal.invariant-add_nodes-loop-j
 invariant-add_nodes-loop-j l =
-    fields_at l.initial.found.items ++ all_missed l.known l.above 0 (forest l.nodes) ≡ fields_at l.found.items ++ all_missed l.known l.above l.j (forest (drop l.j l.nodes))
+    fields_at l.initial.found.items ++ nodes_missed l.known l.above 0 (forest l.nodes) ≡ fields_at l.found.items ++ nodes_missed l.known l.above l.j (forest (drop l.j l.nodes))

@@ -10,7 +10,7 @@ returns-in-Some c =
       least = sym (ap (option_map failure) c.in-Some.is) ∙ c.least.ensures ∙ ap (λ l. least (failures l)) c.deref.ensures.value ∙ ap least c.in_ok-examined.ensures.found;
       all = c.in_ok-examined.ensures.found;
       unread = c.in_ok-examined.ensures.unread;
-      items = c.in_ok-examined.ensures.labelled;
+      made = c.in_ok-examined.ensures.made;
     }
 
 pub returns-in-None : goal.returns-in-None

@@ -1,0 +1,59 @@
+-- What the program holds of the lines of a map, without where it lies in memory.
+use Rattle.std.specs.Prelude.{◌≡◌, ◌++◌, ℕ, List, [], ◌∷◌, map, Option, option_map, unwrap_or, Result, IfOk, OnOk}
+use denote.Ref.{Bor}
+use Rattle.gw_maplang.specs.Shapes.{TableValue, Rows, table_of}
+use Rattle.gw_resolve.specs.Naming.{no_rows}
+use Rattle.gw_resolve.specs.Resolved.{Reference, SegmentItem}
+use Rattle.gw_resolve.specs.Seen.{reference, place, rule}
+use Rattle.gw_resolve.specs.declared.resolved.SegmentItem as segments
+use Rattle.gw_resolve.specs.declared.resolved.Reference as references
+use Rattle.gw_check.specs.Sites.{Spot, Origin, unsaid, text, read, repeated, given, Site, site_of}
+use Rattle.gw_check.specs.declared.segments.Target.{Target}
+use Rattle.gw_check.specs.declared.site.ElementPath as spots
+use Rattle.gw_check.specs.declared.site.Origin as origins
+use Rattle.gw_check.specs.declared.site.Site as declared
+
+abbrev pub spot : spots.ElementPath → Spot
+spot s = record { at = s.at.items; walked = s.walked; field = s.field; comp = s.comp; sub = s.sub }
+
+-- the rows of the table of this name, none where there isn't one
+abbrev pub rows_of : List TableValue → List ℕ → Rows
+rows_of tables name = unwrap_or (table_of name tables) no_rows
+
+abbrev pub origin : List TableValue → origins.Origin → Origin
+origin tables origins.TheVariants.Unsaid = unsaid
+origin tables (origins.TheVariants.Text octets) = text octets.items
+origin tables (origins.TheVariants.Read from) = read (spot from)
+origin tables (origins.TheVariants.Repeated from) = repeated (spot from)
+origin tables (origins.TheVariants.LookedUp name from) = given (rows_of tables name.items) (spot from)
+
+-- the origin that was made, if any, whatever the map's tables are
+abbrev pub OriginIs : {E : Type 0} → Result origins.Origin E → (List TableValue → Origin) → Type 0
+OriginIs result made = (tables : List TableValue) → IfOk result (λ o. origin tables o ≡ made tables)
+
+abbrev pub site : List TableValue → declared.Site → Site
+site tables s = record { line = s.line; target = spot s.target; origin = origin tables s.origin }
+
+abbrev pub all_sites : List TableValue → List declared.Site → List Site
+all_sites tables = map (site tables)
+
+-- what a line makes
+abbrev pub made : ℕ → Target → Origin → List Site
+made line t origin = site_of line t.at.now t.field t.part.comp t.part.sub origin ∷ []
+
+abbrev pub some_reference : Option (Bor references.Reference) → Option Reference
+some_reference from = option_map (λ b. reference b.now) from
+
+abbrev pub some_site : List TableValue → Option (Bor declared.Site) → Option Site
+some_site tables s = option_map (λ b. site tables b.now) s
+
+abbrev pub segment_item : List TableValue → segments.SegmentItem → SegmentItem
+segment_item tables s = record { line = s.line; child = s.child; place = option_map place s.place; rules = map (rule tables) s.rules.items }
+
+-- these were found as well
+abbrev pub Adds : List TableValue → List declared.Site → List declared.Site → List Site → Type 0
+Adds tables old new more = all_sites tables new ≡ all_sites tables old ++ more
+
+-- the same of a call that went through, whatever the map's tables are
+abbrev pub AddsAll : {X E : Type 0} → Result X E → List declared.Site → List declared.Site → (List TableValue → List Site) → Type 0
+AddsAll result old new more = (tables : List TableValue) → OnOk result (Adds tables old new (more tables))

@@ -1,0 +1,162 @@
+//! What the rules of a target segment make.
+ghost use Rattle.std.specs.Prelude.{map, flat_map};
+ghost use Rattle.gw_resolve.specs.Positions.{positions};
+ghost use Rattle.gw_resolve.specs.Seen.{at_leaf, place as seen_place, rule as seen_rule};
+ghost use Rattle.gw_check.specs.Seen.{AddsAll, made, origin as seen_origin, some_reference};
+ghost use Rattle.gw_check.specs.Sites as spec;
+
+use crate::origins::{leaf_origin, path_at};
+use crate::site::{ElementPath, Origin, Site};
+use gw_maplang::LeafPlace;
+use gw_resolve::{At, Making, Reference, Rule, ScopePath};
+use std::alloc::{AllocError, Global};
+
+/// An element of the target: a node at a position, a field of it, or a part of that; 0 where the whole is meant.
+#[derive(Clone, Copy)]
+pub(crate) struct Target<'a> {
+    pub(crate) at: &'a [usize],
+    pub(crate) field: u32,
+    pub(crate) part: LeafPlace,
+}
+
+/// Adds what a line makes.
+pub(crate) fn add_site(
+    alloc: Global,
+    sites: &mut Vec<Site>,
+    line: u32,
+    target: Target<'_>,
+    origin: Origin,
+) -> Result<(), AllocError>
+    ensures { AddsAll result sites.old.items sites.new.items (λ tables. made line target.entry (seen_origin tables origin)) }
+{
+    let at = Vec::from_slice(alloc, target.at)?;
+    let target = ElementPath {
+        at,
+        walked: 0,
+        field: target.field,
+        comp: target.part.comp,
+        sub: target.part.sub,
+    };
+    sites.push(Site {
+        line,
+        target,
+        origin,
+    })?;
+    Ok(())
+}
+
+/// Adds what a line makes of an element of the source: the field of this number at a place, 0 for the segment or group.
+pub(crate) fn add_read(
+    alloc: Global,
+    sites: &mut Vec<Site>,
+    scope: &[Vec<usize>],
+    line: u32,
+    target: Target<'_>,
+    place: &ScopePath,
+    field: u32,
+) -> Result<(), AllocError>
+    ensures { AddsAll result sites.old.items sites.new.items
+        (λ tables. made line target.entry (spec.read (spec.spot_at (positions scope.now) (seen_place place.now) field 0 0))) }
+{
+    let from = path_at(alloc, scope, place, field, LeafPlace { comp: 0, sub: 0 })?;
+    add_site(alloc, sites, line, target, Origin::Read(from))
+}
+
+fn add_leaf(
+    alloc: Global,
+    sites: &mut Vec<Site>,
+    scope: &[Vec<usize>],
+    walked: Option<&Reference>,
+    target: Target<'_>,
+    leaf: &At,
+) -> Result<(), AllocError>
+    ensures { AddsAll result sites.old.items sites.new.items
+        (λ tables. spec.leaf_sites (positions scope.now) (some_reference walked.entry) target.entry.at.now target.entry.field (at_leaf tables leaf.now)) }
+{
+    let origin = leaf_origin(alloc, scope, walked, &leaf.leaf)?;
+    let part = Target {
+        part: leaf.place,
+        ..target
+    };
+    add_site(alloc, sites, leaf.line, part, origin)
+}
+
+fn add_leaves(
+    alloc: Global,
+    sites: &mut Vec<Site>,
+    scope: &[Vec<usize>],
+    walked: Option<&Reference>,
+    target: Target<'_>,
+    leaves: &[At],
+) -> Result<(), AllocError>
+    ensures { AddsAll result sites.old.items sites.new.items
+        (λ tables. flat_map (spec.leaf_sites (positions scope.now) (some_reference walked.entry) target.entry.at.now target.entry.field) (map (at_leaf tables) leaves.now)) }
+{
+    for leaf in leaves {
+        add_leaf(alloc, sites, scope, walked, target, leaf)?;
+    }
+    Ok(())
+}
+
+// A field that is repeated by leaves.
+fn add_repeated(
+    alloc: Global,
+    sites: &mut Vec<Site>,
+    scope: &[Vec<usize>],
+    line: u32,
+    target: Target<'_>,
+    from: &Reference,
+) -> Result<(), AllocError>
+    ensures { AddsAll result sites.old.items sites.new.items
+        (λ tables. made line target.entry (spec.repeated (spec.spot_at (positions scope.now) (seen_place from.now.place) from.now.field 0 0))) }
+{
+    let whole = LeafPlace { comp: 0, sub: 0 };
+    let from = path_at(alloc, scope, &from.place, from.field, whole)?;
+    add_site(alloc, sites, line, target, Origin::Repeated(from))
+}
+
+fn add_rule(
+    alloc: Global,
+    sites: &mut Vec<Site>,
+    scope: &[Vec<usize>],
+    at: &[usize],
+    rule: &Rule,
+) -> Result<(), AllocError>
+    ensures { AddsAll result sites.old.items sites.new.items (λ tables. spec.rule_sites (positions scope.now) at.now (seen_rule tables rule.now)) }
+{
+    let line = rule.line;
+    let field = Target {
+        at,
+        field: rule.field,
+        part: LeafPlace { comp: 0, sub: 0 },
+    };
+    match &rule.making {
+        Making::Copy(from) | Making::First(from) => {
+            add_read(alloc, sites, scope, line, field, &from.place, from.field)
+        }
+        Making::Repeat(from, leaves) => {
+            add_leaves(alloc, sites, scope, Some(from), field, leaves)?;
+            add_repeated(alloc, sites, scope, line, field, from)
+        }
+        Making::Build(leaves) => {
+            add_leaves(alloc, sites, scope, None, field, leaves)?;
+            add_site(alloc, sites, line, field, Origin::Unsaid)
+        }
+    }
+}
+
+/// Adds what the rules of the segment at this position make.
+pub(crate) fn add_rules(
+    alloc: Global,
+    sites: &mut Vec<Site>,
+    scope: &[Vec<usize>],
+    at: &[usize],
+    rules: &[Rule],
+) -> Result<(), AllocError>
+    ensures { AddsAll result sites.old.items sites.new.items (λ tables. spec.rules_sites (positions scope.now) at.now (map (seen_rule tables) rules.now)) }
+{
+    for rule in rules {
+        add_rule(alloc, sites, scope, at, rule)?;
+    }
+    Ok(())
+}

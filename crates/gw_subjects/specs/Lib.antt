@@ -1,3 +1,0 @@
-pub mod Sites
-pub mod Seen
-pub mod Elements
