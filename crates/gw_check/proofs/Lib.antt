@@ -3,6 +3,7 @@ pub mod Stepped
 pub mod Within
 pub mod Missing
 pub mod Collecting
+pub mod Accounting
 pub mod Adding
 pub mod Least
 pub mod Placing

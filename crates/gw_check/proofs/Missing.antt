@@ -17,7 +17,7 @@ use Rattle.gw_check.specs.declared.site.Origin as origins
 use Rattle.gw_check.specs.Seen.{origin, all_sites}
 use Rattle.gw_check.specs.Sites.{sites}
 use Rattle.gw_resolve.specs.Positions.{Position}
-use Rattle.gw_check.specs.Collected.{Adds, fields_at, segment_missed, nodes_missed, within_missed, node_missed}
+use Rattle.gw_check.specs.Collected.{Accounts, Adds, fields_at, segment_missed, nodes_missed, within_missed, node_missed}
 
 -- what is read, whatever the map's tables are
 any_tables : (tables : List TableValue) (made : List declared.Site) (at : Position) (n : ℕ) → is_read (all_sites [] made) at n ≡ is_read (all_sites tables made) at n
@@ -32,11 +32,11 @@ any_tables tables (s ∷ more) at n = ap₂ (λ a b. a || b) (by s.origin) (any_
     by (origins.TheVariants.LookedUp name from) = refl
 
 -- none were found before
-pub missed_fields : (tables : List TableValue) (items : Items) (made : List declared.Site) (drops : List Drop) (nodes : Forest) (none found : List FieldAt) → all_sites tables made ≡ sites items → none ≡ [] →
-    Adds none found (missed_within (λ at field. is_read (all_sites [] made) at field || drops_field drops at field) (drops_element drops) [] nodes) → fields_at found ≡ passed_over items drops nodes
-missed_fields tables items made drops nodes none found same e h =
-    h ∙ ap (λ l. fields_at l ++ missed_within (λ at field. is_read (all_sites [] made) at field || drops_field drops at field) (drops_element drops) [] nodes) e
-    ∙ (λ x. missed_within (λ at field. (any_tables tables made at field ∙ ap (λ l. is_read l at field) same) x || drops_field drops at field) (drops_element drops) [] nodes)
+pub missed_fields : (tables : List TableValue) (items : Items) (made : List declared.Site) (drops : List Drop) (known : Accounted) (nodes : Forest) (none found : List FieldAt) → Accounts known (all_sites [] made) drops → all_sites tables made ≡ sites items → none ≡ [] →
+    Adds none found (within_missed known [] nodes) → fields_at found ≡ passed_over items drops nodes
+missed_fields tables items made drops known nodes none found all same e h =
+    h ∙ ap (λ l. fields_at l ++ within_missed known [] nodes) e
+    ∙ (λ x. missed_within (λ at field. (all.fields at field ∙ ap (λ b. b || drops_field drops at field) (any_tables tables made at field ∙ ap (λ l. is_read l at field) same)) x) (λ at. all.elements at x) [] nodes)
 
 -- ---- one after the other
 

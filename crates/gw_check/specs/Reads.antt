@@ -41,9 +41,13 @@ is_dropped steps (Some number) at field = is_field steps number at field
 abbrev pub drops_field : List Drop → Position → ℕ → Bool
 drops_field drops at field = list_any (λ d. is_dropped d.steps d.field at field) drops
 
+-- the element at this position is that one
+abbrev pub is_element : Position → Position → Bool
+is_element here at = bytes_eq here at
+
 -- an element, with all that is in it
 abbrev pub is_dropped_whole : List ℕ → Option ℕ → Position → Bool
-is_dropped_whole steps None at = bytes_eq steps at
+is_dropped_whole steps None at = is_element steps at
 is_dropped_whole steps (Some number) at = false
 
 abbrev pub drops_element : List Drop → Position → Bool

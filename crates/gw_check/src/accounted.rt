@@ -1,14 +1,17 @@
-//! What a map accounts for in its source: the fields that its lines read, and what it drops.
-ghost use Rattle.std.specs.Prelude.{◌≡◌, [], map, bytes_eq};
+//! What a map accounts for in its source, looked up by hash.
+ghost use Rattle.std.specs.Prelude.{◌≡◌, [], false, IfOk, OnOk, map};
 ghost use Rattle.gw_check.specs.Reads as spec;
 ghost use Rattle.gw_check.specs.Seen.{site as seen_site, all_sites};
-ghost use Rattle.gw_check.specs.Collected.{has_field, has_element};
+ghost use Rattle.gw_check.specs.Collected.{Accounts, Gains, no_field, no_element, has_field, has_element};
 ghost use Rattle.gw_resolve.specs.Seen.{left_out as seen_drop};
 
 use crate::site::{Origin, Site};
 use gw_resolve::LeftOut;
+use indexmap::IndexSet;
+use std::alloc::{AllocError, Global};
 
 /// A field of the segment at a position: the numbers of the nodes that lead to it, from the profile's top on and each from 0.
+#[derive(PartialEq, Eq, Hash)]
 pub struct FieldAt {
     pub at: Vec<usize>,
     pub field: u32,
@@ -21,87 +24,109 @@ impl Drop for FieldAt {
     }
 }
 
-/// What the lines of a map make, and of what, and what it drops.
-#[derive(Clone, Copy)]
-pub(crate) struct Accounted<'a> {
-    pub(crate) sites: &'a [Site],
-    pub(crate) drops: &'a [LeftOut],
+/// The fields that are read or dropped by themselves, and the positions of the elements that are dropped with all that is in them.
+#[derive(Drop)]
+pub(crate) struct Accounted {
+    fields: IndexSet<FieldAt>,
+    elements: IndexSet<Vec<usize>>,
 }
 
-// Whether this is the field of that number, of the segment at that position.
-fn is_field(here: &[usize], number: u32, at: &[usize], field: u32) -> bool
-    ensures { result ≡ spec.is_field here.now number at.now field }
+fn add_field(
+    alloc: Global,
+    known: &mut Accounted,
+    at: &[usize],
+    field: u32,
+) -> Result<(), AllocError>
+    ensures { OnOk result (Gains known.old known.new (spec.is_field at.now field) no_element) }
 {
-    number == field && here == at
+    let at = Vec::from_slice(alloc, at)?;
+    known.fields.insert(FieldAt { at, field })?;
+    Ok(())
 }
 
-// Whether what a line makes has the field, or a part of it.
-fn reads(site: &Site, at: &[usize], field: u32) -> bool
-    ensures { result ≡ spec.reads (seen_site [] site.now).origin at.now field }
+fn add_element(alloc: Global, known: &mut Accounted, at: &[usize]) -> Result<(), AllocError>
+    ensures { OnOk result (Gains known.old known.new no_field (spec.is_element at.now)) }
+{
+    let at = Vec::from_slice(alloc, at)?;
+    known.elements.insert(at)?;
+    Ok(())
+}
+
+fn add_site(alloc: Global, known: &mut Accounted, site: &Site) -> Result<(), AllocError>
+    ensures { OnOk result (Gains known.old known.new (spec.reads (seen_site [] site.now).origin) no_element) }
 {
     match &site.origin {
-        Origin::Unsaid | Origin::Text(_) => false,
-        Origin::Read(from) | Origin::Repeated(from) => is_field(&from.at, from.field, at, field),
-        Origin::LookedUp(_, from) => is_field(&from.at, from.field, at, field),
+        Origin::Unsaid => Ok(()),
+        Origin::Text(_) => Ok(()),
+        Origin::Read(from) => add_field(alloc, known, &from.at, from.field),
+        Origin::Repeated(from) => add_field(alloc, known, &from.at, from.field),
+        Origin::LookedUp(_, from) => add_field(alloc, known, &from.at, from.field),
     }
 }
 
-fn is_read(sites: &[Site], at: &[usize], field: u32) -> bool
-    ensures { result ≡ spec.is_read (all_sites [] sites.now) at.now field }
+fn add_drop(alloc: Global, known: &mut Accounted, dropped: &LeftOut) -> Result<(), AllocError>
+    ensures { OnOk result (Gains known.old known.new (spec.is_dropped (seen_drop dropped.now).steps (seen_drop dropped.now).field)
+        (spec.is_dropped_whole (seen_drop dropped.now).steps (seen_drop dropped.now).field)) }
+{
+    match dropped.field {
+        None => add_element(alloc, known, &dropped.steps),
+        Some(field) => add_field(alloc, known, &dropped.steps, field),
+    }
+}
+
+fn add_sites(alloc: Global, known: &mut Accounted, sites: &[Site]) -> Result<(), AllocError>
+    ensures { OnOk result (Gains known.old known.new (spec.is_read (all_sites [] sites.now)) no_element) }
 {
     for site in sites {
-        if reads(site, at, field) {
-            return true;
-        }
+        add_site(alloc, known, site)?;
     }
-    false
+    Ok(())
 }
 
-// Whether one of the drops leaves out the field by itself.
-fn drops_field(drops: &[LeftOut], at: &[usize], field: u32) -> bool
-    ensures { result ≡ spec.drops_field (map seen_drop drops.now) at.now field }
+fn add_drops(alloc: Global, known: &mut Accounted, drops: &[LeftOut]) -> Result<(), AllocError>
+    ensures { OnOk result (Gains known.old known.new (spec.drops_field (map seen_drop drops.now)) (spec.drops_element (map seen_drop drops.now))) }
 {
     for dropped in drops {
-        if is_dropped(dropped, at, field) {
-            return true;
-        }
+        add_drop(alloc, known, dropped)?;
     }
-    false
+    Ok(())
 }
 
-fn is_dropped(dropped: &LeftOut, at: &[usize], field: u32) -> bool
-    ensures { result ≡ spec.is_dropped (seen_drop dropped.now).steps (seen_drop dropped.now).field at.now field }
-{
-    match dropped.field {
-        None => false,
-        Some(number) => is_field(&dropped.steps, number, at, field),
+impl Accounted {
+    /// What these lines and drops account for.
+    pub(crate) fn of(
+        alloc: Global,
+        sites: &[Site],
+        drops: &[LeftOut],
+    ) -> Result<Accounted, AllocError>
+        ensures { IfOk result (λ known. Accounts known (all_sites [] sites.now) (map seen_drop drops.now)) }
+    {
+        let mut known = Accounted {
+            fields: IndexSet::new(alloc),
+            elements: IndexSet::new(alloc),
+        };
+        add_sites(alloc, &mut known, sites)?;
+        add_drops(alloc, &mut known, drops)?;
+        Ok(known)
     }
-}
 
-fn is_dropped_whole(dropped: &LeftOut, at: &[usize]) -> bool
-    ensures { result ≡ spec.is_dropped_whole (seen_drop dropped.now).steps (seen_drop dropped.now).field at.now }
-{
-    match dropped.field {
-        None => dropped.steps.as_slice() == at,
-        Some(_) => false,
+    /// Whether this field is read, or dropped by itself.
+    pub(crate) fn has_field(
+        &self,
+        alloc: Global,
+        at: &[usize],
+        field: u32,
+    ) -> Result<bool, AllocError>
+        ensures { IfOk result (λ b. b ≡ has_field self.now at.now field) }
+    {
+        let at = Vec::from_slice(alloc, at)?;
+        Ok(self.fields.contains(&FieldAt { at, field }))
     }
-}
 
-/// Whether this field is read, or dropped by itself. It takes no memory.
-pub(crate) fn has_field(known: &Accounted<'_>, at: &[usize], field: u32) -> bool
-    ensures { result ≡ has_field known.now at.now field }
-{
-    is_read(known.sites, at, field) || drops_field(known.drops, at, field)
-}
-
-/// Whether the element at this position is dropped, with all that is in it. It takes no memory.
-pub(crate) fn has_element(known: &Accounted<'_>, at: &[usize]) -> bool
-    ensures { result ≡ has_element known.now at.now }
-{
-    for dropped in known.drops {
-        if is_dropped_whole(dropped, at) {
-            return true;
-        }
+    /// Whether the element at this position is dropped, with all that is in it. It takes no memory.
+    pub(crate) fn has_element(&self, at: &[usize]) -> bool
+        ensures { result ≡ has_element self.now at.now }
+    {
+        self.elements.contains(at)
     }
-    false
 }

@@ -8,7 +8,7 @@ ghost use Rattle.gw_check.specs.Seen.{all_sites};
 ghost use Rattle.gw_check.specs.Sites.{sites as spec_sites};
 ghost use Rattle.gw_resolve.specs.Seen.{all_items, left_out};
 
-use crate::accounted::{Accounted, FieldAt, has_element, has_field};
+use crate::accounted::{Accounted, FieldAt};
 use crate::item_sites::sites;
 use crate::site::Site;
 use gw_leaves::is_forbidden;
@@ -26,23 +26,31 @@ fn may_hold(usage: Usage) -> bool
 }
 
 // Whether the field may hold something that is required, and nothing accounts for it.
-fn is_missed(known: &Accounted<'_>, at: &[usize], field: &FieldShape) -> bool
-    ensures { result ≡ spec.is_missed (has_field known.now) at.now (seen_field field.now) }
+fn is_missed(
+    alloc: Global,
+    known: &Accounted,
+    at: &[usize],
+    field: &FieldShape,
+) -> Result<bool, AllocError>
+    ensures { IfOk result (λ b. b ≡ spec.is_missed (has_field known.now) at.now (seen_field field.now)) }
 {
-    may_hold(field.usage) && !has_field(known, at, field.number)
+    if !may_hold(field.usage) {
+        return Ok(false);
+    }
+    Ok(!known.has_field(alloc, at, field.number)?)
 }
 
 // Adds a field, where it is missed.
 fn add_field(
     alloc: Global,
-    known: &Accounted<'_>,
+    known: &Accounted,
     at: &[usize],
     field: &FieldShape,
     found: &mut Vec<FieldAt>,
 ) -> Result<(), AllocError>
     ensures { OnOk result (Adds found.old.items found.new.items (field_missed known.now at.now (seen_field field.now))) }
 {
-    if !is_missed(known, at, field) {
+    if !is_missed(alloc, known, at, field)? {
         return Ok(());
     }
     let at = Vec::from_slice(alloc, at)?;
@@ -56,7 +64,7 @@ fn add_field(
 // Adds the fields that are missed.
 fn add_fields(
     alloc: Global,
-    known: &Accounted<'_>,
+    known: &Accounted,
     at: &[usize],
     fields: &[FieldShape],
     found: &mut Vec<FieldAt>,
@@ -72,14 +80,14 @@ fn add_fields(
 // Adds those of the segment at this position; a forbidden segment has none.
 fn add_segment(
     alloc: Global,
-    known: &Accounted<'_>,
+    known: &Accounted,
     at: &[usize],
     segment: &SegNode,
     found: &mut Vec<FieldAt>,
 ) -> Result<(), AllocError>
     ensures { OnOk result (Adds found.old.items found.new.items (segment_missed known.now at.now (segment_value segment.now))) }
 {
-    if has_element(known, at) {
+    if known.has_element(at) {
         return Ok(());
     }
     if is_forbidden(segment.usage) {
@@ -92,7 +100,7 @@ fn add_segment(
 #[cycle(gather)]
 fn add_node(
     alloc: Global,
-    known: &Accounted<'_>,
+    known: &Accounted,
     at: &[usize],
     node: &Node,
     found: &mut Vec<FieldAt>,
@@ -109,14 +117,14 @@ fn add_node(
 #[cycle(gather)]
 fn add_within(
     alloc: Global,
-    known: &Accounted<'_>,
+    known: &Accounted,
     at: &[usize],
     nodes: &[Node],
     found: &mut Vec<FieldAt>,
 ) -> Result<(), AllocError>
     ensures { OnOk result (Adds found.old.items found.new.items (within_missed known.now at.now (forest nodes.now))) }
 {
-    if has_element(known, at) {
+    if known.has_element(at) {
         return Ok(());
     }
     add_nodes(alloc, known, at, nodes, found)
@@ -126,7 +134,7 @@ fn add_within(
 #[cycle(gather)]
 fn add_nodes(
     alloc: Global,
-    known: &Accounted<'_>,
+    known: &Accounted,
     above: &[usize],
     nodes: &[Node],
     found: &mut Vec<FieldAt>,
@@ -162,10 +170,7 @@ pub(crate) fn passed_over(
         fields_at used.unread.items ≡ spec.passed_over (all_items tables items.now) (map left_out drops.now) (forest nodes.now)) }
 {
     let sites = sites(alloc, items)?;
-    let known = Accounted {
-        sites: &sites,
-        drops,
-    };
+    let known = Accounted::of(alloc, &sites, drops)?;
     let mut unread = Vec::new(alloc);
     add_within(alloc, &known, &[], nodes, &mut unread)?;
     Ok(SourceUse { sites, unread })
