@@ -1,8 +1,9 @@
 -- Values that are in a table, and that aren't too long.
-use Rattle.std.proofs.Common.{◌≡◌, ℕ, zero, suc, ◌≤◌, inl, inr, Bool, true, false, List, [], ◌∷◌, length, Some, None, refl, sym, ap, ◌↔◌, ◌∙◌, subst, arith}
+use Rattle.std.proofs.Common.{◌≡◌, ℕ, zero, suc, ◌≤◌, inl, inr, Bool, true, false, List, [], ◌∷◌, length, replicate, Some, None, refl, sym, ap, ◌↔◌, ◌∙◌, subst, arith}
 use Rattle.std.specs.Prelude.{not, nat_lt, nat_le, filter}
 use Rattle.std.specs.List.{list_any}
 use Rattle.std.proofs.lemmas.Bool.{le-ltb, ltb-false, false≢true}
+use Rattle.std.proofs.lemmas.List.{length-replicate}
 use Rattle.std.proofs.lemmas.List.Sums.{count_by-le-length, length-filter}
 use Rattle.std.proofs.lemmas.Bool.Decides.{nat_tests}
 use Rattle.gw_profile.specs.Among.{Among}
@@ -44,32 +45,20 @@ pub few_characters : (x : List ℕ) → measure Characters x ≤ measure Octets 
 few_characters x = count_by-le-length begins_character x
 
 -- zeros have the same length in both counts; octets that go on with a character have none in characters
-abbrev times : ℕ → ℕ → List ℕ
-times o zero = []
-times o (suc n) = o ∷ times o n
-
-octets_of : (o n : ℕ) → measure Octets (times o n) ≡ n
-octets_of o zero = refl
-octets_of o (suc n) = ap suc (octets_of o n)
-
-zeros_begin : (n : ℕ) → length (filter begins_character (times 0 n)) ≡ n
+zeros_begin : (n : ℕ) → length (filter begins_character (replicate n 0)) ≡ n
 zeros_begin zero = refl
 zeros_begin (suc n) = ap suc (zeros_begin n)
 
-none_begins : (n : ℕ) → length (filter begins_character (times 128 n)) ≡ 0
+none_begins : (n : ℕ) → length (filter begins_character (replicate n 128)) ≡ 0
 none_begins zero = refl
 none_begins (suc n) = none_begins n
 
-characters_of : (n : ℕ) → measure Characters (times 0 n) ≡ n
-characters_of n = sym (length-filter begins_character (times 0 n)) ∙ zeros_begin n
+zeros_in : (to : Count) (n : ℕ) → measure to (replicate n 0) ≡ n
+zeros_in Octets n = length-replicate n 0
+zeros_in Characters n = sym (length-filter begins_character (replicate n 0)) ∙ zeros_begin n
 
-no_characters : (n : ℕ) → measure Characters (times 128 n) ≡ 0
-no_characters n = sym (length-filter begins_character (times 128 n)) ∙ none_begins n
-
--- in each count there is a text of each length
-pub so_long : (count : Count) (n : ℕ) → (x : List ℕ) × (measure count x ≡ n)
-so_long Octets n = (times 0 n, octets_of 0 n)
-so_long Characters n = (times 0 n, characters_of n)
+no_characters : (n : ℕ) → measure Characters (replicate n 128) ≡ 0
+no_characters n = sym (length-filter begins_character (replicate n 128)) ∙ none_begins n
 
 as_short : {n m : ℕ} → n ≡ m → nat_le n m ≡ true
 as_short e = grind (arith, nat_tests)
@@ -79,24 +68,20 @@ at_most : (to : Count) (x : List ℕ) (n : ℕ) → measure Octets x ≤ n → m
 at_most Octets x n less = less
 at_most Characters x n less = let few = few_characters x in omega (arith, few, less)
 
-zeros_in : (to : Count) (n : ℕ) → measure to (times 0 n) ≡ n
-zeros_in Octets n = octets_of 0 n
-zeros_in Characters n = characters_of n
-
 pub none_exceeds : (count : Count) (len : ℕ) (to : Count) (most : ℕ) → (may_exceed count len to most ≡ false) ↔ ((x : List ℕ) → nat_le (measure count x) len ≡ true → measure to x ≤ most)
 none_exceeds Octets len to most = (
   λ e x short. at_most to x most (let a : measure Octets x ≤ len = grind (arith, nat_tests) in let b : len ≤ most = grind (arith, nat_tests) in omega (arith, a, b)),
-  λ h. le-ltb most len (subst (λ n. n ≤ most) (zeros_in to len) (h (times 0 len) (as_short (octets_of 0 len)))),
+  λ h. le-ltb most len (subst (λ n. n ≤ most) (zeros_in to len) (h (replicate len 0) (as_short (zeros_in Octets len)))),
 )
 none_exceeds Characters len Octets most = (
   λ e. absurd (false≢true (sym e)),
   λ h.
-      let is : nat_le (measure Characters (times 128 (suc most))) len ≡ true = let z = no_characters (suc most) in grind (arith, nat_tests) in
-      let big = h (times 128 (suc most)) is in let l = octets_of 128 (suc most) in absurd (omega (arith, big, l)),
+      let is : nat_le (measure Characters (replicate (suc most) 128)) len ≡ true = let z = no_characters (suc most) in grind (arith, nat_tests) in
+      let big = h (replicate (suc most) 128) is in let l = length-replicate {A = ℕ} (suc most) 128 in absurd (omega (arith, big, l)),
 )
 none_exceeds Characters len Characters most = (
   λ e x short. grind (arith, nat_tests),
-  λ h. le-ltb most len (subst (λ n. n ≤ most) (characters_of len) (h (times 0 len) (as_short (characters_of len)))),
+  λ h. le-ltb most len (subst (λ n. n ≤ most) (zeros_in Characters len) (h (replicate len 0) (as_short (zeros_in Characters len)))),
 )
 
 is_short : (to : Count) (most : ℕ) (x : List ℕ) → (nat_lt most (measure to x) ≡ false) ↔ (measure to x ≤ most)
@@ -105,7 +90,7 @@ is_short to most x = (λ e. ltb-false most (measure to x) e, λ h. le-ltb most (
 pub all_short : (to : Count) (v : Values) (most : ℕ) → (may_be_long to v (Some most) ≡ false) ↔ ((x : List ℕ) → IsOf v x → measure to x ≤ most)
 all_short to (any count None) most = (
   λ e. absurd (cc),
-  λ h. let longer = so_long to (suc most) in absurd (omega (arith, h longer.0 refl, longer.1)),
+  λ h. let long = zeros_in to (suc most) in absurd (omega (arith, h (replicate (suc most) 0) refl, long)),
 )
 all_short to (any count (Some len)) most = none_exceeds count len to most
 all_short to (listed texts) most = none_fails (λ x. nat_lt most (measure to x)) (λ x. measure to x ≤ most) (is_short to most) texts

@@ -1,9 +1,13 @@
--- One more key in a set: what holds of some of its keys.
-use Rattle.std.proofs.Common.{◌≡◌, Bool, true, false, List, [], ◌∷◌, ◌++◌, refl, sym, ap, ◌∙◌}
+-- What holds of some element: of those that others stand for, and of the keys of a set with one more.
+use Rattle.std.proofs.Common.{◌≡◌, Bool, true, false, List, [], ◌∷◌, ◌++◌, map, refl, sym, ap, ◌∙◌}
 use Rattle.std.specs.Prelude.{◌||◌, if◌then◌else◌}
 use Rattle.std.specs.List.{list_any}
 use Rattle.indexmap.specs.IndexSet.{insert_key}
 use Rattle.std.proofs.lemmas.List.Folds.{list_any-append}
+
+pub any_map : {A B : Type 0} (f : A → B) (p : B → Bool) (xs : List A) → list_any p (map f xs) ≡ list_any (λ x. p (f x)) xs
+any_map f p [] = refl
+any_map f p (x ∷ xs) = ap (λ b. p (f x) || b) (any_map f p xs)
 
 pub or_none : (a : Bool) → a || false ≡ a
 or_none true = refl

@@ -1,10 +1,5 @@
 pub mod Each
-pub mod Lists
 pub mod Inserted
-pub mod Lacks
-pub mod Kept
-pub mod AtLengths
-pub mod Shortest
-pub mod AtPlaces
+pub mod Comparing
 pub mod Presences
 pub mod Fitting

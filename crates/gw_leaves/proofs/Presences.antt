@@ -1,6 +1,6 @@
 -- Which leaves are always there, and which never.
 use Rattle.std.proofs.Common.{◌≡◌, ℕ, ◌≤◌, ◌⊎◌, inl, inr, Bool, true, false, Option, Some, None, refl, ◌↔◌}
-use Rattle.std.specs.Prelude.{if◌then◌else◌, ◌&&◌, nat_le, IsSomeAnd}
+use Rattle.std.specs.Prelude.{if◌then◌else◌, ◌&&◌, nat_le, option_map, IsSomeAnd}
 use Rattle.gw_profile.specs.declared.shape.Usage.{Usage}
 use Rattle.gw_profile.specs.declared.shape.Usage.TheVariants.{R, RE, O, X}
 use Rattle.gw_profile.specs.Shapes.{SubValue, CompValue, FieldValue}
@@ -27,21 +27,15 @@ usage_never RE = (λ e. absurd (cc), λ e. absurd (cc))
 usage_never O = (λ e. absurd (cc), λ e. absurd (cc))
 usage_never X = (λ e. refl, λ e. refl)
 
-comp_always : (c : Option CompValue) → (comp_presence c ≡ Always) ↔ IsSomeAnd c (λ d. d.usage ≡ R)
-comp_always None = (λ e. absurd (cc), λ h. absurd h)
-comp_always (Some c) = usage_always c.usage
+-- of something that may not be there
+module _ {A : Type 0} (usage : A → Usage) where
+  some_always : (o : Option A) → (by_usage (option_map usage o) ≡ Always) ↔ IsSomeAnd o (λ a. usage a ≡ R)
+  some_always None = (λ e. absurd (cc), λ h. absurd h)
+  some_always (Some a) = usage_always (usage a)
 
-comp_never : (c : Option CompValue) → (comp_presence c ≡ Never) ↔ IsSomeAnd c (λ d. d.usage ≡ X)
-comp_never None = (λ e. absurd (cc), λ h. absurd h)
-comp_never (Some c) = usage_never c.usage
-
-sub_always : (s : Option SubValue) → (sub_usage s ≡ Always) ↔ IsSomeAnd s (λ t. t.usage ≡ R)
-sub_always None = (λ e. absurd (cc), λ h. absurd h)
-sub_always (Some s) = usage_always s.usage
-
-sub_never : (s : Option SubValue) → (sub_usage s ≡ Never) ↔ IsSomeAnd s (λ t. t.usage ≡ X)
-sub_never None = (λ e. absurd (cc), λ h. absurd h)
-sub_never (Some s) = usage_never s.usage
+  some_never : (o : Option A) → (by_usage (option_map usage o) ≡ Never) ↔ IsSomeAnd o (λ a. usage a ≡ X)
+  some_never None = (λ e. absurd (cc), λ h. absurd h)
+  some_never (Some a) = usage_never (usage a)
 
 -- ---- two things
 
@@ -61,62 +55,55 @@ both_never Never b = (λ e. inl refl, λ h. refl)
 
 -- ---- a field
 
--- required, of a cardinality that asks for one
-abbrev IsAskedFor : FieldValue → Type 0
-IsAskedFor f = (f.usage ≡ R) × (1 ≤ f.card.min)
+if_always : (b : Bool) (p : Presence) → ((if b then Never else p) ≡ Always) ↔ ((b ≡ false) × (p ≡ Always))
+if_always true p = (λ e. absurd (cc), λ h. absurd (let e = h.0 in cc))
+if_always false p = (λ e. (refl, e), λ h. h.1)
+
+if_never : (b : Bool) (p : Presence) → ((if b then Never else p) ≡ Never) ↔ ((b ≡ true) ⊎ (p ≡ Never))
+if_never true p = (λ e. inl refl, λ h. refl)
+if_never false p = (λ e. inr e, elim [ inl e ↦ absurd (cc) | inr e ↦ e ])
 
 one_of : (p q : Bool) → ((if p && q then Always else Maybe) ≡ Always) ↔ ((p ≡ true) × (q ≡ true))
 one_of true true = (λ e. (refl, refl), λ h. refl)
 one_of true false = (λ e. absurd (cc), λ h. absurd (let e = h.1 in cc))
 one_of false q = (λ e. absurd (cc), λ h. absurd (let e = h.0 in cc))
 
-never_one_of : (p : Bool) → (if p then Always else Maybe) ≡ Never → ⊥
-never_one_of true e = cc
-never_one_of false e = cc
+not_never : (p : Bool) → (if p then Always else Maybe) ≡ Never → ⊥
+not_never true e = cc
+not_never false e = cc
 
-listed_always : (k : Known) (f : FieldValue) → (both (by_usage (Some f.usage)) (if is_sure k.count && nat_le 1 f.card.min then Always else Maybe) ≡ Always) ↔ ((1 ≤ k.count.least) × IsAskedFor f)
-listed_always k f =
-    let parts = both_always (by_usage (Some f.usage)) (if is_sure k.count && nat_le 1 f.card.min then Always else Maybe) in
-    let counts = one_of (is_sure k.count) (nat_le 1 f.card.min) in (
-      λ e.
-          let p = parts.0 e in
-          let c = counts.0 p.1 in
-          (le_is 1 k.count.least c.0, ((usage_always f.usage).0 p.0, le_is 1 f.card.min c.1)),
-      λ h. parts.1 ((usage_always f.usage).1 h.1.0, counts.1 (le_test 1 k.count.least h.0, le_test 1 f.card.min h.1.1)),
-    )
+module _ (k : Known) where
+  abbrev counted : FieldValue → Presence
+  counted f = if is_sure k.count && nat_le 1 f.card.min then Always else Maybe
 
-field_always : (k : Known) (f : Option FieldValue) → (field_presence k f ≡ Always) ↔ ((is_never k.count.greatest ≡ false) × (1 ≤ k.count.least) × IsSomeAnd f IsAskedFor)
-field_always k None = (by (is_never k.count.greatest), λ h. absurd h.2)
-  where
-    by : (b : Bool) → (if b then Never else Maybe) ≡ Always → (is_never k.count.greatest ≡ false) × (1 ≤ k.count.least) × ⊥
-    by true e = absurd (cc)
-    by false e = absurd (cc)
-field_always k (Some f) = by (is_never k.count.greatest)
-  where
-    by : (b : Bool) → ((if b then Never else both (by_usage (Some f.usage)) (if is_sure k.count && nat_le 1 f.card.min then Always else Maybe)) ≡ Always) ↔ ((b ≡ false) × (1 ≤ k.count.least) × IsAskedFor f)
-    by true = (λ e. absurd (cc), λ h. absurd (let e = h.0 in cc))
-    by false = (λ e. let p = (listed_always k f).0 e in (refl, p.0, p.1), λ h. (listed_always k f).1 (h.1, h.2))
+  abbrev none : Bool
+  none = is_never k.count.greatest
 
-field_never : (k : Known) (f : Option FieldValue) → (field_presence k f ≡ Never) ↔ ((is_never k.count.greatest ≡ true) ⊎ IsSomeAnd f (λ g. g.usage ≡ X))
-field_never k None = by (is_never k.count.greatest)
-  where
-    by : (b : Bool) → ((if b then Never else Maybe) ≡ Never) ↔ ((b ≡ true) ⊎ ⊥)
-    by true = (λ e. inl refl, λ h. refl)
-    by false = (λ e. absurd (cc), elim [ inl e ↦ absurd (cc) | inr h ↦ absurd h ])
-field_never k (Some f) = by (is_never k.count.greatest)
-  where
-    by : (b : Bool) → ((if b then Never else both (by_usage (Some f.usage)) (if is_sure k.count && nat_le 1 f.card.min then Always else Maybe)) ≡ Never) ↔ ((b ≡ true) ⊎ (f.usage ≡ X))
-    by true = (λ e. inl refl, λ h. refl)
-    by false = (
-      λ e. elim ((both_never (by_usage (Some f.usage)) (if is_sure k.count && nat_le 1 f.card.min then Always else Maybe)).0 e) [
-        | inl u ↦ inr ((usage_never f.usage).0 u)
-        | inr n ↦ absurd (never_one_of (is_sure k.count && nat_le 1 f.card.min) n)
-      ],
-      elim [
-        | inl e ↦ absurd (cc)
-        | inr u ↦ (both_never (by_usage (Some f.usage)) (if is_sure k.count && nat_le 1 f.card.min then Always else Maybe)).1 (inl ((usage_never f.usage).1 u))
-      ],
-    )
+  field_always : (f : Option FieldValue) → (field_presence k f ≡ Always) ↔ ((none ≡ false) × (1 ≤ k.count.least) × IsSomeAnd f (λ g. (g.usage ≡ R) × (1 ≤ g.card.min)))
+  field_always None = (λ e. absurd (let p = (if_always none Maybe).0 e in let q = p.1 in cc), λ h. absurd h.2)
+  field_always (Some f) =
+      let there = if_always none (both (by_usage (Some f.usage)) (counted f)) in
+      let parts = both_always (by_usage (Some f.usage)) (counted f) in
+      let counts = one_of (is_sure k.count) (nat_le 1 f.card.min) in (
+        λ e.
+            let h = there.0 e in
+            let p = parts.0 h.1 in
+            let c = counts.0 p.1 in
+            (h.0, le_is 1 k.count.least c.0, ((usage_always f.usage).0 p.0, le_is 1 f.card.min c.1)),
+        λ h. there.1 (h.0, parts.1 ((usage_always f.usage).1 h.2.0, counts.1 (le_test 1 k.count.least h.1, le_test 1 f.card.min h.2.1))),
+      )
+
+  field_never : (f : Option FieldValue) → (field_presence k f ≡ Never) ↔ ((none ≡ true) ⊎ IsSomeAnd f (λ g. g.usage ≡ X))
+  field_never None = (λ e. elim ((if_never none Maybe).0 e) [ inl n ↦ inl n | inr q ↦ absurd (cc) ], elim [ inl n ↦ (if_never none Maybe).1 (inl n) | inr h ↦ absurd h ])
+  field_never (Some f) =
+      let there = if_never none (both (by_usage (Some f.usage)) (counted f)) in
+      let parts = both_never (by_usage (Some f.usage)) (counted f) in (
+        λ e. elim (there.0 e) [
+          | inl n ↦ inl n
+          | inr p ↦ elim (parts.0 p) [ inl u ↦ inr ((usage_never f.usage).0 u) | inr q ↦ absurd (not_never (is_sure k.count && nat_le 1 f.card.min) q) ]
+        ],
+        elim [ inl n ↦ there.1 (inl n) | inr u ↦ there.1 (inr (parts.1 (inl ((usage_never f.usage).1 u)))) ],
+      )
 
 -- ---- a leaf that is taken from a field
 
@@ -141,31 +128,25 @@ module _ (s : Sources) (from : Reference) (comp sub : ℕ) where
             let p = all.0 e in
             let q = inner.0 p.1 in
             let r = (field_always k f).0 p.0 in
-            (r.0, r.1, r.2, (comp_always c).0 q.0, (sub_always t).0 q.1),
-        λ h. all.1 ((field_always k f).1 (h.0, h.1, h.2), inner.1 ((comp_always c).1 h.3, (sub_always t).1 h.4)),
+            (r.0, r.1, r.2, (some_always (λ (d : CompValue). d.usage) c).0 q.0, (some_always (λ (u : SubValue). u.usage) t).0 q.1),
+        λ h. all.1 ((field_always k f).1 (h.0, h.1, h.2), inner.1 ((some_always (λ (d : CompValue). d.usage) c).1 h.3, (some_always (λ (u : SubValue). u.usage) t).1 h.4)),
       )
 
-  -- the segment never is there, or what is read is forbidden
-  abbrev IsClosed : Type 0
-  IsClosed = (is_never k.count.greatest ≡ true) ⊎ IsSomeAnd f (λ g. g.usage ≡ X) ⊎ IsSomeAnd c (λ d. d.usage ≡ X) ⊎ IsSomeAnd t (λ u. u.usage ≡ X)
-
-  pub never_there : ((source_shape s (of_field from comp sub)).presence ≡ Never) ↔ IsClosed
-  never_there = (λ e. to ((both_never (field_presence k f) (both (comp_presence c) (sub_usage t))).0 e), λ h. (both_never (field_presence k f) (both (comp_presence c) (sub_usage t))).1 (back h))
-    where
-      of_field_part : (is_never k.count.greatest ≡ true) ⊎ IsSomeAnd f (λ g. g.usage ≡ X) → IsClosed
-      of_field_part (inl n) = inl n
-      of_field_part (inr u) = inr (inl u)
-
-      of_rest : (comp_presence c ≡ Never) ⊎ (sub_usage t ≡ Never) → IsClosed
-      of_rest (inl u) = inr (inr (inl ((comp_never c).0 u)))
-      of_rest (inr u) = inr (inr (inr ((sub_never t).0 u)))
-
-      to : (field_presence k f ≡ Never) ⊎ (both (comp_presence c) (sub_usage t) ≡ Never) → IsClosed
-      to (inl p) = of_field_part ((field_never k f).0 p)
-      to (inr p) = of_rest ((both_never (comp_presence c) (sub_usage t)).0 p)
-
-      back : IsClosed → (field_presence k f ≡ Never) ⊎ (both (comp_presence c) (sub_usage t) ≡ Never)
-      back (inl n) = inl ((field_never k f).1 (inl n))
-      back (inr (inl u)) = inl ((field_never k f).1 (inr u))
-      back (inr (inr (inl u))) = inr ((both_never (comp_presence c) (sub_usage t)).1 (inl ((comp_never c).1 u)))
-      back (inr (inr (inr u))) = inr ((both_never (comp_presence c) (sub_usage t)).1 (inr ((sub_never t).1 u)))
+  pub never_there : ((source_shape s (of_field from comp sub)).presence ≡ Never)
+      ↔ ((is_never k.count.greatest ≡ true) ⊎ IsSomeAnd f (λ g. g.usage ≡ X) ⊎ IsSomeAnd c (λ d. d.usage ≡ X) ⊎ IsSomeAnd t (λ u. u.usage ≡ X))
+  never_there =
+      let all = both_never (field_presence k f) (both (comp_presence c) (sub_usage t)) in
+      let inner = both_never (comp_presence c) (sub_usage t) in
+      let of_comp = some_never (λ (d : CompValue). d.usage) c in
+      let of_sub = some_never (λ (u : SubValue). u.usage) t in (
+        λ e. elim (all.0 e) [
+          | inl p ↦ elim ((field_never k f).0 p) [ inl n ↦ inl n | inr u ↦ inr (inl u) ]
+          | inr p ↦ elim (inner.0 p) [ inl u ↦ inr (inr (inl (of_comp.0 u))) | inr u ↦ inr (inr (inr (of_sub.0 u))) ]
+        ],
+        elim [
+          | inl n ↦ all.1 (inl ((field_never k f).1 (inl n)))
+          | inr (inl u) ↦ all.1 (inl ((field_never k f).1 (inr u)))
+          | inr (inr (inl u)) ↦ all.1 (inr (inner.1 (inl (of_comp.1 u))))
+          | inr (inr (inr u)) ↦ all.1 (inr (inner.1 (inr (of_sub.1 u))))
+        ],
+      )

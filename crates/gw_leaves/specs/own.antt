@@ -1,6 +1,5 @@
 -- The program's own words: no public contract rests on them.
-pub mod Readings
-pub mod Findings
+pub mod Comparisons
 pub mod Held
-pub mod Lacking
+pub mod Parts
 pub mod Seen

@@ -1,8 +1,7 @@
 //! A map with its profiles, while it is checked.
 
-use crate::findings::{Findings, find};
+use crate::comparison::{Comparison, Lengths, Origin, compare, some_length};
 use crate::meeting::add_items;
-use crate::readings::{LengthStep, Origin, Test, goes_beyond, readings_of, shortest, steps_of};
 use gw_maplang::Map;
 use gw_profile::{Level, Profile};
 use gw_resolve::{Item, ScopeNode};
@@ -10,16 +9,13 @@ use indexmap::{IndexMap, IndexSet};
 use std::alloc::{AllocError, Global};
 use std::marker::Model;
 
-/// Where texts are from, each with the tables of the target that they are held against, by their names.
-pub(crate) type Meetings<'a> = IndexMap<Origin<'a>, IndexSet<&'a [u8]>>;
-
 /// A map with its profiles, and what is found of the tables that it brings together.
 pub struct MapContext<'a> {
     alloc: Global,
     source: &'a Profile,
     target: &'a Profile,
     map: &'a Map,
-    known: IndexMap<Origin<'a>, Findings<'a>>,
+    known: IndexMap<Comparison<'a>, Lengths>,
 }
 
 // (by hand, so that no crate above proves again how its fields are dropped)
@@ -39,7 +35,7 @@ impl<'a> Model for MapContext<'a> {
     ghost use Rattle.std.specs.Coded.{codes};
     ghost use Rattle.gw_profile.specs.contracts.node.Node as node;
     ghost use Rattle.gw_maplang.specs.contracts.item.Item as raw_item;
-    ghost use Rattle.gw_leaves.specs.own.Findings.{AreFound};
+    ghost use Rattle.gw_leaves.specs.own.Comparisons.{AreKept};
     ghost use Rattle.gw_leaves.specs.Context.{ContextValue, context_of};
 
     ghost Value = { ContextValue };
@@ -48,13 +44,14 @@ impl<'a> Model for MapContext<'a> {
 
     ghost view = { λ s. context_of s.source.now s.target.now s.map.now };
 
-    ghost invariant = { λ s. AreFound (context_of s.source.now s.target.now s.map.now) s.known.entries };
+    ghost invariant = { λ s. AreKept (context_of s.source.now s.target.now s.map.now) s.known.entries };
 }
 
 impl<'a> MapContext<'a> {
     ghost use Rattle.std.specs.Prelude.{◌≡◌, IfOk};
-    ghost use Rattle.gw_leaves.specs.own.Findings.{is_missing, read_at};
-    ghost use Rattle.gw_leaves.specs.own.Readings.{some_read, is_nothing, is_longer, IsShortest};
+    ghost use Rattle.std.specs.List.{list_any};
+    ghost use Rattle.gw_maplang.specs.Seen.{now};
+    ghost use Rattle.gw_leaves.specs.own.Comparisons.{is_outside_named, given_at};
     ghost use Rattle.gw_leaves.specs.Context.{context_of};
 
     /// The map with its profiles, and what is found of the tables that its items bring together, where this is the level of the source's nodes.
@@ -69,48 +66,34 @@ impl<'a> MapContext<'a> {
     ) -> Result<MapContext<'a>, AllocError>
         ensures { IfOk result (λ context. context ≡ context_of source.now target.now map.now) }
     {
-        let context = MapContext::new(alloc, source, target, map);
-        let mut meetings = IndexMap::new(alloc);
-        let scope = [ScopeNode::Whole(Some(level))];
-        add_items(
-            alloc,
-            &mut meetings,
-            &context,
-            &scope,
-            target.nodes(),
-            items,
-        )?;
-        context.knowing(meetings)
-    }
-
-    // The map and its profiles, with nothing found of any table.
-    fn new(alloc: Global, source: &'a Profile, target: &'a Profile, map: &'a Map) -> MapContext<'a>
-        ensures { result ≡ context_of source.now target.now map.now }
-    {
-        MapContext {
+        let context = MapContext {
             alloc,
             source,
             target,
             map,
             known: IndexMap::new(alloc),
-        }
+        };
+        let mut comparisons = IndexSet::new(alloc);
+        let scope = [ScopeNode::Whole(Some(level))];
+        add_items(
+            alloc,
+            &mut comparisons,
+            &context,
+            &scope,
+            target.nodes(),
+            items,
+        )?;
+        context.knowing(comparisons)
     }
 
-    // The same, with what is found of these tables.
-    fn knowing(&self, meetings: Meetings<'a>) -> Result<MapContext<'a>, AllocError>
+    // The same, with what is found by these comparisons.
+    fn knowing(&self, comparisons: IndexSet<Comparison<'a>>) -> Result<MapContext<'a>, AllocError>
         ensures { IfOk result (λ s. s ≡ self.now) }
     {
-        let mut known = IndexMap::with_capacity(self.alloc, meetings.len())?;
-        for (origin, names) in meetings {
-            let found = find(
-                self.alloc,
-                self.source,
-                self.target,
-                self.map,
-                origin,
-                names,
-            )?;
-            known.insert(origin, found)?;
+        let mut known = IndexMap::with_capacity(self.alloc, comparisons.len())?;
+        for comparison in comparisons {
+            let found = compare(self.alloc, self.source, self.target, self.map, comparison)?;
+            known.insert(comparison, found)?;
         }
         Ok(MapContext {
             alloc: self.alloc,
@@ -142,48 +125,26 @@ impl<'a> MapContext<'a> {
         self.map
     }
 
-    /// The length of the shortest text for which something is given that isn't in the target's table of this name.
-    pub(crate) fn unlisted(
+    /// Whether what is given for a text that isn't longer than this may be longer than the most, where there is one, and not in the target's table of this name, where one is named.
+    pub(crate) fn some_given(
         &self,
         origin: Origin<'_>,
-        name: &[u8],
-    ) -> Result<Option<u64>, AllocError>
-        ensures { IfOk result (IsShortest (is_missing self.now.target.tables name.now) (read_at self.now origin.entry)) }
-    {
-        if let Some(found) = self.known.get(&origin) {
-            if let Some(size) = found.unlisted.get(&name) {
-                return Ok(*size);
-            }
-        }
-        let readings = readings_of(self.alloc, self.source, self.map, origin)?;
-        Ok(shortest(&readings, Test::Unlisted(self.target.table(name))))
-    }
-
-    /// The length of the shortest text for which nothing is given.
-    pub(crate) fn nothing(&self, origin: Origin<'_>) -> Result<Option<u64>, AllocError>
-        ensures { IfOk result (IsShortest is_nothing (read_at self.now origin.entry)) }
-    {
-        if let Some(found) = self.known.get(&origin) {
-            return Ok(found.nothing);
-        }
-        let readings = readings_of(self.alloc, self.source, self.map, origin)?;
-        Ok(shortest(&readings, Test::Nothing))
-    }
-
-    /// Whether what is given for a text that isn't longer can be longer than this.
-    pub(crate) fn goes_beyond(
-        &self,
-        origin: Origin<'_>,
+        name: Option<&[u8]>,
         len: Option<u32>,
-        most: u32,
+        most: Option<u32>,
     ) -> Result<bool, AllocError>
-        ensures { IfOk result (λ b. b ≡ some_read len (is_longer self.now.target.count most) (read_at self.now origin.entry)) }
+        ensures { IfOk result (λ b. b ≡ list_any (is_outside_named self.now (now name.entry) most) (given_at self.now (now origin.entry.0) (now origin.entry.1) len)) }
     {
-        if let Some(found) = self.known.get(&origin) {
-            return Ok(goes_beyond(&found.steps, len, most));
+        if let Some(found) = self.known.get(&(origin, name)) {
+            return Ok(some_length(found.as_slice(), len, most));
         }
-        let readings = readings_of(self.alloc, self.source, self.map, origin)?;
-        let steps = steps_of(self.alloc, self.target.count(), &readings)?;
-        Ok(goes_beyond(&steps, len, most))
+        let found = compare(
+            self.alloc,
+            self.source,
+            self.target,
+            self.map,
+            (origin, name),
+        )?;
+        Ok(some_length(found.as_slice(), len, most))
     }
 }

@@ -4,10 +4,10 @@ ghost use Rattle.gw_leaves.specs.Counts as spec;
 ghost use Rattle.gw_leaves.specs.own.Held.{leaves_value, known_value};
 ghost use Rattle.gw_profile.specs.Numbered.{some_field};
 ghost use Rattle.gw_leaves.specs.Uses.{CountsRule, sources_value, target_value, map_tables};
-ghost use Rattle.gw_resolve.specs.Seen.{interval, saturated, reference, making as seen_making};
+ghost use Rattle.gw_resolve.specs.Seen.{interval, saturated, reference};
 
 use crate::known::{Known, at_field, segment_at};
-use crate::presence::{is_absent, is_always, leaf_presence};
+use crate::parts::{Part, none_beside, some_sure};
 use crate::sources::Sources;
 use gw_profile::{FieldShape, field_of};
 use gw_resolve::{At, Interval, Making, Reference, Rule, any_number, never, once};
@@ -57,47 +57,27 @@ pub(crate) fn walking<'p, 'm, 's, 'e, 'l>(
     }
 }
 
-// Whether some leaf is always there.
-fn some_always(sources: Sources<'_, '_, '_, '_, '_>, leaves: &[At]) -> bool
-    ensures { result ≡ spec.some_always (sources_value sources.entry) (leaves_value sources.entry leaves.now) }
-{
-    for at in leaves {
-        if is_always(leaf_presence(sources, &at.leaf)) {
-            return true;
-        }
-    }
-    false
-}
-
-// Whether no leaf ever is.
-fn all_absent(sources: Sources<'_, '_, '_, '_, '_>, leaves: &[At]) -> bool
-    ensures { result ≡ spec.all_absent (sources_value sources.entry) (leaves_value sources.entry leaves.now) }
-{
-    for at in leaves {
-        if !is_absent(leaf_presence(sources, &at.leaf)) {
-            return false;
-        }
-    }
-    true
-}
-
 // What leaves give where there is something to give them for.
 fn leaves_count(sources: Sources<'_, '_, '_, '_, '_>, leaves: &[At], count: Interval) -> Interval
     ensures { interval result ≡ spec.leaves_count (sources_value sources.entry) (leaves_value sources.entry leaves.now) (interval count) }
 {
-    if all_absent(sources, leaves) {
+    if none_beside(sources, Part::Field, leaves) {
         return never();
     }
-    if some_always(sources, leaves) {
+    if some_sure(sources, Part::Field, leaves) {
         return count;
     }
     count.or_none()
 }
 
-fn making_count(sources: Sources<'_, '_, '_, '_, '_>, making: &Making) -> Interval
-    ensures { interval result ≡ saturated (spec.making_count (sources_value sources.entry) (seen_making (map_tables sources.entry) making.now)) }
+/// How often a rule gives its field, up to the cap; never where there is no rule. It takes no memory.
+pub fn rule_count(sources: Sources<'_, '_, '_, '_, '_>, rule: Option<&Rule>) -> Interval
+    ensures { CountsRule sources.entry rule.entry result }
 {
-    match making {
+    let Some(rule) = rule else {
+        return never();
+    };
+    match &rule.making {
         Making::Copy(from) => field_count(sources, from),
         Making::First(from) => field_count(sources, from).at_most_one(),
         Making::Repeat(from, leaves) => leaves_count(
@@ -106,15 +86,5 @@ fn making_count(sources: Sources<'_, '_, '_, '_, '_>, making: &Making) -> Interv
             field_count(sources, from),
         ),
         Making::Build(leaves) => leaves_count(sources, leaves, once()),
-    }
-}
-
-/// How often a rule gives its field, up to the cap; never where there is no rule. It takes no memory.
-pub fn rule_count(sources: Sources<'_, '_, '_, '_, '_>, rule: Option<&Rule>) -> Interval
-    ensures { CountsRule sources.entry rule.entry result }
-{
-    match rule {
-        None => never(),
-        Some(rule) => making_count(sources, &rule.making),
     }
 }

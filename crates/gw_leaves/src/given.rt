@@ -1,18 +1,22 @@
 //! What is read at a place, and what a subcomponent of the target asks of it.
 ghost use Rattle.std.specs.Prelude.{◌≡◌, IfOk};
+ghost use Rattle.gw_profile.specs.Numbered.{some_sub};
 ghost use Rattle.gw_profile.specs.Seen.{sub as sub_value};
 ghost use Rattle.gw_maplang.specs.Seen.{now};
+ghost use Rattle.gw_maplang.specs.Shapes.{second_of};
 ghost use Rattle.gw_leaves.specs.Components.{table_values};
 ghost use Rattle.gw_leaves.specs.Leaves as leaves;
-ghost use Rattle.gw_leaves.specs.own.Readings as spec;
-ghost use Rattle.gw_leaves.specs.own.Readings.{rows_named};
+ghost use Rattle.gw_leaves.specs.Texts.{is_there, rows_value};
+ghost use Rattle.gw_leaves.specs.own.Comparisons as spec;
+ghost use Rattle.gw_leaves.specs.own.Comparisons.{rows_named};
 ghost use Rattle.gw_leaves.specs.own.Held.{given_texts, source_values};
-ghost use Rattle.gw_profile.specs.Numbered.{some_sub};
 
+use crate::comparison::{Origin, fits, values_of};
 use crate::context::MapContext;
-use crate::readings::{Origin, fits, is_any};
+use crate::leaf::table_named;
 use crate::texts::may_exceed;
-use gw_profile::SubShape;
+use gw_maplang::Table as Rows;
+use gw_profile::{Count, SubShape, measure};
 use std::alloc::AllocError;
 
 /// What is read at a place: a subcomponent of the source, as it is or looked up in the table of this name.
@@ -53,6 +57,13 @@ pub(crate) fn origin_of<'a>(given: LeafSource<'a>) -> Origin<'a>
     (given.rows, table_of(given.sub))
 }
 
+// Whether any text can be read.
+fn is_any(origin: Origin<'_>) -> bool
+    ensures { result ≡ spec.is_any (now origin.entry.0) (now origin.entry.1) }
+{
+    origin.0.is_none() && origin.1.is_none()
+}
+
 /// Whether what can stand there may be missing from the table of this subcomponent of the target.
 pub(crate) fn may_be_unlisted(
     context: &MapContext<'_>,
@@ -61,17 +72,15 @@ pub(crate) fn may_be_unlisted(
 ) -> Result<bool, AllocError>
     ensures { IfOk result (λ b. b ≡ leaves.may_be_unlisted (given_texts context.now given.entry) (table_values context.now.target.tables (sub_value sub.now))) }
 {
-    let Some(name) = table_of(Some(sub)) else {
-        return Ok(false);
-    };
-    if context.target().table(name).is_none() {
+    let name = table_of(Some(sub));
+    if table_named(context.target(), name).is_none() {
         return Ok(false);
     }
     let origin = origin_of(given);
     if is_any(origin) {
         return Ok(true);
     }
-    Ok(fits(len_of(given.sub), context.unlisted(origin, name)?))
+    context.some_given(origin, name, len_of(given.sub), None)
 }
 
 /// Whether what can stand there may be longer than this subcomponent of the target takes.
@@ -98,20 +107,45 @@ pub(crate) fn may_be_long(
             )),
         };
     }
-    context.goes_beyond(origin, len, most)
+    context.some_given(origin, None, len, Some(most))
+}
+
+// Whether one of these texts that isn't longer has no row.
+fn some_unrowed(count: Count, len: Option<u32>, rows: Option<&Rows>, texts: &[Vec<u8>]) -> bool
+    ensures { result ≡ spec.some_unrowed count len (rows_value rows.entry) texts.now }
+{
+    texts.iter().any(|text| fits(len, measure(count, text)) && !has_row(rows, text))
+}
+
+fn has_row(rows: Option<&Rows>, text: &[u8]) -> bool
+    ensures { result ≡ is_there (second_of text.now (rows_value rows.entry).rows) }
+{
+    match rows {
+        None => false,
+        Some(rows) => rows.second(text).is_some(),
+    }
+}
+
+fn has_other(rows: Option<&Rows>) -> bool
+    ensures { result ≡ is_there (rows_value rows.entry).other }
+{
+    match rows {
+        None => false,
+        Some(rows) => rows.other().is_some(),
+    }
 }
 
 /// Whether a text of this subcomponent may have no row in the table of this name, and nothing stands for it.
-pub(crate) fn is_unrowed(
-    context: &MapContext<'_>,
-    name: &[u8],
-    sub: Option<&SubShape>,
-) -> Result<bool, AllocError>
-    ensures { IfOk result (λ b. b ≡ spec.is_unrowed (rows_named context.now.map.tables name.now) (source_values context.now sub.entry)) }
+pub(crate) fn is_unrowed(context: &MapContext<'_>, name: &[u8], sub: Option<&SubShape>) -> bool
+    ensures { result ≡ spec.is_unrowed (rows_named context.now.map.tables name.now) (source_values context.now sub.entry) }
 {
-    let given = LeafSource {
-        rows: Some(name),
-        sub,
+    let rows = context.map().table(name);
+    if has_other(rows) {
+        return false;
+    }
+    let Some(listed) = table_of(sub) else {
+        return true;
     };
-    Ok(fits(len_of(sub), context.nothing(origin_of(given))?))
+    let source = context.source();
+    some_unrowed(source.count(), len_of(sub), rows, values_of(source, listed))
 }

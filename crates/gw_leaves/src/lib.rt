@@ -1,13 +1,12 @@
 //! What a source can give at a place, and what a field, a component or a subcomponent of the target asks there.
 #![tactic(auto)]
 
+mod comparison;
 mod context;
-mod copied;
 mod count;
-mod findings;
+mod elements;
 mod given;
 mod known;
-mod lacking;
 pub mod laws;
 mod leaf;
 mod lookup;
@@ -15,9 +14,9 @@ mod made;
 mod making;
 mod mark;
 mod meeting;
+mod parts;
 mod places;
 mod presence;
-mod readings;
 mod shape;
 mod sources;
 mod texts;

@@ -25,7 +25,7 @@ fn check_lookup(
     let ResolvedLeaf::LookedUp(name, source) = &at.leaf else {
         return Ok(());
     };
-    let is_unrowed = is_unrowed(sources.context, name, source_sub(sources, source))?;
+    let is_unrowed = is_unrowed(sources.context, name, source_sub(sources, source));
     note(found, 10, leaf_mark(field, at), is_unrowed)
 }
 

@@ -1,22 +1,20 @@
 //! The rules on fields that are made of leaves.
-ghost use Rattle.std.specs.Prelude.{◌≡◌, ◌∷◌, [], ◌&&◌, ◌||◌, not, flat_map, OnOk};
+ghost use Rattle.std.specs.Prelude.{◌≡◌, ◌∷◌, [], flat_map, OnOk};
 ghost use Rattle.gw_validate.specs.Breaches.{is_null};
-ghost use Rattle.gw_resolve.specs.Failures.{fails};
 ghost use Rattle.gw_leaves.specs.Components as spec;
 ghost use Rattle.gw_leaves.specs.Leaves as leaves_spec;
 ghost use Rattle.gw_resolve.specs.Noted.{Notes};
 ghost use Rattle.gw_leaves.specs.own.Held.{leaves_value};
 ghost use Rattle.gw_profile.specs.Numbered.{some_comp, some_sub};
 ghost use Rattle.gw_leaves.specs.Uses.{map_tables};
-ghost use Rattle.gw_resolve.specs.Seen.{at_leaf, mark as seen_mark};
+ghost use Rattle.gw_resolve.specs.Seen.{at_leaf};
 ghost use Rattle.gw_leaves.specs.own.Seen as seen;
 
+use crate::elements::{Filling, check_comps};
 use crate::given::{LeafSource, table_of};
-use crate::lacking::check_lacking;
 use crate::leaf::{source_sub, table_named};
 use crate::mark::leaf_mark;
 use crate::presence::{is_absent, leaf_presence, source_presence};
-use crate::shape::Presence;
 use crate::sources::Sources;
 use crate::texts::{is_long, is_missing};
 use crate::values::{check_values, is_forbidden};
@@ -38,21 +36,6 @@ fn breaks(target: &Profile, text: &[u8], sub: &SubShape) -> bool
 {
     let table = table_named(target, table_of(Some(sub)));
     is_missing(table, text) || is_long(sub.len, text, target.count())
-}
-
-fn check_const(
-    found: &mut Vec<Failure>,
-    target: &Profile,
-    mark: FailureSite,
-    text: &[u8],
-    sub: &SubShape,
-) -> Result<(), AllocError>
-    ensures { OnOk result (Notes found.old found.new (seen.const_failures target.now mark text.now sub.now)) }
-{
-    if is_null(text) {
-        return Ok(());
-    }
-    note(found, 12, mark, breaks(target, text, sub))
 }
 
 // What a source gives, as it is or looked up in the table of this name.
@@ -89,7 +72,10 @@ fn check_leaf(
     ensures { OnOk result (Notes found.old found.new (seen.leaf_failures sources.entry mark leaf.now sub.now)) }
 {
     match leaf {
-        ResolvedLeaf::Const(text) => check_const(found, sources.context.target(), mark, text, sub),
+        ResolvedLeaf::Const(text) => {
+            let is_broken = !is_null(text) && breaks(sources.context.target(), text, sub);
+            note(found, 12, mark, is_broken)
+        }
         ResolvedLeaf::Copied(source) => check_source(found, sources, mark, None, source, sub),
         ResolvedLeaf::LookedUp(name, source) => {
             check_source(found, sources, mark, Some(name.as_slice()), source, sub)
@@ -115,20 +101,6 @@ fn is_forbidden_sub(sub: Option<&SubShape>) -> bool
     }
 }
 
-fn check_barred(
-    found: &mut Vec<Failure>,
-    mark: FailureSite,
-    barred: bool,
-    presence: Presence,
-) -> Result<(), AllocError>
-    ensures { OnOk result (Notes found.old found.new (fails 11 (seen_mark mark) (barred && not (leaves_spec.is_absent presence)))) }
-{
-    if !barred {
-        return Ok(());
-    }
-    note(found, 11, mark, !is_absent(presence))
-}
-
 fn check_at(
     found: &mut Vec<Failure>,
     sources: Sources<'_, '_, '_, '_, '_>,
@@ -142,7 +114,7 @@ fn check_at(
     let presence = leaf_presence(sources, &at.leaf);
     let mark = leaf_mark(field.number, at);
     let barred = is_forbidden_comp(comp) || is_forbidden_sub(sub);
-    check_barred(found, mark, barred, presence)?;
+    note(found, 11, mark, barred && !is_absent(presence))?;
     match sub {
         None => Ok(()),
         Some(sub) => check_leaf(found, sources, mark, &at.leaf, sub),
@@ -173,6 +145,6 @@ pub(crate) fn check_made(
 ) -> Result<(), AllocError>
     ensures { OnOk result (Notes found.old found.new (seen.made_field sources.entry mark leaves.now field.now)) }
 {
-    check_lacking(found, sources, mark, leaves, &field.comps)?;
+    check_comps(found, sources, mark, Filling::Made(leaves), &field.comps)?;
     check_leaves(found, sources, field, leaves)
 }

@@ -3,8 +3,9 @@ ghost use Rattle.std.specs.Prelude.{OnOk};
 ghost use Rattle.gw_resolve.specs.Noted.{Notes};
 ghost use Rattle.gw_leaves.specs.Uses.{making_failures};
 
-use crate::copied::check_copied;
 use crate::count::walking;
+use crate::elements::{Filling, check_comps};
+use crate::known::at_field;
 use crate::made::check_made;
 use crate::sources::Sources;
 use gw_profile::FieldShape;
@@ -22,8 +23,14 @@ pub fn check_making(
     ensures { OnOk result (Notes found.old found.new (making_failures sources.entry mark making.now field.now)) }
 {
     match making {
-        Making::Copy(from) => check_copied(found, sources, mark, from, field),
-        Making::First(from) => check_copied(found, sources, mark, from, field),
+        Making::Copy(from) => {
+            let filling = Filling::Copied(at_field(sources, from));
+            check_comps(found, sources, mark, filling, &field.comps)
+        }
+        Making::First(from) => {
+            let filling = Filling::Copied(at_field(sources, from));
+            check_comps(found, sources, mark, filling, &field.comps)
+        }
         Making::Repeat(from, leaves) => check_made(
             found,
             walking(sources, from),

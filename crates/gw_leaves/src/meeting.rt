@@ -1,14 +1,14 @@
 //! The tables that a map brings together.
 
-use crate::context::{MapContext, Meetings};
+use crate::comparison::Comparison;
+use crate::context::MapContext;
 use crate::count::walking;
 use crate::given::{LeafSource, origin_of, table_of};
 use crate::known::at_field;
 use crate::leaf::source_sub;
 use crate::places::enter_if;
-use crate::readings::Origin;
 use crate::sources::Sources;
-use gw_profile::{FieldShape, Node, comp_of, field_of, sub_of};
+use gw_profile::{FieldShape, Node, SubShape, comp_of, field_of, sub_of};
 use gw_resolve::{
     At, Item, Making, ResolvedLeaf, Rule, ScopeNode, SegmentItem, Source, enter, fields_at,
     nodes_within,
@@ -16,28 +16,23 @@ use gw_resolve::{
 use indexmap::IndexSet;
 use std::alloc::{AllocError, Global};
 
-// Where texts are from, and the table of the target that they are held against.
-fn meet<'a>(
-    alloc: Global,
-    meetings: &mut Meetings<'a>,
-    origin: Origin<'a>,
-    name: Option<&'a [u8]>,
+type Comparisons<'a> = IndexSet<Comparison<'a>>;
+
+// What is read, against all texts and against the table of this subcomponent.
+fn add<'a>(
+    comparisons: &mut Comparisons<'a>,
+    given: LeafSource<'a>,
+    sub: Option<&'a SubShape>,
 ) -> Result<(), AllocError> {
-    if !meetings.contains_key(&origin) {
-        meetings.insert(origin, IndexSet::new(alloc))?;
-    }
-    let Some(name) = name else {
-        return Ok(());
-    };
-    if let Some(names) = meetings.get_mut(&origin) {
-        names.insert(name)?;
-    }
+    let origin = origin_of(given);
+    comparisons.insert((origin, None))?;
+    comparisons.insert((origin, table_of(sub)))?;
     Ok(())
 }
 
 // What these leaves read, each against the subcomponent at its place.
 fn add_leaves<'a>(
-    meetings: &mut Meetings<'a>,
+    comparisons: &mut Comparisons<'a>,
     sources: Sources<'_, '_, '_, 'a, '_>,
     field: Option<&'a FieldShape>,
     leaves: &'a [At],
@@ -53,15 +48,14 @@ fn add_leaves<'a>(
             sub: source_sub(sources, source),
         };
         let sub = sub_of(comp_of(field, at.place.comp), at.place.sub);
-        meet(sources.alloc, meetings, origin_of(given), table_of(sub))?;
+        add(comparisons, given, sub)?;
     }
     Ok(())
 }
 
 // The subcomponents of a field that is copied from this one, each against that of the same number.
 fn add_copied<'a>(
-    alloc: Global,
-    meetings: &mut Meetings<'a>,
+    comparisons: &mut Comparisons<'a>,
     from: Option<&'a FieldShape>,
     field: Option<&'a FieldShape>,
 ) -> Result<(), AllocError> {
@@ -75,32 +69,15 @@ fn add_copied<'a>(
                 rows: None,
                 sub: sub_of(same, sub.number),
             };
-            meet(alloc, meetings, origin_of(given), table_of(Some(sub)))?;
+            add(comparisons, given, Some(sub))?;
         }
     }
     Ok(())
 }
 
-fn add_rule<'a>(
-    meetings: &mut Meetings<'a>,
-    sources: Sources<'_, '_, '_, 'a, '_>,
-    fields: &'a [FieldShape],
-    rule: &'a Rule,
-) -> Result<(), AllocError> {
-    let field = field_of(fields, rule.field);
-    match &rule.making {
-        Making::Copy(from) => add_copied(sources.alloc, meetings, at_field(sources, from), field),
-        Making::First(from) => add_copied(sources.alloc, meetings, at_field(sources, from), field),
-        Making::Repeat(from, leaves) => {
-            add_leaves(meetings, walking(sources, from), field, leaves)
-        }
-        Making::Build(leaves) => add_leaves(meetings, sources, field, leaves),
-    }
-}
-
 fn add_segment<'a>(
     alloc: Global,
-    meetings: &mut Meetings<'a>,
+    comparisons: &mut Comparisons<'a>,
     context: &MapContext<'_>,
     scope: &[ScopeNode<'a, '_>],
     nodes: &'a [Node],
@@ -115,7 +92,15 @@ fn add_segment<'a>(
     };
     let fields = fields_at(nodes, segment.child);
     for rule in &segment.rules {
-        add_rule(meetings, sources, fields, rule)?;
+        let field = field_of(fields, rule.field);
+        match &rule.making {
+            Making::Copy(from) => add_copied(comparisons, at_field(sources, from), field)?,
+            Making::First(from) => add_copied(comparisons, at_field(sources, from), field)?,
+            Making::Repeat(from, leaves) => {
+                add_leaves(comparisons, walking(sources, from), field, leaves)?
+            }
+            Making::Build(leaves) => add_leaves(comparisons, sources, field, leaves)?,
+        }
     }
     Ok(())
 }
@@ -124,7 +109,7 @@ fn add_segment<'a>(
 #[cycle(add)]
 pub(crate) fn add_items<'a>(
     alloc: Global,
-    meetings: &mut Meetings<'a>,
+    comparisons: &mut Comparisons<'a>,
     context: &MapContext<'_>,
     scope: &[ScopeNode<'a, '_>],
     nodes: &'a [Node],
@@ -132,15 +117,22 @@ pub(crate) fn add_items<'a>(
 ) -> Result<(), AllocError> {
     for item in items {
         match item {
-            Item::Segment(segment) => add_segment(alloc, meetings, context, scope, nodes, segment)?,
+            Item::Segment(segment) => add_segment(
+                alloc,
+                comparisons,
+                context,
+                scope,
+                nodes,
+                segment,
+            )?,
             Item::Group(group) => {
                 let inner = enter(alloc, scope, &group.place)?;
                 let below = nodes_within(nodes, group.child);
-                add_items(alloc, meetings, context, &inner, below, &group.items)?;
+                add_items(alloc, comparisons, context, &inner, below, &group.items)?;
             }
             Item::Flat(flat) => {
                 let inner = enter(alloc, scope, &flat.place)?;
-                add_items(alloc, meetings, context, &inner, nodes, &flat.items)?;
+                add_items(alloc, comparisons, context, &inner, nodes, &flat.items)?;
             }
         }
     }

@@ -27,19 +27,13 @@ fn by_usage(usage: Option<Usage>) -> Presence
 pub(crate) fn is_always(presence: Presence) -> bool
     ensures { result ≡ spec.is_always presence }
 {
-    match presence {
-        Presence::Always => true,
-        _ => false,
-    }
+    matches!(presence, Presence::Always)
 }
 
 pub(crate) fn is_absent(presence: Presence) -> bool
     ensures { result ≡ spec.is_absent presence }
 {
-    match presence {
-        Presence::Never => true,
-        _ => false,
-    }
+    matches!(presence, Presence::Never)
 }
 
 // Of something that is there only where two things are.

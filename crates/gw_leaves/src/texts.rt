@@ -47,23 +47,13 @@ fn is_one_of(text: &[u8], all: &[Vec<u8>]) -> bool
 fn some_outside(texts: &[Vec<u8>], all: &[Vec<u8>]) -> bool
     ensures { result ≡ list_any (λ v. not (is_among v.items (items_all all.now))) texts.now }
 {
-    for text in texts {
-        if !is_one_of(text, all) {
-            return true;
-        }
-    }
-    false
+    texts.iter().any(|text| !is_one_of(text, all))
 }
 
 fn some_over(texts: &[Vec<u8>], most: u32, to: Count) -> bool
     ensures { result ≡ list_any (λ v. nat_lt most (measured to v.items)) texts.now }
 {
-    for text in texts {
-        if u64::from(most) < measure(to, text) {
-            return true;
-        }
-    }
-    false
+    texts.iter().any(|text| u64::from(most) < measure(to, text))
 }
 
 /// Whether a text of a shape may be missing from these.

@@ -1,5 +1,5 @@
 //! The rules on what can stand at one place: usage, table and length.
-ghost use Rattle.std.specs.Prelude.{◌≡◌, ◌&&◌, not, OnOk};
+ghost use Rattle.std.specs.Prelude.{◌≡◌, ◌&&◌, ◌++◌, not, OnOk};
 ghost use Rattle.gw_validate.specs.Breaches.{is_required, is_forbidden};
 ghost use Rattle.gw_resolve.specs.Failures.{fails};
 ghost use Rattle.gw_leaves.specs.Leaves as leaves_spec;
@@ -18,50 +18,27 @@ use std::alloc::AllocError;
 pub(crate) fn is_required(usage: Usage) -> bool
     ensures { result ≡ is_required usage }
 {
-    match usage {
-        Usage::R => true,
-        _ => false,
-    }
+    matches!(usage, Usage::R)
 }
 
 /// Whether the usage is X. It takes no memory.
 pub fn is_forbidden(usage: Usage) -> bool
     ensures { result ≡ is_forbidden usage }
 {
-    match usage {
-        Usage::X => true,
-        _ => false,
-    }
+    matches!(usage, Usage::X)
 }
 
-/// Something required isn't always there.
-pub(crate) fn check_required(
+/// What a part of a field asks by its usage: something required isn't always there, or something forbidden may be.
+pub(crate) fn check_usage(
     found: &mut Vec<Failure>,
     mark: FailureSite,
     usage: Usage,
     presence: Presence,
 ) -> Result<(), AllocError>
-    ensures { OnOk result (Notes found.old found.new (fails 5 (seen_mark mark) (is_required usage && not (leaves_spec.is_always presence)))) }
+    ensures { OnOk result (Notes found.old found.new (fails 5 (seen_mark mark) (is_required usage && not (leaves_spec.is_always presence)) ++ fails 11 (seen_mark mark) (is_forbidden usage && not (leaves_spec.is_absent presence)))) }
 {
-    if !is_required(usage) {
-        return Ok(());
-    }
-    note(found, 5, mark, !is_always(presence))
-}
-
-/// Something forbidden may be there.
-pub(crate) fn check_forbidden(
-    found: &mut Vec<Failure>,
-    mark: FailureSite,
-    usage: Usage,
-    presence: Presence,
-) -> Result<(), AllocError>
-    ensures { OnOk result (Notes found.old found.new (fails 11 (seen_mark mark) (is_forbidden usage && not (leaves_spec.is_absent presence)))) }
-{
-    if !is_forbidden(usage) {
-        return Ok(());
-    }
-    note(found, 11, mark, !is_absent(presence))
+    note(found, 5, mark, is_required(usage) && !is_always(presence))?;
+    note(found, 11, mark, is_forbidden(usage) && !is_absent(presence))
 }
 
 /// What can stand there has another value than its table's, or is too long.

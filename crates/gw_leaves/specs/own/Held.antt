@@ -15,7 +15,7 @@ use Rattle.gw_leaves.specs.declared.sources.Sources.{Sources}
 use Rattle.gw_leaves.specs.Leaves.{Values, sub_values}
 use Rattle.gw_leaves.specs.Context.{ContextValue}
 use Rattle.gw_leaves.specs.Uses.{map_tables}
-use Rattle.gw_leaves.specs.own.Readings.{rowed}
+use Rattle.gw_leaves.specs.own.Comparisons.{rowed}
 
 abbrev pub leaves_value : Sources → List ats.At → List At
 leaves_value s leaves = map (at_leaf (map_tables s)) leaves

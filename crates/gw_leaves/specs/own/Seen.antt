@@ -1,32 +1,31 @@
 -- The failures of the definitions, of parts as the program holds them.
-use Rattle.std.specs.Prelude.{Bool, ℕ, ◌&&◌, ◌||◌, not, List, [], ◌∷◌, Option}
+use Rattle.std.specs.Prelude.{Bool, ℕ, ◌||◌, List, Option}
 use denote.Ref.{Bor}
 use Rattle.gw_profile.specs.declared.shape.SubShape.{SubShape}
-use Rattle.gw_profile.specs.declared.shape.CompShape.{CompShape}
 use Rattle.gw_profile.specs.declared.shape.FieldShape.{FieldShape}
 use Rattle.gw_profile.specs.Shapes.{SubValue, CompValue}
 use Rattle.gw_profile.specs.Seen as profiles
 use Rattle.gw_profile.specs.Seen.{sub as sub_value, field as field_value, profile_value}
 use Rattle.gw_maplang.specs.Seen.{now}
-use Rattle.gw_validate.specs.Breaches.{is_null}
-use Rattle.gw_resolve.specs.declared.resolved.Reference.{Reference}
 use Rattle.gw_resolve.specs.declared.resolved.Source.{Source}
 use Rattle.gw_resolve.specs.declared.resolved.ResolvedLeaf.{ResolvedLeaf}
 use Rattle.gw_resolve.specs.declared.resolved.At.{At}
 use Rattle.gw_resolve.specs.declared.failure.FailureSite.{FailureSite}
-use Rattle.gw_resolve.specs.Failures.{Failure, fails}
+use Rattle.gw_resolve.specs.Failures.{Failure}
 use Rattle.gw_resolve.specs.Resolved as resolved
-use Rattle.gw_resolve.specs.Seen.{mark, reference, source, leaf}
+use Rattle.gw_resolve.specs.Seen.{mark, source, leaf}
+use Rattle.gw_leaves.specs.declared.elements.Filling.{Filling}
+use Rattle.gw_leaves.specs.declared.elements.Filling.TheVariants.{Copied, Made}
 use Rattle.gw_leaves.specs.declared.given.LeafSource.{LeafSource}
 use Rattle.gw_leaves.specs.declared.shape.Presence.{Presence}
 use Rattle.gw_leaves.specs.declared.sources.Sources.{Sources}
 use Rattle.gw_leaves.specs.Components as spec
-use Rattle.gw_leaves.specs.Leaves.{Values, listed, source_shape, may_be_unlisted, may_be_long}
+use Rattle.gw_leaves.specs.Leaves.{Values, source_shape, may_be_unlisted, may_be_long}
 use Rattle.gw_leaves.specs.Context.{ContextValue}
 use Rattle.gw_leaves.specs.Uses.{sources_value, target_value, map_tables}
 use Rattle.gw_leaves.specs.own.Held.{given_texts, leaves_value}
-use Rattle.gw_profile.specs.Numbered.{some_comp, some_field}
-use Rattle.gw_leaves.specs.own.Readings.{rowed}
+use Rattle.gw_profile.specs.Numbered.{some_field, comp_of}
+use Rattle.gw_leaves.specs.own.Comparisons.{rowed}
 
 -- ---- a subcomponent
 
@@ -39,29 +38,17 @@ value_failures context at presence given sub =
 abbrev pub may_break : profiles.Contents → Values → SubShape → Bool
 may_break to values sub = may_be_unlisted values (spec.table_values to.tables (sub_value sub)) || may_be_long to.count values sub.len
 
--- ---- copied fields
+-- of a target subcomponent, in a component of this number
+abbrev pub sub_failures : Sources → FailureSite → Filling → ℕ → SubValue → List Failure
+sub_failures s at (Copied from) comp = spec.copied_sub (profile_value s.context.now.source) (target_value s) (mark at) (comp_of (some_field from) comp)
+sub_failures s at (Made leaves) comp = spec.made_sub (sources_value s) (mark at) (leaves_value s leaves.now) comp
 
--- of a target subcomponent that is copied from this component
-abbrev pub copied_sub : ContextValue → FailureSite → Option (Bor CompShape) → SubValue → List Failure
-copied_sub context at c = spec.copied_sub (profile_value context.source) (profile_value context.target) (mark at) (some_comp c)
+-- of a target component
+abbrev pub comp_failures : Sources → FailureSite → Filling → CompValue → List Failure
+comp_failures s at (Copied from) = spec.copied_comp (profile_value s.context.now.source) (target_value s) (mark at) (some_field from)
+comp_failures s at (Made leaves) = spec.made_comp (sources_value s) (mark at) (leaves_value s leaves.now)
 
--- of a target component that is copied from this field
-abbrev pub copied_comp : ContextValue → FailureSite → Option (Bor FieldShape) → CompValue → List Failure
-copied_comp context at f = spec.copied_comp (profile_value context.source) (profile_value context.target) (mark at) (some_field f)
-
--- of a target field that is copied from this one
-abbrev pub copied_field : Sources → FailureSite → Reference → FieldShape → List Failure
-copied_field s at from target = spec.copied_field (sources_value s) (target_value s) (mark at) (reference from) (field_value target)
-
--- ---- fields made of leaves
-
--- of a target component where these leaves are given
-abbrev pub made_comp : Sources → FailureSite → List At → CompValue → List Failure
-made_comp s at leaves = spec.made_comp (sources_value s) (mark at) (leaves_value s leaves)
-
--- of a constant; "" is exempt
-abbrev pub const_failures : profiles.Contents → FailureSite → List ℕ → SubShape → List Failure
-const_failures to at text sub = fails 12 (mark at) (not (is_null text) && may_break to (listed (text ∷ [])) sub)
+-- ---- leaves
 
 -- of what a source gives, as it is or looked up in the table of this name
 abbrev pub source_failures : Sources → FailureSite → Option (Bor (List ℕ)) → Source → SubShape → List Failure

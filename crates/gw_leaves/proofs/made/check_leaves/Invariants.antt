@@ -1,12 +1,8 @@
-use Rattle.std.proofs.Common.{◌≡◌, ◌++◌, map, drop}
-use Rattle.std.specs.Prelude.{flat_map}
-use Rattle.gw_profile.specs.Seen.{field}
-use Rattle.gw_leaves.specs.Components.{made_leaf}
-use Rattle.gw_leaves.specs.Uses.{sources_value, target_value, map_tables}
 use Rattle.gw_resolve.specs.Seen.{failures, at_leaf}
+use Rattle.gw_leaves.specs.own.Seen.{made_leaf}
+use Rattle.gw_leaves.specs.Uses.{map_tables}
+use Rattle.gw_leaves.proofs.Each.{Tells}
 use Rattle.gw_leaves.proofs.made.check_leaves.Given as goal
 
 abbrev pub invariant-loop-at : goal.invariant-loop-at
-invariant-loop-at l =
-    failures l.initial.found.items ++ (flat_map (made_leaf (sources_value l.sources) (target_value l.sources) (field l.field)) (map (at_leaf (map_tables l.sources)) l.leaves))
-    ≡ failures l.found.items ++ (flat_map (made_leaf (sources_value l.sources) (target_value l.sources) (field l.field)) (map (at_leaf (map_tables l.sources)) (drop l.at-index l.leaves)))
+invariant-loop-at l = Tells (made_leaf l.sources l.field) (at_leaf (map_tables l.sources)) (failures l.initial.found.items) (failures l.found.items) l.at-index l.leaves

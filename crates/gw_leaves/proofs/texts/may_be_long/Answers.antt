@@ -4,7 +4,7 @@ use Rattle.std.specs.Global.{Vec}
 use Rattle.gw_profile.specs.Lengths.{measure}
 use Rattle.gw_leaves.specs.Leaves.{may_be_long}
 use Rattle.gw_leaves.specs.Texts.{values_value}
-use Rattle.gw_leaves.proofs.Lists.{any_map}
+use Rattle.gw_leaves.proofs.Inserted.{any_map}
 use Rattle.gw_leaves.proofs.texts.may_be_long.Goals as goal
 
 pub returns-in-Listed : goal.returns-in-Listed

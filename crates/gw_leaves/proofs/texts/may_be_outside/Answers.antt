@@ -5,7 +5,7 @@ use Rattle.std.specs.Global.{Vec}
 use Rattle.gw_profile.specs.Fault.{is_among}
 use Rattle.gw_leaves.specs.Leaves.{may_be_unlisted}
 use Rattle.gw_leaves.specs.Texts.{items_all, some_items, values_value}
-use Rattle.gw_leaves.proofs.Lists.{any_map}
+use Rattle.gw_leaves.proofs.Inserted.{any_map}
 use Rattle.gw_leaves.proofs.texts.may_be_outside.Goals as goal
 
 pub returns-in-Listed : goal.returns-in-Listed

@@ -1,19 +1,19 @@
 use Rattle.std.proofs.Common.{sym, subst}
-use Rattle.gw_leaves.specs.own.Findings.{IsFound, AreFound}
-use Rattle.gw_leaves.specs.own.Readings.{read_of}
-use Rattle.gw_leaves.proofs.Kept.{kept_in}
+use Rattle.gw_leaves.specs.own.Comparisons.{AreKept, IsCompared}
+use Rattle.gw_leaves.proofs.Comparing.{kept_more}
 use Rattle.gw_leaves.proofs.context.MapContext.knowing.Goals as goal
 
-pub loop-origin-preserved : goal.loop-origin-preserved
-loop-origin-preserved c =
+pub loop-comparison-preserved : goal.loop-comparison-preserved
+loop-comparison-preserved c =
     let f = c.in_ok-found.found in
-    subst (AreFound c.args.self.now) (sym c.in_ok-insert.ensures.entries)
-    (kept_in c.args.self.now c.in-Some.origin c.loop-origin.known.entries f
-    (subst (λ s. IsFound s.target.count s.target.tables (read_of s.source.count s.source.tables s.map.tables c.in-Some.origin) f) c.self.view_is c.in_ok-found.ensures) c.loop-origin.invariant)
+    kept_more c.args.self.now c.in-Some.comparison f c.loop-comparison.known.entries c.insert.new.self.entries c.in_ok-insert.ensures.updates.0
+    (subst (λ s. IsCompared s c.in-Some.comparison f.keys) c.self.view_is c.in_ok-found.ensures) c.loop-comparison.invariant
 
-pub loop-origin-preserved-in_ok-insert : goal.loop-origin-preserved-in_ok-insert
-loop-origin-preserved-in_ok-insert c =
+pub loop-comparison-preserved-in_ok-insert : goal.loop-comparison-preserved-in_ok-insert
+loop-comparison-preserved-in_ok-insert c =
     let f = c.in_ok-found.found in
-    subst (AreFound c.args.self.now) (sym c.in_ok-insert.ensures.entries)
-    (kept_in c.args.self.now c.in-Some.origin c.loop-origin.known.entries f
-    (subst (λ s. IsFound s.target.count s.target.tables (read_of s.source.count s.source.tables s.map.tables c.in-Some.origin) f) c.self.view_is c.in_ok-found.ensures) c.loop-origin.invariant)
+    kept_more c.args.self.now c.in-Some.comparison f c.loop-comparison.known.entries c.insert.new.self.entries c.in_ok-insert.ensures.updates.0
+    (subst (λ s. IsCompared s c.in-Some.comparison f.keys) c.self.view_is c.in_ok-found.ensures) c.loop-comparison.invariant
+
+pub invariant_of-result : goal.invariant_of-result
+invariant_of-result c = subst (λ s. AreKept s c.loop-comparison.known.entries) (sym c.self.view_is) c.loop-comparison.invariant

@@ -1,5 +1,5 @@
-use Rattle.gw_leaves.specs.own.Findings.{AreFound}
+use Rattle.gw_leaves.specs.own.Comparisons.{AreKept}
 use Rattle.gw_leaves.proofs.context.MapContext.knowing.Given as goal
 
-abbrev pub invariant-loop-origin : goal.invariant-loop-origin
-invariant-loop-origin l = AreFound l.self l.known.entries
+abbrev pub invariant-loop-comparison : goal.invariant-loop-comparison
+invariant-loop-comparison l = AreKept l.self l.known.entries

@@ -1,0 +1,12 @@
+use Rattle.std.proofs.Common.{subst}
+use Rattle.gw_leaves.specs.own.Comparisons.{Adds, some_values}
+use Rattle.gw_leaves.proofs.Comparing.{all_rows}
+use Rattle.gw_leaves.proofs.comparison.of_rows.Goals as goal
+
+pub returns : goal.returns
+returns c =
+    let values = some_values c.args.table in
+    let old = c.in_ok-made.made.keys in
+    let new = c.add.new.lengths.keys in
+    all_rows c.args.to values c.args.rows.now c.seconds_of.result.now old new c.seconds_of.ensures
+    (subst (λ t. Adds c.args.to values old new 0 t) c.other.ensures c.in_ok-add.ensures) c.in_ok-made.ensures

@@ -1,0 +1,199 @@
+//! Texts of the source compared with tables of the target, whatever the length at which a place reads them.
+ghost use Rattle.std.specs.Prelude.{◌≡◌, IfOk, OnOk, unwrap_or, option_copied, map, [], Some};
+ghost use Rattle.gw_profile.specs.Fault.{is_among};
+ghost use Rattle.gw_profile.specs.Value.{table_of as table_in};
+ghost use Rattle.gw_maplang.specs.Seen.{now};
+ghost use Rattle.gw_leaves.specs.Context.{context_of};
+ghost use Rattle.gw_leaves.specs.Texts.{items_all};
+ghost use Rattle.gw_leaves.specs.own.Comparisons as spec;
+ghost use Rattle.gw_leaves.specs.own.Comparisons.{some_values, given_by, Adds, AreOfValues, AreOfRows, IsCompared};
+
+use crate::leaf::table_named;
+use gw_maplang::{Map, Table as Rows};
+use gw_profile::{Count, Profile, Table, measure};
+use indexmap::IndexSet;
+use std::alloc::{AllocError, Global};
+
+/// Where texts are from: the table of the map in which they are looked up, and the table of the source that lists them.
+pub(crate) type Origin<'a> = (Option<&'a [u8]>, Option<&'a [u8]>);
+
+/// Where texts are from, and the table of the target with which they are compared, by its name.
+pub(crate) type Comparison<'a> = (Origin<'a>, Option<&'a [u8]>);
+
+/// Lengths of texts by the count of the source, each with that of what is given for it by the count of the target.
+pub(crate) type Lengths = IndexSet<(u64, u64)>;
+
+// ---- what is asked
+
+/// Whether a length isn't greater, where there is a greatest.
+pub(crate) fn fits(len: Option<u32>, size: u64) -> bool
+    ensures { result ≡ spec.fits len size }
+{
+    match len {
+        None => true,
+        Some(len) => size <= u64::from(len),
+    }
+}
+
+fn exceeds(most: Option<u32>, size: u64) -> bool
+    ensures { result ≡ spec.exceeds most size }
+{
+    match most {
+        None => true,
+        Some(most) => u64::from(most) < size,
+    }
+}
+
+/// Whether what is given for a text that isn't longer than the one is longer than the other, each where there is one.
+pub(crate) fn some_length(lengths: &[(u64, u64)], len: Option<u32>, most: Option<u32>) -> bool
+    ensures { result ≡ spec.some_length len most lengths.now }
+{
+    lengths
+        .iter()
+        .any(|pair| fits(len, pair.0) && exceeds(most, pair.1))
+}
+
+// ---- what is found
+
+/// The values of the table of this name.
+pub(crate) fn values_of<'a>(source: &'a Profile, name: &[u8]) -> &'a [Vec<u8>]
+    ensures { items_all result.now ≡ unwrap_or (table_in name.now source.now.tables) [] }
+{
+    match source.table(name) {
+        None => &[],
+        Some(table) => table.values(),
+    }
+}
+
+fn is_listed(table: Option<&Table>, text: &[u8]) -> bool
+    ensures { result ≡ is_among text.now (some_values table.entry) }
+{
+    match table {
+        None => false,
+        Some(table) => table.contains(text),
+    }
+}
+
+fn size_of(count: Option<Count>, text: &[u8]) -> u64
+    ensures { result ≡ spec.size_of count text.now }
+{
+    match count {
+        None => 0,
+        Some(count) => measure(count, text),
+    }
+}
+
+// A text as it is, or what the rows give for it.
+fn given<'a>(rows: Option<&'a Rows>, text: &'a [u8]) -> Option<&'a [u8]>
+    ensures { now result ≡ given_by (option_copied rows.entry) text.now }
+{
+    let Some(rows) = rows else {
+        return Some(text);
+    };
+    match rows.second(text) {
+        None => rows.other(),
+        Some(second) => Some(second),
+    }
+}
+
+// Adds the length of a text and that of what is given for it, where that isn't in the table.
+fn add(
+    lengths: &mut Lengths,
+    to: Count,
+    table: Option<&Table>,
+    size: u64,
+    text: Option<&[u8]>,
+) -> Result<(), AllocError>
+    ensures { OnOk result (Adds to (some_values table.entry) lengths.old.keys lengths.new.keys size (now text.entry)) }
+{
+    let Some(text) = text else {
+        return Ok(());
+    };
+    if is_listed(table, text) {
+        return Ok(());
+    }
+    lengths.insert((size, measure(to, text)))?;
+    Ok(())
+}
+
+// Of these texts, as they are or by rows; where no count says how long they are, each is as short as one likes.
+fn of_values(
+    alloc: Global,
+    count: Option<Count>,
+    to: Count,
+    table: Option<&Table>,
+    rows: Option<&Rows>,
+    texts: &[Vec<u8>],
+) -> Result<Lengths, AllocError>
+    ensures { IfOk result (λ made. AreOfValues count to (some_values table.entry) (option_copied rows.entry) texts.now made.keys) }
+{
+    let mut made = IndexSet::new(alloc);
+    for text in texts {
+        add(
+            &mut made,
+            to,
+            table,
+            size_of(count, text),
+            given(rows, text),
+        )?;
+    }
+    Ok(made)
+}
+
+// What the rows give.
+fn seconds_of(rows: &Rows) -> &[Vec<u8>]
+    ensures { items_all result.now ≡ map (λ r. r.second) rows.now.rows }
+{
+    rows.rows().values().as_slice()
+}
+
+// Of all that the rows give.
+fn of_rows(
+    alloc: Global,
+    to: Count,
+    table: Option<&Table>,
+    rows: &Rows,
+) -> Result<Lengths, AllocError>
+    ensures { IfOk result (λ made. AreOfRows to (some_values table.entry) rows.now made.keys) }
+{
+    let mut made = of_values(alloc, None, to, table, None, seconds_of(rows))?;
+    add(&mut made, to, table, 0, rows.other())?;
+    Ok(made)
+}
+
+/// The lengths where what is given isn't in the table of the target.
+pub(crate) fn compare(
+    alloc: Global,
+    source: &Profile,
+    target: &Profile,
+    map: &Map,
+    comparison: Comparison<'_>,
+) -> Result<Lengths, AllocError>
+    ensures { IfOk result (λ made. IsCompared (context_of source.now target.now map.now) comparison.entry made.keys) }
+{
+    let ((rows, listed), name) = comparison;
+    let (count, to) = (Some(source.count()), target.count());
+    let table = table_named(target, name);
+    match rows {
+        None => match listed {
+            None => Ok(IndexSet::new(alloc)),
+            Some(listed) => of_values(alloc, count, to, table, None, values_of(source, listed)),
+        },
+        Some(rows) => match map.table(rows) {
+            None => Ok(IndexSet::new(alloc)),
+            Some(rows) => match listed {
+                None => of_rows(alloc, to, table, rows),
+                Some(listed) => {
+                    of_values(
+                        alloc,
+                        count,
+                        to,
+                        table,
+                        Some(rows),
+                        values_of(source, listed),
+                    )
+                }
+            },
+        },
+    }
+}

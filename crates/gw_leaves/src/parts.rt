@@ -1,0 +1,80 @@
+//! Where the texts of leaves stand in their field.
+ghost use Rattle.std.specs.Prelude.{◌≡◌, ◌||◌};
+ghost use Rattle.gw_leaves.specs.Leaves as leaves_spec;
+ghost use Rattle.gw_leaves.specs.Uses.{sources_value, map_tables};
+ghost use Rattle.gw_leaves.specs.own.Held.{leaves_value};
+ghost use Rattle.gw_leaves.specs.own.Parts as spec;
+ghost use Rattle.gw_resolve.specs.Seen.{leaf as seen_leaf};
+
+use crate::presence::{is_absent, is_always, leaf_presence};
+use crate::sources::Sources;
+use gw_resolve::At;
+
+/// All of a field, a component of it, or a subcomponent of that.
+#[derive(Clone, Copy)]
+pub(crate) enum Part {
+    Field,
+    Comp(u32),
+    Sub(u32, u32),
+}
+
+// Whether the leaf is in the part, and always there.
+fn is_sure_in(sources: Sources<'_, '_, '_, '_, '_>, part: Part, at: &At) -> bool
+    ensures { result ≡ spec.is_sure_in part at.now.place.comp at.now.place.sub
+        (leaves_spec.is_always (leaves_spec.leaf_shape (sources_value sources.entry) (seen_leaf (map_tables sources.entry) at.now.leaf)).presence) }
+{
+    let (comp, sub) = (at.place.comp, at.place.sub);
+    match part {
+        Part::Field => is_always(leaf_presence(sources, &at.leaf)),
+        Part::Comp(part) => comp == part && is_always(leaf_presence(sources, &at.leaf)),
+        Part::Sub(part, inner) => {
+            comp == part && sub == inner && is_always(leaf_presence(sources, &at.leaf))
+        }
+    }
+}
+
+// Whether the leaf isn't beside the part, or is never there.
+fn is_not_beside(sources: Sources<'_, '_, '_, '_, '_>, part: Part, at: &At) -> bool
+    ensures { result ≡ spec.is_not_beside part at.now.place.comp at.now.place.sub
+        (leaves_spec.is_absent (leaves_spec.leaf_shape (sources_value sources.entry) (seen_leaf (map_tables sources.entry) at.now.leaf)).presence) }
+{
+    let (comp, sub) = (at.place.comp, at.place.sub);
+    match part {
+        Part::Field => is_absent(leaf_presence(sources, &at.leaf)),
+        Part::Comp(part) => comp == part || is_absent(leaf_presence(sources, &at.leaf)),
+        Part::Sub(part, inner) => {
+            comp != part || sub == inner || is_absent(leaf_presence(sources, &at.leaf))
+        }
+    }
+}
+
+/// Whether some leaf of the part is always there.
+pub(crate) fn some_sure(sources: Sources<'_, '_, '_, '_, '_>, part: Part, leaves: &[At]) -> bool
+    ensures { result ≡ spec.some_sure (sources_value sources.entry) part (leaves_value sources.entry leaves.now) }
+{
+    for at in leaves {
+        if is_sure_in(sources, part, at) {
+            return true;
+        }
+    }
+    false
+}
+
+/// Whether no leaf beside the part ever is; of all of a field, whether none is at all.
+pub(crate) fn none_beside(sources: Sources<'_, '_, '_, '_, '_>, part: Part, leaves: &[At]) -> bool
+    ensures { result ≡ spec.none_beside (sources_value sources.entry) part (leaves_value sources.entry leaves.now) }
+{
+    for at in leaves {
+        if !is_not_beside(sources, part, at) {
+            return false;
+        }
+    }
+    true
+}
+
+/// Whether the part has a text where what it is a part of has one: some leaf of the part is always there, or none beside it ever is.
+pub(crate) fn is_sure(sources: Sources<'_, '_, '_, '_, '_>, part: Part, leaves: &[At]) -> bool
+    ensures { result ≡ (spec.some_sure (sources_value sources.entry) part (leaves_value sources.entry leaves.now) || spec.none_beside (sources_value sources.entry) part (leaves_value sources.entry leaves.now)) }
+{
+    some_sure(sources, part, leaves) || none_beside(sources, part, leaves)
+}
