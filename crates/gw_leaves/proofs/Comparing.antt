@@ -1,6 +1,6 @@
 -- Texts of the source that are compared with tables of the target.
-use Rattle.std.proofs.Common.{◌≡◌, ℕ, ◌+◌, ◌<◌, ◌≤◌, zero, suc, Bool, true, false, List, [], ◌∷◌, ◌++◌, Option, Some, None, Result, Ok, Err, IfOk, Bor, refl, sym, ap, ap₂, subst, ◌∙◌, map, nat_lt, length, take, get_or, cond, is_some, true≢false, arith}
-use Rattle.std.specs.Prelude.{slice_get, option_map, unwrap_or, option_copied, option_and_then, filter, filter_map, option_to_list, not, bytes_eq, if◌then◌else◌, ◌==◌, ◌||◌, ◌&&◌}
+use Rattle.std.proofs.Common.{◌≡◌, ℕ, ◌+◌, ◌<◌, Bool, true, false, List, [], ◌∷◌, ◌++◌, Option, Some, None, Result, Ok, Err, IfOk, Bor, refl, sym, ap, ap₂, subst, ◌∙◌, map, nat_lt, length, take, get_or, cond, is_some, true≢false, arith}
+use Rattle.std.specs.Prelude.{unwrap_or, option_copied, option_and_then, filter, filter_map, option_to_list, not, if◌then◌else◌, ◌==◌, ◌||◌, ◌&&◌}
 use Rattle.std.specs.List.{list_any}
 use Rattle.std.specs.Map.{lookup}
 use Rattle.std.specs.Global.{Vec}
@@ -26,7 +26,7 @@ use Rattle.gw_resolve.specs.Naming.{no_rows}
 use Rattle.gw_leaves.specs.declared.given.LeafSource.{LeafSource}
 use Rattle.gw_leaves.specs.Components.{table_values}
 use Rattle.gw_leaves.specs.Context.{ContextValue}
-use Rattle.gw_leaves.specs.Leaves.{any, listed, is_short, given, sub_values, has_no_row, may_be_unlisted, may_be_long}
+use Rattle.gw_leaves.specs.Leaves.{listed, is_short, given, sub_values, has_no_row, may_be_unlisted, may_be_long}
 use Rattle.gw_leaves.specs.Texts.{is_there, items_all}
 use Rattle.gw_leaves.specs.own.Held.{given_texts}
 use Rattle.gw_leaves.specs.own.Comparisons.{table_texts, values_named, rows_named, rowed, table_of, len_of, some_unrowed, is_unrowed, Origin, is_any, texts_in, given_at, given_by, fits, exceeds, is_outside, is_outside_named, holds_of, Lengths, size_of, some_length, Adds, AreOfValues, AreOfRows, some_values, AreCompared, Comparison, names_eq, comparisons_eq, IsCompared, AreKept}

@@ -1,4 +1,4 @@
-use Rattle.std.proofs.Common.{◌≡◌, ◌∙◌, Option, Bor, List, [], ℕ, sym, ap, true, false}
+use Rattle.std.proofs.Common.{◌≡◌, ◌∙◌, Option, Bor, List, [], ℕ, sym, ap}
 use Rattle.std.specs.Prelude.{not, ◌&&◌, option_copied, unwrap_or}
 use Rattle.gw_profile.specs.Numbered.{some_sub}
 use Rattle.gw_profile.specs.Seen as profiles
