@@ -125,7 +125,8 @@ impl<'a> MapContext<'a> {
         self.map
     }
 
-    /// Whether what is given for a text that isn't longer than this may be longer than the most, where there is one, and not in the target's table of this name, where one is named.
+    /// Whether a text that isn't longer than the length is given something that isn't in the target's table of this name, where one is named.
+    /// Where there is a most, what is given is longer than that as well.
     pub(crate) fn some_given(
         &self,
         origin: Origin<'_>,
@@ -133,7 +134,8 @@ impl<'a> MapContext<'a> {
         len: Option<u32>,
         most: Option<u32>,
     ) -> Result<bool, AllocError>
-        ensures { IfOk result (λ b. b ≡ list_any (is_outside_named self.now (now name.entry) most) (given_at self.now (now origin.entry.0) (now origin.entry.1) len)) }
+        ensures { IfOk result (λ b. b ≡
+            list_any (is_outside_named self.now (now name.entry) most) (given_at self.now (now origin.entry.0) (now origin.entry.1) len)) }
     {
         if let Some(found) = self.known.get(&(origin, name)) {
             return Ok(some_length(found.as_slice(), len, most));

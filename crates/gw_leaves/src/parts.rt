@@ -74,7 +74,8 @@ pub(crate) fn none_beside(sources: Sources<'_, '_, '_, '_, '_>, part: Part, leav
 
 /// Whether the part has a text where what it is a part of has one: some leaf of the part is always there, or none beside it ever is.
 pub(crate) fn is_sure(sources: Sources<'_, '_, '_, '_, '_>, part: Part, leaves: &[At]) -> bool
-    ensures { result ≡ (spec.some_sure (sources_value sources.entry) part (leaves_value sources.entry leaves.now) || spec.none_beside (sources_value sources.entry) part (leaves_value sources.entry leaves.now)) }
+    ensures { result ≡ (spec.some_sure (sources_value sources.entry) part (leaves_value sources.entry leaves.now)
+        || spec.none_beside (sources_value sources.entry) part (leaves_value sources.entry leaves.now)) }
 {
     some_sure(sources, part, leaves) || none_beside(sources, part, leaves)
 }

@@ -35,7 +35,9 @@ pub(crate) fn check_usage(
     usage: Usage,
     presence: Presence,
 ) -> Result<(), AllocError>
-    ensures { OnOk result (Notes found.old found.new (fails 5 (seen_mark mark) (is_required usage && not (leaves_spec.is_always presence)) ++ fails 11 (seen_mark mark) (is_forbidden usage && not (leaves_spec.is_absent presence)))) }
+    ensures { OnOk result (Notes found.old found.new
+        (fails 5 (seen_mark mark) (is_required usage && not (leaves_spec.is_always presence))
+        ++ fails 11 (seen_mark mark) (is_forbidden usage && not (leaves_spec.is_absent presence)))) }
 {
     note(found, 5, mark, is_required(usage) && !is_always(presence))?;
     note(found, 11, mark, is_forbidden(usage) && !is_absent(presence))
