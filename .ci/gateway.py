@@ -40,20 +40,27 @@ class Receiver:
     `None` closes the connection instead."""
 
     def __init__(self, codes=(b"AA",), port=0):
-        self.codes, self.blocks, self.news = list(codes), [], threading.Condition()
+        self.codes, self.blocks, self.news, self.held = list(codes), [], threading.Condition(), None
         self.open(port)
 
     def open(self, port=0):
         self.listener = socket.create_server(("127.0.0.1", port))
+        if self.held:
+            self.held.close()
+            self.held = None
         self.port = self.listener.getsockname()[1]
         self.address, self.lines = "127.0.0.1:%d" % self.port, []
         threading.Thread(target=self.accept, args=(self.listener,), daemon=True).start()
 
     def close(self):
-        """Is gone: nobody listens, and each connection ends."""
+        """Is gone: nobody listens, and each connection ends. No other process is given the port."""
         with contextlib.suppress(OSError):
             self.listener.shutdown(socket.SHUT_RDWR)
         self.listener.close()
+        if not self.held:
+            self.held = socket.socket()
+            self.held.setsockopt(socket.SOL_SOCKET, socket.SO_REUSEADDR, 1)
+            self.held.bind(("127.0.0.1", self.port))
         for line in self.lines:
             with contextlib.suppress(OSError):
                 line.shutdown(socket.SHUT_RDWR)
