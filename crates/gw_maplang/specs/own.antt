@@ -1,3 +1,2 @@
 -- The program's own words: no public contract rests on them.
 pub mod Building
-pub mod Widths

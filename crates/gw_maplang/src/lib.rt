@@ -2,7 +2,6 @@
 #![tactic(auto)]
 
 mod build;
-mod columns;
 mod context;
 mod fault;
 mod form;

@@ -1,9 +1,4 @@
 pub mod Keys
-pub mod Soonest
-pub mod Slots
-pub mod Finding
-pub mod Adding
-pub mod Cutting
 pub mod Routes
 pub mod Sendings
 pub mod Alike

@@ -1,5 +1,4 @@
 pub mod Numbers
-pub mod Senders
 pub mod Shapes
 pub mod Line
 pub mod Draft

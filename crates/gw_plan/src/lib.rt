@@ -19,7 +19,6 @@ mod plan;
 mod receivers;
 mod route;
 mod route_list;
-mod senders;
 mod translated;
 
 pub use conforming::{Conforming, Refusal, admit};

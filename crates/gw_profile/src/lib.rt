@@ -9,7 +9,6 @@ pub mod laws;
 mod lengths;
 mod level;
 mod names;
-mod near;
 mod node;
 mod numbered;
 mod patterns;
