@@ -9,7 +9,6 @@ mod contents;
 mod desks;
 #[cfg(test)]
 mod plans;
-#[cfg(test)]
-mod sweeps;
+pub mod sweeps;
 #[cfg(test)]
 mod texts;
