@@ -1,19 +1,23 @@
 -- Lines without a fault spell a map that is lawful.
-use Rattle.std.proofs.Common.{◌≡◌, ℕ, ◌<◌, ◌≤◌, inl, inr, Bool, true, false, List, [], ◌∷◌, ◌++◌, reverse, Option, Some, None, refl, sym, ap, subst, bytes_eq, arith}
-use Rattle.std.specs.Prelude.{◌==◌, not, nat_le, IfSome}
-use Rattle.std.specs.List.{AllByRecursion, list_any}
-use Rattle.gw_lines.specs.Spelled.{is_name}
+use Rattle.std.proofs.Common.{◌≡◌, ℕ, ◌<◌, ◌≤◌, inl, inr, Bool, true, false, List, [], ◌∷◌, ◌++◌, length, reverse, Option, Some, None, refl, sym, ap, subst, bytes_eq, arith}
+use Rattle.std.specs.Prelude.{◌==◌, ◌&&◌, ◌||◌, not, nat_le, IfSome, is_some}
+use Rattle.std.specs.List.{AllByRecursion, list_any, list_all}
+use Rattle.gw_lines.specs.Spelled.{is_name, is_dot}
 use Rattle.gw_lines.specs.Values.{is_value}
 use Rattle.gw_profile.proofs.Facts.{both, neither, not_false, no_clash, le_is}
 use Rattle.gw_maplang.specs.declared.rule.LeafPlace.{LeafPlace}
 use Rattle.gw_maplang.specs.Among.{Among, Distinct}
-use Rattle.gw_maplang.specs.Shapes.{Path, Field, Current, Leaf, Const, Copy, Lookup, LeafValue, Making, Copies, Firsts, Repeats, Builds, RuleValue, Items, nothing, Row, TableValue}
-use Rattle.gw_maplang.specs.Lawful.{Lawful, LawfulLeaf, LawfulLeafValue, LawfulLeaves, LawfulMaking, LawfulItems, LawfulDrop, LawfulPath, LawfulTable, firsts, places, rule_fields, table_names}
-use Rattle.gw_maplang.specs.Line.{Line, Begins, Table, Rows, Else, Segment, Makes, At, Each, End, Drops}
-use Rattle.gw_maplang.specs.Fault.{begun, at_last, with_row, with_other, tables_below, last_table, is_flat, OpenSegment, OpenRule, open_segment, open_rule, opened, with_field, with_place, tables, depth, hollow, is_stray, is_unknown, is_bad, own_leaf, is_misplaced, is_misplaced_leaf, is_made, is_placed, is_among, is_place}
+use Rattle.gw_maplang.specs.Shapes.{Path, Field, Current, Leaf, Const, Copy, Lookup, LeafValue, Making, Copies, Firsts, Repeats, Builds, RuleValue, Items, nothing}
+use Rattle.gw_maplang.specs.Columns.{WideRow, WideTable, behind_first, is_known}
+use Rattle.gw_maplang.specs.Lawful.{Lawful, LawfulLeaf, LawfulLeafValue, LawfulLeaves, LawfulMaking, LawfulItems, LawfulDrop, LawfulPath, places, rule_fields}
+use Rattle.gw_maplang.specs.Line.{Line, Begins, Language, Table, Rows, Else, Segment, Makes, At, Each, End, Drops}
+use Rattle.gw_maplang.specs.Fault.{begun, at_last, with_row, with_other, wide_below, wide_tables, wide_names, wide_firsts, is_second, last_table, in_table, is_flat, OpenSegment, OpenRule, open_segment, open_rule, opened, with_field, with_place, depth, hollow, is_stray, is_early, is_unknown, is_bad, own_leaf, is_misplaced, is_misplaced_leaf, is_made, is_placed, is_among, is_place}
 use Rattle.gw_maplang.specs.Value.{Parts, Levels, Head, head, head_of, no_parts, parts, own_or, with_leaves, rule_with, next, past, each_item, levels, drops}
-use Rattle.gw_maplang.proofs.Among.{not_among, among_left, among_right, among_tells, bytes_see, bytes_tell, distinct_push, numbers_see, places_see}
-use Rattle.gw_maplang.proofs.Shaped.{ShapedLeaf, ShapedLeafValue, ShapedMaking}
+use Rattle.gw_maplang.specs.own.Widths.{LawfulWide, LawfulWides}
+use Rattle.gw_maplang.proofs.Among.{not_among, among_left, among_right, bytes_see, distinct_push, numbers_see, places_see}
+use Rattle.gw_maplang.proofs.ColumnNames.{all_names, all_columns_names, all_distinct, known_named, names_stay, names_push, names_second}
+use Rattle.gw_maplang.proofs.LawfulColumns.{Fits, fits_is, values_lawful, rows_stay, other_stays, narrow_stays, never_unsaid, widened_grows, all_lawful, are_named}
+use Rattle.gw_maplang.proofs.Shaped.{IsFew, ShapedLeaf, ShapedLeafValue, ShapedMaking}
 use Rattle.std.proofs.lemmas.Bool.Decides.{Decides-eqb}
 use mathlib.Core.List.{reverse_aux}
 use Rattle.gw_maplang.specs.Whole.{is_unclosed, map_of}
@@ -24,32 +28,38 @@ use Rattle.gw_profile.proofs.Kept.{map_push}
 
 -- ---- lines that follow one another
 
+-- the names of the tables above
+abbrev pub seen : List Line → List (List ℕ)
+seen above = all_names (is_second above) (wide_tables above)
+
 -- Each line keeps what it must below those above it; no part is open at their end, and these are the names of the tables there.
 abbrev pub Goes : List (List ℕ) → List Line → List Line → Type 0
-Goes names above [] = (depth above ≡ 0) × (table_names (tables above) ≡ names)
+Goes names above [] = (depth above ≡ 0) × (seen above ≡ names)
 Goes names above (line ∷ below) = Keeps above line × Goes names (line ∷ above) below
 
-same_names : (f : TableValue → TableValue) → ((t : TableValue) → (f t).name ≡ t.name) → (ts : List TableValue) → table_names (at_last f ts) ≡ table_names ts
+same_names : (f : WideTable → WideTable) → ((t : WideTable) → (f t).name ≡ t.name) → (ts : List WideTable) → wide_names (at_last f ts) ≡ wide_names ts
 same_names f h [] = refl
 same_names f h (t ∷ []) = ap (λ n. n ∷ []) (h t)
 same_names f h (t ∷ u ∷ ts) = ap (λ l. t.name ∷ l) (same_names f h (u ∷ ts))
 
-pub names_below : (line : Line) (ts : List TableValue) (x : List ℕ) → Among x (table_names ts) → Among x (table_names (tables_below line ts))
-names_below (Begins at name source target) ts x h = h
-names_below (Table name) ts x h = subst (Among x) (sym (map_push (λ (t : TableValue). t.name) ts (record { name = name; rows = []; other = None }))) (among_left (table_names ts) (name ∷ []) x h)
-names_below (Rows row) ts x h = subst (Among x) (sym (same_names (with_row row) (λ t. refl) ts)) h
-names_below (Else value) ts x h = subst (Among x) (sym (same_names (with_other value) (λ t. refl) ts)) h
-names_below (Segment at label source) ts x h = h
-names_below (Makes rule) ts x h = h
-names_below (At leaf) ts x h = h
-names_below (Each at label path) ts x h = h
-names_below End ts x h = h
-names_below (Drops drop) ts x h = h
+-- a table that stands above a line stands above the next one
+pub names_below : (line : Line) (above : List Line) (x : List ℕ) → Among x (seen above) → Among x (seen (line ∷ above))
+names_below (Begins at name source target) above x h = h
+names_below Language above x h = names_second (is_second above) (wide_tables above) x h
+names_below (Table name) above x h = names_push (is_second above) (wide_tables above) (record { name = name; width = 0; rows = []; other = None }) x h
+names_below (Rows row) above x h = names_stay (is_second above) (with_row row) (λ t. refl) (λ t. widened_grows t.width (length row.seconds)) (wide_tables above) x h
+names_below (Else values) above x h = names_stay (is_second above) (with_other values) (λ t. refl) (λ t. widened_grows t.width (length values)) (wide_tables above) x h
+names_below (Segment at label source) above x h = h
+names_below (Makes rule) above x h = h
+names_below (At leaf) above x h = h
+names_below (Each at label path) above x h = h
+names_below End above x h = h
+names_below (Drops drop) above x h = h
 
 -- a table that stands above stands in the map
-known : (names : List (List ℕ)) (above below : List Line) → Goes names above below → (x : List ℕ) → Among x (table_names (tables above)) → Among x names
+known : (names : List (List ℕ)) (above below : List Line) → Goes names above below → (x : List ℕ) → Among x (seen above) → Among x names
 known names above [] g x h = subst (Among x) g.1 h
-known names above (line ∷ below) g x h = known names (line ∷ above) below g.1 x (names_below line (tables above) x h)
+known names above (line ∷ below) g x h = known names (line ∷ above) below g.1 x (names_below line above x h)
 
 -- ---- leaves and rules
 
@@ -84,26 +94,27 @@ nothing_behind : (names : List (List ℕ)) (above : List Line) → PartsAre name
 nothing_behind names above = record { leaves = no_leaves names (open_rule above); rules = no_rules names (open_segment above) }
 
 -- tables that are known in the map, at some line
-module _ (names seen : List (List ℕ)) (known : (x : List ℕ) → Among x seen → Among x names) where
-  table_known : (table : List ℕ) → not (is_among table seen) ≡ false → Among table names
-  table_known table u = known table (among_tells bytes_eq bytes_tell table seen (not_false (is_among table seen) u))
+module _ (names : List (List ℕ)) (second : Bool) (ts : List WideTable) (known : (x : List ℕ) → Among x (all_names second ts) → Among x names) where
+  table_known : (table : List ℕ) → not second && is_some (behind_first is_dot table) ≡ false → not (is_known ts table) ≡ false → Among table names
+  table_known table e u = known table (known_named second ts table e (not_false (is_known ts table) u))
 
-  leaf_lawful : (repeated : Bool) (leaf : Leaf) → ShapedLeaf leaf → is_stray repeated leaf ≡ false → is_unknown seen leaf ≡ false → is_bad leaf ≡ false → LawfulLeaf names repeated leaf
-  leaf_lawful repeated (Const value) s a u b = not_false (is_value value) b
-  leaf_lawful repeated (Copy (Field from place)) s a u b = s
-  leaf_lawful repeated (Copy (Current place)) s a u b = (not_false repeated a, s)
-  leaf_lawful repeated (Lookup table (Field from place)) s a u b = (table_known table u, s)
-  leaf_lawful repeated (Lookup table (Current place)) s a u b = (table_known table u, (not_false repeated a, s))
+  leaf_lawful : (repeated : Bool) (leaf : Leaf) → ShapedLeaf leaf → is_stray repeated leaf ≡ false → is_early second leaf ≡ false → is_unknown ts leaf ≡ false → is_bad leaf ≡ false → LawfulLeaf names repeated leaf
+  leaf_lawful repeated (Const value) s a e u b = not_false (is_value value) b
+  leaf_lawful repeated (Copy (Field from place)) s a e u b = s
+  leaf_lawful repeated (Copy (Current place)) s a e u b = (not_false repeated a, s)
+  leaf_lawful repeated (Lookup table (Field from place)) s a e u b = (table_known table e u, s.1)
+  leaf_lawful repeated (Lookup table (Current place)) s a e u b = (table_known table e u, (not_false repeated a, s.1))
 
-  own_lawful : (leaves : List LeafValue) → AllByRecursion ShapedLeafValue leaves → list_any (λ l. is_stray false l.leaf) leaves ≡ false → list_any (λ l. is_unknown seen l.leaf) leaves ≡ false → list_any (λ l. is_bad l.leaf) leaves ≡ false → AllByRecursion (LawfulLeafValue names false) leaves
+  own_lawful : (leaves : List LeafValue) → AllByRecursion ShapedLeafValue leaves → list_any (λ l. is_stray false l.leaf || is_early second l.leaf) leaves ≡ false → list_any (λ l. is_unknown ts l.leaf) leaves ≡ false → list_any (λ l. is_bad l.leaf) leaves ≡ false → AllByRecursion (LawfulLeafValue names false) leaves
   own_lawful [] s a u b = tt
   own_lawful (l ∷ leaves) s a u b =
-      let x = neither (is_stray false l.leaf) _ a in
-      let y = neither (is_unknown seen l.leaf) _ u in
+      let x = neither (is_stray false l.leaf || is_early second l.leaf) _ a in
+      let e = neither (is_stray false l.leaf) (is_early second l.leaf) x.0 in
+      let y = neither (is_unknown ts l.leaf) _ u in
       let z = neither (is_bad l.leaf) _ b in
-      ((s.0.0, leaf_lawful false l.leaf s.0.1 x.0 y.0 z.0), own_lawful leaves s.1 x.1 y.1 z.1)
+      ((s.0.0, leaf_lawful false l.leaf s.0.1 e.0 e.1 y.0 z.0), own_lawful leaves s.1 x.1 y.1 z.1)
 
-  making_lawful : (m : Making) (leaves : List LeafValue) → ShapedMaking m → list_any (λ l. is_stray false l.leaf) (own_leaf m) ≡ false → list_any (λ l. is_unknown seen l.leaf) (own_leaf m) ≡ false → list_any (λ l. is_bad l.leaf) (own_leaf m) ≡ false
+  making_lawful : (m : Making) (leaves : List LeafValue) → ShapedMaking m → list_any (λ l. is_stray false l.leaf || is_early second l.leaf) (own_leaf m) ≡ false → list_any (λ l. is_unknown ts l.leaf) (own_leaf m) ≡ false → list_any (λ l. is_bad l.leaf) (own_leaf m) ≡ false
       → IfSome (opened m) (λ o. LeavesBehind names o leaves) → LawfulMaking names (with_leaves m leaves)
   making_lawful (Copies from) leaves s a u b h = s
   making_lawful (Firsts from) leaves s a u b h = s
@@ -112,15 +123,15 @@ module _ (names seen : List (List ℕ)) (known : (x : List ℕ) → Among x seen
   making_lawful (Builds []) leaves s a u b h = record { each = h.each; distinct = h.distinct }
   making_lawful (Builds (l ∷ own)) leaves s a u b h = record { each = own_lawful (l ∷ own) s.0 a u b; distinct = s.1 }
 
-  add_leaf : (o : Option OpenRule) (l : LeafValue) (leaves : List LeafValue) → ShapedLeafValue l → is_misplaced_leaf l.leaf o ≡ false → is_unknown seen l.leaf ≡ false → is_bad l.leaf ≡ false → is_placed l.place o ≡ false
+  add_leaf : (o : Option OpenRule) (l : LeafValue) (leaves : List LeafValue) → ShapedLeafValue l → is_misplaced_leaf l.leaf o ≡ false → is_early second l.leaf ≡ false → is_unknown ts l.leaf ≡ false → is_bad l.leaf ≡ false → is_placed l.place o ≡ false
       → IfSome (with_place l.place o) (λ o. LeavesBehind names o leaves) → IfSome o (λ o. LeavesBehind names o (l ∷ leaves))
-  add_leaf None l leaves s a u b p h = tt
-  add_leaf (Some o) l leaves s a u b p h =
+  add_leaf None l leaves s a e u b p h = tt
+  add_leaf (Some o) l leaves s a e u b p h =
       record {
-        each = ((s.0, leaf_lawful o.repeated l.leaf s.1 a u b), h.each);
+        each = ((s.0, leaf_lawful o.repeated l.leaf s.1 a e u b), h.each);
         distinct = ((λ k. h.apart l.place k (among_right o.places (l.place ∷ []) l.place (inl refl))), h.distinct);
         apart = λ x. elim [
-          | inl e ↦ (λ k. not_among is_place places_see l.place o.places p (subst (λ y. Among y o.places) e k))
+          | inl i ↦ (λ k. not_among is_place places_see l.place o.places p (subst (λ y. Among y o.places) i k))
           | inr j ↦ (λ k. h.apart x j (among_left o.places (l.place ∷ []) x k))
         ];
       }
@@ -141,27 +152,28 @@ module _ (names seen : List (List ℕ)) (known : (x : List ℕ) → Among x seen
 parts_lawful : (names : List (List ℕ)) (above below : List Line) → Goes names above below → PartsAre names above (parts below)
 parts_lawful names above [] g = nothing_behind names above
 parts_lawful names above (Begins at name source target ∷ below) g = nothing_behind names above
+parts_lawful names above (Language ∷ below) g = nothing_behind names above
 parts_lawful names above (Table name ∷ below) g = nothing_behind names above
 parts_lawful names above (Rows row ∷ below) g = nothing_behind names above
-parts_lawful names above (Else value ∷ below) g = nothing_behind names above
+parts_lawful names above (Else values ∷ below) g = nothing_behind names above
 parts_lawful names above (Segment at label source ∷ below) g = nothing_behind names above
 parts_lawful names above (Makes rule ∷ below) g =
     let i = parts_lawful names (Makes rule ∷ above) below g.1 in
-    let seen = table_names (tables above) in
     let k = known names above (Makes rule ∷ below) g in
     let c = neither (is_misplaced rule.field (open_segment above)) _ g.0.clear.0 in
     record {
       leaves = no_leaves names (open_rule above);
       rules =
-          add_rule names seen k (open_segment above) rule (parts below).leaves (parts below).rules g.0.shaped.0 c.0 g.0.clear.1.1.1.0
-          (making_lawful names seen k rule.making (parts below).leaves g.0.shaped.1 c.1 g.0.clear.1.0 g.0.clear.1.1.0 i.leaves) i.rules;
+          add_rule names (is_second above) (wide_tables above) k (open_segment above) rule (parts below).leaves (parts below).rules g.0.shaped.0 c.0 g.0.clear.1.1.1.0
+          (making_lawful names (is_second above) (wide_tables above) k rule.making (parts below).leaves g.0.shaped.1 c.1 g.0.clear.1.0 g.0.clear.1.1.0 i.leaves) i.rules;
     }
 parts_lawful names above (At leaf ∷ below) g =
     let i = parts_lawful names (At leaf ∷ above) below g.1 in
+    let c = neither (is_misplaced_leaf leaf.leaf (open_rule above)) (is_early (is_second above) leaf.leaf) g.0.clear.0 in
     record {
       leaves =
-          add_leaf names (table_names (tables above)) (known names above (At leaf ∷ below) g) (open_rule above) leaf (parts below).leaves g.0.shaped
-          g.0.clear.0 g.0.clear.1.0 g.0.clear.1.1.0 g.0.clear.1.1.1.0 i.leaves;
+          add_leaf names (is_second above) (wide_tables above) (known names above (At leaf ∷ below) g) (open_rule above) leaf (parts below).leaves g.0.shaped
+          c.0 c.1 g.0.clear.1.0 g.0.clear.1.1.0 g.0.clear.1.1.1.0 i.leaves;
       rules = i.rules;
     }
 parts_lawful names above (Each at label path ∷ below) g = nothing_behind names above
@@ -173,9 +185,10 @@ parts_lawful names above (Drops drop ∷ below) g = nothing_behind names above
 hollow_deep : (above : List Line) → hollow above ≡ true → 0 < depth above
 hollow_deep [] e = absurd (cc)
 hollow_deep (Begins at name source target ∷ above) e = hollow_deep above e
+hollow_deep (Language ∷ above) e = hollow_deep above e
 hollow_deep (Table name ∷ above) e = hollow_deep above e
 hollow_deep (Rows row ∷ above) e = hollow_deep above e
-hollow_deep (Else value ∷ above) e = hollow_deep above e
+hollow_deep (Else values ∷ above) e = hollow_deep above e
 hollow_deep (Segment at label source ∷ above) e = absurd (cc)
 hollow_deep (Makes rule ∷ above) e = hollow_deep above e
 hollow_deep (At leaf ∷ above) e = hollow_deep above e
@@ -208,12 +221,14 @@ levels_lawful : (names : List (List ℕ)) (above below : List Line) → Goes nam
 levels_lawful names above [] g = record { here = tt; filled = λ h e. let d = hollow_deep above h in let z : depth above ≡ 0 = g.0 in absurd (omega arith); behind = tt }
 levels_lawful names above (Begins at name source target ∷ below) g =
     let i = levels_lawful names (Begins at name source target ∷ above) below g.1 in record { here = i.here; filled = i.filled; behind = i.behind }
+levels_lawful names above (Language ∷ below) g =
+    let i = levels_lawful names (Language ∷ above) below g.1 in record { here = i.here; filled = i.filled; behind = i.behind }
 levels_lawful names above (Table name ∷ below) g =
     let i = levels_lawful names (Table name ∷ above) below g.1 in record { here = i.here; filled = i.filled; behind = i.behind }
 levels_lawful names above (Rows row ∷ below) g =
     let i = levels_lawful names (Rows row ∷ above) below g.1 in record { here = i.here; filled = i.filled; behind = i.behind }
-levels_lawful names above (Else value ∷ below) g =
-    let i = levels_lawful names (Else value ∷ above) below g.1 in record { here = i.here; filled = i.filled; behind = i.behind }
+levels_lawful names above (Else values ∷ below) g =
+    let i = levels_lawful names (Else values ∷ above) below g.1 in record { here = i.here; filled = i.filled; behind = i.behind }
 levels_lawful names above (Segment at label source ∷ below) g =
     let i = levels_lawful names (Segment at label source ∷ above) below g.1 in
     let p = parts_lawful names (Segment at label source ∷ above) below g.1 in
@@ -243,9 +258,10 @@ levels_lawful names above (Drops drop ∷ below) g =
 drops_lawful : (names : List (List ℕ)) (above below : List Line) → Goes names above below → AllByRecursion LawfulDrop (drops below)
 drops_lawful names above [] g = tt
 drops_lawful names above (Begins at name source target ∷ below) g = drops_lawful names (Begins at name source target ∷ above) below g.1
+drops_lawful names above (Language ∷ below) g = drops_lawful names (Language ∷ above) below g.1
 drops_lawful names above (Table name ∷ below) g = drops_lawful names (Table name ∷ above) below g.1
 drops_lawful names above (Rows row ∷ below) g = drops_lawful names (Rows row ∷ above) below g.1
-drops_lawful names above (Else value ∷ below) g = drops_lawful names (Else value ∷ above) below g.1
+drops_lawful names above (Else values ∷ below) g = drops_lawful names (Else values ∷ above) below g.1
 drops_lawful names above (Segment at label source ∷ below) g = drops_lawful names (Segment at label source ∷ above) below g.1
 drops_lawful names above (Makes rule ∷ below) g = drops_lawful names (Makes rule ∷ above) below g.1
 drops_lawful names above (At leaf ∷ below) g = drops_lawful names (At leaf ∷ above) below g.1
@@ -262,9 +278,10 @@ pub record LawfulHead (h : Head) : Type 0 where
 
 head_lawful : (line : Line) → Keeps [] line → LawfulHead (head_of line)
 head_lawful (Begins at name source target) k = record { named = k.shaped.0; source = k.shaped.1; target = k.shaped.2 }
+head_lawful Language k = absurd (no_clash k.clear.0)
 head_lawful (Table name) k = absurd (no_clash k.clear.0)
 head_lawful (Rows row) k = absurd (no_clash k.clear.0)
-head_lawful (Else value) k = absurd (no_clash k.clear.0)
+head_lawful (Else values) k = absurd (no_clash k.clear.0)
 head_lawful (Segment at label source) k = absurd (no_clash k.clear.0)
 head_lawful (Makes rule) k = absurd (no_clash k.clear.0)
 head_lawful (At leaf) k = absurd (no_clash k.clear.0)
@@ -274,7 +291,7 @@ head_lawful (Drops drop) k = absurd (no_clash k.clear.0)
 
 -- ---- tables
 
-last_changed : (P : TableValue → Type 0) (f : TableValue → TableValue) (ts : List TableValue) → AllByRecursion P ts → (P (last_table ts) → P (f (last_table ts))) → AllByRecursion P (at_last f ts)
+last_changed : (P : WideTable → Type 0) (f : WideTable → WideTable) (ts : List WideTable) → AllByRecursion P ts → (P (last_table ts) → P (f (last_table ts))) → AllByRecursion P (at_last f ts)
 last_changed P f [] h k = tt
 last_changed P f (t ∷ []) h k = (k h.0, tt)
 last_changed P f (t ∷ u ∷ ts) h k = (h.0, last_changed P f (u ∷ ts) h.1 k)
@@ -283,36 +300,52 @@ all_push : {A : Type 0} (P : A → Type 0) (xs : List A) (x : A) → AllByRecurs
 all_push P [] x h p = (p, tt)
 all_push P (y ∷ xs) x h p = (h.0, all_push P xs x h.1 p)
 
-row_lawful : (row : Row) (t : TableValue) → is_value row.first ≡ true → is_value row.second ≡ true → is_among row.first (firsts t.rows) ≡ false → LawfulTable t → LawfulTable (with_row row t)
-row_lawful row t f s n h =
+row_lawful : (row : WideRow) (t : WideTable) → Fits t.width (length row.seconds) → IsFew row.seconds → is_value row.first ≡ true → list_all is_value row.seconds ≡ true → is_among row.first (wide_firsts t.rows) ≡ false → LawfulWide t → LawfulWide (with_row row t)
+row_lawful row t fit few f s n h =
+    let count = length row.seconds in
     record {
       named = h.named;
-      each = all_push _ t.rows row h.each (f, s);
-      distinct = subst Distinct (sym (map_push (λ (r : Row). r.first) t.rows row)) (distinct_push (firsts t.rows) row.first h.distinct (not_among bytes_eq bytes_see row.first (firsts t.rows) n));
-      other = h.other;
+      narrow = narrow_stays t.width count h.narrow few.1;
+      each = all_push _ t.rows row (rows_stay t.width count t.rows fit (λ e. (h.unsaid e).0) h.each) (f, values_lawful t.width row.seconds fit s);
+      distinct = subst Distinct (sym (map_push (λ (r : WideRow). r.first) t.rows row)) (distinct_push (wide_firsts t.rows) row.first h.distinct (not_among bytes_eq bytes_see row.first (wide_firsts t.rows) n));
+      other = other_stays t.width count t.other fit (λ e. (h.unsaid e).1) h.other;
+      unsaid = never_unsaid t.width count few.0;
     }
 
-pub record TablesAre (ts : List TableValue) : Type 0 where
-  pub each : AllByRecursion LawfulTable ts
-  pub distinct : Distinct (table_names ts)
+else_lawful : (values : List (List ℕ)) (t : WideTable) → Fits t.width (length values) → IsFew values → list_all is_value values ≡ true → LawfulWide t → LawfulWide (with_other values t)
+else_lawful values t fit few v h =
+    let count = length values in
+    record {
+      named = h.named;
+      narrow = narrow_stays t.width count h.narrow few.1;
+      each = rows_stay t.width count t.rows fit (λ e. (h.unsaid e).0) h.each;
+      distinct = h.distinct;
+      other = values_lawful t.width values fit v;
+      unsaid = never_unsaid t.width count few.0;
+    }
 
-tables_step : (above : List Line) (line : Line) → Keeps above line → TablesAre (tables above) → TablesAre (tables_below line (tables above))
+tables_step : (above : List Line) (line : Line) → Keeps above line → LawfulWides (wide_tables above) → LawfulWides (wide_below line (wide_tables above))
 tables_step above (Begins at name source target) k h = h
+tables_step above Language k h = h
 tables_step above (Table name) k h =
     record {
-      each = all_push LawfulTable (tables above) _ h.each (record { named = k.shaped; each = tt; distinct = tt; other = tt });
-      distinct = subst Distinct (sym (map_push (λ (t : TableValue). t.name) (tables above) _)) (distinct_push (table_names (tables above)) name h.distinct (not_among bytes_eq bytes_see name (table_names (tables above)) k.clear.1.0));
+      each = all_push LawfulWide (wide_tables above) _ h.each (record { named = k.shaped; narrow = omega arith; each = tt; distinct = tt; other = tt; unsaid = λ e. (refl, refl) });
+      distinct = subst Distinct (sym (map_push (λ (t : WideTable). t.name) (wide_tables above) _)) (distinct_push (wide_names (wide_tables above)) name h.distinct (not_among bytes_eq bytes_see name (wide_names (wide_tables above)) k.clear.1.0));
     }
 tables_step above (Rows row) k h =
-    let v = both (is_value row.first) (is_value row.second) (not_false _ k.clear.1.0) in
+    let v = both (is_value row.first) (list_all is_value row.seconds) (not_false _ k.clear.1.0) in
+    let width = (last_table (wide_tables above)).width in
+    let fit = fits_is (is_second above) width (length row.seconds) (both (in_table above) _ (not_false _ k.clear.0)).1 in
     record {
-      each = last_changed LawfulTable (with_row row) (tables above) h.each (row_lawful row (last_table (tables above)) v.0 v.1 k.clear.1.1.0);
-      distinct = subst Distinct (sym (same_names (with_row row) (λ t. refl) (tables above))) h.distinct;
+      each = last_changed LawfulWide (with_row row) (wide_tables above) h.each (row_lawful row (last_table (wide_tables above)) fit k.shaped v.0 v.1 k.clear.1.1.0);
+      distinct = subst Distinct (sym (same_names (with_row row) (λ t. refl) (wide_tables above))) h.distinct;
     }
-tables_step above (Else value) k h =
+tables_step above (Else values) k h =
+    let width = (last_table (wide_tables above)).width in
+    let fit = fits_is (is_second above) width (length values) (both (in_table above) _ (not_false _ k.clear.0)).1 in
     record {
-      each = last_changed LawfulTable (with_other value) (tables above) h.each (λ t. record { named = t.named; each = t.each; distinct = t.distinct; other = not_false (is_value value) k.clear.1.0 });
-      distinct = subst Distinct (sym (same_names (with_other value) (λ t. refl) (tables above))) h.distinct;
+      each = last_changed LawfulWide (with_other values) (wide_tables above) h.each (else_lawful values (last_table (wide_tables above)) fit k.shaped (not_false _ k.clear.1.0));
+      distinct = subst Distinct (sym (same_names (with_other values) (λ t. refl) (wide_tables above))) h.distinct;
     }
 tables_step above (Segment at label source) k h = h
 tables_step above (Makes rule) k h = h
@@ -321,7 +354,7 @@ tables_step above (Each at label path) k h = h
 tables_step above End k h = h
 tables_step above (Drops drop) k h = h
 
-tables_lawful : (all : List Line) → AllTaken grammar all → TablesAre (tables all)
+pub tables_lawful : (all : List Line) → AllTaken grammar all → LawfulWides (wide_tables all)
 tables_lawful [] t = record { each = tt; distinct = tt }
 tables_lawful (line ∷ above) t = tables_step above line (taken_keeps above line t.0) (tables_lawful above t.1)
 
@@ -347,7 +380,8 @@ first_lawful names (line ∷ below) g h = head_lawful line g.0
 pub formed : (all : List Line) → AllTaken grammar all → is_unclosed all ≡ false → Lawful (map_of all)
 formed all t u =
     let c = neither (not (begun all)) (not (depth all == 0)) u in
-    let names = table_names (tables all) in
+    let names = seen all in
+    let same = all_columns_names (is_second all) (wide_tables all) in
     let g : Goes names [] (reverse all) = goes_back names all [] t ((Decides-eqb (depth all) 0).0 (not_false (depth all == 0) c.1), refl) in
     let first = first_lawful names (reverse all) g (some_line all (not_false (begun all) c.0)) in
     let ts = tables_lawful all t in
@@ -355,8 +389,8 @@ formed all t u =
       named = first.named;
       source = first.source;
       target = first.target;
-      tables = ts.each;
-      tables_distinct = ts.distinct;
-      items = (levels_lawful names [] (reverse all) g).here;
+      tables = all_lawful (is_second all) (wide_tables all) ts.each;
+      tables_distinct = subst Distinct (sym same) (all_distinct (is_second all) (wide_tables all) (are_named (wide_tables all) ts.each) ts.distinct);
+      items = subst (λ (ns : List (List ℕ)). LawfulItems ns (levels (reverse all)).here) (sym same) (levels_lawful names [] (reverse all) g).here;
       drops = drops_lawful names [] (reverse all) g;
     }

@@ -2,8 +2,8 @@
 use Rattle.std.proofs.Common.{ℕ, List, subst}
 use Rattle.std.specs.Prelude.{IfSome}
 use Rattle.gw_profile.proofs.Facts.{lt_is}
-use Rattle.gw_maplang.specs.Line.{Line, Begins, Table, Rows, Else, Segment, Makes, At, Each, End, Drops}
-use Rattle.gw_maplang.specs.Fault.{tests, tables, open_segment, open_rule, depth}
+use Rattle.gw_maplang.specs.Line.{Line, Begins, Language, Table, Rows, Else, Segment, Makes, At, Each, End, Drops}
+use Rattle.gw_maplang.specs.Fault.{tests, wide_tables, open_segment, open_rule, depth}
 use Rattle.gw_lines.specs.Grammar.{Taken}
 use Rattle.gw_lines.proofs.Taken.{Clear, clear_of, taken_by}
 use Rattle.gw_maplang.specs.Fault.{grammar}
@@ -22,14 +22,15 @@ taken_keeps above line t =
 
 -- ---- what is new
 
-pub new_table : (above : List Line) (line : Line) → Taken grammar above line → IsNewTable (tables above) line
+pub new_table : (above : List Line) (line : Line) → Taken grammar above line → IsNewTable (wide_tables above) line
 new_table above line t = by line (taken_keeps above line t)
   where
-    by : (l : Line) → Keeps above l → IsNewTable (tables above) l
+    by : (l : Line) → Keeps above l → IsNewTable (wide_tables above) l
     by (Begins at name source target) k = tt
+    by Language k = tt
     by (Table name) k = k.clear.1.0
     by (Rows row) k = k.clear.1.1.0
-    by (Else value) k = tt
+    by (Else values) k = tt
     by (Segment at label source) k = tt
     by (Makes rule) k = tt
     by (At leaf) k = tt
@@ -42,9 +43,10 @@ new_field above line t = by line (taken_keeps above line t)
   where
     by : (l : Line) → Keeps above l → IsNewField (open_segment above) l
     by (Begins at name source target) k = tt
+    by Language k = tt
     by (Table name) k = tt
     by (Rows row) k = tt
-    by (Else value) k = tt
+    by (Else values) k = tt
     by (Segment at label source) k = tt
     by (Makes rule) k = k.clear.1.1.1.0
     by (At leaf) k = tt
@@ -57,9 +59,10 @@ new_place above line t = by line (taken_keeps above line t)
   where
     by : (l : Line) → Keeps above l → IsNewPlace (open_rule above) l
     by (Begins at name source target) k = tt
+    by Language k = tt
     by (Table name) k = tt
     by (Rows row) k = tt
-    by (Else value) k = tt
+    by (Else values) k = tt
     by (Segment at label source) k = tt
     by (Makes rule) k = tt
     by (At leaf) k = k.clear.1.1.1.0
@@ -72,9 +75,10 @@ has_room above line t = by line (taken_keeps above line t)
   where
     by : (l : Line) → Keeps above l → HasRoom (depth above) l
     by (Begins at name source target) k = tt
+    by Language k = tt
     by (Table name) k = tt
     by (Rows row) k = tt
-    by (Else value) k = tt
+    by (Else values) k = tt
     by (Segment at label source) k = tt
     by (Makes rule) k = tt
     by (At leaf) k = tt

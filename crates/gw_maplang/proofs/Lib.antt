@@ -3,7 +3,12 @@ pub mod Rows
 pub mod Paths
 pub mod Among
 pub mod Shaped
+pub mod Words
+pub mod ColumnNames
+pub mod LawfulColumns
+pub mod Columned
 pub mod Kept
 pub mod Formed
 pub mod Same
 pub mod Keywords
+pub mod Once

@@ -1,6 +1,6 @@
 -- What the words of a line say of it.
-use Rattle.std.proofs.Common.{◌≡◌, ℕ, ◌≤◌, ◌+◌, Bool, true, List, [], ◌∷◌, length, Option, Some, None, refl, sym, ap, ◌∙◌, arith}
-use Rattle.std.specs.Prelude.{IfSome, codes}
+use Rattle.std.proofs.Common.{◌≡◌, ℕ, ◌≤◌, ◌+◌, Bool, true, false, List, [], ◌∷◌, length, Option, Some, None, suc, refl, sym, ap, ◌∙◌, arith}
+use Rattle.std.specs.Prelude.{IfSome, codes, nat_le, if◌then◌else◌}
 use Rattle.std.specs.List.{AllByRecursion, list_all, slice_split, before_first, count_by}
 use Rattle.std.specs.Option.{option_map}
 use Rattle.std.proofs.lemmas.List.Splits.{length-slice_split}
@@ -8,12 +8,13 @@ use Rattle.gw_lines.specs.Words.{Word}
 use Rattle.gw_lines.specs.Spelled.{is_name, is_dot, number, is_keyword}
 use Rattle.gw_lines.specs.Values.{bytes_of}
 use Rattle.gw_lines.specs.Parts.{first_word, name_at, number_at, behind, with_all}
-use Rattle.gw_profile.proofs.Facts.{both}
+use Rattle.gw_profile.proofs.Facts.{both, le_is}
 use Rattle.gw_profile.proofs.Shaped.{any, gives, map_gives, chosen, either_gives, with_all_is, number_is, name_at_is, number_at_is}
 use Rattle.gw_maplang.specs.Among.{Distinct}
+use Rattle.gw_maplang.specs.Columns.{behind_first, is_table_word}
 use Rattle.gw_maplang.specs.Shapes.{Path, FieldPath, Ref, Field, Current, Leaf, Const, Copy, Lookup, LeafValue, Making, Copies, Firsts, Repeats, Builds}
 use Rattle.gw_maplang.specs.Lawful.{LawfulPath, LawfulField, LawfulFieldPath, LawfulPlace, LawfulDrop, last_label, places}
-use Rattle.gw_maplang.specs.Line.{Line, Begins, Table, Rows, Else, Segment, Makes, At, Each, End, Drops, is_slash, is_dash, behind_first, path_of, field_of, field_path, sub_of, place_of, place_or_first, field_ref, ref_of, dropped_field, drop_of, constant, plain_word, plain_at, text_at, from_at, const_form, copy_form, lookup_form, leaf_of, leaf_form, own_leaves, map_form, table_form, row_form, else_form, source_behind, source_at, segment_form, made_from, copies_form, firsts_form, repeats_form, builds_form, at_form, each_form, group_form, drop_form, rule_form, keyword_form, form}
+use Rattle.gw_maplang.specs.Line.{Line, Begins, Language, Table, Rows, Else, Segment, Makes, At, Each, End, Drops, is_slash, is_dash, path_of, field_of, field_path, sub_of, place_of, place_or_first, field_ref, ref_of, dropped_field, drop_of, constant, plain_word, plain_at, text_at, some_bytes, texts, most_columns, some_texts, table_word, from_at, const_form, copy_form, lookup_form, leaf_of, leaf_form, own_leaves, map_form, language_form, table_form, row_form, else_form, source_behind, source_at, segment_form, made_from, copies_form, firsts_form, repeats_form, builds_form, at_form, each_form, group_form, drop_form, rule_form, keyword_form, form}
 
 abbrev pub ShapedRef : Ref → Type 0
 ShapedRef (Field from place) = LawfulFieldPath from × LawfulPlace place
@@ -22,7 +23,7 @@ ShapedRef (Current place) = LawfulPlace place
 abbrev pub ShapedLeaf : Leaf → Type 0
 ShapedLeaf (Const value) = Unit {0}
 ShapedLeaf (Copy ref) = ShapedRef ref
-ShapedLeaf (Lookup table ref) = ShapedRef ref
+ShapedLeaf (Lookup table ref) = (is_table_word table ≡ true) × ShapedRef ref
 
 abbrev pub ShapedLeafValue : LeafValue → Type 0
 ShapedLeafValue l = LawfulPlace l.place × ShapedLeaf l.leaf
@@ -36,11 +37,16 @@ ShapedMaking (Firsts from) = LawfulFieldPath from
 ShapedMaking (Repeats from leaves) = LawfulFieldPath from × (leaves ≡ [])
 ShapedMaking (Builds leaves) = ShapedLeaves leaves
 
+-- one value at least, and no more than a table has columns
+abbrev pub IsFew : List (List ℕ) → Type 0
+IsFew values = (1 ≤ length values) × (length values ≤ 9)
+
 abbrev pub Shaped : Line → Type 0
 Shaped (Begins at name source target) = (is_name name ≡ true) × (is_name source ≡ true) × (is_name target ≡ true)
+Shaped Language = Unit {0}
 Shaped (Table name) = is_name name ≡ true
-Shaped (Rows row) = Unit {0}
-Shaped (Else value) = Unit {0}
+Shaped (Rows row) = IsFew row.seconds
+Shaped (Else values) = IsFew values
 Shaped (Segment at label source) = (is_name label ≡ true) × IfSome source LawfulPath
 Shaped (Makes rule) = (rule.field ≤ 999) × ShapedMaking rule.making
 Shaped (At leaf) = ShapedLeafValue leaf
@@ -126,10 +132,13 @@ const_form_is words = gives (λ _. Unit {0}) ShapedLeaf (first_word words) _ (an
 copy_form_is : (words : List Word) → IfSome (copy_form words) ShapedLeaf
 copy_form_is words = gives (λ p. ShapedRef p.0) ShapedLeaf (plain_at ref_of words) _ (plain_at_is ShapedRef ref_of ref_of_is words) (λ ref h. with_all_is ShapedLeaf ref.1 (Copy ref.0) h)
 
+table_word_is : (bytes : List ℕ) → IfSome (table_word bytes) (λ word. is_table_word word ≡ true)
+table_word_is bytes = chosen (λ word. is_table_word word ≡ true) (is_table_word bytes) bytes (λ e. e)
+
 lookup_form_is : (words : List Word) → IfSome (lookup_form words) ShapedLeaf
 lookup_form_is words =
-    gives (λ _. Unit {0}) ShapedLeaf (name_at words) _ (any (name_at words))
-    (λ table u. gives (λ p. ShapedRef p.0) ShapedLeaf (plain_at ref_of table.1) _ (plain_at_is ShapedRef ref_of ref_of_is table.1) (λ ref h. with_all_is ShapedLeaf ref.1 (Lookup table.0 ref.0) h))
+    gives (λ p. is_table_word p.0 ≡ true) ShapedLeaf (plain_at table_word words) _ (plain_at_is (λ word. is_table_word word ≡ true) table_word table_word_is words)
+    (λ table u. gives (λ p. ShapedRef p.0) ShapedLeaf (plain_at ref_of table.1) _ (plain_at_is ShapedRef ref_of ref_of_is table.1) (λ ref h. with_all_is ShapedLeaf ref.1 (Lookup table.0 ref.0) (u, h)))
 
 leaf_of_is : (keyword : Word) (more : List Word) → IfSome (leaf_of keyword more) ShapedLeaf
 leaf_of_is keyword more =
@@ -159,13 +168,33 @@ map_form_is at words =
 table_form_is : (words : List Word) → IfSome (table_form words) Shaped
 table_form_is words = gives (λ p. is_name p.0 ≡ true) Shaped (name_at words) _ (name_at_is words) (λ name h. with_all_is Shaped name.1 (Table name.0) h)
 
+texts_are : (words : List Word) → IfSome (texts words) (λ values. length values ≡ length words)
+texts_are [] = refl
+texts_are (w ∷ more) =
+    gives (λ _. Unit {0}) (λ values. length values ≡ length (w ∷ more)) (some_bytes (bytes_of w)) _ (any (some_bytes (bytes_of w)))
+    (λ text u. gives (λ values. length values ≡ length more) (λ values. length values ≡ length (w ∷ more)) (texts more) _ (texts_are more) (λ behind e. ap suc e))
+
+with_length : (o : Option (List (List ℕ))) (n : ℕ) → 1 ≤ n → n ≤ 9 → IfSome o (λ values. length values ≡ n) → IfSome o IsFew
+with_length None n l m h = tt
+with_length (Some values) n l m h = (omega (arith, l, h), omega (arith, m, h))
+
+some_texts_are : (words : List Word) → IfSome (some_texts words) IsFew
+some_texts_are [] = tt
+some_texts_are (w ∷ more) = by (nat_le (length (w ∷ more)) most_columns) refl
+  where
+    by : (b : Bool) → nat_le (length (w ∷ more)) most_columns ≡ b → IfSome (if b then texts (w ∷ more) else None) IsFew
+    by true e = with_length (texts (w ∷ more)) (length (w ∷ more)) (omega arith) (le_is (length (w ∷ more)) 9 e) (texts_are (w ∷ more))
+    by false e = tt
+
 row_form_is : (words : List Word) → IfSome (row_form words) Shaped
 row_form_is words =
-    gives (λ _. Unit {0}) Shaped (text_at words) _ (any (text_at words))
-    (λ first u. gives (λ _. Unit {0}) Shaped (text_at first.1) _ (any (text_at first.1)) (λ second v. with_all_is Shaped second.1 (Rows (record { first = first.0; second = second.0 })) tt))
+    gives (λ _. Unit {0}) Shaped (text_at words) _ (any (text_at words)) (λ first u. gives IsFew Shaped (some_texts first.1) _ (some_texts_are first.1) (λ seconds k. k))
 
 else_form_is : (words : List Word) → IfSome (else_form words) Shaped
-else_form_is words = gives (λ _. Unit {0}) Shaped (text_at words) _ (any (text_at words)) (λ value u. with_all_is Shaped value.1 (Else value.0) tt)
+else_form_is words = gives IsFew Shaped (some_texts words) _ (some_texts_are words) (λ values k. k)
+
+language_form_is : (words : List Word) → IfSome (language_form words) Shaped
+language_form_is words = gives (λ _. Unit {0}) Shaped (behind (codes "2") words) _ (any (behind (codes "2") words)) (λ more u. with_all_is Shaped more Language tt)
 
 abbrev SourceIs : Option Path × List Word → Type 0
 SourceIs p = IfSome p.0 LawfulPath
@@ -220,6 +249,7 @@ rule_form_is at keyword more =
 keyword_form_is : (at : ℕ) (keyword : Word) (more : List Word) → IfSome (keyword_form at keyword more) Shaped
 keyword_form_is at keyword more =
     either_gives Shaped (is_keyword (codes "map") keyword) (map_form at more) _ (map_form_is at more)
+    (either_gives Shaped (is_keyword (codes "language") keyword) (language_form more) _ (language_form_is more)
     (either_gives Shaped (is_keyword (codes "table") keyword) (table_form more) _ (table_form_is more)
     (either_gives Shaped (is_keyword (codes "row") keyword) (row_form more) _ (row_form_is more)
     (either_gives Shaped (is_keyword (codes "else") keyword) (else_form more) _ (else_form_is more)
@@ -227,7 +257,7 @@ keyword_form_is at keyword more =
     (either_gives Shaped (is_keyword (codes "group") keyword) (group_form at more) _ (group_form_is at more)
     (either_gives Shaped (is_keyword (codes "flat") keyword) (each_form at None more) _ (each_form_is at None more tt)
     (either_gives Shaped (is_keyword (codes "end") keyword) (with_all more End) _ (with_all_is Shaped more End tt)
-    (either_gives Shaped (is_keyword (codes "drop") keyword) (drop_form at more) _ (drop_form_is at more) (rule_form_is at keyword more)))))))))
+    (either_gives Shaped (is_keyword (codes "drop") keyword) (drop_form at more) _ (drop_form_is at more) (rule_form_is at keyword more))))))))))
 
 pub form_is : (at : ℕ) (words : List Word) → IfSome (form at words) Shaped
 form_is at [] = tt

@@ -1,6 +1,6 @@
 -- The faults of a line, by the lines above it, the nearest first.
-use Rattle.std.specs.Prelude.{ℕ, ◌+◌, ◌-◌, ◌==◌, Bool, true, false, not, ◌&&◌, ◌||◌, nat_le, List, [], ◌∷◌, ◌++◌, Option, Some, None, bytes_eq, Result}
-use Rattle.std.specs.List.{list_any}
+use Rattle.std.specs.Prelude.{ℕ, ◌+◌, ◌-◌, ◌==◌, Bool, true, false, not, ◌&&◌, ◌||◌, nat_le, List, [], ◌∷◌, ◌++◌, map, length, Option, Some, None, bytes_eq, is_some, Result}
+use Rattle.std.specs.List.{list_any, list_all}
 use Rattle.gw_lines.specs.Words.{Word}
 use Rattle.gw_lines.specs.Values.{is_value}
 use Rattle.gw_lines.specs.Grammar as declared_by
@@ -8,9 +8,11 @@ use Rattle.gw_lines.specs.Grammar.{Grammar}
 use Rattle.gw_maplang.specs.declared.fault.MapFault.{MapFault}
 use Rattle.gw_maplang.specs.declared.fault.MapFault.TheVariants.{Syntax, UnknownTable, BadConstant, Duplicate, TooDeep}
 use Rattle.gw_maplang.specs.declared.rule.LeafPlace.{LeafPlace}
-use Rattle.gw_maplang.specs.Shapes.{Current, Leaf, Const, Copy, Lookup, LeafValue, Making, Copies, Firsts, Repeats, Builds, RuleValue, Row, TableValue}
-use Rattle.gw_maplang.specs.Lawful.{least_field, firsts, table_names}
-use Rattle.gw_maplang.specs.Line.{Line, Begins, Table, Rows, Else, Segment, Makes, At, Each, End, Drops, form}
+use Rattle.gw_maplang.specs.Shapes.{Current, Leaf, Const, Copy, Lookup, LeafValue, Making, Copies, Firsts, Repeats, Builds, RuleValue, TableValue}
+use Rattle.gw_maplang.specs.Columns.{WideRow, WideTable, new_table, widened, all_columns, behind_first, is_known}
+use Rattle.gw_maplang.specs.Lawful.{least_field}
+use Rattle.gw_lines.specs.Spelled.{is_dot}
+use Rattle.gw_maplang.specs.Line.{Line, Begins, Language, Table, Rows, Else, Segment, Makes, At, Each, End, Drops, form}
 
 -- ---- what the lines above leave open
 
@@ -25,30 +27,46 @@ at_last f [] = []
 at_last f (x ∷ []) = f x ∷ []
 at_last f (x ∷ y ∷ list) = x ∷ at_last f (y ∷ list)
 
-abbrev pub with_row : Row → TableValue → TableValue
-with_row r t = record t { rows = t.rows ++ r ∷ [] }
+abbrev pub with_row : WideRow → WideTable → WideTable
+with_row r t = record t { width = widened t.width (length r.seconds); rows = t.rows ++ r ∷ [] }
 
-abbrev pub with_other : List ℕ → TableValue → TableValue
-with_other value t = record t { other = Some value }
+abbrev pub with_other : List (List ℕ) → WideTable → WideTable
+with_other values t = record t { width = widened t.width (length values); other = Some values }
 
 -- the tables below a line; a row, and what stands for other values, belongs to the last
-abbrev pub tables_below : Line → List TableValue → List TableValue
-tables_below (Table name) tables = tables ++ record { name = name; rows = []; other = None } ∷ []
-tables_below (Rows row) tables = at_last (with_row row) tables
-tables_below (Else value) tables = at_last (with_other value) tables
-tables_below line tables = tables
+abbrev pub wide_below : Line → List WideTable → List WideTable
+wide_below (Table name) tables = tables ++ new_table name ∷ []
+wide_below (Rows row) tables = at_last (with_row row) tables
+wide_below (Else values) tables = at_last (with_other values) tables
+wide_below line tables = tables
 
--- the tables, in order
+-- the tables as their lines say them, in order
+abbrev pub wide_tables : List Line → List WideTable
+wide_tables [] = []
+wide_tables (line ∷ above) = wide_below line (wide_tables above)
+
+-- the map is one of the second language
+abbrev pub is_second : List Line → Bool
+is_second [] = false
+is_second (Language ∷ above) = true
+is_second (line ∷ above) = is_second above
+
+-- the tables of the map
 abbrev pub tables : List Line → List TableValue
-tables [] = []
-tables (line ∷ above) = tables_below line (tables above)
+tables above = all_columns (is_second above) (wide_tables above)
+
+-- the first line alone stands above
+abbrev pub just_begun : List Line → Bool
+just_begun [] = false
+just_begun (line ∷ []) = true
+just_begun (line ∷ next ∷ above) = false
 
 -- a row would belong to a table
 abbrev pub in_table : List Line → Bool
 in_table [] = false
 in_table (Table name ∷ above) = true
 in_table (Rows row ∷ above) = in_table above
-in_table (Else value ∷ above) = in_table above
+in_table (Else values ∷ above) = in_table above
 in_table (line ∷ above) = false
 
 -- some item stands above
@@ -141,14 +159,28 @@ abbrev pub is_place_among : LeafPlace → List LeafPlace → Bool
 is_place_among place others = list_any (is_place place) others
 
 -- what the last table has
-abbrev pub last_table : List TableValue → TableValue
-last_table [] = record { name = []; rows = []; other = None }
+abbrev pub last_table : List WideTable → WideTable
+last_table [] = new_table []
 last_table (t ∷ []) = t
 last_table (t ∷ u ∷ tables) = last_table (u ∷ tables)
 
-abbrev pub is_said : Option (List ℕ) → Bool
+abbrev pub wide_names : List WideTable → List (List ℕ)
+wide_names = map (λ (t : WideTable). t.name)
+
+abbrev pub wide_firsts : List WideRow → List (List ℕ)
+wide_firsts = map (λ (r : WideRow). r.first)
+
+-- A table of this width takes so many values: as many as its lines above have. In the first language it takes one.
+abbrev pub fits : Bool → ℕ → ℕ → Bool
+fits second width count = (second || count == 1) && (width == 0 || width == count)
+
+-- a line of so many values belongs to a table that takes them
+abbrev pub takes_values : List Line → ℕ → Bool
+takes_values above count = in_table above && fits (is_second above) (last_table (wide_tables above)).width count
+
+abbrev pub is_said : Option (List (List ℕ)) → Bool
 is_said None = false
-is_said (Some value) = true
+is_said (Some values) = true
 
 -- the current repetition, where nothing is repeated
 abbrev pub is_stray : Bool → Leaf → Bool
@@ -156,10 +188,15 @@ is_stray repeated (Copy (Current place)) = not repeated
 is_stray repeated (Lookup table (Current place)) = not repeated
 is_stray repeated leaf = false
 
--- a table that doesn't stand above
-abbrev pub is_unknown : List (List ℕ) → Leaf → Bool
-is_unknown names (Lookup table ref) = not (is_among table names)
-is_unknown names leaf = false
+-- a column by its number, in the first language
+abbrev pub is_early : Bool → Leaf → Bool
+is_early second (Lookup table ref) = not second && is_some (behind_first is_dot table)
+is_early second leaf = false
+
+-- a table that doesn't stand above, or one without that column
+abbrev pub is_unknown : List WideTable → Leaf → Bool
+is_unknown tables (Lookup table ref) = not (is_known tables table)
+is_unknown tables leaf = false
 
 -- a constant that is no value
 abbrev pub is_bad : Leaf → Bool
@@ -192,32 +229,39 @@ is_placed place (Some r) = is_place_among place r.places
 abbrev pub begins_tests : List Line → ℕ → List (Bool × MapFault)
 begins_tests above at = (begun above, Syntax at) ∷ []
 
+abbrev pub language_tests : List Line → ℕ → List (Bool × MapFault)
+language_tests above at = (not (just_begun above), Syntax at) ∷ []
+
 abbrev pub table_tests : List Line → ℕ → List ℕ → List (Bool × MapFault)
 table_tests above at name =
-    (not (begun above) || has_item above, Syntax at) ∷ (is_among name (table_names (tables above)), Duplicate at) ∷ []
+    (not (begun above) || has_item above, Syntax at) ∷ (is_among name (wide_names (wide_tables above)), Duplicate at) ∷ []
 
-abbrev pub row_tests : List Line → ℕ → Row → List (Bool × MapFault)
+abbrev pub row_tests : List Line → ℕ → WideRow → List (Bool × MapFault)
 row_tests above at row =
-    (not (in_table above), Syntax at) ∷ (not (is_value row.first && is_value row.second), BadConstant at)
-    ∷ (is_among row.first (firsts (last_table (tables above)).rows), Duplicate at) ∷ []
+    (not (takes_values above (length row.seconds)), Syntax at)
+    ∷ (not (is_value row.first && list_all is_value row.seconds), BadConstant at)
+    ∷ (is_among row.first (wide_firsts (last_table (wide_tables above)).rows), Duplicate at) ∷ []
 
-abbrev pub else_tests : List Line → ℕ → List ℕ → List (Bool × MapFault)
-else_tests above at value =
-    (not (in_table above), Syntax at) ∷ (not (is_value value), BadConstant at) ∷ (is_said (last_table (tables above)).other, Duplicate at) ∷ []
+abbrev pub else_tests : List Line → ℕ → List (List ℕ) → List (Bool × MapFault)
+else_tests above at values =
+    (not (takes_values above (length values)), Syntax at)
+    ∷ (not (list_all is_value values), BadConstant at) ∷ (is_said (last_table (wide_tables above)).other, Duplicate at) ∷ []
 
 abbrev pub segment_tests : List Line → ℕ → List (Bool × MapFault)
 segment_tests above at = (not (begun above), Syntax at) ∷ []
 
 abbrev pub rule_tests : List Line → ℕ → RuleValue → List (Bool × MapFault)
-rule_tests above at rule =
-    (is_misplaced rule.field (open_segment above) || list_any (λ l. is_stray false l.leaf) (own_leaf rule.making), Syntax at)
-    ∷ (list_any (λ l. is_unknown (table_names (tables above)) l.leaf) (own_leaf rule.making), UnknownTable at)
+rule_tests above at rule = (
+  is_misplaced rule.field (open_segment above) || list_any (λ l. is_stray false l.leaf || is_early (is_second above) l.leaf) (own_leaf rule.making),
+  Syntax at,
+)
+    ∷ (list_any (λ l. is_unknown (wide_tables above) l.leaf) (own_leaf rule.making), UnknownTable at)
     ∷ (list_any (λ l. is_bad l.leaf) (own_leaf rule.making), BadConstant at)
     ∷ (is_made rule.field (open_segment above), Duplicate at) ∷ []
 
 abbrev pub leaf_tests : List Line → ℕ → LeafValue → List (Bool × MapFault)
 leaf_tests above at l =
-    (is_misplaced_leaf l.leaf (open_rule above), Syntax at) ∷ (is_unknown (table_names (tables above)) l.leaf, UnknownTable at)
+    (is_misplaced_leaf l.leaf (open_rule above) || is_early (is_second above) l.leaf, Syntax at) ∷ (is_unknown (wide_tables above) l.leaf, UnknownTable at)
     ∷ (is_bad l.leaf, BadConstant at) ∷ (is_placed l.place (open_rule above), Duplicate at) ∷ []
 
 abbrev pub each_tests : List Line → ℕ → List (Bool × MapFault)
@@ -232,9 +276,10 @@ drop_tests above at = (not (begun above) || not (depth above == 0), Syntax at) �
 -- the tests of a line, in the order of the faults
 abbrev pub tests : List Line → ℕ → Line → List (Bool × MapFault)
 tests above at (Begins line name source target) = begins_tests above at
+tests above at Language = language_tests above at
 tests above at (Table name) = table_tests above at name
 tests above at (Rows row) = row_tests above at row
-tests above at (Else value) = else_tests above at value
+tests above at (Else values) = else_tests above at values
 tests above at (Segment line label source) = segment_tests above at
 tests above at (Makes rule) = rule_tests above at rule
 tests above at (At leaf) = leaf_tests above at leaf

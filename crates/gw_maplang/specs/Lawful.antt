@@ -5,6 +5,7 @@ use Rattle.gw_lines.specs.Spelled.{is_name}
 use Rattle.gw_lines.specs.Values.{is_value}
 use Rattle.gw_maplang.specs.declared.rule.LeafPlace.{LeafPlace}
 use Rattle.gw_maplang.specs.Among.{Among, Distinct}
+use Rattle.gw_maplang.specs.Columns.{is_table_word}
 use Rattle.gw_maplang.specs.Shapes.{Path, FieldPath, Ref, Field, Current, Leaf, Const, Copy, Lookup, LeafValue, Making, Copies, Firsts, Repeats, Builds, RuleValue, SegmentItem, GroupItem, FlatItem, Items, nothing, segment, group, flat, Row, TableValue, DropValue, MapValue}
 
 -- ---- numbers and paths
@@ -107,9 +108,9 @@ LawfulRow r = (is_value r.first ≡ true) × (is_value r.second ≡ true)
 abbrev pub firsts : List Row → List (List ℕ)
 firsts = map (λ (r : Row). r.first)
 
--- one row for each first value; its values are canonical texts that aren't empty
+-- one row for each first value; its values are canonical texts that aren't empty; its name may be that of a column
 pub record LawfulTable (t : TableValue) : Type 0 where
-  pub named : is_name t.name ≡ true
+  pub named : is_table_word t.name ≡ true
   pub each : AllByRecursion LawfulRow t.rows
   pub distinct : Distinct (firsts t.rows)
   pub other : IfSome t.other (λ value. is_value value ≡ true)

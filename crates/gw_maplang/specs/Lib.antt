@@ -1,6 +1,7 @@
 pub mod Numbers
 pub mod Shapes
 pub mod Among
+pub mod Columns
 pub mod Lawful
 pub mod Line
 pub mod Fault

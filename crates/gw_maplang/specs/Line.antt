@@ -1,5 +1,5 @@
 -- The lines of a map, and the words of each.
-use Rattle.std.specs.Prelude.{ℕ, Bool, ◌==◌, if◌then◌else◌, List, [], ◌∷◌, Option, Some, None, codes}
+use Rattle.std.specs.Prelude.{ℕ, Bool, ◌==◌, nat_le, if◌then◌else◌, List, [], ◌∷◌, length, Option, Some, None, codes}
 use Rattle.std.specs.List.{list_all, slice_split, before_first}
 use Rattle.std.specs.Option.{option_map}
 use Rattle.gw_lines.specs.Words.{Word}
@@ -7,15 +7,18 @@ use Rattle.gw_lines.specs.Spelled.{plain_bytes, is_keyword, is_name, is_dot, num
 use Rattle.gw_lines.specs.Values.{bytes_of}
 use Rattle.gw_lines.specs.Parts.{first_word, name_at, number_at, behind, with_all, ◌>>=◌}
 use Rattle.gw_maplang.specs.declared.rule.LeafPlace.{LeafPlace}
-use Rattle.gw_maplang.specs.Shapes.{Path, FieldPath, Ref, Field, Current, Leaf, Const, Copy, Lookup, LeafValue, Copies, Firsts, Repeats, Builds, RuleValue, Row, DropValue}
+use Rattle.gw_maplang.specs.Shapes.{Path, FieldPath, Ref, Field, Current, Leaf, Const, Copy, Lookup, LeafValue, Copies, Firsts, Repeats, Builds, RuleValue, DropValue}
+use Rattle.gw_maplang.specs.Columns.{WideRow, behind_first, is_table_word}
 use Rattle.gw_maplang.specs.Lawful.{least_field, last_label}
 
 -- A line. A rule has the leaf of its own line alone. No label stands for `flat`.
 pub data Line : Type 0 where
   Begins : (at : ℕ) (name source target : List ℕ) → Line
+  -- the map is one of the second language
+  Language : Line
   Table : (name : List ℕ) → Line
-  Rows : (row : Row) → Line
-  Else : (value : List ℕ) → Line
+  Rows : (row : WideRow) → Line
+  Else : (values : List (List ℕ)) → Line
   Segment : (at : ℕ) (label : List ℕ) (source : Option Path) → Line
   Makes : (rule : RuleValue) → Line
   At : (leaf : LeafValue) → Line
@@ -30,11 +33,6 @@ is_slash b = b == 47
 
 abbrev pub is_dash : ℕ → Bool
 is_dash b = b == 45
-
--- what stands behind the first such byte, where there is one
-abbrev pub behind_first : (ℕ → Bool) → List ℕ → Option (List ℕ)
-behind_first is_end [] = None
-behind_first is_end (b ∷ bytes) = if is_end b then Some bytes else behind_first is_end bytes
 
 -- labels joined by slashes
 abbrev pub path_of : List ℕ → Option Path
@@ -125,6 +123,30 @@ text_at words = do
   bytes ← some_bytes (bytes_of w.0)
   Some (bytes, w.1)
 
+-- the values that these words are, not yet tested
+abbrev pub texts : List Word → Option (List (List ℕ))
+texts [] = Some []
+texts (w ∷ more) = do
+  text ← some_bytes (bytes_of w)
+  behind ← texts more
+  Some (text ∷ behind)
+
+-- a table's columns, as many as a coded element has components (HL7 v2.5.1 chapter 2A, 2.A.13 "CWE")
+abbrev pub most_columns : ℕ
+most_columns = 9
+
+abbrev pub few_texts : List Word → Option (List (List ℕ))
+few_texts words = if nat_le (length words) most_columns then texts words else None
+
+-- VALUE ..: one at least, and no more than a table has columns
+abbrev pub some_texts : List Word → Option (List (List ℕ))
+some_texts [] = None
+some_texts (w ∷ more) = few_texts (w ∷ more)
+
+-- TABLE or TABLE.K
+abbrev pub table_word : List ℕ → Option (List ℕ)
+table_word bytes = if is_table_word bytes then Some bytes else None
+
 -- from PATH-F
 abbrev pub from_at : List Word → Option (FieldPath × List Word)
 from_at words = do
@@ -143,10 +165,10 @@ copy_form words = do
   ref ← plain_at ref_of words
   with_all ref.1 (Copy ref.0)
 
--- lookup TABLE REF
+-- lookup TABLE REF, lookup TABLE.K REF
 abbrev pub lookup_form : List Word → Option Leaf
 lookup_form words = do
-  table ← name_at words
+  table ← plain_at table_word words
   ref ← plain_at ref_of table.1
   with_all ref.1 (Lookup table.0 ref.0)
 
@@ -179,24 +201,30 @@ map_form at words = do
   target ← name_at second
   with_all target.1 (Begins at name.0 source.0 target.0)
 
+-- language 2
+abbrev pub language_form : List Word → Option Line
+language_form words = do
+  more ← behind (codes "2") words
+  with_all more Language
+
 -- table NAME
 abbrev pub table_form : List Word → Option Line
 table_form words = do
   name ← name_at words
   with_all name.1 (Table name.0)
 
--- row VALUE VALUE
+-- row VALUE VALUE ..
 abbrev pub row_form : List Word → Option Line
 row_form words = do
   first ← text_at words
-  second ← text_at first.1
-  with_all second.1 (Rows (record { first = first.0; second = second.0 }))
+  seconds ← some_texts first.1
+  Some (Rows (record { first = first.0; seconds = seconds }))
 
--- else VALUE
+-- else VALUE ..
 abbrev pub else_form : List Word → Option Line
 else_form words = do
-  value ← text_at words
-  with_all value.1 (Else value.0)
+  values ← some_texts words
+  Some (Else values)
 
 -- from PATH or always
 abbrev pub source_behind : Option (List Word) → List Word → Option (Option Path × List Word)
@@ -279,6 +307,7 @@ rule_form at keyword more =
 abbrev pub keyword_form : ℕ → Word → List Word → Option Line
 keyword_form at keyword more =
     if is_keyword (codes "map") keyword then map_form at more
+    else if is_keyword (codes "language") keyword then language_form more
     else if is_keyword (codes "table") keyword then table_form more
     else if is_keyword (codes "row") keyword then row_form more
     else if is_keyword (codes "else") keyword then else_form more

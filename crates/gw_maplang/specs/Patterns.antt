@@ -1,5 +1,6 @@
 -- What was expected at a line that is no line of a map.
-use Rattle.std.specs.Prelude.{ℕ, if◌then◌else◌, List, [], Option, Some, None, bytes_eq, codes}
+use Rattle.std.specs.Prelude.{ℕ, ◌-◌, Bool, false, true, if◌then◌else◌, List, [], ◌∷◌, take, Option, Some, None, bytes_eq, codes}
+use Rattle.gw_lines.specs.Words.{lines}
 use Rattle.gw_lines.specs.Expected.{keyword_of, line_at}
 
 -- the pattern of the lines of items with this keyword, or all keywords where it is none
@@ -22,19 +23,37 @@ rule_pattern keyword =
     else if bytes_eq keyword (codes "at") then codes "at C[.S] LEAF, below repeat or build"
     else item_pattern keyword
 
+-- the same of the lines of tables, in the second language or the first
+abbrev pub row_pattern : Bool → List ℕ
+row_pattern second = if second then codes "row VALUE VALUE .., below a table, with as many as the lines above" else codes "row VALUE VALUE, below a table"
+
+abbrev pub else_pattern : Bool → List ℕ
+else_pattern second = if second then codes "else VALUE .., below a table, with as many as the lines above" else codes "else VALUE, below a table"
+
 -- the same of all lines
-abbrev pub pattern : List ℕ → List ℕ
-pattern keyword =
+abbrev pub pattern : Bool → List ℕ → List ℕ
+pattern second keyword =
     if bytes_eq keyword (codes "map") then codes "map NAME from SOURCE to TARGET, as the first line"
+    else if bytes_eq keyword (codes "language") then codes "language 2, directly below map NAME"
     else if bytes_eq keyword (codes "table") then codes "table NAME, before the first item"
-    else if bytes_eq keyword (codes "row") then codes "row VALUE VALUE, below a table"
-    else if bytes_eq keyword (codes "else") then codes "else VALUE, below a table"
+    else if bytes_eq keyword (codes "row") then row_pattern second
+    else if bytes_eq keyword (codes "else") then else_pattern second
     else rule_pattern keyword
 
+-- whether the map is one of the second language, by the keyword of its line
+abbrev pub second_below : List ℕ → Bool → Bool
+second_below keyword second =
+    if bytes_eq keyword (codes "language") then true else if bytes_eq keyword (codes "map") then false else second
+
+-- the same below these lines
+abbrev pub second_at : Bool → List (List ℕ) → Bool
+second_at second [] = second
+second_at second (line ∷ lines) = second_at (second_below (keyword_of line) second) lines
+
 -- the pattern, and what stands there
-abbrev pub expected_at : Option (List ℕ) → List ℕ × List ℕ
-expected_at None = (codes "map NAME from SOURCE to TARGET, or the end of a group or flat", [])
-expected_at (Some line) = (pattern (keyword_of line), line)
+abbrev pub expected_at : Bool → Option (List ℕ) → List ℕ × List ℕ
+expected_at second None = (codes "map NAME from SOURCE to TARGET, or the end of a group or flat", [])
+expected_at second (Some line) = (pattern second (keyword_of line), line)
 
 abbrev pub expected : List ℕ → ℕ → List ℕ × List ℕ
-expected text at = expected_at (line_at text at)
+expected text at = expected_at (second_at false (take (at - 1) (lines text))) (line_at text at)

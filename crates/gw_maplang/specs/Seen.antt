@@ -15,7 +15,7 @@ use Rattle.gw_maplang.specs.Line as Spec
 use Rattle.gw_maplang.specs.declared.context as Held
 use Rattle.gw_maplang.specs.Fault as Fault
 use Rattle.gw_lines.specs.Grammar.{AllTaken}
-use Rattle.gw_maplang.specs.Lawful.{table_names, firsts}
+use Rattle.gw_maplang.specs.Columns.{WideRow, WideRows, WideTable}
 use Rattle.gw_maplang.specs.Shapes.{Path, FieldPath, Ref, Field, Current, Leaf, Const, Copy, Lookup, LeafValue, Copies, Firsts, Repeats, Builds, RuleValue, Items, nothing, segment, group, flat, Row, Rows, TableValue, DropValue, MapValue}
 
 abbrev pub now : Option (Bor (List ℕ)) → Option (List ℕ)
@@ -86,6 +86,13 @@ row r = record { first = r.0.items; second = r.1.items }
 abbrev pub table : Vec ℕ × Rows → TableValue
 table t = record { name = t.0.items; rows = t.1.rows; other = t.1.other }
 
+-- a row, and a table under its name, as lines say them
+abbrev pub wide_row : Vec ℕ × Vec (Vec ℕ) → WideRow
+wide_row r = record { first = r.0.items; seconds = path r.1 }
+
+abbrev pub wide_table : Vec ℕ × WideRows → WideTable
+wide_table t = record { name = t.0.items; width = t.1.width; rows = t.1.rows; other = t.1.other }
+
 abbrev pub dropped : Dropped → DropValue
 dropped d = record { line = d.line; path = path d.path; field = d.field }
 
@@ -109,9 +116,10 @@ path_some p = option_map path p
 
 abbrev pub line : declared.Line → Spec.Line
 line (declared.TheVariants.Begins at name source target) = Spec.Begins at name.now source.now target.now
+line declared.TheVariants.Language = Spec.Language
 line (declared.TheVariants.Table name) = Spec.Table name.now
-line (declared.TheVariants.Rows first second) = Spec.Rows (record { first = first.now; second = second.now })
-line (declared.TheVariants.Else value) = Spec.Else value.now
+line (declared.TheVariants.Rows first seconds) = Spec.Rows (record { first = first.now; seconds = now_all seconds.items })
+line (declared.TheVariants.Else values) = Spec.Else (now_all values.items)
 line (declared.TheVariants.Segment at label source) = Spec.Segment at label.now (path_some source)
 line (declared.TheVariants.Makes r) = Spec.Makes (rule r)
 line (declared.TheVariants.At l) = Spec.At (leaf_value l)
@@ -132,7 +140,7 @@ abbrev pub open_rule : Option Held.OpenRule.OpenRule → Option Fault.OpenRule
 open_rule r = option_map (λ o. record { repeated = o.repeated; places = o.places.keys }) r
 
 abbrev pub open_parts : List Spec.Line → Held.OpenParts.OpenParts
-open_parts above = record { in_table = Fault.in_table above; has_item = Fault.has_item above; depth = Fault.depth above; hollow = Fault.hollow above }
+open_parts above = record { second = Fault.is_second above; in_table = Fault.in_table above; has_item = Fault.has_item above; depth = Fault.depth above; hollow = Fault.hollow above }
 
 abbrev pub OpenPartsFollow : Held.OpenParts.OpenParts → Held.OpenParts.OpenParts → Spec.Line → Type 0
 OpenPartsFollow old new l = (above : List Spec.Line) → old ≡ open_parts above → new ≡ open_parts (l ∷ above)
@@ -143,9 +151,9 @@ HasRoom depth (Spec.Each at label p) = depth < 16
 HasRoom depth line = Unit {0}
 
 -- a table or row is new
-abbrev pub IsNewTable : List TableValue → Spec.Line → Type 0
-IsNewTable tables (Spec.Table name) = Fault.is_among name (table_names tables) ≡ false
-IsNewTable tables (Spec.Rows r) = Fault.is_among r.first (firsts (Fault.last_table tables).rows) ≡ false
+abbrev pub IsNewTable : List WideTable → Spec.Line → Type 0
+IsNewTable tables (Spec.Table name) = Fault.is_among name (Fault.wide_names tables) ≡ false
+IsNewTable tables (Spec.Rows r) = Fault.is_among r.first (Fault.wide_firsts (Fault.last_table tables).rows) ≡ false
 IsNewTable tables line = Unit {0}
 
 -- a rule is for a field that has none
@@ -159,9 +167,9 @@ IsNewPlace held (Spec.At l) = Fault.is_placed l.place held ≡ false
 IsNewPlace held line = Unit {0}
 
 -- what is kept beside the lines agrees with them
-pub record Agrees (held : Held.OpenParts.OpenParts) (tables : List TableValue) (segment : Option Fault.OpenSegment) (rule : Option Fault.OpenRule) (lines : List Spec.Line) : Type 0 where
+pub record Agrees (held : Held.OpenParts.OpenParts) (tables : List WideTable) (segment : Option Fault.OpenSegment) (rule : Option Fault.OpenRule) (lines : List Spec.Line) : Type 0 where
   pub has_open_parts : held ≡ open_parts lines
-  pub has_tables : tables ≡ Fault.tables lines
+  pub has_tables : tables ≡ Fault.wide_tables lines
   pub has_segment : segment ≡ Fault.open_segment lines
   pub has_rule : rule ≡ Fault.open_rule lines
   pub taken : AllTaken Fault.grammar lines

@@ -247,6 +247,10 @@ fn add_line(alloc: Global, below: &mut Below, whole: Line) -> Result<(), AllocEr
             close_parts(alloc, below);
             Ok(())
         }
+        Line::Language => {
+            close_parts(alloc, below);
+            Ok(())
+        }
         Line::Table(_) => {
             close_parts(alloc, below);
             Ok(())

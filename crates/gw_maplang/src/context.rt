@@ -1,21 +1,21 @@
 //! What the lines so far leave open: tables, segments, rules, groups and flats.
 ghost use Rattle.std.specs.Prelude.{◌≡◌, ◌∷◌, [], ◌++◌, map, IfOk, OnOk, false};
 ghost use Rattle.gw_maplang.specs.Fault as spec;
-ghost use Rattle.gw_maplang.specs.Lawful.{table_names, firsts};
-ghost use Rattle.gw_maplang.specs.Shapes.{row_of};
-ghost use Rattle.gw_maplang.specs.Seen.{line, now, rule, table, open_segment, open_rule, OpenPartsFollow, HasRoom, IsNewTable, IsNewField, IsNewPlace};
+ghost use Rattle.gw_maplang.specs.Columns as columns;
+ghost use Rattle.gw_maplang.specs.Seen.{line, now, now_all, rule, wide_table, open_segment, open_rule, OpenPartsFollow, HasRoom, IsNewTable, IsNewField, IsNewPlace};
 
+use crate::columns::Wide;
 use crate::form::Line;
-use crate::parts::least_field;
+use crate::parts::{after_first_byte, before_first_byte, column_number, least_field};
 use crate::rule::{LeafPlace, Rule};
-use crate::table::Table;
 use indexmap::{IndexMap, IndexSet};
 use std::alloc::{AllocError, Global};
 
-/// What is open: whether a row would belong to a table, and how many groups and flats are open. `has_item`: there was an item.
+/// What is open: whether the language is the second, whether a row would belong to a table, and how many groups and flats are open. `has_item`: there was an item.
 /// `hollow`: the innermost open part is a flat that has no item so far.
 #[derive(Clone, Copy, Drop)]
 pub(crate) struct OpenParts {
+    pub(crate) second: bool,
     pub(crate) in_table: bool,
     pub(crate) has_item: bool,
     pub(crate) depth: u32,
@@ -23,6 +23,7 @@ pub(crate) struct OpenParts {
 }
 
 pub(crate) const NOTHING_OPEN: OpenParts = OpenParts {
+    second: false,
     in_table: false,
     has_item: false,
     depth: 0,
@@ -54,6 +55,10 @@ pub(crate) fn open_parts_below(held: OpenParts, whole: &Line) -> OpenParts
         ..held
     };
     match whole {
+        Line::Language => OpenParts {
+            second: true,
+            ..held
+        },
         Line::Table(_) => OpenParts {
             in_table: true,
             ..held
@@ -183,15 +188,54 @@ pub(crate) fn rule_below(
 }
 
 /// Whether there is a table of this name.
-pub(crate) fn knows(tables: &IndexMap<Vec<u8>, Table>, name: &[u8]) -> bool
-    ensures { result ≡ spec.is_among name.now (table_names (map table tables.now.entries)) }
+pub(crate) fn knows(tables: &IndexMap<Vec<u8>, Wide>, name: &[u8]) -> bool
+    ensures { result ≡ spec.is_among name.now (spec.wide_names (map wide_table tables.now.entries)) }
 {
     tables.contains_key(name)
 }
 
+// How many columns the table of this name has.
+fn width_of(tables: &IndexMap<Vec<u8>, Wide>, name: &[u8]) -> Option<usize>
+    ensures { result ≡ columns.width_of name.now (map wide_table tables.now.entries) }
+{
+    match tables.get(name) {
+        None => None,
+        Some(wide) => Some(wide.width()),
+    }
+}
+
+fn is_within(number: Option<usize>, width: usize) -> bool
+    ensures { result ≡ columns.is_within number width }
+{
+    match number {
+        None => false,
+        Some(k) => k <= width,
+    }
+}
+
+fn has_column(number: Option<&[u8]>, width: Option<usize>) -> bool
+    ensures { result ≡ columns.has_column (now number.entry) width }
+{
+    let Some(width) = width else {
+        return false;
+    };
+    match number {
+        None => true,
+        Some(bytes) => is_within(column_number(bytes), width),
+    }
+}
+
+/// Whether there is a table of this name, with the column whose number is said.
+pub(crate) fn is_known(tables: &IndexMap<Vec<u8>, Wide>, word: &[u8]) -> bool
+    ensures { result ≡ columns.is_known (map wide_table tables.now.entries) word.now }
+{
+    let width = width_of(tables, before_first_byte(b'.', word));
+    has_column(after_first_byte(b'.', word), width)
+}
+
 /// Whether the last table has a row of this value.
-pub(crate) fn has_row(tables: &IndexMap<Vec<u8>, Table>, first: &[u8]) -> bool
-    ensures { result ≡ spec.is_among first.now (firsts (spec.last_table (map table tables.now.entries)).rows) }
+pub(crate) fn has_row(tables: &IndexMap<Vec<u8>, Wide>, first: &[u8]) -> bool
+    ensures { result ≡ spec.is_among first.now (spec.wide_firsts (spec.last_table (map wide_table tables.now.entries)).rows) }
 {
     match tables.last() {
         None => false,
@@ -200,72 +244,90 @@ pub(crate) fn has_row(tables: &IndexMap<Vec<u8>, Table>, first: &[u8]) -> bool
 }
 
 /// Whether the last table has an `else` line.
-pub(crate) fn has_other(tables: &IndexMap<Vec<u8>, Table>) -> bool
-    ensures { result ≡ spec.is_said (spec.last_table (map table tables.now.entries)).other }
+pub(crate) fn has_other(tables: &IndexMap<Vec<u8>, Wide>) -> bool
+    ensures { result ≡ spec.is_said (spec.last_table (map wide_table tables.now.entries)).other }
 {
     match tables.last() {
         None => false,
-        Some((_, last)) => last.other().is_some(),
+        Some((_, last)) => last.has_other(),
     }
+}
+
+// How many columns the last table has.
+fn last_width(tables: &IndexMap<Vec<u8>, Wide>) -> usize
+    ensures { result ≡ (spec.last_table (map wide_table tables.now.entries)).width }
+{
+    match tables.last() {
+        None => 0,
+        Some((_, last)) => last.width(),
+    }
+}
+
+/// Whether the last table takes so many values.
+pub(crate) fn fits(second: bool, tables: &IndexMap<Vec<u8>, Wide>, count: usize) -> bool
+    ensures { result ≡ spec.fits second (spec.last_table (map wide_table tables.now.entries)).width count }
+{
+    let width = last_width(tables);
+    (second || count == 1) && (width == 0 || width == count)
 }
 
 // Appends a new table.
 fn put_table(
     alloc: Global,
-    tables: &mut IndexMap<Vec<u8>, Table>,
+    tables: &mut IndexMap<Vec<u8>, Wide>,
     name: &[u8],
 ) -> Result<(), AllocError>
-    requires { spec.is_among name.now (table_names (map table tables.old.entries)) ≡ false }
-    ensures { OnOk result (map table tables.new.entries ≡ map table tables.old.entries ++ record { name = name.now; rows = []; other = None } ∷ []) }
+    requires { spec.is_among name.now (spec.wide_names (map wide_table tables.old.entries)) ≡ false }
+    ensures { OnOk result (map wide_table tables.new.entries ≡ map wide_table tables.old.entries ++ columns.new_table name.now ∷ []) }
 {
     let name = Vec::from_slice(alloc, name)?;
-    tables.insert(name, Table::new(alloc))?;
+    tables.insert(name, Wide::new(alloc))?;
     Ok(())
 }
 
 // Appends a new row to the last table.
 fn put_row(
     alloc: Global,
-    tables: &mut IndexMap<Vec<u8>, Table>,
+    tables: &mut IndexMap<Vec<u8>, Wide>,
     first: &[u8],
-    second: &[u8],
+    seconds: &[&[u8]],
 ) -> Result<(), AllocError>
-    requires { spec.is_among first.now (firsts (spec.last_table (map table tables.old.entries)).rows) ≡ false }
-    ensures { OnOk result (map table tables.new.entries ≡ spec.at_last (spec.with_row (row_of first.now second.now)) (map table tables.old.entries)) }
+    requires { spec.is_among first.now (spec.wide_firsts (spec.last_table (map wide_table tables.old.entries)).rows) ≡ false }
+    ensures { OnOk result (map wide_table tables.new.entries ≡ spec.at_last (spec.with_row (columns.wide_row_of first.now (now_all seconds.now))) (map wide_table tables.old.entries)) }
 {
     match tables.last_mut() {
         None => Ok(()),
-        Some(last) => last.put_row(alloc, first, second),
+        Some(last) => last.put_row(alloc, first, seconds),
     }
 }
 
-// Sets the value of the last table's `else` line.
+// Sets the values of the last table's `else` line.
 fn put_other(
     alloc: Global,
-    tables: &mut IndexMap<Vec<u8>, Table>,
-    value: &[u8],
+    tables: &mut IndexMap<Vec<u8>, Wide>,
+    values: &[&[u8]],
 ) -> Result<(), AllocError>
-    ensures { OnOk result (map table tables.new.entries ≡ spec.at_last (spec.with_other value.now) (map table tables.old.entries)) }
+    ensures { OnOk result (map wide_table tables.new.entries ≡ spec.at_last (spec.with_other (now_all values.now)) (map wide_table tables.old.entries)) }
 {
     match tables.last_mut() {
         None => Ok(()),
-        Some(last) => last.put_other(alloc, value),
+        Some(last) => last.put_other(alloc, values),
     }
 }
 
 /// Updates the tables by this line.
 pub(crate) fn tables_below(
     alloc: Global,
-    tables: &mut IndexMap<Vec<u8>, Table>,
+    tables: &mut IndexMap<Vec<u8>, Wide>,
     whole: &Line,
 ) -> Result<(), AllocError>
-    requires { IsNewTable (map table tables.old.entries) (line whole.now) }
-    ensures { OnOk result (map table tables.new.entries ≡ spec.tables_below (line whole.now) (map table tables.old.entries)) }
+    requires { IsNewTable (map wide_table tables.old.entries) (line whole.now) }
+    ensures { OnOk result (map wide_table tables.new.entries ≡ spec.wide_below (line whole.now) (map wide_table tables.old.entries)) }
 {
     match whole {
         Line::Table(name) => put_table(alloc, tables, name),
-        Line::Rows(first, second) => put_row(alloc, tables, first, second),
-        Line::Else(value) => put_other(alloc, tables, value),
+        Line::Rows(first, seconds) => put_row(alloc, tables, first, seconds),
+        Line::Else(values) => put_other(alloc, tables, values),
         _ => Ok(()),
     }
 }

@@ -3,23 +3,28 @@ ghost use Rattle.std.specs.Prelude.{◌≡◌, map, IfOk, Some, None};
 ghost use Rattle.std.specs.Option.{option_map};
 ghost use Rattle.gw_lines.specs.Seen.{word};
 ghost use Rattle.gw_lines.specs.Parts.{with_all};
+ghost use Rattle.gw_lines.specs.Values.{bytes_of};
 ghost use Rattle.gw_maplang.specs.Line as spec;
-ghost use Rattle.gw_maplang.specs.Seen.{line, now, path, path_some, field_path, ref, leaf, leaf_value, dropped};
+ghost use Rattle.gw_maplang.specs.Seen.{line, now, now_all, path, path_some, field_path, ref, leaf, leaf_value, dropped};
 
-use crate::parts::{drop_of, field_path, path_of, place_of, ref_of};
+use crate::parts::{drop_of, field_path, is_table_word, path_of, place_of, ref_of};
 use crate::rule::{
     BuildRule, CopyRule, Dropped, FieldPath, Leaf, LeafPlace, LeafRule, Ref, RepeatRule, Rule,
 };
 use gw_lines::{Word, behind, bytes_of, first_word, name_at, number_at};
 use std::alloc::{AllocError, Global};
 
+// The greatest number of a table's columns.
+const MAX_COLUMNS: usize = 9;
+
 /// A line of a map. A rule has only the leaf of its own line. An `each` line without a label is a `flat`.
 #[derive(Drop)]
 pub(crate) enum Line<'a> {
     Begins(u32, &'a [u8], &'a [u8], &'a [u8]),
+    Language,
     Table(&'a [u8]),
-    Rows(&'a [u8], &'a [u8]),
-    Else(&'a [u8]),
+    Rows(&'a [u8], Vec<&'a [u8]>),
+    Else(Vec<&'a [u8]>),
     Segment(u32, &'a [u8], Option<Vec<Vec<u8>>>),
     Makes(Rule),
     At(LeafRule),
@@ -131,6 +136,48 @@ fn text_at<'a, 'w>(words: &'w [Word<'a>]) -> Option<(&'a [u8], &'w [Word<'a>])>
     Some((bytes, more))
 }
 
+// The text of a word, if it has a byte.
+fn text_of(next: Word<'_>) -> Option<&[u8]>
+    ensures { now result ≡ spec.some_bytes (bytes_of (word next.entry)) }
+{
+    some_bytes(bytes_of(next))
+}
+
+// The texts of these words, if each has a byte.
+fn texts<'a>(alloc: Global, words: &[Word<'a>]) -> Result<Option<Vec<&'a [u8]>>, AllocError>
+    ensures { IfOk result (λ found. option_map (λ v. now_all v.items) found ≡ spec.texts (map word words.now)) }
+{
+    let mut all = Vec::new(alloc);
+    for next in words {
+        let Some(text) = text_of(*next) else {
+            return Ok(None);
+        };
+        all.push(text)?;
+    }
+    Ok(Some(all))
+}
+
+// The same of at least one word, and of no more than a table has columns.
+fn some_texts<'a>(alloc: Global, words: &[Word<'a>]) -> Result<Option<Vec<&'a [u8]>>, AllocError>
+    ensures { IfOk result (λ found. option_map (λ v. now_all v.items) found ≡ spec.some_texts (map word words.now)) }
+{
+    if words.is_empty() || words.len() > MAX_COLUMNS {
+        return Ok(None);
+    }
+    texts(alloc, words)
+}
+
+// The name of a table, or of a column of one.
+fn table_at<'a, 'w>(words: &'w [Word<'a>]) -> Option<(&'a [u8], &'w [Word<'a>])>
+    ensures { option_map (λ w. (w.0.now, map word w.1.now)) result ≡ spec.plain_at spec.table_word (map word words.now) }
+{
+    let (bytes, more) = plain_word(words)?;
+    if is_table_word(bytes) {
+        return Some((bytes, more));
+    }
+    None
+}
+
 fn from_at<'a, 'w>(
     alloc: Global,
     words: &'w [Word<'a>],
@@ -170,7 +217,7 @@ fn copy_form(alloc: Global, words: &[Word]) -> Result<Option<Leaf>, AllocError>
 fn lookup_form(alloc: Global, words: &[Word]) -> Result<Option<Leaf>, AllocError>
     ensures { IfOk result (λ found. option_map leaf found ≡ spec.lookup_form (map word words.now)) }
 {
-    let Some((name, more)) = name_at(words) else {
+    let Some((name, more)) = table_at(words) else {
         return Ok(None);
     };
     let Some((from, more)) = ref_at(alloc, more)? else {
@@ -247,6 +294,13 @@ fn map_form<'a>(at: u32, words: &[Word<'a>]) -> Option<Line<'a>>
     with_all(more, Line::Begins(at, name, source, target))
 }
 
+fn language_form<'a>(words: &[Word<'a>]) -> Option<Line<'a>>
+    ensures { option_map line result ≡ spec.language_form (map word words.now) }
+{
+    let more = behind(b"2", words)?;
+    with_all(more, Line::Language)
+}
+
 fn table_form<'a>(words: &[Word<'a>]) -> Option<Line<'a>>
     ensures { option_map line result ≡ spec.table_form (map word words.now) }
 {
@@ -254,19 +308,25 @@ fn table_form<'a>(words: &[Word<'a>]) -> Option<Line<'a>>
     with_all(more, Line::Table(name))
 }
 
-fn row_form<'a>(words: &[Word<'a>]) -> Option<Line<'a>>
-    ensures { option_map line result ≡ spec.row_form (map word words.now) }
+fn row_form<'a>(alloc: Global, words: &[Word<'a>]) -> Result<Option<Line<'a>>, AllocError>
+    ensures { IfOk result (λ found. option_map line found ≡ spec.row_form (map word words.now)) }
 {
-    let (first, more) = text_at(words)?;
-    let (second, more) = text_at(more)?;
-    with_all(more, Line::Rows(first, second))
+    let Some((first, more)) = text_at(words) else {
+        return Ok(None);
+    };
+    match some_texts(alloc, more)? {
+        None => Ok(None),
+        Some(seconds) => Ok(Some(Line::Rows(first, seconds))),
+    }
 }
 
-fn else_form<'a>(words: &[Word<'a>]) -> Option<Line<'a>>
-    ensures { option_map line result ≡ spec.else_form (map word words.now) }
+fn else_form<'a>(alloc: Global, words: &[Word<'a>]) -> Result<Option<Line<'a>>, AllocError>
+    ensures { IfOk result (λ found. option_map line found ≡ spec.else_form (map word words.now)) }
 {
-    let (value, more) = text_at(words)?;
-    with_all(more, Line::Else(value))
+    match some_texts(alloc, words)? {
+        None => Ok(None),
+        Some(values) => Ok(Some(Line::Else(values))),
+    }
 }
 
 fn source_at<'a, 'w>(
@@ -467,14 +527,17 @@ fn keyword_form<'a>(
     if keyword.is(b"map") {
         return Ok(map_form(at, more));
     }
+    if keyword.is(b"language") {
+        return Ok(language_form(more));
+    }
     if keyword.is(b"table") {
         return Ok(table_form(more));
     }
     if keyword.is(b"row") {
-        return Ok(row_form(more));
+        return row_form(alloc, more);
     }
     if keyword.is(b"else") {
-        return Ok(else_form(more));
+        return else_form(alloc, more);
     }
     if keyword.is(b"segment") {
         return segment_form(alloc, at, more);

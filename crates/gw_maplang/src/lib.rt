@@ -2,6 +2,7 @@
 #![tactic(auto)]
 
 mod build;
+mod columns;
 mod context;
 mod fault;
 mod form;

@@ -5,6 +5,7 @@ ghost use Rattle.std.specs.Option.{option_map};
 ghost use Rattle.gw_lines.specs.Spelled.{is_name};
 ghost use Rattle.gw_maplang.specs.Lawful as lawful;
 ghost use Rattle.gw_maplang.specs.Line as spec;
+ghost use Rattle.gw_maplang.specs.Columns as columns;
 ghost use Rattle.gw_maplang.specs.Shapes as shapes;
 ghost use Rattle.gw_maplang.specs.Seen.{now, now_all, items_all, path, path_some, field_path, ref_some, dropped};
 
@@ -19,7 +20,7 @@ fn first_at(end: u8, bytes: &[u8]) -> Option<usize>
 }
 
 // The bytes before the first such byte; all if there is none.
-fn before_first_byte(end: u8, bytes: &[u8]) -> &[u8]
+pub(crate) fn before_first_byte(end: u8, bytes: &[u8]) -> &[u8]
     ensures { result.now ≡ before_first (λ b. b == end) bytes.now }
 {
     match first_at(end, bytes) {
@@ -29,8 +30,8 @@ fn before_first_byte(end: u8, bytes: &[u8]) -> &[u8]
 }
 
 // The bytes after the first such byte, if there is one.
-fn after_first_byte(end: u8, bytes: &[u8]) -> Option<&[u8]>
-    ensures { now result ≡ spec.behind_first (λ b. b == end) bytes.now }
+pub(crate) fn after_first_byte(end: u8, bytes: &[u8]) -> Option<&[u8]>
+    ensures { now result ≡ columns.behind_first (λ b. b == end) bytes.now }
 {
     for (i, byte) in bytes.iter().enumerate() {
         if *byte == end {
@@ -57,7 +58,7 @@ fn are_names(labels: &[&[u8]]) -> bool
     true
 }
 
-fn copies(alloc: Global, labels: &[&[u8]]) -> Result<Vec<Vec<u8>>, AllocError>
+pub(crate) fn copies(alloc: Global, labels: &[&[u8]]) -> Result<Vec<Vec<u8>>, AllocError>
     ensures { IfOk result (λ v. path v ≡ now_all labels.now) }
 {
     let mut all = Vec::new(alloc);
@@ -66,6 +67,37 @@ fn copies(alloc: Global, labels: &[&[u8]]) -> Result<Vec<Vec<u8>>, AllocError>
         all.push(copy)?;
     }
     Ok(all)
+}
+
+/// The number of a column, from 1 to 9.
+pub(crate) fn column_number(bytes: &[u8]) -> Option<usize>
+    ensures { result ≡ columns.column_number bytes.now }
+{
+    match bytes {
+        [digit] => {
+            if b'1' <= *digit && *digit <= b'9' {
+                return Some(usize::from(*digit - b'0'));
+            }
+            None
+        }
+        _ => None,
+    }
+}
+
+fn is_numbered(said: Option<&[u8]>) -> bool
+    ensures { result ≡ columns.is_numbered (now said.entry) }
+{
+    match said {
+        None => true,
+        Some(bytes) => column_number(bytes).is_some(),
+    }
+}
+
+/// Whether this is the name of a table, or of a column of one.
+pub(crate) fn is_table_word(bytes: &[u8]) -> bool
+    ensures { result ≡ columns.is_table_word bytes.now }
+{
+    is_name(before_first_byte(b'.', bytes)) && is_numbered(after_first_byte(b'.', bytes))
 }
 
 /// A path: labels joined by slashes.

@@ -1,8 +1,10 @@
 //! What was expected at a line that fits no pattern of a map.
-ghost use Rattle.std.specs.Prelude.{◌≡◌, IfOk};
+ghost use Rattle.std.specs.Prelude.{◌≡◌, ◌-◌, false, take, IfOk};
+ghost use Rattle.gw_lines.specs.Words.{lines};
+ghost use Rattle.gw_maplang.specs.Seen.{now_all};
 ghost use Rattle.gw_maplang.specs.Patterns as spec;
 
-use gw_lines::{Expected, keyword_of, line_at};
+use gw_lines::{Expected, keyword_of, line_at, lines_of};
 use std::alloc::{AllocError, Global};
 
 // The pattern of the item lines with this keyword; all keywords for any other word.
@@ -49,23 +51,78 @@ fn rule_pattern(keyword: &[u8]) -> &'static [u8]
     item_pattern(keyword)
 }
 
+// The pattern of the `row` lines of a map in the second language, or in the first.
+fn row_pattern(second: bool) -> &'static [u8]
+    ensures { result.now ≡ spec.row_pattern second }
+{
+    if second {
+        return b"row VALUE VALUE .., below a table, with as many as the lines above";
+    }
+    b"row VALUE VALUE, below a table"
+}
+
+// The pattern of the `else` lines of a map in the second language, or in the first.
+fn else_pattern(second: bool) -> &'static [u8]
+    ensures { result.now ≡ spec.else_pattern second }
+{
+    if second {
+        return b"else VALUE .., below a table, with as many as the lines above";
+    }
+    b"else VALUE, below a table"
+}
+
 // The pattern of the lines with this keyword; all keywords for any other word.
-fn pattern(keyword: &[u8]) -> &'static [u8]
-    ensures { result.now ≡ spec.pattern keyword.now }
+fn pattern(second: bool, keyword: &[u8]) -> &'static [u8]
+    ensures { result.now ≡ spec.pattern second keyword.now }
 {
     if keyword == b"map".as_slice() {
         return b"map NAME from SOURCE to TARGET, as the first line";
+    }
+    if keyword == b"language".as_slice() {
+        return b"language 2, directly below map NAME";
     }
     if keyword == b"table".as_slice() {
         return b"table NAME, before the first item";
     }
     if keyword == b"row".as_slice() {
-        return b"row VALUE VALUE, below a table";
+        return row_pattern(second);
     }
     if keyword == b"else".as_slice() {
-        return b"else VALUE, below a table";
+        return else_pattern(second);
     }
     rule_pattern(keyword)
+}
+
+fn second_below(keyword: &[u8], second: bool) -> bool
+    ensures { result ≡ spec.second_below keyword.now second }
+{
+    if keyword == b"language".as_slice() {
+        return true;
+    }
+    if keyword == b"map".as_slice() {
+        return false;
+    }
+    second
+}
+
+// Whether the map is one of the second language, by its lines above.
+fn is_second(above: &[&[u8]]) -> bool
+    ensures { result ≡ spec.second_at false (now_all above.now) }
+{
+    let mut second = false;
+    for line in above {
+        second = second_below(keyword_of(line), second);
+    }
+    second
+}
+
+// The same at the line of this number, from 1.
+fn is_second_at(alloc: Global, text: &[u8], at: u32) -> Result<bool, AllocError>
+    ensures { IfOk result (λ second. second ≡ spec.second_at false (take (at - 1) (lines text.now))) }
+{
+    let mut above = lines_of(alloc, text)?;
+    above.truncate((at as usize).saturating_sub(1));
+    Ok(is_second(&above))
 }
 
 /// What was expected at the line of this number, from 1, of a text that is no map: the pattern of its keyword, or all keywords.
@@ -79,7 +136,7 @@ pub fn expected(alloc: Global, text: &[u8], at: u32) -> Result<Expected<'_>, All
             found: b"",
         }),
         Some(found) => Ok(Expected {
-            pattern: pattern(keyword_of(found)),
+            pattern: pattern(is_second_at(alloc, text, at)?, keyword_of(found)),
             found,
         }),
     }

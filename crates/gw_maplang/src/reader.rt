@@ -1,27 +1,27 @@
 //! Parses a map, line by line.
 ghost use Rattle.std.specs.Prelude.{◌≡◌, ◌∷◌, ◌||◌, ◌&&◌, [], not, map, IfOk, OnOk, false};
-ghost use Rattle.std.specs.List.{list_any};
+ghost use Rattle.std.specs.List.{list_any, list_all};
 ghost use Rattle.gw_lines.specs.Seen.{word};
 ghost use Rattle.gw_lines.specs.Reading.{Gives, first_of, added};
 ghost use Rattle.gw_lines.specs.Values.{is_value};
 ghost use Rattle.gw_maplang.specs.declared.fault.MapFault.TheVariants as fault;
+ghost use Rattle.gw_maplang.specs.Columns.{wide_row_of};
 ghost use Rattle.gw_maplang.specs.Fault as spec;
-ghost use Rattle.gw_maplang.specs.Lawful.{table_names};
-ghost use Rattle.gw_maplang.specs.Shapes.{row_of};
 ghost use Rattle.gw_maplang.specs.Line as form;
 ghost use Rattle.gw_lines.specs.Grammar.{Taken};
-ghost use Rattle.gw_maplang.specs.Seen.{line, above, rule, leaf, leaf_value, table, open_segment, open_rule, map_value, IsNewField, IsNewPlace, IsNewTable};
+ghost use Rattle.gw_maplang.specs.Seen.{line, above, now_all, rule, leaf, leaf_value, wide_table, open_segment, open_rule, map_value, IsNewField, IsNewPlace, IsNewTable};
 ghost use Rattle.gw_maplang.specs.Whole.{whole, is_unclosed, map_of};
 
+use crate::columns::Wide;
 use crate::context::{
-    NOTHING_OPEN, OpenParts, OpenRule, OpenSegment, has_other, has_row, knows, open_parts_below,
-    rule_below, segment_below, tables_below,
+    NOTHING_OPEN, OpenParts, OpenRule, OpenSegment, fits, has_other, has_row, is_known, knows,
+    open_parts_below, rule_below, segment_below, tables_below,
 };
 use crate::fault::MapFault;
 use crate::form::{Line, form};
 use crate::map::Map;
+use crate::parts::after_first_byte;
 use crate::rule::{Leaf, LeafPlace, LeafRule, Ref, Rule};
-use crate::table::Table;
 use crate::whole::map_of;
 use gw_er7::is_canonical;
 use gw_lines::{Form, Word};
@@ -37,7 +37,7 @@ pub(crate) struct Reader<'a> {
     alloc: Global,
     lines: Vec<Line<'a>>,
     open_parts: OpenParts,
-    tables: IndexMap<Vec<u8>, Table>,
+    tables: IndexMap<Vec<u8>, Wide>,
     segment: Option<OpenSegment>,
     rule: Option<OpenRule>,
 }
@@ -45,19 +45,30 @@ pub(crate) struct Reader<'a> {
 impl<'a> Model for Reader<'a> {
     ghost use Rattle.std.specs.Prelude.{List, map};
     ghost use Rattle.gw_maplang.specs.Line.{Line};
-    ghost use Rattle.gw_maplang.specs.Seen.{above, table, open_segment, open_rule, Agrees};
+    ghost use Rattle.gw_maplang.specs.Seen.{above, wide_table, open_segment, open_rule, Agrees};
 
     ghost Value = { List Line };
 
     ghost view = { λ r. above r.lines.items };
 
-    ghost invariant = { λ r. Agrees r.open_parts (map table r.tables.entries) (open_segment r.segment) (open_rule r.rule) (above r.lines.items) };
+    ghost invariant = { λ r. Agrees r.open_parts (map wide_table r.tables.entries) (open_segment r.segment) (open_rule r.rule) (above r.lines.items) };
 }
 
 fn is_value(bytes: &[u8]) -> bool
     ensures { result ≡ is_value bytes.now }
 {
     !bytes.is_empty() && is_canonical(bytes)
+}
+
+fn are_values(all: &[&[u8]]) -> bool
+    ensures { result ≡ list_all is_value (now_all all.now) }
+{
+    for value in all {
+        if !is_value(value) {
+            return false;
+        }
+    }
+    true
 }
 
 fn is_stray(repeated: bool, made: &Leaf) -> bool
@@ -72,13 +83,23 @@ fn is_stray(repeated: bool, made: &Leaf) -> bool
     }
 }
 
-fn is_unknown(tables: &IndexMap<Vec<u8>, Table>, made: &Leaf) -> bool
-    ensures { result ≡ spec.is_unknown (table_names (map table tables.now.entries)) (leaf made.now) }
+fn is_unknown(tables: &IndexMap<Vec<u8>, Wide>, made: &Leaf) -> bool
+    ensures { result ≡ spec.is_unknown (map wide_table tables.now.entries) (leaf made.now) }
 {
     match made {
         Leaf::Const(_) => false,
         Leaf::Copy(_) => false,
-        Leaf::Lookup(name, _) => !knows(tables, name),
+        Leaf::Lookup(name, _) => !is_known(tables, name),
+    }
+}
+
+fn is_early(second: bool, made: &Leaf) -> bool
+    ensures { result ≡ spec.is_early second (leaf made.now) }
+{
+    match made {
+        Leaf::Const(_) => false,
+        Leaf::Copy(_) => false,
+        Leaf::Lookup(name, _) => !second && after_first_byte(b'.', name).is_some(),
     }
 }
 
@@ -103,19 +124,19 @@ fn own_leaf(made: &Rule) -> &[LeafRule]
     }
 }
 
-fn any_stray(leaves: &[LeafRule]) -> bool
-    ensures { result ≡ list_any (λ l. spec.is_stray false l.leaf) (map leaf_value leaves.now) }
+fn any_stray(second: bool, leaves: &[LeafRule]) -> bool
+    ensures { result ≡ list_any (λ l. spec.is_stray false l.leaf || spec.is_early second l.leaf) (map leaf_value leaves.now) }
 {
     for own in leaves {
-        if is_stray(false, &own.leaf) {
+        if is_stray(false, &own.leaf) || is_early(second, &own.leaf) {
             return true;
         }
     }
     false
 }
 
-fn any_unknown(tables: &IndexMap<Vec<u8>, Table>, leaves: &[LeafRule]) -> bool
-    ensures { result ≡ list_any (λ l. spec.is_unknown (table_names (map table tables.now.entries)) l.leaf) (map leaf_value leaves.now) }
+fn any_unknown(tables: &IndexMap<Vec<u8>, Wide>, leaves: &[LeafRule]) -> bool
+    ensures { result ≡ list_any (λ l. spec.is_unknown (map wide_table tables.now.entries) l.leaf) (map leaf_value leaves.now) }
 {
     for own in leaves {
         if is_unknown(tables, &own.leaf) {
@@ -197,6 +218,16 @@ impl<'a> Reader<'a> {
         }
     }
 
+    fn language_fault(&self, at: u32) -> Option<MapFault>
+        ensures { result ≡ first_of (spec.language_tests self.now at) }
+    {
+        if self.lines.len() == 1 {
+            None
+        } else {
+            Some(MapFault::Syntax(at))
+        }
+    }
+
     fn table_fault(&self, at: u32, name: &[u8]) -> Option<MapFault>
         ensures { result ≡ first_of (spec.table_tests self.now at name.now) }
     {
@@ -209,13 +240,20 @@ impl<'a> Reader<'a> {
         None
     }
 
-    fn row_fault(&self, at: u32, first: &[u8], second: &[u8]) -> Option<MapFault>
-        ensures { result ≡ first_of (spec.row_tests self.now at (row_of first.now second.now)) }
+    // Whether a row or `else` with so many values would belong to a table.
+    fn takes_values(&self, count: usize) -> bool
+        ensures { result ≡ spec.takes_values self.now count }
     {
-        if !self.open_parts.in_table {
+        self.open_parts.in_table && fits(self.open_parts.second, &self.tables, count)
+    }
+
+    fn row_fault(&self, at: u32, first: &[u8], seconds: &[&[u8]]) -> Option<MapFault>
+        ensures { result ≡ first_of (spec.row_tests self.now at (wide_row_of first.now (now_all seconds.now))) }
+    {
+        if !self.takes_values(seconds.len()) {
             return Some(MapFault::Syntax(at));
         }
-        if !(is_value(first) && is_value(second)) {
+        if !(is_value(first) && are_values(seconds)) {
             return Some(MapFault::BadConstant(at));
         }
         if has_row(&self.tables, first) {
@@ -224,13 +262,13 @@ impl<'a> Reader<'a> {
         None
     }
 
-    fn else_fault(&self, at: u32, value: &[u8]) -> Option<MapFault>
-        ensures { result ≡ first_of (spec.else_tests self.now at value.now) }
+    fn else_fault(&self, at: u32, values: &[&[u8]]) -> Option<MapFault>
+        ensures { result ≡ first_of (spec.else_tests self.now at (now_all values.now)) }
     {
-        if !self.open_parts.in_table {
+        if !self.takes_values(values.len()) {
             return Some(MapFault::Syntax(at));
         }
-        if !is_value(value) {
+        if !are_values(values) {
             return Some(MapFault::BadConstant(at));
         }
         if has_other(&self.tables) {
@@ -253,7 +291,7 @@ impl<'a> Reader<'a> {
         ensures { result ≡ first_of (spec.rule_tests self.now at (rule made.now)) }
     {
         let own = own_leaf(made);
-        if is_misplaced(made.field(), &self.segment) || any_stray(own) {
+        if is_misplaced(made.field(), &self.segment) || any_stray(self.open_parts.second, own) {
             return Some(MapFault::Syntax(at));
         }
         if any_unknown(&self.tables, own) {
@@ -271,7 +309,9 @@ impl<'a> Reader<'a> {
     fn leaf_fault(&self, at: u32, made: &LeafRule) -> Option<MapFault>
         ensures { result ≡ first_of (spec.leaf_tests self.now at (leaf_value made.now)) }
     {
-        if is_misplaced_leaf(&made.leaf, &self.rule) {
+        if is_misplaced_leaf(&made.leaf, &self.rule)
+            || is_early(self.open_parts.second, &made.leaf)
+        {
             return Some(MapFault::Syntax(at));
         }
         if is_unknown(&self.tables, &made.leaf) {
@@ -324,9 +364,10 @@ impl<'a> Reader<'a> {
     {
         match whole {
             Line::Begins(_, _, _, _) => self.begins_fault(at),
+            Line::Language => self.language_fault(at),
             Line::Table(name) => self.table_fault(at, name),
-            Line::Rows(first, second) => self.row_fault(at, first, second),
-            Line::Else(value) => self.else_fault(at, value),
+            Line::Rows(first, seconds) => self.row_fault(at, first, seconds),
+            Line::Else(values) => self.else_fault(at, values),
             Line::Segment(_, _, _) => self.segment_fault(at),
             Line::Makes(rule) => self.rule_fault(at, rule),
             Line::At(leaf) => self.leaf_fault(at, leaf),
@@ -396,10 +437,11 @@ impl<'a> Reader<'a> {
         let Reader {
             alloc,
             lines,
+            open_parts,
             tables,
             ..
         } = self;
-        map_of(alloc, lines, tables)
+        map_of(alloc, open_parts.second, lines, &tables)
     }
 }
 
@@ -407,16 +449,16 @@ impl<'a> Reader<'a> {
 fn take_in<'a>(
     alloc: Global,
     lines: &mut Vec<Line<'a>>,
-    tables: &mut IndexMap<Vec<u8>, Table>,
+    tables: &mut IndexMap<Vec<u8>, Wide>,
     segment: &mut Option<OpenSegment>,
     rule: &mut Option<OpenRule>,
     whole: Line<'a>,
 ) -> Result<(), AllocError>
-    requires table { IsNewTable (map table tables.old.entries) (line whole) }
+    requires table { IsNewTable (map wide_table tables.old.entries) (line whole) }
     requires field { IsNewField (open_segment segment.old) (line whole) }
     requires place { IsNewPlace (open_rule rule.old) (line whole) }
     ensures lines { OnOk result (above lines.new.items ≡ line whole.entry ∷ above lines.old.items) }
-    ensures tables { OnOk result (map table tables.new.entries ≡ spec.tables_below (line whole.entry) (map table tables.old.entries)) }
+    ensures tables { OnOk result (map wide_table tables.new.entries ≡ spec.wide_below (line whole.entry) (map wide_table tables.old.entries)) }
     ensures segment { OnOk result (open_segment segment.new ≡ spec.segment_below (line whole.entry) (open_segment segment.old)) }
     ensures rule { OnOk result (open_rule rule.new ≡ spec.rule_below (line whole.entry) (open_rule rule.old)) }
 {
@@ -428,15 +470,15 @@ fn take_in<'a>(
 // Updates the tables and what is open by a line.
 fn open_below(
     alloc: Global,
-    tables: &mut IndexMap<Vec<u8>, Table>,
+    tables: &mut IndexMap<Vec<u8>, Wide>,
     segment: &mut Option<OpenSegment>,
     rule: &mut Option<OpenRule>,
     whole: &Line,
 ) -> Result<(), AllocError>
-    requires table { IsNewTable (map table tables.old.entries) (line whole.now) }
+    requires table { IsNewTable (map wide_table tables.old.entries) (line whole.now) }
     requires field { IsNewField (open_segment segment.old) (line whole.now) }
     requires place { IsNewPlace (open_rule rule.old) (line whole.now) }
-    ensures tables { OnOk result (map table tables.new.entries ≡ spec.tables_below (line whole.now) (map table tables.old.entries)) }
+    ensures tables { OnOk result (map wide_table tables.new.entries ≡ spec.wide_below (line whole.now) (map wide_table tables.old.entries)) }
     ensures segment { OnOk result (open_segment segment.new ≡ spec.segment_below (line whole.now) (open_segment segment.old)) }
     ensures rule { OnOk result (open_rule rule.new ≡ spec.rule_below (line whole.now) (open_rule rule.old)) }
 {

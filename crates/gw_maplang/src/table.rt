@@ -61,13 +61,6 @@ impl Table {
         Ok(())
     }
 
-    /// Whether there is a row of this value. It takes no memory.
-    pub(crate) fn has_row(&self, value: &[u8]) -> bool
-        ensures { result ≡ is_among value.now (map (λ r. r.first) self.now.rows) }
-    {
-        self.rows.contains_key(value)
-    }
-
     /// The rows, in order. It takes no memory.
     pub fn rows(&self) -> &IndexMap<Vec<u8>, Vec<u8>>
         ensures { map row result.now.entries ≡ self.now.rows }

@@ -1,25 +1,27 @@
 //! The whole map, after all of its lines.
 ghost use Rattle.std.specs.Prelude.{◌≡◌, map, IfOk, false};
-ghost use Rattle.gw_maplang.specs.Fault.{tables as tables_of};
-ghost use Rattle.gw_maplang.specs.Seen.{above, table, map_value};
+ghost use Rattle.gw_maplang.specs.Fault.{is_second, wide_tables};
+ghost use Rattle.gw_maplang.specs.Seen.{above, wide_table, map_value};
 ghost use Rattle.gw_lines.specs.Grammar.{AllTaken};
 ghost use Rattle.gw_maplang.specs.Fault.{grammar};
 ghost use Rattle.gw_maplang.specs.Whole as spec;
 
 use crate::build::{Built, Head, build, head_of};
+use crate::columns::{Wide, columns};
 use crate::form::Line;
 use crate::map::Map;
-use crate::table::Table;
 use indexmap::IndexMap;
 use std::alloc::{AllocError, Global};
 
 /// The map that these lines spell. No group or flat is open.
 pub(crate) fn map_of(
     alloc: Global,
+    second: bool,
     lines: Vec<Line>,
-    tables: IndexMap<Vec<u8>, Table>,
+    tables: &IndexMap<Vec<u8>, Wide>,
 ) -> Result<Map, AllocError>
-    requires tables { map table tables.entries ≡ tables_of (above lines.items) }
+    requires second { second ≡ is_second (above lines.items) }
+    requires tables { map wide_table tables.now.entries ≡ wide_tables (above lines.items) }
     requires taken { AllTaken grammar (above lines.items) }
     requires closed { spec.is_unclosed (above lines.items) ≡ false }
     ensures { IfOk result (λ m. map_value m ≡ spec.map_of (above lines.entry.items)) }
@@ -30,6 +32,7 @@ pub(crate) fn map_of(
         source,
         target,
     } = head_of(alloc, &lines)?;
+    let tables = columns(alloc, second, tables)?;
     let Built { items, drops } = build(alloc, lines)?;
     Ok(Map {
         name,

@@ -8,7 +8,7 @@ use Rattle.std.proofs.lemmas.List.Quantifiers.{position-Some}
 use Rattle.std.proofs.lemmas.Iterator.Adapters.{position_from-zero}
 use Rattle.std.proofs.lemmas.Bool.{eqb-true}
 use Rattle.std.proofs.lemmas.Slice.Eq.{bytes_eq-Decides}
-use Rattle.gw_plan.specs.Index.{Key, is_key, at, IsPair, IsIndexed, number_if_some, number_for}
+use Rattle.gw_plan.specs.Index.{Key, at}
 
 pub none_some : {A X : Type 0} {x : X} (o : Option X) → o ≡ None → o ≡ Some x → A
 none_some o none some = absurd (cc)
@@ -43,12 +43,6 @@ zip_any t u [] (y ∷ ys) z = absurd z
 zip_any t u (x ∷ xs) [] z = absurd z
 zip_any t u (x ∷ xs) (y ∷ ys) z = ap₂ (λ a b. a || b) z.0 (zip_any t u xs ys z.1)
 
-pub zip_from : {A B : Type 0} (t : A → Bool) (u : B → Bool) (n : ℕ) (xs : List A) (ys : List B) → AllZip (λ x y. t x ≡ u y) xs ys → position_from t n xs ≡ position_from u n ys
-zip_from t u n [] [] z = refl
-zip_from t u n [] (y ∷ ys) z = absurd z
-zip_from t u n (x ∷ xs) [] z = absurd z
-zip_from t u n (x ∷ xs) (y ∷ ys) z = ap₂ (λ b o. if b then Some n else o) z.0 (zip_from t u (n + 1) xs ys z.1)
-
 pub none_from : {A : Type 0} (t : A → Bool) (n : ℕ) (xs : List A) → list_any t xs ≡ false → position_from t n xs ≡ None
 none_from t n [] e = refl
 none_from t n (x ∷ xs) e = by (t x) e (none_from t (n + 1) xs)
@@ -58,69 +52,30 @@ none_from t n (x ∷ xs) e = by (t x) e (none_from t (n + 1) xs)
     by false e next = next e
 
 -- each pair and key with what follows of them
-zip_map : {A B : Type 0} {P Q : A → B → Type 0} (xs : List A) (ys : List B) → ((x : A) (y : B) → P x y → Q x y) → AllZip P xs ys → AllZip Q xs ys
+pub zip_map : {A B : Type 0} {P Q : A → B → Type 0} (xs : List A) (ys : List B) → ((x : A) (y : B) → P x y → Q x y) → AllZip P xs ys → AllZip Q xs ys
 zip_map [] [] f z = z
 zip_map [] (y ∷ ys) f z = absurd z
 zip_map (x ∷ xs) [] f z = absurd z
 zip_map (x ∷ xs) (y ∷ ys) f z = (f x y z.0, zip_map xs ys f z.1)
 
-zip_push : {A B : Type 0} (P : A → B → Type 0) (xs : List A) (ys : List B) (x : A) (y : B) → AllZip P xs ys → P x y → AllZip P (xs ++ x ∷ []) (ys ++ y ∷ [])
+pub zip_push : {A B : Type 0} (P : A → B → Type 0) (xs : List A) (ys : List B) (x : A) (y : B) → AllZip P xs ys → P x y → AllZip P (xs ++ x ∷ []) (ys ++ y ∷ [])
 zip_push P [] [] x y z p = (p, tt)
 zip_push P [] (k ∷ ys) x y z p = absurd z
 zip_push P (k ∷ xs) [] x y z p = absurd z
 zip_push P (k ∷ xs) (l ∷ ys) x y z p = (z.0, zip_push P xs ys x y z.1 p)
 
--- ---- what is found
+-- ---- a word that stands among words
 
-no_code : (code : List ℕ) (codes events : List (Vec ℕ)) (pairs : List (ℕ × ℕ)) (keys : List Key) → at code codes ≡ None → AllZip (IsPair codes events) pairs keys → list_any (λ k. bytes_eq code k.code) keys ≡ false
-no_code code codes events [] [] none z = refl
-no_code code codes events [] (k ∷ keys) none z = absurd z
-no_code code codes events (p ∷ pairs) [] none z = absurd z
-no_code code codes events (p ∷ pairs) (k ∷ keys) none z = by (bytes_eq code k.code) refl (no_code code codes events pairs keys none z.1)
-  where
-    by : (b : Bool) → bytes_eq code k.code ≡ b → list_any (λ k. bytes_eq code k.code) keys ≡ false → b || list_any (λ k. bytes_eq code k.code) keys ≡ false
-    by true e next = none_some (at code codes) none (ap (λ w. at w codes) ((bytes_eq-Decides code k.code).0 e) ∙ z.0.code)
-    by false e next = next
+pub placed : (word : List ℕ) (words : List (Vec ℕ)) (o : Option ℕ) → position (λ k. bytes_eq word k.items) words ≡ o → at word words ≡ o
+placed word words o e = sym (position_from-zero (λ (k : Vec ℕ). bytes_eq word k.items) words) ∙ e
 
-no_event : (code event : List ℕ) (codes events : List (Vec ℕ)) (pairs : List (ℕ × ℕ)) (keys : List Key) → at event events ≡ None → AllZip (IsPair codes events) pairs keys → list_any (is_key code event) keys ≡ false
-no_event code event codes events [] [] none z = refl
-no_event code event codes events [] (k ∷ keys) none z = absurd z
-no_event code event codes events (p ∷ pairs) [] none z = absurd z
-no_event code event codes events (p ∷ pairs) (k ∷ keys) none z = by (bytes_eq code k.code) (bytes_eq event k.event) refl (no_event code event codes events pairs keys none z.1)
-  where
-    by : (a b : Bool) → bytes_eq event k.event ≡ b → list_any (is_key code event) keys ≡ false → (a && b) || list_any (is_key code event) keys ≡ false
-    by true true e next = none_some (at event events) none (ap (λ w. at w events) ((bytes_eq-Decides event k.event).0 e) ∙ z.0.event)
-    by true false e next = next
-    by false b e next = next
-
-some_code : (code : List ℕ) (keys : List Key) (n i : ℕ) (codes : List (Vec ℕ)) → position_from (λ k. bytes_eq code k.items) n codes ≡ Some i → AllByRecursion (λ c. list_any (λ k. bytes_eq c.items k.code) keys ≡ true) codes → list_any (λ k. bytes_eq code k.code) keys ≡ true
+pub some_code : (code : List ℕ) (keys : List Key) (n i : ℕ) (codes : List (Vec ℕ)) → position_from (λ k. bytes_eq code k.items) n codes ≡ Some i → AllByRecursion (λ c. list_any (λ k. bytes_eq c.items k.code) keys ≡ true) codes → list_any (λ k. bytes_eq code k.code) keys ≡ true
 some_code code keys n i [] a used = none_some None refl a
 some_code code keys n i (c ∷ codes) a used = by (bytes_eq code c.items) refl a (λ e. some_code code keys (n + 1) i codes e used.1)
   where
     by : (b : Bool) → bytes_eq code c.items ≡ b → (if b then Some n else position_from (λ k. bytes_eq code k.items) (n + 1) codes) ≡ Some i → (position_from (λ k. bytes_eq code k.items) (n + 1) codes ≡ Some i → list_any (λ k. bytes_eq code k.code) keys ≡ true) → list_any (λ k. bytes_eq code k.code) keys ≡ true
     by true e a next = subst (λ w. list_any (λ k. bytes_eq w k.code) keys ≡ true) (sym ((bytes_eq-Decides code c.items).0 e)) used.0
     by false e a next = next a
-
--- the pair of numbers of two words is that of a key exactly where the words are
-pair_test : (code event : List ℕ) (codes events : List (Vec ℕ)) (i j : ℕ) → at code codes ≡ Some i → at event events ≡ Some j → (p : ℕ × ℕ) (k : Key) → IsPair codes events p k → (nat_eq i p.0 && nat_eq j p.1) ≡ is_key code event k
-pair_test code event codes events i j a b p k z = ap₂ (λ x y. x && y) (word_test code k.code codes i p.0 a z.code) (word_test event k.event events j p.1 b z.event)
-
-pub finds_no_code : (code event : List ℕ) (codes events : List (Vec ℕ)) (pairs : List (ℕ × ℕ)) (keys : List Key) → IsIndexed codes events pairs keys → position (λ k. bytes_eq code k.items) codes ≡ None → Err 200 ≡ number_for code event keys
-finds_no_code code event codes events pairs keys x none =
-    sym (ap (λ b. if b then number_if_some (position_from (is_key code event) 0 keys) else Err 200) (no_code code codes events pairs keys (sym (position_from-zero (λ (k : Vec ℕ). bytes_eq code k.items) codes) ∙ none) x.pairs_are))
-
--- the numbers of the words are these, or the event's is none
-pub finds_no_event : (code event : List ℕ) (codes events : List (Vec ℕ)) (pairs : List (ℕ × ℕ)) (keys : List Key) (i : ℕ) → IsIndexed codes events pairs keys → position (λ k. bytes_eq code k.items) codes ≡ Some i → position (λ k. bytes_eq event k.items) events ≡ None → Err 201 ≡ number_for code event keys
-finds_no_event code event codes events pairs keys i x some none =
-    sym (ap (λ b. if b then number_if_some (position_from (is_key code event) 0 keys) else Err 200) (some_code code keys 0 i codes (sym (position_from-zero (λ (k : Vec ℕ). bytes_eq code k.items) codes) ∙ some) x.used)
-    ∙ ap number_if_some (none_from (is_key code event) 0 keys (no_event code event codes events pairs keys (sym (position_from-zero (λ (k : Vec ℕ). bytes_eq event k.items) events) ∙ none) x.pairs_are)))
-
-pub finds_pair : (code event : List ℕ) (codes events : List (Vec ℕ)) (pairs : List (ℕ × ℕ)) (keys : List Key) (i j : ℕ) → IsIndexed codes events pairs keys → position (λ k. bytes_eq code k.items) codes ≡ Some i → position (λ k. bytes_eq event k.items) events ≡ Some j
-    → number_if_some (position (λ p. nat_eq i p.0 && nat_eq j p.1) pairs) ≡ number_for code event keys
-finds_pair code event codes events pairs keys i j x a b =
-    ap number_if_some (position_from-zero (λ (p : ℕ × ℕ). nat_eq i p.0 && nat_eq j p.1) pairs
-    ∙ zip_from (λ (p : ℕ × ℕ). nat_eq i p.0 && nat_eq j p.1) (is_key code event) 0 pairs keys (zip_map pairs keys (pair_test code event codes events i j (sym (position_from-zero (λ (k : Vec ℕ). bytes_eq code k.items) codes) ∙ a) (sym (position_from-zero (λ (k : Vec ℕ). bytes_eq event k.items) events) ∙ b)) x.pairs_are))
-    ∙ sym (ap (λ b. if b then number_if_some (position_from (is_key code event) 0 keys) else Err 200) (some_code code keys 0 i codes (sym (position_from-zero (λ (k : Vec ℕ). bytes_eq code k.items) codes) ∙ a) x.used))
 
 -- ---- one word more, where it isn't there yet
 
@@ -132,11 +87,11 @@ append_from t n i (x ∷ xs) ys e = by (t x) e (append_from t (n + 1) i xs ys)
     by true e next = e
     by false e next = next e
 
-abbrev grown : List (Vec ℕ) → Vec ℕ → List (Vec ℕ)
+abbrev pub grown : List (Vec ℕ) → Vec ℕ → List (Vec ℕ)
 grown words word = insert_key (λ x y. bytes_eq x.items y.items) words word
 
 -- a word keeps its number
-kept_at : (other : List ℕ) (words : List (Vec ℕ)) (word : Vec ℕ) (i : ℕ) → at other words ≡ Some i → at other (grown words word) ≡ Some i
+pub kept_at : (other : List ℕ) (words : List (Vec ℕ)) (word : Vec ℕ) (i : ℕ) → at other words ≡ Some i → at other (grown words word) ≡ Some i
 kept_at other words word i e = by (list_any (λ k. bytes_eq word.items k.items) words)
   where
     by : (b : Bool) → at other (if b then words else words ++ word ∷ []) ≡ Some i
@@ -172,7 +127,7 @@ none_len t (y ∷ xs) e = by (t y) e (none_len t xs)
     by false e next = ap (λ n. 1 + n) (next e) ∙ omega arith
 
 -- a word that is put has the number that is given
-put_at : (words : List (Vec ℕ)) (word : Vec ℕ) → at word.items (grown words word) ≡ Some (position_or_len (λ k. bytes_eq word.items k.items) words)
+pub put_at : (words : List (Vec ℕ)) (word : Vec ℕ) → at word.items (grown words word) ≡ Some (position_or_len (λ k. bytes_eq word.items k.items) words)
 put_at words word = by (list_any (λ k. bytes_eq word.items k.items) words) refl
   where
     by : (b : Bool) → list_any (λ k. bytes_eq word.items k.items) words ≡ b → at word.items (if b then words else words ++ word ∷ []) ≡ Some (position_or_len (λ k. bytes_eq word.items k.items) words)
@@ -204,66 +159,9 @@ all_push : {A : Type 0} (P : A → Type 0) (xs : List A) (x : A) → AllByRecurs
 all_push P [] x all p = (p, tt)
 all_push P (y ∷ xs) x all p = (all.0, all_push P xs x all.1 p)
 
-used_put : (codes : List (Vec ℕ)) (code : Vec ℕ) (keys : List Key) (key : Key) → key.code ≡ code.items → AllByRecursion (λ c. list_any (λ k. bytes_eq c.items k.code) keys ≡ true) codes → AllByRecursion (λ c. list_any (λ k. bytes_eq c.items k.code) (keys ++ key ∷ []) ≡ true) (grown codes code)
+pub used_put : (codes : List (Vec ℕ)) (code : Vec ℕ) (keys : List Key) (key : Key) → key.code ≡ code.items → AllByRecursion (λ c. list_any (λ k. bytes_eq c.items k.code) keys ≡ true) codes → AllByRecursion (λ c. list_any (λ k. bytes_eq c.items k.code) (keys ++ key ∷ []) ≡ true) (grown codes code)
 used_put codes code keys key e used = by (list_any (λ k. bytes_eq code.items k.items) codes)
   where
     by : (b : Bool) → AllByRecursion (λ c. list_any (λ k. bytes_eq c.items k.code) (keys ++ key ∷ []) ≡ true) (if b then codes else codes ++ code ∷ [])
     by true = used_on codes keys key used
     by false = all_push (λ c. list_any (λ k. bytes_eq c.items k.code) (keys ++ key ∷ []) ≡ true) codes code (used_on codes keys key used) (any_last (λ k. bytes_eq code.items k.code) keys key ((bytes_eq-Decides code.items key.code).1 (sym e)))
-
-abbrev pub pair_eq : ℕ × ℕ → ℕ × ℕ → Bool
-pair_eq x y = nat_eq x.0 y.0 && nat_eq x.1 y.1
-
--- with the pair of a route that isn't there yet
-pub indexed_put : (codes events : List (Vec ℕ)) (pairs : List (ℕ × ℕ)) (keys : List Key) (code event : Vec ℕ) (key : Key) (i j : ℕ) → key.code ≡ code.items → key.event ≡ event.items
-    → i ≡ position_or_len (λ k. bytes_eq code.items k.items) codes → j ≡ position_or_len (λ k. bytes_eq event.items k.items) events
-    → list_any (is_key key.code key.event) keys ≡ false → IsIndexed codes events pairs keys
-    → IsIndexed (grown codes code) (grown events event) (insert_key pair_eq pairs (i, j)) (keys ++ key ∷ [])
-indexed_put codes events pairs keys code event key i j ec ee ei ej new x = record {
-  pairs_are = subst (λ b. AllZip (IsPair (grown codes code) (grown events event)) (if b then pairs else pairs ++ (i, j) ∷ []) (keys ++ key ∷ [])) (sym unknown)
-      (zip_push (IsPair (grown codes code) (grown events event)) pairs keys (i, j) key moved (record { code = has_code; event = has_event }));
-  used = used_put codes code keys key ec x.used;
-}
-  where
-    has_code : at key.code (grown codes code) ≡ Some i
-    has_code = ap (λ w. at w (grown codes code)) ec ∙ put_at codes code ∙ ap Some (sym ei)
-
-    has_event : at key.event (grown events event) ≡ Some j
-    has_event = ap (λ w. at w (grown events event)) ee ∙ put_at events event ∙ ap Some (sym ej)
-
-    moved : AllZip (IsPair (grown codes code) (grown events event)) pairs keys
-    moved = zip_map pairs keys (λ p k z. record { code = kept_at k.code codes code p.0 z.code; event = kept_at k.event events event p.1 z.event }) x.pairs_are
-
-    unknown : list_any (pair_eq (i, j)) pairs ≡ false
-    unknown = zip_any (pair_eq (i, j)) (is_key key.code key.event) pairs keys (zip_map pairs keys (pair_test key.code key.event (grown codes code) (grown events event) i j has_code has_event) moved) ∙ new
-
--- ---- whether one is found
-
-is_found : {A : Type 0} (t : A → Bool) (n : ℕ) (xs : List A) → is_some (position_from t n xs) ≡ list_any t xs
-is_found t n [] = refl
-is_found t n (x ∷ xs) = by (t x) (is_found t (n + 1) xs)
-  where
-    by : (b : Bool) → is_some (position_from t (n + 1) xs) ≡ list_any t xs → is_some (if b then Some n else position_from t (n + 1) xs) ≡ b || list_any t xs
-    by true h = refl
-    by false h = h
-
-no_key : (code event : List ℕ) (keys : List Key) → list_any (λ k. bytes_eq code k.code) keys ≡ false → list_any (is_key code event) keys ≡ false
-no_key code event [] e = refl
-no_key code event (k ∷ keys) e = by (bytes_eq code k.code) e (no_key code event keys)
-  where
-    by : (b : Bool) → b || list_any (λ k. bytes_eq code k.code) keys ≡ false → (list_any (λ k. bytes_eq code k.code) keys ≡ false → list_any (is_key code event) keys ≡ false)
-        → (b && bytes_eq event k.event) || list_any (is_key code event) keys ≡ false
-    by true e next = absurd (cc)
-    by false e next = next e
-
-ok_if_some : (o : Option ℕ) → is_ok (number_if_some o) ≡ is_some o
-ok_if_some None = refl
-ok_if_some (Some n) = refl
-
--- a number is found exactly for a key that is there
-pub has_key : (code event : List ℕ) (keys : List Key) → is_ok (number_for code event keys) ≡ list_any (is_key code event) keys
-has_key code event keys = by (list_any (λ k. bytes_eq code k.code) keys) refl
-  where
-    by : (b : Bool) → list_any (λ k. bytes_eq code k.code) keys ≡ b → is_ok (if b then number_if_some (position_from (is_key code event) 0 keys) else Err 200) ≡ list_any (is_key code event) keys
-    by true e = ok_if_some (position_from (is_key code event) 0 keys) ∙ is_found (is_key code event) 0 keys
-    by false e = sym (no_key code event keys e)

@@ -1,4 +1,9 @@
 pub mod Keys
+pub mod Soonest
+pub mod Slots
+pub mod Finding
+pub mod Adding
+pub mod Cutting
 pub mod Routes
 pub mod Sendings
 pub mod Alike

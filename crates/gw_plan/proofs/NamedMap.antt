@@ -10,8 +10,8 @@ use Rattle.gw_lines.proofs.Taken.{taken_by, spelled_accepts}
 use Rattle.gw_maplang.specs.declared.fault.MapFault.{MapFault}
 use Rattle.gw_maplang.specs.declared.fault.MapFault.TheVariants.{Syntax, TooLarge}
 use Rattle.gw_maplang.specs.Shapes.{MapValue}
-use Rattle.gw_maplang.specs.Line.{Line, Begins, Table, Rows, Else, Segment, Makes, At, Each, End, Drops, path_of, place_of, drop_of, plain_at, text_at, source_at, made_from, own_leaves}
-use Rattle.gw_maplang.specs.Line.{leaf_form, map_form, table_form, row_form, else_form, segment_form, copies_form, firsts_form, repeats_form, builds_form, at_form, each_form, group_form}
+use Rattle.gw_maplang.specs.Line.{Line, Begins, Language, Table, Rows, Else, Segment, Makes, At, Each, End, Drops, path_of, place_of, drop_of, plain_at, text_at, some_texts, source_at, made_from, own_leaves}
+use Rattle.gw_maplang.specs.Line.{leaf_form, map_form, language_form, table_form, row_form, else_form, segment_form, copies_form, firsts_form, repeats_form, builds_form, at_form, each_form, group_form}
 use Rattle.gw_maplang.specs.Line.{drop_form, rule_form, form}
 use Rattle.gw_maplang.specs.Fault.{grammar, tests, takes}
 use Rattle.gw_maplang.specs.Value.{head}
@@ -29,6 +29,7 @@ use Rattle.gw_plan.proofs.Earliest.{none_of_both, none_beside}
 -- the words that say the name of a map
 abbrev Says : List Word → Line → Type 0
 Says ws (Begins at name source target) = (n : ℕ) → map_header_of (n, ws) ≡ Some (record { line = n; name = name; source = source; target = target })
+Says ws Language = Unit {0}
 Says ws (Table name) = Unit {0}
 Says ws (Rows row) = Unit {0}
 Says ws (Else value) = Unit {0}
@@ -99,16 +100,16 @@ form_says at [] = tt
 form_says at (w ∷ more) =
     let P = Says (w ∷ more) in
     keyword_gives P (is_keyword (codes "map") w) (map_form at more) _ (begins_says at w more)
+    (either_gives P (is_keyword (codes "language") w) (language_form more) _ (after (w ∷ more) (behind (codes "2") more) _ (λ m. with_all_is P m Language tt))
     (either_gives P (is_keyword (codes "table") w) (table_form more) _ (after (w ∷ more) (name_at more) _ (λ n. with_all_is P n.1 (Table n.0) tt))
-    (either_gives P (is_keyword (codes "row") w) (row_form more) _ (after (w ∷ more) (text_at more) _ (λ a. after (w ∷ more) (text_at a.1) _
-    (λ b. with_all_is P b.1 (Rows (record { first = a.0; second = b.0 })) tt)))
-    (either_gives P (is_keyword (codes "else") w) (else_form more) _ (after (w ∷ more) (text_at more) _ (λ a. with_all_is P a.1 (Else a.0) tt))
+    (either_gives P (is_keyword (codes "row") w) (row_form more) _ (after (w ∷ more) (text_at more) _ (λ a. after (w ∷ more) (some_texts a.1) _ (λ b. tt)))
+    (either_gives P (is_keyword (codes "else") w) (else_form more) _ (after (w ∷ more) (some_texts more) _ (λ a. tt))
     (either_gives P (is_keyword (codes "segment") w) (segment_form at more) _ (after (w ∷ more) (name_at more) _ (λ l. after (w ∷ more) (source_at l.1) _
     (λ s. with_all_is P s.1 (Segment at l.0 s.0) tt)))
     (either_gives P (is_keyword (codes "group") w) (group_form at more) _ (after (w ∷ more) (name_at more) _ (λ l. each_says (w ∷ more) at (Some l.0) l.1))
     (either_gives P (is_keyword (codes "flat") w) (each_form at None more) _ (each_says (w ∷ more) at None more)
     (either_gives P (is_keyword (codes "end") w) (with_all more End) _ (with_all_is P more End tt)
-    (either_gives P (is_keyword (codes "drop") w) (drop_form at more) _ (after (w ∷ more) (plain_at (drop_of at) more) _ (λ d. with_all_is P d.1 (Drops d.0) tt)) (rule_says at w more)))))))))
+    (either_gives P (is_keyword (codes "drop") w) (drop_form at more) _ (after (w ∷ more) (plain_at (drop_of at) more) _ (λ d. with_all_is P d.1 (Drops d.0) tt)) (rule_says at w more))))))))))
 
 -- what the first line of a map says
 pub record Started (line : Line) : Type 0 where
@@ -120,6 +121,7 @@ pub record Started (line : Line) : Type 0 where
 
 first_begins : (n : ℕ) (line : Line) → first_of (tests [] n line) ≡ None → Started line
 first_begins n (Begins at name source target) e = record { at = at; name = name; source = source; target = target; is = refl }
+first_begins n Language e = absurd (cc)
 first_begins n (Table name) e = absurd (cc)
 first_begins n (Rows row) e = absurd (cc)
 first_begins n (Else value) e = absurd (cc)

@@ -13,14 +13,16 @@ use Rattle.gw_plan.specs.declared.fault.PlanFault.TheVariants.{Syntax, Duplicate
 use Rattle.gw_plan.specs.Shapes.{ReceiverValue, MapBetween, Leg, RouteValue, PlanValue}
 use Rattle.gw_plan.specs.declared.form.Kind.{Kind}
 use Rattle.gw_plan.specs.declared.form.Kind.TheVariants.{Profile, Map}
-use Rattle.gw_plan.specs.Line.{Line, Begins, Receives, Versions, Processing, Opens, Routes, Delivers, form}
-use Rattle.gw_plan.specs.Draft.{Draft, nothing, closed, is_receiver, is_for, goes, receiver_number, map_named, profile_named, with_receiver, with_profile, with_route, with_map, with_leg, delivered, below, first, takes, plan_of}
+use Rattle.gw_plan.specs.Line.{Line, Begins, Widens, Receives, Versions, Processing, Opens, Routes, Delivers, form}
+use Rattle.gw_plan.specs.Draft.{Draft, nothing, closed, is_receiver, goes, receiver_number, map_named, profile_named, with_receiver, with_profile, with_route, widened, is_said, is_taken, with_map, with_leg, delivered, below, first, takes, plan_of}
 use Rattle.gw_plan.specs.Inner.{Inner, inner_profile, inner_map, with_inner_profile, with_inner_map, takes_part}
 use Rattle.gw_plan.specs.Whole.{Taken, inner, and_lines, lines_of_inner, takes_inner, takes_line, takes_words, takes_next, reads, begun, drafted, spelled, most_bytes, most_lines}
 use Rattle.gw_plan.specs.Within.{LegsWithin, RoutesWithin, IsWithin}
 use Rattle.gw_er7.specs.Message.{SegmentValue}
 use Rattle.gw_plan.specs.Held.{plan_value}
-use Rattle.gw_plan.specs.Routing.{header_text, is_code, is_accepted, route_for, admitted, routed}
+use Rattle.gw_plan.specs.Senders.{Senders, Header}
+use Rattle.gw_plan.specs.Routing as routing
+use Rattle.gw_plan.specs.Routing.{header_of, header_text, is_code, is_accepted, route_for, admitted, routed}
 use Rattle.gw_plan.specs.Admitted.{ConformingHeld, IsOf}
 
 -- the legs of all routes so far go to receivers so far
@@ -65,10 +67,10 @@ receiver_within d at name address h none = by (is_some (receiver_number d name))
       current = subst (λ (o : Option RouteValue). IfSome o (λ r. LegsWithin (length (d.receivers ++ record { name = name; address = address } ∷ [])) r.legs)) (sym none) tt;
     }
 
-route_within : (d : Draft) (at : ℕ) (code event : List ℕ) (found : Option ProfileValue) → RoutesWithin (length d.receivers) d.routes → IfOk (with_route d at code event found) Within
-route_within d at code event found h = by (list_any (is_for code event) d.routes) found
+route_within : (d : Draft) (at : ℕ) (code event : List ℕ) (senders : Option Senders) (found : Option ProfileValue) → RoutesWithin (length d.receivers) d.routes → IfOk (with_route d at code event senders found) Within
+route_within d at code event senders found h = by (is_taken code event senders d.routes) found
   where
-    by : (b : Bool) (found : Option ProfileValue) → IfOk (if b then Err (Duplicate at) else with_profile d at code event found) Within
+    by : (b : Bool) (found : Option ProfileValue) → IfOk (if b then Err (Duplicate at) else with_profile d at code event senders found) Within
     by true found = tt
     by false None = tt
     by false (Some profile) = record { routes = h; current = tt }
@@ -96,20 +98,30 @@ delivered_within d at (Some route) receiver map h k =
 
 below_within : (d : Draft) (at : ℕ) (line : Line) → Within d → IfOk (below d at line) Within
 below_within d at (Begins name) h = tt
+below_within d at Widens h = by d.fresh
+  where
+    by : (b : Bool) → IfOk (if b then Ok (record d { fresh = false; wide = true }) else Err (Syntax at)) Within
+    by true = record { routes = h.routes; current = h.current }
+    by false = tt
 below_within d at (Receives name address) h = receiver_within (closed d) at name address (closed_within d h).routes refl
 below_within d at (Versions accepted) h = record { routes = (closed_within d h).routes; current = tt }
 below_within d at (Processing accepted) h = record { routes = (closed_within d h).routes; current = tt }
 below_within d at (Opens kind) h = tt
-below_within d at (Routes code event profile) h = route_within (closed d) at code event (profile_named d profile) (closed_within d h).routes
+below_within d at (Routes code event senders profile) h = by (is_said d.wide senders)
+  where
+    by : (b : Bool) → IfOk (if b then with_route (closed d) at code event senders (profile_named d profile) else Err (Syntax at)) Within
+    by true = route_within (closed d) at code event senders (profile_named d profile) (closed_within d h).routes
+    by false = tt
 below_within d at (Delivers receiver map) h = delivered_within d at d.current receiver map h h.current
 
 first_within : (d : Draft) (at : ℕ) (line : Line) → Within d → IfOk (first d at line) Within
 first_within d at (Begins name) h = record { routes = h.routes; current = h.current }
+first_within d at Widens h = tt
 first_within d at (Receives name address) h = tt
 first_within d at (Versions accepted) h = tt
 first_within d at (Processing accepted) h = tt
 first_within d at (Opens kind) h = tt
-first_within d at (Routes code event profile) h = tt
+first_within d at (Routes code event senders profile) h = tt
 first_within d at (Delivers receiver map) h = tt
 
 takes_within : (d : Draft) (at : ℕ) (line : Line) → Within d → IfOk (takes d at line) Within
@@ -152,11 +164,12 @@ inner_within d at kind more h = by d.begun
 line_within : (d : Draft) (at : ℕ) (line : Option Line) (more : List (List ℕ)) → Within d → TakenWithin (takes_line d at line more)
 line_within d at None more h = tt
 line_within d at (Some (Begins name)) more h = counted_within 0 (takes d at (Begins name)) (takes_within d at (Begins name) h)
+line_within d at (Some Widens) more h = counted_within 0 (takes d at Widens) (takes_within d at Widens h)
 line_within d at (Some (Receives name address)) more h = counted_within 0 (takes d at (Receives name address)) (takes_within d at (Receives name address) h)
 line_within d at (Some (Versions accepted)) more h = counted_within 0 (takes d at (Versions accepted)) (takes_within d at (Versions accepted) h)
 line_within d at (Some (Processing accepted)) more h = counted_within 0 (takes d at (Processing accepted)) (takes_within d at (Processing accepted) h)
 line_within d at (Some (Opens kind)) more h = inner_within d at kind more h
-line_within d at (Some (Routes code event profile)) more h = counted_within 0 (takes d at (Routes code event profile)) (takes_within d at (Routes code event profile) h)
+line_within d at (Some (Routes code event senders profile)) more h = counted_within 0 (takes d at (Routes code event senders profile)) (takes_within d at (Routes code event senders profile) h)
 line_within d at (Some (Delivers receiver map)) more h = counted_within 0 (takes d at (Delivers receiver map)) (takes_within d at (Delivers receiver map) h)
 
 words_within : (d : Draft) (at : ℕ) (said : Option (List Word)) (more : List (List ℕ)) → Within d → TakenWithin (takes_words d at said more)
@@ -206,11 +219,11 @@ receiver_is count receiver (l ∷ legs) all e = by (nat_eq receiver l.0) refl e 
     by true same e next = subst (λ n. n < count) (sym (eqb-true receiver l.0 same)) all.0
     by false same e next = next e
 
-route_within_all : (count : ℕ) (code event : List ℕ) (routes : List RouteValue) (r : RouteValue) → RoutesWithin count routes → route_for code event routes ≡ Some r → LegsWithin count r.legs
-route_within_all count code event [] r all e = absurd (cc)
-route_within_all count code event (x ∷ routes) r all e = by (is_for code event x) e (route_within_all count code event routes r all.1)
+route_within_all : (count : ℕ) (code event : List ℕ) (header : Header) (routes : List RouteValue) (r : RouteValue) → RoutesWithin count routes → route_for code event header routes ≡ Some r → LegsWithin count r.legs
+route_within_all count code event header [] r all e = absurd (cc)
+route_within_all count code event header (x ∷ routes) r all e = by (routing.takes code event header x) e (route_within_all count code event header routes r all.1)
   where
-    by : (b : Bool) → (if b then Some x else route_for code event routes) ≡ Some r → (route_for code event routes ≡ Some r → LegsWithin count r.legs) → LegsWithin count r.legs
+    by : (b : Bool) → (if b then Some x else route_for code event header routes) ≡ Some r → (route_for code event header routes ≡ Some r → LegsWithin count r.legs) → LegsWithin count r.legs
     by true same next = let is : x ≡ r = cc in subst (λ (y : RouteValue). LegsWithin count y.legs) is all.0
     by false same next = next same
 
@@ -224,8 +237,8 @@ admitted_is false processing (Some x) r e = absurd (cc)
 routed_within : (p : PlanValue) (m : List SegmentValue) (r : RouteValue) → IsWithin p → routed p m ≡ Ok r → LegsWithin (length p.receivers) r.legs
 routed_within p m r h e = by (is_code (header_text m 9 1) p.routes) e
   where
-    by : (b : Bool) → (if b then admitted (is_accepted p.versions (header_text m 12 1)) (is_accepted p.processing (header_text m 11 1)) (route_for (header_text m 9 1) (header_text m 9 2) p.routes) else Err 200) ≡ Ok r → LegsWithin (length p.receivers) r.legs
-    by true same = route_within_all (length p.receivers) (header_text m 9 1) (header_text m 9 2) p.routes r h (admitted_is _ _ _ r same)
+    by : (b : Bool) → (if b then admitted (is_accepted p.versions (header_text m 12 1)) (is_accepted p.processing (header_text m 11 1)) (route_for (header_text m 9 1) (header_text m 9 2) (header_of m) p.routes) else Err 200) ≡ Ok r → LegsWithin (length p.receivers) r.legs
+    by true same = route_within_all (length p.receivers) (header_text m 9 1) (header_text m 9 2) (header_of m) p.routes r h (admitted_is _ _ _ r same)
     by false same = absurd (cc)
 
 pub of_receiver : (c : ConformingHeld) (receiver : ℕ) → IsWithin (plan_value c.plan) → IsOf c receiver → receiver < length c.plan.receivers

@@ -12,6 +12,7 @@ use Rattle.std.specs.Global.{Vec}
 use Rattle.gw_er7.specs.Message.{SegmentValue}
 use Rattle.gw_check.specs.Kept.{CheckedValue}
 use Rattle.gw_plan.specs.Shapes.{Leg, RouteValue}
+use Rattle.gw_plan.specs.Senders.{Header, are_of}
 use Rattle.gw_plan.specs.Index.{is_key, number_for, number_if_some}
 use Rattle.gw_plan.specs.Held.{RouteHeld, PlanHeld, IsRoute, longer, leg, plan_value, route_value, tested, FoundAt}
 use Rattle.gw_plan.specs.Kept.{key_of}
@@ -31,12 +32,12 @@ At routes n (Some i) found = (r : RouteHeld) × (j : ℕ) × (i ≡ n + j) × (s
 slice_get_next : {A : Type 0} (x : A) (xs : List A) (j : ℕ) (y : A) → slice_get xs j ≡ Some y → slice_get (x ∷ xs) (j + 1) ≡ Some y
 slice_get_next x xs j y e = let n : suc j ≡ j + 1 = omega arith in subst (λ n. slice_get (x ∷ xs) n ≡ Some y) n e
 
-route_at : (code event : List ℕ) (n : ℕ) (routes : List RouteHeld) → At routes n (position_from (is_key code event) n (map key_of routes)) (route_for code event (map route_value routes))
-route_at code event n [] = refl
-route_at code event n (r ∷ routes) = by (bytes_eq code r.code && bytes_eq event r.event) (position_from (is_key code event) (n + 1) (map key_of routes)) (route_at code event (n + 1) routes)
+route_at : (code event : List ℕ) (header : Header) (n : ℕ) (routes : List RouteHeld) → At routes n (position_from (is_key code event header) n (map key_of routes)) (route_for code event header (map route_value routes))
+route_at code event header n [] = refl
+route_at code event header n (r ∷ routes) = by ((bytes_eq code r.code && bytes_eq event r.event) && are_of header r.senders) (position_from (is_key code event header) (n + 1) (map key_of routes)) (route_at code event header (n + 1) routes)
   where
-    by : (b : Bool) (next : Option ℕ) → At routes (n + 1) next (route_for code event (map route_value routes))
-        → At (r ∷ routes) n (if b then Some n else next) (if b then Some (route_value r) else route_for code event (map route_value routes))
+    by : (b : Bool) (next : Option ℕ) → At routes (n + 1) next (route_for code event header (map route_value routes))
+        → At (r ∷ routes) n (if b then Some n else next) (if b then Some (route_value r) else route_for code event header (map route_value routes))
     by true next h = (r, 0, omega arith, refl, refl)
     by false None h = h
     by false (Some i) h = (h.0, h.1 + 1, omega (arith, h.2), slice_get_next r routes h.1 h.0 h.3, h.4)
@@ -52,11 +53,11 @@ by_parts routes v p false number found h = refl
 by_parts routes v p true None found h = ap (admitted v p) h
 by_parts routes v p true (Some i) found h = (h.0, subst (λ k. slice_get routes k ≡ Some h.0) (omega (arith, h.2)) h.3, ap (admitted v p) h.4)
 
-pub by_number : (code event : List ℕ) (routes : List RouteHeld) (v p : Bool) → ByNumber routes v p (number_for code event (map key_of routes))
-    (if is_code code (map route_value routes) then admitted v p (route_for code event (map route_value routes)) else Err 200)
-by_number code event routes v p =
-    subst (λ b. ByNumber routes v p (number_for code event (map key_of routes)) (if b then admitted v p (route_for code event (map route_value routes)) else Err 200)) (code_known code routes)
-    (by_parts routes v p (list_any (λ k. bytes_eq code k.code) (map key_of routes)) (position_from (is_key code event) 0 (map key_of routes)) (route_for code event (map route_value routes)) (route_at code event 0 routes))
+pub by_number : (code event : List ℕ) (header : Header) (routes : List RouteHeld) (v p : Bool) → ByNumber routes v p (number_for code event header (map key_of routes))
+    (if is_code code (map route_value routes) then admitted v p (route_for code event header (map route_value routes)) else Err 200)
+by_number code event header routes v p =
+    subst (λ b. ByNumber routes v p (number_for code event header (map key_of routes)) (if b then admitted v p (route_for code event header (map route_value routes)) else Err 200)) (code_known code routes)
+    (by_parts routes v p (list_any (λ k. bytes_eq code k.code) (map key_of routes)) (position_from (is_key code event header) 0 (map key_of routes)) (route_for code event header (map route_value routes)) (route_at code event header 0 routes))
 
 -- the same of a number that was found
 pub found_at : (routes : List RouteHeld) (v p : Bool) (number : ℕ) (said : Result RouteValue ℕ) → ByNumber routes v p (Ok number) said → FoundAt routes (tested v p number) said

@@ -1,5 +1,5 @@
 -- What the program holds of a plan, and what it means.
-use Rattle.std.specs.Prelude.{◌≡◌, ℕ, Bool, false, nat_eq, if◌then◌else◌, List, [], ◌∷◌, ◌++◌, map, slice_get, Some, Result, Ok, Err}
+use Rattle.std.specs.Prelude.{◌≡◌, ℕ, Bool, false, nat_eq, if◌then◌else◌, List, [], ◌∷◌, ◌++◌, map, slice_get, Option, Some, Result, Ok, Err}
 use Rattle.std.specs.List.{AllByRecursion, list_any}
 use denote.Ref.{Bor}
 use Rattle.gw_er7.specs.Message.{SegmentValue}
@@ -8,12 +8,14 @@ use Rattle.gw_profile.specs.Seen.{profile_value}
 use Rattle.gw_maplang.specs.Seen.{map_value}
 use Rattle.gw_check.specs.Kept.{CheckedValue}
 use Rattle.gw_plan.specs.Shapes.{ReceiverValue, MapBetween, Leg, RouteValue, PlanValue}
+use Rattle.gw_plan.specs.Senders.{Senders}
 use Rattle.gw_plan.specs.Routing.{header_text, is_accepted}
 
 -- a route, with its borrowed profile and maps
 pub record RouteHeld : Type 0 where
   pub code : List ℕ
   pub event : List ℕ
+  pub senders : Option Senders
   pub profile : profiles.Contents
   pub legs : List (ℕ × CheckedValue)
 
@@ -32,7 +34,7 @@ abbrev pub leg : ℕ × CheckedValue → Leg
 leg l = (l.0, map_between l.1)
 
 abbrev pub route_value : RouteHeld → RouteValue
-route_value r = record { code = r.code; event = r.event; profile = profile_value r.profile; legs = map leg r.legs }
+route_value r = record { code = r.code; event = r.event; senders = r.senders; profile = profile_value r.profile; legs = map leg r.legs }
 
 abbrev pub plan_value : PlanHeld → PlanValue
 plan_value p = record { receivers = p.receivers; versions = p.versions; processing = p.processing; routes = map route_value p.routes }

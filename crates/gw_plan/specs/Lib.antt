@@ -1,4 +1,5 @@
 pub mod Numbers
+pub mod Senders
 pub mod Shapes
 pub mod Line
 pub mod Draft

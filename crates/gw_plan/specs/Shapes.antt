@@ -2,6 +2,7 @@
 use Rattle.std.specs.Prelude.{ℕ, if◌then◌else◌, List, [], ◌∷◌, Option, Some, None, bytes_eq}
 use Rattle.gw_profile.specs.Shapes.{ProfileValue}
 use Rattle.gw_maplang.specs.Shapes.{MapValue}
+use Rattle.gw_plan.specs.Senders.{Senders}
 
 -- a receiver: its name, and where it is reached
 pub record ReceiverValue : Type 0 where
@@ -18,10 +19,12 @@ pub record MapBetween : Type 0 where
 abbrev pub Leg : Type 0
 Leg = ℕ × MapBetween
 
--- The messages of this code and event, the empty text where a message says none: the profile by which they are judged, and where they go.
+-- The messages of this code and event, the empty text where a message says none, from these senders, all where none are said: the profile by which they are
+-- judged, and where they go.
 pub record RouteValue : Type 0 where
   pub code : List ℕ
   pub event : List ℕ
+  pub senders : Option Senders
   pub profile : ProfileValue
   pub legs : List Leg
 

@@ -1,7 +1,9 @@
 -- A worked plan, and texts with one fault each.
-use Rattle.std.specs.Prelude.{ℕ, List, [], ◌∷◌, codes}
+use Rattle.std.specs.Prelude.{ℕ, Option, Some, None, List, [], ◌∷◌, codes}
 use Rattle.gw_profile.specs.declared.shape.Count.TheVariants.{Octets}
 use Rattle.gw_profile.specs.Shapes.{nothing, ProfileValue}
+use Rattle.gw_plan.specs.declared.senders.HeaderField.TheVariants.{SendingApplication, SendingFacility}
+use Rattle.gw_plan.specs.Senders.{Senders, Header}
 use Rattle.gw_plan.specs.Shapes.{RouteValue, PlanValue}
 use Rattle.gw_plan.specs.Joined.{joined}
 
@@ -12,13 +14,41 @@ profile = record { name = codes "P2"; count = Octets; tables = []; nodes = nothi
 
 -- admissions, and messages without an event
 abbrev pub admission : RouteValue
-admission = record { code = codes "ADT"; event = codes "A01"; profile = profile; legs = [] }
+admission = record { code = codes "ADT"; event = codes "A01"; senders = None; profile = profile; legs = [] }
 
 abbrev pub report : RouteValue
-report = record { code = codes "ORU"; event = []; profile = profile; legs = [] }
+report = record { code = codes "ORU"; event = []; senders = None; profile = profile; legs = [] }
 
 abbrev pub worked : PlanValue
 worked = record { receivers = []; versions = codes "2.5.1" ∷ []; processing = codes "P" ∷ codes "T" ∷ []; routes = admission ∷ report ∷ [] }
+
+-- a header that says nothing, and one from this application and facility
+abbrev pub no_header : Header
+no_header field = []
+
+abbrev pub from_there : List ℕ → List ℕ → Header
+from_there application facility SendingApplication = application
+from_there application facility SendingFacility = facility
+from_there application facility other = []
+
+-- reports of two applications, of a facility, and of all others
+abbrev pub report_of : Option Senders → RouteValue
+report_of senders = record { code = codes "ORU"; event = codes "R01"; senders = senders; profile = profile; legs = [] }
+
+abbrev pub of_applications : RouteValue
+of_applications = report_of (Some (record { field = SendingApplication; words = codes "LAB1" ∷ codes "LAB2" ∷ [] }))
+
+abbrev pub of_facility : RouteValue
+of_facility = report_of (Some (record { field = SendingFacility; words = codes "NORTH" ∷ [] }))
+
+abbrev pub of_others : RouteValue
+of_others = report_of None
+
+abbrev pub told_apart : PlanValue
+told_apart = record { receivers = []; versions = []; processing = []; routes = of_applications ∷ of_facility ∷ [] }
+
+abbrev pub with_others : PlanValue
+with_others = record told_apart { routes = of_applications ∷ of_facility ∷ of_others ∷ [] }
 
 -- the same without `accept` lines
 abbrev pub open_worked : PlanValue
@@ -37,6 +67,31 @@ stray_leg = plan (codes "receiver A x" ∷ codes "to A by M" ∷ [])
 
 abbrev pub unknown_profile : List ℕ
 unknown_profile = plan (codes "route ADT A01 from P" ∷ [])
+
+-- of a profile that stands in no text: what comes before its name is looked for is told from it
+abbrev pub of_senders : List ℕ
+of_senders = plan (codes "route ORU R01 of MSH-3 LAB1 from P" ∷ [])
+
+abbrev pub wide_senders : List ℕ
+wide_senders = plan (codes "language 2" ∷ codes "route ORU R01 of MSH-3 LAB1 from P" ∷ [])
+
+abbrev pub twice_said : List ℕ
+twice_said = plan (codes "language 2" ∷ codes "route ORU R01 of MSH-3 LAB1 LAB1 from P" ∷ [])
+
+abbrev pub other_field : List ℕ
+other_field = plan (codes "language 2" ∷ codes "route ORU R01 of MSH-7 LAB1 from P" ∷ [])
+
+abbrev pub no_sender : List ℕ
+no_sender = plan (codes "language 2" ∷ codes "route ORU R01 of MSH-3 from P" ∷ [])
+
+abbrev pub late_language : List ℕ
+late_language = plan (codes "receiver A x" ∷ codes "language 2" ∷ [])
+
+abbrev pub other_language : List ℕ
+other_language = plan (codes "language 3" ∷ [])
+
+abbrev pub twice_wide : List ℕ
+twice_wide = plan (codes "language 2" ∷ codes "language 2" ∷ [])
 
 abbrev pub empty_profile : List ℕ
 empty_profile = plan (codes "begin profile" ∷ codes "stop" ∷ [])

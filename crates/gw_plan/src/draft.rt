@@ -1,8 +1,10 @@
 //! A plan as it is built, line by line.
 ghost use Rattle.std.specs.Prelude.{◌≡◌, IfOk, IfErr, OnOk, None, Err};
 ghost use Rattle.std.specs.Arc.{arc_value};
+ghost use Rattle.std.specs.Option.{option_map};
+ghost use Rattle.gw_plan.specs.Index.{said};
 ghost use Rattle.gw_plan.specs.Draft as spec;
-ghost use Rattle.gw_plan.specs.own.SoFar.{draft_value, IsKept, Leads, Makes};
+ghost use Rattle.gw_plan.specs.own.SoFar.{draft_value, IsKept, Leads, Makes, puts_route, adds_said};
 ghost use Rattle.gw_plan.specs.Inner.{takes_profile, takes_map, takes_part};
 ghost use Rattle.gw_plan.specs.own.Made.{inner, IsNumbered};
 ghost use Rattle.gw_plan.specs.Seen.{now_all, line};
@@ -10,12 +12,13 @@ ghost use Rattle.gw_plan.specs.Seen.{now_all, line};
 use crate::accepted::accept;
 use crate::declarations::Declarations;
 use crate::fault::PlanFault;
-use crate::form::{Kind, Line};
+use crate::form::{Kind, Line, RouteLine};
 use crate::inner::Inner;
 use crate::inner_map::take_map;
 use crate::inner_profile::take_profile;
 use crate::receivers::Receivers;
 use crate::route_list::RouteList;
+use crate::senders::SaidSenders;
 use gw_check::CheckedMap;
 use std::alloc::{AllocError, Global};
 use std::sync::Arc;
@@ -24,11 +27,23 @@ use std::sync::Arc;
 #[derive(Drop)]
 pub(crate) struct Draft {
     pub(crate) begun: bool,
+    pub(crate) fresh: bool,
+    pub(crate) wide: bool,
     pub(crate) receivers: Receivers,
     pub(crate) versions: Vec<Vec<u8>>,
     pub(crate) processing: Vec<Vec<u8>>,
     pub(crate) declarations: Declarations,
     pub(crate) routes: RouteList,
+}
+
+// Whether senders may be said: in language 2 alone.
+fn is_said(wide: bool, senders: &Option<SaidSenders<'_>>) -> bool
+    ensures { result ≡ spec.is_said wide (option_map said senders.now) }
+{
+    match senders {
+        None => true,
+        Some(_) => wide,
+    }
 }
 
 impl Draft {
@@ -39,6 +54,8 @@ impl Draft {
     {
         Draft {
             begun: false,
+            fresh: false,
+            wide: false,
             receivers: Receivers::new(alloc),
             versions: Vec::new(alloc),
             processing: Vec::new(alloc),
@@ -54,6 +71,7 @@ impl Draft {
         ensures current { OnOk result (self.new.routes.current ≡ None) }
         ensures kept { OnOk result (IsKept self.new) }
     {
+        self.fresh = false;
         self.routes.close()
     }
 
@@ -97,29 +115,49 @@ impl Draft {
         accept(alloc, &mut self.processing, words)
     }
 
-    // route CODE EVENT from PROFILE
-    fn open_route(
-        &mut self,
-        alloc: Global,
-        at: u64,
-        code: &[u8],
-        event: &[u8],
-        profile: &[u8],
-    ) -> Result<(), PlanFault>
+    // language 2
+    fn widen(&mut self, at: u64) -> Result<(), PlanFault>
         requires { IsKept self.old }
-        ensures value { Makes self.new result (spec.adds_route (draft_value self.old) at code.now event.now profile.now) }
+        ensures value { Makes self.new result (spec.widened (draft_value self.old) at) }
         ensures kept { OnOk result (IsKept self.new) }
     {
-        self.close()?;
-        if self.routes.has(code, event) {
+        if !self.fresh {
+            return Err(PlanFault::Syntax(at));
+        }
+        self.fresh = false;
+        self.wide = true;
+        Ok(())
+    }
+
+    // A route, and where all others are closed.
+    fn put_route(&mut self, alloc: Global, at: u64, route: &RouteLine<'_>) -> Result<(), PlanFault>
+        requires closed { self.old.routes.current ≡ None }
+        requires kept { IsKept self.old }
+        ensures value { Makes self.new result (puts_route (draft_value self.old) at route.now) }
+        ensures kept { OnOk result (IsKept self.new) }
+    {
+        if self.routes.claim(alloc, route)? {
             return Err(PlanFault::Duplicate(at));
         }
-        let Some(profile) = self.declarations.profile(profile) else {
+        let Some(profile) = self.declarations.profile(route.profile) else {
             return Err(PlanFault::UnknownName(at));
         };
         let profile = Arc::try_clone(profile)?;
-        self.routes.open(alloc, code, event, profile)?;
+        self.routes.open(alloc, route, profile)?;
         Ok(())
+    }
+
+    // route CODE EVENT from PROFILE, route CODE EVENT of MSH-n WORD ... from PROFILE
+    fn open_route(&mut self, alloc: Global, at: u64, route: &RouteLine<'_>) -> Result<(), PlanFault>
+        requires { IsKept self.old }
+        ensures value { Makes self.new result (adds_said (draft_value self.old) at route.now) }
+        ensures kept { OnOk result (IsKept self.new) }
+    {
+        if !is_said(self.wide, &route.senders) {
+            return Err(PlanFault::Syntax(at));
+        }
+        self.close()?;
+        self.put_route(alloc, at, route)
     }
 
     // The receiver and the map that `to RECEIVER by MAP` adds to the current route.
@@ -171,11 +209,12 @@ impl Draft {
     {
         match whole {
             Line::Begins(_) => Err(PlanFault::Syntax(at)),
+            Line::Widens => self.widen(at),
             Line::Receives(name, address) => self.receive(alloc, at, name, address),
             Line::Versions(words) => Ok(self.accept_versions(alloc, words)?),
             Line::Processing(words) => Ok(self.accept_processing(alloc, words)?),
             Line::Opens(_) => Err(PlanFault::Syntax(at)),
-            Line::Routes(code, event, profile) => self.open_route(alloc, at, code, event, profile),
+            Line::Routes(route) => self.open_route(alloc, at, route),
             Line::Delivers(receiver, map) => self.deliver(at, receiver, map),
         }
     }
@@ -190,6 +229,7 @@ impl Draft {
             return Err(PlanFault::Syntax(at));
         };
         self.begun = true;
+        self.fresh = true;
         Ok(())
     }
 

@@ -25,15 +25,19 @@ pub fn one_translation()
     ensures { (plan : PlanValue) (m : List SegmentValue) (receiver : ℕ) (made other : List SegmentValue) → MakesFor plan m receiver made → MakesFor plan m receiver other → made ≡ other }
 {}
 
-/// The route of a message, or the code of the first test that fails: type, event, version, processing id.
+/// The route of a message, or the code of the first test that fails: type, event and senders, version, processing id.
 pub fn rows_of_routes()
-    ensures route { routed_by worked.worked (codes "ADT") (codes "A01") (codes "2.5.1") (codes "P") ≡ Ok worked.admission }
-    ensures no_event { routed_by worked.worked (codes "ORU") [] (codes "2.5.1") (codes "P") ≡ Ok worked.report }
-    ensures code { routed_by worked.worked (codes "ACK") (codes "A01") (codes "2.3") (codes "D") ≡ Err 200 }
-    ensures event { routed_by worked.worked (codes "ADT") (codes "A99") (codes "2.3") (codes "D") ≡ Err 201 }
-    ensures version { routed_by worked.worked (codes "ADT") (codes "A01") (codes "2.3") (codes "D") ≡ Err 203 }
-    ensures processing { routed_by worked.worked (codes "ADT") (codes "A01") (codes "2.5.1") (codes "D") ≡ Err 202 }
-    ensures any { routed_by worked.open_worked (codes "ADT") (codes "A01") (codes "2.3") (codes "D") ≡ Ok worked.admission }
+    ensures route { routed_by worked.worked (codes "ADT") (codes "A01") worked.no_header (codes "2.5.1") (codes "P") ≡ Ok worked.admission }
+    ensures no_event { routed_by worked.worked (codes "ORU") [] worked.no_header (codes "2.5.1") (codes "P") ≡ Ok worked.report }
+    ensures code { routed_by worked.worked (codes "ACK") (codes "A01") worked.no_header (codes "2.3") (codes "D") ≡ Err 200 }
+    ensures event { routed_by worked.worked (codes "ADT") (codes "A99") worked.no_header (codes "2.3") (codes "D") ≡ Err 201 }
+    ensures version { routed_by worked.worked (codes "ADT") (codes "A01") worked.no_header (codes "2.3") (codes "D") ≡ Err 203 }
+    ensures processing { routed_by worked.worked (codes "ADT") (codes "A01") worked.no_header (codes "2.5.1") (codes "D") ≡ Err 202 }
+    ensures applications { routed_by worked.told_apart (codes "ORU") (codes "R01") (worked.from_there (codes "LAB2") (codes "NORTH")) [] [] ≡ Ok worked.of_applications }
+    ensures facility { routed_by worked.told_apart (codes "ORU") (codes "R01") (worked.from_there (codes "LAB9") (codes "NORTH")) [] [] ≡ Ok worked.of_facility }
+    ensures no_sender { routed_by worked.told_apart (codes "ORU") (codes "R01") (worked.from_there (codes "LAB9") (codes "SOUTH")) [] [] ≡ Err 201 }
+    ensures others { routed_by worked.with_others (codes "ORU") (codes "R01") (worked.from_there (codes "LAB9") (codes "SOUTH")) [] [] ≡ Ok worked.of_others }
+    ensures any { routed_by worked.open_worked (codes "ADT") (codes "A01") worked.no_header (codes "2.3") (codes "D") ≡ Ok worked.admission }
 {}
 
 /// Worked examples: what texts spell, and their faults by line.
@@ -42,6 +46,14 @@ pub fn rows_of_texts()
     ensures again { spelled worked.second_receiver ≡ Err (fault.Duplicate 3) }
     ensures stray { spelled worked.stray_leg ≡ Err (fault.Syntax 3) }
     ensures unknown { spelled worked.unknown_profile ≡ Err (fault.UnknownName 2) }
+    ensures narrow { spelled worked.of_senders ≡ Err (fault.Syntax 2) }
+    ensures wide { spelled worked.wide_senders ≡ Err (fault.UnknownName 3) }
+    ensures twice { spelled worked.twice_said ≡ Err (fault.Duplicate 3) }
+    ensures field { spelled worked.other_field ≡ Err (fault.Syntax 3) }
+    ensures wordless { spelled worked.no_sender ≡ Err (fault.Syntax 3) }
+    ensures late { spelled worked.late_language ≡ Err (fault.Syntax 3) }
+    ensures language { spelled worked.other_language ≡ Err (fault.Syntax 2) }
+    ensures again_wide { spelled worked.twice_wide ≡ Err (fault.Syntax 3) }
     ensures hollow { spelled worked.empty_profile ≡ Err (fault.Profile 3 2) }
     ensures broken { spelled worked.broken_profile ≡ Err (fault.Syntax 4) }
     ensures refused { spelled worked.refused_profile ≡ Err (fault.Profile 4 2) }

@@ -19,6 +19,7 @@ mod plan;
 mod receivers;
 mod route;
 mod route_list;
+mod senders;
 mod translated;
 
 pub use conforming::{Conforming, Refusal, admit};

@@ -1,6 +1,9 @@
 //! Plans.
 ghost use Rattle.std.specs.Prelude.{◌≡◌, ◌↔◌, ◌<◌, IsTrue, IfOk, map, length, slice_get, Some, Ok, bytes_eq};
 ghost use Rattle.std.specs.List.{list_any};
+ghost use Rattle.gw_plan.specs.declared.senders.HeaderField.{HeaderField};
+ghost use Rattle.gw_plan.specs.Index.{header};
+ghost use Rattle.gw_plan.specs.Routing as spec;
 ghost use Rattle.gw_plan.specs.Routing.{header_text, is_accepted, routed};
 ghost use Rattle.gw_plan.specs.Held.{plan_value, borrowed_route, tested_for, FoundAt};
 ghost use Rattle.gw_plan.specs.Seen.{receiver_value};
@@ -13,6 +16,7 @@ use crate::draft::Draft;
 use crate::index::Index;
 use crate::route::Route;
 use crate::route_list::RouteList;
+use crate::senders::Header;
 use gw_er7::same::{Part, are_same, same_bytes};
 use gw_er7::{Message, Place};
 use std::alloc::{AllocError, Global};
@@ -95,6 +99,24 @@ fn header_text(message: &Message, field: usize, comp: usize) -> &[u8]
         comp,
         sub: 1,
     })
+}
+
+// The texts of a message's header by which its senders are told.
+fn header_of(message: &Message) -> Header<'_>
+    ensures { (field : HeaderField) → header result field ≡ spec.header_of message.now field }
+{
+    let sending_application = header_text(message, 3, 1);
+    let sending_facility = header_text(message, 4, 1);
+    let receiving_application = header_text(message, 5, 1);
+    let receiving_facility = header_text(message, 6, 1);
+    let message_profile = header_text(message, 21, 1);
+    Header {
+        sending_application,
+        sending_facility,
+        receiving_application,
+        receiving_facility,
+        message_profile,
+    }
 }
 
 fn has(words: &[Vec<u8>], text: &[u8]) -> bool
@@ -189,7 +211,8 @@ impl Plan {
     {
         let code = header_text(message, 9, 1);
         let event = header_text(message, 9, 2);
-        match self.index.find(code, event) {
+        let header = header_of(message);
+        match self.index.find(code, event, &header) {
             Err(code) => Err(code),
             Ok(number) => self.tested(message, number),
         }
@@ -204,7 +227,7 @@ impl Plan {
     }
 
     /// The message's route, or the code of the condition that fails first:
-    /// 200 for its type, 201 for its event, 203 for its version, 202 for its processing id (HL7 table 0357).
+    /// 200 for its type, 201 for its event and senders, 203 for its version, 202 for its processing id (HL7 table 0357).
     /// It takes no memory, and no more time where there are more routes.
     pub fn route(&self, message: &Message) -> Result<&Route, u16>
         ensures { borrowed_route result ≡ routed (plan_value self.now) message.now }

@@ -6,7 +6,10 @@ ghost use Rattle.std.specs.Map.{lookup};
 ghost use Rattle.std.specs.Option.{option_map};
 ghost use Rattle.gw_profile.specs.Seen.{profile_value};
 ghost use Rattle.gw_plan.specs.Held.{longer, IsNewLeg};
+ghost use Rattle.gw_plan.specs.own.SoFar.{opened};
 
+use crate::form::RouteLine;
+use crate::senders::{Senders, copied};
 use gw_check::CheckedMap;
 use gw_profile::Profile;
 use indexmap::IndexMap;
@@ -14,11 +17,12 @@ use std::alloc::{AllocError, Global};
 use std::marker::Model;
 use std::sync::Arc;
 
-/// A route: the profile and the receivers for messages of one code and event. Each receiver has the map that makes what it is sent.
+/// A route: the profile and the receivers for messages of one code and event, of some senders or of all. Each receiver has the map that makes what it is sent.
 /// The empty event is that of messages without one.
 pub struct Route {
     code: Vec<u8>,
     event: Vec<u8>,
+    senders: Option<Senders>,
     profile: Arc<Profile>,
     legs: IndexMap<usize, Arc<CheckedMap>>,
 }
@@ -29,6 +33,7 @@ impl Drop for Route {
         let Route {
             code: _,
             event: _,
+            senders: _,
             profile: _,
             legs: _,
         } = self;
@@ -47,24 +52,24 @@ impl Model for Route {
 
     ghost coded = { Prim.hlevel (codes, node.the_row.coded, raw_item.the_row.coded, item.the_row.coded) };
 
-    ghost view = { λ r. held_route r.code r.event r.profile r.legs.entries };
+    ghost view = { λ r. held_route r.code r.event r.senders r.profile r.legs.entries };
 
-    ghost invariant = { λ r. IsRoute (held_route r.code r.event r.profile r.legs.entries) };
+    ghost invariant = { λ r. IsRoute (held_route r.code r.event r.senders r.profile r.legs.entries) };
 }
 
 impl Route {
     // A route without receivers.
     pub(crate) fn new(
         alloc: Global,
-        code: &[u8],
-        event: &[u8],
+        line: &RouteLine<'_>,
         profile: Arc<Profile>,
     ) -> Result<Route, AllocError>
-        ensures { IfOk result (λ r. r ≡ record { code = code.now; event = event.now; profile = arc_value profile; legs = [] }) }
+        ensures { IfOk result (λ r. r ≡ opened line.now (arc_value profile)) }
     {
         Ok(Route {
-            code: Vec::from_slice(alloc, code)?,
-            event: Vec::from_slice(alloc, event)?,
+            code: Vec::from_slice(alloc, line.code)?,
+            event: Vec::from_slice(alloc, line.event)?,
+            senders: copied(alloc, &line.senders)?,
             profile,
             legs: IndexMap::new(alloc),
         })

@@ -1,12 +1,13 @@
 //! The routes of a plan as it is built.
-ghost use Rattle.std.specs.Prelude.{◌≡◌, [], map, OnOk, IfSome, None, Some, false};
-ghost use Rattle.std.specs.List.{list_any};
+ghost use Rattle.std.specs.Prelude.{◌≡◌, [], map, IfOk, OnOk, IfSome, None, Some, false};
 ghost use Rattle.std.specs.Option.{option_map};
 ghost use Rattle.std.specs.Arc.{arc_value};
-ghost use Rattle.gw_plan.specs.Draft.{is_for};
+ghost use Rattle.gw_plan.specs.Draft.{is_taken};
+ghost use Rattle.gw_plan.specs.Index.{said};
 ghost use Rattle.gw_plan.specs.Held.{route_value, longer, IsNewLeg};
-ghost use Rattle.gw_plan.specs.own.SoFar.{all_routes, IsListed};
+ghost use Rattle.gw_plan.specs.own.SoFar.{all_routes, opened, IsListed, IsClaimed};
 
+use crate::form::RouteLine;
 use crate::index::Index;
 use crate::route::Route;
 use gw_check::CheckedMap;
@@ -49,32 +50,39 @@ impl RouteList {
         Ok(())
     }
 
-    /// Whether there is a route for this code and event. None is current. It takes no memory.
-    pub(crate) fn has(&self, code: &[u8], event: &[u8]) -> bool
-        requires closed { self.now.current ≡ None }
-        requires listed { IsListed self.now }
-        ensures { result ≡ list_any (is_for code.now event.now) (map route_value self.now.closed.items) }
+    /// Whether a route takes already what this one would. Else it is claimed. None is current.
+    pub(crate) fn claim(&mut self, alloc: Global, route: &RouteLine<'_>) -> Result<bool, AllocError>
+        requires closed { self.old.current ≡ None }
+        requires listed { IsListed self.old }
+        ensures closed { self.new.closed.items ≡ self.old.closed.items }
+        ensures current { self.new.current ≡ None }
+        ensures taken { IfOk result (λ b. b ≡ is_taken route.now.code.now route.now.event.now (option_map said route.now.senders) (map route_value self.old.closed.items)) }
+        ensures claimed { IfOk result (λ b. b ≡ false → IsClaimed route.now self.new) }
     {
-        self.index.has(code, event)
+        let number = self.closed.as_slice().len();
+        match self
+            .index
+            .push(alloc, route.code, route.event, &route.senders, number)
+        {
+            Err(error) => Err(error),
+            Ok(added) => Ok(!added),
+        }
     }
 
-    /// Opens a route without receivers, and makes it the current one.
+    /// Opens a route without receivers, and makes it the current one. What it takes was claimed.
     pub(crate) fn open(
         &mut self,
         alloc: Global,
-        code: &[u8],
-        event: &[u8],
+        route: &RouteLine<'_>,
         profile: Arc<Profile>,
     ) -> Result<(), AllocError>
         requires closed { self.old.current ≡ None }
-        requires listed { IsListed self.old }
-        requires new { list_any (is_for code.now event.now) (map route_value self.old.closed.items) ≡ false }
+        requires claimed { IsClaimed route.now self.old }
         ensures closed { OnOk result (self.new.closed.items ≡ self.old.closed.items) }
-        ensures current { OnOk result (self.new.current ≡ Some (record { code = code.now; event = event.now; profile = arc_value profile; legs = [] })) }
+        ensures current { OnOk result (self.new.current ≡ Some (opened route.now (arc_value profile))) }
         ensures listed { OnOk result (IsListed self.new) }
     {
-        let route = Route::new(alloc, code, event, profile)?;
-        self.index.push(alloc, code, event)?;
+        let route = Route::new(alloc, route, profile)?;
         self.current = Some(route);
         Ok(())
     }

@@ -61,6 +61,45 @@ fn name_in<'t>(words: &[Word<'t>]) -> &'t [u8] {
     }
 }
 
+/// Of a route that says senders, the field and the words behind `of`, up to the word `from`; of any other line nothing.
+fn senders_in<'w, 't>(words: &'w [Word<'t>]) -> &'w [Word<'t>] {
+    if word_at(words, 0) != b"route".as_slice() || word_at(words, 3) != b"of".as_slice() {
+        return &[];
+    }
+    let more = words.get(4..).unwrap_or(&[]);
+    match more
+        .iter()
+        .position(|word| bytes_of(*word) == b"from".as_slice())
+    {
+        None => more,
+        Some(end) => more.get(..end).unwrap_or(more),
+    }
+}
+
+/// The words of senders, in order.
+fn sorted_words<'t>(alloc: Global, senders: &[Word<'t>]) -> Result<Vec<&'t [u8]>, AllocError> {
+    let mut sorted = Vec::new(alloc);
+    for word in senders.get(1..).unwrap_or(&[]) {
+        sorted.push(bytes_of(*word))?;
+    }
+    sorted.sort()?;
+    Ok(sorted)
+}
+
+/// Whether a line above takes what one of these senders would: it says none, or one of their words of the same field. `sorted` are their words, in order.
+fn takes_of(above: &[Word<'_>], senders: &[Word<'_>], sorted: &[&[u8]]) -> bool {
+    let others = senders_in(above);
+    if others.is_empty() {
+        return true;
+    }
+    word_at(others, 0) == word_at(senders, 0)
+        && others
+            .get(1..)
+            .unwrap_or(&[])
+            .iter()
+            .any(|word| sorted.binary_search(&bytes_of(*word)).is_ok())
+}
+
 fn said_in<'t>(words: &[Word<'t>]) -> Said<'t> {
     let kind = kind_of(word_at(words, 0));
     let event = if kind == b"route".as_slice() {
@@ -100,6 +139,8 @@ fn begins_anew(kind: &[u8], keyword: &[u8]) -> bool {
 pub(crate) fn said_above(alloc: Global, text: &[u8], line: u32) -> Result<u32, AllocError> {
     let words = words_in(alloc, line_at(text, line))?;
     let said = said_in(&words);
+    let senders = senders_in(&words);
+    let sorted = sorted_words(alloc, senders)?;
     // (of each level around the current one)
     let mut outer: Vec<u32> = Vec::new(alloc);
     let mut found = 0;
@@ -111,7 +152,7 @@ pub(crate) fn said_above(alloc: Global, text: &[u8], line: u32) -> Result<u32, A
         if begins_anew(said.kind, keyword) {
             found = 0;
         }
-        if said_in(&words) == said {
+        if said_in(&words) == said && takes_of(&words, senders, &sorted) {
             found = number;
         }
         if keyword == b"group".as_slice() {

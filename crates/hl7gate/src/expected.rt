@@ -120,8 +120,9 @@ pub(crate) fn in_map(
 }
 
 /// The patterns of a plan's lines, each behind its keyword.
-const PATTERNS: [(&[u8], &[u8]); 7] = [
+const PATTERNS: [(&[u8], &[u8]); 8] = [
     (b"plan", b"plan NAME, as the first line"),
+    (b"language", b"language 2, directly below plan NAME"),
     (b"receiver", b"receiver NAME ADDRESS"),
     (
         b"accept",
@@ -136,8 +137,40 @@ const PATTERNS: [(&[u8], &[u8]); 7] = [
     (b"to", b"to RECEIVER by MAP, below a route"),
 ];
 
+/// The same of the lines of a plan that differ in language 2.
+const WIDE_PATTERN: &[u8] =
+    b"route CODE EVENT [of MSH-n WORD ..] from PROFILE, n one of 3, 4, 5, 6 and 21";
+
+/// Whether `language 2` comes right behind the first line of a plan.
+fn is_wide(alloc: Global, text: &[u8]) -> Result<bool, AllocError> {
+    let mut said = 0;
+    let mut rest = text;
+    for _ in 0..text.len() {
+        let words = words_in(alloc, line_at(rest, 1))?;
+        rest = behind(rest, 1);
+        if !words.is_empty() {
+            said += 1;
+        }
+        if said == 2 {
+            return Ok(
+                words.len() == 2
+                    && word_at(&words, 0) == b"language".as_slice()
+                    && word_at(&words, 1) == b"2".as_slice(),
+            );
+        }
+    }
+    Ok(false)
+}
+
 /// The pattern of a plan's lines with this keyword, or all keywords where it is none.
-fn pattern(keyword: &[u8]) -> &'static [u8] {
+fn pattern(alloc: Global, text: &[u8], keyword: &[u8]) -> Result<&'static [u8], AllocError> {
+    if keyword == b"route".as_slice() && is_wide(alloc, text)? {
+        return Ok(WIDE_PATTERN);
+    }
+    Ok(pattern_of(keyword))
+}
+
+fn pattern_of(keyword: &[u8]) -> &'static [u8] {
     for (word, said) in PATTERNS {
         if word == keyword {
             return said;
@@ -194,7 +227,7 @@ fn expected_at<'a>(
 ) -> Result<Expected<'a>, AllocError> {
     match form_at(text, line) {
         Form::Plan => Ok(Expected {
-            pattern: pattern(keyword_of(found)),
+            pattern: pattern(alloc, text, keyword_of(found))?,
             found,
         }),
         Form::Profile => gw_profile::expected(alloc, text, line),

@@ -1,5 +1,5 @@
 use Rattle.std.proofs.Common.{◌≡◌, ◌==◌, drop}
-use Rattle.gw_maplang.specs.Line.{behind_first}
+use Rattle.gw_maplang.specs.Columns.{behind_first}
 use Rattle.gw_maplang.proofs.parts.after_first_byte.Given as goal
 
 abbrev pub invariant-loop-i : goal.invariant-loop-i

@@ -9,7 +9,9 @@ use Rattle.gw_maplang.specs.Value.{Head, head, levels, drops}
 use Rattle.gw_maplang.specs.own.Building.{head_value}
 use Rattle.gw_maplang.specs.Seen.{line, above}
 use Rattle.gw_maplang.specs.Whole.{map_of}
-use Rattle.gw_maplang.proofs.Formed.{formed}
+use Rattle.gw_maplang.specs.Columns.{all_columns}
+use Rattle.gw_maplang.specs.own.Widths.{LawfulWides}
+use Rattle.gw_maplang.proofs.Formed.{formed, tables_lawful}
 use Rattle.gw_maplang.proofs.whole.map_of.Goals as goal
 
 -- a map of what lines say is the map that they spell, the last first
@@ -26,10 +28,13 @@ pub invariant_of-result : goal.invariant_of-result
 invariant_of-result c =
     let lines = map line c.args.lines.items in
     let first = c.in_ok-line.ensures ∙ ap (λ (l : List declared.Line). head (map line l)) c.deref.ensures.value in
-    subst Lawful (sym (of_parts lines (head_value c.in_ok-line.field-0) _ _ _ first c.requires.tables c.in_ok-items.ensures.items c.in_ok-items.ensures.drops)) (formed (above c.args.lines.items) c.requires.taken c.requires.closed)
+    subst Lawful (sym (of_parts lines (head_value c.in_ok-line.field-0) _ _ _ first (c.in_ok-tables.ensures ∙ (λ i. all_columns (c.requires.second i) (c.requires.tables i))) c.in_ok-items.ensures.items c.in_ok-items.ensures.drops)) (formed (above c.args.lines.items) c.requires.taken c.requires.closed)
 
 pub returns : goal.returns
 returns c =
     let lines = map line c.args.lines.items in
     let first = c.in_ok-line.ensures ∙ ap (λ (l : List declared.Line). head (map line l)) c.deref.ensures.value in
-    of_parts lines (head_value c.in_ok-line.field-0) _ _ _ first c.requires.tables c.in_ok-items.ensures.items c.in_ok-items.ensures.drops
+    of_parts lines (head_value c.in_ok-line.field-0) _ _ _ first (c.in_ok-tables.ensures ∙ (λ i. all_columns (c.requires.second i) (c.requires.tables i))) c.in_ok-items.ensures.items c.in_ok-items.ensures.drops
+
+pub columns-requires : goal.columns-requires
+columns-requires c = subst LawfulWides (sym c.requires.tables) (tables_lawful (above c.args.lines.items) c.requires.taken)

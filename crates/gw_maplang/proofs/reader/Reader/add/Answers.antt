@@ -1,6 +1,6 @@
 use Rattle.std.proofs.Common.{ap, ◌∙◌, sym, subst, ℕ, List}
 use Rattle.gw_maplang.specs.declared.context as Held
-use Rattle.gw_maplang.specs.Shapes.{TableValue}
+use Rattle.gw_maplang.specs.Columns.{WideTable}
 use Rattle.gw_maplang.specs.Fault as Fault
 use Rattle.gw_maplang.specs.Seen.{line, HasRoom, IsNewTable, IsNewField, IsNewPlace}
 use Rattle.gw_maplang.proofs.Kept.{new_table, new_field, new_place, has_room}
@@ -13,7 +13,7 @@ open_parts_below-open_parts-requires c =
 
 pub take_in-requires-clause-table : goal.take_in-requires-clause-table
 take_in-requires-clause-table c =
-    subst (λ (ts : List TableValue). IsNewTable ts (line c.args.whole)) (sym (c.self.invariant.has_tables ∙ ap Fault.tables c.self.view_is)) (new_table _ (line c.args.whole) c.requires)
+    subst (λ (ts : List WideTable). IsNewTable ts (line c.args.whole)) (sym (c.self.invariant.has_tables ∙ ap Fault.wide_tables c.self.view_is)) (new_table _ (line c.args.whole) c.requires)
 
 pub take_in-requires-clause-field : goal.take_in-requires-clause-field
 take_in-requires-clause-field c =
