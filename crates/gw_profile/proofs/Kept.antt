@@ -53,6 +53,10 @@ pub table_found : (name : List ℕ) (es : List (Vec ℕ × List (List ℕ))) →
 table_found name [] = refl
 table_found name (e ∷ es) = ap (λ o. if bytes_eq name e.0.items then Some e.1 else o) (table_found name es)
 
+-- a table that lies under a name is the one of that name
+pub table_at : (name : List ℕ) (es : List (Vec ℕ × List (List ℕ))) (other : Vec ℕ) (found : List (List ℕ)) → other.items ≡ name → lookup (λ k. bytes_eq other.items k.items) es ≡ Some found → table_of name (map table es) ≡ Some found
+table_at name es other found same is = sym (table_found name es) ∙ ap (λ (n : List ℕ). lookup (λ k. bytes_eq n k.items) es) (sym same) ∙ is
+
 drop_first : (a b : Bool) → a || b ≡ false → b ≡ false
 drop_first true b e = absurd (cc)
 drop_first false b e = e

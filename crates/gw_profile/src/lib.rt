@@ -9,6 +9,7 @@ pub mod laws;
 mod lengths;
 mod level;
 mod names;
+mod near;
 mod node;
 mod numbered;
 mod patterns;

@@ -7,6 +7,7 @@ ghost use Rattle.gw_profile.specs.Value.{table_of};
 ghost use Rattle.gw_profile.specs.WellFormed.{WellFormed};
 
 use crate::names::names_of;
+use crate::near::NearTables;
 use crate::node::Node;
 use crate::same::{same_count, same_nodes, same_tables};
 use crate::shape::Count;
@@ -22,6 +23,7 @@ pub struct Profile {
     name: Vec<u8>,
     count: Count,
     tables: IndexMap<Vec<u8>, Table>,
+    near: NearTables,
     nodes: Vec<Node>,
     names: HashSet<[u8; 3]>,
 }
@@ -33,6 +35,7 @@ impl Drop for Profile {
             name: _,
             count: _,
             tables: _,
+            near: _,
             nodes: _,
             names: _,
         } = self;
@@ -69,10 +72,12 @@ impl Profile {
         ensures { IfOk result (λ p. p ≡ record { name = name.items; count = count; tables = map table tables.entries; nodes = nodes.items }) }
     {
         let names = names_of(alloc, &nodes)?;
+        let near = NearTables::of(&tables);
         Ok(Profile {
             name,
             count,
             tables,
+            near,
             nodes,
             names,
         })
@@ -118,6 +123,9 @@ impl Profile {
     pub fn table(&self, name: &[u8]) -> Option<&Table>
         ensures { option_copied result ≡ table_of name.now self.now.tables }
     {
+        if let Some(found) = self.near.find(&self.tables, name) {
+            return Some(found);
+        }
         self.tables.get(name)
     }
 
