@@ -85,6 +85,7 @@ fn left_out<'a>(due: Card) -> Step<'a>
 }
 
 #[cycle(take)]
+#[inline(always)]
 fn take_node<'a>(
     stack: &mut Vec<Frame<'a>>,
     frame: Frame<'a>,
@@ -144,6 +145,7 @@ fn take_nodes<'a>(
 }
 
 // A name, tried on a frame.
+#[inline(always)]
 fn take_frame<'a>(
     stack: &mut Vec<Frame<'a>>,
     frame: Frame<'a>,
