@@ -14,6 +14,8 @@ mod desks;
 #[cfg(test)]
 mod failures;
 #[cfg(test)]
+mod forwards;
+#[cfg(test)]
 mod gates;
 #[cfg(test)]
 mod locked;
@@ -29,6 +31,8 @@ mod refusals;
 mod served;
 #[cfg(test)]
 mod sessions;
+#[cfg(test)]
+mod spools;
 #[cfg(test)]
 mod streams;
 #[cfg(test)]

@@ -1,0 +1,113 @@
+//! A record that is sent over a line until it is acknowledged, and an answer that waits for the store.
+use gw_ack::Ack;
+use gw_forward::{Barrier, Ended, ForwardFault, Outbox, Safety, StoreFault, forward};
+use gw_stream::{Failed, Reads, Sink, Writes};
+use std::alloc::Global;
+use std::test::Fail;
+
+const RECORD: &[u8] = b"MSH|^~\\&||||||||7\rPID||||||||2\r";
+
+/// Its block.
+const SENT: &[u8] = b"\x0bMSH|^~\\&||||||||7\rPID||||||||2\r\x1c\r";
+
+/// Its acknowledgment, and one of another message.
+const ACKED: &[u8] =
+    b"\x0bMSH|^~\\&|GW|H2|LAB|H1|20240102030406||ACK^A01^ACK|G1|P|2.5.1\rMSA|AA|7\r\x1c\r";
+
+const OTHER: &[u8] =
+    b"\x0bMSH|^~\\&|GW|H2|LAB|H1|20240102030406||ACK^A01^ACK|G1|P|2.5.1\rMSA|AA|8\r\x1c\r";
+
+/// An outbox of one record.
+#[derive(Drop)]
+struct One {
+    alloc: Global,
+    count: u64,
+}
+
+impl Outbox for One {
+    ghost use Rattle.std.specs.Prelude.{None};
+
+    ghost taken = { λ _. None };
+
+    ghost count = { λ o. o.count };
+
+    fn count(&self) -> u64 {
+        self.count
+    }
+
+    fn next(&mut self) -> Result<Option<Vec<u8>>, StoreFault> {
+        if self.count > 0 {
+            return Ok(None);
+        }
+        Ok(Some(Vec::from_slice(self.alloc, RECORD)?))
+    }
+
+    fn settle(&mut self, _bytes: &[u8], ack: Ack) -> Result<bool, StoreFault> {
+        if ack != Ack::AA {
+            return Ok(false);
+        }
+        match self.count.checked_add(1) {
+            None => Err(StoreFault::Memory),
+            Some(count) => {
+                self.count = count;
+                Ok(true)
+            }
+        }
+    }
+}
+
+/// A store that never fails, or has failed.
+#[derive(Drop)]
+struct Told {
+    is_lost: bool,
+}
+
+impl Safety for Told {
+    ghost is_lost = { λ t. t.is_lost };
+
+    fn lost(&self) -> bool {
+        self.is_lost
+    }
+
+    fn wait(&mut self) -> bool {
+        !self.is_lost
+    }
+}
+
+// How a forwarder of one record ends over these answers, how many records were taken, and what it wrote.
+fn forwarded(alloc: Global, answers: &[u8]) -> (Result<Ended, ForwardFault>, u64, Vec<u8>) {
+    let mut outbox = One { alloc, count: 0 };
+    let mut written = Vec::new(alloc);
+    let mut reader = Reads::new(answers);
+    let mut writer = Writes::new(&mut written);
+    let ended = forward(alloc, &mut outbox, &mut reader, &mut writer);
+    (ended, outbox.count, written)
+}
+
+#[test]
+fn a_record_is_taken_where_it_is_acknowledged(rt: HostRuntime) -> Result<(), Fail> {
+    let (ended, taken, written) = forwarded(rt.alloc(), ACKED);
+    assert_eq!(rt; ended, Ok(Ended::Closed));
+    assert!(rt; taken == 1 && written.as_slice() == SENT);
+    let (ended, taken, written) = forwarded(rt.alloc(), OTHER);
+    assert_eq!(rt; ended, Err(ForwardFault::Line { n: 0 }));
+    assert!(rt; taken == 0 && written.as_slice() == SENT);
+    Ok(())
+}
+
+// What a barrier lets by.
+fn let_by(alloc: Global, is_lost: bool) -> (Result<usize, Failed>, Vec<u8>) {
+    let mut written = Vec::new(alloc);
+    let mut barrier = Barrier::new(Writes::new(&mut written), Told { is_lost });
+    let answer = barrier.write(SENT);
+    (answer, written)
+}
+
+#[test]
+fn an_answer_waits_for_the_store(rt: HostRuntime) -> Result<(), Fail> {
+    let (answer, written) = let_by(rt.alloc(), false);
+    assert!(rt; answer == Ok(SENT.len()) && written.as_slice() == SENT);
+    let (answer, written) = let_by(rt.alloc(), true);
+    assert!(rt; answer == Err(Failed) && written.is_empty());
+    Ok(())
+}
