@@ -143,21 +143,22 @@ const WIDE_PATTERN: &[u8] =
 
 /// Whether `language 2` comes right behind the first line of a plan.
 fn is_wide(alloc: Global, text: &[u8]) -> Result<bool, AllocError> {
-    let mut said = 0;
+    let mut is_below = false;
     let mut rest = text;
     for _ in 0..text.len() {
         let words = words_in(alloc, line_at(rest, 1))?;
         rest = behind(rest, 1);
-        if !words.is_empty() {
-            said += 1;
+        if words.is_empty() {
+            continue;
         }
-        if said == 2 {
+        if is_below {
             return Ok(
                 words.len() == 2
                     && word_at(&words, 0) == b"language".as_slice()
                     && word_at(&words, 1) == b"2".as_slice(),
             );
         }
+        is_below = true;
     }
     Ok(false)
 }
