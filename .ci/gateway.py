@@ -202,6 +202,10 @@ class Gateway:
         """How many wait for each receiver, by their names."""
         return [it["waiting"] for it in sorted(self.status()["receivers"], key=lambda it: it["name"])]
 
+    def refusals(self):
+        """The lines of its log of refusals, with NOW for the time."""
+        return [re.sub(r"^\d{14} ", "NOW ", it) for it in (self.folder / "refusals.log").read_text().splitlines()]
+
     def tell(self, *line):
         """A word to the gateway: its status, and its lines with no address."""
         ran = subprocess.run([self.program, "tell", "folder", *line], cwd=self.room, capture_output=True, text=True, timeout=20)
