@@ -126,6 +126,7 @@ leaf_kept : (tables : List TableValue) (names : List (List ℕ)) (scope : List E
 leaf_kept tables names scope repeated (raw.Const value) t h = h
 leaf_kept tables names scope repeated (raw.Copy ref) t h = source_kept scope repeated ref h
 leaf_kept tables names scope repeated (raw.Lookup table ref) t h = (row_of_one tables table t, source_kept scope repeated ref h.1)
+leaf_kept tables names scope repeated (raw.Date digits ref) t h = source_kept scope repeated ref h.1
 
 at_kept : (tables : List TableValue) (names : List (List ℕ)) (scope : List Element) (repeated : Bool) (ls : List raw.LeafValue) → AllByRecursion theirs.LawfulTable tables → AllByRecursion (theirs.LawfulLeafValue names repeated) ls → AllByRecursion (LawfulAt repeated) (map (at_leaf tables scope) ls)
 at_kept tables names scope repeated [] t h = tt

@@ -6,11 +6,11 @@ use Rattle.std.proofs.lemmas.Bool.Decides.{eqb_tells, Decides-eqb}
 use Rattle.gw_er7.specs.Names.{IsName}
 use Rattle.gw_er7.specs.Message.{Texts, text_of, SegmentValue, first_field, IsEntry, IsSegment}
 use Rattle.gw_er7.specs.Presence.{RepAt}
-use Rattle.gw_resolve.specs.Resolved.{Source, of_field, of_current, Leaf, const, copied, looked_up, At, leaf_at, Making, copy, first, repeat, build, Rule, rule_of}
+use Rattle.gw_resolve.specs.Resolved.{Source, of_field, of_current, Leaf, const, copied, looked_up, dated, At, leaf_at, Making, copy, first, repeat, build, Rule, rule_of}
 use Rattle.gw_maplang.specs.Among.{Among}
 use Rattle.gw_maplang.specs.Shapes.{Rows}
 use Rattle.gw_interp.specs.Occurrences.{texts_at}
-use Rattle.gw_interp.specs.Meaning.{InFirst, Walked, SourceMeans, look_up, LeafMeans, AtMeans, Where, walking, MakingMeans, RuleMeans, IsImage}
+use Rattle.gw_interp.specs.Meaning.{InFirst, Walked, SourceMeans, look_up, first_digits, LeafMeans, AtMeans, Where, walking, MakingMeans, RuleMeans, IsImage}
 use Rattle.gw_interp.specs.own.Sourced.{IsFault}
 use Rattle.gw_interp.specs.own.Ready.{NoFaults, NoFaultIn, MayImage}
 use Rattle.gw_interp.proofs.Lists.{found_test, found_all}
@@ -45,6 +45,7 @@ looked_text w table source sound from means = by (look_up table from) refl
 leaf_text : (w : Walked) (leaf : Leaf) → (IsFault w leaf → ⊥) → Exists (LeafMeans w leaf)
 leaf_text w (const value) sound = (value, refl)
 leaf_text w (copied source) sound = source_text w source
+leaf_text w (dated digits source) sound = let from = source_text w source in (first_digits digits from.0, (from.0, from.1, refl))
 leaf_text w (looked_up table source) sound = let from = source_text w source in looked_text w table source sound from.0 from.1
 
 at_text : (w : Walked) (leaves : List At) → NoFaults w leaves → (comp sub : ℕ) → Exists (AtMeans w (leaf_at leaves comp sub))

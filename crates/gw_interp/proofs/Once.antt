@@ -13,10 +13,10 @@ use Rattle.gw_profile.specs.Shapes.{Forest, ProfileValue}
 use Rattle.gw_validate.specs.Cuts.{Cut}
 use Rattle.gw_validate.specs.Trees.{Tree}
 use Rattle.gw_resolve.specs.Places.{Place, child, nodes_of_child, name_of}
-use Rattle.gw_resolve.specs.Resolved.{Source, of_field, of_current, Leaf, const, copied, looked_up, At, leaf_at, Making, copy, first, repeat, build, Rule, rule_of, Items, no_items, segment_item, group_item, flat_item, Resolved}
+use Rattle.gw_resolve.specs.Resolved.{Source, of_field, of_current, Leaf, const, copied, looked_up, dated, At, leaf_at, Making, copy, first, repeat, build, Rule, rule_of, Items, no_items, segment_item, group_item, flat_item, Resolved}
 use Rattle.gw_interp.specs.Occurrences as occurrences
 use Rattle.gw_interp.specs.Occurrences.{Occurrence, at_place, texts_at}
-use Rattle.gw_interp.specs.Meaning.{IsFirst, InFirst, Walked, SourceMeans, look_up, LeafMeans, AtMeans, Where, walking, MakingMeans, RuleMeans, IsImage, ForEach, IsOne, walked, Segments, Give, Means}
+use Rattle.gw_interp.specs.Meaning.{IsFirst, InFirst, Walked, SourceMeans, look_up, first_digits, LeafMeans, AtMeans, Where, walking, MakingMeans, RuleMeans, IsImage, ForEach, IsOne, walked, Segments, Give, Means}
 use Rattle.gw_interp.proofs.Trees.{all_left, all_right}
 use Rattle.gw_interp.proofs.Images.{each_segment}
 
@@ -51,6 +51,7 @@ leaf_once w (copied source) x y h g = source_once w source x y h g
 leaf_once w (looked_up table source) x y h g =
     let found : Some x ≡ Some y = sym h.2 ∙ ap (look_up table) (source_once w source h.0 g.0 h.1 g.1) ∙ g.2 in
     let same : x ≡ y = cc in same
+leaf_once w (dated digits source) x y h g = h.2 ∙ ap (first_digits digits) (source_once w source h.0 g.0 h.1 g.1) ∙ sym g.2
 
 at_once : (w : Walked) (a : Option At) → AtMostOne (AtMeans w a)
 at_once w None x y h g = h ∙ sym g

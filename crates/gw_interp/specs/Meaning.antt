@@ -1,5 +1,7 @@
 -- What a map makes of a message: equations for the parts of the target and for the text at each of their places.
-use Rattle.std.specs.Prelude.{◌≡◌, ℕ, ◌<◌, ◌⊎◌, List, [], ◌∷◌, Option, Some, None, if◌then◌else◌}
+use Rattle.std.specs.Prelude.{◌≡◌, ℕ, ◌<◌, ◌&&◌, nat_le, take, ◌⊎◌, List, [], ◌∷◌, length, Option, Some, None, if◌then◌else◌}
+use Rattle.std.specs.List.{list_all}
+use Rattle.gw_lines.specs.Spelled.{is_digit}
 use Rattle.gw_er7.specs.Message.{Texts, text_of, SegmentValue}
 use Rattle.gw_er7.specs.Presence.{RepAt, FieldAt}
 use Rattle.gw_profile.specs.Shapes.{Forest, ProfileValue}
@@ -8,7 +10,7 @@ use Rattle.gw_validate.specs.Cuts.{Cut}
 use Rattle.gw_validate.specs.Trees.{Tree}
 use Rattle.gw_maplang.specs.Shapes.{Rows}
 use Rattle.gw_resolve.specs.Places.{Place, child, nodes_of_child, name_of}
-use Rattle.gw_resolve.specs.Resolved.{Reference, Source, of_field, of_current, Leaf, const, copied, looked_up, At, leaf_at, Making, copy, first, repeat, build, Rule, rule_of, Items, no_items, segment_item, group_item, flat_item, Resolved}
+use Rattle.gw_resolve.specs.Resolved.{Reference, Source, of_field, of_current, Leaf, const, copied, looked_up, dated, At, leaf_at, Making, copy, first, repeat, build, Rule, rule_of, Items, no_items, segment_item, group_item, flat_item, Resolved}
 use Rattle.gw_leaves.specs.Leaves.{given}
 use Rattle.gw_interp.specs.Occurrences as occurrences
 use Rattle.gw_interp.specs.Occurrences.{Occurrence, at_place, texts_at}
@@ -40,10 +42,16 @@ abbrev pub look_up : Rows → List ℕ → Option (List ℕ)
 look_up table [] = Some []
 look_up table (b ∷ bytes) = if is_null (b ∷ bytes) then Some (b ∷ bytes) else given table (b ∷ bytes)
 
+-- the first digits of a date and time, absent where there are fewer; "" stays ""
+abbrev pub first_digits : ℕ → List ℕ → List ℕ
+first_digits digits text =
+    if is_null text then text else if nat_le digits (length text) && list_all is_digit (take digits text) then take digits text else []
+
 abbrev pub LeafMeans : Walked → Leaf → List ℕ → Type 0
 LeafMeans w (const value) text = text ≡ value
 LeafMeans w (copied source) text = SourceMeans w source text
 LeafMeans w (looked_up table source) text = (from : List ℕ) × SourceMeans w source from × (look_up table from ≡ Some text)
+LeafMeans w (dated digits source) text = (from : List ℕ) × SourceMeans w source from × (text ≡ first_digits digits from)
 
 abbrev pub AtMeans : Walked → Option At → List ℕ → Type 0
 AtMeans w None text = text ≡ []

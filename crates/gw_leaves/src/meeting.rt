@@ -39,7 +39,7 @@ fn add_leaves<'a>(
 ) -> Result<(), AllocError> {
     for at in leaves {
         let (rows, source) = match &at.leaf {
-            ResolvedLeaf::Const(_) => continue,
+            ResolvedLeaf::Const(_) | ResolvedLeaf::Dated(_, _) => continue,
             ResolvedLeaf::Copied(source) => (None, source),
             ResolvedLeaf::LookedUp(name, source) => (Some(name.as_slice()), source),
         };

@@ -7,7 +7,7 @@ use Rattle.gw_lines.specs.Values.{is_value}
 use Rattle.gw_profile.proofs.Facts.{both, neither, not_false, no_clash, le_is}
 use Rattle.gw_maplang.specs.declared.rule.LeafPlace.{LeafPlace}
 use Rattle.gw_maplang.specs.Among.{Among, Distinct}
-use Rattle.gw_maplang.specs.Shapes.{Path, Field, Current, Leaf, Const, Copy, Lookup, LeafValue, Making, Copies, Firsts, Repeats, Builds, RuleValue, Items, nothing}
+use Rattle.gw_maplang.specs.Shapes.{Path, Field, Current, Leaf, Const, Copy, Lookup, Date, LeafValue, Making, Copies, Firsts, Repeats, Builds, RuleValue, Items, nothing}
 use Rattle.gw_maplang.specs.Columns.{WideRow, WideTable, behind_first, is_known}
 use Rattle.gw_maplang.specs.Lawful.{Lawful, LawfulLeaf, LawfulLeafValue, LawfulLeaves, LawfulMaking, LawfulItems, LawfulDrop, LawfulPath, places, rule_fields}
 use Rattle.gw_maplang.specs.Line.{Line, Begins, Language, Table, Rows, Else, Segment, Makes, At, Each, End, Drops}
@@ -104,6 +104,8 @@ module _ (names : List (List ℕ)) (second : Bool) (ts : List WideTable) (known 
   leaf_lawful repeated (Copy (Current place)) s a e u b = (not_false repeated a, s)
   leaf_lawful repeated (Lookup table (Field from place)) s a e u b = (table_known table e u, s.1)
   leaf_lawful repeated (Lookup table (Current place)) s a e u b = (table_known table e u, (not_false repeated a, s.1))
+  leaf_lawful repeated (Date digits (Field from place)) s a e u b = s
+  leaf_lawful repeated (Date digits (Current place)) s a e u b = (s.0, (not_false repeated a, s.1))
 
   own_lawful : (leaves : List LeafValue) → AllByRecursion ShapedLeafValue leaves → list_any (λ l. is_stray false l.leaf || is_early second l.leaf) leaves ≡ false → list_any (λ l. is_unknown ts l.leaf) leaves ≡ false → list_any (λ l. is_bad l.leaf) leaves ≡ false → AllByRecursion (LawfulLeafValue names false) leaves
   own_lawful [] s a u b = tt

@@ -8,7 +8,7 @@ use Rattle.gw_lines.specs.Grammar.{Grammar}
 use Rattle.gw_maplang.specs.declared.fault.MapFault.{MapFault}
 use Rattle.gw_maplang.specs.declared.fault.MapFault.TheVariants.{Syntax, UnknownTable, BadConstant, Duplicate, TooDeep}
 use Rattle.gw_maplang.specs.declared.rule.LeafPlace.{LeafPlace}
-use Rattle.gw_maplang.specs.Shapes.{Current, Leaf, Const, Copy, Lookup, LeafValue, Making, Copies, Firsts, Repeats, Builds, RuleValue, TableValue}
+use Rattle.gw_maplang.specs.Shapes.{Current, Leaf, Const, Copy, Lookup, Date, LeafValue, Making, Copies, Firsts, Repeats, Builds, RuleValue, TableValue}
 use Rattle.gw_maplang.specs.Columns.{WideRow, WideTable, new_table, widened, all_columns, behind_first, is_known}
 use Rattle.gw_maplang.specs.Lawful.{least_field}
 use Rattle.gw_lines.specs.Spelled.{is_dot}
@@ -186,11 +186,13 @@ is_said (Some values) = true
 abbrev pub is_stray : Bool → Leaf → Bool
 is_stray repeated (Copy (Current place)) = not repeated
 is_stray repeated (Lookup table (Current place)) = not repeated
+is_stray repeated (Date digits (Current place)) = not repeated
 is_stray repeated leaf = false
 
--- a column by its number, in the first language
+-- a date, or a column by its number, in the first language
 abbrev pub is_early : Bool → Leaf → Bool
 is_early second (Lookup table ref) = not second && is_some (behind_first is_dot table)
+is_early second (Date digits ref) = not second
 is_early second leaf = false
 
 -- a table that doesn't stand above, or one without that column

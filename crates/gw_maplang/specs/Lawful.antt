@@ -6,7 +6,7 @@ use Rattle.gw_lines.specs.Values.{is_value}
 use Rattle.gw_maplang.specs.declared.rule.LeafPlace.{LeafPlace}
 use Rattle.gw_maplang.specs.Among.{Among, Distinct}
 use Rattle.gw_maplang.specs.Columns.{is_table_word}
-use Rattle.gw_maplang.specs.Shapes.{Path, FieldPath, Ref, Field, Current, Leaf, Const, Copy, Lookup, LeafValue, Making, Copies, Firsts, Repeats, Builds, RuleValue, SegmentItem, GroupItem, FlatItem, Items, nothing, segment, group, flat, Row, TableValue, DropValue, MapValue}
+use Rattle.gw_maplang.specs.Shapes.{Path, FieldPath, Ref, Field, Current, Leaf, Const, Copy, Lookup, Date, LeafValue, Making, Copies, Firsts, Repeats, Builds, RuleValue, SegmentItem, GroupItem, FlatItem, Items, nothing, segment, group, flat, Row, TableValue, DropValue, MapValue}
 
 -- ---- numbers and paths
 
@@ -47,11 +47,16 @@ abbrev pub LawfulRef : Bool → Ref → Type 0
 LawfulRef repeated (Field from place) = LawfulFieldPath from × LawfulPlace place
 LawfulRef repeated (Current place) = (repeated ≡ true) × LawfulPlace place
 
+-- from the year to the second
+abbrev pub IsDateLength : ℕ → Type 0
+IsDateLength digits = (4 ≤ digits) × (digits ≤ 14)
+
 -- Constants are canonical texts that aren't empty; each table that is named is in the map.
 abbrev pub LawfulLeaf : List (List ℕ) → Bool → Leaf → Type 0
 LawfulLeaf tables repeated (Const value) = is_value value ≡ true
 LawfulLeaf tables repeated (Copy ref) = LawfulRef repeated ref
 LawfulLeaf tables repeated (Lookup table ref) = Among table tables × LawfulRef repeated ref
+LawfulLeaf tables repeated (Date digits ref) = IsDateLength digits × LawfulRef repeated ref
 
 abbrev pub LawfulLeafValue : List (List ℕ) → Bool → LeafValue → Type 0
 LawfulLeafValue tables repeated l = LawfulPlace l.place × LawfulLeaf tables repeated l.leaf

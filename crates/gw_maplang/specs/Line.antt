@@ -1,5 +1,5 @@
 -- The lines of a map, and the words of each.
-use Rattle.std.specs.Prelude.{ℕ, Bool, ◌==◌, nat_le, if◌then◌else◌, List, [], ◌∷◌, length, Option, Some, None, codes}
+use Rattle.std.specs.Prelude.{ℕ, Bool, ◌==◌, ◌||◌, nat_le, if◌then◌else◌, List, [], ◌∷◌, length, Option, Some, None, codes}
 use Rattle.std.specs.List.{list_all, slice_split, before_first}
 use Rattle.std.specs.Option.{option_map}
 use Rattle.gw_lines.specs.Words.{Word}
@@ -7,7 +7,7 @@ use Rattle.gw_lines.specs.Spelled.{plain_bytes, is_keyword, is_name, is_dot, num
 use Rattle.gw_lines.specs.Values.{bytes_of}
 use Rattle.gw_lines.specs.Parts.{first_word, name_at, number_at, behind, with_all, ◌>>=◌}
 use Rattle.gw_maplang.specs.declared.rule.LeafPlace.{LeafPlace}
-use Rattle.gw_maplang.specs.Shapes.{Path, FieldPath, Ref, Field, Current, Leaf, Const, Copy, Lookup, LeafValue, Copies, Firsts, Repeats, Builds, RuleValue, DropValue}
+use Rattle.gw_maplang.specs.Shapes.{Path, FieldPath, Ref, Field, Current, Leaf, Const, Copy, Lookup, Date, LeafValue, Copies, Firsts, Repeats, Builds, RuleValue, DropValue}
 use Rattle.gw_maplang.specs.Columns.{WideRow, behind_first, is_table_word}
 use Rattle.gw_maplang.specs.Lawful.{least_field, last_label}
 
@@ -172,12 +172,29 @@ lookup_form words = do
   ref ← plain_at ref_of table.1
   with_all ref.1 (Lookup table.0 ref.0)
 
+-- as many digits as a date, or a date and time, has from the year to a part (HL7 v2.5.1 chapter 2A, "DTM")
+abbrev pub is_date_length : ℕ → Bool
+is_date_length n = n == 4 || n == 6 || n == 8 || n == 10 || n == 12 || n == 14
+
+abbrev pub date_length : List ℕ → Option ℕ
+date_length bytes = do
+  n ← number 4 14 bytes
+  if is_date_length n then Some n else None
+
+-- date N REF
+abbrev pub date_form : List Word → Option Leaf
+date_form words = do
+  digits ← plain_at date_length words
+  ref ← plain_at ref_of digits.1
+  with_all ref.1 (Date digits.0 ref.0)
+
 -- LEAF, by its keyword
 abbrev pub leaf_of : Word → List Word → Option Leaf
 leaf_of keyword more =
     if is_keyword (codes "const") keyword then const_form more
     else if is_keyword (codes "copy") keyword then copy_form more
     else if is_keyword (codes "lookup") keyword then lookup_form more
+    else if is_keyword (codes "date") keyword then date_form more
     else None
 
 abbrev pub leaf_form : List Word → Option Leaf

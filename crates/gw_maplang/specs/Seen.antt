@@ -16,7 +16,7 @@ use Rattle.gw_maplang.specs.declared.context as Held
 use Rattle.gw_maplang.specs.Fault as Fault
 use Rattle.gw_lines.specs.Grammar.{AllTaken}
 use Rattle.gw_maplang.specs.Columns.{WideRow, WideRows, WideTable}
-use Rattle.gw_maplang.specs.Shapes.{Path, FieldPath, Ref, Field, Current, Leaf, Const, Copy, Lookup, LeafValue, Copies, Firsts, Repeats, Builds, RuleValue, Items, nothing, segment, group, flat, Row, Rows, TableValue, DropValue, MapValue}
+use Rattle.gw_maplang.specs.Shapes.{Path, FieldPath, Ref, Field, Current, Leaf, Const, Copy, Lookup, Date, LeafValue, Copies, Firsts, Repeats, Builds, RuleValue, Items, nothing, segment, group, flat, Row, Rows, TableValue, DropValue, MapValue}
 
 abbrev pub now : Option (Bor (List ℕ)) → Option (List ℕ)
 now found = option_map (λ bytes. bytes.now) found
@@ -49,6 +49,7 @@ abbrev pub leaf : leaves.Leaf → Leaf
 leaf (leaves.TheVariants.Const value) = Const value.items
 leaf (leaves.TheVariants.Copy r) = Copy (ref r)
 leaf (leaves.TheVariants.Lookup name r) = Lookup name.items (ref r)
+leaf (leaves.TheVariants.Date digits r) = Date digits (ref r)
 
 abbrev pub leaf_value : LeafRule → LeafValue
 leaf_value l = record { line = l.line; place = l.place; leaf = leaf l.leaf }

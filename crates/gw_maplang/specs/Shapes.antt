@@ -21,6 +21,8 @@ pub data Leaf : Type 0 where
   Const : (value : List ℕ) → Leaf
   Copy : (ref : Ref) → Leaf
   Lookup : (table : List ℕ) (ref : Ref) → Leaf
+  -- so many of the first digits of a date and time
+  Date : (digits : ℕ) (ref : Ref) → Leaf
 
 pub record LeafValue : Type 0 where
   pub line : ℕ

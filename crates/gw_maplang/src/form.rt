@@ -11,7 +11,7 @@ use crate::parts::{drop_of, field_path, is_table_word, path_of, place_of, ref_of
 use crate::rule::{
     BuildRule, CopyRule, Dropped, FieldPath, Leaf, LeafPlace, LeafRule, Ref, RepeatRule, Rule,
 };
-use gw_lines::{Word, behind, bytes_of, first_word, name_at, number_at};
+use gw_lines::{Word, behind, bytes_of, first_word, name_at, number, number_at};
 use std::alloc::{AllocError, Global};
 
 // The greatest number of a table's columns.
@@ -230,6 +230,44 @@ fn lookup_form(alloc: Global, words: &[Word]) -> Result<Option<Leaf>, AllocError
     Ok(None)
 }
 
+fn date_length(bytes: &[u8]) -> Option<u32>
+    ensures { result ≡ spec.date_length bytes.now }
+{
+    match number(4, 14, bytes)? {
+        4 => Some(4),
+        6 => Some(6),
+        8 => Some(8),
+        10 => Some(10),
+        12 => Some(12),
+        14 => Some(14),
+        _ => None,
+    }
+}
+
+// How many digits of a date.
+fn date_length_at<'a, 'w>(words: &'w [Word<'a>]) -> Option<(u32, &'w [Word<'a>])>
+    ensures { option_map (λ w. (w.0, map word w.1.now)) result ≡ spec.plain_at spec.date_length (map word words.now) }
+{
+    let (bytes, more) = plain_word(words)?;
+    let digits = date_length(bytes)?;
+    Some((digits, more))
+}
+
+fn date_form(alloc: Global, words: &[Word]) -> Result<Option<Leaf>, AllocError>
+    ensures { IfOk result (λ found. option_map leaf found ≡ spec.date_form (map word words.now)) }
+{
+    let Some((digits, more)) = date_length_at(words) else {
+        return Ok(None);
+    };
+    let Some((from, more)) = ref_at(alloc, more)? else {
+        return Ok(None);
+    };
+    if more.is_empty() {
+        return Ok(Some(Leaf::Date(digits, from)));
+    }
+    Ok(None)
+}
+
 fn leaf_of(alloc: Global, keyword: Word, more: &[Word]) -> Result<Option<Leaf>, AllocError>
     ensures { IfOk result (λ found. option_map leaf found ≡ spec.leaf_of (word keyword.entry) (map word more.now)) }
 {
@@ -241,6 +279,9 @@ fn leaf_of(alloc: Global, keyword: Word, more: &[Word]) -> Result<Option<Leaf>, 
     }
     if keyword.is(b"lookup") {
         return lookup_form(alloc, more);
+    }
+    if keyword.is(b"date") {
+        return date_form(alloc, more);
     }
     Ok(None)
 }

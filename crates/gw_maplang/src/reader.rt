@@ -80,6 +80,8 @@ fn is_stray(repeated: bool, made: &Leaf) -> bool
         Leaf::Copy(Ref::Current(_)) => !repeated,
         Leaf::Lookup(_, Ref::Field(_, _)) => false,
         Leaf::Lookup(_, Ref::Current(_)) => !repeated,
+        Leaf::Date(_, Ref::Field(_, _)) => false,
+        Leaf::Date(_, Ref::Current(_)) => !repeated,
     }
 }
 
@@ -90,6 +92,7 @@ fn is_unknown(tables: &IndexMap<Vec<u8>, Wide>, made: &Leaf) -> bool
         Leaf::Const(_) => false,
         Leaf::Copy(_) => false,
         Leaf::Lookup(name, _) => !is_known(tables, name),
+        Leaf::Date(_, _) => false,
     }
 }
 
@@ -100,6 +103,7 @@ fn is_early(second: bool, made: &Leaf) -> bool
         Leaf::Const(_) => false,
         Leaf::Copy(_) => false,
         Leaf::Lookup(name, _) => !second && after_first_byte(b'.', name).is_some(),
+        Leaf::Date(_, _) => !second,
     }
 }
 
@@ -110,6 +114,7 @@ fn is_bad(made: &Leaf) -> bool
         Leaf::Const(value) => !is_value(value),
         Leaf::Copy(_) => false,
         Leaf::Lookup(_, _) => false,
+        Leaf::Date(_, _) => false,
     }
 }
 

@@ -21,12 +21,14 @@ pub enum Ref {
     Current(LeafPlace),
 }
 
-/// What makes one text of the target: a constant, a text of the source, or a table's row for a text of the source.
+/// What makes one text of the target: a constant, a text of the source, a table's row for a text of the source,
+/// or the first digits of a date and time of the source, as many as said.
 #[derive(Drop)]
 pub enum Leaf {
     Const(Vec<u8>),
     Copy(Ref),
     Lookup(Vec<u8>, Ref),
+    Date(u32, Ref),
 }
 
 /// A leaf, and the place in the field that it fills.

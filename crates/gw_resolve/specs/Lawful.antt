@@ -9,7 +9,7 @@ use Rattle.gw_maplang.specs.Among.{Distinct}
 use Rattle.gw_maplang.specs.Shapes.{Rows}
 use Rattle.gw_maplang.specs.Lawful.{LawfulRow}
 use Rattle.gw_resolve.specs.Places.{child, nodes_of_child, name_of}
-use Rattle.gw_resolve.specs.Resolved.{Source, of_field, of_current, Leaf, const, copied, looked_up, At, Making, copy, first, repeat, build, Rule, Items, no_items, segment_item, group_item, flat_item}
+use Rattle.gw_resolve.specs.Resolved.{Source, of_field, of_current, Leaf, const, copied, looked_up, dated, At, Making, copy, first, repeat, build, Rule, Items, no_items, segment_item, group_item, flat_item}
 
 -- what rows give is canonical and not empty
 pub record LawfulRows (table : Rows) : Type 0 where
@@ -26,6 +26,7 @@ abbrev pub LawfulLeaf : Bool → Leaf → Type 0
 LawfulLeaf repeated (const text) = is_value text ≡ true
 LawfulLeaf repeated (copied source) = LawfulSource repeated source
 LawfulLeaf repeated (looked_up table source) = LawfulRows table × LawfulSource repeated source
+LawfulLeaf repeated (dated digits source) = LawfulSource repeated source
 
 pub record LawfulAt (repeated : Bool) (a : At) : Type 0 where
   pub comp : 1 ≤ a.comp

@@ -13,11 +13,12 @@ pub data Source : Type 0 where
   of_field : (from : Reference) (comp sub : ℕ) → Source
   of_current : (comp sub : ℕ) → Source
 
--- a text, the text of a source, or what the rows of a table give for that
+-- a text, the text of a source, what the rows of a table give for that, or so many of its first digits
 pub data Leaf : Type 0 where
   const : (text : List ℕ) → Leaf
   copied : (source : Source) → Leaf
   looked_up : (table : Rows) (source : Source) → Leaf
+  dated : (digits : ℕ) (source : Source) → Leaf
 
 -- the leaf of a component and subcomponent
 pub record At : Type 0 where

@@ -20,7 +20,7 @@ use Rattle.gw_resolve.specs.declared.resolved.LeftOut.{LeftOut}
 use Rattle.gw_maplang.specs.Shapes.{TableValue, table_of}
 use Rattle.gw_resolve.specs.Naming.{no_rows}
 use Rattle.gw_resolve.specs.Places.{Element, a_segment, a_group, the_whole, Place}
-use Rattle.gw_resolve.specs.Resolved.{Reference, Source, of_field, of_current, Leaf, const, copied, looked_up, At, Making, copy, first, repeat, build, Rule, Items, no_items, segment_item, group_item, flat_item, Drop, first_child}
+use Rattle.gw_resolve.specs.Resolved.{Reference, Source, of_field, of_current, Leaf, const, copied, looked_up, dated, At, Making, copy, first, repeat, build, Rule, Items, no_items, segment_item, group_item, flat_item, Drop, first_child}
 
 -- ---- counts
 
@@ -74,6 +74,7 @@ abbrev pub leaf : List TableValue → leaves.ResolvedLeaf → Leaf
 leaf tables (leaves.TheVariants.Const text) = const text.items
 leaf tables (leaves.TheVariants.Copied from) = copied (source from)
 leaf tables (leaves.TheVariants.LookedUp name from) = looked_up (unwrap_or (table_of name.items tables) no_rows) (source from)
+leaf tables (leaves.TheVariants.Dated digits from) = dated digits (source from)
 
 abbrev pub at_leaf : List TableValue → ats.At → At
 at_leaf tables a = record { line = a.line; comp = a.place.comp; sub = a.place.sub; leaf = leaf tables a.leaf }

@@ -23,12 +23,13 @@ pub enum Source {
     OfCurrent(LeafPlace),
 }
 
-/// A text, the text of a source, or what the table of this name gives for that.
+/// A text, the text of a source, what the table of this name gives for that, or so many of its first digits.
 #[derive(Drop)]
 pub enum ResolvedLeaf {
     Const(Vec<u8>),
     Copied(Source),
     LookedUp(Vec<u8>, Source),
+    Dated(u32, Source),
 }
 
 /// The leaf of a component and subcomponent.

@@ -81,6 +81,10 @@ fn leaf(
             let from = source(alloc, found, scope, line, from)?;
             Ok(ResolvedLeaf::LookedUp(name, from))
         }
+        gw_maplang::Leaf::Date(digits, from) => {
+            let from = source(alloc, found, scope, line, from)?;
+            Ok(ResolvedLeaf::Dated(*digits, from))
+        }
     }
 }
 

@@ -29,6 +29,7 @@ pub(crate) fn read_of(site: &Site) -> Option<&ElementPath> {
         Origin::Unsaid | Origin::Text(_) => None,
         Origin::Read(from) | Origin::Repeated(from) => Some(from),
         Origin::LookedUp(_, from) => Some(from),
+        Origin::Dated(_, from) => Some(from),
     }
 }
 
@@ -208,14 +209,20 @@ fn print_table<E: Write>(errors: &mut E, profile: &Profile, named: Named<'_>) {
 // ---- what prevents a map
 
 impl Explanation<'_> {
-    /// Reports the table of the map in which a text is looked up, where it is.
-    fn print_lookup<E: Write>(&self, errors: &mut E) -> bool {
-        let Origin::LookedUp(name, _) = &self.site.origin else {
-            return false;
-        };
-        say(errors, b", looked up in ");
-        say(errors, name);
-        true
+    /// Reports what the map makes of a text, where it isn't copied.
+    fn print_change<E: Write>(&self, errors: &mut E) -> bool {
+        match &self.site.origin {
+            Origin::LookedUp(name, _) => {
+                say(errors, b", looked up in ");
+                say(errors, name);
+                true
+            }
+            Origin::Dated(digits, _) => {
+                let _ = write!(errors, ", of which the map takes the first {digits} digits");
+                true
+            }
+            _ => false,
+        }
     }
 
     /// Reports a text that the source lists and that isn't taken, where there is one.
@@ -255,7 +262,7 @@ impl Explanation<'_> {
         print_table(errors, &self.sides.target, to);
         say(errors, b", and ");
         print_table(errors, &self.sides.source, from);
-        if !self.print_lookup(errors) {
+        if !self.print_change(errors) {
             let table = self.target_table(to);
             self.print_untaken(errors, from, table, " is unknown to the target");
         }
@@ -266,7 +273,7 @@ impl Explanation<'_> {
         print_length(errors, &self.sides.target, to);
         say(errors, b", and ");
         print_length(errors, &self.sides.source, from);
-        if !self.print_lookup(errors) {
+        if !self.print_change(errors) {
             let length = self.target_length(to);
             self.print_untaken(errors, from, length, " is longer");
         }

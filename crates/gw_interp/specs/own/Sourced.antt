@@ -5,7 +5,7 @@ use Rattle.gw_er7.specs.Message.{Texts, text_of, SegmentValue}
 use Rattle.gw_er7.specs.Presence.{RepAt, FieldAt}
 use Rattle.gw_interp.specs.declared.reading.Repetition.{Repetition}
 use Rattle.gw_interp.specs.declared.reading.Reading.{Reading}
-use Rattle.gw_resolve.specs.Resolved.{Leaf, const, copied, looked_up}
+use Rattle.gw_resolve.specs.Resolved.{Leaf, const, copied, looked_up, dated}
 use Rattle.gw_interp.specs.Meaning.{IsFirst, Walked, SourceMeans, look_up, LeafMeans}
 use Rattle.gw_interp.specs.own.Borrowed.{scope}
 
@@ -32,6 +32,7 @@ abbrev pub IsFault : Walked → Leaf → Type 0
 IsFault w (const value) = ⊥
 IsFault w (copied source) = ⊥
 IsFault w (looked_up table source) = (from : List ℕ) × SourceMeans w source from × (look_up table from ≡ None)
+IsFault w (dated digits source) = ⊥
 
 -- the text of a leaf, or a fault
 abbrev pub LeafGives : Walked → Leaf → Option (List ℕ) → Type 0
