@@ -13,8 +13,8 @@ use Rattle.gw_profile.proofs.Shaped.{any, gives, map_gives, chosen, either_gives
 use Rattle.gw_maplang.specs.Among.{Distinct}
 use Rattle.gw_maplang.specs.Columns.{behind_first, is_table_word}
 use Rattle.gw_maplang.specs.Shapes.{Path, FieldPath, Ref, Field, Current, Leaf, Const, Copy, Lookup, Date, LeafValue, Making, Copies, Firsts, Repeats, Builds}
-use Rattle.gw_maplang.specs.Lawful.{LawfulPath, LawfulField, LawfulFieldPath, LawfulPlace, LawfulDrop, IsDateLength, last_label, places}
-use Rattle.gw_maplang.specs.Line.{Line, Begins, Language, Table, Rows, Else, Segment, Makes, At, Each, End, Drops, is_slash, is_dash, path_of, field_of, field_path, sub_of, place_of, place_or_first, field_ref, ref_of, dropped_field, drop_of, constant, plain_word, plain_at, text_at, some_bytes, texts, most_columns, some_texts, table_word, from_at, const_form, copy_form, lookup_form, is_date_length, date_length, date_form, leaf_of, leaf_form, own_leaves, map_form, language_form, table_form, row_form, else_form, source_behind, source_at, segment_form, made_from, copies_form, firsts_form, repeats_form, builds_form, at_form, each_form, group_form, drop_form, rule_form, keyword_form, form}
+use Rattle.gw_maplang.specs.Lawful.{LawfulPath, LawfulField, LawfulFieldPath, LawfulPlace, LawfulDrop, is_date_length, last_label, places}
+use Rattle.gw_maplang.specs.Line.{Line, Begins, Language, Table, Rows, Else, Segment, Makes, At, Each, End, Drops, is_slash, is_dash, path_of, field_of, field_path, sub_of, place_of, place_or_first, field_ref, ref_of, dropped_field, drop_of, constant, plain_word, plain_at, text_at, some_bytes, texts, most_columns, some_texts, table_word, from_at, const_form, copy_form, lookup_form, date_length, date_from, date_form, leaf_of, leaf_form, own_leaves, map_form, language_form, table_form, row_form, else_form, source_behind, source_at, segment_form, made_from, copies_form, firsts_form, repeats_form, builds_form, at_form, each_form, group_form, drop_form, rule_form, keyword_form, form}
 
 abbrev pub ShapedRef : Ref → Type 0
 ShapedRef (Field from place) = LawfulFieldPath from × LawfulPlace place
@@ -24,7 +24,7 @@ abbrev pub ShapedLeaf : Leaf → Type 0
 ShapedLeaf (Const value) = Unit {0}
 ShapedLeaf (Copy ref) = ShapedRef ref
 ShapedLeaf (Lookup table ref) = (is_table_word table ≡ true) × ShapedRef ref
-ShapedLeaf (Date digits ref) = IsDateLength digits × ShapedRef ref
+ShapedLeaf (Date digits ref) = (is_date_length digits ≡ true) × ShapedRef ref
 
 abbrev pub ShapedLeafValue : LeafValue → Type 0
 ShapedLeafValue l = LawfulPlace l.place × ShapedLeaf l.leaf
@@ -141,14 +141,16 @@ lookup_form_is words =
     gives (λ p. is_table_word p.0 ≡ true) ShapedLeaf (plain_at table_word words) _ (plain_at_is (λ word. is_table_word word ≡ true) table_word table_word_is words)
     (λ table u. gives (λ p. ShapedRef p.0) ShapedLeaf (plain_at ref_of table.1) _ (plain_at_is ShapedRef ref_of ref_of_is table.1) (λ ref h. with_all_is ShapedLeaf ref.1 (Lookup table.0 ref.0) (u, h)))
 
-date_length_is : (bytes : List ℕ) → IfSome (date_length bytes) IsDateLength
-date_length_is bytes =
-    gives IsDateLength IsDateLength (number 4 14 bytes) _ (number_is 4 14 bytes) (λ n h. chosen IsDateLength (is_date_length n) n (λ e. h))
+date_length_is : (bytes : List ℕ) → IfSome (date_length bytes) (λ n. is_date_length n ≡ true)
+date_length_is bytes = gives (λ _. Unit {0}) (λ n. is_date_length n ≡ true) (number 4 14 bytes) _ (any (number 4 14 bytes)) (λ n u. chosen (λ k. is_date_length k ≡ true) (is_date_length n) n (λ e. e))
+
+date_from_is : (digits : ℕ) (words : List Word) → is_date_length digits ≡ true → IfSome (date_from digits words) ShapedLeaf
+date_from_is digits words u = gives (λ p. ShapedRef p.0) ShapedLeaf (plain_at ref_of words) _ (plain_at_is ShapedRef ref_of ref_of_is words) (λ ref h. with_all_is ShapedLeaf ref.1 (Date digits ref.0) (u, h))
 
 date_form_is : (words : List Word) → IfSome (date_form words) ShapedLeaf
 date_form_is words =
-    gives (λ p. IsDateLength p.0) ShapedLeaf (plain_at date_length words) _ (plain_at_is IsDateLength date_length date_length_is words)
-    (λ digits u. gives (λ p. ShapedRef p.0) ShapedLeaf (plain_at ref_of digits.1) _ (plain_at_is ShapedRef ref_of ref_of_is digits.1) (λ ref h. with_all_is ShapedLeaf ref.1 (Date digits.0 ref.0) (u, h)))
+    gives (λ p. is_date_length p.0 ≡ true) ShapedLeaf (plain_at date_length words) _ (plain_at_is (λ n. is_date_length n ≡ true) date_length date_length_is words)
+    (λ digits u. date_from_is digits.0 digits.1 u)
 
 leaf_of_is : (keyword : Word) (more : List Word) → IfSome (leaf_of keyword more) ShapedLeaf
 leaf_of_is keyword more =

@@ -1,5 +1,5 @@
 -- What every map keeps.
-use Rattle.std.specs.Prelude.{◌≡◌, ℕ, ◌≤◌, Bool, true, false, if◌then◌else◌, List, [], ◌∷◌, map, IfSome, codes, bytes_eq}
+use Rattle.std.specs.Prelude.{◌≡◌, ℕ, ◌≤◌, ◌==◌, ◌||◌, Bool, true, false, if◌then◌else◌, List, [], ◌∷◌, map, IfSome, codes, bytes_eq}
 use Rattle.std.specs.List.{AllByRecursion}
 use Rattle.gw_lines.specs.Spelled.{is_name}
 use Rattle.gw_lines.specs.Values.{is_value}
@@ -47,16 +47,16 @@ abbrev pub LawfulRef : Bool → Ref → Type 0
 LawfulRef repeated (Field from place) = LawfulFieldPath from × LawfulPlace place
 LawfulRef repeated (Current place) = (repeated ≡ true) × LawfulPlace place
 
--- from the year to the second
-abbrev pub IsDateLength : ℕ → Type 0
-IsDateLength digits = (4 ≤ digits) × (digits ≤ 14)
+-- as many digits as a date, or a date and time, has from the year to a part (HL7 v2.5.1 chapter 2A, "DTM")
+abbrev pub is_date_length : ℕ → Bool
+is_date_length n = n == 4 || n == 6 || n == 8 || n == 10 || n == 12 || n == 14
 
 -- Constants are canonical texts that aren't empty; each table that is named is in the map.
 abbrev pub LawfulLeaf : List (List ℕ) → Bool → Leaf → Type 0
 LawfulLeaf tables repeated (Const value) = is_value value ≡ true
 LawfulLeaf tables repeated (Copy ref) = LawfulRef repeated ref
 LawfulLeaf tables repeated (Lookup table ref) = Among table tables × LawfulRef repeated ref
-LawfulLeaf tables repeated (Date digits ref) = IsDateLength digits × LawfulRef repeated ref
+LawfulLeaf tables repeated (Date digits ref) = (is_date_length digits ≡ true) × LawfulRef repeated ref
 
 abbrev pub LawfulLeafValue : List (List ℕ) → Bool → LeafValue → Type 0
 LawfulLeafValue tables repeated l = LawfulPlace l.place × LawfulLeaf tables repeated l.leaf

@@ -1,5 +1,5 @@
 -- The lines of a map, and the words of each.
-use Rattle.std.specs.Prelude.{ℕ, Bool, ◌==◌, ◌||◌, nat_le, if◌then◌else◌, List, [], ◌∷◌, length, Option, Some, None, codes}
+use Rattle.std.specs.Prelude.{ℕ, Bool, ◌==◌, nat_le, if◌then◌else◌, List, [], ◌∷◌, length, Option, Some, None, codes}
 use Rattle.std.specs.List.{list_all, slice_split, before_first}
 use Rattle.std.specs.Option.{option_map}
 use Rattle.gw_lines.specs.Words.{Word}
@@ -9,7 +9,7 @@ use Rattle.gw_lines.specs.Parts.{first_word, name_at, number_at, behind, with_al
 use Rattle.gw_maplang.specs.declared.rule.LeafPlace.{LeafPlace}
 use Rattle.gw_maplang.specs.Shapes.{Path, FieldPath, Ref, Field, Current, Leaf, Const, Copy, Lookup, Date, LeafValue, Copies, Firsts, Repeats, Builds, RuleValue, DropValue}
 use Rattle.gw_maplang.specs.Columns.{WideRow, behind_first, is_table_word}
-use Rattle.gw_maplang.specs.Lawful.{least_field, last_label}
+use Rattle.gw_maplang.specs.Lawful.{least_field, last_label, is_date_length}
 
 -- A line. A rule has the leaf of its own line alone. No label stands for `flat`.
 pub data Line : Type 0 where
@@ -172,21 +172,22 @@ lookup_form words = do
   ref ← plain_at ref_of table.1
   with_all ref.1 (Lookup table.0 ref.0)
 
--- as many digits as a date, or a date and time, has from the year to a part (HL7 v2.5.1 chapter 2A, "DTM")
-abbrev pub is_date_length : ℕ → Bool
-is_date_length n = n == 4 || n == 6 || n == 8 || n == 10 || n == 12 || n == 14
-
 abbrev pub date_length : List ℕ → Option ℕ
 date_length bytes = do
   n ← number 4 14 bytes
   if is_date_length n then Some n else None
 
+-- REF, behind date N
+abbrev pub date_from : ℕ → List Word → Option Leaf
+date_from digits words = do
+  ref ← plain_at ref_of words
+  with_all ref.1 (Date digits ref.0)
+
 -- date N REF
 abbrev pub date_form : List Word → Option Leaf
 date_form words = do
   digits ← plain_at date_length words
-  ref ← plain_at ref_of digits.1
-  with_all ref.1 (Date digits.0 ref.0)
+  date_from digits.0 digits.1
 
 -- LEAF, by its keyword
 abbrev pub leaf_of : Word → List Word → Option Leaf

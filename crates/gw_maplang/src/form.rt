@@ -253,19 +253,26 @@ fn date_length_at<'a, 'w>(words: &'w [Word<'a>]) -> Option<(u32, &'w [Word<'a>])
     Some((digits, more))
 }
 
-fn date_form(alloc: Global, words: &[Word]) -> Result<Option<Leaf>, AllocError>
-    ensures { IfOk result (λ found. option_map leaf found ≡ spec.date_form (map word words.now)) }
+// What stands behind `date N`.
+fn date_from(alloc: Global, digits: u32, words: &[Word]) -> Result<Option<Leaf>, AllocError>
+    ensures { IfOk result (λ found. option_map leaf found ≡ spec.date_from digits (map word words.now)) }
 {
-    let Some((digits, more)) = date_length_at(words) else {
-        return Ok(None);
-    };
-    let Some((from, more)) = ref_at(alloc, more)? else {
+    let Some((from, more)) = ref_at(alloc, words)? else {
         return Ok(None);
     };
     if more.is_empty() {
         return Ok(Some(Leaf::Date(digits, from)));
     }
     Ok(None)
+}
+
+fn date_form(alloc: Global, words: &[Word]) -> Result<Option<Leaf>, AllocError>
+    ensures { IfOk result (λ found. option_map leaf found ≡ spec.date_form (map word words.now)) }
+{
+    match date_length_at(words) {
+        None => Ok(None),
+        Some((digits, more)) => date_from(alloc, digits, more),
+    }
 }
 
 fn leaf_of(alloc: Global, keyword: Word, more: &[Word]) -> Result<Option<Leaf>, AllocError>
