@@ -141,8 +141,8 @@ leaves_kept tables names scope repeated ls t h = record { each = at_kept tables 
 
 making_kept : (tables : List TableValue) (names : List (List ℕ)) (scope : List Element) (m : raw.Making) → AllByRecursion theirs.LawfulTable tables → theirs.LawfulMaking names m → LawfulMaking (making tables scope m)
 making_kept tables names scope (raw.Copies from) t h = tt
-making_kept tables names scope (raw.Firsts from) t h = tt
-making_kept tables names scope (raw.Repeats from ls) t h = leaves_kept tables names scope true ls t h.1
+making_kept tables names scope (raw.Firsts from c) t h = tt
+making_kept tables names scope (raw.Repeats from c ls) t h = leaves_kept tables names scope true ls t h.2
 making_kept tables names scope (raw.Builds ls) t h = leaves_kept tables names scope false ls t h
 
 -- ---- rules

@@ -67,8 +67,8 @@ leaf_sites scope around at field a = site_of a.line at field a.comp a.sub (leaf_
 -- leaves stand before their field: of a rule of one leaf in one line the leaf is named
 abbrev pub making_sites : List Position → Position → ℕ → ℕ → Making → List Site
 making_sites scope at line field (copy from) = site_of line at field 0 0 (read (spot_at scope from.place from.field 0 0)) ∷ []
-making_sites scope at line field (first from) = site_of line at field 0 0 (read (spot_at scope from.place from.field 0 0)) ∷ []
-making_sites scope at line field (repeat from leaves) = flat_map (leaf_sites scope (Some from) at field) leaves ++ (site_of line at field 0 0 (repeated (spot_at scope from.place from.field 0 0)) ∷ [])
+making_sites scope at line field (first from condition) = site_of line at field 0 0 (read (spot_at scope from.place from.field 0 0)) ∷ []
+making_sites scope at line field (repeat from condition leaves) = flat_map (leaf_sites scope (Some from) at field) leaves ++ (site_of line at field 0 0 (repeated (spot_at scope from.place from.field 0 0)) ∷ [])
 making_sites scope at line field (build leaves) = flat_map (leaf_sites scope None at field) leaves ++ (site_of line at field 0 0 unsaid ∷ [])
 
 abbrev pub rule_sites : List Position → Position → Rule → List Site

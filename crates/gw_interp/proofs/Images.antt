@@ -22,11 +22,12 @@ use Rattle.gw_resolve.specs.Places.{Place}
 use Rattle.gw_resolve.specs.Resolved.{Source, of_field, of_current, Leaf, const, copied, looked_up, dated, At, leaf_at, Making, copy, first, repeat, build, Rule, rule_of}
 use Rattle.gw_resolve.specs.Lawful.{LawfulSource, LawfulLeaf, LawfulAt, LawfulLeaves, LawfulMaking, LawfulRule, LawfulRules}
 use Rattle.gw_interp.specs.Occurrences.{Occurrence, a_segment, nodes, at_place, texts_of_first, texts_at}
-use Rattle.gw_interp.specs.Meaning.{InFirst, Walked, walking, SourceMeans, first_digits, LeafMeans, AtMeans, Where, MakingMeans, RuleMeans, IsImage}
+use Rattle.gw_interp.specs.Meaning.{InFirst, InFirstOf, IsChosen, InNumber, Walked, walking, SourceMeans, first_digits, LeafMeans, AtMeans, Where, MakingMeans, RuleMeans, IsImage}
 use Rattle.gw_interp.proofs.Lists.{found_test, found_all}
 use Rattle.gw_interp.proofs.Shaped.{text_there}
 use Rattle.gw_interp.proofs.Leaves.{given_value, LooksUp, of_none, of_null, of_value, looks_up}
 use Rattle.gw_interp.proofs.Made.{comp_is, sub_is}
+use Rattle.gw_interp.proofs.Chosen.{chosen_there, number_positive}
 
 -- each text that isn't empty may stand at its place
 abbrev pub AreEntries : ℕ → Texts → Type 0
@@ -168,18 +169,28 @@ module _ (w : Walked) (places : (place : Place) → AreEntries 1 (texts_at w.mes
   making_placed (copy from) lawful r c k text means lt =
       let entry = places from.place from.field r c k (subst (λ t. 0 < length t) means lt) in
       record { rep = entry.key.positive.1.0; comp = entry.key.positive.1.1.0; sub = entry.key.positive.1.1.1.0; canonical = subst IsCanonical (sym means) entry.text }
-  making_placed (first from) lawful r c k text means lt = by means
+  making_placed (first from chosen) lawful r c k text means lt = by means
     where
-      inner : r ≡ 1 → InFirst (texts_at w.message w.scope from.place) from.field c k text → IsPlaced r c k text
+      inner : r ≡ 1 → InFirstOf (IsChosen chosen (texts_at w.message w.scope from.place) from.field) (texts_at w.message w.scope from.place) from.field c k text → IsPlaced r c k text
       inner e (inl h) =
           let entry = places from.place from.field h.0 c k (subst (λ t. 0 < length t) h.2 lt) in
           record { rep = omega (arith, e); comp = entry.key.positive.1.1.0; sub = entry.key.positive.1.1.1.0; canonical = subst IsCanonical (sym h.2) entry.text }
       inner e (inr h) = absurd (text_there text lt h.1)
 
-      by : Where (r ≡ 1) (InFirst (texts_at w.message w.scope from.place) from.field c k) text → IsPlaced r c k text
+      by : Where (r ≡ 1) (InFirstOf (IsChosen chosen (texts_at w.message w.scope from.place) from.field) (texts_at w.message w.scope from.place) from.field c k) text → IsPlaced r c k text
       by (inl h) = inner h.0 h.1
       by (inr h) = absurd (text_there text lt h.1)
-  making_placed (repeat from leaves) lawful r c k text means lt = by means
+  making_placed (repeat from (Some chosen) leaves) lawful r c k text means lt = by means
+    where
+      by : InNumber (IsChosen (Some chosen) (texts_at w.message w.scope from.place) from.field) r (λ n. AtMeans (walking w from n) (leaf_at leaves c k)) text → IsPlaced r c k text
+      by (inl h) =
+          let source = texts_at w.message w.scope from.place in
+          let at = chosen_there (Some chosen) source from.field h.0 h.1.holds in
+          let entry = places from.place from.field h.0 at.0 at.1.0 at.1.1 in
+          let rep = number_positive (IsChosen (Some chosen) source from.field) h.0 r entry.key.positive.1.0 h.1.holds h.1.counted in
+          leaf_placed (walking w from h.0) places true (λ e comp sub. text_canonical source (places from.place) from.field h.0 comp sub) leaves lawful r c k rep text h.2 lt
+      by (inr h) = absurd (text_there text lt h.1)
+  making_placed (repeat from None leaves) lawful r c k text means lt = by means
     where
       by : Where (RepAt (texts_at w.message w.scope from.place) from.field r) (AtMeans (walking w from r) (leaf_at leaves c k)) text → IsPlaced r c k text
       by (inl h) =

@@ -262,8 +262,8 @@ module _ (names : List (List ℕ)) (s : Sources) (w : Walked) (has : HasTables n
     where
       by : (making : Making) → rule_lookups s (record r { making = making }) ≡ [] → NoFaultIn w making
       by (copy from) none = tt
-      by (first from) none = tt
-      by (repeat from leaves) none = λ rep at.
+      by (first from chosen) none = tt
+      by (repeat from chosen leaves) none = λ rep at.
           all_as (λ (a : At). lookup_failures (counts.walking s from) r.field a ≡ []) (λ (a : At). IsFault (walking w from rep) a.leaf → ⊥)
           (λ a e. no_fault names (counts.walking s from) (walking w from rep) has (walked_on names s w has is from rep at) r.field a e) leaves (each_empty (lookup_failures (counts.walking s from) r.field) leaves none)
       by (build leaves) none =

@@ -113,8 +113,8 @@ made_field s to mark leaves target =
 
 abbrev pub making_failures : Sources → ProfileValue → Mark → Making → FieldValue → List Failure
 making_failures s to mark (copy from) target = copied_field s to mark from target
-making_failures s to mark (first from) target = copied_field s to mark from target
-making_failures s to mark (repeat from leaves) target = made_field (walking s from) to mark leaves target
+making_failures s to mark (first from condition) target = copied_field s to mark from target
+making_failures s to mark (repeat from condition leaves) target = made_field (walking s from) to mark leaves target
 making_failures s to mark (build leaves) target = made_field s to mark leaves target
 
 -- ---- lookups
@@ -138,6 +138,6 @@ rule_lookups s r = go r.making
   where
     go : Making → List Failure
     go (copy from) = []
-    go (first from) = []
-    go (repeat from leaves) = flat_map (lookup_failures (walking s from) r.field) leaves
+    go (first from condition) = []
+    go (repeat from condition leaves) = flat_map (lookup_failures (walking s from) r.field) leaves
     go (build leaves) = flat_map (lookup_failures s r.field) leaves

@@ -95,8 +95,8 @@ fn add_segment<'a>(
         let field = field_of(fields, rule.field);
         match &rule.making {
             Making::Copy(from) => add_copied(comparisons, at_field(sources, from), field)?,
-            Making::First(from) => add_copied(comparisons, at_field(sources, from), field)?,
-            Making::Repeat(from, leaves) => {
+            Making::First(from, _) => add_copied(comparisons, at_field(sources, from), field)?,
+            Making::Repeat(from, _, leaves) => {
                 add_leaves(comparisons, walking(sources, from), field, leaves)?
             }
             Making::Build(leaves) => add_leaves(comparisons, sources, field, leaves)?,

@@ -6,7 +6,7 @@ use Rattle.gw_lines.specs.Values.{is_value}
 use Rattle.gw_maplang.specs.declared.rule.LeafPlace.{LeafPlace}
 use Rattle.gw_maplang.specs.Among.{Among, Distinct}
 use Rattle.gw_maplang.specs.Columns.{is_table_word}
-use Rattle.gw_maplang.specs.Shapes.{Path, FieldPath, Ref, Field, Current, Leaf, Const, Copy, Lookup, Date, LeafValue, Making, Copies, Firsts, Repeats, Builds, RuleValue, SegmentItem, GroupItem, FlatItem, Items, nothing, segment, group, flat, Row, TableValue, DropValue, MapValue}
+use Rattle.gw_maplang.specs.Shapes.{Path, FieldPath, Ref, Field, Current, Leaf, Const, Copy, Lookup, Date, LeafValue, Condition, Making, Copies, Firsts, Repeats, Builds, RuleValue, SegmentItem, GroupItem, FlatItem, Items, nothing, segment, group, flat, Row, TableValue, DropValue, MapValue}
 
 -- ---- numbers and paths
 
@@ -69,10 +69,15 @@ pub record LawfulLeaves (tables : List (List ℕ)) (repeated : Bool) (leaves : L
   pub each : AllByRecursion (LawfulLeafValue tables repeated) leaves
   pub distinct : Distinct (places leaves)
 
+-- the texts that it asks for are canonical and not empty
+pub record LawfulCondition (c : Condition) : Type 0 where
+  pub place : LawfulPlace c.place
+  pub each : AllByRecursion (λ value. is_value value ≡ true) c.values
+
 abbrev pub LawfulMaking : List (List ℕ) → Making → Type 0
 LawfulMaking tables (Copies from) = LawfulFieldPath from
-LawfulMaking tables (Firsts from) = LawfulFieldPath from
-LawfulMaking tables (Repeats from leaves) = LawfulFieldPath from × LawfulLeaves tables true leaves
+LawfulMaking tables (Firsts from condition) = LawfulFieldPath from × IfSome condition LawfulCondition
+LawfulMaking tables (Repeats from condition leaves) = LawfulFieldPath from × IfSome condition LawfulCondition × LawfulLeaves tables true leaves
 LawfulMaking tables (Builds leaves) = LawfulLeaves tables false leaves
 
 abbrev pub LawfulRule : List (List ℕ) → List ℕ → RuleValue → Type 0

@@ -7,7 +7,7 @@ use Rattle.gw_lines.specs.Spelled.{plain_bytes, is_keyword, is_name, is_dot, num
 use Rattle.gw_lines.specs.Values.{bytes_of}
 use Rattle.gw_lines.specs.Parts.{first_word, name_at, number_at, behind, with_all, ◌>>=◌}
 use Rattle.gw_maplang.specs.declared.rule.LeafPlace.{LeafPlace}
-use Rattle.gw_maplang.specs.Shapes.{Path, FieldPath, Ref, Field, Current, Leaf, Const, Copy, Lookup, Date, LeafValue, Copies, Firsts, Repeats, Builds, RuleValue, DropValue}
+use Rattle.gw_maplang.specs.Shapes.{Path, FieldPath, Ref, Field, Current, Leaf, Const, Copy, Lookup, Date, LeafValue, Condition, Copies, Firsts, Repeats, Builds, RuleValue, DropValue}
 use Rattle.gw_maplang.specs.Columns.{WideRow, behind_first, is_table_word}
 use Rattle.gw_maplang.specs.Lawful.{least_field, last_label, is_date_length}
 
@@ -143,6 +143,11 @@ abbrev pub some_texts : List Word → Option (List (List ℕ))
 some_texts [] = None
 some_texts (w ∷ more) = few_texts (w ∷ more)
 
+-- VALUE ..: one at least
+abbrev pub all_texts : List Word → Option (List (List ℕ))
+all_texts [] = None
+all_texts (w ∷ more) = texts (w ∷ more)
+
 -- TABLE or TABLE.K
 abbrev pub table_word : List ℕ → Option (List ℕ)
 table_word bytes = if is_table_word bytes then Some bytes else None
@@ -152,6 +157,25 @@ abbrev pub from_at : List Word → Option (FieldPath × List Word)
 from_at words = do
   more ← behind (codes "from") words
   plain_at field_path more
+
+-- where C[.S]
+abbrev pub where_at : List Word → Option (LeafPlace × List Word)
+where_at words = do
+  more ← behind (codes "where") words
+  plain_at place_of more
+
+-- where C[.S] is VALUE ..
+abbrev pub condition_form : List Word → Option Condition
+condition_form words = do
+  place ← where_at words
+  more ← behind (codes "is") place.1
+  values ← all_texts more
+  Some (record { place = place.0; values = values })
+
+-- the same, or nothing
+abbrev pub condition_at : List Word → Option (Option Condition)
+condition_at [] = Some None
+condition_at (w ∷ words) = option_map Some (condition_form (w ∷ words))
 
 -- const VALUE
 abbrev pub const_form : List Word → Option Leaf
@@ -266,17 +290,25 @@ made_from words = do
   from ← from_at field.1
   with_all from.1 (field.0, from.0)
 
+-- N from PATH-F [where C[.S] is VALUE ..]
+abbrev pub chosen_from : List Word → Option (ℕ × FieldPath × Option Condition)
+chosen_from words = do
+  field ← number_at 999 words
+  from ← from_at field.1
+  condition ← condition_at from.1
+  Some (field.0, (from.0, condition))
+
 -- copy N from PATH-F
 abbrev pub copies_form : ℕ → List Word → Option Line
 copies_form at words = option_map (λ m. Makes (record { line = at; field = m.0; making = Copies m.1 })) (made_from words)
 
--- first N from PATH-F
+-- first N from PATH-F [where C[.S] is VALUE ..]
 abbrev pub firsts_form : ℕ → List Word → Option Line
-firsts_form at words = option_map (λ m. Makes (record { line = at; field = m.0; making = Firsts m.1 })) (made_from words)
+firsts_form at words = option_map (λ m. Makes (record { line = at; field = m.0; making = Firsts m.1 m.2 })) (chosen_from words)
 
--- repeat N from PATH-F
+-- repeat N from PATH-F [where C[.S] is VALUE ..]
 abbrev pub repeats_form : ℕ → List Word → Option Line
-repeats_form at words = option_map (λ m. Makes (record { line = at; field = m.0; making = Repeats m.1 [] })) (made_from words)
+repeats_form at words = option_map (λ m. Makes (record { line = at; field = m.0; making = Repeats m.1 m.2 [] })) (chosen_from words)
 
 -- build N [LEAF]
 abbrev pub builds_form : ℕ → List Word → Option Line

@@ -9,7 +9,7 @@ ghost use Rattle.gw_maplang.specs.Columns.{wide_row_of};
 ghost use Rattle.gw_maplang.specs.Fault as spec;
 ghost use Rattle.gw_maplang.specs.Line as form;
 ghost use Rattle.gw_lines.specs.Grammar.{Taken};
-ghost use Rattle.gw_maplang.specs.Seen.{line, above, now_all, rule, leaf, leaf_value, wide_table, open_segment, open_rule, map_value, IsNewField, IsNewPlace, IsNewTable};
+ghost use Rattle.gw_maplang.specs.Seen.{line, above, now_all, items_all, rule, condition_now, leaf, leaf_value, wide_table, open_segment, open_rule, map_value, IsNewField, IsNewPlace, IsNewTable};
 ghost use Rattle.gw_maplang.specs.Whole.{whole, is_unclosed, map_of};
 
 use crate::columns::Wide;
@@ -21,7 +21,7 @@ use crate::fault::MapFault;
 use crate::form::{Line, form};
 use crate::map::Map;
 use crate::parts::after_first_byte;
-use crate::rule::{Leaf, LeafPlace, LeafRule, Ref, Rule};
+use crate::rule::{Condition, Leaf, LeafPlace, LeafRule, Ref, Rule};
 use crate::whole::map_of;
 use gw_er7::is_canonical;
 use gw_lines::{Form, Word};
@@ -126,6 +126,35 @@ fn own_leaf(made: &Rule) -> &[LeafRule]
         Rule::FirstRep(_) => &[],
         Rule::RepeatField(_) => &[],
         Rule::Build(build) => build.leaves.as_slice(),
+    }
+}
+
+fn is_hasty(second: bool, asked: Option<&Condition>) -> bool
+    ensures { result ≡ spec.is_hasty second (condition_now asked.entry) }
+{
+    match asked {
+        None => false,
+        Some(_) => !second,
+    }
+}
+
+fn are_all_values(all: &[Vec<u8>]) -> bool
+    ensures { result ≡ list_all is_value (items_all all.now) }
+{
+    for value in all {
+        if !is_value(value) {
+            return false;
+        }
+    }
+    true
+}
+
+fn is_bad_condition(asked: Option<&Condition>) -> bool
+    ensures { result ≡ spec.is_bad_condition (condition_now asked.entry) }
+{
+    match asked {
+        None => false,
+        Some(condition) => !are_all_values(&condition.values),
     }
 }
 
@@ -296,13 +325,17 @@ impl<'a> Reader<'a> {
         ensures { result ≡ first_of (spec.rule_tests self.now at (rule made.now)) }
     {
         let own = own_leaf(made);
-        if is_misplaced(made.field(), &self.segment) || any_stray(self.open_parts.second, own) {
+        let asked = made.condition();
+        if is_misplaced(made.field(), &self.segment)
+            || is_hasty(self.open_parts.second, asked)
+            || any_stray(self.open_parts.second, own)
+        {
             return Some(MapFault::Syntax(at));
         }
         if any_unknown(&self.tables, own) {
             return Some(MapFault::UnknownTable(at));
         }
-        if any_bad(own) {
+        if is_bad_condition(asked) || any_bad(own) {
             return Some(MapFault::BadConstant(at));
         }
         if is_made(made.field(), &self.segment) {

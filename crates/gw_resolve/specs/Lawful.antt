@@ -46,8 +46,8 @@ pub record LawfulLeaves (repeated : Bool) (leaves : List At) : Type 0 where
 
 abbrev pub LawfulMaking : Making → Type 0
 LawfulMaking (copy from) = Unit {0}
-LawfulMaking (first from) = Unit {0}
-LawfulMaking (repeat from leaves) = LawfulLeaves true leaves
+LawfulMaking (first from condition) = Unit {0}
+LawfulMaking (repeat from condition leaves) = LawfulLeaves true leaves
 LawfulMaking (build leaves) = LawfulLeaves false leaves
 
 -- a field of a segment of this name; fields 1 and 2 of MSH are its delimiters

@@ -114,8 +114,8 @@ leaf_failures scope l = text_failures scope l.line l.leaf
 
 abbrev pub making_failures : List Element → ℕ → raw.Making → List Failure
 making_failures scope line (raw.Copies from) = read_failures scope line from
-making_failures scope line (raw.Firsts from) = read_failures scope line from
-making_failures scope line (raw.Repeats from leaves) = read_failures scope line from ++ flat_map (leaf_failures scope) leaves
+making_failures scope line (raw.Firsts from condition) = read_failures scope line from
+making_failures scope line (raw.Repeats from condition leaves) = read_failures scope line from ++ flat_map (leaf_failures scope) leaves
 making_failures scope line (raw.Builds leaves) = flat_map (leaf_failures scope) leaves
 
 abbrev pub rule_failures : List Element → raw.RuleValue → List Failure
@@ -219,8 +219,8 @@ at_leaf tables scope l = record { line = l.line; comp = l.place.comp; sub = l.pl
 
 abbrev pub making : List TableValue → List Element → raw.Making → Making
 making tables scope (raw.Copies from) = copy (reference scope from)
-making tables scope (raw.Firsts from) = first (reference scope from)
-making tables scope (raw.Repeats from leaves) = repeat (reference scope from) (map (at_leaf tables scope) leaves)
+making tables scope (raw.Firsts from condition) = first (reference scope from) condition
+making tables scope (raw.Repeats from condition leaves) = repeat (reference scope from) condition (map (at_leaf tables scope) leaves)
 making tables scope (raw.Builds leaves) = build (map (at_leaf tables scope) leaves)
 
 abbrev pub rule : List TableValue → List Element → raw.RuleValue → Rule

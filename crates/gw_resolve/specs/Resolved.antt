@@ -1,6 +1,6 @@
 -- A map whose labels were looked up: it names target nodes by their numbers, and source places by steps.
 use Rattle.std.specs.Prelude.{ℕ, ◌==◌, ◌&&◌, List, Option, Some, None, find}
-use Rattle.gw_maplang.specs.Shapes.{Rows}
+use Rattle.gw_maplang.specs.Shapes.{Rows, Condition}
 use Rattle.gw_resolve.specs.Places.{Place}
 
 -- a field of the segment at a place
@@ -27,11 +27,12 @@ pub record At : Type 0 where
   pub sub : ℕ
   pub leaf : Leaf
 
--- how a field is made: as another, as its first repetition, a repetition of leaves for each of its own, or one of leaves
+-- How a field is made: as another, as its first repetition, a repetition of leaves for each of its own, or one of leaves.
+-- Where there is a condition, only the repetitions count that it chooses.
 pub data Making : Type 0 where
   copy : (from : Reference) → Making
-  first : (from : Reference) → Making
-  repeat : (from : Reference) (leaves : List At) → Making
+  first : (from : Reference) (condition : Option Condition) → Making
+  repeat : (from : Reference) (condition : Option Condition) (leaves : List At) → Making
   build : (leaves : List At) → Making
 
 -- the rule of a target field

@@ -17,6 +17,7 @@ use Rattle.gw_resolve.specs.declared.resolved.Making as makings
 use Rattle.gw_resolve.specs.declared.resolved.Rule as rules_of
 use Rattle.gw_resolve.specs.declared.resolved.Item.{Item, Segment, Group', Flat', Row_of-Item, end_of-Item, more_of-Item}
 use Rattle.gw_resolve.specs.declared.resolved.LeftOut.{LeftOut}
+use Rattle.gw_maplang.specs.Seen.{condition_some}
 use Rattle.gw_maplang.specs.Shapes.{TableValue, table_of}
 use Rattle.gw_resolve.specs.Naming.{no_rows}
 use Rattle.gw_resolve.specs.Places.{Element, a_segment, a_group, the_whole, Place}
@@ -81,8 +82,8 @@ at_leaf tables a = record { line = a.line; comp = a.place.comp; sub = a.place.su
 
 abbrev pub making : List TableValue → makings.Making → Making
 making tables (makings.TheVariants.Copy from) = copy (reference from)
-making tables (makings.TheVariants.First from) = first (reference from)
-making tables (makings.TheVariants.Repeat from each) = repeat (reference from) (map (at_leaf tables) each.items)
+making tables (makings.TheVariants.First from chosen) = first (reference from) (condition_some chosen)
+making tables (makings.TheVariants.Repeat from chosen each) = repeat (reference from) (condition_some chosen) (map (at_leaf tables) each.items)
 making tables (makings.TheVariants.Build each) = build (map (at_leaf tables) each.items)
 
 abbrev pub rule : List TableValue → rules_of.Rule → Rule

@@ -9,16 +9,16 @@ returns-in_ok-from-in-CopyField-clause-made c = λ tables. copied tables (walked
 pub returns-in_ok-from-in-CopyField-clause-failures : goal.returns-in_ok-from-in-CopyField-clause-failures
 returns-in_ok-from-in-CopyField-clause-failures c = c.in_ok-from-in-CopyField.ensures.failures ∙ ap (noted (walked c.args.scope.now) (failures c.args.found.now.items)) (sym c.in-CopyField.is)
 
-pub returns-in_ok-from-in-FirstRep-clause-made : goal.returns-in_ok-from-in-FirstRep-clause-made
-returns-in_ok-from-in-FirstRep-clause-made c = λ tables. first_copied tables (walked c.args.scope.now) c.args.made.now c.in-FirstRep.made c.in_ok-from-in-FirstRep.from c.in-FirstRep.is c.in_ok-from-in-FirstRep.ensures.made
+pub returns-in_ok-chosen-in-FirstRep-clause-made : goal.returns-in_ok-chosen-in-FirstRep-clause-made
+returns-in_ok-chosen-in-FirstRep-clause-made c = λ tables. first_copied tables (walked c.args.scope.now) c.args.made.now c.in-FirstRep.made c.in_ok-from-in-FirstRep.from c.in_ok-chosen-in-FirstRep.chosen c.in-FirstRep.is c.in_ok-from-in-FirstRep.ensures.made c.in_ok-chosen-in-FirstRep.ensures
 
-pub returns-in_ok-from-in-FirstRep-clause-failures : goal.returns-in_ok-from-in-FirstRep-clause-failures
-returns-in_ok-from-in-FirstRep-clause-failures c = c.in_ok-from-in-FirstRep.ensures.failures ∙ ap (noted (walked c.args.scope.now) (failures c.args.found.now.items)) (sym c.in-FirstRep.is)
+pub returns-in_ok-chosen-in-FirstRep-clause-failures : goal.returns-in_ok-chosen-in-FirstRep-clause-failures
+returns-in_ok-chosen-in-FirstRep-clause-failures c = c.in_ok-from-in-FirstRep.ensures.failures ∙ ap (noted (walked c.args.scope.now) (failures c.args.found.now.items)) (sym c.in-FirstRep.is)
 
 pub returns-in_ok-each-in-RepeatField-clause-made : goal.returns-in_ok-each-in-RepeatField-clause-made
 returns-in_ok-each-in-RepeatField-clause-made c = λ tables.
-    repeated tables (walked c.args.scope.now) c.args.made.now c.in-RepeatField.made c.in_ok-from-in-RepeatField.from c.in_ok-each-in-RepeatField.each.items c.deref.result.now
-    c.in-RepeatField.is c.in_ok-from-in-RepeatField.ensures.made (c.in_ok-each-in-RepeatField.ensures.made tables) c.deref.ensures.value
+    repeated tables (walked c.args.scope.now) c.args.made.now c.in-RepeatField.made c.in_ok-from-in-RepeatField.from c.in_ok-chosen-in-RepeatField.chosen c.in_ok-each-in-RepeatField.each.items c.deref.result.now
+    c.in-RepeatField.is c.in_ok-from-in-RepeatField.ensures.made (c.in_ok-each-in-RepeatField.ensures.made tables) c.deref.ensures.value c.in_ok-chosen-in-RepeatField.ensures
 
 pub returns-in_ok-each-in-RepeatField-clause-failures : goal.returns-in_ok-each-in-RepeatField-clause-failures
 returns-in_ok-each-in-RepeatField-clause-failures c =
