@@ -166,14 +166,14 @@ parts_lawful names above (Segment at label source ∷ below) g = nothing_behind 
 parts_lawful names above (Makes rule ∷ below) g =
     let i = parts_lawful names (Makes rule ∷ above) below g.1 in
     let k = known names above (Makes rule ∷ below) g in
-    let c = neither (is_misplaced rule.field (open_segment above)) _ g.0.clear.0 in
-    let d = neither (is_hasty (is_second above) (condition_of rule.making)) _ c.1 in
+    let c = neither (is_misplaced rule.field (open_segment above) || is_hasty (is_second above) (condition_of rule.making)) _ g.0.clear.0 in
+    let d = neither (is_misplaced rule.field (open_segment above)) (is_hasty (is_second above) (condition_of rule.making)) c.0 in
     let b = neither (is_bad_condition (condition_of rule.making)) _ g.0.clear.1.1.0 in
     record {
       leaves = no_leaves names (open_rule above);
       rules =
-          add_rule names (is_second above) (wide_tables above) k (open_segment above) rule (parts below).leaves (parts below).rules g.0.shaped.0 c.0 g.0.clear.1.1.1.0
-          (making_lawful names (is_second above) (wide_tables above) k rule.making (parts below).leaves g.0.shaped.1 d.1 g.0.clear.1.0 b.1 b.0 i.leaves) i.rules;
+          add_rule names (is_second above) (wide_tables above) k (open_segment above) rule (parts below).leaves (parts below).rules g.0.shaped.0 d.0 g.0.clear.1.1.1.0
+          (making_lawful names (is_second above) (wide_tables above) k rule.making (parts below).leaves g.0.shaped.1 c.1 g.0.clear.1.0 b.1 b.0 i.leaves) i.rules;
     }
 parts_lawful names above (At leaf ∷ below) g =
     let i = parts_lawful names (At leaf ∷ above) below g.1 in

@@ -296,7 +296,7 @@ chosen_from words = do
   field ← number_at 999 words
   from ← from_at field.1
   condition ← condition_at from.1
-  Some (field.0, (from.0, condition))
+  Some (field.0, from.0, condition)
 
 -- copy N from PATH-F
 abbrev pub copies_form : ℕ → List Word → Option Line

@@ -480,7 +480,7 @@ fn chosen_from(
     alloc: Global,
     words: &[Word],
 ) -> Result<Option<(u32, FieldPath, Option<Condition>)>, AllocError>
-    ensures { IfOk result (λ found. option_map (λ m. (m.0, (field_path m.1, condition_some m.2))) found ≡ spec.chosen_from (map word words.now)) }
+    ensures { IfOk result (λ found. option_map (λ m. (m.0, field_path m.1, condition_some m.2)) found ≡ spec.chosen_from (map word words.now)) }
 {
     let Some((field, more)) = number_at(999, words) else {
         return Ok(None);
