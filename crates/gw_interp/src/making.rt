@@ -121,7 +121,14 @@ fn make_repeat<'a>(
             field: source,
             rep,
         };
-        make_rep(rows, scope, builder, repetition, leaves, ValuePath { field, rep })?;
+        make_rep(
+            rows,
+            scope,
+            builder,
+            repetition,
+            leaves,
+            ValuePath { field, rep },
+        )?;
     }
     Ok(())
 }
