@@ -137,7 +137,7 @@ same_places tables scope [] = refl
 same_places tables scope (l ∷ ls) = ap (λ ps. l.place ∷ ps) (same_places tables scope ls)
 
 leaves_kept : (tables : List TableValue) (names : List (List ℕ)) (scope : List Element) (repeated : Bool) (ls : List raw.LeafValue) → AllByRecursion theirs.LawfulTable tables → theirs.LawfulLeaves names repeated ls → LawfulLeaves repeated (map (at_leaf tables scope) ls)
-leaves_kept tables names scope repeated ls t h = record { each = at_kept tables names scope repeated ls t h.each; distinct = subst Distinct (sym (same_places tables scope ls)) h.distinct }
+leaves_kept tables names scope repeated ls t h = record { each = at_kept tables names scope repeated ls t h.each; grouped = subst theirs.Grouped (sym (same_places tables scope ls)) h.grouped }
 
 making_kept : (tables : List TableValue) (names : List (List ℕ)) (scope : List Element) (m : raw.Making) → AllByRecursion theirs.LawfulTable tables → theirs.LawfulMaking names m → LawfulMaking (making tables scope m)
 making_kept tables names scope (raw.Copies from) t h = tt

@@ -9,6 +9,7 @@ use Rattle.std.specs.FinMap.{slice_cmp-IsAntisymmetric, nat_cmp-IsAntisymmetric}
 use Rattle.std.proofs.lemmas.Bool.Decides.{eqb_tells, leb_tells}
 use Rattle.gw_er7.specs.Message.{Texts, text_of}
 use Rattle.gw_er7.specs.Presence.{SubAt, CompAt, RepAt, FieldAt}
+use Rattle.gw_maplang.specs.Among.{Among}
 use Rattle.gw_interp.specs.Meaning.{IsFirst}
 
 abbrev pub Decided : Type 0 → Type 0
@@ -60,6 +61,11 @@ found_bounded f test (y ∷ xs) x e = by (test y) e (found_bounded f test xs x)
     by : (b : Bool) → cond b (Some y) (find test xs) ≡ Some x → (find test xs ≡ Some x → f x ≤ sum_of f xs) → f x ≤ f y + sum_of f xs
     by true g later = let same : x ≡ y = cc in let value : f x ≡ f y = ap f same in omega (arith, value)
     by false g later = let low : f x ≤ sum_of f xs = later g in omega (arith, low)
+
+pub among_bounded : {A : Type 0} (f : A → ℕ) (xs : List A) (x : A) → Among x xs → f x ≤ sum_of f xs
+among_bounded f [] x h = absurd h
+among_bounded f (y ∷ xs) x (inl same) = let value : f x ≡ f y = ap f same in omega (arith, value)
+among_bounded f (y ∷ xs) x (inr h) = let low = among_bounded f xs x h in omega (arith, low)
 
 abbrev total : List ℕ → ℕ
 total = sum_of (λ n. n)

@@ -6,17 +6,17 @@ use Rattle.std.proofs.lemmas.Bool.Decides.{eqb_tells, Decides-eqb}
 use Rattle.gw_er7.specs.Names.{IsName}
 use Rattle.gw_er7.specs.Message.{Texts, text_of, SegmentValue, first_field, IsEntry, IsSegment}
 use Rattle.gw_er7.specs.Presence.{RepAt}
-use Rattle.gw_resolve.specs.Resolved.{Source, of_field, of_current, Leaf, const, copied, looked_up, dated, At, leaf_at, Making, copy, first, repeat, build, Rule, rule_of}
+use Rattle.gw_resolve.specs.Resolved.{Source, of_field, of_current, Leaf, const, copied, looked_up, dated, At, leaves_at, Making, copy, first, repeat, build, Rule, rule_of}
 use Rattle.gw_maplang.specs.Among.{Among}
 use Rattle.gw_maplang.specs.Shapes.{Rows}
 use Rattle.gw_interp.specs.Occurrences.{texts_at}
 use Rattle.gw_interp.specs.Meaning.{InFirst, Walked, SourceMeans, look_up, first_digits, LeafMeans, AtMeans, Where, walking, MakingMeans, RuleMeans, IsImage}
 use Rattle.gw_interp.specs.own.Sourced.{IsFault}
 use Rattle.gw_interp.specs.own.Ready.{NoFaults, NoFaultIn, MayImage}
-use Rattle.gw_interp.proofs.Lists.{found_test, found_all}
+use Rattle.gw_interp.proofs.Lists.{found_test, found_all, kept_all}
 use Rattle.gw_interp.proofs.Shaped.{text_there}
-use Rattle.gw_interp.proofs.Made.{comp_is, sub_is}
-use Rattle.gw_interp.proofs.Bounded.{Decided, bound, sum_of, found_bounded, text_bounded, rep_if, first_rep_if}
+use Rattle.gw_interp.proofs.Made.{of_leaf}
+use Rattle.gw_interp.proofs.Bounded.{Decided, bound, sum_of, found_bounded, among_bounded, text_bounded, rep_if, first_rep_if}
 use Rattle.gw_interp.proofs.Tabled.{places_to, among_places, tabled, tabled_name, tabled_text, tabled_segment}
 
 -- ---- there is a text
@@ -48,12 +48,16 @@ leaf_text w (copied source) sound = source_text w source
 leaf_text w (dated digits source) sound = let from = source_text w source in (first_digits digits from.0, (from.0, from.1, refl))
 leaf_text w (looked_up table source) sound = let from = source_text w source in looked_text w table source sound from.0 from.1
 
-at_text : (w : Walked) (leaves : List At) → NoFaults w leaves → (comp sub : ℕ) → Exists (AtMeans w (leaf_at leaves comp sub))
-at_text w leaves sound comp sub = by (leaf_at leaves comp sub) refl
+first_of : (w : Walked) (leaves : List At) → NoFaults w leaves → Exists (AtMeans w leaves)
+first_of w [] sound = ([], refl)
+first_of w (a ∷ leaves) sound = let own = leaf_text w a.leaf sound.0 in by own.0 own.1
   where
-    by : (o : Option At) → leaf_at leaves comp sub ≡ o → Exists (AtMeans w o)
-    by None e = ([], refl)
-    by (Some a) e = leaf_text w a.leaf (found_all (λ (b : At). b.comp == comp && b.sub == sub) (λ (b : At). IsFault w b.leaf → ⊥) leaves a e sound)
+    by : (text : List ℕ) → LeafMeans w a.leaf text → Exists (AtMeans w (a ∷ leaves))
+    by [] h = let other = first_of w leaves sound.1 in (other.0, inr (h, other.1))
+    by (b ∷ text) h = (b ∷ text, inl (h, λ e. cc))
+
+at_text : (w : Walked) (leaves : List At) → NoFaults w leaves → (comp sub : ℕ) → Exists (AtMeans w (leaves_at leaves comp sub))
+at_text w leaves sound comp sub = first_of w (leaves_at leaves comp sub) (kept_all (λ (b : At). b.comp == comp && b.sub == sub) (λ (b : At). IsFault w b.leaf → ⊥) leaves sound)
 
 where_text : (here : Type 0) (means : List ℕ → Type 0) → Decided here → (here → Exists means) → Exists (Where here means)
 where_text here means (inl h) some = let text = some h in (text.0, inl (h, text.1))
@@ -66,8 +70,8 @@ making_text : (w : Walked) (making : Making) → NoFaultIn w making → (r c k :
 making_text w (copy from) sound r c k = (text_of (texts_at w.message w.scope from.place) from.field r c k, refl)
 making_text w (first from) sound r c k = where_text (r ≡ 1) _ (one_if r) (λ h. first_text (texts_at w.message w.scope from.place) from.field c k)
 making_text w (repeat from leaves) sound r c k =
-    where_text (RepAt (texts_at w.message w.scope from.place) from.field r) (AtMeans (walking w from r) (leaf_at leaves c k)) (rep_if (texts_at w.message w.scope from.place) from.field r) (λ h. at_text (walking w from r) leaves (sound r h) c k)
-making_text w (build leaves) sound r c k = where_text (r ≡ 1) (AtMeans w (leaf_at leaves c k)) (one_if r) (λ h. at_text w leaves sound c k)
+    where_text (RepAt (texts_at w.message w.scope from.place) from.field r) (AtMeans (walking w from r) (leaves_at leaves c k)) (rep_if (texts_at w.message w.scope from.place) from.field r) (λ h. at_text (walking w from r) leaves (sound r h) c k)
+making_text w (build leaves) sound r c k = where_text (r ≡ 1) (AtMeans w (leaves_at leaves c k)) (one_if r) (λ h. at_text w leaves sound c k)
 
 rule_text : (w : Walked) (rules : List Rule) → AllByRecursion (λ (r : Rule). NoFaultIn w r.making) rules → (f r c k : ℕ) → Exists (RuleMeans w (rule_of rules f) r c k)
 rule_text w rules sound f r c k = by (rule_of rules f) refl
@@ -81,14 +85,11 @@ rule_text w rules sound f r c k = by (rule_of rules f) refl
 abbrev leaves_bound : List At → ℕ
 leaves_bound = sum_of (λ (a : At). a.comp + a.sub)
 
-at_bounded : (w : Walked) (leaves : List At) (c k : ℕ) (text : List ℕ) → AtMeans w (leaf_at leaves c k) text → 0 < length text → c + k ≤ leaves_bound leaves
-at_bounded w leaves c k text means lt = by (leaf_at leaves c k) refl means
-  where
-    by : (o : Option At) → leaf_at leaves c k ≡ o → AtMeans w o text → c + k ≤ leaves_bound leaves
-    by None e h = absurd (text_there text lt h)
-    by (Some a) e h =
-        let low : a.comp + a.sub ≤ leaves_bound leaves = found_bounded (λ (b : At). b.comp + b.sub) (λ (b : At). b.comp == c && b.sub == k) leaves a e in
-        omega (arith, low, comp_is leaves c k a e, sub_is leaves c k a e)
+at_bounded : (w : Walked) (leaves : List At) (c k : ℕ) (text : List ℕ) → AtMeans w (leaves_at leaves c k) text → 0 < length text → c + k ≤ leaves_bound leaves
+at_bounded w leaves c k text means lt =
+    let is = of_leaf w leaves c k text means lt in
+    let low : is.at.comp + is.at.sub ≤ leaves_bound leaves = among_bounded (λ (b : At). b.comp + b.sub) leaves is.at is.among in
+    omega (arith, low, is.comp, is.sub)
 
 abbrev making_bound : Walked → Making → ℕ
 making_bound w (copy from) = bound (texts_at w.message w.scope from.place)
@@ -110,7 +111,7 @@ making_bounded w (first from) r c k text means lt = by means
     by (inr h) = absurd (text_there text lt h.1)
 making_bounded w (repeat from leaves) r c k text means lt = by means
   where
-    by : Where (RepAt (texts_at w.message w.scope from.place) from.field r) (AtMeans (walking w from r) (leaf_at leaves c k)) text → r + (c + k) ≤ making_bound w (repeat from leaves)
+    by : Where (RepAt (texts_at w.message w.scope from.place) from.field r) (AtMeans (walking w from r) (leaves_at leaves c k)) text → r + (c + k) ≤ making_bound w (repeat from leaves)
     by (inl h) =
         let rep = text_bounded (texts_at w.message w.scope from.place) from.field r h.0.0 h.0.1.0 h.0.1.1 in
         let low = at_bounded (walking w from r) leaves c k text h.1 lt in
@@ -118,7 +119,7 @@ making_bounded w (repeat from leaves) r c k text means lt = by means
     by (inr h) = absurd (text_there text lt h.1)
 making_bounded w (build leaves) r c k text means lt = by means
   where
-    by : Where (r ≡ 1) (AtMeans w (leaf_at leaves c k)) text → r + (c + k) ≤ making_bound w (build leaves)
+    by : Where (r ≡ 1) (AtMeans w (leaves_at leaves c k)) text → r + (c + k) ≤ making_bound w (build leaves)
     by (inl h) = let low = at_bounded w leaves c k text h.1 lt in omega (arith, h.0, low)
     by (inr h) = absurd (text_there text lt h.1)
 

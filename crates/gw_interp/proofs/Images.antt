@@ -19,14 +19,14 @@ use Rattle.gw_profile.proofs.Facts.{both, le_is}
 use Rattle.gw_validate.specs.Breaches.{is_null}
 use Rattle.gw_validate.specs.Conforming.{segment_at}
 use Rattle.gw_resolve.specs.Places.{Place}
-use Rattle.gw_resolve.specs.Resolved.{Source, of_field, of_current, Leaf, const, copied, looked_up, dated, At, leaf_at, Making, copy, first, repeat, build, Rule, rule_of}
+use Rattle.gw_resolve.specs.Resolved.{Source, of_field, of_current, Leaf, const, copied, looked_up, dated, At, leaves_at, Making, copy, first, repeat, build, Rule, rule_of}
 use Rattle.gw_resolve.specs.Lawful.{LawfulSource, LawfulLeaf, LawfulAt, LawfulLeaves, LawfulMaking, LawfulRule, LawfulRules}
 use Rattle.gw_interp.specs.Occurrences.{Occurrence, a_segment, nodes, at_place, texts_of_first, texts_at}
 use Rattle.gw_interp.specs.Meaning.{InFirst, Walked, walking, SourceMeans, first_digits, LeafMeans, AtMeans, Where, MakingMeans, RuleMeans, IsImage}
-use Rattle.gw_interp.proofs.Lists.{found_test, found_all}
+use Rattle.gw_interp.proofs.Lists.{found_test, found_all, among_all}
 use Rattle.gw_interp.proofs.Shaped.{text_there}
 use Rattle.gw_interp.proofs.Leaves.{given_value, LooksUp, of_none, of_null, of_value, looks_up}
-use Rattle.gw_interp.proofs.Made.{comp_is, sub_is}
+use Rattle.gw_interp.proofs.Made.{of_leaf}
 
 -- each text that isn't empty may stand at its place
 abbrev pub AreEntries : ℕ → Texts → Type 0
@@ -148,19 +148,16 @@ pub record IsPlaced (r c k : ℕ) (text : List ℕ) : Type 0 where
   pub sub : 0 < k
   pub canonical : IsCanonical text
 
-leaf_placed : (w : Walked) → ((place : Place) → AreEntries 1 (texts_at w.message w.scope place)) → (repeated : Bool) → (repeated ≡ true → (comp sub : ℕ) → IsCanonical (w.current comp sub)) → (leaves : List At) → LawfulLeaves repeated leaves → (r c k : ℕ) → 0 < r → (text : List ℕ) → AtMeans w (leaf_at leaves c k) text → 0 < length text → IsPlaced r c k text
-leaf_placed w places repeated current leaves lawful r c k rep text means lt = by (leaf_at leaves c k) refl means
-  where
-    by : (o : Option At) → leaf_at leaves c k ≡ o → AtMeans w o text → IsPlaced r c k text
-    by None e h = absurd (text_there text lt h)
-    by (Some a) e h =
-        let is : LawfulAt repeated a = found_all (λ (b : At). b.comp == c && b.sub == k) (LawfulAt repeated) leaves a e lawful.each in
-        record {
-          rep = rep;
-          comp = omega (arith, is.comp, comp_is leaves c k a e);
-          sub = omega (arith, is.sub, sub_is leaves c k a e);
-          canonical = leaf_canonical w places repeated current a.leaf is.leaf text h;
-        }
+leaf_placed : (w : Walked) → ((place : Place) → AreEntries 1 (texts_at w.message w.scope place)) → (repeated : Bool) → (repeated ≡ true → (comp sub : ℕ) → IsCanonical (w.current comp sub)) → (leaves : List At) → LawfulLeaves repeated leaves → (r c k : ℕ) → 0 < r → (text : List ℕ) → AtMeans w (leaves_at leaves c k) text → 0 < length text → IsPlaced r c k text
+leaf_placed w places repeated current leaves lawful r c k rep text means lt =
+    let own = of_leaf w leaves c k text means lt in
+    let is : LawfulAt repeated own.at = among_all (LawfulAt repeated) leaves own.at lawful.each own.among in
+    record {
+      rep = rep;
+      comp = omega (arith, is.comp, own.comp);
+      sub = omega (arith, is.sub, own.sub);
+      canonical = leaf_canonical w places repeated current own.at.leaf is.leaf text own.means;
+    }
 
 module _ (w : Walked) (places : (place : Place) → AreEntries 1 (texts_at w.message w.scope place)) where
   -- a text of a rule may stand at its place
@@ -181,14 +178,14 @@ module _ (w : Walked) (places : (place : Place) → AreEntries 1 (texts_at w.mes
       by (inr h) = absurd (text_there text lt h.1)
   making_placed (repeat from leaves) lawful r c k text means lt = by means
     where
-      by : Where (RepAt (texts_at w.message w.scope from.place) from.field r) (AtMeans (walking w from r) (leaf_at leaves c k)) text → IsPlaced r c k text
+      by : Where (RepAt (texts_at w.message w.scope from.place) from.field r) (AtMeans (walking w from r) (leaves_at leaves c k)) text → IsPlaced r c k text
       by (inl h) =
           let entry = places from.place from.field r h.0.0 h.0.1.0 h.0.1.1 in
           leaf_placed (walking w from r) places true (λ e comp sub. text_canonical (texts_at w.message w.scope from.place) (places from.place) from.field r comp sub) leaves lawful r c k entry.key.positive.1.0 text h.1 lt
       by (inr h) = absurd (text_there text lt h.1)
   making_placed (build leaves) lawful r c k text means lt = by means
     where
-      by : Where (r ≡ 1) (AtMeans w (leaf_at leaves c k)) text → IsPlaced r c k text
+      by : Where (r ≡ 1) (AtMeans w (leaves_at leaves c k)) text → IsPlaced r c k text
       by (inl h) = leaf_placed w places false (λ e. absurd (cc)) leaves lawful r c k (omega (arith, h.0)) text h.1 lt
       by (inr h) = absurd (text_there text lt h.1)
 

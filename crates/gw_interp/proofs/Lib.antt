@@ -38,6 +38,7 @@ mod Placed
 mod Ruled
 mod RuleByRule
 mod Giving
+mod Firsts
 mod Levels
 mod Weights
 mod Eachs

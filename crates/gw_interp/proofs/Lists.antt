@@ -1,6 +1,6 @@
 -- Lists: what holds of each element, what is found, and when nothing fails.
 use Rattle.std.proofs.Common.{◌≡◌, ℕ, suc, ◌≤◌, inl, inr, Bool, true, false, List, [], ◌∷◌, ◌++◌, map, Some, refl, sym, ap, ◌∙◌, subst, arith}
-use Rattle.std.specs.Prelude.{◌||◌, cond, find, flat_map}
+use Rattle.std.specs.Prelude.{◌||◌, cond, find, filter, flat_map}
 use Rattle.std.specs.List.{AllByRecursion, list_any, list_all}
 use Rattle.gw_profile.specs.WellFormed.{Rising}
 use Rattle.gw_profile.proofs.Facts.{both}
@@ -50,6 +50,48 @@ module _ {A : Type 0} (test : A → Bool) where
       by : (b : Bool) → cond b (Some y) (find test xs) ≡ Some x → (find test xs ≡ Some x → P x) → P x
       by true g later = let same : y ≡ x = cc in subst P same p.0
       by false g later = later g
+
+  -- ---- the elements that pass
+
+  pub kept_all : (P : A → Type 0) (xs : List A) → AllByRecursion P xs → AllByRecursion P (filter test xs)
+  kept_all P [] p = tt
+  kept_all P (x ∷ xs) p = by (test x)
+    where
+      by : (b : Bool) → AllByRecursion P (cond b (x ∷ filter test xs) (filter test xs))
+      by true = (p.0, kept_all P xs p.1)
+      by false = kept_all P xs p.1
+
+  pub kept_pass : (xs : List A) → AllByRecursion (λ x. test x ≡ true) (filter test xs)
+  kept_pass [] = tt
+  kept_pass (x ∷ xs) = by (test x) refl
+    where
+      by : (b : Bool) → test x ≡ b → AllByRecursion (λ y. test y ≡ true) (cond b (x ∷ filter test xs) (filter test xs))
+      by true e = (e, kept_pass xs)
+      by false e = kept_pass xs
+
+  pub among_kept : (xs : List A) (x : A) → Among x xs → test x ≡ true → Among x (filter test xs)
+  among_kept [] x h e = absurd h
+  among_kept (y ∷ xs) x (inl same) e = rw (sym (ap test same) ∙ e) (inl same)
+  among_kept (y ∷ xs) x (inr h) e = by (test y) (among_kept xs x h e)
+    where
+      by : (b : Bool) → Among x (filter test xs) → Among x (cond b (y ∷ filter test xs) (filter test xs))
+      by true k = inr k
+      by false k = k
+
+-- each is among them
+module _ {A : Type 0} where
+  further : (y : A) (whole xs : List A) → AllByRecursion (λ x. Among x whole) xs → AllByRecursion (λ x. Among x (y ∷ whole)) xs
+  further y whole [] h = tt
+  further y whole (x ∷ xs) h = (inr h.0, further y whole xs h.1)
+
+  pub each_among : (xs : List A) → AllByRecursion (λ x. Among x xs) xs
+  each_among [] = tt
+  each_among (x ∷ xs) = (inl refl, further x xs xs (each_among xs))
+
+  pub among_all : (P : A → Type 0) (xs : List A) (x : A) → AllByRecursion P xs → Among x xs → P x
+  among_all P [] x p h = absurd h
+  among_all P (y ∷ xs) x p (inl same) = subst P (sym same) p.0
+  among_all P (y ∷ xs) x p (inr h) = among_all P xs x p.1 h
 
 -- an element that is found by a key of its own, where no key stands twice
 module _ {A B : Type 0} (key : A → B) (test : B → A → Bool) (own : (x : A) → test (key x) x ≡ true) (tells_key : (x y : A) → test (key x) y ≡ true → key x ≡ key y) where

@@ -5,25 +5,24 @@ use Rattle.std.specs.List.{AllByRecursion, list_any, list_all}
 use Rattle.std.proofs.lemmas.Bool.Decides.{Decides-eqb}
 use Rattle.gw_er7.specs.Message.{Texts, text_of}
 use Rattle.gw_er7.specs.Presence.{CompAt, RepAt}
-use Rattle.gw_profile.specs.Among.{Among}
+use Rattle.gw_maplang.specs.Among.{Among}
 use Rattle.gw_profile.specs.Shapes.{SubValue, CompValue, FieldValue, ProfileValue}
 use Rattle.gw_profile.specs.WellFormed.{Rising, LawfulComp, LawfulField}
 use Rattle.gw_profile.proofs.Facts as facts
 use Rattle.gw_profile.proofs.Facts.{either, neither, and_of, no_clash, not_true}
 use Rattle.gw_profile.specs.Lengths.{len_count}
 use Rattle.gw_validate.specs.Breaches.{is_required, is_null, SubBreach, InAny, CompBreach, comp_absent, comp_forbidden, in_sub}
-use Rattle.gw_maplang.specs.declared.rule.LeafPlace.{LeafPlace}
 use Rattle.gw_resolve.specs.Intervals.{Interval, never}
-use Rattle.gw_resolve.specs.Resolved.{Leaf, const, copied, looked_up, dated, At, leaf_at}
+use Rattle.gw_resolve.specs.Resolved.{Leaf, const, copied, looked_up, dated, At, leaves_at}
 use Rattle.gw_leaves.specs.Leaves.{Sources, leaf_shape, is_always, is_absent, may_be_unlisted, may_be_long}
 use Rattle.gw_profile.specs.Numbered.{comp_of, sub_of}
 use Rattle.gw_leaves.specs.Counts.{some_always, all_absent, leaves_count}
 use Rattle.gw_resolve.specs.Failures.{Mark, fails}
 use Rattle.gw_leaves.specs.Components.{comp_in, leaf_mark, table_values, is_comp_sure, is_sub_sure, made_sub, made_comp, is_forbidden_comp, is_forbidden_sub, leaf_failures, placed, made_leaf, made_field}
-use Rattle.gw_resolve.specs.Lawful.{LawfulAt, LawfulLeaves, place}
+use Rattle.gw_resolve.specs.Lawful.{LawfulAt, LawfulLeaves}
 use Rattle.gw_interp.specs.Meaning.{Walked, LeafMeans, AtMeans, Where}
 use Rattle.gw_interp.proofs.Walks.{IsWalked}
-use Rattle.gw_interp.proofs.Lists.{all_with, all_pass, some_pass, found_test, found_all, found_each, rising_distinct, none_fails, both_empty, each_empty}
+use Rattle.gw_interp.proofs.Lists.{all_with, all_pass, some_pass, found_each, kept_all, kept_pass, among_kept, each_among, among_all, rising_distinct, none_fails, both_empty, each_empty}
 use Rattle.gw_interp.proofs.Shaped.{IsShaped, IsFit, fit_of, fit_values, some_text, no_text, text_there}
 use Rattle.gw_interp.proofs.Held.{HasTables}
 use Rattle.gw_interp.proofs.Leaves.{leaf_shaped}
@@ -39,27 +38,49 @@ pub found_by_number : {A : Type 0} (number : A → ℕ) (low high : ℕ) (xs : L
 found_by_number number low high xs rising =
     found_each number (λ n y. number y == n) (λ x. own_number (number x)) (λ x y e. sym ((Decides-eqb (number y) (number x)).0 e)) xs (rising_distinct low high (map number xs) rising)
 
-pub same_place : (a b : At) → b.comp == a.comp && b.sub == a.sub ≡ true → place a ≡ place b
-same_place a b e =
-    let p = facts.both (b.comp == a.comp) (b.sub == a.sub) e in
-    let comp : a.comp ≡ b.comp = sym ((Decides-eqb b.comp a.comp).0 p.0) in
-    let sub : a.sub ≡ b.sub = sym ((Decides-eqb b.sub a.sub).0 p.1) in
-    λ i. record { comp = comp i; sub = sub i }
-
 -- ---- leaves at their places
+
+-- a leaf of the place, which gives the text
+pub record OfLeaf (w : Walked) (leaves : List At) (c k : ℕ) (text : List ℕ) : Type 0 where
+  pub at : At
+  pub comp : at.comp ≡ c
+  pub sub : at.sub ≡ k
+  pub among : Among at leaves
+  pub means : LeafMeans w at.leaf text
+
+first_leaf : (w : Walked) (leaves : List At) (text : List ℕ) → AtMeans w leaves text → 0 < length text → (a : At) × Among a leaves × LeafMeans w a.leaf text
+first_leaf w [] text h lt = absurd (text_there text lt h)
+first_leaf w (a ∷ leaves) text (inl h) lt = (a, inl refl, h.0)
+first_leaf w (a ∷ leaves) text (inr h) lt = let o = first_leaf w leaves text h.1 lt in (o.0, inr o.1, o.2)
+
+pub of_leaf : (w : Walked) (leaves : List At) (c k : ℕ) (text : List ℕ) → AtMeans w (leaves_at leaves c k) text → 0 < length text → OfLeaf w leaves c k text
+of_leaf w leaves c k text means lt =
+    let o = first_leaf w (leaves_at leaves c k) text means lt in
+    let test = among_all (λ (a : At). a.comp == c && a.sub == k ≡ true) (leaves_at leaves c k) o.0 (kept_pass (λ (a : At). a.comp == c && a.sub == k) leaves) o.1 in
+    let p = facts.both (o.0.comp == c) (o.0.sub == k) test in
+    record {
+      at = o.0;
+      comp = (Decides-eqb o.0.comp c).0 p.0;
+      sub = (Decides-eqb o.0.sub k).0 p.1;
+      among = among_all (λ (a : At). Among a leaves) (leaves_at leaves c k) o.0 (kept_all (λ (a : At). a.comp == c && a.sub == k) (λ (a : At). Among a leaves) leaves (each_among leaves)) o.1;
+      means = o.2;
+    }
+
+-- where one is never absent, there is a text
+given : (w : Walked) (leaves : List At) (text : List ℕ) → AtMeans w leaves text → (a : At) → Among a leaves → (LeafMeans w a.leaf [] → ⊥) → text ≡ [] → ⊥
+given w [] text h a there some = absurd there
+given w (b ∷ leaves) text (inl h) a there some = h.1
+given w (b ∷ leaves) text (inr h) a (inl same) some = absurd (some (subst (λ (x : At). LeafMeans w x.leaf []) (sym same) h.0))
+given w (b ∷ leaves) text (inr h) a (inr there) some = given w leaves text h.1 a there some
 
 -- a text that is there is that of a leaf
 pub record IsMade (s : Sources) (Here : ℕ → Type 0) (leaves : List At) (m : Texts) (number r c k : ℕ) : Type 0 where
   pub here : Here r
   pub at : At
-  pub found : leaf_at leaves c k ≡ Some at
+  pub comp : at.comp ≡ c
+  pub sub : at.sub ≡ k
+  pub among : Among at leaves
   pub shaped : IsShaped (leaf_shape s at.leaf) (text_of m number r c k)
-
-pub comp_is : (leaves : List At) (c k : ℕ) (a : At) → leaf_at leaves c k ≡ Some a → a.comp ≡ c
-comp_is leaves c k a e = (Decides-eqb a.comp c).0 (facts.both (a.comp == c) (a.sub == k) (found_test (λ (b : At). b.comp == c && b.sub == k) leaves a e)).0
-
-pub sub_is : (leaves : List At) (c k : ℕ) (a : At) → leaf_at leaves c k ≡ Some a → a.sub ≡ k
-sub_is leaves c k a e = (Decides-eqb a.sub k).0 (facts.both (a.comp == c) (a.sub == k) (found_test (λ (b : At). b.comp == c && b.sub == k) leaves a e)).1
 
 -- a leaf that fits its subcomponent
 leaf_fit : (s : Sources) (profile : ProfileValue) (mark : Mark) (leaf : Leaf) (sub : SubValue) (text : List ℕ) → leaf_failures s profile mark leaf sub ≡ [] → IsShaped (leaf_shape s leaf) text → (text ≡ [] → ⊥) → is_null text ≡ false → IsFit profile sub text
@@ -78,31 +99,29 @@ leaf_fit s profile mark (const value) sub text none shaped some other = by (shap
         let p = neither (may_be_unlisted values (table_values profile.tables sub)) (may_be_long (len_count profile) values sub.len) (allowed _ (sym (ap is_null same) ∙ other) (none_fails 12 _ _ none)) in
         fit_of profile values sub text p.0 p.1 (shaped.values some other)
 
-module _ (names : List (List ℕ)) (s : Sources) (has : HasTables names s.profile.tables) (Here : ℕ → Type 0) (W : ℕ → Walked) (walked : (r : ℕ) → Here r → IsWalked names s (W r)) (repeated : Bool) (leaves : List At) (lawful : LawfulLeaves repeated leaves) (m : Texts) (number : ℕ) (means : (r c k : ℕ) → Where (Here r) (AtMeans (W r) (leaf_at leaves c k)) (text_of m number r c k)) where
-  leaf_means : (r c k : ℕ) (a : At) → Here r → leaf_at leaves c k ≡ Some a → LeafMeans (W r) a.leaf (text_of m number r c k) → IsShaped (leaf_shape s a.leaf) (text_of m number r c k)
-  leaf_means r c k a here e h = leaf_shaped names s (W r) has (walked r here) repeated a.leaf (text_of m number r c k) (found_all (λ (b : At). b.comp == c && b.sub == k) (LawfulAt repeated) leaves a e lawful.each).leaf h
+module _ (names : List (List ℕ)) (s : Sources) (has : HasTables names s.profile.tables) (Here : ℕ → Type 0) (W : ℕ → Walked) (walked : (r : ℕ) → Here r → IsWalked names s (W r)) (repeated : Bool) (leaves : List At) (lawful : LawfulLeaves repeated leaves) (m : Texts) (number : ℕ) (means : (r c k : ℕ) → Where (Here r) (AtMeans (W r) (leaves_at leaves c k)) (text_of m number r c k)) where
+  leaf_means : (r : ℕ) (a : At) (text : List ℕ) → Here r → Among a leaves → LeafMeans (W r) a.leaf text → IsShaped (leaf_shape s a.leaf) text
+  leaf_means r a text here among h = leaf_shaped names s (W r) has (walked r here) repeated a.leaf text (among_all (LawfulAt repeated) leaves a lawful.each among).leaf h
 
   made : (r c k : ℕ) → 0 < length (text_of m number r c k) → IsMade s Here leaves m number r c k
   made r c k lt = by (means r c k)
     where
-      at_leaf : Here r → (o : Option At) → leaf_at leaves c k ≡ o → AtMeans (W r) o (text_of m number r c k) → IsMade s Here leaves m number r c k
-      at_leaf here None e h = absurd (text_there _ lt h)
-      at_leaf here (Some a) e h = record { here = here; at = a; found = e; shaped = leaf_means r c k a here e h }
-
-      by : Where (Here r) (AtMeans (W r) (leaf_at leaves c k)) (text_of m number r c k) → IsMade s Here leaves m number r c k
-      by (inl h) = at_leaf h.0 (leaf_at leaves c k) refl h.1
+      by : Where (Here r) (AtMeans (W r) (leaves_at leaves c k)) (text_of m number r c k) → IsMade s Here leaves m number r c k
+      by (inl h) =
+          let own = of_leaf (W r) leaves c k (text_of m number r c k) h.1 lt in
+          record { here = h.0; at = own.at; comp = own.comp; sub = own.sub; among = own.among; shaped = leaf_means r own.at (text_of m number r c k) h.0 own.among own.means }
       by (inr h) = absurd (text_there _ lt h.1)
 
   -- what is always there is there
-  sure_text : (r : ℕ) (a : At) → Here r → leaf_at leaves a.comp a.sub ≡ Some a → is_always (leaf_shape s a.leaf).presence ≡ true → 0 < length (text_of m number r a.comp a.sub)
-  sure_text r a here e always = by (means r a.comp a.sub)
+  sure_text : (r : ℕ) (a : At) → Here r → Among a leaves → is_always (leaf_shape s a.leaf).presence ≡ true → 0 < length (text_of m number r a.comp a.sub)
+  sure_text r a here among always = by (means r a.comp a.sub)
     where
-      by : Where (Here r) (AtMeans (W r) (leaf_at leaves a.comp a.sub)) (text_of m number r a.comp a.sub) → 0 < length (text_of m number r a.comp a.sub)
-      by (inl h) = some_text _ ((leaf_means r a.comp a.sub a here e (subst (λ o. AtMeans (W r) o (text_of m number r a.comp a.sub)) e h.1)).always always)
-      by (inr h) = absurd (h.0 here)
+      kept : Among a (leaves_at leaves a.comp a.sub)
+      kept = among_kept (λ (b : At). b.comp == a.comp && b.sub == a.sub) leaves a among (and_of (a.comp == a.comp) (a.sub == a.sub) (own_number a.comp) (own_number a.sub))
 
-  each_found : AllByRecursion (λ (a : At). leaf_at leaves a.comp a.sub ≡ Some a) leaves
-  each_found = found_each place (λ (p : LeafPlace) (a : At). a.comp == p.comp && a.sub == p.sub) (λ a. and_of (a.comp == a.comp) (a.sub == a.sub) (own_number a.comp) (own_number a.sub)) same_place leaves lawful.distinct
+      by : Where (Here r) (AtMeans (W r) (leaves_at leaves a.comp a.sub)) (text_of m number r a.comp a.sub) → 0 < length (text_of m number r a.comp a.sub)
+      by (inl h) = some_text _ (given (W r) (leaves_at leaves a.comp a.sub) (text_of m number r a.comp a.sub) h.1 a kept (λ none. (leaf_means r a [] here among none).always always refl))
+      by (inr h) = absurd (h.0 here)
 
   -- no text is that of a leaf that never is there
   gone_text : (r c k : ℕ) (a : At) → IsShaped (leaf_shape s a.leaf) (text_of m number r c k) → 0 < length (text_of m number r c k) → is_absent (leaf_shape s a.leaf).presence ≡ true → ⊥
@@ -119,12 +138,12 @@ module _ (names : List (List ℕ)) (s : Sources) (has : HasTables names s.profil
       gone : all_absent s leaves ≡ true → (r : ℕ) → RepAt m number r → ⊥
       gone e r at =
           let is_made = made r at.0 at.1.0 at.1.1 in
-          let absent = found_all (λ (b : At). b.comp == at.0 && b.sub == at.1.0) (λ (a : At). is_absent (leaf_shape s a.leaf).presence ≡ true) leaves is_made.at is_made.found (all_pass (λ (a : At). is_absent (leaf_shape s a.leaf).presence) leaves e) in
+          let absent = among_all (λ (a : At). is_absent (leaf_shape s a.leaf).presence ≡ true) leaves is_made.at (all_pass (λ (a : At). is_absent (leaf_shape s a.leaf).presence) leaves e) is_made.among in
           gone_text r at.0 at.1.0 is_made.at is_made.shaped at.1.1 absent
 
       back : some_always s leaves ≡ true → (r : ℕ) → Here r → RepAt m number r
       back e r there =
-          let sure = some_pass (λ (a : At). is_always (leaf_shape s a.leaf).presence) (λ (a : At). leaf_at leaves a.comp a.sub ≡ Some a) leaves e each_found in
+          let sure = some_pass (λ (a : At). is_always (leaf_shape s a.leaf).presence) (λ (a : At). Among a leaves) leaves e (each_among leaves) in
           (sure.0.comp, (sure.0.sub, sure_text r sure.0 there sure.2 sure.1))
 
       by : (a : Bool) → all_absent s leaves ≡ a → (b : Bool) → some_always s leaves ≡ b → IsCounted (RepAt m number) (if a then never else if b then i else record { least = 0; greatest = i.greatest })
@@ -136,21 +155,21 @@ module _ (names : List (List ℕ)) (s : Sources) (has : HasTables names s.profil
 
   module _ (profile : ProfileValue) (mark : Mark) (target : FieldValue) (unfailed : AllByRecursion (λ (a : At). made_leaf s profile target a ≡ []) leaves) (r : ℕ) where
     parts_of : (c k : ℕ) (at : IsMade s Here leaves m number r c k) → (fails 11 (leaf_mark target.number at.at) ((is_forbidden_comp (comp_of (Some target) at.at.comp) || is_forbidden_sub (sub_of (comp_of (Some target) at.at.comp) at.at.sub)) && not (is_absent (leaf_shape s at.at.leaf).presence)) ≡ []) × (placed s profile (leaf_mark target.number at.at) at.at.leaf (sub_of (comp_of (Some target) at.at.comp) at.at.sub) ≡ [])
-    parts_of c k at = both_empty _ (placed s profile (leaf_mark target.number at.at) at.at.leaf (sub_of (comp_of (Some target) at.at.comp) at.at.sub)) (found_all (λ (b : At). b.comp == c && b.sub == k) (λ (a : At). made_leaf s profile target a ≡ []) leaves at.at at.found unfailed)
+    parts_of c k at = both_empty _ (placed s profile (leaf_mark target.number at.at) at.at.leaf (sub_of (comp_of (Some target) at.at.comp) at.at.sub)) (among_all (λ (a : At). made_leaf s profile target a ≡ []) leaves at.at unfailed at.among)
 
     -- where the component or subcomponent of a leaf is forbidden, the leaf is never there
     kept_out : (c k : ℕ) → 0 < length (text_of m number r c k) → is_forbidden_comp (comp_of (Some target) c) || is_forbidden_sub (sub_of (comp_of (Some target) c) k) ≡ true → ⊥
     kept_out c k lt e =
         let at = made r c k lt in
-        let comp = comp_is leaves c k at.at at.found in
-        let sub = sub_is leaves c k at.at at.found in
+        let comp = at.comp in
+        let sub = at.sub in
         let asked : is_forbidden_comp (comp_of (Some target) at.at.comp) || is_forbidden_sub (sub_of (comp_of (Some target) at.at.comp) at.at.sub) ≡ true = ap (λ n. is_forbidden_comp (comp_of (Some target) n) || is_forbidden_sub (sub_of (comp_of (Some target) n) at.at.sub)) comp ∙ ap (λ n. is_forbidden_comp (comp_of (Some target) c) || is_forbidden_sub (sub_of (comp_of (Some target) c) n)) sub ∙ e in
         gone_text r c k at.at at.shaped lt (demanded _ (is_absent (leaf_shape s at.at.leaf).presence) (none_fails 11 (leaf_mark target.number at.at) _ (parts_of c k at).0) asked)
 
     fit_leaf : (c k : ℕ) (sub : SubValue) → sub_of (comp_of (Some target) c) k ≡ Some sub → (text_of m number r c k ≡ [] → ⊥) → is_null (text_of m number r c k) ≡ false → IsFit profile sub (text_of m number r c k)
     fit_leaf c k sub e some other =
         let at = made r c k (some_text _ some) in
-        let here : sub_of (comp_of (Some target) at.at.comp) at.at.sub ≡ Some sub = ap (λ n. sub_of (comp_of (Some target) n) at.at.sub) (comp_is leaves c k at.at at.found) ∙ ap (sub_of (comp_of (Some target) c)) (sub_is leaves c k at.at at.found) ∙ e in
+        let here : sub_of (comp_of (Some target) at.at.comp) at.at.sub ≡ Some sub = ap (λ n. sub_of (comp_of (Some target) n) at.at.sub) (at.comp) ∙ ap (sub_of (comp_of (Some target) c)) (at.sub) ∙ e in
         leaf_fit s profile (leaf_mark target.number at.at) at.at.leaf sub (text_of m number r c k) (subst (λ o. placed s profile (leaf_mark target.number at.at) at.at.leaf o ≡ []) here (parts_of c k at).1) at.shaped some other
 
     -- a required component is there
@@ -162,19 +181,19 @@ module _ (names : List (List ℕ)) (s : Sources) (has : HasTables names s.profil
 
         alone : (is_made.at.comp == c ≡ true) ⊎ (is_absent (leaf_shape s is_made.at.leaf).presence ≡ true) → CompAt m number r c
         alone (inl same) =
-            let comp : rep.0 ≡ c = sym (comp_is leaves rep.0 rep.1.0 is_made.at is_made.found) ∙ (Decides-eqb is_made.at.comp c).0 same in
+            let comp : rep.0 ≡ c = sym (is_made.comp) ∙ (Decides-eqb is_made.at.comp c).0 same in
             subst (CompAt m number r) comp rep.1
         alone (inr absent) = absurd (gone_text r rep.0 rep.1.0 is_made.at is_made.shaped rep.1.1 absent)
 
         by : (list_any (λ (a : At). a.comp == c && is_always (leaf_shape s a.leaf).presence) leaves ≡ true) ⊎ (list_all (λ (a : At). a.comp == c || is_absent (leaf_shape s a.leaf).presence) leaves ≡ true) → CompAt m number r c
         by (inl any) =
-            let sure = some_pass (λ (a : At). a.comp == c && is_always (leaf_shape s a.leaf).presence) (λ (a : At). leaf_at leaves a.comp a.sub ≡ Some a) leaves any each_found in
+            let sure = some_pass (λ (a : At). a.comp == c && is_always (leaf_shape s a.leaf).presence) (λ (a : At). Among a leaves) leaves any (each_among leaves) in
             let p = facts.both (sure.0.comp == c) _ sure.1 in
             subst (CompAt m number r) ((Decides-eqb sure.0.comp c).0 p.0) (sure.0.sub, sure_text r sure.0 is_made.here sure.2 p.1)
         by (inr all) =
             alone
             (either (is_made.at.comp == c) _
-            (found_all (λ (b : At). b.comp == rep.0 && b.sub == rep.1.0) (λ (a : At). a.comp == c || is_absent (leaf_shape s a.leaf).presence ≡ true) leaves is_made.at is_made.found (all_pass (λ (a : At). a.comp == c || is_absent (leaf_shape s a.leaf).presence) leaves all)))
+            (among_all (λ (a : At). a.comp == c || is_absent (leaf_shape s a.leaf).presence ≡ true) leaves is_made.at (all_pass (λ (a : At). a.comp == c || is_absent (leaf_shape s a.leaf).presence) leaves all) is_made.among))
 
     -- and so is a required subcomponent of a component that is there
     sub_sure : (c k : ℕ) → CompAt m number r c → is_sub_sure s leaves c k ≡ true → 0 < length (text_of m number r c k)
@@ -184,12 +203,12 @@ module _ (names : List (List ℕ)) (s : Sources) (has : HasTables names s.profil
         is_made = made r c there.0 there.1
 
         in_it : is_made.at.comp == c ≡ true
-        in_it = (Decides-eqb is_made.at.comp c).1 (comp_is leaves c there.0 is_made.at is_made.found)
+        in_it = (Decides-eqb is_made.at.comp c).1 (is_made.comp)
 
         here : (not (is_made.at.comp == c) ≡ true) ⊎ (is_made.at.sub == k ≡ true) → 0 < length (text_of m number r c k)
         here (inl other) = absurd (not_true (is_made.at.comp == c) other in_it)
         here (inr same) =
-            let sub : there.0 ≡ k = sym (sub_is leaves c there.0 is_made.at is_made.found) ∙ (Decides-eqb is_made.at.sub k).0 same in
+            let sub : there.0 ≡ k = sym (is_made.sub) ∙ (Decides-eqb is_made.at.sub k).0 same in
             subst (λ n. 0 < length (text_of m number r c n)) sub there.1
 
         alone : (not (is_made.at.comp == c) || is_made.at.sub == k ≡ true) ⊎ (is_absent (leaf_shape s is_made.at.leaf).presence ≡ true) → 0 < length (text_of m number r c k)
@@ -198,7 +217,7 @@ module _ (names : List (List ℕ)) (s : Sources) (has : HasTables names s.profil
 
         by : (list_any (λ (a : At). a.comp == c && a.sub == k && is_always (leaf_shape s a.leaf).presence) leaves ≡ true) ⊎ (list_all (λ (a : At). not (a.comp == c) || a.sub == k || is_absent (leaf_shape s a.leaf).presence) leaves ≡ true) → 0 < length (text_of m number r c k)
         by (inl any) =
-            let sure = some_pass (λ (a : At). a.comp == c && a.sub == k && is_always (leaf_shape s a.leaf).presence) (λ (a : At). leaf_at leaves a.comp a.sub ≡ Some a) leaves any each_found in
+            let sure = some_pass (λ (a : At). a.comp == c && a.sub == k && is_always (leaf_shape s a.leaf).presence) (λ (a : At). Among a leaves) leaves any (each_among leaves) in
             let p = facts.both (sure.0.comp == c && sure.0.sub == k) _ sure.1 in
             let q = facts.both (sure.0.comp == c) (sure.0.sub == k) p.0 in
             subst (λ n. 0 < length (text_of m number r c n)) ((Decides-eqb sure.0.sub k).0 q.1)
@@ -206,7 +225,7 @@ module _ (names : List (List ℕ)) (s : Sources) (has : HasTables names s.profil
         by (inr all) =
             alone
             (either (not (is_made.at.comp == c) || is_made.at.sub == k) _
-            (found_all (λ (b : At). b.comp == c && b.sub == there.0) (λ (a : At). not (a.comp == c) || a.sub == k || is_absent (leaf_shape s a.leaf).presence ≡ true) leaves is_made.at is_made.found (all_pass (λ (a : At). not (a.comp == c) || a.sub == k || is_absent (leaf_shape s a.leaf).presence) leaves all)))
+            (among_all (λ (a : At). not (a.comp == c) || a.sub == k || is_absent (leaf_shape s a.leaf).presence ≡ true) leaves is_made.at (all_pass (λ (a : At). not (a.comp == c) || a.sub == k || is_absent (leaf_shape s a.leaf).presence) leaves all) is_made.among))
 
     sub_made : (c : CompValue) → comp_of (Some target) c.number ≡ Some c → CompAt m number r c.number → (sub : SubValue) → made_sub s (comp_in mark c.number) leaves c.number sub ≡ [] → sub_of (Some c) sub.number ≡ Some sub → (spot : List ℕ) → SubBreach profile sub (text_of m number r c.number sub.number) spot → ⊥
     sub_made c ec there sub none es =

@@ -13,7 +13,7 @@ use Rattle.gw_profile.specs.Shapes.{Forest, ProfileValue}
 use Rattle.gw_validate.specs.Cuts.{Cut}
 use Rattle.gw_validate.specs.Trees.{Tree}
 use Rattle.gw_resolve.specs.Places.{Place, child, nodes_of_child, name_of}
-use Rattle.gw_resolve.specs.Resolved.{Source, of_field, of_current, Leaf, const, copied, looked_up, dated, At, leaf_at, Making, copy, first, repeat, build, Rule, rule_of, Items, no_items, segment_item, group_item, flat_item, Resolved}
+use Rattle.gw_resolve.specs.Resolved.{Source, of_field, of_current, Leaf, const, copied, looked_up, dated, At, leaves_at, Making, copy, first, repeat, build, Rule, rule_of, Items, no_items, segment_item, group_item, flat_item, Resolved}
 use Rattle.gw_interp.specs.Occurrences as occurrences
 use Rattle.gw_interp.specs.Occurrences.{Occurrence, at_place, texts_at}
 use Rattle.gw_interp.specs.Meaning.{IsFirst, InFirst, Walked, SourceMeans, look_up, first_digits, LeafMeans, AtMeans, Where, walking, MakingMeans, RuleMeans, IsImage, ForEach, IsOne, walked, Segments, Give, Means}
@@ -53,9 +53,12 @@ leaf_once w (looked_up table source) x y h g =
     let same : x ≡ y = cc in same
 leaf_once w (dated digits source) x y h g = h.2 ∙ ap (first_digits digits) (source_once w source h.0 g.0 h.1 g.1) ∙ sym g.2
 
-at_once : (w : Walked) (a : Option At) → AtMostOne (AtMeans w a)
-at_once w None x y h g = h ∙ sym g
-at_once w (Some a) x y h g = leaf_once w a.leaf x y h g
+at_once : (w : Walked) (leaves : List At) → AtMostOne (AtMeans w leaves)
+at_once w [] x y h g = h ∙ sym g
+at_once w (a ∷ leaves) x y (inl h) (inl g) = leaf_once w a.leaf x y h.0 g.0
+at_once w (a ∷ leaves) x y (inl h) (inr g) = absurd (h.1 (leaf_once w a.leaf x [] h.0 g.0))
+at_once w (a ∷ leaves) x y (inr h) (inl g) = absurd (g.1 (leaf_once w a.leaf y [] g.0 h.0))
+at_once w (a ∷ leaves) x y (inr h) (inr g) = at_once w leaves x y h.1 g.1
 
 where_once : (here : Type 0) (means : List ℕ → Type 0) → AtMostOne means → AtMostOne (Where here means)
 where_once here means one x y (inl h) (inl g) = one x y h.1 g.1
@@ -66,8 +69,8 @@ where_once here means one x y (inr h) (inr g) = h.1 ∙ sym g.1
 making_once : (w : Walked) (making : Making) (r c k : ℕ) → AtMostOne (MakingMeans w making r c k)
 making_once w (copy from) r c k x y h g = h ∙ sym g
 making_once w (first from) r c k x y h g = where_once _ _ (first_text_once (texts_at w.message w.scope from.place) from.field c k) x y h g
-making_once w (repeat from leaves) r c k x y h g = where_once _ _ (at_once (walking w from r) (leaf_at leaves c k)) x y h g
-making_once w (build leaves) r c k x y h g = where_once _ _ (at_once w (leaf_at leaves c k)) x y h g
+making_once w (repeat from leaves) r c k x y h g = where_once _ _ (at_once (walking w from r) (leaves_at leaves c k)) x y h g
+making_once w (build leaves) r c k x y h g = where_once _ _ (at_once w (leaves_at leaves c k)) x y h g
 
 rule_once : (w : Walked) (rule : Option Rule) (r c k : ℕ) → AtMostOne (RuleMeans w rule r c k)
 rule_once w None r c k x y h g = h ∙ sym g

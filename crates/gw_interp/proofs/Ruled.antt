@@ -6,7 +6,7 @@ use Rattle.std.specs.Cmp.Lexicographic.{slice_cmp}
 use Rattle.std.specs.FinMap as texts
 use Rattle.gw_er7.specs.Message.{Texts, text_of, SegmentValue}
 use Rattle.gw_er7.specs.Presence.{RepAt, IsLast}
-use Rattle.gw_resolve.specs.Resolved.{Reference, At, leaf_at, copy, first, repeat, build}
+use Rattle.gw_resolve.specs.Resolved.{Reference, At, leaves_at, copy, first, repeat, build}
 use Rattle.gw_interp.specs.Occurrences.{texts_at}
 use Rattle.gw_interp.specs.Meaning.{Walked, walking, AtMeans, InFirst, Where, MakingMeans}
 use Rattle.gw_interp.specs.own.Sourced.{IsFirstRep}
@@ -117,10 +117,10 @@ module _ (w : Walked) (from : Reference) (field : ℕ) where
 
 module _ (w : Walked) (leaves : List At) (field : ℕ) where
   pub may_build : (old : List SegmentValue) → MayMakeBy w (build leaves) field old → MayFillRep w field 1 leaves old
-  may_build old may = record { distinct = may.lawful.distinct; no_faults = may.no_faults; make = may_one field (λ comp sub. AtMeans w (leaf_at leaves comp sub)) old may.make }
+  may_build old may = record { grouped = may.lawful.grouped; no_faults = may.no_faults; make = may_one field (λ comp sub. AtMeans w (leaves_at leaves comp sub)) old may.make }
 
   pub built : (old new : List SegmentValue) → MayMakeBy w (build leaves) field old → IsRepFilled w field 1 leaves old new → IsMadeBy w (build leaves) field old new
-  built old new may made = made_one field (λ comp sub. AtMeans w (leaf_at leaves comp sub)) old new may.make made
+  built old new may made = made_one field (λ comp sub. AtMeans w (leaves_at leaves comp sub)) old new may.make made
 
   module _ (from : Reference) where
     abbrev pub Repeats : ℕ → ℕ → ℕ → List ℕ → Type 0
@@ -131,7 +131,7 @@ module _ (w : Walked) (leaves : List At) (field : ℕ) where
 
     pub may_repeat : (rep : ℕ) (old mid : List SegmentValue) → RepAt (texts_at w.message w.scope from.place) from.field rep → MayMakeBy w (repeat from leaves) field old → MayMake (ℕ × ℕ) (rep_key field rep) (In Repeats rep) mid → MayFillRep (walking w from rep) field rep leaves mid
     may_repeat rep old mid at may make =
-        record { distinct = may.lawful.distinct; no_faults = may.no_faults rep at; make = may_as (ℕ × ℕ) (rep_key field rep) (In Repeats rep) (LeavesMean (walking w from rep) leaves) mid (λ p text means. inl (at, means)) make }
+        record { grouped = may.lawful.grouped; no_faults = may.no_faults rep at; make = may_as (ℕ × ℕ) (rep_key field rep) (In Repeats rep) (LeavesMean (walking w from rep) leaves) mid (λ p text means. inl (at, means)) make }
 
     pub repeated : (rep : ℕ) (mid new : List SegmentValue) → RepAt (texts_at w.message w.scope from.place) from.field rep → IsRepFilled (walking w from rep) field rep leaves mid new → AreMade (ℕ × ℕ) (rep_key field rep) (In Repeats rep) mid new
     repeated rep mid new at made = made_as (ℕ × ℕ) (rep_key field rep) (In Repeats rep) (LeavesMean (walking w from rep) leaves) mid new (λ p text means. inl (at, means)) made

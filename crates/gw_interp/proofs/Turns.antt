@@ -2,11 +2,9 @@
 use Rattle.std.proofs.Common.{get_or, ◌≡◌, ℕ, ◌+◌, ◌≤◌, ◌<◌, List, [], ◌∷◌, sym, subst, length, map, drop}
 use Rattle.std.proofs.lemmas.List.{drop_all}
 use Rattle.gw_er7.specs.Message.{SegmentValue}
-use Rattle.gw_resolve.specs.Resolved.{At, Rule}
+use Rattle.gw_resolve.specs.Resolved.{Rule}
 use Rattle.gw_interp.specs.Meaning.{Walked}
-use Rattle.gw_interp.specs.own.Filling.{IsHeld, MayFill, AreFilled}
 use Rattle.gw_interp.specs.own.Making.{IsRuleMade, MayMakeRules, AreRulesMade}
-use Rattle.gw_interp.proofs.PutInTurn.{none_filled, may_go_on, more_filled}
 use Rattle.gw_interp.proofs.RuleByRule.{none_ruled, rules_go_on, more_ruled}
 use Rattle.gw_interp.proofs.Giving.{next_drop}
 
@@ -28,34 +26,6 @@ module _ {X : Type 0} (May : List X → List SegmentValue → Type 0) (Done : Li
 
   pub all_done : (xs : List X) (n : ℕ) (old now : List SegmentValue) → length xs ≤ n → Done [] now now → AreInTurn xs n old now → Done xs old now
   all_done xs n old now h none t = t.completes now (subst (λ l. Done l now now) (sym (drop_all n xs h)) none)
-
--- ---- leaves of a repetition
-
-module _ {X : Type 0} (w : Walked) (field rep : ℕ) (f : X → At) where
-  abbrev MayPut : List X → List SegmentValue → Type 0
-  MayPut leaves old = MayFill w field rep (map f leaves) old
-
-  abbrev ArePut : List X → List SegmentValue → List SegmentValue → Type 0
-  ArePut leaves old new = AreFilled w field rep (map f leaves) old new
-
-  abbrev pub LeavesInTurn : List X → ℕ → List SegmentValue → List SegmentValue → Type 0
-  LeavesInTurn = AreInTurn MayPut ArePut
-
-  pub no_leaf : (leaves : List X) (old : List SegmentValue) → MayFill w field rep (map f leaves) old → LeavesInTurn leaves 0 old old
-  no_leaf = none_yet MayPut ArePut
-
-  pub may_leaf : (leaves : List X) (n : ℕ) (a : X) (old now : List SegmentValue) → n < length leaves → a ≡ get_or leaves n a → LeavesInTurn leaves n old now → MayFill w field rep (f a ∷ map f (drop (n + 1) leaves)) now
-  may_leaf = one_may MayPut ArePut
-
-  pub next_leaf : (leaves : List X) (n : ℕ) (a : X) (old now next : List SegmentValue) → n < length leaves → a ≡ get_or leaves n a → LeavesInTurn leaves n old now → IsHeld w field rep (f a) now next → LeavesInTurn leaves (n + 1) old next
-  next_leaf leaves n a old now next h is t held =
-      let may = may_leaf leaves n a old now h is t in
-      one_done MayPut ArePut leaves n a old now next h is t
-      (may_go_on w field rep (f a) (map f (drop (n + 1) leaves)) now next may held)
-      (λ new done. more_filled w field rep (f a) (map f (drop (n + 1) leaves)) now next new may held done)
-
-  pub all_leaves : (leaves : List X) (n : ℕ) (old now : List SegmentValue) → length leaves ≤ n → LeavesInTurn leaves n old now → AreFilled w field rep (map f leaves) old now
-  all_leaves leaves n old now h t = all_done MayPut ArePut leaves n old now h (none_filled w field rep now) t
 
 -- ---- rules of a segment
 

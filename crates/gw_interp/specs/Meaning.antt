@@ -1,5 +1,5 @@
 -- What a map makes of a message: equations for the parts of the target and for the text at each of their places.
-use Rattle.std.specs.Prelude.{◌≡◌, ℕ, ◌<◌, ◌&&◌, nat_le, take, ◌⊎◌, List, [], ◌∷◌, length, Option, Some, None, if◌then◌else◌}
+use Rattle.std.specs.Prelude.{◌≡◌, ◌≢◌, ℕ, ◌<◌, ◌&&◌, nat_le, take, ◌⊎◌, List, [], ◌∷◌, length, Option, Some, None, if◌then◌else◌}
 use Rattle.std.specs.List.{list_all}
 use Rattle.gw_lines.specs.Spelled.{is_digit}
 use Rattle.gw_er7.specs.Message.{Texts, text_of, SegmentValue}
@@ -10,7 +10,7 @@ use Rattle.gw_validate.specs.Cuts.{Cut}
 use Rattle.gw_validate.specs.Trees.{Tree}
 use Rattle.gw_maplang.specs.Shapes.{Rows}
 use Rattle.gw_resolve.specs.Places.{Place, child, nodes_of_child, name_of}
-use Rattle.gw_resolve.specs.Resolved.{Reference, Source, of_field, of_current, Leaf, const, copied, looked_up, dated, At, leaf_at, Making, copy, first, repeat, build, Rule, rule_of, Items, no_items, segment_item, group_item, flat_item, Resolved}
+use Rattle.gw_resolve.specs.Resolved.{Reference, Source, of_field, of_current, Leaf, const, copied, looked_up, dated, At, leaves_at, Making, copy, first, repeat, build, Rule, rule_of, Items, no_items, segment_item, group_item, flat_item, Resolved}
 use Rattle.gw_leaves.specs.Leaves.{given}
 use Rattle.gw_interp.specs.Occurrences as occurrences
 use Rattle.gw_interp.specs.Occurrences.{Occurrence, at_place, texts_at}
@@ -53,9 +53,10 @@ LeafMeans w (copied source) text = SourceMeans w source text
 LeafMeans w (looked_up table source) text = (from : List ℕ) × SourceMeans w source from × (look_up table from ≡ Some text)
 LeafMeans w (dated digits source) text = (from : List ℕ) × SourceMeans w source from × (text ≡ first_digits digits from)
 
-abbrev pub AtMeans : Walked → Option At → List ℕ → Type 0
-AtMeans w None text = text ≡ []
-AtMeans w (Some a) text = LeafMeans w a.leaf text
+-- the first text that these leaves give, absent where none does
+abbrev pub AtMeans : Walked → List At → List ℕ → Type 0
+AtMeans w [] text = text ≡ []
+AtMeans w (a ∷ leaves) text = (LeafMeans w a.leaf text × (text ≢ [])) ⊎ (LeafMeans w a.leaf [] × AtMeans w leaves text)
 
 -- ---- fields
 
@@ -72,8 +73,8 @@ abbrev pub MakingMeans : Walked → Making → ℕ → ℕ → ℕ → List ℕ 
 MakingMeans w (copy from) rep comp sub text = text ≡ text_of (texts_at w.message w.scope from.place) from.field rep comp sub
 MakingMeans w (first from) rep comp sub text = Where (rep ≡ 1) (InFirst (texts_at w.message w.scope from.place) from.field comp sub) text
 MakingMeans w (repeat from leaves) rep comp sub text =
-    Where (RepAt (texts_at w.message w.scope from.place) from.field rep) (AtMeans (walking w from rep) (leaf_at leaves comp sub)) text
-MakingMeans w (build leaves) rep comp sub text = Where (rep ≡ 1) (AtMeans w (leaf_at leaves comp sub)) text
+    Where (RepAt (texts_at w.message w.scope from.place) from.field rep) (AtMeans (walking w from rep) (leaves_at leaves comp sub)) text
+MakingMeans w (build leaves) rep comp sub text = Where (rep ≡ 1) (AtMeans w (leaves_at leaves comp sub)) text
 
 abbrev pub RuleMeans : Walked → Option Rule → ℕ → ℕ → ℕ → List ℕ → Type 0
 RuleMeans w None rep comp sub text = text ≡ []

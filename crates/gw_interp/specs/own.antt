@@ -2,7 +2,7 @@
 pub mod Borrowed
 pub mod Sourced
 pub mod Putting
-pub mod Filling
 pub mod Ready
+pub mod Filling
 pub mod Making
 pub mod Parts

@@ -1,6 +1,6 @@
 -- Lines without a fault spell a map that is lawful.
-use Rattle.std.proofs.Common.{◌≡◌, ℕ, ◌<◌, ◌≤◌, inl, inr, Bool, true, false, List, [], ◌∷◌, ◌++◌, length, reverse, Option, Some, None, refl, sym, ap, subst, bytes_eq, arith}
-use Rattle.std.specs.Prelude.{◌==◌, ◌&&◌, ◌||◌, not, nat_le, IfSome, is_some}
+use Rattle.std.proofs.Common.{◌≡◌, ℕ, ◌<◌, ◌≤◌, inl, inr, Bool, true, false, List, [], ◌∷◌, ◌++◌, length, reverse, Option, Some, None, refl, sym, ap, ◌∙◌, subst, bytes_eq, arith}
+use Rattle.std.specs.Prelude.{◌==◌, ◌&&◌, ◌||◌, not, nat_le, if◌then◌else◌, IfSome, is_some}
 use Rattle.std.specs.List.{AllByRecursion, list_any, list_all}
 use Rattle.gw_lines.specs.Spelled.{is_name, is_dot}
 use Rattle.gw_lines.specs.Values.{is_value}
@@ -9,15 +9,16 @@ use Rattle.gw_maplang.specs.declared.rule.LeafPlace.{LeafPlace}
 use Rattle.gw_maplang.specs.Among.{Among, Distinct}
 use Rattle.gw_maplang.specs.Shapes.{Path, Field, Current, Leaf, Const, Copy, Lookup, Date, LeafValue, Making, Copies, Firsts, Repeats, Builds, RuleValue, Items, nothing}
 use Rattle.gw_maplang.specs.Columns.{WideRow, WideTable, behind_first, is_known}
-use Rattle.gw_maplang.specs.Lawful.{Lawful, LawfulLeaf, LawfulLeafValue, LawfulLeaves, LawfulMaking, LawfulItems, LawfulDrop, LawfulPath, places, rule_fields}
-use Rattle.gw_maplang.specs.Line.{Line, Begins, Language, Table, Rows, Else, Segment, Makes, At, Each, End, Drops}
-use Rattle.gw_maplang.specs.Fault.{begun, at_last, with_row, with_other, wide_below, wide_tables, wide_names, wide_firsts, is_second, last_table, in_table, is_flat, OpenSegment, OpenRule, open_segment, open_rule, opened, with_field, with_place, depth, hollow, is_stray, is_early, is_unknown, is_bad, own_leaf, is_misplaced, is_misplaced_leaf, is_made, is_placed, is_among, is_place}
-use Rattle.gw_maplang.specs.Value.{Parts, Levels, Head, head, head_of, no_parts, parts, own_or, with_leaves, rule_with, next, past, each_item, levels, drops}
+use Rattle.gw_maplang.specs.Lawful.{Lawful, LawfulLeaf, LawfulLeaves, LawfulMaking, LawfulItems, LawfulDrop, LawfulPath, rule_fields}
+use Rattle.gw_maplang.specs.Line.{Line, Begins, Language, Table, Rows, Else, Segment, Makes, At, Each, End, Drops, own_place, is_as_above}
+use Rattle.gw_maplang.specs.Fault.{begun, at_last, with_row, with_other, wide_below, wide_tables, wide_names, wide_firsts, is_second, last_table, in_table, is_flat, OpenSegment, OpenRule, open_segment, open_rule, opened, with_field, with_place, with_leaf, depth, hollow, is_stray, is_early, is_early_at, is_unknown, is_bad, own_leaf, is_misplaced, is_out_of_line, is_misplaced_leaf, is_made, is_placed, is_among, is_place}
+use Rattle.gw_maplang.specs.Value.{Parts, Levels, Head, head, head_of, no_parts, parts, placed, with_leaves, rule_with, next, past, each_item, levels, drops}
 use Rattle.gw_maplang.specs.own.Widths.{LawfulWide, LawfulWides}
 use Rattle.gw_maplang.proofs.Among.{not_among, among_left, among_right, bytes_see, distinct_push, numbers_see, places_see}
 use Rattle.gw_maplang.proofs.ColumnNames.{all_names, all_columns_names, all_distinct, known_named, names_stay, names_push, names_second}
 use Rattle.gw_maplang.proofs.LawfulColumns.{Fits, fits_is, values_lawful, rows_stay, other_stays, narrow_stays, never_unsaid, widened_grows, all_lawful, are_named}
-use Rattle.gw_maplang.proofs.Shaped.{IsFew, ShapedLeaf, ShapedLeafValue, ShapedMaking}
+use Rattle.gw_maplang.proofs.Placed.{said, IsLed, LawfulBelow, leaves_led, leaves_below}
+use Rattle.gw_maplang.proofs.Shaped.{IsFew, ShapedLeaf, ShapedAt, ShapedMaking}
 use Rattle.std.proofs.lemmas.Bool.Decides.{Decides-eqb}
 use mathlib.Core.List.{reverse_aux}
 use Rattle.gw_maplang.specs.Whole.{is_unclosed, map_of}
@@ -65,9 +66,10 @@ known names above (line ∷ below) g x h = known names (line ∷ above) below g.
 
 -- leaves of a rule that stand behind others
 pub record LeavesBehind (names : List (List ℕ)) (o : OpenRule) (leaves : List LeafValue) : Type 0 where
-  pub each : AllByRecursion (LawfulLeafValue names o.repeated) leaves
-  pub distinct : Distinct (places leaves)
-  pub apart : (x : LeafPlace) → Among x (places leaves) → Among x o.places → ⊥
+  pub each : AllByRecursion (LawfulBelow names o.repeated) leaves
+  pub distinct : Distinct (said leaves)
+  pub apart : (x : LeafPlace) → Among x (said leaves) → Among x o.places → ⊥
+  pub led : o.led ≡ false → IsLed leaves
 
 abbrev pub RuleFrom : List (List ℕ) → ℕ → RuleValue → Type 0
 RuleFrom names least r = ((least ≤ r.field) × (r.field ≤ 999)) × LawfulMaking names r.making
@@ -84,7 +86,7 @@ pub record PartsAre (names : List (List ℕ)) (above : List Line) (p : Parts) : 
 
 no_leaves : (names : List (List ℕ)) (o : Option OpenRule) → IfSome o (λ o. LeavesBehind names o [])
 no_leaves names None = tt
-no_leaves names (Some o) = record { each = tt; distinct = tt; apart = λ x h k. h }
+no_leaves names (Some o) = record { each = tt; distinct = tt; apart = λ x h k. h; led = λ none. tt }
 
 no_rules : (names : List (List ℕ)) (o : Option OpenSegment) → IfSome o (λ s. RulesBehind names s [])
 no_rules names None = tt
@@ -107,36 +109,53 @@ module _ (names : List (List ℕ)) (second : Bool) (ts : List WideTable) (known 
   leaf_lawful repeated (Date digits (Field from place)) s a e u b = s
   leaf_lawful repeated (Date digits (Current place)) s a e u b = (s.0, (not_false repeated a, s.1))
 
-  own_lawful : (leaves : List LeafValue) → AllByRecursion ShapedLeafValue leaves → list_any (λ l. is_stray false l.leaf || is_early second l.leaf) leaves ≡ false → list_any (λ l. is_unknown ts l.leaf) leaves ≡ false → list_any (λ l. is_bad l.leaf) leaves ≡ false → AllByRecursion (LawfulLeafValue names false) leaves
-  own_lawful [] s a u b = tt
-  own_lawful (l ∷ leaves) s a u b =
-      let x = neither (is_stray false l.leaf || is_early second l.leaf) _ a in
-      let e = neither (is_stray false l.leaf) (is_early second l.leaf) x.0 in
-      let y = neither (is_unknown ts l.leaf) _ u in
-      let z = neither (is_bad l.leaf) _ b in
-      ((s.0.0, leaf_lawful false l.leaf s.0.1 e.0 e.1 y.0 z.0), own_lawful leaves s.1 x.1 y.1 z.1)
-
   making_lawful : (m : Making) (leaves : List LeafValue) → ShapedMaking m → list_any (λ l. is_stray false l.leaf || is_early second l.leaf) (own_leaf m) ≡ false → list_any (λ l. is_unknown ts l.leaf) (own_leaf m) ≡ false → list_any (λ l. is_bad l.leaf) (own_leaf m) ≡ false
       → IfSome (opened m) (λ o. LeavesBehind names o leaves) → LawfulMaking names (with_leaves m leaves)
   making_lawful (Copies from) leaves s a u b h = s
   making_lawful (Firsts from) leaves s a u b h = s
   making_lawful (Repeats from own) leaves s a u b h =
-      (s.0, subst (λ (o : List LeafValue). LawfulLeaves names true (own_or o leaves)) (sym s.1) (record { each = h.each; distinct = h.distinct }))
-  making_lawful (Builds []) leaves s a u b h = record { each = h.each; distinct = h.distinct }
-  making_lawful (Builds (l ∷ own)) leaves s a u b h = record { each = own_lawful (l ∷ own) s.0 a u b; distinct = s.1 }
+      (s.0, subst (λ (o : List LeafValue). LawfulLeaves names true (o ++ placed own_place leaves)) (sym s.1) (leaves_led names true leaves h.each h.distinct (h.led refl)))
+  making_lawful (Builds []) leaves s a u b h = leaves_led names false leaves h.each h.distinct (h.led refl)
+  making_lawful (Builds (l ∷ own)) leaves s a u b h =
+      let x = neither (is_stray false l.leaf || is_early second l.leaf) _ a in
+      let e = neither (is_stray false l.leaf) (is_early second l.leaf) x.0 in
+      let lawful = leaf_lawful false l.leaf s.1.1 e.0 e.1 (neither (is_unknown ts l.leaf) _ u).0 (neither (is_bad l.leaf) _ b).0 in
+      subst (λ (o : List LeafValue). LawfulLeaves names false (l ∷ o ++ placed own_place leaves)) (sym s.0)
+      (leaves_below names false l leaves s.1.0 lawful h.each h.distinct (λ k. h.apart own_place k (inl (sym s.1.0))))
 
-  add_leaf : (o : Option OpenRule) (l : LeafValue) (leaves : List LeafValue) → ShapedLeafValue l → is_misplaced_leaf l.leaf o ≡ false → is_early second l.leaf ≡ false → is_unknown ts l.leaf ≡ false → is_bad l.leaf ≡ false → is_placed l.place o ≡ false
-      → IfSome (with_place l.place o) (λ o. LeavesBehind names o leaves) → IfSome o (λ o. LeavesBehind names o (l ∷ leaves))
+  add_leaf : (o : Option OpenRule) (l : LeafValue) (leaves : List LeafValue) → ShapedAt l → is_misplaced_leaf l o ≡ false → is_early_at second l ≡ false → is_unknown ts l.leaf ≡ false → is_bad l.leaf ≡ false → is_placed l.place o ≡ false
+      → IfSome (with_leaf l.place o) (λ o. LeavesBehind names o leaves) → IfSome o (λ o. LeavesBehind names o (l ∷ leaves))
   add_leaf None l leaves s a e u b p h = tt
-  add_leaf (Some o) l leaves s a e u b p h =
-      record {
-        each = ((s.0, leaf_lawful o.repeated l.leaf s.1 a e u b), h.each);
-        distinct = ((λ k. h.apart l.place k (among_right o.places (l.place ∷ []) l.place (inl refl))), h.distinct);
-        apart = λ x. elim [
-          | inl i ↦ (λ k. not_among is_place places_see l.place o.places p (subst (λ y. Among y o.places) i k))
-          | inr j ↦ (λ k. h.apart x j (among_left o.places (l.place ∷ []) x k))
-        ];
-      }
+  add_leaf (Some o) l leaves s a e u b p h = by (is_as_above l.place) refl x.0 h
+    where
+      x : (is_out_of_line l.place o ≡ false) × (is_stray o.repeated l.leaf ≡ false)
+      x = neither (is_out_of_line l.place o) (is_stray o.repeated l.leaf) a
+
+      lawful : LawfulLeaf names o.repeated l.leaf
+      lawful = leaf_lawful o.repeated l.leaf s.1 x.1 (neither (not second && is_as_above l.place) (is_early second l.leaf) e).1 u b
+
+      said_is : (c : Bool) → is_as_above l.place ≡ c → said (l ∷ leaves) ≡ (if c then said leaves else l.place ∷ said leaves)
+      said_is c f = ap (λ (d : Bool). if d then said leaves else l.place ∷ said leaves) f
+
+      by : (c : Bool) → is_as_above l.place ≡ c → (if c then not o.led else o.own) ≡ false → IfSome (if c then Some o else with_place l.place (Some o)) (λ o. LeavesBehind names o leaves) → LeavesBehind names o (l ∷ leaves)
+      by true f out h =
+          record {
+            each = ((s.0, lawful), h.each);
+            distinct = subst Distinct (sym (said_is true f)) h.distinct;
+            apart = λ y k. h.apart y (subst (Among y) (said_is true f) k);
+            led = λ none. absurd (no_clash (sym (ap not none) ∙ out));
+          }
+      by false f out h =
+          record {
+            each = ((s.0, lawful), h.each);
+            distinct = subst Distinct (sym (said_is false f)) ((λ k. h.apart l.place k (among_right o.places (l.place ∷ []) l.place (inl refl))), h.distinct);
+            apart = λ y k. away y (subst (Among y) (said_is false f) k);
+            led = λ none. f;
+          }
+        where
+          away : (y : LeafPlace) → Among y (l.place ∷ said leaves) → Among y o.places → ⊥
+          away y (inl i) k = not_among is_place places_see l.place o.places p (subst (λ z. Among z o.places) i k)
+          away y (inr j) k = h.apart y j (among_left o.places (l.place ∷ []) y k)
 
   add_rule : (o : Option OpenSegment) (r : RuleValue) (leaves : List LeafValue) (rules : List RuleValue) → r.field ≤ 999 → is_misplaced r.field o ≡ false → is_made r.field o ≡ false → LawfulMaking names (with_leaves r.making leaves)
       → IfSome (with_field r.field o) (λ s. RulesBehind names s rules) → IfSome o (λ s. RulesBehind names s (rule_with r leaves ∷ rules))
@@ -171,7 +190,7 @@ parts_lawful names above (Makes rule ∷ below) g =
     }
 parts_lawful names above (At leaf ∷ below) g =
     let i = parts_lawful names (At leaf ∷ above) below g.1 in
-    let c = neither (is_misplaced_leaf leaf.leaf (open_rule above)) (is_early (is_second above) leaf.leaf) g.0.clear.0 in
+    let c = neither (is_misplaced_leaf leaf (open_rule above)) (is_early_at (is_second above) leaf) g.0.clear.0 in
     record {
       leaves =
           add_leaf names (is_second above) (wide_tables above) (known names above (At leaf ∷ below) g) (open_rule above) leaf (parts below).leaves g.0.shaped

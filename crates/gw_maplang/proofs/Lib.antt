@@ -8,6 +8,7 @@ pub mod Dates
 pub mod ColumnNames
 pub mod LawfulColumns
 pub mod Columned
+pub mod Placed
 pub mod Kept
 pub mod Formed
 pub mod Same

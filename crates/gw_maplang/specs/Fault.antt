@@ -12,7 +12,7 @@ use Rattle.gw_maplang.specs.Shapes.{Current, Leaf, Const, Copy, Lookup, Date, Le
 use Rattle.gw_maplang.specs.Columns.{WideRow, WideTable, new_table, widened, all_columns, behind_first, is_known}
 use Rattle.gw_maplang.specs.Lawful.{least_field}
 use Rattle.gw_lines.specs.Spelled.{is_dot}
-use Rattle.gw_maplang.specs.Line.{Line, Begins, Language, Table, Rows, Else, Segment, Makes, At, Each, End, Drops, form}
+use Rattle.gw_maplang.specs.Line.{Line, Begins, Language, Table, Rows, Else, Segment, Makes, At, Each, End, Drops, is_as_above, form}
 
 -- ---- what the lines above leave open
 
@@ -116,27 +116,34 @@ abbrev pub open_segment : List Line → Option OpenSegment
 open_segment [] = None
 open_segment (line ∷ above) = segment_below line (open_segment above)
 
--- a rule that may have leaves below it: whether it is one for each repetition, and the places that have one
+-- a rule that may have leaves below it: whether it is one for each repetition, whether it has a leaf on its own line, whether it has one at all,
+-- and the places that have one
 pub record OpenRule : Type 0 where
   pub repeated : Bool
+  pub own : Bool
+  pub led : Bool
   pub places : List LeafPlace
 
--- `copy`, `first`, and `build` with its own leaf have none
+-- `copy` and `first` have none; below `build` with its own leaf are only others for that
 abbrev pub opened : Making → Option OpenRule
 opened (Copies from) = None
 opened (Firsts from) = None
-opened (Repeats from leaves) = Some (record { repeated = true; places = [] })
-opened (Builds []) = Some (record { repeated = false; places = [] })
-opened (Builds (leaf ∷ leaves)) = None
+opened (Repeats from leaves) = Some (record { repeated = true; own = false; led = false; places = [] })
+opened (Builds []) = Some (record { repeated = false; own = false; led = false; places = [] })
+opened (Builds (leaf ∷ leaves)) = Some (record { repeated = false; own = true; led = true; places = leaf.place ∷ [] })
 
 abbrev pub with_place : LeafPlace → Option OpenRule → Option OpenRule
 with_place place None = None
-with_place place (Some r) = Some (record r { places = r.places ++ place ∷ [] })
+with_place place (Some r) = Some (record r { led = true; places = r.places ++ place ∷ [] })
+
+-- an `or` line has the place of the leaf above
+abbrev pub with_leaf : LeafPlace → Option OpenRule → Option OpenRule
+with_leaf place held = if is_as_above place then held else with_place place held
 
 -- the same below a line
 abbrev pub rule_below : Line → Option OpenRule → Option OpenRule
 rule_below (Makes rule) held = opened rule.making
-rule_below (At leaf) held = with_place leaf.place held
+rule_below (At leaf) held = with_leaf leaf.place held
 rule_below line held = None
 
 -- the rule to which a leaf would belong
@@ -189,11 +196,14 @@ is_stray repeated (Lookup table (Current place)) = not repeated
 is_stray repeated (Date digits (Current place)) = not repeated
 is_stray repeated leaf = false
 
--- a date, or a column by its number, in the first language
+-- an `or` line, a date, or a column by its number, in the first language
 abbrev pub is_early : Bool → Leaf → Bool
 is_early second (Lookup table ref) = not second && is_some (behind_first is_dot table)
 is_early second (Date digits ref) = not second
 is_early second leaf = false
+
+abbrev pub is_early_at : Bool → LeafValue → Bool
+is_early_at second l = not second && is_as_above l.place || is_early second l.leaf
 
 -- a table that doesn't stand above, or one without that column
 abbrev pub is_unknown : List WideTable → Leaf → Bool
@@ -219,10 +229,14 @@ abbrev pub is_made : ℕ → Option OpenSegment → Bool
 is_made field None = false
 is_made field (Some s) = is_number_among field s.fields
 
+-- behind the leaf of a rule's own line, and before the first leaf, stands an `or` line alone, or none
+abbrev pub is_out_of_line : LeafPlace → OpenRule → Bool
+is_out_of_line place r = if is_as_above place then not r.led else r.own
+
 -- no rule above can hold this leaf
-abbrev pub is_misplaced_leaf : Leaf → Option OpenRule → Bool
-is_misplaced_leaf leaf None = true
-is_misplaced_leaf leaf (Some r) = is_stray r.repeated leaf
+abbrev pub is_misplaced_leaf : LeafValue → Option OpenRule → Bool
+is_misplaced_leaf l None = true
+is_misplaced_leaf l (Some r) = is_out_of_line l.place r || is_stray r.repeated l.leaf
 
 abbrev pub is_placed : LeafPlace → Option OpenRule → Bool
 is_placed place None = false
@@ -263,7 +277,7 @@ rule_tests above at rule = (
 
 abbrev pub leaf_tests : List Line → ℕ → LeafValue → List (Bool × MapFault)
 leaf_tests above at l =
-    (is_misplaced_leaf l.leaf (open_rule above) || is_early (is_second above) l.leaf, Syntax at) ∷ (is_unknown (wide_tables above) l.leaf, UnknownTable at)
+    (is_misplaced_leaf l (open_rule above) || is_early_at (is_second above) l, Syntax at) ∷ (is_unknown (wide_tables above) l.leaf, UnknownTable at)
     ∷ (is_bad l.leaf, BadConstant at) ∷ (is_placed l.place (open_rule above), Duplicate at) ∷ []
 
 abbrev pub each_tests : List Line → ℕ → List (Bool × MapFault)

@@ -1,5 +1,5 @@
 -- What every map keeps.
-use Rattle.std.specs.Prelude.{◌≡◌, ℕ, ◌≤◌, ◌==◌, ◌||◌, Bool, true, false, if◌then◌else◌, List, [], ◌∷◌, map, IfSome, codes, bytes_eq}
+use Rattle.std.specs.Prelude.{◌≡◌, ℕ, ◌≤◌, ◌⊎◌, ◌==◌, ◌||◌, Bool, true, false, if◌then◌else◌, List, [], ◌∷◌, map, IfSome, codes, bytes_eq}
 use Rattle.std.specs.List.{AllByRecursion}
 use Rattle.gw_lines.specs.Spelled.{is_name}
 use Rattle.gw_lines.specs.Values.{is_value}
@@ -64,10 +64,16 @@ LawfulLeafValue tables repeated l = LawfulPlace l.place × LawfulLeaf tables rep
 abbrev pub places : List LeafValue → List LeafPlace
 places = map (λ (l : LeafValue). l.place)
 
--- one leaf for each place
+-- what stands twice stands right behind itself
+abbrev pub Grouped : {A : Type 0} → List A → Type 0
+Grouped [] = Unit {0}
+Grouped (x ∷ []) = Unit {0}
+Grouped (x ∷ y ∷ list) = ((x ≡ y) ⊎ (Among x (y ∷ list) → ⊥)) × Grouped (y ∷ list)
+
+-- the leaves of a place follow one another
 pub record LawfulLeaves (tables : List (List ℕ)) (repeated : Bool) (leaves : List LeafValue) : Type 0 where
   pub each : AllByRecursion (LawfulLeafValue tables repeated) leaves
-  pub distinct : Distinct (places leaves)
+  pub grouped : Grouped (places leaves)
 
 abbrev pub LawfulMaking : List (List ℕ) → Making → Type 0
 LawfulMaking tables (Copies from) = LawfulFieldPath from

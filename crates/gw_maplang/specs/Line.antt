@@ -11,7 +11,7 @@ use Rattle.gw_maplang.specs.Shapes.{Path, FieldPath, Ref, Field, Current, Leaf, 
 use Rattle.gw_maplang.specs.Columns.{WideRow, behind_first, is_table_word}
 use Rattle.gw_maplang.specs.Lawful.{least_field, last_label, is_date_length}
 
--- A line. A rule has the leaf of its own line alone. No label stands for `flat`.
+-- A line. A rule has the leaf of its own line alone. The leaf of an `or` line has the place 0.0, for that of the leaf above. No label stands for `flat`.
 pub data Line : Type 0 where
   Begins : (at : ℕ) (name source target : List ℕ) → Line
   -- the map is one of the second language
@@ -202,10 +202,21 @@ abbrev pub leaf_form : List Word → Option Leaf
 leaf_form [] = None
 leaf_form (keyword ∷ more) = leaf_of keyword more
 
--- [LEAF], at place 1.1
+-- the place of the leaf of a rule's own line
+abbrev pub own_place : LeafPlace
+own_place = record { comp = 1; sub = 1 }
+
+-- what an `or` line says of its place
+abbrev pub as_above : LeafPlace
+as_above = record { comp = 0; sub = 0 }
+
+abbrev pub is_as_above : LeafPlace → Bool
+is_as_above place = place.comp == 0
+
+-- [LEAF]
 abbrev pub own_leaves : ℕ → List Word → Option (List LeafValue)
 own_leaves at [] = Some []
-own_leaves at (w ∷ words) = option_map (λ leaf. record { line = at; place = record { comp = 1; sub = 1 }; leaf = leaf } ∷ []) (leaf_form (w ∷ words))
+own_leaves at (w ∷ words) = option_map (λ leaf. record { line = at; place = own_place; leaf = leaf } ∷ []) (leaf_form (w ∷ words))
 
 -- ---- lines
 
@@ -292,6 +303,10 @@ at_form at words = do
   leaf ← leaf_form place.1
   Some (At (record { line = at; place = place.0; leaf = leaf }))
 
+-- or LEAF
+abbrev pub or_form : ℕ → List Word → Option Line
+or_form at words = option_map (λ leaf. At (record { line = at; place = as_above; leaf = leaf })) (leaf_form words)
+
 -- each PATH
 abbrev pub each_form : ℕ → Option (List ℕ) → List Word → Option Line
 each_form at label words = do
@@ -319,6 +334,7 @@ rule_form at keyword more =
     else if is_keyword (codes "repeat") keyword then repeats_form at more
     else if is_keyword (codes "build") keyword then builds_form at more
     else if is_keyword (codes "at") keyword then at_form at more
+    else if is_keyword (codes "or") keyword then or_form at more
     else None
 
 -- the line of a keyword and the words behind it

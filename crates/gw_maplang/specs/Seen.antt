@@ -137,8 +137,11 @@ above lines = reverse (map line lines)
 abbrev pub open_segment : Option Held.OpenSegment.OpenSegment → Option Fault.OpenSegment
 open_segment s = option_map (λ o. record { least = o.least; fields = o.fields.keys }) s
 
+abbrev pub rule_open : Held.OpenRule.OpenRule → Fault.OpenRule
+rule_open o = record { repeated = o.repeated; own = o.own; led = o.led; places = o.places.keys }
+
 abbrev pub open_rule : Option Held.OpenRule.OpenRule → Option Fault.OpenRule
-open_rule r = option_map (λ o. record { repeated = o.repeated; places = o.places.keys }) r
+open_rule r = option_map rule_open r
 
 abbrev pub open_parts : List Spec.Line → Held.OpenParts.OpenParts
 open_parts above = record { second = Fault.is_second above; in_table = Fault.in_table above; has_item = Fault.has_item above; depth = Fault.depth above; hollow = Fault.hollow above }

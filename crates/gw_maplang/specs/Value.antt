@@ -1,7 +1,8 @@
 -- The map that lines spell.
-use Rattle.std.specs.Prelude.{ℕ, List, [], ◌∷◌, Option, Some, None}
+use Rattle.std.specs.Prelude.{ℕ, if◌then◌else◌, List, [], ◌∷◌, ◌++◌, Option, Some, None}
+use Rattle.gw_maplang.specs.declared.rule.LeafPlace.{LeafPlace}
 use Rattle.gw_maplang.specs.Shapes.{Path, LeafValue, Making, Copies, Firsts, Repeats, Builds, RuleValue, Items, nothing, segment, group, flat, DropValue}
-use Rattle.gw_maplang.specs.Line.{Line, Begins, Segment, Makes, At, Each, End, Drops}
+use Rattle.gw_maplang.specs.Line.{Line, Begins, Segment, Makes, At, Each, End, Drops, own_place, is_as_above}
 
 -- ---- what lines spell, from the first on
 
@@ -13,17 +14,25 @@ pub record Parts : Type 0 where
 abbrev pub no_parts : Parts
 no_parts = record { leaves = []; rules = [] }
 
--- the leaf of a rule's own line, or those below it
-abbrev pub own_or : List LeafValue → List LeafValue → List LeafValue
-own_or [] below = below
-own_or (leaf ∷ own) below = leaf ∷ own
+-- a leaf below one of this place
+abbrev pub below_place : LeafPlace → LeafValue → LeafValue
+below_place place l = if is_as_above l.place then record l { place = place } else l
+
+-- leaves of which those of `or` lines have the place of the one above, the first of them below one of this place
+abbrev pub placed : LeafPlace → List LeafValue → List LeafValue
+placed place [] = []
+placed place (l ∷ leaves) = below_place place l ∷ placed (below_place place l).place leaves
+
+-- the leaf of a rule's own line, and those below it
+abbrev pub with_below : List LeafValue → List LeafValue → List LeafValue
+with_below own below = own ++ placed own_place below
 
 -- what a rule's line says of how its field is made, with the leaves below it
 abbrev pub with_leaves : Making → List LeafValue → Making
 with_leaves (Copies from) below = Copies from
 with_leaves (Firsts from) below = Firsts from
-with_leaves (Repeats from own) below = Repeats from (own_or own below)
-with_leaves (Builds own) below = Builds (own_or own below)
+with_leaves (Repeats from own) below = Repeats from (with_below own below)
+with_leaves (Builds own) below = Builds (with_below own below)
 
 abbrev pub rule_with : RuleValue → List LeafValue → RuleValue
 rule_with r below = record r { making = with_leaves r.making below }

@@ -2,12 +2,13 @@
 ghost use Rattle.std.specs.Prelude.{◌≡◌, map, reverse, IfOk, OnOk, Some, None};
 ghost use Rattle.gw_maplang.specs.own.Building.{Stands, Grows, parts_of, levels_of, all_behind, IsSegment, IsEach, head_value};
 ghost use Rattle.gw_maplang.specs.Seen.{line, rule, leaf_value, dropped, all_items, now, items_of, path, path_some};
+ghost use Rattle.gw_maplang.specs.declared.rule.Rule.TheVariants as declared;
 ghost use Rattle.gw_maplang.specs.Line as line_of;
 ghost use Rattle.gw_maplang.specs.Value as spec;
 
 use crate::form::Line;
 use crate::item::{AlwaysItem, FlatItem, FromItem, GroupItem, Item};
-use crate::rule::{BuildRule, Dropped, LeafRule, RepeatRule, Rule};
+use crate::rule::{BuildRule, Dropped, LeafPlace, LeafRule, OWN_PLACE, RepeatRule, Rule};
 use std::alloc::{AllocError, Global};
 use std::mem;
 
@@ -91,57 +92,82 @@ fn add_segment(
     Ok(())
 }
 
-// The leaf of the rule's own line, else the leaves of the lines below it.
-fn own_or(own: Vec<LeafRule>, below: Vec<LeafRule>) -> Vec<LeafRule>
-    ensures { map leaf_value result.items ≡ spec.own_or (map leaf_value own.items) (map leaf_value below.items) }
+// A leaf below one of this place.
+fn below_place(place: LeafPlace, made: LeafRule) -> LeafRule
+    ensures { leaf_value result ≡ spec.below_place place (leaf_value made) }
 {
-    if own.is_empty() {
-        return below;
+    if made.place.is_as_above() {
+        return LeafRule { place, ..made };
     }
-    own
+    made
 }
 
-fn rule_with(made: Rule, below: Vec<LeafRule>) -> Rule
-    ensures { rule result ≡ spec.rule_with (rule made) (map leaf_value below.items) }
+// The leaf of the rule's own line, and those below it, which are in reverse order.
+fn with_below(own: Vec<LeafRule>, below: Vec<LeafRule>) -> Result<Vec<LeafRule>, AllocError>
+    ensures { IfOk result (λ v. map leaf_value v.items ≡ spec.with_below (map leaf_value own.items) (map leaf_value (reverse below.items))) }
+{
+    let mut leaves = own;
+    let mut left = below;
+    let mut place = OWN_PLACE;
+    while let Some(made) = left.pop() {
+        let leaf = below_place(place, made);
+        place = leaf.place;
+        leaves.push(leaf)?;
+    }
+    Ok(leaves)
+}
+
+fn repeat_with(made: RepeatRule, below: Vec<LeafRule>) -> Result<Rule, AllocError>
+    ensures { IfOk result (λ r. rule r ≡ spec.rule_with (rule (declared.RepeatField made)) (map leaf_value (reverse below.items))) }
+{
+    let RepeatRule {
+        line,
+        field,
+        from,
+        leaves,
+    } = made;
+    let leaves = with_below(leaves, below)?;
+    Ok(Rule::RepeatField(RepeatRule {
+        line,
+        field,
+        from,
+        leaves,
+    }))
+}
+
+fn build_with(made: BuildRule, below: Vec<LeafRule>) -> Result<Rule, AllocError>
+    ensures { IfOk result (λ r. rule r ≡ spec.rule_with (rule (declared.Build made)) (map leaf_value (reverse below.items))) }
+{
+    let BuildRule {
+        line,
+        field,
+        leaves: own,
+    } = made;
+    let leaves = with_below(own, below)?;
+    Ok(Rule::Build(BuildRule {
+        line,
+        field,
+        leaves,
+    }))
+}
+
+// The rule with the leaves below it, which are in reverse order.
+fn rule_with(made: Rule, below: Vec<LeafRule>) -> Result<Rule, AllocError>
+    ensures { IfOk result (λ r. rule r ≡ spec.rule_with (rule made) (map leaf_value (reverse below.items))) }
 {
     match made {
-        Rule::CopyField(made) => Rule::CopyField(made),
-        Rule::FirstRep(made) => Rule::FirstRep(made),
-        Rule::RepeatField(made) => {
-            let RepeatRule {
-                line,
-                field,
-                from,
-                leaves,
-            } = made;
-            Rule::RepeatField(RepeatRule {
-                line,
-                field,
-                from,
-                leaves: own_or(leaves, below),
-            })
-        }
-        Rule::Build(made) => {
-            let BuildRule {
-                line,
-                field,
-                leaves,
-            } = made;
-            Rule::Build(BuildRule {
-                line,
-                field,
-                leaves: own_or(leaves, below),
-            })
-        }
+        Rule::CopyField(made) => Ok(Rule::CopyField(made)),
+        Rule::FirstRep(made) => Ok(Rule::FirstRep(made)),
+        Rule::RepeatField(made) => repeat_with(made, below),
+        Rule::Build(made) => build_with(made, below),
     }
 }
 
 fn add_rule(alloc: Global, below: &mut Below, made: Rule) -> Result<(), AllocError>
     ensures { OnOk result (Grows below.old below.new (line_of.Makes (rule made))) }
 {
-    let mut leaves = mem::replace(&mut below.leaves, Vec::new(alloc));
-    leaves.reverse();
-    let made = rule_with(made, leaves);
+    let leaves = mem::replace(&mut below.leaves, Vec::new(alloc));
+    let made = rule_with(made, leaves)?;
     below.rules.push(made)?;
     Ok(())
 }

@@ -1,13 +1,14 @@
 //! What the lines so far leave open: tables, segments, rules, groups and flats.
-ghost use Rattle.std.specs.Prelude.{◌≡◌, ◌∷◌, [], ◌++◌, map, IfOk, OnOk, false};
+ghost use Rattle.std.specs.Prelude.{◌≡◌, ◌∷◌, [], ◌++◌, map, IfOk, OnOk, Some, false};
 ghost use Rattle.gw_maplang.specs.Fault as spec;
 ghost use Rattle.gw_maplang.specs.Columns as columns;
-ghost use Rattle.gw_maplang.specs.Seen.{line, now, now_all, rule, wide_table, open_segment, open_rule, OpenPartsFollow, HasRoom, IsNewTable, IsNewField, IsNewPlace};
+ghost use Rattle.gw_maplang.specs.Shapes as rules;
+ghost use Rattle.gw_maplang.specs.Seen.{line, now, now_all, leaf_value, rule, wide_table, open_segment, rule_open, open_rule, OpenPartsFollow, HasRoom, IsNewTable, IsNewField, IsNewPlace};
 
 use crate::columns::Wide;
 use crate::form::Line;
 use crate::parts::{after_first_byte, before_first_byte, column_number, least_field};
-use crate::rule::{LeafPlace, Rule};
+use crate::rule::{LeafPlace, LeafRule, Rule};
 use indexmap::{IndexMap, IndexSet};
 use std::alloc::{AllocError, Global};
 
@@ -37,10 +38,13 @@ pub(crate) struct OpenSegment {
     pub(crate) fields: IndexSet<u32>,
 }
 
-/// A rule that may have leaves below it: whether it is a `repeat`, and the places that have a leaf.
+/// A rule that may have leaves below it: whether it is a `repeat`, whether it has a leaf on its own line, whether it has one at all,
+/// and the places that have a leaf.
 #[derive(Drop)]
 pub(crate) struct OpenRule {
     pub(crate) repeated: bool,
+    pub(crate) own: bool,
+    pub(crate) led: bool,
     pub(crate) places: IndexSet<LeafPlace>,
 }
 
@@ -130,25 +134,46 @@ pub(crate) fn segment_below(
     }
 }
 
-// The rule as it is open right after its line. A rule with a leaf of its own takes no other.
-fn opened(alloc: Global, made: &Rule) -> Option<OpenRule>
-    ensures { open_rule result ≡ spec.opened (rule made.now).making }
+fn open_build(alloc: Global, leaves: &[LeafRule]) -> Result<OpenRule, AllocError>
+    ensures { IfOk result (λ made. Some (rule_open made) ≡ spec.opened (rules.Builds (map leaf_value leaves.now))) }
+{
+    let mut places = IndexSet::new(alloc);
+    match leaves {
+        [] => Ok(OpenRule {
+            repeated: false,
+            own: false,
+            led: false,
+            places,
+        }),
+        [own, ..] => {
+            places.insert(own.place)?;
+            Ok(OpenRule {
+                repeated: false,
+                own: true,
+                led: true,
+                places,
+            })
+        }
+    }
+}
+
+// The rule as it is open right after its line.
+fn opened(alloc: Global, made: &Rule) -> Result<Option<OpenRule>, AllocError>
+    ensures { IfOk result (λ o. open_rule o ≡ spec.opened (rule made.now).making) }
 {
     match made {
-        Rule::RepeatField(_) => Some(OpenRule {
+        Rule::CopyField(_) => Ok(None),
+        Rule::FirstRep(_) => Ok(None),
+        Rule::RepeatField(_) => Ok(Some(OpenRule {
             repeated: true,
+            own: false,
+            led: false,
             places: IndexSet::new(alloc),
-        }),
+        })),
         Rule::Build(build) => {
-            if build.leaves.is_empty() {
-                return Some(OpenRule {
-                    repeated: false,
-                    places: IndexSet::new(alloc),
-                });
-            }
-            None
+            let open = open_build(alloc, &build.leaves)?;
+            Ok(Some(open))
         }
-        _ => None,
     }
 }
 
@@ -160,9 +185,21 @@ fn with_place(place: LeafPlace, held: &mut Option<OpenRule>) -> Result<(), Alloc
         None => Ok(()),
         Some(open) => {
             open.places.insert(place)?;
+            open.led = true;
             Ok(())
         }
     }
+}
+
+// An `or` line has the place of the leaf above.
+fn with_leaf(place: LeafPlace, held: &mut Option<OpenRule>) -> Result<(), AllocError>
+    requires { spec.is_placed place (open_rule held.old) ≡ false }
+    ensures { OnOk result (open_rule held.new ≡ spec.with_leaf place (open_rule held.old)) }
+{
+    if place.is_as_above() {
+        return Ok(());
+    }
+    with_place(place, held)
 }
 
 /// Updates the rule to which a leaf would belong.
@@ -176,10 +213,10 @@ pub(crate) fn rule_below(
 {
     match whole {
         Line::Makes(rule) => {
-            *held = opened(alloc, rule);
+            *held = opened(alloc, rule)?;
             Ok(())
         }
-        Line::At(leaf) => with_place(leaf.place, held),
+        Line::At(leaf) => with_leaf(leaf.place, held),
         _ => {
             *held = None;
             Ok(())

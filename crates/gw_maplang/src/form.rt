@@ -9,7 +9,8 @@ ghost use Rattle.gw_maplang.specs.Seen.{line, now, now_all, path, path_some, fie
 
 use crate::parts::{drop_of, field_path, is_table_word, path_of, place_of, ref_of};
 use crate::rule::{
-    BuildRule, CopyRule, Dropped, FieldPath, Leaf, LeafPlace, LeafRule, Ref, RepeatRule, Rule,
+    AS_ABOVE, BuildRule, CopyRule, Dropped, FieldPath, Leaf, LeafPlace, LeafRule, OWN_PLACE, Ref,
+    RepeatRule, Rule,
 };
 use gw_lines::{Word, behind, bytes_of, first_word, name_at, number, number_at};
 use std::alloc::{AllocError, Global};
@@ -17,7 +18,7 @@ use std::alloc::{AllocError, Global};
 // The greatest number of a table's columns.
 const MAX_COLUMNS: usize = 9;
 
-/// A line of a map. A rule has only the leaf of its own line. An `each` line without a label is a `flat`.
+/// A line of a map. A rule has only the leaf of its own line. An `or` line is a leaf as above. An `each` line without a label is a `flat`.
 #[derive(Drop)]
 pub(crate) enum Line<'a> {
     Begins(u32, &'a [u8], &'a [u8], &'a [u8]),
@@ -312,10 +313,9 @@ fn own_leaves(alloc: Global, at: u32, words: &[Word]) -> Result<Option<Vec<LeafR
     let Some(leaf) = leaf_form(alloc, words)? else {
         return Ok(None);
     };
-    let place = LeafPlace { comp: 1, sub: 1 };
     leaves.push(LeafRule {
         line: at,
-        place,
+        place: OWN_PLACE,
         leaf,
     })?;
     Ok(Some(leaves))
@@ -499,6 +499,19 @@ fn at_form<'a>(alloc: Global, at: u32, words: &[Word]) -> Result<Option<Line<'a>
     }
 }
 
+fn or_form<'a>(alloc: Global, at: u32, words: &[Word]) -> Result<Option<Line<'a>>, AllocError>
+    ensures { IfOk result (λ found. option_map line found ≡ spec.or_form at (map word words.now)) }
+{
+    match leaf_form(alloc, words)? {
+        None => Ok(None),
+        Some(leaf) => Ok(Some(Line::At(LeafRule {
+            line: at,
+            place: AS_ABOVE,
+            leaf,
+        }))),
+    }
+}
+
 fn each_form<'a>(
     alloc: Global,
     at: u32,
@@ -560,6 +573,9 @@ fn rule_form<'a>(
     }
     if keyword.is(b"at") {
         return at_form(alloc, at, more);
+    }
+    if keyword.is(b"or") {
+        return or_form(alloc, at, more);
     }
     Ok(None)
 }

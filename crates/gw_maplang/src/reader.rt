@@ -9,7 +9,7 @@ ghost use Rattle.gw_maplang.specs.Columns.{wide_row_of};
 ghost use Rattle.gw_maplang.specs.Fault as spec;
 ghost use Rattle.gw_maplang.specs.Line as form;
 ghost use Rattle.gw_lines.specs.Grammar.{Taken};
-ghost use Rattle.gw_maplang.specs.Seen.{line, above, now_all, rule, leaf, leaf_value, wide_table, open_segment, open_rule, map_value, IsNewField, IsNewPlace, IsNewTable};
+ghost use Rattle.gw_maplang.specs.Seen.{line, above, now_all, rule, leaf, leaf_value, wide_table, open_segment, rule_open, open_rule, map_value, IsNewField, IsNewPlace, IsNewTable};
 ghost use Rattle.gw_maplang.specs.Whole.{whole, is_unclosed, map_of};
 
 use crate::columns::Wide;
@@ -180,12 +180,27 @@ fn is_made(field: u32, held: &Option<OpenSegment>) -> bool
     }
 }
 
-fn is_misplaced_leaf(made: &Leaf, held: &Option<OpenRule>) -> bool
-    ensures { result ≡ spec.is_misplaced_leaf (leaf made.now) (open_rule held.now) }
+fn is_early_at(second: bool, made: &LeafRule) -> bool
+    ensures { result ≡ spec.is_early_at second (leaf_value made.now) }
+{
+    (!second && made.place.is_as_above()) || is_early(second, &made.leaf)
+}
+
+fn is_out_of_line(place: LeafPlace, held: &OpenRule) -> bool
+    ensures { result ≡ spec.is_out_of_line place (rule_open held.now) }
+{
+    if place.is_as_above() {
+        return !held.led;
+    }
+    held.own
+}
+
+fn is_misplaced_leaf(made: &LeafRule, held: &Option<OpenRule>) -> bool
+    ensures { result ≡ spec.is_misplaced_leaf (leaf_value made.now) (open_rule held.now) }
 {
     match held {
         None => true,
-        Some(rule) => is_stray(rule.repeated, made),
+        Some(rule) => is_out_of_line(made.place, rule) || is_stray(rule.repeated, &made.leaf),
     }
 }
 
@@ -314,9 +329,7 @@ impl<'a> Reader<'a> {
     fn leaf_fault(&self, at: u32, made: &LeafRule) -> Option<MapFault>
         ensures { result ≡ first_of (spec.leaf_tests self.now at (leaf_value made.now)) }
     {
-        if is_misplaced_leaf(&made.leaf, &self.rule)
-            || is_early(self.open_parts.second, &made.leaf)
-        {
+        if is_misplaced_leaf(made, &self.rule) || is_early_at(self.open_parts.second, made) {
             return Some(MapFault::Syntax(at));
         }
         if is_unknown(&self.tables, &made.leaf) {

@@ -14,6 +14,24 @@ pub struct LeafPlace {
     pub sub: u32,
 }
 
+/// The place of the leaf of a rule's own line.
+pub(crate) const OWN_PLACE: LeafPlace = LeafPlace { comp: 1, sub: 1 };
+
+/// What the line of an `or` says of its place: that of the leaf above. No leaf of a map has it.
+pub(crate) const AS_ABOVE: LeafPlace = LeafPlace { comp: 0, sub: 0 };
+
+impl LeafPlace {
+    ghost use Rattle.std.specs.Prelude.{◌≡◌};
+    ghost use Rattle.gw_maplang.specs.Line as spec;
+
+    /// Whether it is that of the leaf above.
+    pub(crate) fn is_as_above(self) -> bool
+        ensures { result ≡ spec.is_as_above self }
+    {
+        self.comp == 0
+    }
+}
+
 /// The source of a text: the first repetition of a field, or the current repetition of a `repeat`.
 #[derive(Drop)]
 pub enum Ref {
@@ -31,7 +49,7 @@ pub enum Leaf {
     Date(u32, Ref),
 }
 
-/// A leaf, and the place in the field that it fills.
+/// A leaf, and the place in the field that it fills. Of several leaves of one place the first that gives a text fills it.
 #[derive(Drop)]
 pub struct LeafRule {
     pub line: u32,

@@ -7,7 +7,7 @@ use Rattle.gw_profile.specs.Shapes.{Forest}
 use Rattle.gw_maplang.specs.declared.rule.LeafPlace.{LeafPlace}
 use Rattle.gw_maplang.specs.Among.{Distinct}
 use Rattle.gw_maplang.specs.Shapes.{Rows}
-use Rattle.gw_maplang.specs.Lawful.{LawfulRow}
+use Rattle.gw_maplang.specs.Lawful.{LawfulRow, Grouped}
 use Rattle.gw_resolve.specs.Places.{child, nodes_of_child, name_of}
 use Rattle.gw_resolve.specs.Resolved.{Source, of_field, of_current, Leaf, const, copied, looked_up, dated, At, Making, copy, first, repeat, build, Rule, Items, no_items, segment_item, group_item, flat_item}
 
@@ -39,10 +39,10 @@ place a = record { comp = a.comp; sub = a.sub }
 abbrev pub places : List At → List LeafPlace
 places = map place
 
--- one leaf for each component and subcomponent
+-- the leaves of a component and subcomponent follow one another
 pub record LawfulLeaves (repeated : Bool) (leaves : List At) : Type 0 where
   pub each : AllByRecursion (LawfulAt repeated) leaves
-  pub distinct : Distinct (places leaves)
+  pub grouped : Grouped (places leaves)
 
 abbrev pub LawfulMaking : Making → Type 0
 LawfulMaking (copy from) = Unit {0}

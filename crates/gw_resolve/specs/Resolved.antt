@@ -1,5 +1,5 @@
 -- A map whose labels were looked up: it names target nodes by their numbers, and source places by steps.
-use Rattle.std.specs.Prelude.{ℕ, ◌==◌, ◌&&◌, List, Option, Some, None, find}
+use Rattle.std.specs.Prelude.{ℕ, ◌==◌, ◌&&◌, List, Option, Some, None, find, filter}
 use Rattle.gw_maplang.specs.Shapes.{Rows}
 use Rattle.gw_resolve.specs.Places.{Place}
 
@@ -78,8 +78,9 @@ pub record Resolved : Type 0 where
 abbrev pub rule_of : List Rule → ℕ → Option Rule
 rule_of rules field = find (λ r. r.field == field) rules
 
-abbrev pub leaf_at : List At → ℕ → ℕ → Option At
-leaf_at leaves comp sub = find (λ a. a.comp == comp && a.sub == sub) leaves
+-- the leaves of a component and subcomponent
+abbrev pub leaves_at : List At → ℕ → ℕ → List At
+leaves_at leaves comp sub = filter (λ a. a.comp == comp && a.sub == sub) leaves
 
 -- the target node of the first item; all items of a flat have one
 abbrev pub first_child : Items → Option ℕ

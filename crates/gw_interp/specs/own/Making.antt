@@ -6,11 +6,12 @@ use Rattle.gw_er7.specs.Message.{Texts, text_of, SegmentValue, first_field, IsEn
 use Rattle.gw_er7.specs.Building.{IsBegun, with_last}
 use Rattle.gw_validate.specs.Fitting.{OccValue}
 use Rattle.gw_maplang.specs.Among.{Among, Distinct}
+use Rattle.gw_maplang.specs.Lawful.{Grouped}
 use Rattle.gw_resolve.specs.Lawful.{LawfulMaking, places}
 use Rattle.gw_maplang.specs.Shapes.{TableValue}
 use Rattle.gw_resolve.specs.declared.resolved.At as declared
 use Rattle.gw_resolve.specs.Seen.{at_leaf}
-use Rattle.gw_resolve.specs.Resolved.{At, leaf_at, Making, Rule}
+use Rattle.gw_resolve.specs.Resolved.{At, leaves_at, Making, Rule}
 use Rattle.gw_interp.specs.declared.copying.ValuePath.{ValuePath}
 use Rattle.gw_interp.specs.declared.reading.Repetition.{Repetition}
 use Rattle.gw_interp.specs.own.Borrowed.{scope}
@@ -85,11 +86,11 @@ abbrev pub at_leaves : List TableValue → List declared.At → List At
 at_leaves tables leaves = map (at_leaf tables) leaves
 
 abbrev pub LeavesMean : Walked → List At → ℕ × ℕ → List ℕ → Type 0
-LeavesMean w leaves p text = AtMeans w (leaf_at leaves p.0 p.1) text
+LeavesMean w leaves p text = AtMeans w (leaves_at leaves p.0 p.1) text
 
--- no two leaves are for one place, none is a fault, and the texts may stand at their places
+-- the leaves of a place follow one another, none is a fault, and the texts may stand at their places
 pub record MayFillRep (w : Walked) (field rep : ℕ) (leaves : List At) (old : List SegmentValue) : Type 0 where
-  pub distinct : Distinct (places leaves)
+  pub grouped : Grouped (places leaves)
   pub no_faults : NoFaults w leaves
   pub make : MayMake (ℕ × ℕ) (rep_key field rep) (LeavesMean w leaves) old
 
