@@ -17,15 +17,13 @@ mod overlooked;
 mod rules;
 mod segments;
 mod site;
-mod texts;
 
 pub use accounted::FieldAt;
 pub use checked::CheckedMap;
 pub use elements::{comp_at, field_at, sub_at};
-pub use gw_leaves::{Presence, Shape, Values, included};
+pub use gw_leaves::{Presence, Shape, Taker, Values, included, untaken};
 pub use gw_resolve::{Failure, FailureSite, Interval};
 pub use item_sites::{site_at, sites};
 pub use overlooked::SourceUse;
 pub use rules::{CheckFault, Refusal, check, examine, failures};
 pub use site::{ElementPath, Origin, Site};
-pub use texts::{Taker, untaken};

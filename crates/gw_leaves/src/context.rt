@@ -1,7 +1,7 @@
 //! A map with its profiles, while it is checked.
 
-use crate::comparison::{Comparison, Lengths, Origin, compare, some_length};
 use crate::meeting::add_items;
+use crate::taker::{Comparison, may_be_unlisted};
 use gw_maplang::Map;
 use gw_profile::{Level, Profile};
 use gw_resolve::{Item, ScopeNode};
@@ -15,7 +15,7 @@ pub struct MapContext<'a> {
     source: &'a Profile,
     target: &'a Profile,
     map: &'a Map,
-    known: IndexMap<Comparison<'a>, Lengths>,
+    known: IndexMap<Comparison<'a>, bool>,
 }
 
 // (by hand, so that no crate above proves again how its fields are dropped)
@@ -49,9 +49,7 @@ impl<'a> Model for MapContext<'a> {
 
 impl<'a> MapContext<'a> {
     ghost use Rattle.std.specs.Prelude.{◌≡◌, IfOk};
-    ghost use Rattle.std.specs.List.{list_any};
-    ghost use Rattle.gw_maplang.specs.Seen.{now};
-    ghost use Rattle.gw_leaves.specs.own.Comparisons.{is_outside_named, given_at};
+    ghost use Rattle.gw_leaves.specs.own.Comparisons.{missing_at};
     ghost use Rattle.gw_leaves.specs.Context.{context_of};
 
     /// The map with its profiles, and what is found of the tables that its items bring together, where this is the level of the source's nodes.
@@ -92,7 +90,7 @@ impl<'a> MapContext<'a> {
     {
         let mut known = IndexMap::with_capacity(self.alloc, comparisons.len())?;
         for comparison in comparisons {
-            let found = compare(self.alloc, self.source, self.target, self.map, comparison)?;
+            let found = may_be_unlisted(self.source, self.target, self.map, comparison, None);
             known.insert(comparison, found)?;
         }
         Ok(MapContext {
@@ -125,28 +123,18 @@ impl<'a> MapContext<'a> {
         self.map
     }
 
-    /// Whether a text that isn't longer than the length is given something that isn't in the target's table of this name, where one is named.
-    /// Where there is a most, what is given is longer than that as well.
-    pub(crate) fn some_given(
-        &self,
-        origin: Origin<'_>,
-        name: Option<&[u8]>,
-        len: Option<u32>,
-        most: Option<u32>,
-    ) -> Result<bool, AllocError>
-        ensures { IfOk result (λ b. b ≡
-            list_any (is_outside_named self.now (now name.entry) most) (given_at self.now (now origin.entry.0) (now origin.entry.1) len)) }
+    /// Whether what is given for a text that isn't longer may be missing from the target's table, where the target has it.
+    pub(crate) fn may_be_unlisted(&self, comparison: Comparison<'_>, len: Option<u32>) -> bool
+        ensures { result ≡ missing_at self.now comparison.entry len }
     {
-        if let Some(found) = self.known.get(&(origin, name)) {
-            return Ok(some_length(found.as_slice(), len, most));
+        if let Some(found) = self.known.get(&comparison) {
+            if !*found {
+                return false;
+            }
+            if len.is_none() {
+                return true;
+            }
         }
-        let found = compare(
-            self.alloc,
-            self.source,
-            self.target,
-            self.map,
-            (origin, name),
-        )?;
-        Ok(some_length(found.as_slice(), len, most))
+        may_be_unlisted(self.source, self.target, self.map, comparison, len)
     }
 }

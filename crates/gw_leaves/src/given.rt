@@ -1,5 +1,5 @@
 //! What is read at a place, and what a subcomponent of the target asks of it.
-ghost use Rattle.std.specs.Prelude.{◌≡◌, IfOk};
+ghost use Rattle.std.specs.Prelude.{◌≡◌};
 ghost use Rattle.gw_profile.specs.Numbered.{some_sub};
 ghost use Rattle.gw_profile.specs.Seen.{sub as sub_value};
 ghost use Rattle.gw_maplang.specs.Seen.{now};
@@ -11,13 +11,10 @@ ghost use Rattle.gw_leaves.specs.own.Comparisons as spec;
 ghost use Rattle.gw_leaves.specs.own.Comparisons.{rows_named};
 ghost use Rattle.gw_leaves.specs.own.Held.{given_texts, source_values};
 
-use crate::comparison::{Origin, fits, values_of};
 use crate::context::MapContext;
-use crate::leaf::table_named;
-use crate::texts::may_exceed;
+use crate::taker::{Origin, Taker, is_short, may_be_untaken, values_of};
 use gw_maplang::Table as Rows;
-use gw_profile::{Count, SubShape, measure};
-use std::alloc::AllocError;
+use gw_profile::{Count, SubShape};
 
 /// What is read at a place: a subcomponent of the source, as it is or looked up in the table of this name.
 #[derive(Clone, Copy)]
@@ -57,64 +54,33 @@ pub(crate) fn origin_of<'a>(given: LeafSource<'a>) -> Origin<'a>
     (given.rows, table_of(given.sub))
 }
 
-// Whether any text can be read.
-fn is_any(origin: Origin<'_>) -> bool
-    ensures { result ≡ spec.is_any (now origin.entry.0) (now origin.entry.1) }
-{
-    origin.0.is_none() && origin.1.is_none()
-}
-
 /// Whether what can stand there may be missing from the table of this subcomponent of the target.
 pub(crate) fn may_be_unlisted(
     context: &MapContext<'_>,
     given: LeafSource<'_>,
     sub: &SubShape,
-) -> Result<bool, AllocError>
-    ensures { IfOk result (λ b. b ≡ leaves.may_be_unlisted (given_texts context.now given.entry) (table_values context.now.target.tables (sub_value sub.now))) }
+) -> bool
+    ensures { result ≡ leaves.may_be_unlisted (given_texts context.now given.entry) (table_values context.now.target.tables (sub_value sub.now)) }
 {
-    let name = table_of(Some(sub));
-    if table_named(context.target(), name).is_none() {
-        return Ok(false);
-    }
-    let origin = origin_of(given);
-    if is_any(origin) {
-        return Ok(true);
-    }
-    context.some_given(origin, name, len_of(given.sub), None)
+    context.may_be_unlisted((origin_of(given), table_of(Some(sub))), len_of(given.sub))
 }
 
 /// Whether what can stand there may be longer than this subcomponent of the target takes.
-pub(crate) fn may_be_long(
-    context: &MapContext<'_>,
-    given: LeafSource<'_>,
-    sub: &SubShape,
-) -> Result<bool, AllocError>
-    ensures { IfOk result (λ b. b ≡ leaves.may_be_long context.now.target.count (given_texts context.now given.entry) (sub_value sub.now).len) }
+pub(crate) fn may_be_long(context: &MapContext<'_>, given: LeafSource<'_>, sub: &SubShape) -> bool
+    ensures { result ≡ leaves.may_be_long context.now.target.count (given_texts context.now given.entry) (sub_value sub.now).len }
 {
     let Some(most) = sub.len else {
-        return Ok(false);
+        return false;
     };
-    let len = len_of(given.sub);
-    let origin = origin_of(given);
-    if is_any(origin) {
-        return match len {
-            None => Ok(true),
-            Some(len) => Ok(may_exceed(
-                context.source().count(),
-                len,
-                context.target().count(),
-                most,
-            )),
-        };
-    }
-    context.some_given(origin, None, len, Some(most))
+    let taker = Taker::Length(context.target().count(), Some(most));
+    may_be_untaken(context.source(), context.map(), origin_of(given), len_of(given.sub), taker)
 }
 
 // Whether one of these texts that isn't longer has no row.
 fn some_unrowed(count: Count, len: Option<u32>, rows: Option<&Rows>, texts: &[Vec<u8>]) -> bool
     ensures { result ≡ spec.some_unrowed count len (rows_value rows.entry) texts.now }
 {
-    texts.iter().any(|text| fits(len, measure(count, text)) && !has_row(rows, text))
+    texts.iter().any(|text| is_short(count, len, text) && !has_row(rows, text))
 }
 
 fn has_row(rows: Option<&Rows>, text: &[u8]) -> bool

@@ -1,7 +1,6 @@
 //! What a source can give at a place, and what a field, a component or a subcomponent of the target asks there.
 #![tactic(auto)]
 
-mod comparison;
 mod context;
 mod count;
 mod elements;
@@ -19,10 +18,10 @@ mod places;
 mod presence;
 mod shape;
 mod sources;
+mod taker;
 mod texts;
 mod values;
 
-pub use comparison::values_of;
 pub use context::MapContext;
 pub use count::rule_count;
 pub use known::rule_of;
@@ -33,4 +32,5 @@ pub use mark::field_mark;
 pub use places::enter_if;
 pub use shape::{Presence, Shape, Values};
 pub use sources::Sources;
+pub use taker::{Taker, untaken};
 pub use values::is_forbidden;

@@ -1,6 +1,5 @@
 //! The tables that a map brings together.
 
-use crate::comparison::Comparison;
 use crate::context::MapContext;
 use crate::count::walking;
 use crate::given::{LeafSource, origin_of, table_of};
@@ -8,6 +7,7 @@ use crate::known::at_field;
 use crate::leaf::source_sub;
 use crate::places::enter_if;
 use crate::sources::Sources;
+use crate::taker::Comparison;
 use gw_profile::{FieldShape, Node, SubShape, comp_of, field_of, sub_of};
 use gw_resolve::{
     At, Item, Making, ResolvedLeaf, Rule, ScopeNode, SegmentItem, Source, enter, fields_at,
@@ -18,15 +18,13 @@ use std::alloc::{AllocError, Global};
 
 type Comparisons<'a> = IndexSet<Comparison<'a>>;
 
-// What is read, against all texts and against the table of this subcomponent.
+// What is read, against the table of this subcomponent.
 fn add<'a>(
     comparisons: &mut Comparisons<'a>,
     given: LeafSource<'a>,
     sub: Option<&'a SubShape>,
 ) -> Result<(), AllocError> {
-    let origin = origin_of(given);
-    comparisons.insert((origin, None))?;
-    comparisons.insert((origin, table_of(sub)))?;
+    comparisons.insert((origin_of(given), table_of(sub)))?;
     Ok(())
 }
 

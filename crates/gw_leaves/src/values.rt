@@ -57,8 +57,8 @@ pub(crate) fn check_values(
     if is_absent(presence) {
         return Ok(());
     }
-    let is_unlisted = may_be_unlisted(context, given, sub)?;
+    let is_unlisted = may_be_unlisted(context, given, sub);
     note(found, 6, mark, is_unlisted)?;
-    let is_long = may_be_long(context, given, sub)?;
+    let is_long = may_be_long(context, given, sub);
     note(found, 7, mark, is_long)
 }

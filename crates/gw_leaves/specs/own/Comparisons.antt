@@ -1,22 +1,23 @@
--- Texts of the source against tables of the target, whatever the length at which a place reads them.
-use Rattle.std.specs.Prelude.{◌≡◌, ℕ, Bool, true, false, ◌&&◌, ◌||◌, not, nat_lt, nat_le, List, [], filter, Option, Some, None, option_copied, option_and_then, unwrap_or, bytes_eq}
+-- Texts of the source against what the target asks of them.
+use Rattle.std.specs.Prelude.{◌≡◌, ℕ, Bool, true, false, ◌&&◌, not, List, [], filter, Option, Some, None, option_and_then, option_map, unwrap_or, bytes_eq}
 use Rattle.std.specs.List.{list_any}
 use Rattle.std.specs.Map.{lookup}
 use Rattle.std.specs.Option.{option_eq}
 use Rattle.std.specs.Global.{Vec}
-use Rattle.indexmap.specs.IndexSet.{IndexSet}
 use denote.Ref.{Bor}
 use Rattle.gw_profile.specs.Shapes.{SubValue, TableValue, ProfileValue}
 use Rattle.gw_profile.specs.declared.shape.Count.{Count}
-use Rattle.gw_profile.specs.Lengths.{measure, len_count}
-use Rattle.gw_profile.specs.Fault.{is_among}
+use Rattle.gw_profile.specs.Lengths.{len_count}
 use Rattle.gw_profile.specs.Seen.{profile_value}
 use Rattle.gw_profile.specs.Value.{table_of as table_in}
 use Rattle.gw_maplang.specs.Seen.{now}
 use Rattle.gw_maplang.specs.Shapes as maps
-use Rattle.gw_maplang.specs.Shapes.{Rows, Row, second_of}
+use Rattle.gw_maplang.specs.Shapes.{Rows, second_of}
 use Rattle.gw_resolve.specs.Naming.{no_rows}
-use Rattle.gw_leaves.specs.Leaves.{Values, any, listed, is_short, given, given_values, has_no_row}
+use Rattle.gw_leaves.specs.declared.taker.Taker.{Taker}
+use Rattle.gw_leaves.specs.declared.taker.Taker.TheVariants.{Table, Rows as Rows', Length}
+use Rattle.gw_leaves.specs.Leaves.{Values, any, listed, is_short, given, given_values, has_no_row, may_be_unlisted, may_exceed}
+use Rattle.gw_leaves.specs.Takers.{takes}
 use Rattle.gw_leaves.specs.Texts.{is_there}
 use Rattle.gw_leaves.specs.Context.{ContextValue}
 
@@ -41,15 +42,18 @@ table_texts profile (Some name) len = listed (filter (is_short (len_count profil
 abbrev pub rows_named : List maps.TableValue → List ℕ → Rows
 rows_named tables name = unwrap_or (maps.table_of name tables) no_rows
 
--- texts as they are, or what the rows of the table of this name give for them
-abbrev pub rowed : List maps.TableValue → Option (List ℕ) → Values → Values
-rowed tables None values = values
-rowed tables (Some name) values = listed (given_values (rows_named tables name) values)
+-- as they are, or what these rows give for them
+abbrev pub rowed_by : Option Rows → Values → Values
+rowed_by None values = values
+rowed_by (Some rows) values = listed (given_values rows values)
 
--- a length isn't greater, where there is a greatest
-abbrev pub fits : Option ℕ → ℕ → Bool
-fits None n = true
-fits (Some most) n = nat_le n most
+-- or the rows of the table of this name
+abbrev pub rowed : List maps.TableValue → Option (List ℕ) → Values → Values
+rowed tables name values = rowed_by (option_map (rows_named tables) name) values
+
+-- what is given for texts of this table, or for any, that aren't longer
+abbrev pub texts_at : ProfileValue → List maps.TableValue → Option (List ℕ) → Option (List ℕ) → Option ℕ → Values
+texts_at profile tables rows table len = rowed tables rows (table_texts profile table len)
 
 -- a text may have no row, and nothing stands for it
 abbrev pub is_unrowed : Rows → Values → Bool
@@ -57,95 +61,49 @@ is_unrowed rows values = not (is_there rows.other) && has_no_row rows values
 
 -- one of these texts that isn't longer has no row
 abbrev pub some_unrowed : Count → Option ℕ → Rows → List (Vec ℕ) → Bool
-some_unrowed count len rows texts = list_any (λ v. fits len (measure count v.items) && not (is_there (second_of v.items rows.rows))) texts
+some_unrowed count len rows texts = list_any (λ v. is_short count len v.items && not (is_there (second_of v.items rows.rows))) texts
 
--- ---- where texts are from
+-- ---- what isn't taken
 
--- the table of the map in which they are looked up, and that of the source which lists them
-abbrev pub Origin : Type 0
-Origin = Option (Bor (List ℕ)) × Option (Bor (List ℕ))
-
--- any text can be read
-abbrev pub is_any : Option (List ℕ) → Option (List ℕ) → Bool
-is_any None None = true
-is_any None (Some table) = false
-is_any (Some rows) table = false
-
-abbrev pub texts_in : Values → List (List ℕ)
-texts_in (any count len) = []
-texts_in (listed texts) = texts
-
--- what is given for texts that aren't longer
-abbrev pub given_at : ContextValue → Option (List ℕ) → Option (List ℕ) → Option ℕ → List (List ℕ)
-given_at s rows table len = texts_in (rowed s.map.tables rows (table_texts (profile_value s.source) table len))
+abbrev pub holds_of : (List ℕ → Bool) → Option (List ℕ) → Bool
+holds_of test None = false
+holds_of test (Some text) = test text
 
 -- as it is, or by these rows
 abbrev pub given_by : Option Rows → List ℕ → Option (List ℕ)
 given_by None text = Some text
 given_by (Some rows) text = given rows text
 
--- ---- what is asked of it
+-- a text is no longer, and what is given for it isn't taken
+abbrev pub is_untaken : Count → Option ℕ → Option Rows → Taker → List ℕ → Bool
+is_untaken count len rows taker text = is_short count len text && holds_of (λ t. not (takes taker t)) (given_by rows text)
 
--- it isn't in these values of the target, and is longer than the most, where there is one
-abbrev pub is_outside : Count → List (List ℕ) → Option ℕ → List ℕ → Bool
-is_outside to values None text = not (is_among text values)
-is_outside to values (Some most) text = not (is_among text values) && nat_lt most (measure to text)
+-- any text may be read that by this count isn't longer
+abbrev pub any_untaken : Taker → Count → Option ℕ → Bool
+any_untaken (Table table) count len = true
+any_untaken (Rows' rows) count len = true
+any_untaken (Length to None) count len = false
+any_untaken (Length to (Some most)) count None = true
+any_untaken (Length to (Some most)) count (Some len) = may_exceed count len to most
 
--- of the target's table of this name, if one is named
-abbrev pub is_outside_named : ContextValue → Option (List ℕ) → Option ℕ → List ℕ → Bool
-is_outside_named s name = is_outside s.target.count (values_named s.target.tables name)
-
-abbrev pub holds_of : (List ℕ → Bool) → Option (List ℕ) → Bool
-holds_of test None = false
-holds_of test (Some text) = test text
-
--- ---- as the program holds it
-
--- a length is greater than the most, where there is one
-abbrev pub exceeds : Option ℕ → ℕ → Bool
-exceeds None n = true
-exceeds (Some most) n = nat_lt most n
-
--- lengths of texts by the count of the source, each with that of what is given for it by the count of the target
-abbrev pub Lengths : Type 0
-Lengths = List (ℕ × ℕ)
-
-abbrev pub some_length : Option ℕ → Option ℕ → Lengths → Bool
-some_length len most lengths = list_any (λ l. fits len l.0 && exceeds most l.1) lengths
-
--- these are the lengths where what is given isn't in the target's table of this name, if one is named
-abbrev pub AreCompared : ContextValue → Option (List ℕ) → Option (List ℕ) → Option (List ℕ) → Lengths → Type 0
-AreCompared s rows table name lengths = (len most : Option ℕ) →
-    some_length len most lengths ≡ list_any (is_outside_named s name most) (given_at s rows table len)
-
--- what is given for a text of this length was added
-abbrev pub Adds : Count → List (List ℕ) → Lengths → Lengths → ℕ → Option (List ℕ) → Type 0
-Adds to values old new size text = (len most : Option ℕ) → some_length len most new ≡ (some_length len most old || (fits len size && holds_of (is_outside to values most) text))
-
--- where no count says how long a text is, it is as short as one likes
-abbrev pub size_of : Option Count → List ℕ → ℕ
-size_of None text = 0
-size_of (Some count) text = measure count text
-
--- what is given for each of these texts, as it is or by rows
-abbrev pub AreOfValues : Option Count → Count → List (List ℕ) → Option Rows → List (Vec ℕ) → Lengths → Type 0
-AreOfValues count to values rows texts lengths = (len most : Option ℕ) →
-    some_length len most lengths ≡ list_any (λ v. fits len (size_of count v.items) && holds_of (is_outside to values most) (given_by rows v.items)) texts
-
--- all that rows give
-abbrev pub AreOfRows : Count → List (List ℕ) → Rows → Lengths → Type 0
-AreOfRows to values rows lengths = (len most : Option ℕ) →
-    some_length len most lengths ≡ (list_any (λ r. is_outside to values most r.second) rows.rows || holds_of (is_outside to values most) rows.other)
-
--- the table of the target, where there is one
-abbrev pub some_values : Option (Bor (List (List ℕ))) → List (List ℕ)
-some_values table = unwrap_or (option_copied table) []
+-- one of these isn't taken
+abbrev pub may_be_untaken : Taker → Values → Bool
+may_be_untaken taker (any count len) = any_untaken taker count len
+may_be_untaken taker (listed texts) = list_any (λ t. not (takes taker t)) texts
 
 -- ---- what is kept of comparisons
 
--- where texts are from, and the table of the target with which they are compared, by its name
+-- where texts are from: the table of the map in which they are looked up, and that of the source which lists them
+abbrev pub Origin : Type 0
+Origin = Option (Bor (List ℕ)) × Option (Bor (List ℕ))
+
+-- with the table of the target with which they are compared, by its name
 abbrev pub Comparison : Type 0
 Comparison = Origin × Option (Bor (List ℕ))
+
+-- one that isn't longer may be missing from the table, where the target has it
+abbrev pub missing_at : ContextValue → Comparison → Option ℕ → Bool
+missing_at s c len = may_be_unlisted (texts_at (profile_value s.source) s.map.tables (now c.0.0) (now c.0.1) len) (option_and_then (λ n. table_in n s.target.tables) (now c.1))
 
 abbrev pub names_eq : Bor (List ℕ) → Bor (List ℕ) → Bool
 names_eq x y = bytes_eq x.now y.now
@@ -153,9 +111,6 @@ names_eq x y = bytes_eq x.now y.now
 abbrev pub comparisons_eq : Comparison → Comparison → Bool
 comparisons_eq x y = (option_eq names_eq x.0.0 y.0.0 && option_eq names_eq x.0.1 y.0.1) && option_eq names_eq x.1 y.1
 
-abbrev pub IsCompared : ContextValue → Comparison → Lengths → Type 0
-IsCompared s c lengths = AreCompared s (now c.0.0) (now c.0.1) (now c.1) lengths
-
--- what is found of a comparison is so
-abbrev pub AreKept : {S : Type 0} → ContextValue → List (Comparison × IndexSet (ℕ × ℕ) S) → Type 0
-AreKept {S} s known = (c : Comparison) (found : IndexSet (ℕ × ℕ) S) → Some found ≡ lookup (comparisons_eq c) known → IsCompared s c found.keys
+-- what is found of a comparison is so, whatever the length
+abbrev pub AreKept : ContextValue → List (Comparison × Bool) → Type 0
+AreKept s known = (c : Comparison) (found : Bool) → Some found ≡ lookup (comparisons_eq c) known → found ≡ missing_at s c None

@@ -3,7 +3,7 @@ use Rattle.std.specs.Global.{Vec}
 use Rattle.gw_maplang.specs.Seen.{row}
 use Rattle.gw_maplang.specs.Shapes.{Row}
 use Rattle.gw_leaves.specs.Texts.{items_all}
-use Rattle.gw_leaves.proofs.comparison.seconds_of.Goals as goal
+use Rattle.gw_leaves.proofs.taker.seconds_of.Goals as goal
 
 seconds : (entries : List (Vec ℕ × Vec ℕ)) → items_all (map (λ (e : Vec ℕ × Vec ℕ). e.1) entries) ≡ map (λ (r : Row). r.second) (map row entries)
 seconds [] = refl
