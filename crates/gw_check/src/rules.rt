@@ -124,7 +124,7 @@ fn find(
         fields_at f.used.unread.items ≡ seen.unread (spec.context_of source.now target.now map.now) named.now.items.items named.now.drops.items) }
     ensures made { IfOk result (λ f. all_sites map.now.tables f.used.sites.items ≡ sites (all_items map.now.tables named.now.items.items)) }
 {
-    let context = MapContext::of(alloc, source, target, map, level, &named.items)?;
+    let context = MapContext::of(source, target, map);
     let mut found = Vec::new(alloc);
     let used = add_failures(
         alloc,

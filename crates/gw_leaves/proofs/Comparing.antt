@@ -1,22 +1,16 @@
 -- Texts of the source that aren't taken.
-use Rattle.std.proofs.Common.{◌≡◌, ℕ, Bool, true, false, List, [], ◌∷◌, ◌++◌, Option, Some, None, Bor, refl, sym, ap, ap₂, ◌∙◌, map, ◌≤◌, nat_lt, nat_le, cond, is_some, true≢false, arith}
-use Rattle.std.specs.Prelude.{unwrap_or, option_copied, option_and_then, option_map, filter, filter_map, find, option_to_list, not, if◌then◌else◌, ◌||◌, ◌&&◌}
+use Rattle.std.proofs.Common.{◌≡◌, ℕ, Bool, true, false, List, [], ◌∷◌, ◌++◌, Option, Some, None, Bor, refl, sym, ap, ap₂, ◌∙◌, map, ◌≤◌, nat_lt, nat_le, cond, is_some, arith}
+use Rattle.std.specs.Prelude.{option_map, filter, filter_map, find, option_to_list, not, if◌then◌else◌, ◌||◌, ◌&&◌}
 use Rattle.std.specs.List.{list_any}
-use Rattle.std.specs.Map.{lookup}
 use Rattle.std.specs.Global.{Vec}
-use Rattle.std.specs.Option.{option_eq}
 use Rattle.std.proofs.Math.Bool.{and-true}
 use Rattle.std.proofs.lemmas.Bool.Decides.{nat_tests}
 use Rattle.std.proofs.lemmas.List.Folds.{list_any-append}
-use Rattle.std.proofs.lemmas.Slice.Eq.{bytes_eq-Decides}
-use Rattle.gw_profile.specs.Fault.{is_among}
 use Rattle.gw_profile.specs.declared.shape.Count.{Count}
 use Rattle.gw_profile.specs.Lengths.{measure, len_count}
 use Rattle.gw_profile.specs.Numbered.{some_sub}
 use Rattle.gw_profile.specs.Seen.{profile_value}
 use Rattle.gw_profile.specs.Shapes.{SubValue, ProfileValue}
-use Rattle.gw_profile.specs.Value.{table_of as table_in}
-use Rattle.gw_profile.proofs.Facts.{both, neither}
 use Rattle.gw_maplang.specs.Seen.{now}
 use Rattle.gw_maplang.specs.Shapes as maps
 use Rattle.gw_maplang.specs.Shapes.{Rows, Row, second_of}
@@ -29,7 +23,7 @@ use Rattle.gw_leaves.specs.Leaves.{Values, any, listed, is_short, given, given_v
 use Rattle.gw_leaves.specs.Takers.{takes}
 use Rattle.gw_leaves.specs.Texts.{is_there, items_all}
 use Rattle.gw_leaves.specs.own.Held.{given_texts}
-use Rattle.gw_leaves.specs.own.Comparisons.{table_texts, values_named, rows_named, rowed_by, rowed, texts_at, table_of, len_of, some_unrowed, is_unrowed, Origin, Comparison, holds_of, is_untaken, any_untaken, may_be_untaken, missing_at, names_eq, comparisons_eq, AreKept}
+use Rattle.gw_leaves.specs.own.Comparisons.{table_texts, values_named, rows_named, rowed_by, table_of, len_of, some_unrowed, is_unrowed, holds_of, is_untaken, any_untaken, may_be_untaken}
 use Rattle.gw_leaves.proofs.Fitting.{none_exceeds}
 use Rattle.gw_leaves.proofs.Inserted.{any_map, or_none}
 
@@ -46,17 +40,6 @@ any_kept p false x xs = refl
 any_filter : {A : Type 0} (p q : A → Bool) (xs : List A) → list_any p (filter q xs) ≡ list_any (λ x. q x && p x) xs
 any_filter p q [] = refl
 any_filter p q (x ∷ xs) = any_kept p (q x) x (filter q xs) ∙ ap (λ b. (q x && p x) || b) (any_filter p q xs)
-
--- of fewer, none either
-fewer : {A : Type 0} (p q : A → Bool) (xs : List A) → list_any p xs ≡ false → list_any p (filter q xs) ≡ false
-fewer p q [] e = refl
-fewer p q (x ∷ xs) e =
-    let h = neither (p x) (list_any p xs) e in
-    any_kept p (q x) x (filter q xs) ∙ ap₂ (λ a b. (q x && a) || b) h.0 (fewer p q xs h.1) ∙ neither_one (q x)
-  where
-    neither_one : (b : Bool) → (b && false) || false ≡ false
-    neither_one true = refl
-    neither_one false = refl
 
 any_filter_map : {A : Type 0} (p : List ℕ → Bool) (g : A → Option (List ℕ)) (xs : List A) → list_any p (filter_map g xs) ≡ list_any (λ x. holds_of p (g x)) xs
 any_filter_map p g [] = refl
@@ -136,50 +119,6 @@ pub any_or_listed : (taker : Taker) (profile : ProfileValue) (table : Option (Li
 any_or_listed taker profile None len e = e
 any_or_listed taker profile (Some name) len e = none_short (λ t. not (takes taker t)) (is_short (len_count profile) len) (short_taken taker (len_count profile) len e) (values_named profile.tables (Some name))
 
--- ---- what is kept
-
--- where none is missing whatever the length, none is that isn't longer
-module _ (profile : ProfileValue) (len : Option ℕ) where
-  fewer_missing : (rows : Option Rows) (table : Option (List ℕ)) (asked : Option (List (List ℕ))) → may_be_unlisted (rowed_by rows (table_texts profile table None)) asked ≡ false → may_be_unlisted (rowed_by rows (table_texts profile table len)) asked ≡ false
-  fewer_missing rows table None e = refl
-  fewer_missing None None (Some values) e = absurd (cc)
-  fewer_missing (Some r) None (Some values) e = e
-  fewer_missing None (Some name) (Some values) e =
-      let test : List ℕ → Bool = λ t. not (is_among t values) in
-      let all = values_named profile.tables (Some name) in
-      fewer test (is_short (len_count profile) len) all (sym (any_filter test (is_short (len_count profile) None) all) ∙ e)
-  fewer_missing (Some r) (Some name) (Some values) e =
-      let test : List ℕ → Bool = λ t. not (is_among t values) in
-      let over : List ℕ → Bool = λ t. holds_of test (given r t) in
-      let all = values_named profile.tables (Some name) in
-      any_filter_map test (given r) (filter (is_short (len_count profile) len) all)
-      ∙ fewer over (is_short (len_count profile) len) all (sym (any_filter over (is_short (len_count profile) None) all) ∙ sym (any_filter_map test (given r) (filter (is_short (len_count profile) None) all)) ∙ e)
-
-pub none_missing : (s : ContextValue) (c : Comparison) (len : Option ℕ) → missing_at s c None ≡ false → missing_at s c len ≡ false
-none_missing s c len e = fewer_missing (profile_value s.source) len (option_map (rows_named s.map.tables) (now c.0.0)) (now c.0.1) _ e
-
-same_name : (x y : Option (Bor (List ℕ))) → option_eq names_eq x y ≡ true → now x ≡ now y
-same_name None None e = refl
-same_name None (Some y) e = absurd (true≢false (sym e))
-same_name (Some x) None e = absurd (true≢false (sym e))
-same_name (Some x) (Some y) e = ap Some ((bytes_eq-Decides x.now y.now).0 e)
-
-same_missing : (s : ContextValue) (x y : Comparison) → comparisons_eq x y ≡ true → missing_at s x None ≡ missing_at s y None
-same_missing s x y e =
-    let b = both _ _ e in
-    let o = both _ _ b.0 in
-    λ i. may_be_unlisted (texts_at (profile_value s.source) s.map.tables (same_name x.0.0 y.0.0 o.0 i) (same_name x.0.1 y.0.1 o.1 i) None) (option_and_then (λ n. table_in n s.target.tables) (same_name x.1 y.1 b.1 i))
-
--- one comparison more
-pub kept_more : (s : ContextValue) (x : Comparison) (found : Bool) (old new : List (Comparison × Bool))
-    → ((c : Comparison) → lookup (comparisons_eq c) new ≡ cond (comparisons_eq x c) (Some found) (lookup (comparisons_eq c) old))
-    → found ≡ missing_at s x None → AreKept s old → AreKept s new
-kept_more s x found old new updates is h c f e = by (comparisons_eq x c) refl (e ∙ updates c)
-  where
-    by : (b : Bool) → comparisons_eq x c ≡ b → Some f ≡ cond b (Some found) (lookup (comparisons_eq c) old) → f ≡ missing_at s c None
-    by true same e = ap (λ o. unwrap_or o f) e ∙ is ∙ same_missing s x c same
-    by false other e = h c f e
-
 -- ---- what is read at a place
 
 sub_texts : (profile : ProfileValue) (sub : Option SubValue) → sub_values profile sub ≡ table_texts profile (table_of sub) (len_of sub)
@@ -190,10 +129,9 @@ sub_texts profile (Some s) = by s.table refl
     by None e = rw e refl
     by (Some name) e = rw e refl
 
-pub place_texts : (s : ContextValue) (g : LeafSource) (origin : Origin) (len : Option ℕ) → now origin.0 ≡ now g.rows → now origin.1 ≡ table_of (some_sub g.sub) → len ≡ len_of (some_sub g.sub)
-    → texts_at (profile_value s.source) s.map.tables (now origin.0) (now origin.1) len ≡ given_texts s g
-place_texts s g origin len rows table short =
-    (λ i. texts_at (profile_value s.source) s.map.tables (rows i) (table i) (short i)) ∙ sym (ap (rowed s.map.tables (now g.rows)) (sub_texts (profile_value s.source) (some_sub g.sub)))
+-- by the rows that were found, or none
+pub place_texts : (s : ContextValue) (g : LeafSource) (rows : Option Rows) → rows ≡ option_map (rows_named s.map.tables) (now g.rows) → rowed_by rows (table_texts (profile_value s.source) (table_of (some_sub g.sub)) (len_of (some_sub g.sub))) ≡ given_texts s g
+place_texts s g rows e = λ i. rowed_by (e i) (sym (sub_texts (profile_value s.source) (some_sub g.sub)) i)
 
 -- ---- texts without a row
 

@@ -12,7 +12,8 @@ ghost use Rattle.gw_leaves.specs.own.Comparisons.{rows_named};
 ghost use Rattle.gw_leaves.specs.own.Held.{given_texts, source_values};
 
 use crate::context::MapContext;
-use crate::taker::{Origin, Taker, is_short, may_be_untaken, values_of};
+use crate::leaf::table_named;
+use crate::taker::{Taker, is_short, may_be_untaken, values_of};
 use gw_maplang::Table as Rows;
 use gw_profile::{Count, SubShape};
 
@@ -36,22 +37,14 @@ pub(crate) fn table_of<'a>(sub: Option<&'a SubShape>) -> Option<&'a [u8]>
     }
 }
 
-// The length of a subcomponent.
-fn len_of(sub: Option<&SubShape>) -> Option<u32>
+/// The length of a subcomponent.
+pub(crate) fn len_of(sub: Option<&SubShape>) -> Option<u32>
     ensures { result ≡ spec.len_of (some_sub sub.entry) }
 {
     match sub {
         None => None,
         Some(sub) => sub.len,
     }
-}
-
-/// Where the texts are from that are read at a place.
-pub(crate) fn origin_of<'a>(given: LeafSource<'a>) -> Origin<'a>
-    ensures rows { now result.0 ≡ now given.entry.rows }
-    ensures table { now result.1 ≡ spec.table_of (some_sub given.entry.sub) }
-{
-    (given.rows, table_of(given.sub))
 }
 
 /// Whether what can stand there may be missing from the table of this subcomponent of the target.
@@ -62,7 +55,10 @@ pub(crate) fn may_be_unlisted(
 ) -> bool
     ensures { result ≡ leaves.may_be_unlisted (given_texts context.now given.entry) (table_values context.now.target.tables (sub_value sub.now)) }
 {
-    context.may_be_unlisted((origin_of(given), table_of(Some(sub))), len_of(given.sub))
+    match table_named(context.target(), table_of(Some(sub))) {
+        None => false,
+        Some(table) => may_be_untaken(context, given, Taker::Table(table)),
+    }
 }
 
 /// Whether what can stand there may be longer than this subcomponent of the target takes.
@@ -72,8 +68,11 @@ pub(crate) fn may_be_long(context: &MapContext<'_>, given: LeafSource<'_>, sub: 
     let Some(most) = sub.len else {
         return false;
     };
-    let taker = Taker::Length(context.target().count(), Some(most));
-    may_be_untaken(context.source(), context.map(), origin_of(given), len_of(given.sub), taker)
+    may_be_untaken(
+        context,
+        given,
+        Taker::Length(context.target().count(), Some(most)),
+    )
 }
 
 // Whether one of these texts that isn't longer has no row.

@@ -12,7 +12,6 @@ mod lookup;
 mod made;
 mod making;
 mod mark;
-mod meeting;
 mod parts;
 mod places;
 mod presence;

@@ -1,25 +1,21 @@
 //! What takes a text, and whether there is a text of the source that isn't taken.
 ghost use Rattle.std.specs.Prelude.{◌≡◌, ◌++◌, find, map, not, option_copied, option_to_list, unwrap_or, []};
 ghost use Rattle.std.specs.List.{list_any};
+ghost use Rattle.gw_profile.specs.Numbered.{some_sub};
 ghost use Rattle.gw_profile.specs.Seen.{sub as seen_sub, profile_value};
 ghost use Rattle.gw_profile.specs.Value.{table_of as table_in};
 ghost use Rattle.gw_maplang.specs.Seen.{now};
-ghost use Rattle.gw_leaves.specs.Context.{context_of};
 ghost use Rattle.gw_leaves.specs.Leaves.{is_short};
 ghost use Rattle.gw_leaves.specs.Takers as spec;
 ghost use Rattle.gw_leaves.specs.Texts.{items_all};
-ghost use Rattle.gw_leaves.specs.own.Comparisons.{given_by, holds_of, is_untaken, may_be_untaken, any_untaken, missing_at, rowed_by, table_texts, texts_at};
+ghost use Rattle.gw_leaves.specs.own.Comparisons.{given_by, holds_of, is_untaken, may_be_untaken, any_untaken, rowed_by, table_texts, table_of, len_of};
+ghost use Rattle.gw_leaves.specs.own.Held.{given_texts};
 
-use crate::leaf::table_named;
+use crate::context::MapContext;
+use crate::given::{LeafSource, len_of, table_of};
 use crate::texts::may_exceed;
-use gw_maplang::{Map, Table as Rows};
+use gw_maplang::Table as Rows;
 use gw_profile::{Count, Profile, SubShape, Table, measure};
-
-/// Where texts are from: the table of the map in which they are looked up, and the table of the source that lists them.
-pub(crate) type Origin<'a> = (Option<&'a [u8]>, Option<&'a [u8]>);
-
-/// Where texts are from, and the table of the target with which they are compared, by its name.
-pub(crate) type Comparison<'a> = (Origin<'a>, Option<&'a [u8]>);
 
 /// What takes a text: a table that lists it, rows of which one is for it, or a length by a count.
 #[derive(Clone, Copy)]
@@ -171,62 +167,43 @@ fn is_second_untaken(rows: &Rows, taker: Taker<'_>) -> bool
     seconds_of(rows).iter().any(|text| !takes(taker, text)) || is_strange(taker, rows.other())
 }
 
-// Of the texts that the source's table of this name lists, or of any, as they are or as the rows give them.
+// Of the texts that are read at a subcomponent of the source, as they are or as the rows give them.
 fn is_some_untaken(
     source: &Profile,
     rows: Option<&Rows>,
-    listed: Option<&[u8]>,
-    len: Option<u32>,
+    sub: Option<&SubShape>,
     taker: Taker<'_>,
 ) -> bool
-    ensures { result ≡ may_be_untaken taker.entry (rowed_by (option_copied rows.entry) (table_texts (profile_value source.now) (now listed.entry) len)) }
+    ensures { result ≡ may_be_untaken taker.entry (rowed_by (option_copied rows.entry) (table_texts (profile_value source.now) (table_of (some_sub sub.entry)) (len_of (some_sub sub.entry)))) }
 {
-    match listed {
+    let count = source.count();
+    let len = len_of(sub);
+    match table_of(sub) {
         None => match rows {
-            None => is_any_untaken(source.count(), len, taker),
+            None => is_any_untaken(count, len, taker),
             Some(rows) => is_second_untaken(rows, taker),
         },
-        Some(name) => {
-            let texts = values_of(source, name);
-            first_untaken(source.count(), len, rows, texts, taker).is_some()
-        }
+        Some(name) => first_untaken(count, len, rows, values_of(source, name), taker).is_some(),
     }
 }
 
-/// Whether a text that isn't longer, as it is or looked up in the map, may not be taken.
+/// Whether what can stand there may not be taken.
 pub(crate) fn may_be_untaken(
-    source: &Profile,
-    map: &Map,
-    origin: Origin<'_>,
-    len: Option<u32>,
+    context: &MapContext<'_>,
+    given: LeafSource<'_>,
     taker: Taker<'_>,
 ) -> bool
-    ensures { result ≡ may_be_untaken taker.entry (texts_at (profile_value source.now) map.now.tables (now origin.entry.0) (now origin.entry.1) len) }
+    ensures { result ≡ may_be_untaken taker.entry (given_texts context.now given.entry) }
 {
-    match origin.0 {
+    let source = context.source();
+    match given.rows {
         None => {
-            is_any_untaken(source.count(), len, taker)
-                && is_some_untaken(source, None, origin.1, len, taker)
+            is_any_untaken(source.count(), len_of(given.sub), taker)
+                && is_some_untaken(source, None, given.sub, taker)
         }
-        Some(name) => match map.table(name) {
+        Some(name) => match context.map().table(name) {
             None => false,
-            Some(rows) => is_some_untaken(source, Some(rows), origin.1, len, taker),
+            Some(rows) => is_some_untaken(source, Some(rows), given.sub, taker),
         },
-    }
-}
-
-/// Whether it may be missing from the target's table, where the target has it.
-pub(crate) fn may_be_unlisted(
-    source: &Profile,
-    target: &Profile,
-    map: &Map,
-    comparison: Comparison<'_>,
-    len: Option<u32>,
-) -> bool
-    ensures { result ≡ missing_at (context_of source.now target.now map.now) comparison.entry len }
-{
-    match table_named(target, comparison.1) {
-        None => false,
-        Some(table) => may_be_untaken(source, map, comparison.0, len, Taker::Table(table)),
     }
 }

@@ -1,25 +1,19 @@
 -- Texts of the source against what the target asks of them.
-use Rattle.std.specs.Prelude.{◌≡◌, ℕ, Bool, true, false, ◌&&◌, not, List, [], filter, Option, Some, None, option_and_then, option_map, unwrap_or, bytes_eq}
+use Rattle.std.specs.Prelude.{ℕ, Bool, true, false, ◌&&◌, not, List, [], filter, Option, Some, None, option_and_then, option_map, unwrap_or}
 use Rattle.std.specs.List.{list_any}
-use Rattle.std.specs.Map.{lookup}
-use Rattle.std.specs.Option.{option_eq}
 use Rattle.std.specs.Global.{Vec}
-use denote.Ref.{Bor}
 use Rattle.gw_profile.specs.Shapes.{SubValue, TableValue, ProfileValue}
 use Rattle.gw_profile.specs.declared.shape.Count.{Count}
 use Rattle.gw_profile.specs.Lengths.{len_count}
-use Rattle.gw_profile.specs.Seen.{profile_value}
 use Rattle.gw_profile.specs.Value.{table_of as table_in}
-use Rattle.gw_maplang.specs.Seen.{now}
 use Rattle.gw_maplang.specs.Shapes as maps
 use Rattle.gw_maplang.specs.Shapes.{Rows, second_of}
 use Rattle.gw_resolve.specs.Naming.{no_rows}
 use Rattle.gw_leaves.specs.declared.taker.Taker.{Taker}
 use Rattle.gw_leaves.specs.declared.taker.Taker.TheVariants.{Table, Rows as Rows', Length}
-use Rattle.gw_leaves.specs.Leaves.{Values, any, listed, is_short, given, given_values, has_no_row, may_be_unlisted, may_exceed}
+use Rattle.gw_leaves.specs.Leaves.{Values, any, listed, is_short, given, given_values, has_no_row, may_exceed}
 use Rattle.gw_leaves.specs.Takers.{takes}
 use Rattle.gw_leaves.specs.Texts.{is_there}
-use Rattle.gw_leaves.specs.Context.{ContextValue}
 
 -- ---- what is read at a place
 
@@ -50,10 +44,6 @@ rowed_by (Some rows) values = listed (given_values rows values)
 -- or the rows of the table of this name
 abbrev pub rowed : List maps.TableValue → Option (List ℕ) → Values → Values
 rowed tables name values = rowed_by (option_map (rows_named tables) name) values
-
--- what is given for texts of this table, or for any, that aren't longer
-abbrev pub texts_at : ProfileValue → List maps.TableValue → Option (List ℕ) → Option (List ℕ) → Option ℕ → Values
-texts_at profile tables rows table len = rowed tables rows (table_texts profile table len)
 
 -- a text may have no row, and nothing stands for it
 abbrev pub is_unrowed : Rows → Values → Bool
@@ -90,27 +80,3 @@ any_untaken (Length to (Some most)) count (Some len) = may_exceed count len to m
 abbrev pub may_be_untaken : Taker → Values → Bool
 may_be_untaken taker (any count len) = any_untaken taker count len
 may_be_untaken taker (listed texts) = list_any (λ t. not (takes taker t)) texts
-
--- ---- what is kept of comparisons
-
--- where texts are from: the table of the map in which they are looked up, and that of the source which lists them
-abbrev pub Origin : Type 0
-Origin = Option (Bor (List ℕ)) × Option (Bor (List ℕ))
-
--- with the table of the target with which they are compared, by its name
-abbrev pub Comparison : Type 0
-Comparison = Origin × Option (Bor (List ℕ))
-
--- one that isn't longer may be missing from the table, where the target has it
-abbrev pub missing_at : ContextValue → Comparison → Option ℕ → Bool
-missing_at s c len = may_be_unlisted (texts_at (profile_value s.source) s.map.tables (now c.0.0) (now c.0.1) len) (option_and_then (λ n. table_in n s.target.tables) (now c.1))
-
-abbrev pub names_eq : Bor (List ℕ) → Bor (List ℕ) → Bool
-names_eq x y = bytes_eq x.now y.now
-
-abbrev pub comparisons_eq : Comparison → Comparison → Bool
-comparisons_eq x y = (option_eq names_eq x.0.0 y.0.0 && option_eq names_eq x.0.1 y.0.1) && option_eq names_eq x.1 y.1
-
--- what is found of a comparison is so, whatever the length
-abbrev pub AreKept : ContextValue → List (Comparison × Bool) → Type 0
-AreKept s known = (c : Comparison) (found : Bool) → Some found ≡ lookup (comparisons_eq c) known → found ≡ missing_at s c None

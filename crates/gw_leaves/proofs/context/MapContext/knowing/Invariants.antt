@@ -1,5 +1,0 @@
-use Rattle.gw_leaves.specs.own.Comparisons.{AreKept}
-use Rattle.gw_leaves.proofs.context.MapContext.knowing.Given as goal
-
-abbrev pub invariant-loop-comparison : goal.invariant-loop-comparison
-invariant-loop-comparison l = AreKept l.self l.known.entries
