@@ -25,13 +25,10 @@ fn is_below(here: Place, place: Place) -> bool
     here.sub < place.sub
 }
 
-/// The first text at a place or behind it, with its number. Those before the number `near` stand below the place.
-#[inline(always)]
-pub(crate) fn first_from<'a>(
-    segment: &Segment<'a>,
-    near: usize,
-    place: Place,
-) -> (usize, Option<Value<'a>>)
+// The first text at a place or behind it, with its number, where it isn't the one at `near`.
+#[cold]
+#[inline(never)]
+fn later_from<'a>(segment: &Segment<'a>, near: usize, place: Place) -> (usize, Option<Value<'a>>)
     requires { IsBefore (numbers place) (texts.entries segment.now.at) near }
     ensures start { IsStart (numbers place) (texts.entries segment.now.at) result.0 }
     ensures value { IsValueAt (texts.entries segment.now.at) result.0 result.1 }
@@ -47,6 +44,28 @@ pub(crate) fn first_from<'a>(
     (at, None)
 }
 
+/// The first text at a place or behind it, with its number. Those before the number `near` stand below the place.
+/// Most often it is the text at `near`: so that one is looked at without a loop.
+#[inline(always)]
+pub(crate) fn first_from<'a>(
+    segment: &Segment<'a>,
+    near: usize,
+    place: Place,
+) -> (usize, Option<Value<'a>>)
+    requires { IsBefore (numbers place) (texts.entries segment.now.at) near }
+    ensures start { IsStart (numbers place) (texts.entries segment.now.at) result.0 }
+    ensures value { IsValueAt (texts.entries segment.now.at) result.0 result.1 }
+{
+    if near >= segment.value_count() {
+        return (near, None);
+    }
+    let value = segment.value(near);
+    if !is_below(value.place, place) {
+        return (near, Some(value));
+    }
+    later_from(segment, near + 1, place)
+}
+
 // Whether a place isn't behind this repetition.
 #[inline(always)]
 fn is_up_to(here: Place, field: usize, rep: usize) -> bool
@@ -58,9 +77,10 @@ fn is_up_to(here: Place, field: usize, rep: usize) -> bool
     here.rep <= rep
 }
 
-// The first text behind a repetition, with its number. Those before the number `near` aren't behind it.
-#[inline(always)]
-fn first_behind<'a>(
+// The first text behind a repetition, with its number, where it isn't the one at `near`.
+#[cold]
+#[inline(never)]
+fn later_behind<'a>(
     segment: &Segment<'a>,
     near: usize,
     field: usize,
@@ -79,6 +99,28 @@ fn first_behind<'a>(
         at += 1;
     }
     (at, None)
+}
+
+// The first text behind a repetition, with its number. Those before the number `near` aren't behind it.
+#[inline(always)]
+fn first_behind<'a>(
+    segment: &Segment<'a>,
+    near: usize,
+    field: usize,
+    rep: usize,
+) -> (usize, Option<Value<'a>>)
+    requires { IsBefore (field ∷ (rep + 1) ∷ 0 ∷ 0 ∷ []) (texts.entries segment.now.at) near }
+    ensures start { IsStart (field ∷ (rep + 1) ∷ 0 ∷ 0 ∷ []) (texts.entries segment.now.at) result.0 }
+    ensures value { IsValueAt (texts.entries segment.now.at) result.0 result.1 }
+{
+    if near >= segment.value_count() {
+        return (near, None);
+    }
+    let value = segment.value(near);
+    if !is_up_to(value.place, field, rep) {
+        return (near, Some(value));
+    }
+    later_behind(segment, near + 1, field, rep)
 }
 
 /// The text at a place, empty where it is absent. It is looked for from the number `near` on, which rises to the first text behind the place.

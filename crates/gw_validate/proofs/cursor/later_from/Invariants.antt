@@ -1,10 +1,11 @@
-use Rattle.std.proofs.Common.{◌+◌, ◌-◌, [], ◌∷◌, length}
+use Rattle.std.proofs.Common.{◌-◌, length}
 use Rattle.std.specs.FinMap as texts
+use Rattle.gw_er7.specs.Message.{numbers}
 use Rattle.gw_validate.specs.own.Walk.{IsBefore}
-use Rattle.gw_validate.proofs.cursor.first_behind.Given as goal
+use Rattle.gw_validate.proofs.cursor.later_from.Given as goal
 
 abbrev pub invariant-loop-at : goal.invariant-loop-at
-invariant-loop-at l = IsBefore (l.field ∷ (l.rep + 1) ∷ 0 ∷ 0 ∷ []) (texts.entries l.segment.at) l.at
+invariant-loop-at l = IsBefore (numbers l.place) (texts.entries l.segment.at) l.at
 
 abbrev pub decreases-loop-at : goal.decreases-loop-at
 decreases-loop-at l = length (texts.entries l.segment.at) - l.at
