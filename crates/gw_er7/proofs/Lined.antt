@@ -2,6 +2,7 @@
 use Rattle.std.proofs.Common.{◌≡◌, ℕ, ◌+◌, ◌-◌, ◌<◌, ◌≤◌, inl, inr, Bool, true, List, [], ◌∷◌, length, get_or, take, drop, None, Some, refl, sym, ap, ◌∙◌, arith}
 use Rattle.std.proofs.lemmas.Bool.{cases_lt}
 use Rattle.std.specs.List.{slice_split}
+use Rattle.std.proofs.lemmas.List.{get_or-take, get_or-drop}
 use Rattle.memchr.specs.Find.{IsFirstByte, Nowhere, Passes, is_byte2}
 use Rattle.gw_er7.specs.Content.{is_line_end, Line, placed, lines_from, first_bad, is_segment_line}
 use Rattle.gw_er7.proofs.Cuts.{cut_none_by, cut_some_by}
@@ -46,3 +47,7 @@ module _ (t : ℕ → Bool) (bytes part : List ℕ) (at : ℕ) (long : at + leng
         | inl l ↦ before j low l p
         | inr ge ↦ h.0.before (j - at) (omega arith) (omega (arith, ge, lt)) (ap t (there j ge (omega (arith, lt, h.0.high))) ∙ p)
       ]
+
+-- the bytes of a window are those of the whole behind its place
+pub window_same : (bytes : List ℕ) (at n i : ℕ) → i < n → get_or (take n (drop at bytes)) i 0 ≡ get_or bytes (at + i) 0
+window_same bytes at n i lt = get_or-take n (drop at bytes) i 0 lt ∙ get_or-drop at bytes i 0
