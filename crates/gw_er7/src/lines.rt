@@ -1,6 +1,7 @@
 //! The lines of a message: the parts of its bytes between CR and LF that aren't empty.
 ghost use Rattle.std.specs.Prelude.{◌≡◌, ℕ, ◌+◌, ◌-◌, ◌^◌, ◌≤◌, ◌<◌, [], ◌∷◌, None, Some, length, MatchOption, MatchResult};
 ghost use Rattle.std.specs.List.{slice_split};
+ghost use Rattle.memchr.specs.Find.{IsFirstByte, is_byte2};
 ghost use Rattle.gw_er7.specs.Content.{is_line_end, placed, lines_from, Begins, first_bad};
 ghost use Rattle.gw_er7.specs.Faults.{Faulty, Passes};
 ghost use Rattle.gw_er7.specs.own.Gathered.{HasHeader};
@@ -18,6 +19,26 @@ pub(crate) struct NextLine<'a> {
     pub(crate) behind: &'a [u8],
 }
 
+/// How many bytes are searched for a line end at once: most lines end within a few times as many.
+const WINDOW: usize = 64;
+
+/// Where the first line end stands.
+fn first_end(bytes: &[u8]) -> Option<usize>
+    ensures { IsFirstByte (is_byte2 13 10) bytes.now result }
+{
+    let mut at = 0;
+    while bytes.len() - at > WINDOW {
+        if let Some(end) = memchr2(b'\r', b'\n', &bytes[at..at + WINDOW]) {
+            return Some(at + end);
+        }
+        at += WINDOW;
+    }
+    match memchr2(b'\r', b'\n', &bytes[at..]) {
+        None => None,
+        Some(end) => Some(at + end),
+    }
+}
+
 /// The bytes up to the first line end, and those behind it.
 fn cut_line(bytes: &[u8]) -> (&[u8], &[u8])
     ensures whole { (at : ℕ) → lines_from at bytes.now ≡ placed at (result.0.now ∷ slice_split is_line_end result.1.now) }
@@ -25,7 +46,7 @@ fn cut_line(bytes: &[u8]) -> (&[u8], &[u8])
     ensures within { length result.0.now ≤ length bytes.now }
     ensures later { 0 < length result.1.now → length result.0.now + 1 + length result.1.now ≤ length bytes.now }
 {
-    match memchr2(b'\r', b'\n', bytes) {
+    match first_end(bytes) {
         None => (bytes, &[]),
         Some(end) => (&bytes[..end], &bytes[end + 1..]),
     }

@@ -438,13 +438,17 @@ impl<N: Width, L: Store> Store for Spans<N, L> {
         })
     }
 
-    // Most spans are narrow, and there is room for them. For the others the span is put together anew: so its numbers stay in registers here.
+    // Most spans are of the width of those before them, and there is room for them. For the others the span is put together anew: so its numbers stay in registers
+    // here.
     #[inline(always)]
     fn push(&mut self, span: TextSpan) -> Result<(), AllocError> {
         let len = self.narrow.len();
         if 0 < len && len < self.narrow.capacity() && N::fits(span) {
             self.narrow.push_reserved(N::narrowed(span));
             return Ok(());
+        }
+        if self.narrow.is_empty() && self.others.len() > 0 {
+            return self.others.push(span);
         }
         let Place {
             field,
@@ -492,6 +496,7 @@ impl<N: Width, L: Store> Store for Spans<N, L> {
         same_spans(&self.narrow, &other.narrow) && self.others.are_alike(&other.others)
     }
 
+    #[inline(always)]
     fn len(&self) -> usize {
         if self.narrow.is_empty() {
             return self.others.len();
