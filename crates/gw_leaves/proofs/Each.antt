@@ -12,6 +12,6 @@ module _ {A B C : Type 0} (f : B → List C) (view : A → B) (xs : List A) (i :
   pub done_each : (now : List C) → length xs ≤ i → whole ≡ now ++ flat_map f (map view (drop i xs)) → now ≡ whole
   done_each now end h = sym (h ∙ ap (λ l. now ++ flat_map f (map view l)) (drop_all i xs end) ∙ append-nil now)
 
--- as an invariant: what was told first and all of it is what is told now and the rest
+-- as an invariant: what was reported first, and all of it, is what is reported now, and the rest
 abbrev pub Tells : {A B C : Type 0} → (B → List C) → (A → B) → List C → List C → ℕ → List A → Type 0
 Tells f view first now i xs = first ++ flat_map f (map view xs) ≡ now ++ flat_map f (map view (drop i xs))

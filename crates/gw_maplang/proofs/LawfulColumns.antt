@@ -88,7 +88,7 @@ all_values : (values : List (List ℕ)) → list_all is_value values ≡ true �
 all_values [] e = tt
 all_values (value ∷ values) e = let p = both (is_value value) (list_all is_value values) e in (p.0, all_values values p.1)
 
--- so many values, where some are said
+-- this number of values, where a line has any
 some_wide : (width count : ℕ) → 1 ≤ count → widened width count ≡ 0 → ⊥
 some_wide zero count l e = absurd (omega (arith, l, e))
 some_wide (suc width) count l e = cc

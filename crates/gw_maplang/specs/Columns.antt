@@ -52,7 +52,7 @@ column name k t = record { name = name; rows = map (row_in k) t.rows; other = op
 abbrev pub column_name : List ℕ → ℕ → List ℕ
 column_name name k = name ++ 46 ∷ (49 + k) ∷ []
 
--- the first so many columns, under their numbers
+-- this number of columns, from the first, under their numbers
 abbrev pub numbered : ℕ → WideTable → List TableValue
 numbered zero t = []
 numbered (suc k) t = numbered k t ++ column (column_name t.name k) k t ∷ []

@@ -170,11 +170,11 @@ wide_names = map (λ (t : WideTable). t.name)
 abbrev pub wide_firsts : List WideRow → List (List ℕ)
 wide_firsts = map (λ (r : WideRow). r.first)
 
--- A table of this width takes so many values: as many as its lines above have. In the first language it takes one.
+-- A table of this width takes this number of values: as many as its lines above have. In the first language it takes one.
 abbrev pub fits : Bool → ℕ → ℕ → Bool
 fits second width count = (second || count == 1) && (width == 0 || width == count)
 
--- a line of so many values belongs to a table that takes them
+-- a line with this number of values belongs to a table that takes them
 abbrev pub takes_values : List Line → ℕ → Bool
 takes_values above count = in_table above && fits (is_second above) (last_table (wide_tables above)).width count
 

@@ -263,7 +263,7 @@ fn last_width(tables: &IndexMap<Vec<u8>, Wide>) -> usize
     }
 }
 
-/// Whether the last table takes so many values.
+/// Whether the last table takes this number of values.
 pub(crate) fn fits(second: bool, tables: &IndexMap<Vec<u8>, Wide>, count: usize) -> bool
     ensures { result ≡ spec.fits second (spec.last_table (map wide_table tables.now.entries)).width count }
 {

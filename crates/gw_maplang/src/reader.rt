@@ -240,7 +240,7 @@ impl<'a> Reader<'a> {
         None
     }
 
-    // Whether a row or `else` with so many values would belong to a table.
+    // Whether a row or `else` with this number of values would belong to a table.
     fn takes_values(&self, count: usize) -> bool
         ensures { result ≡ spec.takes_values self.now count }
     {

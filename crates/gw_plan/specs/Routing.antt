@@ -41,7 +41,7 @@ routed_by plan code event header version processing =
     then admitted (is_accepted plan.versions version) (is_accepted plan.processing processing) (route_for code event header plan.routes)
     else Err 200
 
--- the texts of a message by which its senders are told
+-- the texts of a message that name its senders
 abbrev pub header_of : List SegmentValue → Header
 header_of m field = header_text m (field_number field) 1
 

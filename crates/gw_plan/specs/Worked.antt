@@ -68,7 +68,7 @@ stray_leg = plan (codes "receiver A x" ∷ codes "to A by M" ∷ [])
 abbrev pub unknown_profile : List ℕ
 unknown_profile = plan (codes "route ADT A01 from P" ∷ [])
 
--- of a profile that stands in no text: what comes before its name is looked for is told from it
+-- of a profile that stands in no text: a fault that comes before its name is looked for is distinguished from it
 abbrev pub of_senders : List ℕ
 of_senders = plan (codes "route ORU R01 of MSH-3 LAB1 from P" ∷ [])
 

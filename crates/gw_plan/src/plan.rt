@@ -101,7 +101,7 @@ fn header_text(message: &Message, field: usize, comp: usize) -> &[u8]
     })
 }
 
-// The texts of a message's header by which its senders are told.
+// The texts of a message's header that name its senders.
 fn header_of(message: &Message) -> Header<'_>
     ensures { (field : HeaderField) → header result field ≡ spec.header_of message.now field }
 {

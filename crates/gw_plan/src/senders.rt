@@ -8,7 +8,7 @@ ghost use Rattle.gw_plan.specs.Seen.{senders_value};
 use crate::accepted::accept;
 use std::alloc::{AllocError, Global};
 
-/// A field of MSH by which a route's messages are told from others of their code and event (HL7 v2.5.1 chapter 2, 2.15.9).
+/// A field of MSH that distinguishes a route's messages from others of their code and event (HL7 v2.5.1 chapter 2, 2.15.9).
 #[derive(Clone, Copy, Drop)]
 pub(crate) enum HeaderField {
     SendingApplication,
@@ -33,7 +33,7 @@ impl HeaderField {
     }
 }
 
-/// The texts of a message's header by which it is told from others of its code and event.
+/// The texts of a message's header that distinguish it from others of its code and event.
 #[derive(Clone, Copy, Drop)]
 pub(crate) struct Header<'m> {
     pub(crate) sending_application: &'m [u8],
