@@ -2,7 +2,7 @@
 use crate::elements::{Named, print_name};
 use crate::maps::ProfilePair;
 use crate::report::say;
-use crate::subjects::Explanation;
+use crate::subjects::{Explanation, Search};
 use gw_check::{SourceUse, site_at};
 use gw_maplang::Map;
 use gw_resolve::Failure;
@@ -133,7 +133,7 @@ fn first_given(failures: &[Failure]) -> Option<Failure> {
     None
 }
 
-impl Refusal<'_> {
+impl<'a> Refusal<'a> {
     /// The failures of each rule at each line.
     pub(crate) fn alike(&self, alloc: Global) -> Result<Alike, AllocError> {
         let mut alike: Alike = BTreeMap::new(alloc);
@@ -199,19 +199,29 @@ impl Refusal<'_> {
     }
 
     /// Reports what the line of a failure makes, and of what.
-    fn print_made<E: Write>(&self, errors: &mut E, failure: Failure) {
+    fn print_made<E: Write>(
+        &self,
+        errors: &mut E,
+        failure: Failure,
+        last: &mut Option<Search<'a>>,
+    ) {
         if let Some(site) = site_at(&self.refused.used.sites, failure.mark.line) {
             let explanation = Explanation {
                 sides: self.sides,
                 map: &self.refused.map,
                 site,
             };
-            explanation.tell(errors, failure);
+            explanation.tell(errors, failure, last);
         }
     }
 
     /// Reports what the failures of a rule at a line speak of: all that nothing gives, and the first part that something gives.
-    fn print_subject<E: Write>(&self, errors: &mut E, failures: &[Failure]) {
+    fn print_subject<E: Write>(
+        &self,
+        errors: &mut E,
+        failures: &[Failure],
+        last: &mut Option<Search<'a>>,
+    ) {
         let is_told = self.print_missing(errors, failures);
         let Some(given) = first_given(failures) else {
             return;
@@ -222,12 +232,18 @@ impl Refusal<'_> {
         if given.rule == 9 {
             self.print_unread(errors);
         } else {
-            self.print_made(errors, given);
+            self.print_made(errors, given, last);
         }
     }
 
     /// Reports a rule that fails as well, at the line that stands first in the text: of a label the line itself, and what the rule demands.
-    fn print_other<E: Write>(&self, errors: &mut E, failures: &[Failure], text: &[u8]) {
+    fn print_other<E: Write>(
+        &self,
+        errors: &mut E,
+        failures: &[Failure],
+        text: &[u8],
+        last: &mut Option<Search<'a>>,
+    ) {
         let Some(first) = failures.first() else {
             return;
         };
@@ -240,7 +256,7 @@ impl Refusal<'_> {
             say(errors, b": ");
             say(errors, demand(rule));
         } else {
-            self.print_subject(errors, failures);
+            self.print_subject(errors, failures, last);
         }
         say(errors, b"\n");
     }
@@ -255,11 +271,12 @@ impl Refusal<'_> {
         let _ = writeln!(errors, "and {more} more:");
         let mut text = self.written.text.as_slice();
         let mut at = 1;
+        let mut last = None;
         for ((line, rule), failures) in alike {
             text = behind(text, line.saturating_sub(at));
             at = *line;
             if (*line, *rule) != (least.mark.line, least.rule) {
-                self.print_other(errors, failures, text);
+                self.print_other(errors, failures, text, &mut last);
             }
         }
     }
@@ -276,7 +293,7 @@ impl Refusal<'_> {
         if rule > LAST_OF_LABELS
             && let Some(failures) = alike.get(&(line, rule))
         {
-            self.print_subject(errors, failures);
+            self.print_subject(errors, failures, &mut None);
             say(errors, b"\n");
         }
         let _ = writeln!(errors, "{}", advice(rule));

@@ -23,6 +23,23 @@ struct Parts<'a> {
     source: Option<Named<'a>>,
 }
 
+/// What takes a text: a table of the target, rows of the map, or a length of the target.
+#[derive(Clone, Copy, PartialEq)]
+enum TakenBy<'a> {
+    Table(&'a [u8]),
+    Rows(&'a [u8]),
+    Length(u32),
+}
+
+/// The last search for a text that isn't taken: the source's table, the length up to which it is read, what takes it, and what was found.
+#[derive(Clone, Copy)]
+pub(crate) struct Search<'a> {
+    table: &'a [u8],
+    len: Option<u32>,
+    by: TakenBy<'a>,
+    found: Option<&'a [u8]>,
+}
+
 /// What a line reads, where it reads anything.
 pub(crate) fn read_of(site: &Site) -> Option<&ElementPath> {
     match &site.origin {
@@ -207,7 +224,16 @@ fn print_table<E: Write>(errors: &mut E, profile: &Profile, named: Named<'_>) {
 
 // ---- what prevents a map
 
-impl Explanation<'_> {
+/// Why a text isn't taken.
+fn why(by: TakenBy<'_>) -> &'static [u8] {
+    match by {
+        TakenBy::Table(_) => b" is unknown to the target",
+        TakenBy::Rows(_) => b" has no row",
+        TakenBy::Length(_) => b" is longer",
+    }
+}
+
+impl<'a> Explanation<'a> {
     /// Reports the table of the map in which a text is looked up, where it is.
     fn print_lookup<E: Write>(&self, errors: &mut E) -> bool {
         let Origin::LookedUp(name, _) = &self.site.origin else {
@@ -218,70 +244,105 @@ impl Explanation<'_> {
         true
     }
 
+    /// What takes a text, where the target or the map has it.
+    fn taker(&self, by: TakenBy<'a>) -> Option<Taker<'a>> {
+        let target = &self.sides.target;
+        match by {
+            TakenBy::Table(name) => Some(Taker::Table(target.table(name)?)),
+            TakenBy::Rows(name) => Some(Taker::Rows(self.map.table(name)?)),
+            TakenBy::Length(most) => Some(Taker::Length(target.count(), Some(most))),
+        }
+    }
+
+    /// The first text that the source lists for a subcomponent and that isn't taken. Failures of the same tables often follow each other, so the last answer is kept.
+    fn untaken(
+        &self,
+        from: &'a SubShape,
+        by: TakenBy<'a>,
+        last: &mut Option<Search<'a>>,
+    ) -> Option<&'a [u8]> {
+        let table = table_of(Some(from))?;
+        let len = from.len;
+        if let Some(search) = *last
+            && search.table == table
+            && search.len == len
+            && search.by == by
+        {
+            return search.found;
+        }
+        let found = untaken(&self.sides.source, from, self.taker(by)?);
+        *last = Some(Search {
+            table,
+            len,
+            by,
+            found,
+        });
+        found
+    }
+
     /// Reports a text that the source lists and that isn't taken, where there is one.
     fn print_untaken<E: Write>(
         &self,
         errors: &mut E,
         from: Named<'_>,
-        taker: Option<Taker<'_>>,
-        said: &str,
+        by: TakenBy<'a>,
+        last: &mut Option<Search<'a>>,
     ) {
-        let source = &self.sides.source;
-        if let (Some(from), Some(taker)) = (from.sub_in(source), taker)
-            && let Some(text) = untaken(source, from, taker)
+        if let Some(from) = from.sub_in(&self.sides.source)
+            && let Some(text) = self.untaken(from, by, last)
         {
             say(errors, b": ");
             say(errors, text);
-            say(errors, said.as_bytes());
+            say(errors, why(by));
         }
     }
 
-    /// The table of a part of the target.
-    fn target_table(&self, to: Named<'_>) -> Option<Taker<'_>> {
-        let target = &self.sides.target;
-        let name = table_of(to.sub_in(target))?;
-        Some(Taker::Table(target.table(name)?))
-    }
-
-    /// The length of a part of the target.
-    fn target_length(&self, to: Named<'_>) -> Option<Taker<'_>> {
-        let target = &self.sides.target;
-        let most = len_of(to.sub_in(target))?;
-        Some(Taker::Length(target.count(), Some(most)))
-    }
-
     /// Reports the table of the target and that of the source, and a text that only the source's has.
-    fn print_strange<E: Write>(&self, errors: &mut E, to: Named<'_>, from: Named<'_>) {
+    fn print_strange<E: Write>(
+        &self,
+        errors: &mut E,
+        to: Named<'_>,
+        from: Named<'_>,
+        last: &mut Option<Search<'a>>,
+    ) {
         print_table(errors, &self.sides.target, to);
         say(errors, b", and ");
         print_table(errors, &self.sides.source, from);
-        if !self.print_lookup(errors) {
-            let table = self.target_table(to);
-            self.print_untaken(errors, from, table, " is unknown to the target");
+        if !self.print_lookup(errors)
+            && let Some(name) = table_of(to.sub_in(&self.sides.target))
+        {
+            self.print_untaken(errors, from, TakenBy::Table(name), last);
         }
     }
 
     /// Reports the length that the target takes, and that of the source.
-    fn print_long<E: Write>(&self, errors: &mut E, to: Named<'_>, from: Named<'_>) {
+    fn print_long<E: Write>(
+        &self,
+        errors: &mut E,
+        to: Named<'_>,
+        from: Named<'_>,
+        last: &mut Option<Search<'a>>,
+    ) {
         print_length(errors, &self.sides.target, to);
         say(errors, b", and ");
         print_length(errors, &self.sides.source, from);
-        if !self.print_lookup(errors) {
-            let length = self.target_length(to);
-            self.print_untaken(errors, from, length, " is longer");
+        if !self.print_lookup(errors)
+            && let Some(most) = len_of(to.sub_in(&self.sides.target))
+        {
+            self.print_untaken(errors, from, TakenBy::Length(most), last);
         }
     }
 
-    /// The rows of the map's table of this name.
-    fn rows(&self, name: &[u8]) -> Option<Taker<'_>> {
-        Some(Taker::Rows(self.map.table(name)?))
-    }
-
     /// Reports the table of what is looked up, and a text that has no row.
-    fn print_unrowed<E: Write>(&self, errors: &mut E, parts: Parts<'_>) {
+    fn print_unrowed<E: Write>(
+        &self,
+        errors: &mut E,
+        parts: Parts<'_>,
+        last: &mut Option<Search<'a>>,
+    ) {
         if let (Origin::LookedUp(name, _), Some(from)) = (&self.site.origin, parts.source) {
             print_table(errors, &self.sides.source, from);
-            self.print_untaken(errors, from, self.rows(name), " has no row");
+            self.print_untaken(errors, from, TakenBy::Rows(name), last);
         }
     }
 
@@ -302,13 +363,18 @@ impl Explanation<'_> {
     }
 
     /// Reports what a failure at the line speaks of.
-    pub(crate) fn tell<E: Write>(&self, errors: &mut E, failure: Failure) {
+    pub(crate) fn tell<E: Write>(
+        &self,
+        errors: &mut E,
+        failure: Failure,
+        last: &mut Option<Search<'a>>,
+    ) {
         let parts = parts_at(self.site, failure.mark);
         match (failure.rule, parts.source) {
-            (6, Some(from)) => self.print_strange(errors, parts.target, from),
-            (7, Some(from)) => self.print_long(errors, parts.target, from),
+            (6, Some(from)) => self.print_strange(errors, parts.target, from, last),
+            (7, Some(from)) => self.print_long(errors, parts.target, from, last),
             (6 | 7, None) => {}
-            (10, _) => self.print_unrowed(errors, parts),
+            (10, _) => self.print_unrowed(errors, parts, last),
             (12, _) => self.print_constant(errors, parts.target),
             _ => self.print_often(errors, failure, parts),
         }
