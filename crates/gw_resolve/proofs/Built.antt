@@ -31,7 +31,7 @@ pub with_none : (tables : List TableValue) (xs : List Item) → with_items table
 with_none tables [] = refl
 with_none tables (x ∷ xs) = ap (with_item tables x) (with_none tables xs)
 
-with_more : (tables : List TableValue) (xs : List Item) (x : Item) (rest : Items) → with_items tables (xs ++ x ∷ []) rest ≡ with_items tables xs (with_item tables x rest)
+pub with_more : (tables : List TableValue) (xs : List Item) (x : Item) (rest : Items) → with_items tables (xs ++ x ∷ []) rest ≡ with_items tables xs (with_item tables x rest)
 with_more tables [] x rest = refl
 with_more tables (y ∷ xs) x rest = ap (with_item tables y) (with_more tables xs x rest)
 

@@ -1,11 +1,12 @@
--- The nodes of a profile by their numbers.
-use Rattle.std.proofs.Common.{◌≡◌, inl, inr, ℕ, zero, suc, false, List, [], ◌∷◌, Some, None, refl, sym, ap, ◌∙◌, slice_get, arith, length, true≢false, nat_lt, get_or, ◌<◌}
+-- The nodes of a profile by their numbers, and the nodes within them.
+use Rattle.std.proofs.Common.{◌≡◌, inl, inr, ℕ, zero, suc, false, List, [], ◌∷◌, Option, Some, None, refl, sym, ap, ◌∙◌, slice_get, arith, length, true≢false, nat_lt, get_or, ◌<◌}
 use Rattle.std.proofs.lemmas.Bool.Decides.{leb_tells}
 use Rattle.std.proofs.lemmas.Option.{slice_get_past, slice_get_cases}
 use Rattle.gw_profile.specs.declared.node.Node.{Node, Seg, Group'}
-use Rattle.gw_profile.specs.Shapes.{nothing}
+use Rattle.gw_profile.specs.Shapes.{nothing, Forest}
 use Rattle.gw_profile.specs.Seen.{forest, node_forest}
-use Rattle.gw_resolve.specs.Places.{child}
+use Rattle.gw_profile.specs.Labels.{within, inner}
+use Rattle.gw_resolve.specs.Places.{Element, nodes_of, child, nodes_of_child}
 
 same_child : (n : Node) (rest other : _) → child (node_forest n rest) 0 ≡ child (node_forest n other) 0
 same_child (Seg s) rest other = refl
@@ -38,3 +39,31 @@ child_at nodes i n h e =
       | inl x ↦ child_there nodes i n (x.2 ∙ ap Some (sym (e x.0 ∙ x.3)))
       | inr x ↦ absurd (omega (arith, h, x.0))
     ]
+
+-- ---- the nodes within a node
+
+at_first : (m : Node) (rest : Forest) → within (node_forest m rest) 0 ≡ inner m
+at_first (Seg s) rest = refl
+at_first (Group' label usage card shape row) rest = refl
+
+later : (m : Node) (rest : Forest) (i : ℕ) → within (node_forest m rest) (suc i) ≡ within rest i
+later (Seg s) rest i = refl
+later (Group' label usage card shape row) rest i = refl
+
+pub within_at : (nodes : List Node) (i : ℕ) (n : Node) → i < length nodes → ((d : Node) → n ≡ get_or nodes i d) → within (forest nodes) i ≡ inner n
+within_at [] i n h e = absurd (omega (arith, h))
+within_at (m ∷ nodes) zero n h e = at_first m (forest nodes) ∙ ap inner (sym (e n))
+within_at (m ∷ nodes) (suc i) n h e = later m (forest nodes) i ∙ within_at nodes i n (omega (arith, h)) e
+
+abbrev within_of : (o : Option Element) → Forest
+within_of None = nothing
+within_of (Some e) = nodes_of e
+
+within_is : (f : Forest) (i : ℕ) → nodes_of_child f i ≡ within_of (child f i)
+within_is f i = refl
+
+pub same_within : (f g : Forest) (i j : ℕ) → child f i ≡ child g j → nodes_of_child f i ≡ nodes_of_child g j
+same_within f g i j e = within_is f i ∙ ap within_of e ∙ sym (within_is g j)
+
+pub none_within : (f : Forest) (i : ℕ) → child f i ≡ None → nodes_of_child f i ≡ nothing
+none_within f i e = within_is f i ∙ ap within_of e

@@ -6,8 +6,7 @@ use Rattle.gw_profile.specs.declared.shape.Card.{Card}
 use Rattle.gw_profile.specs.Shapes.{Forest, nothing, segment, group}
 use Rattle.gw_resolve.specs.Intervals.{Interval, product}
 use Rattle.gw_resolve.specs.Places.{Element, a_segment, a_group, the_whole, nodes_of, Found, child, times, child_found, found_below, found_in, element_of}
-use Rattle.gw_resolve.specs.declared.element.ScopeNode as elements
-use Rattle.gw_resolve.specs.Seen.{saturated, element, scope}
+use Rattle.gw_resolve.specs.Seen.{saturated}
 use Rattle.gw_resolve.specs.Founds.{count_of, saturated_found, times_element}
 use Rattle.gw_resolve.proofs.Saturation.{product_saturated}
 
@@ -92,9 +91,6 @@ found_among seen es out steps e h is =
         ap (λ n. get_or (map seen es) (n - 1 - out) d) (length-map es seen)
         ∙ get_or-map seen es (length es - 1 - out) e d (omega (arith, h))
         ∙ ap seen (sym is)
-
-pub found_walked : (es : List elements.ScopeNode) (out : ℕ) (steps : List ℕ) (e : elements.ScopeNode) → out < length es → e ≡ get_or es (length es - 1 - out) e → found_in (scope es) out steps ≡ found_below steps (element e)
-found_walked = found_among element
 
 -- the element that was found, however often it is there
 pub same_element : (f : Option Found) → element_of (saturated_found f) ≡ element_of f

@@ -1,16 +1,10 @@
 pub mod Children
-pub mod Inner
 pub mod Rows
-pub mod FirstChildren
 pub mod Saturation
 pub mod Finding
 pub mod Noting
-pub mod BothProfiles
 pub mod Labels
 pub mod Targeting
 pub mod Built
-pub mod Inside
 pub mod Listing
-pub mod Segments
 pub mod Following
-pub mod Fields

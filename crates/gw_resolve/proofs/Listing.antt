@@ -37,3 +37,10 @@ noted_next f view whole old new xs i x m e made so_far =
 pub noted_all : {A B : Type 0} (f : B → List Failure) (view : A → B) (whole new : List Failure) (xs : List A) (i : ℕ) → length xs ≤ i → whole ≡ new ++ flat_map f (map view (drop i xs)) → new ≡ whole
 noted_all f view whole new xs i le so_far =
     sym (so_far ∙ ap (λ l. new ++ flat_map f (map view l)) (drop_of_length-le xs le) ∙ append-nil new)
+
+-- as invariants: what was made and is still to be made, and what was noted and is still to be noted
+abbrev pub Makes : {A B C D : Type 0} → (B → C) → (A → B) → (D → C) → List A → ℕ → List D → Type 0
+Makes f view seen xs i ys = map f (map view xs) ≡ map seen ys ++ map f (map view (drop i xs))
+
+abbrev pub Tells : {A B : Type 0} → (B → List Failure) → (A → B) → List Failure → List Failure → ℕ → List A → Type 0
+Tells f view first now i xs = first ++ flat_map f (map view xs) ≡ now ++ flat_map f (map view (drop i xs))

@@ -1,23 +1,21 @@
 -- Failures found one list after the other.
-use Rattle.std.proofs.Common.{◌≡◌, ℕ, zero, suc, Bool, true, false, ◌+◌, ◌-◌, ◌<◌, ◌≤◌, add-one, List, [], ◌∷◌, ◌++◌, map, flat_map, take, drop, drop-cons, get_or, length, Some, refl, sym, ap, ◌∙◌, inl, inr, ◌==◌, arith}
+use Rattle.std.proofs.Common.{◌≡◌, ℕ, zero, suc, Bool, true, false, ◌+◌, ◌-◌, ◌<◌, ◌≤◌, add-one, List, [], ◌∷◌, ◌++◌, map, flat_map, take, drop, drop-cons, get_or, length, Some, refl, sym, ap, ap₂, ◌∙◌, ◌==◌, arith}
 use Rattle.std.proofs.Math.ListN.{drop_of_length-le}
 use Rattle.std.proofs.Math.Seq.{take-append_seam}
 use Rattle.std.proofs.lemmas.List.{append-nil, append_assoc, take-map, length-append, length-map}
-use Rattle.std.specs.Prelude.{not}
-use Rattle.std.proofs.lemmas.Bool.Decides.{eqb_tells}
+use Rattle.std.proofs.lemmas.Bool.{eqb-true}
 use Rattle.std.specs.Global.{Vec}
-use Rattle.std.proofs.Common.{ap₂}
 use Rattle.gw_maplang.specs.declared.item.FromItem.{FromItem}
 use Rattle.gw_maplang.specs.declared.rule.Rule.{Rule}
-use Rattle.gw_maplang.specs.declared.item.GroupItem.{GroupItem}
-use Rattle.gw_maplang.specs.declared.item.FlatItem.{FlatItem}
-use Rattle.gw_maplang.specs.declared.item.Item.{Item, SegFrom, SegAlways, EachAs, EachFlat, EachAs', EachFlat'}
-use Rattle.gw_maplang.proofs.Rows.{group_items, flat_items}
+use Rattle.gw_maplang.specs.declared.item.Item.{Item, SegFrom, SegAlways, EachAs', EachFlat'}
 use Rattle.gw_maplang.specs.Shapes.{Items, nothing}
 use Rattle.gw_maplang.specs.Seen.{path, items_all, with_item, row_items, all_items, rule}
 use Rattle.gw_resolve.specs.Places.{Element, within}
 use Rattle.gw_resolve.specs.Failures.{Failure, where_so, or_later}
+use Rattle.gw_resolve.specs.declared.failure.Failure as declared
 use Rattle.gw_resolve.specs.own.Looking.{each_within}
+use Rattle.gw_resolve.specs.Outcome.{Hides, HidesUnled}
+use Rattle.gw_resolve.specs.Seen.{failure, failures}
 use Rattle.gw_resolve.specs.Naming.{but_last, place_of, place_or, walk_failures, segments_failures, has_place, ends_at_segment, walked_if, source_leads, source_failures, rule_failures, path_failures}
 
 -- one more, and those behind it
@@ -63,19 +61,6 @@ pub paths_done : (scope : List Element) (xs : List Item) (i : ℕ) (new whole : 
 paths_done scope xs i new whole le so_far =
     sym (so_far ∙ ap (λ l. new ++ path_failures scope (all_items l)) (drop_of_length-le xs le) ∙ append-nil new)
 
-abbrev each : List Element → ℕ → List (Vec ℕ) → List Item → List Failure
-each scope line p items = each_within scope line (items_all p) (all_items items)
-
-pub group_failures : (scope : List Element) (item : Item) (g : GroupItem) (p : List (Vec ℕ)) (items : List Item) → item ≡ EachAs g → p ≡ g.path.items → items ≡ g.items.items → each scope g.line p items ≡ path_failures scope (with_item item nothing)
-group_failures scope item g p items is e f =
-    ap₂ (each scope g.line) e f ∙ sym (append-nil (each scope g.line g.path.items g.items.items))
-    ∙ sym (ap (path_failures scope) (ap (λ x. with_item x nothing) is ∙ group_items g nothing))
-
-pub flat_failures : (scope : List Element) (item : Item) (g : FlatItem) (p : List (Vec ℕ)) (items : List Item) → item ≡ EachFlat g → p ≡ g.path.items → items ≡ g.items.items → each scope g.line p items ≡ path_failures scope (with_item item nothing)
-flat_failures scope item g p items is e f =
-    ap₂ (each scope g.line) e f ∙ sym (append-nil (each scope g.line g.path.items g.items.items))
-    ∙ sym (ap (path_failures scope) (ap (λ x. with_item x nothing) is ∙ flat_items g nothing))
-
 -- ---- what hides the later ones
 
 -- some of the kept ones stand behind the first ones
@@ -105,18 +90,25 @@ pub led_shown : {A : Type 0} (own later : List Failure) (f : A → Failure) (all
 led_shown own later f all leads led is = is ∙ ap (λ (h : Bool). own ++ where_so h later) (sym led)
 
 -- two lists found one after the other
-pub found_both : {A : Type 0} (f : A → Failure) (old : List Failure) (more new : List A) (own later : List Failure) → map f more ≡ old ++ own → map f new ≡ map f more ++ later → map f new ≡ (old ++ own) ++ later
-found_both f old more new own later a b = b ∙ ap (λ l. l ++ later) a
+pub noted_twice : {A : Type 0} (old mid new a b : List A) → mid ≡ old ++ a → new ≡ mid ++ b → new ≡ old ++ (a ++ b)
+noted_twice old mid new a b h k = k ∙ ap (λ l. l ++ b) h ∙ append_assoc old a b
 
-pub as_many : {A : Type 0} (f : A → Failure) (xs : List A) (own : List Failure) (n : ℕ) → n ≡ length xs → map f xs ≡ own → length own ≡ n
+as_many : {A : Type 0} (f : A → Failure) (xs : List A) (own : List Failure) (n : ℕ) → n ≡ length xs → map f xs ≡ own → length own ≡ n
 as_many f xs own n e made = ap length (sym made) ∙ length-map xs f ∙ sym e
+
+-- behind the first ones some of its own, and the later ones where they are shown
+module _ (first own later whole : List Failure) (kept : ℕ) (old mid new last : List declared.Failure) (many : kept ≡ length mid) (here : failures mid ≡ first ++ own) (there : failures new ≡ failures mid ++ later) where
+  pub unled_noted : (leads : Bool) → HidesUnled new last leads kept → own ++ where_so leads later ≡ whole → failures last ≡ first ++ whole
+  unled_noted leads hides e =
+      hides (first ++ own) later (as_many failure mid (first ++ own) kept many here) (there ∙ ap (λ l. l ++ later) here) ∙ append_assoc first own (where_so leads later) ∙ ap (λ l. first ++ l) e
+
+  pub later_noted : (before : ℕ) → before ≡ length old → failures old ≡ first → Hides new last before kept → or_later own later ≡ whole → failures last ≡ first ++ whole
+  later_noted before few all hides e =
+      hides first own later (as_many failure old first before few all) (as_many failure mid (first ++ own) kept many here) (there ∙ ap (λ l. l ++ later) here) ∙ ap (λ l. first ++ l) e
 
 pub empty : {A : Type 0} (l k : List A) → k ≡ l → (length k == 0) ≡ true → l ≡ []
 empty [] k same e = refl
-empty (f ∷ fs) k same e = absurd (let h : (length (f ∷ fs) == 0) ≡ true = ap (λ x. length x == 0) (sym same) ∙ e in omega (arith, told (length (f ∷ fs)) h))
-  where
-    told : (n : ℕ) → (n == 0) ≡ true → n ≡ 0
-    told n h = elim (eqb_tells n 0) [ inl k ↦ k.1 | inr k ↦ absurd (let no : false ≡ true = sym k.0 ∙ h in cc) ]
+empty (f ∷ fs) k same e = absurd (omega (arith, eqb-true (length k) 0 e, ap length same))
 
 -- those of paths, of what is left out, and of targets
 pub named_all : (found p0 paths more t0 targets p d t : List Failure) → found ≡ more ++ targets → p0 ≡ [] → t0 ≡ [] → paths ≡ p0 ++ p → more ≡ paths ++ d → targets ≡ t0 ++ t → found ≡ p ++ d ++ t
@@ -142,14 +134,14 @@ from_paths scope inner s leads p rules a b c d =
     inner' = d ∙ ap (λ x. within scope (place_or scope (items_all x))) a
 
 -- of what is walked, and of the items within
-walked : (scope inner : List Element) (line : ℕ) (leads : Bool) (p : List (Vec ℕ)) (items : List Item) → leads ≡ has_place (place_of scope (items_all p)) → inner ≡ within scope (place_or scope (items_all p))
-    → walk_failures scope line (items_all p) ++ where_so leads (path_failures inner (all_items items)) ≡ each scope line p items
-walked scope inner line leads p items d e = λ i. walk_failures scope line (items_all p) ++ where_so (d i) (path_failures (e i) (all_items items))
+pub walked_paths : (scope inner : List Element) (line : ℕ) (x : Item) (leads : Bool) (p q : List (Vec ℕ)) (items all : List Item) → path_failures scope (with_item x nothing) ≡ each_within scope line (items_all q) (all_items all) ++ []
+    → p ≡ q → items ≡ all → leads ≡ has_place (place_of scope (items_all p)) → inner ≡ within scope (place_or scope (items_all p))
+    → walk_failures scope line (items_all p) ++ where_so leads (path_failures inner (all_items items)) ≡ path_failures scope (with_item x nothing)
+walked_paths scope inner line x leads p q items all is a b d e =
+    (λ i. walk_failures scope line (items_all p) ++ where_so (d i) (path_failures (e i) (all_items items)))
+    ∙ ap₂ (λ l m. each_within scope line (items_all l) (all_items m)) a b ∙ sym (append-nil (each_within scope line (items_all q) (all_items all))) ∙ sym is
 
-pub group_paths : (scope inner : List Element) (g : GroupItem) (leads : Bool) (p : List (Vec ℕ)) (items : List Item) → p ≡ g.path.items → items ≡ g.items.items → leads ≡ has_place (place_of scope (items_all p)) → inner ≡ within scope (place_or scope (items_all p))
-    → walk_failures scope g.line (items_all p) ++ where_so leads (path_failures inner (all_items items)) ≡ path_failures scope (with_item (EachAs g) nothing)
-group_paths scope inner g leads p items a b d e = walked scope inner g.line leads p items d e ∙ group_failures scope (EachAs g) g p items refl a b
-
-pub flat_paths : (scope inner : List Element) (g : FlatItem) (leads : Bool) (p : List (Vec ℕ)) (items : List Item) → p ≡ g.path.items → items ≡ g.items.items → leads ≡ has_place (place_of scope (items_all p)) → inner ≡ within scope (place_or scope (items_all p))
-    → walk_failures scope g.line (items_all p) ++ where_so leads (path_failures inner (all_items items)) ≡ path_failures scope (with_item (EachFlat g) nothing)
-flat_paths scope inner g leads p items a b d e = walked scope inner g.line leads p items d e ∙ flat_failures scope (EachFlat g) g p items refl a b
+-- of rules alone
+pub rules_paths : (first : List Failure) (scope : List Element) (theirs whole : List Rule) (new : List Failure) → theirs ≡ whole → new ≡ first ++ flat_map (rule_failures scope) (map rule theirs) → new ≡ first ++ (flat_map (rule_failures scope) (map rule whole) ++ [])
+rules_paths first scope theirs whole new e made =
+    made ∙ ap (λ l. first ++ l) (ap (λ l. flat_map (rule_failures scope) (map rule l)) e ∙ sym (append-nil (flat_map (rule_failures scope) (map rule whole))))

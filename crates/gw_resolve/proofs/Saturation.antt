@@ -1,7 +1,7 @@
 -- Counts that end at the cap.
 use Rattle.std.proofs.Common.{◌≡◌, inl, inr, ℕ, zero, suc, ◌+◌, ◌*◌, ◌≤◌, ◌<◌, Option, Some, None, refl, sym, ap, ◌∙◌, arith, ap₂}
 use Rattle.std.specs.Prelude.{min, option_map}
-use Rattle.std.proofs.lemmas.Bool.Decides.{leb_tells, eqb_tells}
+use Rattle.std.proofs.lemmas.Bool.Decides.{leb_tells, nat_tests}
 use Rattle.std.proofs.Math.Nat.{mul_comm, mul-le-mul_right}
 use Rattle.gw_resolve.specs.Intervals.{Interval, add, multiply, sum, product, is_never}
 use Rattle.gw_resolve.specs.Seen.{cap, saturated}
@@ -84,14 +84,4 @@ never_saturated i = go i.greatest
   where
     go : (g : Option ℕ) → is_never (option_map (λ n. min n cap) g) ≡ is_never g
     go None = refl
-    go (Some n) =
-        elim (eqb_tells n 0) [
-          | inl h ↦ elim (eqb_tells (min n cap) 0) [
-            | inl k ↦ k.0 ∙ sym h.0
-            | inr k ↦ absurd (k.1 (omega (arith, h.1)))
-          ]
-          | inr h ↦ elim (eqb_tells (min n cap) 0) [
-            | inl k ↦ absurd (h.1 (omega (arith, k.1)))
-            | inr k ↦ k.0 ∙ sym h.0
-          ]
-        ]
+    go (Some n) = grind (arith, nat_tests)

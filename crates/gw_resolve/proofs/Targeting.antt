@@ -74,3 +74,8 @@ group_reached nodes j g = ap (λ l. node_or j nodes (first_or (labels l))) (sym 
 
 pub flat_reached : (nodes : Forest) (j node : ℕ) (f : FlatItem) (xs : List Item) → xs ≡ f.items.items → node ≡ node_or j nodes (first_or (labels (all_items xs))) → node ≡ reached nodes j (EachFlat f)
 flat_reached nodes j node f xs a n = n ∙ ap (node_or j nodes) (ap first_or (flat_labels (EachFlat f) f xs refl a))
+
+-- of a label alone
+pub label_targets : (first : List Failure) (nodes : Forest) (j line : ℕ) (label whole : List ℕ) (new : List Failure) → label ≡ whole → new ≡ first ++ label_failures nodes is_segment j line label → new ≡ first ++ (label_failures nodes is_segment j line whole ++ [])
+label_targets first nodes j line label whole new e made =
+    made ∙ ap (λ l. first ++ l) (ap (label_failures nodes is_segment j line) e ∙ sym (append-nil (label_failures nodes is_segment j line whole)))

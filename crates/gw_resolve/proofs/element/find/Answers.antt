@@ -3,7 +3,7 @@ use Rattle.std.proofs.lemmas.List.{length-map}
 use Rattle.gw_resolve.specs.Places as spec
 use Rattle.gw_resolve.specs.Seen.{element as seen}
 use Rattle.gw_resolve.specs.Founds.{saturated_found}
-use Rattle.gw_resolve.proofs.Finding.{out_of_scope, found_walked}
+use Rattle.gw_resolve.proofs.Finding.{out_of_scope, found_among}
 use Rattle.gw_resolve.proofs.element.find.Goals as goal
 
 pub returns-then-place-scope : goal.returns-then-place-scope
@@ -14,4 +14,4 @@ returns-then-place-scope c =
 pub returns : goal.returns
 returns c =
     c.found_below.ensures ∙ ap (λ s. saturated_found (spec.found_below s (seen c.index-scope-scope.result))) c.deref.ensures.value
-    ∙ sym (ap saturated_found (found_walked c.args.scope.now c.args.place.now.out c.args.place.now.steps.items c.index-scope-scope.result c.if-place-scope.false c.index-scope-scope.is))
+    ∙ sym (ap saturated_found (found_among seen c.args.scope.now c.args.place.now.out c.args.place.now.steps.items c.index-scope-scope.result c.if-place-scope.false c.index-scope-scope.is))

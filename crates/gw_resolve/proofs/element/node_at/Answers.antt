@@ -2,8 +2,7 @@ use Rattle.std.proofs.Common.{sym, ap, ◌∙◌}
 use Rattle.gw_profile.specs.Seen.{forest}
 use Rattle.gw_profile.specs.Labels.{within}
 use Rattle.gw_resolve.specs.Places.{child}
-use Rattle.gw_resolve.proofs.Children.{child_at, child_past}
-use Rattle.gw_resolve.proofs.Inner.{within_at}
+use Rattle.gw_resolve.proofs.Children.{child_at, child_past, within_at}
 use Rattle.gw_resolve.proofs.element.node_at.Goals as goal
 
 pub of_node-requires : goal.of_node-requires

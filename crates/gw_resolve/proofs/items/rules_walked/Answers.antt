@@ -1,11 +1,9 @@
-use Rattle.std.proofs.Common.{ap, ◌∙◌, ◌++◌, map, flat_map}
-use Rattle.std.proofs.lemmas.List.{append_assoc}
+use Rattle.std.proofs.Common.{ap, ◌∙◌, map}
 use Rattle.gw_maplang.specs.Seen as raw
-use Rattle.gw_resolve.specs.Failures.{where_so}
 use Rattle.gw_resolve.specs.Naming as spec
 use Rattle.gw_resolve.specs.Places.{within}
-use Rattle.gw_resolve.specs.Seen.{scope as walked, failure, failures}
-use Rattle.gw_resolve.proofs.Noting.{as_many, found_both, from_paths}
+use Rattle.gw_resolve.specs.Seen.{scope as walked}
+use Rattle.gw_resolve.proofs.Noting.{unled_noted, from_paths}
 use Rattle.gw_resolve.proofs.items.rules_walked.Goals as goal
 
 pub returns-clause-place : goal.returns-clause-place
@@ -19,14 +17,7 @@ returns-clause-rules c = λ tables.
 
 pub returns-clause-failures : goal.returns-clause-failures
 returns-clause-failures c =
-    let first = failures c.args.paths.now.items in
-    let own = spec.segments_failures (walked c.args.scope.now) c.args.made.now.line (raw.items_all c.deref.result.now) in
-    let later = flat_map (spec.rule_failures (walked c.deref-2.result.now)) (map raw.rule c.deref-3.result.now) in
-    c.hide_unled.ensures (first ++ own) later
-    (as_many failure c.lead.new.found.items (first ++ own) _ (c.len-kept.ensures ∙ c.lead.new.found.ok.0) c.in_ok-led.ensures.failures)
-    (found_both failure first c.lead.new.found.items c.rules.new.found.items own later c.in_ok-led.ensures.failures c.in_ok-rules.ensures.failures)
-    ∙ append_assoc first own (where_so c.in_ok-led.led.leads later)
-    ∙ ap (λ l. first ++ l)
+    unled_noted _ _ _ _ _ c.args.paths.now.items _ _ _ (c.len-kept.ensures ∙ c.lead.new.found.ok.0) c.in_ok-led.ensures.failures c.in_ok-rules.ensures.failures _ c.hide_unled.ensures
     (from_paths (walked c.args.scope.now) (walked c.deref-2.result.now) c.args.made.now c.in_ok-led.led.leads c.deref.result.now c.deref-3.result.now
     c.deref.ensures.value c.deref-3.ensures.value c.in_ok-led.ensures.leads
     (ap walked c.deref-2.ensures.value ∙ c.in_ok-inner.ensures ∙ ap (within (walked c.args.scope.now)) c.in_ok-led.ensures.place))

@@ -1,11 +1,11 @@
-use Rattle.std.proofs.Common.{◌≡◌, ◌++◌, drop, map, flat_map}
-use Rattle.gw_maplang.specs.Seen as raw
-use Rattle.gw_resolve.specs.Naming as spec
-use Rattle.gw_resolve.specs.Seen as seen
+use Rattle.gw_maplang.specs.Seen.{dropped}
+use Rattle.gw_resolve.specs.Naming.{drop, drop_failures}
+use Rattle.gw_resolve.specs.Seen.{element, left_out, failures}
+use Rattle.gw_resolve.proofs.Listing.{Makes, Tells}
 use Rattle.gw_resolve.proofs.named.all_left_out.Given as goal
 
 abbrev pub invariant-loop-dropped : goal.invariant-loop-dropped
 invariant-loop-dropped l = record {
-  made : map (spec.drop (seen.element l.message)) (map raw.dropped l.drops) ≡ map seen.left_out l.built.items ++ map (spec.drop (seen.element l.message)) (map raw.dropped (drop l.dropped-index l.drops));
-  failures : seen.failures l.initial.found.items ++ (flat_map (spec.drop_failures (seen.element l.message)) (map raw.dropped l.drops)) ≡ seen.failures l.found.items ++ (flat_map (spec.drop_failures (seen.element l.message)) (map raw.dropped (drop l.dropped-index l.drops)));
+  made : Makes (drop (element l.message)) dropped left_out l.drops l.dropped-index l.built.items;
+  failures : Tells (drop_failures (element l.message)) dropped (failures l.initial.found.items) (failures l.found.items) l.dropped-index l.drops;
 }

@@ -10,9 +10,7 @@ pub returns-then-is_empty : goal.returns-then-is_empty
 returns-then-is_empty c = λ from to source target.
     let here = sym source in
     let there = sym target in
-    let told =
-    named_all (failures c.in_ok-found.found.items) (failures c.new.result.items) (failures c.resolve_items.new.lost.paths.items) (failures c.all_left_out.new.found.items) (failures c.new-2.result.items) (failures c.resolve_items.new.lost.targets.items) _ _ _
-    c.in_ok-found.ensures (ap failures c.new.ensures.items) (ap failures c.new-2.ensures.items) c.in_ok-items.ensures.paths c.in_ok-drops.ensures.failures c.in_ok-items.ensures.targets in
+    let told = named_all _ _ _ _ _ _ _ _ _ c.in_ok-found.ensures (ap failures c.new.ensures.items) (ap failures c.new-2.ensures.items) c.in_ok-items.ensures.paths c.in_ok-drops.ensures.failures c.in_ok-items.ensures.targets in
     record {
       none =
           sym
@@ -29,9 +27,7 @@ pub returns : goal.returns
 returns c = λ from to source target.
     let here = sym source in
     let there = sym target in
-    let told =
-    named_all (failures c.in_ok-found.found.items) (failures c.new.result.items) (failures c.resolve_items.new.lost.paths.items) (failures c.all_left_out.new.found.items) (failures c.new-2.result.items) (failures c.resolve_items.new.lost.targets.items) _ _ _
-    c.in_ok-found.ensures (ap failures c.new.ensures.items) (ap failures c.new-2.ensures.items) c.in_ok-items.ensures.paths c.in_ok-drops.ensures.failures c.in_ok-items.ensures.targets in
+    let told = named_all _ _ _ _ _ _ _ _ _ c.in_ok-found.ensures (ap failures c.new.ensures.items) (ap failures c.new-2.ensures.items) c.in_ok-items.ensures.paths c.in_ok-drops.ensures.failures c.in_ok-items.ensures.targets in
     record {
       all =
           told

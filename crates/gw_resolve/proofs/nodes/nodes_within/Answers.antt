@@ -1,8 +1,7 @@
 use Rattle.std.proofs.Common.{sym, ◌∙◌}
 use Rattle.gw_profile.specs.Shapes.{nothing}
 use Rattle.gw_profile.specs.Seen.{forest, node_forest}
-use Rattle.gw_resolve.proofs.Children.{child_at, child_past}
-use Rattle.gw_resolve.proofs.Inside.{same_within, none_within}
+use Rattle.gw_resolve.proofs.Children.{child_at, child_past, same_within, none_within}
 use Rattle.gw_resolve.proofs.nodes.nodes_within.Goals as goal
 
 pub returns-in-None : goal.returns-in-None

@@ -1,13 +1,13 @@
-use Rattle.std.proofs.Common.{◌≡◌, List, ◌++◌, drop, map, flat_map}
+use Rattle.std.proofs.Common.{List}
 use Rattle.gw_maplang.specs.Shapes.{TableValue}
 use Rattle.gw_maplang.specs.Seen as raw
 use Rattle.gw_resolve.specs.Naming as spec
-use Rattle.gw_resolve.specs.Seen as seen
-use Rattle.gw_resolve.specs.Seen.{scope as walked}
+use Rattle.gw_resolve.specs.Seen.{scope, rule, failures}
+use Rattle.gw_resolve.proofs.Listing.{Makes, Tells}
 use Rattle.gw_resolve.proofs.rules.rules.Given as goal
 
 abbrev pub invariant-loop-made : goal.invariant-loop-made
 invariant-loop-made l = record {
-  made : (tables : List TableValue) → map (spec.rule tables (walked l.scope)) (map raw.rule l.all) ≡ map (seen.rule tables) l.built.items ++ map (spec.rule tables (walked l.scope)) (map raw.rule (drop l.made-index l.all));
-  failures : seen.failures l.initial.found.items ++ (flat_map (spec.rule_failures (walked l.scope)) (map raw.rule l.all)) ≡ seen.failures l.found.items ++ (flat_map (spec.rule_failures (walked l.scope)) (map raw.rule (drop l.made-index l.all)));
+  made : (tables : List TableValue) → Makes (spec.rule tables (scope l.scope)) raw.rule (rule tables) l.all l.made-index l.built.items;
+  failures : Tells (spec.rule_failures (scope l.scope)) raw.rule (failures l.initial.found.items) (failures l.found.items) l.made-index l.all;
 }
