@@ -1,7 +1,6 @@
 -- What lines make, taken together.
-use Rattle.std.proofs.lemmas.Result.{IfOk-from_err}
-use Rattle.std.proofs.Common.{◌≡◌, ℕ, ◌+◌, ◌<◌, List, [], ◌∷◌, ◌++◌, drop, get_or, sym, ap, ◌∙◌, map, Some, None, option_map, OnOk, Result, length, subst}
-use Rattle.std.specs.Prelude.{option_to_list, IsErr}
+use Rattle.std.proofs.Common.{◌≡◌, ℕ, ◌+◌, ◌<◌, List, [], ◌∷◌, ◌++◌, drop, get_or, sym, ap, ◌∙◌, map, Some, None, option_map, length, subst}
+use Rattle.std.specs.Prelude.{option_to_list}
 use Rattle.std.proofs.lemmas.List.{append-nil, append_assoc}
 use Rattle.gw_maplang.specs.Shapes.{TableValue}
 use Rattle.gw_resolve.specs.declared.resolved.GroupItem.{GroupItem}
@@ -15,23 +14,12 @@ use Rattle.gw_resolve.specs.Seen.{place, rule, with_item, row_items, all_items}
 use Rattle.gw_resolve.proofs.Noting.{front, added_one}
 use Rattle.gw_resolve.proofs.Rows.{group_items, flat_items}
 use Rattle.gw_resolve.specs.Positions.{Position, inner, inner_if}
-use Rattle.gw_check.specs.Seen.{Adds, made, all_sites, segment_item}
-use Rattle.gw_check.specs.declared.segments.Target.{Target}
-use Rattle.gw_check.specs.Sites.{Site, Spot, Origin, unsaid, rules_sites, node_sites, node_origin, origin_if, segment_sites, items_sites, site_of}
+use Rattle.gw_check.specs.Seen.{Adds, all_sites, segment_item}
+use Rattle.gw_check.specs.Sites.{Site, unsaid, rules_sites, node_sites, node_origin, origin_if, segment_sites, items_sites, site_of}
 use Rattle.gw_check.specs.declared.site.Site as declared
-
--- where a call fails, nothing is said of what it made
-pub failed : {X E : Type 0} (r : Result X E) (P : Type 0) → IsErr r → OnOk r P
-failed r P is = IfOk-from_err r (λ _. P) is
 
 pub added_twice : (tables : List TableValue) (old mid new : List declared.Site) (a b : List Site) → Adds tables old mid a → Adds tables mid new b → Adds tables old new (a ++ b)
 added_twice tables old mid new a b h k = k ∙ ap (λ l. l ++ b) h ∙ append_assoc (all_sites tables old) a b
-
--- ---- rules
-
--- what a target is made of, read at one place or at the same
-pub other_origin : (tables : List TableValue) (line : ℕ) (t : Target) (how : Spot → Origin) (one other : Spot) (old new : List declared.Site) → one ≡ other → Adds tables old new (made line t (how one)) → Adds tables old new (made line t (how other))
-other_origin tables line t how one other old new same h = h ∙ ap (λ s. all_sites tables old ++ made line t (how s)) same
 
 -- ---- a segment
 

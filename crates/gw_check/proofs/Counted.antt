@@ -1,6 +1,6 @@
 -- How often the items of a level come, and for which node.
 use Rattle.std.proofs.lemmas.List.{take_more, drop_all}
-use Rattle.std.proofs.Common.{◌≡◌, inl, inr, ◌==◌, ℕ, ◌+◌, ◌++◌, take, true, false, List, [], ◌∷◌, Option, refl, sym, ap, ◌∙◌, drop, length, ◌<◌, ◌≤◌, suc, ◌-◌, get_or, subst, arith, drop-cons}
+use Rattle.std.proofs.Common.{◌≡◌, ◌==◌, ℕ, ◌+◌, ◌++◌, take, true, false, List, [], ◌∷◌, Option, refl, sym, ap, ◌∙◌, drop, length, ◌<◌, ◌≤◌, suc, ◌-◌, get_or, subst, arith, drop-cons}
 use Rattle.gw_maplang.specs.Shapes.{TableValue}
 use Rattle.gw_resolve.specs.declared.resolved.FlatItem.{FlatItem}
 use Rattle.gw_resolve.specs.declared.resolved.Item.{Item, Segment, Flat, Group', Flat'}
@@ -12,9 +12,10 @@ use Rattle.gw_check.specs.Counts.{items_count}
 use Rattle.gw_resolve.specs.Seen.{interval, saturated, place, with_item, all_items, ChildOf}
 use Rattle.gw_check.specs.own.ItemByItem.{first_count, CountsOne, CountsAll, Leads}
 use Rattle.gw_check.specs.Levels.{is_of, its, beyond, has_no_item}
-use Rattle.std.proofs.lemmas.Bool.Decides.{eqb_tells}
+use Rattle.std.proofs.lemmas.Bool.{ne_eqb}
 use Rattle.gw_resolve.proofs.Saturation.{sum_saturated, product_saturated}
 use Rattle.gw_resolve.proofs.Rows.{flat_items}
+use Rattle.gw_resolve.proofs.Built.{with_items, with_none, with_more}
 
 -- one item more
 pub count_more : (scope : List Element) (i : Item) (is : List Item) (one more total : declared.Interval) → CountsOne scope i one → CountsAll scope is more → interval total ≡ saturated (sum (interval one) (interval more)) → CountsAll scope (i ∷ is) total
@@ -52,20 +53,6 @@ count_done scope items left total none h = let zero : left ≡ 0 = omega (arith,
 
 -- ---- the items of one node
 
-pub onto : List TableValue → List Item → Items → Items
-onto tables [] rest = rest
-onto tables (i ∷ is) rest = with_item tables i (onto tables is rest)
-
-pub onto_none : (tables : List TableValue) (is : List Item) → onto tables is no_items ≡ all_items tables is
-unfolding onto
-onto_none tables [] = refl
-onto_none tables (i ∷ is) = ap (with_item tables i) (onto_none tables is)
-
-pub onto_more : (tables : List TableValue) (is : List Item) (i : Item) (rest : Items) → onto tables (is ++ i ∷ []) rest ≡ onto tables is (with_item tables i rest)
-unfolding onto
-onto_more tables [] i rest = refl
-onto_more tables (x ∷ is) i rest = ap (with_item tables x) (onto_more tables is i rest)
-
 -- an item of node j, and one of another
 one_of : (tables : List TableValue) (j : ℕ) (i : Item) (rest : Items) → is_of j (first_child (with_item tables i no_items)) ≡ true → (its j (with_item tables i rest) ≡ with_item tables i (its j rest)) × (beyond j (with_item tables i rest) ≡ beyond j rest)
 one_of tables j (Segment s) rest e = rw e (refl, refl)
@@ -79,17 +66,17 @@ other_of tables j (Flat' line from shape row) rest e = rw e (refl, refl)
 
 -- the first n items are of node j
 pub record LeadsSoFar (j : ℕ) (is : List Item) (n : ℕ) : Type 0 where
-  pub these : (tables : List TableValue) → its j (all_items tables is) ≡ onto tables (take n is) (its j (all_items tables (drop n is)))
+  pub these : (tables : List TableValue) → its j (all_items tables is) ≡ with_items tables (take n is) (its j (all_items tables (drop n is)))
   pub others : (tables : List TableValue) → beyond j (all_items tables is) ≡ beyond j (all_items tables (drop n is))
 
 pub leads_more : (j : ℕ) (is : List Item) (n : ℕ) (i : Item) (c : Option ℕ) → n < length is → i ≡ get_or is n i → ChildOf i c → is_of j c ≡ true → LeadsSoFar j is n → LeadsSoFar j is (n + 1)
 leads_more j is n i c low at child same h =
     record {
       these = λ tables.
-          h.these tables ∙ ap (λ l. onto tables (take n is) (its j (all_items tables l))) (step tables)
-          ∙ ap (onto tables (take n is)) (one_of tables j i (all_items tables (drop (n + 1) is)) (this tables)).0
-          ∙ sym (onto_more tables (take n is) i (its j (all_items tables (drop (n + 1) is))))
-          ∙ ap (λ l. onto tables l (its j (all_items tables (drop (n + 1) is)))) taken;
+          h.these tables ∙ ap (λ l. with_items tables (take n is) (its j (all_items tables l))) (step tables)
+          ∙ ap (with_items tables (take n is)) (one_of tables j i (all_items tables (drop (n + 1) is)) (this tables)).0
+          ∙ sym (with_more tables (take n is) i (its j (all_items tables (drop (n + 1) is))))
+          ∙ ap (λ l. with_items tables l (its j (all_items tables (drop (n + 1) is)))) taken;
       others = λ tables.
           h.others tables ∙ ap (λ l. beyond j (all_items tables l)) (step tables) ∙ (one_of tables j i (all_items tables (drop (n + 1) is)) (this tables)).1;
     }
@@ -110,8 +97,8 @@ leads_here j is n i c low at child other h =
     record {
       within = omega (arith, low);
       these = λ tables.
-          sym (h.these tables ∙ ap (λ l. onto tables (take n is) (its j (all_items tables l))) step
-          ∙ ap (onto tables (take n is)) (other_of tables j i (all_items tables (drop (suc n) is)) (this tables)).0 ∙ onto_none tables (take n is));
+          sym (h.these tables ∙ ap (λ l. with_items tables (take n is) (its j (all_items tables l))) step
+          ∙ ap (with_items tables (take n is)) (other_of tables j i (all_items tables (drop (suc n) is)) (this tables)).0 ∙ with_none tables (take n is));
       others = λ tables.
           sym (h.others tables ∙ ap (λ l. beyond j (all_items tables l)) step ∙ (other_of tables j i (all_items tables (drop (suc n) is)) (this tables)).1 ∙ ap (all_items tables) (sym step));
     }
@@ -126,7 +113,7 @@ pub leads_all : (j : ℕ) (is : List Item) → LeadsSoFar j is (length is) → L
 leads_all j is h =
     record {
       within = omega arith;
-      these = λ tables. sym (h.these tables ∙ ap (λ l. onto tables (take (length is) is) (its j (all_items tables l))) none ∙ onto_none tables (take (length is) is));
+      these = λ tables. sym (h.these tables ∙ ap (λ l. with_items tables (take (length is) is) (its j (all_items tables l))) none ∙ with_none tables (take (length is) is));
       others = λ tables. sym (h.others tables ∙ ap (λ l. beyond j (all_items tables l)) none ∙ ap (all_items tables) (sym none));
     }
   where
@@ -134,7 +121,6 @@ leads_all j is h =
     none = drop_all (length is) is (omega arith)
 
 pub leads_none : (j : ℕ) (is : List Item) → LeadsSoFar j is 0
-unfolding onto
 leads_none j is = record { these = λ tables. refl; others = λ tables. refl }
 
 pub leads_to_end : (j : ℕ) (is : List Item) (n : ℕ) → n ≤ length is → length is ≤ n → LeadsSoFar j is n → Leads j is (length is)
@@ -142,15 +128,8 @@ leads_to_end j is n low high h = let same : n ≡ length is = omega (arith, low,
 
 pub none_there : (tables : List TableValue) (is : List Item) → (length is == 0) ≡ has_no_item (all_items tables is)
 none_there tables [] = refl
-none_there tables (i ∷ is) = some ∙ sym (go i)
+none_there tables (i ∷ is) = ne_eqb (length (i ∷ is)) 0 (λ e. omega (arith, e)) ∙ sym (go i)
   where
-    some : (length (i ∷ is) == 0) ≡ false
-    some =
-        elim (eqb_tells (length (i ∷ is)) 0) [
-          | inl h ↦ absurd (omega (arith, h.1))
-          | inr h ↦ h.0
-        ]
-
     go : (i : Item) → has_no_item (with_item tables i (all_items tables is)) ≡ false
     go (Segment s) = refl
     go (Group' line child from shape row) = refl

@@ -31,8 +31,7 @@ use Rattle.gw_leaves.specs.Counts.{rule_count, reference_count}
 use Rattle.gw_leaves.specs.Components.{field_mark, comp_in, sub_in, table_values, value_failures, copied_sub, copied_comp, copied_field, rule_lookups}
 use Rattle.gw_check.specs.Fields.{is_expected, content_failures, count_failures, field_failures, segment_failures}
 use Rattle.gw_check.specs.Levels.{sources}
-use Rattle.gw_check.proofs.IdentityItems.{same_rule, same_rules}
-use Rattle.gw_check.proofs.IdentityNamed.{no_more, holds}
+use Rattle.gw_check.proofs.IdentityNamed.{same_rule, same_rules, no_more, holds}
 
 -- ---- lists
 
@@ -78,14 +77,11 @@ rule_or forbidden number = if forbidden then None else Some (same_rule number)
 -- none below the least number
 none_below : (n low high : ℕ) (fields : List FieldValue) → n < low → Rising low high (field_numbers fields) → rule_of (same_rules fields) n ≡ None
 none_below n low high [] less r = refl
-none_below n low high (f ∷ fields) less r = by (line.is_forbidden (Some f.usage)) (none_below n (suc f.number) high fields (omega (arith, less, r.0)) r.2)
-  where
-    other : (f.number == n) ≡ false
-    other = ne_eqb f.number n (λ e. omega (arith, less, r.0, e))
-
-    by : (b : Bool) → rule_of (same_rules fields) n ≡ None → rule_of (if b then same_rules fields else same_rule f.number ∷ same_rules fields) n ≡ None
-    by true later = later
-    by false later = ap (λ b. cond b (Some (same_rule f.number)) (rule_of (same_rules fields) n)) other ∙ later
+none_below n low high (f ∷ fields) less r =
+    let other : (f.number == n) ≡ false = ne_eqb f.number n (λ e. omega (arith, less, r.0, e)) in
+    let later : rule_of (same_rules fields) n ≡ None = none_below n (suc f.number) high fields (omega (arith, less, r.0)) r.2 in
+    elim (line.is_forbidden (Some f.usage)) as (λ b. rule_of (if b then same_rules fields else same_rule f.number ∷ same_rules fields) n ≡ None)
+    [ true ↦ later | false ↦ ap (λ b. cond b (Some (same_rule f.number)) (rule_of (same_rules fields) n)) other ∙ later ]
 
 abbrev Ruled : List Rule → FieldValue → Type 0
 Ruled rules f = rule_of rules f.number ≡ rule_or (line.is_forbidden (Some f.usage)) f.number
@@ -94,23 +90,21 @@ Ruled rules f = rule_of rules f.number ≡ rule_or (line.is_forbidden (Some f.us
 ruled_behind : (y : FieldValue) (low high : ℕ) (xs : List FieldValue) (rules : List Rule) → y.number < low → Rising low high (field_numbers xs) → AllByRecursion (Ruled rules) xs →
     AllByRecursion (Ruled (if line.is_forbidden (Some y.usage) then rules else same_rule y.number ∷ rules)) xs
 ruled_behind y low high [] rules less r h = tt
-ruled_behind y low high (x ∷ xs) rules less r h = (by (line.is_forbidden (Some y.usage)), ruled_behind y (suc x.number) high xs rules (omega (arith, less, r.0)) r.2 h.1)
-  where
-    other : (y.number == x.number) ≡ false
-    other = ne_eqb y.number x.number (λ e. omega (arith, less, r.0, e))
-
-    by : (b : Bool) → Ruled (if b then rules else same_rule y.number ∷ rules) x
-    by true = h.0
-    by false = ap (λ b. cond b (Some (same_rule y.number)) (rule_of rules x.number)) other ∙ h.0
+ruled_behind y low high (x ∷ xs) rules less r h =
+    let other : (y.number == x.number) ≡ false = ne_eqb y.number x.number (λ e. omega (arith, less, r.0, e)) in (
+      elim (line.is_forbidden (Some y.usage)) as (λ b. Ruled (if b then rules else same_rule y.number ∷ rules) x)
+          [ true ↦ h.0 | false ↦ ap (λ b. cond b (Some (same_rule y.number)) (rule_of rules x.number)) other ∙ h.0 ],
+      ruled_behind y (suc x.number) high xs rules (omega (arith, less, r.0)) r.2 h.1,
+    )
 
 -- each field that isn't X has a copy of it, no other has a rule
 pub each_ruled : (low high : ℕ) (fields : List FieldValue) → Rising low high (field_numbers fields) → AllByRecursion (Ruled (same_rules fields)) fields
 each_ruled low high [] r = tt
-each_ruled low high (f ∷ fields) r = (by (line.is_forbidden (Some f.usage)), ruled_behind f (suc f.number) high fields (same_rules fields) (omega arith) r.2 (each_ruled (suc f.number) high fields r.2))
-  where
-    by : (b : Bool) → rule_of (if b then same_rules fields else same_rule f.number ∷ same_rules fields) f.number ≡ rule_or b f.number
-    by true = none_below f.number (suc f.number) high fields (omega arith) r.2
-    by false = ap (λ b. cond b (Some (same_rule f.number)) (rule_of (same_rules fields) f.number)) (eq-eqb f.number f.number refl)
+each_ruled low high (f ∷ fields) r = (
+  elim (line.is_forbidden (Some f.usage)) as (λ b. rule_of (if b then same_rules fields else same_rule f.number ∷ same_rules fields) f.number ≡ rule_or b f.number)
+      [ true ↦ none_below f.number (suc f.number) high fields (omega arith) r.2 | false ↦ ap (λ b. cond b (Some (same_rule f.number)) (rule_of (same_rules fields) f.number)) (eq-eqb f.number f.number refl) ],
+  ruled_behind f (suc f.number) high fields (same_rules fields) (omega arith) r.2 (each_ruled (suc f.number) high fields r.2),
+)
 
 -- ---- values
 
@@ -121,11 +115,10 @@ not_and false b e = refl
 -- each value that is short enough stands in the table
 none_unlisted : (count : Count) (len : Option ℕ) (table texts : List (List ℕ)) → ((x : List ℕ) → lists.Among x texts → is_among x table ≡ true) → list_any (λ text. not (is_among text table)) (filter (is_short count len) texts) ≡ false
 none_unlisted count len table [] h = refl
-none_unlisted count len table (x ∷ texts) h = by (is_short count len x) (none_unlisted count len table texts (λ y a. h y (inr a)))
-  where
-    by : (b : Bool) → list_any (λ text. not (is_among text table)) (filter (is_short count len) texts) ≡ false → list_any (λ text. not (is_among text table)) (cond b (x ∷ filter (is_short count len) texts) (filter (is_short count len) texts)) ≡ false
-    by true later = ap₂ (λ s t. not s || t) (h x (inl refl)) later
-    by false later = later
+none_unlisted count len table (x ∷ texts) h =
+    let later = none_unlisted count len table texts (λ y a. h y (inr a)) in
+    elim (is_short count len x) as (λ b. list_any (λ text. not (is_among text table)) (cond b (x ∷ filter (is_short count len) texts) (filter (is_short count len) texts)) ≡ false)
+    [ true ↦ ap₂ (λ s t. not s || t) (h x (inl refl)) later | false ↦ later ]
 
 none_long : (count : Count) (most : ℕ) (texts : List (List ℕ)) → list_any (λ text. nat_lt most (measure count text)) (filter (is_short count (Some most)) texts) ≡ false
 none_long count most [] = refl
@@ -263,11 +256,9 @@ module _ (profile : ProfileValue) (names : List (List ℕ)) (s : SegmentValue) (
   copy_holds f l found = ap (λ o. flat_map (copied_comp profile profile (field_mark f.number 0) o) f.comps) found ∙ comps_hold profile names (field_mark f.number 0) f l
 
   contents_hold : (f : FieldValue) → LawfulField names f → field_of s.fields f.number ≡ Some f → content_failures walked profile f (Some (same_rule f.number)) ≡ []
-  contents_hold f l found = by (is_never (rule_count walked (Some (same_rule f.number))).greatest)
-    where
-      by : (b : Bool) → (if b then [] else copied_field walked profile (field_mark f.number 0) (record { place = itself; field = f.number }) f) ≡ []
-      by true = refl
-      by false = copy_holds f l found
+  contents_hold f l found =
+      elim (is_never (rule_count walked (Some (same_rule f.number))).greatest) as (λ b. (if b then [] else copied_field walked profile (field_mark f.number 0) (record { place = itself; field = f.number }) f) ≡ [])
+      [ true ↦ refl | false ↦ copy_holds f l found ]
 
   -- as often as the field comes
   count_is : (f : FieldValue) → field_of s.fields f.number ≡ Some f → rule_count walked (Some (same_rule f.number)) ≡ of_card f.card
@@ -288,11 +279,8 @@ module _ (profile : ProfileValue) (names : List (List ℕ)) (s : SegmentValue) (
 
   no_lookups : (fields : List FieldValue) → flat_map (rule_lookups walked) (same_rules fields) ≡ []
   no_lookups [] = refl
-  no_lookups (f ∷ fields) = by (line.is_forbidden (Some f.usage)) (no_lookups fields)
-    where
-      by : (b : Bool) → flat_map (rule_lookups walked) (same_rules fields) ≡ [] → flat_map (rule_lookups walked) (if b then same_rules fields else same_rule f.number ∷ same_rules fields) ≡ []
-      by true later = later
-      by false later = later
+  no_lookups (f ∷ fields) =
+      elim (line.is_forbidden (Some f.usage)) as (λ b. flat_map (rule_lookups walked) (if b then same_rules fields else same_rule f.number ∷ same_rules fields) ≡ []) [ true ↦ no_lookups fields | false ↦ no_lookups fields ]
 
   pub segment_holds : LawfulSegment names s → segment_failures walked profile 0 (same_rules s.fields) s.fields ≡ []
   segment_holds l =

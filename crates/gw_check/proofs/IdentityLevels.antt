@@ -20,8 +20,7 @@ use Rattle.gw_check.specs.Counts.{items_count}
 use Rattle.gw_check.specs.Fields.{is_expected, segment_failures}
 use Rattle.gw_resolve.specs.Founds as founds
 use Rattle.gw_check.specs.Levels.{its, beyond, node_mark, has_no_item, node_failures, level_failures, items_failures, sources}
-use Rattle.gw_check.proofs.IdentityItems.{at_node, same_rules, same}
-use Rattle.gw_check.proofs.IdentityNamed.{no_more, holds, Standing, Stands, from_the_first, behind_segment, behind_group, segment_stands, group_stands, nodes_there, found_there, within_there}
+use Rattle.gw_check.proofs.IdentityNamed.{at_node, same_rules, same, no_more, holds, Standing, Stands, from_the_first, behind_segment, behind_group, segment_stands, group_stands, nodes_there, found_there, within_there}
 use Rattle.gw_check.proofs.IdentityFields.{forbidden_is, not_and, within_itself, x_is, segment_holds}
 
 -- ---- how often

@@ -1,4 +1,4 @@
--- The labels of the map from a profile to itself are found where they stand.
+-- The map from a profile to itself, and its labels, which are found where they stand.
 use Rattle.std.proofs.Common.{◌≡◌, ℕ, zero, suc, ◌+◌, ◌≤◌, inl, inr, Bool, true, false, List, [], ◌∷◌, ◌++◌, map, Option, Some, None, refl, sym, ap, ap₂, ◌∙◌, arith}
 use Rattle.std.specs.Prelude.{if◌then◌else◌, not, nat_lt, bytes_eq, unwrap_or, option_map, option_and_then, flat_map}
 use Rattle.std.proofs.lemmas.Bool.{le-ltb}
@@ -12,15 +12,38 @@ use Rattle.gw_maplang.specs.Shapes as raw
 use Rattle.gw_maplang.specs.Shapes.{TableValue}
 use Rattle.gw_maplang.specs.Identity.{field_rules, copy_rule, same_items}
 use Rattle.gw_resolve.specs.Failures.{Mark, at_line, Failure, fails, where_so, or_later}
-use Rattle.gw_resolve.specs.Places.{Element, a_segment, a_group, Found, nodes_of, child, nodes_of_child, found, element_of, within}
+use Rattle.gw_resolve.specs.Places.{Place, Element, a_segment, a_group, Found, nodes_of, child, nodes_of_child, found, element_of, within}
 use Rattle.gw_resolve.specs.Intervals.{once, product}
 use Rattle.gw_resolve.specs.Order.{is_segment, is_group}
-use Rattle.gw_resolve.specs.Resolved.{copy, segment_item, group_item}
+use Rattle.gw_resolve.specs.Resolved.{copy, Rule, Items, no_items, segment_item, group_item}
 use Rattle.gw_profile.specs.Labels.{labelled}
 use Rattle.gw_resolve.specs.Naming.{place_of, place_or, itself, walked_if, node_or, ends_at_segment, is_single_place, has_place, but_last, label_failures, segments_failures, walk_failures, rule_failures, path_failures, target_failures, rule, resolved_items}
 use Rattle.gw_resolve.specs.Founds.{count_of}
 use Rattle.gw_resolve.proofs.Finding.{below_there}
-use Rattle.gw_check.proofs.IdentityItems.{at_node, same_rule, same_rules, same}
+use Rattle.gw_check.proofs.Placing.{first_or_later}
+
+-- ---- the map, with its labels looked up
+
+-- the node of this number, of the innermost element that is walked
+abbrev pub at_node : ℕ → Place
+at_node j = record { out = 0; steps = j ∷ [] }
+
+-- a copy of this field of the segment that is walked
+abbrev pub same_rule : ℕ → Rule
+same_rule number = record { line = 0; field = number; making = copy (record { place = itself; field = number }) }
+
+-- a copy of each field that isn't X
+abbrev pub same_rules : List FieldValue → List Rule
+same_rules [] = []
+same_rules (f ∷ fields) = if is_forbidden (Some f.usage) then same_rules fields else same_rule f.number ∷ same_rules fields
+
+-- each of the nodes from number j on that isn't X, from itself
+abbrev pub same : ℕ → Forest → Items
+same j nothing = no_items
+same j (segment s rest) =
+    if is_forbidden (Some s.usage) then same (suc j) rest
+    else segment_item (record { line = 0; child = j; place = Some (at_node j); rules = same_rules s.fields }) (same (suc j) rest)
+same j (group g nodes rest) = group_item (record { line = 0; child = j; place = at_node j }) (same 0 nodes) (same (suc j) rest)
 
 -- ---- no failures
 
@@ -46,22 +69,13 @@ same_text x = (bytes_eq-Decides x x).1 refl
 abbrev own_or : List ℕ → List ℕ → Option ℕ → Option ℕ
 own_or own label o = if bytes_eq own label then Some 0 else option_map suc o
 
-among_or : (own label : List ℕ) (names : List (List ℕ)) (o : Option ℕ) (i : ℕ) → ((k : ℕ) → o ≡ Some k → Among label names) → own_or own label o ≡ Some i → Among label (own ∷ names)
-among_or own label names o i behind e = by (bytes_eq own label) refl e
-  where
-    later : (p : Option ℕ) → o ≡ p → option_map suc p ≡ Some i → Among label names
-    later None at e = absurd (cc)
-    later (Some k) at e = behind k at
-
-    by : (b : Bool) → bytes_eq own label ≡ b → (if b then Some 0 else option_map suc o) ≡ Some i → Among label (own ∷ names)
-    by true is e = inl (sym ((bytes_eq-Decides own label).0 is))
-    by false is e = inr (later o refl e)
-
 -- a label that is found stands among them
 has_label : (f : Forest) (label : List ℕ) (i : ℕ) → labelled f label ≡ Some i → Among label (formed.labels f)
 has_label nothing label i e = absurd (cc)
-has_label (segment s rest) label i e = among_or s.label label (formed.labels rest) (labelled rest label) i (λ k at. has_label rest label k at) e
-has_label (group g nodes rest) label i e = among_or g.label label (formed.labels rest) (labelled rest label) i (λ k at. has_label rest label k at) e
+has_label (segment s rest) label i e =
+    first_or_later (λ k. Among label (s.label ∷ formed.labels rest)) (bytes_eq s.label label) (labelled rest label) i (λ h. inl (sym ((bytes_eq-Decides s.label label).0 h))) (λ k at. inr (has_label rest label k at)) e
+has_label (group g nodes rest) label i e =
+    first_or_later (λ k. Among label (g.label ∷ formed.labels rest)) (bytes_eq g.label label) (labelled rest label) i (λ h. inl (sym ((bytes_eq-Decides g.label label).0 h))) (λ k at. inr (has_label rest label k at)) e
 
 -- behind another label it is found one later
 one_later : (own label : List ℕ) (rest : Forest) (i : ℕ) → (Among own (formed.labels rest) → ⊥) → labelled rest label ≡ Some i → own_or own label (labelled rest label) ≡ Some (suc i)
@@ -161,23 +175,19 @@ module _ (s : SegmentValue) (scope : List Element) where
 
   rules_hold : (fields : List FieldValue) → flat_map (rule_failures (a_segment s ∷ scope)) (field_rules s.label fields) ≡ []
   rules_hold [] = refl
-  rules_hold (f ∷ fields) = by (is_forbidden (Some f.usage)) (rules_hold fields)
-    where
-      by : (b : Bool) → flat_map (rule_failures (a_segment s ∷ scope)) (field_rules s.label fields) ≡ [] → flat_map (rule_failures (a_segment s ∷ scope)) (if b then field_rules s.label fields else copy_rule s.label f.number ∷ field_rules s.label fields) ≡ []
-      by true h = h
-      by false h = no_more (rule_failures (a_segment s ∷ scope) (copy_rule s.label f.number)) _ (rule_holds f.number) h
+  rules_hold (f ∷ fields) =
+      elim (is_forbidden (Some f.usage)) as (λ b. flat_map (rule_failures (a_segment s ∷ scope)) (if b then field_rules s.label fields else copy_rule s.label f.number ∷ field_rules s.label fields) ≡ [])
+      [ true ↦ rules_hold fields | false ↦ no_more (rule_failures (a_segment s ∷ scope) (copy_rule s.label f.number)) _ (rule_holds f.number) (rules_hold fields) ]
 
   rule_is : (tables : List TableValue) (number : ℕ) → rule tables (a_segment s ∷ scope) (copy_rule s.label number) ≡ same_rule number
   rule_is tables number = ap (λ p. record { line = 0; field = number; making = copy (record { place = unwrap_or p itself; field = number }) }) own_place
 
   rules_are : (tables : List TableValue) (fields : List FieldValue) → map (rule tables (a_segment s ∷ scope)) (field_rules s.label fields) ≡ same_rules fields
   rules_are tables [] = refl
-  rules_are tables (f ∷ fields) = by (is_forbidden (Some f.usage)) (rules_are tables fields)
-    where
-      by : (b : Bool) → map (rule tables (a_segment s ∷ scope)) (field_rules s.label fields) ≡ same_rules fields →
-          map (rule tables (a_segment s ∷ scope)) (if b then field_rules s.label fields else copy_rule s.label f.number ∷ field_rules s.label fields) ≡ (if b then same_rules fields else same_rule f.number ∷ same_rules fields)
-      by true h = h
-      by false h = ap₂ (λ r rs. r ∷ rs) (rule_is tables f.number) h
+  rules_are tables (f ∷ fields) =
+      elim (is_forbidden (Some f.usage)) as
+      (λ b. map (rule tables (a_segment s ∷ scope)) (if b then field_rules s.label fields else copy_rule s.label f.number ∷ field_rules s.label fields) ≡ (if b then same_rules fields else same_rule f.number ∷ same_rules fields))
+      [ true ↦ rules_are tables fields | false ↦ ap₂ (λ r rs. r ∷ rs) (rule_is tables f.number) (rules_are tables fields) ]
 
 -- ---- no path fails
 

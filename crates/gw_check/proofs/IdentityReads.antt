@@ -12,7 +12,7 @@ use Rattle.gw_resolve.specs.Resolved.{SegmentItem, segment_item}
 use Rattle.gw_check.specs.Sites.{Site, node_origin, node_sites, rules_sites, segment_sites, items_sites}
 use Rattle.gw_check.specs.Reads.{SourceField, reads, is_read, drops_field, drops_element, may_hold, is_missed, missed_field, missed_nodes}
 use Rattle.gw_resolve.specs.Positions.{Position}
-use Rattle.gw_check.proofs.IdentityItems.{at_node, same_rule, same_rules, same}
+use Rattle.gw_check.proofs.IdentityNamed.{at_node, same_rule, same_rules, same}
 use Rattle.gw_check.proofs.IdentityFields.{forbidden_is, x_is}
 
 -- what is read here is read there

@@ -21,7 +21,7 @@ use Rattle.gw_resolve.specs.Order.{is_segment, is_group, are_placed}
 use Rattle.gw_resolve.specs.Lawful.{LawfulRows, LawfulSource, LawfulLeaf, LawfulAt, LawfulLeaves, LawfulMaking, LawfulRule, LawfulItems, places}
 use Rattle.gw_profile.specs.Labels.{labelled}
 use Rattle.gw_resolve.specs.Naming.{node_or, walked_if, place_or, target_failures, naming_failures, no_rows, source, leaf, at_leaf, making, rule, resolved_items, resolved}
-use Rattle.gw_check.proofs.Placing.{nil_both, named, number_is, segment_parts, group_parts, flat_parts, placed_where_named}
+use Rattle.gw_check.proofs.Placing.{first_or_later, nil_both, named, number_is, segment_parts, group_parts, flat_parts, placed_where_named}
 
 -- ---- fields of target segments
 
@@ -67,37 +67,14 @@ fair_all tables (group g nodes rest) h o = absurd o
 abbrev FairAt : Forest → List ℕ → ℕ → Type 0
 FairAt nodes label k = is_segment (child nodes k) ≡ true → first_field (name_of (child nodes k)) ≤ theirs.least_field label
 
-segment_first : (s : SegmentValue) (rest : Forest) (label : List ℕ) (k : ℕ) → Fair s → Some k ≡ Some 0 → s.label ≡ label → FairAt (segment s rest) label k
-segment_first s rest label zero f e same = λ is. subst (λ l. first_field s.name ≤ theirs.least_field l) same f
-segment_first s rest label (suc k) f e same = absurd (cc)
-
-segment_later : (s : SegmentValue) (rest : Forest) (label : List ℕ) (o : Option ℕ) (k : ℕ) → ((i : ℕ) → o ≡ Some i → FairAt rest label i) → Some k ≡ option_map suc o → FairAt (segment s rest) label k
-segment_later s rest label None k later e = absurd (cc)
-segment_later s rest label (Some i) zero later e = absurd (cc)
-segment_later s rest label (Some i) (suc k) later e = let same : i ≡ k = cc in later k (ap Some same)
-
-group_first : (g : GroupValue) (nodes rest : Forest) (label : List ℕ) (k : ℕ) → Some k ≡ Some 0 → FairAt (group g nodes rest) label k
-group_first g nodes rest label zero e = λ is. absurd (cc)
-group_first g nodes rest label (suc k) e = absurd (cc)
-
-group_later : (g : GroupValue) (nodes rest : Forest) (label : List ℕ) (o : Option ℕ) (k : ℕ) → ((i : ℕ) → o ≡ Some i → FairAt rest label i) → Some k ≡ option_map suc o → FairAt (group g nodes rest) label k
-group_later g nodes rest label None k later e = absurd (cc)
-group_later g nodes rest label (Some i) zero later e = absurd (cc)
-group_later g nodes rest label (Some i) (suc k) later e = let same : i ≡ k = cc in later k (ap Some same)
-
 -- the segment of a label has a name that is fair to it
 fair_child : (nodes : Forest) (label : List ℕ) (k : ℕ) → EachSegment Fair nodes → labelled nodes label ≡ Some k → FairAt nodes label k
 fair_child nothing label k f at = absurd (cc)
 fair_child (segment s rest) label k f at =
-    elim (tells (bytes_eq s.label label)) [
-      | inl h ↦ segment_first s rest label k f.0 (sym at ∙ ap (λ t. if t then Some 0 else option_map suc (labelled rest label)) h) ((bytes_eq-Decides s.label label).0 h)
-      | inr h ↦ segment_later s rest label (labelled rest label) k (λ i there. fair_child rest label i f.1 there) (sym at ∙ ap (λ t. if t then Some 0 else option_map suc (labelled rest label)) h)
-    ]
+    first_or_later (FairAt (segment s rest) label) (bytes_eq s.label label) (labelled rest label) k
+    (λ h is. subst (λ l. first_field s.name ≤ theirs.least_field l) ((bytes_eq-Decides s.label label).0 h) f.0) (λ i there. fair_child rest label i f.1 there) at
 fair_child (group g nodes rest) label k f at =
-    elim (tells (bytes_eq g.label label)) [
-      | inl h ↦ group_first g nodes rest label k (sym at ∙ ap (λ t. if t then Some 0 else option_map suc (labelled rest label)) h)
-      | inr h ↦ group_later g nodes rest label (labelled rest label) k (λ i there. fair_child rest label i f.1 there) (sym at ∙ ap (λ t. if t then Some 0 else option_map suc (labelled rest label)) h)
-    ]
+    first_or_later (FairAt (group g nodes rest) label) (bytes_eq g.label label) (labelled rest label) k (λ h is. absurd (cc)) (λ i there. fair_child rest label i f.1 there) at
 
 fair_below : (nodes : Forest) (k : ℕ) → EachSegment Fair nodes → EachSegment Fair (nodes_of_child nodes k)
 fair_below nothing k f = tt

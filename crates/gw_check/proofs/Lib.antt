@@ -5,12 +5,9 @@ pub mod Missing
 pub mod Collecting
 pub mod Accounting
 pub mod Adding
-pub mod Least
 pub mod Placing
 pub mod Keeping
-pub mod IdentityItems
 pub mod IdentityNamed
 pub mod IdentityFields
 pub mod IdentityLevels
 pub mod IdentityReads
-pub mod IdentityAllowed

@@ -1,9 +1,9 @@
 -- Where the rules on labels hold, items stand in the order of their nodes, and keep what every map keeps.
 use Rattle.std.proofs.Common.{◌≡◌, ℕ, suc, ◌≤◌, inl, inr, Bool, true, false, List, [], ◌∷◌, ◌++◌, Option, Some, None, refl, sym, ap, ap₂, ◌∙◌, subst, arith}
-use Rattle.std.specs.Prelude.{nat_lt, nat_le, ◌==◌, ◌&&◌, not, bytes_eq, unwrap_or, option_and_then}
+use Rattle.std.specs.Prelude.{if◌then◌else◌, option_map, nat_lt, nat_le, ◌==◌, ◌&&◌, not, bytes_eq, unwrap_or, option_and_then}
 use Rattle.std.specs.List.{list_all}
-use Rattle.std.proofs.lemmas.Bool.{le-leb}
-use Rattle.std.proofs.lemmas.Bool.Decides.{leb_tells, eqb_tells}
+use Rattle.std.proofs.lemmas.Bool.{le-leb, eq-eqb}
+use Rattle.std.proofs.lemmas.Bool.Decides.{leb_tells}
 use Rattle.std.proofs.lemmas.Slice.Eq.{bytes_eq-Decides}
 use Rattle.gw_profile.proofs.Facts.{both, not_false}
 use Rattle.gw_profile.specs.Shapes.{Forest}
@@ -32,17 +32,16 @@ not_broken rule mark true e = absurd (cc)
 not_broken rule mark false e = refl
 
 three : (a b c : Bool) → a ≡ true → b ≡ true → c ≡ true → a && b && c ≡ true
-three true true true e f g = refl
-three true true false e f g = absurd (cc)
-three true false c e f g = absurd (cc)
-three false b c e f g = absurd (cc)
+three a b c e f g = λ i. e i && f i && g i
 
 four : (a b c d : Bool) → a ≡ true → b ≡ true → c ≡ true → d ≡ true → a && b && c && d ≡ true
-four true true true true e f g h = refl
-four true true true false e f g h = absurd (cc)
-four true true false d e f g h = absurd (cc)
-four true false c d e f g h = absurd (cc)
-four false b c d e f g h = absurd (cc)
+four a b c d e f g h = λ i. e i && f i && g i && h i
+
+-- a label is that of the first node, or is found one later than behind it
+pub first_or_later : (P : ℕ → Type 0) (own : Bool) (o : Option ℕ) (k : ℕ) → (own ≡ true → P 0) → ((i : ℕ) → o ≡ Some i → P (suc i)) → (if own then Some 0 else option_map suc o) ≡ Some k → P k
+first_or_later P true o k first later e = let same : 0 ≡ k = cc in subst P same (first refl)
+first_or_later P false None k first later e = absurd (cc)
+first_or_later P false (Some i) k first later e = let same : suc i ≡ k = cc in subst P same (later i refl)
 
 -- a label that names a node of this kind, none of a lower number than j
 pub record Named (nodes : Forest) (is_kind : Option Element → Bool) (j : ℕ) (label : List ℕ) : Type 0 where
@@ -157,9 +156,6 @@ one_all : (ls : List (List ℕ)) → are_one ls ≡ true → list_all (bytes_eq 
 one_all [] e = refl
 one_all (x ∷ ls) e = ap₂ (λ s t. s && t) ((bytes_eq-Decides x x).1 refl) e
 
-equal : (a b : ℕ) → a ≡ b → (a == b) ≡ true
-equal a b e = elim (eqb_tells a b) [ inl h ↦ h.0 | inr h ↦ absurd (h.1 e) ]
-
 -- what the rules on labels say of items, whatever nodes come before
 record Fit (nodes : Forest) (made : Items) (items : raw.Items) : Type 0 where
   placed : (j : ℕ) → target_failures nodes j items ≡ [] → are_placed nodes j made ≡ true
@@ -182,7 +178,7 @@ fit tables names scope nodes (raw.segment s rest) h =
           let a = both (bytes_eq label s.label) (list_all (bytes_eq label) (labels rest)) all in
           let here : node_or 0 nodes s.label ≡ k = ap (node_or 0 nodes) (sym ((bytes_eq-Decides label s.label).0 a.0)) ∙ is in
           let number : n.number ≡ k = sym (number_is nodes s.label n.number 0 n.at) ∙ here in
-          three _ _ _ (equal (node_or 0 nodes s.label) k here) (subst (λ c. is_segment (child nodes c) ≡ true) number n.kind) (behind.same (node_or j nodes s.label) k label p.others a.1 is);
+          three _ _ _ (eq-eqb (node_or 0 nodes s.label) k here) (subst (λ c. is_segment (child nodes c) ≡ true) number n.kind) (behind.same (node_or j nodes s.label) k label p.others a.1 is);
     }
 fit tables names scope nodes (raw.group g items rest) h =
     let behind = fit tables names scope nodes rest h.2 in
@@ -208,7 +204,7 @@ fit tables names scope nodes (raw.group g items rest) h =
           let made = resolved_items tables inner (nodes_of_child nodes (node_or 0 nodes g.label)) items in
           let same = number_is nodes g.label n.number j n.at ∙ sym (number_is nodes g.label n.number 0 n.at) in
           let within_it = below.placed 0 (subst (λ c. target_failures (nodes_of_child nodes c) 0 items ≡ []) same p.inner) in
-          four _ _ _ _ (equal (node_or 0 nodes g.label) k here) (subst (λ c. is_group (child nodes c) ≡ true) number n.kind)
+          four _ _ _ _ (eq-eqb (node_or 0 nodes g.label) k here) (subst (λ c. is_group (child nodes c) ≡ true) number n.kind)
           (subst (λ c. are_placed (nodes_of_child nodes c) 0 made ≡ true) here within_it) (behind.same (node_or j nodes g.label) k label p.others a.1 is);
     }
 fit tables names scope nodes (raw.flat f items rest) h =

@@ -1,13 +1,12 @@
 -- The elements of a profile that are named by their numbers, and the texts that a profile lists for them (HL7 v2.5.1 chapter 2, 2.12: table, length).
-use Rattle.std.specs.Prelude.{ℕ, Bool, true, ◌&&◌, not, nat_le, List, [], ◌∷◌, map, find, Option, Some, None, is_some, unwrap_or}
-use Rattle.std.specs.Global.{Vec}
+use Rattle.std.specs.Prelude.{ℕ, Bool, ◌&&◌, not, List, [], ◌∷◌, find, Option, Some, None, is_some, unwrap_or}
 use Rattle.gw_profile.specs.declared.shape.Count.{Count}
-use Rattle.gw_profile.specs.Lengths.{measure}
 use Rattle.gw_profile.specs.Fault.{is_among}
 use Rattle.gw_profile.specs.Shapes.{SubValue, CompValue, FieldValue, Forest, TableValue}
 use Rattle.gw_profile.specs.Numbered.{field_of, comp_of, sub_of}
 use Rattle.gw_profile.specs.Value.{table_of}
 use Rattle.gw_maplang.specs.Shapes.{second_of}
+use Rattle.gw_leaves.specs.Leaves.{is_short}
 use Rattle.gw_check.specs.declared.texts.Taker as takers
 use Rattle.gw_resolve.specs.Places.{child, nodes_of_child, fields_of}
 use Rattle.gw_resolve.specs.Positions.{Position}
@@ -33,21 +32,13 @@ sub_at nodes at field comp sub = sub_of (comp_at nodes at field comp) sub
 
 -- ---- texts
 
--- the values of the table of this name
-abbrev pub values_of : List TableValue → List ℕ → List (List ℕ)
-values_of tables name = unwrap_or (table_of name tables) []
-
 -- the values of the table that a subcomponent names
 abbrev pub listed : List TableValue → SubValue → List (List ℕ)
 listed tables s = go s.table
   where
     go : Option (List ℕ) → List (List ℕ)
     go None = []
-    go (Some name) = values_of tables name
-
-abbrev pub is_short : Count → Option ℕ → List ℕ → Bool
-is_short count None text = true
-is_short count (Some most) text = nat_le (measure count text) most
+    go (Some name) = unwrap_or (table_of name tables) []
 
 -- what takes a text: a table that lists it, rows of which one is for it, or a length
 abbrev pub takes : takers.Taker → List ℕ → Bool
@@ -58,8 +49,3 @@ takes (takers.TheVariants.Length count len) text = is_short count len text
 -- the first that is no longer than the subcomponent may be, and that isn't taken
 abbrev pub untaken : Count → List TableValue → SubValue → takers.Taker → Option (List ℕ)
 untaken count tables s taker = find (λ text. is_short count s.len text && not (takes taker text)) (listed tables s)
-
--- ---- as the program holds them
-
-abbrev pub items_all : List (Vec ℕ) → List (List ℕ)
-items_all all = map (λ v. v.items) all

@@ -29,7 +29,7 @@ origin tables (origins.TheVariants.LookedUp name from) = given (rows_of tables n
 
 -- the origin that was made, if any, whatever the map's tables are
 abbrev pub OriginIs : {E : Type 0} → Result origins.Origin E → (List TableValue → Origin) → Type 0
-OriginIs result made = (tables : List TableValue) → IfOk result (λ o. origin tables o ≡ made tables)
+OriginIs result made = IfOk result (λ o. (tables : List TableValue) → origin tables o ≡ made tables)
 
 abbrev pub site : List TableValue → declared.Site → Site
 site tables s = record { line = s.line; target = spot s.target; origin = origin tables s.origin }
@@ -56,4 +56,4 @@ Adds tables old new more = all_sites tables new ≡ all_sites tables old ++ more
 
 -- the same of a call that went through, whatever the map's tables are
 abbrev pub AddsAll : {X E : Type 0} → Result X E → List declared.Site → List declared.Site → (List TableValue → List Site) → Type 0
-AddsAll result old new more = (tables : List TableValue) → OnOk result (Adds tables old new (more tables))
+AddsAll result old new more = OnOk result ((tables : List TableValue) → Adds tables old new (more tables))

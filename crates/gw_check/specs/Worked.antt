@@ -110,48 +110,35 @@ m1 = sex_map 5 (row (codes "M") (codes "1") ∷ row (codes "F") (codes "2") ∷ 
 abbrev pub m4 : MapValue
 m4 = sex_map 3 (row (codes "M") (codes "1") ∷ []) None
 
+-- a profile without tables, of MSH and these nodes
+abbrev bare : List ℕ → Count → Forest → ProfileValue
+bare name count nodes = record { name = name; count = count; tables = []; nodes = msh [] nodes }
+
+-- a map without tables and drops, of an MSH and these items
+abbrev plain : List ℕ → List ℕ → List ℕ → raw.Items → MapValue
+plain name source target items = record { name = name; source = source; target = target; line = 1; tables = []; items = item 2 (codes "MSH") (codes "MSH") [] items; drops = [] }
+
 -- next of kin and guarantors, and a target for both
 abbrev pub kin : ProfileValue
-kin =
-    record {
-      name = codes "KIN";
-      count = Octets;
-      tables = [];
-      nodes = msh [] (seg (codes "NK1") O (card 0 2) [] (seg (codes "GT1") O (card 0 2) [] nothing));
-    }
+kin = bare (codes "KIN") Octets (seg (codes "NK1") O (card 0 2) [] (seg (codes "GT1") O (card 0 2) [] nothing))
 
 abbrev pub contacts : ℕ → ProfileValue
-contacts most = record { name = codes "CONTACTS"; count = Octets; tables = []; nodes = msh [] (seg (codes "NK1") O (card 0 most) [] nothing) }
+contacts most = bare (codes "CONTACTS") Octets (seg (codes "NK1") O (card 0 most) [] nothing)
 
 abbrev pub both_kinds : MapValue
-both_kinds =
-    record {
-      name = codes "BOTH";
-      source = codes "KIN";
-      target = codes "CONTACTS";
-      line = 1;
-      tables = [];
-      items = item 2 (codes "MSH") (codes "MSH") [] (item 3 (codes "NK1") (codes "NK1") [] (item 4 (codes "NK1") (codes "GT1") [] raw.nothing));
-      drops = [];
-    }
+both_kinds = plain (codes "BOTH") (codes "KIN") (codes "CONTACTS") (item 3 (codes "NK1") (codes "NK1") [] (item 4 (codes "NK1") (codes "GT1") [] raw.nothing))
 
 -- results in groups, and a target without
 abbrev pub oru : ProfileValue
 oru =
-    record {
-      name = codes "ORU";
-      count = Octets;
-      tables = [];
-      nodes =
-          msh []
-          (grp (codes "PATIENT_RESULT") (many 1)
-          (grp (codes "PATIENT") (card 1 1) (seg (codes "PID") R (card 1 1) [] nothing)
-          (grp (codes "ORDER") (many 1) (seg (codes "OBR") R (card 1 1) (field 1 RE (card 0 1) ∷ []) nothing) nothing))
-          nothing);
-    }
+    bare (codes "ORU") Octets
+    (grp (codes "PATIENT_RESULT") (many 1)
+    (grp (codes "PATIENT") (card 1 1) (seg (codes "PID") R (card 1 1) [] nothing)
+    (grp (codes "ORDER") (many 1) (seg (codes "OBR") R (card 1 1) (field 1 RE (card 0 1) ∷ []) nothing) nothing))
+    nothing)
 
 abbrev pub orders : Card → ProfileValue
-orders how_many = record { name = codes "FLAT"; count = Octets; tables = []; nodes = msh [] (seg (codes "OBR") R how_many (field 1 RE (card 0 1) ∷ []) nothing) }
+orders how_many = bare (codes "FLAT") Octets (seg (codes "OBR") R how_many (field 1 RE (card 0 1) ∷ []) nothing)
 
 abbrev pub any_orders : ProfileValue
 any_orders = orders (many 1)
@@ -164,29 +151,13 @@ flat line label items rest = raw.flat (record { line = line; path = label ∷ []
 
 abbrev pub m3 : MapValue
 m3 =
-    record {
-      name = codes "M3";
-      source = codes "ORU";
-      target = codes "FLAT";
-      line = 1;
-      tables = [];
-      items =
-          item 2 (codes "MSH") (codes "MSH") []
-          (flat 3 (codes "PATIENT_RESULT") (flat 4 (codes "ORDER") (item 5 (codes "OBR") (codes "OBR") (copies 6 (codes "OBR") 1 ∷ []) raw.nothing) raw.nothing) raw.nothing);
-      drops = [];
-    }
+    plain (codes "M3") (codes "ORU") (codes "FLAT")
+    (flat 3 (codes "PATIENT_RESULT") (flat 4 (codes "ORDER") (item 5 (codes "OBR") (codes "OBR") (copies 6 (codes "OBR") 1 ∷ []) raw.nothing) raw.nothing) raw.nothing)
 
 -- names of at most four octets, or of at most four characters
 abbrev four : List ℕ → Count → ProfileValue
 four name count =
-    record {
-      name = name;
-      count = count;
-      tables = [];
-      nodes =
-          msh []
-          (seg (codes "PID") R (card 1 1) (record { number = 5; usage = RE; card = card 0 1; comps = leaf_comp (record { len = Some 4; table = None }) ∷ [] } ∷ []) nothing);
-    }
+    bare name count (seg (codes "PID") R (card 1 1) (record { number = 5; usage = RE; card = card 0 1; comps = leaf_comp (record { len = Some 4; table = None }) ∷ [] } ∷ []) nothing)
 
 abbrev pub s2 : ProfileValue
 s2 = four (codes "S2") Octets
@@ -195,16 +166,7 @@ abbrev pub s3 : ProfileValue
 s3 = four (codes "S3") Characters
 
 abbrev pub m5 : MapValue
-m5 =
-    record {
-      name = codes "M5";
-      source = codes "S2";
-      target = codes "S3";
-      line = 1;
-      tables = [];
-      items = item 2 (codes "MSH") (codes "MSH") [] (item 3 (codes "PID") (codes "PID") (copies 4 (codes "PID") 5 ∷ []) raw.nothing);
-      drops = [];
-    }
+m5 = plain (codes "M5") (codes "S2") (codes "S3") (item 3 (codes "PID") (codes "PID") (copies 4 (codes "PID") 5 ∷ []) raw.nothing)
 
 -- the leaf of the name
 abbrev pub name_at : ℕ → Mark

@@ -72,12 +72,14 @@ fn add_segment(
                 part: LeafPlace { comp: 0, sub: 0 },
             };
             add_site(alloc, sites, segment.line, node, Origin::Unsaid)?;
-            add_rules(alloc, sites, scope, at, &segment.rules)
+            add_rules(alloc, sites, scope, at, &segment.rules)?;
+            Ok(())
         }
         Some(place) => {
             add_node(alloc, sites, scope, segment.line, at, place)?;
             let within = positions_within(alloc, scope, place)?;
-            add_rules(alloc, sites, &within, at, &segment.rules)
+            add_rules(alloc, sites, &within, at, &segment.rules)?;
+            Ok(())
         }
     }
 }
@@ -96,19 +98,22 @@ fn add_item(
     match item {
         Item::Segment(segment) => {
             let at = below(alloc, above, segment.child)?;
-            add_segment(alloc, sites, scope, &at, segment)
+            add_segment(alloc, sites, scope, &at, segment)?;
+            Ok(())
         }
         Item::Group(group) => {
             let at = below(alloc, above, group.child)?;
             add_node(alloc, sites, scope, group.line, &at, &group.place)?;
             let within = positions_within(alloc, scope, &group.place)?;
-            add_items(alloc, sites, &within, &at, &group.items)
+            add_items(alloc, sites, &within, &at, &group.items)?;
+            Ok(())
         }
         Item::Flat(flat) => {
             let at = made_below(alloc, above, &flat.items)?;
             add_node(alloc, sites, scope, flat.line, &at, &flat.place)?;
             let within = positions_within(alloc, scope, &flat.place)?;
-            add_items(alloc, sites, &within, above, &flat.items)
+            add_items(alloc, sites, &within, above, &flat.items)?;
+            Ok(())
         }
     }
 }

@@ -59,7 +59,8 @@ pub(crate) fn add_read(
         (λ tables. made line target.entry (spec.read (spec.spot_at (positions scope.now) (seen_place place.now) field 0 0))) }
 {
     let from = path_at(alloc, scope, place, field, LeafPlace { comp: 0, sub: 0 })?;
-    add_site(alloc, sites, line, target, Origin::Read(from))
+    add_site(alloc, sites, line, target, Origin::Read(from))?;
+    Ok(())
 }
 
 fn add_leaf(
@@ -78,7 +79,8 @@ fn add_leaf(
         part: leaf.place,
         ..target
     };
-    add_site(alloc, sites, leaf.line, part, origin)
+    add_site(alloc, sites, leaf.line, part, origin)?;
+    Ok(())
 }
 
 fn add_leaves(
@@ -112,7 +114,8 @@ fn add_repeated(
 {
     let whole = LeafPlace { comp: 0, sub: 0 };
     let from = path_at(alloc, scope, &from.place, from.field, whole)?;
-    add_site(alloc, sites, line, target, Origin::Repeated(from))
+    add_site(alloc, sites, line, target, Origin::Repeated(from))?;
+    Ok(())
 }
 
 fn add_rule(
@@ -132,15 +135,18 @@ fn add_rule(
     };
     match &rule.making {
         Making::Copy(from) | Making::First(from) => {
-            add_read(alloc, sites, scope, line, field, &from.place, from.field)
+            add_read(alloc, sites, scope, line, field, &from.place, from.field)?;
+            Ok(())
         }
         Making::Repeat(from, leaves) => {
             add_leaves(alloc, sites, scope, Some(from), field, leaves)?;
-            add_repeated(alloc, sites, scope, line, field, from)
+            add_repeated(alloc, sites, scope, line, field, from)?;
+            Ok(())
         }
         Making::Build(leaves) => {
             add_leaves(alloc, sites, scope, None, field, leaves)?;
-            add_site(alloc, sites, line, field, Origin::Unsaid)
+            add_site(alloc, sites, line, field, Origin::Unsaid)?;
+            Ok(())
         }
     }
 }

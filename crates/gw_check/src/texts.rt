@@ -4,27 +4,19 @@ ghost use Rattle.gw_maplang.specs.Seen.{now};
 ghost use Rattle.gw_profile.specs.Fault.{is_among};
 ghost use Rattle.gw_profile.specs.Seen.{sub as seen_sub, profile_value};
 ghost use Rattle.gw_check.specs.Elements as spec;
-ghost use Rattle.gw_check.specs.Elements.{items_all};
+ghost use Rattle.gw_leaves.specs.Leaves.{is_short};
+ghost use Rattle.gw_leaves.specs.Texts.{items_all};
 
+use gw_leaves::values_of;
 use gw_maplang::Table as Rows;
 use gw_profile::{Count, Profile, SubShape, Table, measure};
 
 fn is_short(count: Count, len: Option<u32>, text: &[u8]) -> bool
-    ensures { result ≡ spec.is_short count len text.now }
+    ensures { result ≡ is_short count len text.now }
 {
     match len {
         None => true,
         Some(most) => measure(count, text) <= u64::from(most),
-    }
-}
-
-// The values of the table of this name.
-fn values_of<'a>(profile: &'a Profile, name: &[u8]) -> &'a [Vec<u8>]
-    ensures { items_all result.now ≡ spec.values_of profile.now.tables name.now }
-{
-    match profile.table(name) {
-        None => &[],
-        Some(table) => table.values(),
     }
 }
 
@@ -63,7 +55,7 @@ fn first_untaken<'a>(
     all: &'a [Vec<u8>],
     taker: Taker<'_>,
 ) -> Option<&'a [u8]>
-    ensures { now result ≡ find (λ text. spec.is_short count len text && not (spec.takes taker.entry text)) (items_all all.now) }
+    ensures { now result ≡ find (λ text. is_short count len text && not (spec.takes taker.entry text)) (items_all all.now) }
 {
     for text in all {
         if is_short(count, len, text) && !takes(taker, text) {

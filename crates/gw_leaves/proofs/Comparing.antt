@@ -44,10 +44,6 @@ module _ (to : Count) (values : List (List ℕ)) where
   nothing_more false true = refl
   nothing_more false false = refl
 
-  -- nothing is given, or what is in the table
-  pub none_added : (lengths : Lengths) (size : ℕ) → Adds to values lengths lengths size None
-  none_added lengths size len most = nothing_more (some_length len most lengths) (fits len size)
-
   outside : (most : Option ℕ) (text : List ℕ) (b : Bool) → not (is_among text values) ≡ b → is_outside to values most text ≡ (b && exceeds most (measure to text))
   outside None text b e = e ∙ sym (and-true b)
   outside (Some most) text b e = ap (λ c. c && nat_lt most (measure to text)) e
@@ -133,10 +129,7 @@ module _ (s : ContextValue) (name : Option (List ℕ)) where
   abbrev asked : List (List ℕ)
   asked = values_named s.target.tables name
 
-  -- where no table lists texts, or their rows aren't there
-  pub nothing_compared : AreCompared s None None name []
-  nothing_compared len most = refl
-
+  -- where the rows aren't there
   pub no_table : (rows : List ℕ) (table : Option (List ℕ)) → rows_named s.map.tables rows ≡ no_rows → AreCompared s (Some rows) table name []
   no_table rows None e len most = sym (ap (λ r. list_any (is_outside_named s name most) (map (λ (q : Row). q.second) r.rows ++ option_to_list r.other)) e)
   no_table rows (Some table) e len most =

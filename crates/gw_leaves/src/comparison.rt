@@ -55,8 +55,8 @@ pub(crate) fn some_length(lengths: &[(u64, u64)], len: Option<u32>, most: Option
 
 // ---- what is found
 
-/// The values of the table of this name.
-pub(crate) fn values_of<'a>(source: &'a Profile, name: &[u8]) -> &'a [Vec<u8>]
+/// The values of the source's table of this name, none where it has no such table. It takes no memory.
+pub fn values_of<'a>(source: &'a Profile, name: &[u8]) -> &'a [Vec<u8>]
     ensures { items_all result.now ≡ unwrap_or (table_in name.now source.now.tables) [] }
 {
     match source.table(name) {

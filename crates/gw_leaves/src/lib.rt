@@ -22,6 +22,7 @@ mod sources;
 mod texts;
 mod values;
 
+pub use comparison::values_of;
 pub use context::MapContext;
 pub use count::rule_count;
 pub use known::rule_of;

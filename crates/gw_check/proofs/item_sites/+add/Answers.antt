@@ -1,53 +1,24 @@
 use Rattle.std.proofs.Common.{ap, ◌∙◌}
 use Rattle.gw_resolve.specs.Positions.{positions}
-use Rattle.gw_check.proofs.Adding.{failed, group_made, flat_made, item_made}
-use Rattle.gw_check.proofs.Collecting.{on_ok}
+use Rattle.gw_check.proofs.Adding.{group_made, flat_made, item_made}
 use Rattle.gw_check.proofs.item_sites.+add.Goals as goal
 
-pub add_item-returns-in_ok-within-in-Group : goal.add_item-returns-in_ok-within-in-Group
-add_item-returns-in_ok-within-in-Group t c = λ tables.
-    on_ok c.add_items.result _ _
-    (group_made tables (positions c.args.scope.now) c.args.above.now (positions c.deref-in-Group-2.result.now) c.deref-in-Group.result.now c.deref-in-Group-3.result.now c.args.item.now c.in-Group.group c.deref-in-Group-4.result.now
+pub add_item-returns-in_ok-add_items-in-Group : goal.add_item-returns-in_ok-add_items-in-Group
+add_item-returns-in_ok-add_items-in-Group t c = λ tables.
+    group_made tables (positions c.args.scope.now) c.args.above.now (positions c.deref-in-Group-2.result.now) c.deref-in-Group.result.now c.deref-in-Group-3.result.now c.args.item.now c.in-Group.group c.deref-in-Group-4.result.now
     c.args.sites.now.items c.add_node.new.sites.items c.add_items.new.sites.items c.in-Group.is c.deref-in-Group-4.ensures.value
     (ap positions c.deref-in-Group-2.ensures.value ∙ c.in_ok-within-in-Group.ensures)
     (c.deref-in-Group.ensures.value ∙ c.in_ok-at-in-Group.ensures) (c.deref-in-Group-3.ensures.value ∙ c.in_ok-at-in-Group.ensures)
-    (c.in_ok-add_node-in-Group.ensures tables))
-    (c.add_items.ensures tables)
+    (c.in_ok-add_node-in-Group.ensures tables) (c.in_ok-add_items-in-Group.ensures tables)
 
-pub add_item-returns-in_ok-within-in-Flat : goal.add_item-returns-in_ok-within-in-Flat
-add_item-returns-in_ok-within-in-Flat t c = λ tables.
-    on_ok c.add_items-in-Flat.result _ _
-    (flat_made tables (positions c.args.scope.now) c.args.above.now (positions c.deref-in-Flat-3.result.now) c.deref-in-Flat-2.result.now c.args.item.now c.in-Flat.flat c.deref-in-Flat-4.result.now c.deref-in-Flat.result.now
+pub add_item-returns-in_ok-add_items-in-Flat : goal.add_item-returns-in_ok-add_items-in-Flat
+add_item-returns-in_ok-add_items-in-Flat t c = λ tables.
+    flat_made tables (positions c.args.scope.now) c.args.above.now (positions c.deref-in-Flat-3.result.now) c.deref-in-Flat-2.result.now c.args.item.now c.in-Flat.flat c.deref-in-Flat-4.result.now c.deref-in-Flat.result.now
     c.args.sites.now.items c.add_node-in-Flat.new.sites.items c.add_items-in-Flat.new.sites.items c.in-Flat.is c.deref-in-Flat-4.ensures.value c.deref-in-Flat.ensures.value
     (ap positions c.deref-in-Flat-3.ensures.value ∙ c.in_ok-within-in-Flat.ensures)
     (c.deref-in-Flat-2.ensures.value ∙ c.in_ok-at-in-Flat.ensures tables)
-    (c.in_ok-add_node-in-Flat.ensures tables))
-    (c.add_items-in-Flat.ensures tables)
+    (c.in_ok-add_node-in-Flat.ensures tables) (c.in_ok-add_items-in-Flat.ensures tables)
 
 pub add_items-loop-item-preserved : goal.add_items-loop-item-preserved
 add_items-loop-item-preserved t c = λ tables.
-    item_made tables (positions c.args.scope.now) c.args.above.now c.args.items.now c.loop-item.item-index c.item-item.result c.args.sites.now.items c.loop-item.sites.items c.add_item.new.sites.items c.loop-item-test.true c.item-item.is (c.in_ok-add_item.ensures tables) (c.loop-item.invariant tables)
-
-pub add_item-returns-in_err-add_node-in-Flat : goal.add_item-returns-in_err-add_node-in-Flat
-add_item-returns-in_err-add_node-in-Flat t c = λ tables. failed _ _ c.from_residual-in_err-add_node-in-Flat.ensures.0
-
-pub add_item-returns-in_err-add_node-in-Group : goal.add_item-returns-in_err-add_node-in-Group
-add_item-returns-in_err-add_node-in-Group t c = λ tables. failed _ _ c.from_residual-in_err-add_node-in-Group.ensures.0
-
-pub add_item-returns-in_err-at-in-Flat : goal.add_item-returns-in_err-at-in-Flat
-add_item-returns-in_err-at-in-Flat t c = λ tables. failed _ _ c.from_residual-in_err-at-in-Flat.ensures.0
-
-pub add_item-returns-in_err-at-in-Group : goal.add_item-returns-in_err-at-in-Group
-add_item-returns-in_err-at-in-Group t c = λ tables. failed _ _ c.from_residual-in_err-at-in-Group.ensures.0
-
-pub add_item-returns-in_err-at-in-Segment : goal.add_item-returns-in_err-at-in-Segment
-add_item-returns-in_err-at-in-Segment t c = λ tables. failed _ _ c.from_residual.ensures.0
-
-pub add_item-returns-in_err-within-in-Flat : goal.add_item-returns-in_err-within-in-Flat
-add_item-returns-in_err-within-in-Flat t c = λ tables. failed _ _ c.from_residual-in_err-within-in-Flat.ensures.0
-
-pub add_item-returns-in_err-within-in-Group : goal.add_item-returns-in_err-within-in-Group
-add_item-returns-in_err-within-in-Group t c = λ tables. failed _ _ c.from_residual-in_err-within-in-Group.ensures.0
-
-pub add_items-returns-in_err-add_item : goal.add_items-returns-in_err-add_item
-add_items-returns-in_err-add_item t c = λ tables. failed _ _ c.from_residual.ensures.0
+    item_made tables _ _ _ _ _ c.args.sites.now.items c.loop-item.sites.items c.add_item.new.sites.items c.loop-item-test.true c.item-item.is (c.in_ok-add_item.ensures tables) (c.loop-item.invariant tables)

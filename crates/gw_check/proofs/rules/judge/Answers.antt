@@ -1,8 +1,13 @@
-use Rattle.std.proofs.Common.{sym, ap, ◌∙◌, option_map}
+use Rattle.std.proofs.Common.{◌≡◌, List, [], ◌∷◌, None, refl, sym, ap, ◌∙◌, option_map}
 use Rattle.gw_check.specs.Checked.{least}
 use Rattle.gw_resolve.specs.Seen.{failure, failures}
-use Rattle.gw_check.proofs.Least.{none_least}
+use Rattle.gw_resolve.specs.declared.failure.Failure.{Failure}
 use Rattle.gw_check.proofs.rules.judge.Goals as goal
+
+-- where there is none, there are no failures
+none_least : (l : List Failure) → None ≡ least (failures l) → l ≡ []
+none_least [] e = refl
+none_least (f ∷ fs) e = absurd (cc)
 
 pub returns-in-Some : goal.returns-in-Some
 returns-in-Some c =

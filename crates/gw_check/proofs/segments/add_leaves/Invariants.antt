@@ -1,8 +1,8 @@
-use Rattle.std.proofs.Common.{◌≡◌, ◌++◌, drop, map, List}
-use Rattle.std.specs.Prelude.{flat_map}
+use Rattle.std.proofs.Common.{List}
 use Rattle.gw_maplang.specs.Shapes.{TableValue}
 use Rattle.gw_resolve.specs.Seen.{at_leaf}
 use Rattle.gw_resolve.specs.Positions.{positions}
+use Rattle.gw_leaves.proofs.Each.{Tells}
 use Rattle.gw_check.specs.Seen.{all_sites, some_reference}
 use Rattle.gw_check.specs.Sites.{leaf_sites}
 use Rattle.gw_check.proofs.segments.add_leaves.Given as goal
@@ -10,5 +10,4 @@ use Rattle.gw_check.proofs.segments.add_leaves.Given as goal
 abbrev pub invariant-loop-leaf : goal.invariant-loop-leaf
 invariant-loop-leaf l =
     (tables : List TableValue) →
-    all_sites tables l.initial.sites.items ++ flat_map (leaf_sites (positions l.scope) (some_reference l.walked) l.target.at.now l.target.field) (map (at_leaf tables) l.leaves)
-    ≡ all_sites tables l.sites.items ++ flat_map (leaf_sites (positions l.scope) (some_reference l.walked) l.target.at.now l.target.field) (map (at_leaf tables) (drop l.leaf-index l.leaves))
+    Tells (leaf_sites (positions l.scope) (some_reference l.walked) l.target.at.now l.target.field) (at_leaf tables) (all_sites tables l.initial.sites.items) (all_sites tables l.sites.items) l.leaf-index l.leaves

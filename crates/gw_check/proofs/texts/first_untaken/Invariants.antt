@@ -1,6 +1,8 @@
 use Rattle.std.proofs.Common.{◌≡◌, drop}
 use Rattle.std.specs.Prelude.{◌&&◌, not, find}
-use Rattle.gw_check.specs.Elements.{is_short, takes, items_all}
+use Rattle.gw_leaves.specs.Leaves.{is_short}
+use Rattle.gw_leaves.specs.Texts.{items_all}
+use Rattle.gw_check.specs.Elements.{takes}
 use Rattle.gw_check.proofs.texts.first_untaken.Given as goal
 
 abbrev pub invariant-loop-text : goal.invariant-loop-text
