@@ -14,6 +14,6 @@ returns c = record {
       (λ i. segment_item (record { line = c.args.made.now.line; child = c.in_ok-aimed.ensures.child i; place = None; rules = c.in_ok-rules.ensures.made tables i })
       (spec.resolved_items tables (walked c.args.scope.now) (nodes_in c.args.level) rest));
   node = c.segment.ensures.node ∙ c.in_ok-aimed.ensures.node ∙ ap (spec.node_or c.args.j (nodes_in c.args.level)) c.deref.ensures.value;
-  paths = rules_paths (failures c.args.lost.now.paths.items) _ _ _ _ c.deref-2.ensures.value c.in_ok-rules.ensures.failures;
+  paths = rules_paths (failures c.args.lost.now.paths.items) (walked c.args.scope.now) _ _ _ c.deref-2.ensures.value c.in_ok-rules.ensures.failures;
   targets = label_targets (failures c.args.lost.now.targets.items) _ _ _ _ _ _ c.deref.ensures.value c.in_ok-aimed.ensures.failures;
 }
