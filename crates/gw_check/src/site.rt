@@ -24,6 +24,8 @@ pub enum Origin {
     Repeated(ElementPath),
     /// What the table of this name gives for an element of the source.
     LookedUp(Vec<u8>, ElementPath),
+    /// The first digits, as many as said, of an element of the source.
+    Dated(u32, ElementPath),
 }
 
 /// The element of the target that a line makes, and of what.

@@ -1,4 +1,5 @@
-use Rattle.std.proofs.Common.{sym, subst, map}
+use Rattle.std.proofs.Common.{Some, None, sym, subst, map}
+use Rattle.gw_maplang.specs.Seen.{condition, condition_some}
 use Rattle.gw_resolve.specs.Resolved.{repeat, build}
 use Rattle.gw_resolve.specs.Seen.{reference, at_leaf, making}
 use Rattle.gw_interp.specs.own.Making.{seen_from, MayMakeBy, IsMadeBy}
@@ -25,12 +26,21 @@ returns-in-First c =
     (subst (λ m. IsMadeBy (seen_from c.args.scope.now) (making c.args.rows.now.tables m) c.args.rule.now.field c.args.builder.now c.make_first.new.builder) (sym c.in-First.is))
     c.make_first.ensures
 
-pub returns-in-Repeat : goal.returns-in-Repeat
-returns-in-Repeat c =
+pub returns-in-None : goal.returns-in-None
+returns-in-None c =
     on_ok _ _ c.make_repeat.result
     (λ made. subst (λ m. IsMadeBy (seen_from c.args.scope.now) (making c.args.rows.now.tables m) c.args.rule.now.field c.args.builder.now c.make_repeat.new.builder) (sym c.in-Repeat.is)
-    (subst (λ l. IsMadeBy (seen_from c.args.scope.now) (repeat (reference c.in-Repeat.from) (map (at_leaf c.args.rows.now.tables) l)) c.args.rule.now.field c.args.builder.now c.make_repeat.new.builder) c.deref.ensures.value made))
+    (subst (λ o. IsMadeBy (seen_from c.args.scope.now) (repeat (reference c.in-Repeat.from) (condition_some o) (map (at_leaf c.args.rows.now.tables) c.in-Repeat.leaves.items)) c.args.rule.now.field c.args.builder.now c.make_repeat.new.builder) (sym c.in-None.is)
+    (subst (λ l. IsMadeBy (seen_from c.args.scope.now) (repeat (reference c.in-Repeat.from) None (map (at_leaf c.args.rows.now.tables) l)) c.args.rule.now.field c.args.builder.now c.make_repeat.new.builder) c.deref.ensures.value made)))
     c.make_repeat.ensures
+
+pub returns-in-Some : goal.returns-in-Some
+returns-in-Some c =
+    on_ok _ _ c.make_chosen.result
+    (λ made. subst (λ m. IsMadeBy (seen_from c.args.scope.now) (making c.args.rows.now.tables m) c.args.rule.now.field c.args.builder.now c.make_chosen.new.builder) (sym c.in-Repeat.is)
+    (subst (λ o. IsMadeBy (seen_from c.args.scope.now) (repeat (reference c.in-Repeat.from) (condition_some o) (map (at_leaf c.args.rows.now.tables) c.in-Repeat.leaves.items)) c.args.rule.now.field c.args.builder.now c.make_chosen.new.builder) (sym c.in-Some.is)
+    (subst (λ l. IsMadeBy (seen_from c.args.scope.now) (repeat (reference c.in-Repeat.from) (Some (condition c.in-Some.condition)) (map (at_leaf c.args.rows.now.tables) l)) c.args.rule.now.field c.args.builder.now c.make_chosen.new.builder) c.deref-in-Some.ensures.value made)))
+    c.make_chosen.ensures
 
 pub returns-in-Build : goal.returns-in-Build
 returns-in-Build c =
