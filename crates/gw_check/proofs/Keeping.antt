@@ -103,6 +103,7 @@ leaf_kept : (tables : List TableValue) (names : List (List ℕ)) (scope : List E
 leaf_kept tables names scope repeated (raw.Const value) t h = h
 leaf_kept tables names scope repeated (raw.Copy ref) t h = source_kept scope repeated ref h
 leaf_kept tables names scope repeated (raw.Lookup table ref) t h = (row_of_one tables table t, source_kept scope repeated ref h.1)
+leaf_kept tables names scope repeated (raw.Date digits ref) t h = source_kept scope repeated ref h.1
 
 at_kept : (tables : List TableValue) (names : List (List ℕ)) (scope : List Element) (repeated : Bool) (ls : List raw.LeafValue) → AllByRecursion theirs.LawfulTable tables → AllByRecursion (theirs.LawfulLeafValue names repeated) ls → AllByRecursion (LawfulAt repeated) (map (at_leaf tables scope) ls)
 at_kept tables names scope repeated [] t h = tt
@@ -117,8 +118,8 @@ leaves_kept tables names scope repeated ls t h = record { each = at_kept tables 
 
 making_kept : (tables : List TableValue) (names : List (List ℕ)) (scope : List Element) (m : raw.Making) → AllByRecursion theirs.LawfulTable tables → theirs.LawfulMaking names m → LawfulMaking (making tables scope m)
 making_kept tables names scope (raw.Copies from) t h = tt
-making_kept tables names scope (raw.Firsts from) t h = tt
-making_kept tables names scope (raw.Repeats from ls) t h = leaves_kept tables names scope true ls t h.1
+making_kept tables names scope (raw.Firsts from c) t h = tt
+making_kept tables names scope (raw.Repeats from c ls) t h = leaves_kept tables names scope true ls t h.2
 making_kept tables names scope (raw.Builds ls) t h = leaves_kept tables names scope false ls t h
 
 -- ---- rules

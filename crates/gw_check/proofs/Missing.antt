@@ -30,6 +30,7 @@ any_tables tables (s ∷ more) at n = ap₂ (λ a b. a || b) (by s.origin) (any_
     by (origins.TheVariants.Read from) = refl
     by (origins.TheVariants.Repeated from) = refl
     by (origins.TheVariants.LookedUp name from) = refl
+    by (origins.TheVariants.Dated digits from) = refl
 
 -- none were found before
 pub missed_fields : (tables : List TableValue) (items : Items) (made : List declared.Site) (drops : List Drop) (known : Accounted) (nodes : Forest) (none found : List FieldAt) → Accounts known (all_sites [] made) drops → all_sites tables made ≡ sites items → none ≡ [] →

@@ -7,7 +7,7 @@ use Rattle.gw_profile.specs.Shapes.{FieldValue, SegmentValue, Forest, nothing, s
 use Rattle.gw_validate.specs.Breaches.{is_forbidden}
 use Rattle.gw_resolve.specs.Positions.{Position}
 use Rattle.gw_resolve.specs.Resolved.{Items, Drop}
-use Rattle.gw_check.specs.Sites.{Origin, unsaid, text, read, repeated, given, Site, sites}
+use Rattle.gw_check.specs.Sites.{Origin, unsaid, text, read, repeated, given, cut, Site, sites}
 
 -- a field of the segment at a position
 pub record SourceField : Type 0 where
@@ -27,6 +27,7 @@ reads (text octets) at field = false
 reads (read from) at field = is_field from.at from.field at field
 reads (repeated from) at field = is_field from.at from.field at field
 reads (given rows from) at field = is_field from.at from.field at field
+reads (cut digits from) at field = is_field from.at from.field at field
 
 abbrev pub is_read : List Site → Position → ℕ → Bool
 is_read made at field = list_any (λ s. reads s.origin at field) made

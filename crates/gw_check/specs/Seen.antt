@@ -7,7 +7,7 @@ use Rattle.gw_resolve.specs.Resolved.{Reference, SegmentItem}
 use Rattle.gw_resolve.specs.Seen.{reference, place, rule}
 use Rattle.gw_resolve.specs.declared.resolved.SegmentItem as segments
 use Rattle.gw_resolve.specs.declared.resolved.Reference as references
-use Rattle.gw_check.specs.Sites.{Spot, Origin, unsaid, text, read, repeated, given, Site, site_of}
+use Rattle.gw_check.specs.Sites.{Spot, Origin, unsaid, text, read, repeated, given, cut, Site, site_of}
 use Rattle.gw_check.specs.declared.segments.Target.{Target}
 use Rattle.gw_check.specs.declared.site.ElementPath as spots
 use Rattle.gw_check.specs.declared.site.Origin as origins
@@ -26,6 +26,7 @@ origin tables (origins.TheVariants.Text octets) = text octets.items
 origin tables (origins.TheVariants.Read from) = read (spot from)
 origin tables (origins.TheVariants.Repeated from) = repeated (spot from)
 origin tables (origins.TheVariants.LookedUp name from) = given (rows_of tables name.items) (spot from)
+origin tables (origins.TheVariants.Dated digits from) = cut digits (spot from)
 
 -- the origin that was made, if any, whatever the map's tables are
 abbrev pub OriginIs : {E : Type 0} → Result origins.Origin E → (List TableValue → Origin) → Type 0

@@ -2,7 +2,7 @@
 use Rattle.std.specs.Prelude.{ℕ, ◌==◌, List, [], ◌∷◌, ◌++◌, flat_map, find, Option, Some, None, option_to_list}
 use Rattle.gw_maplang.specs.Shapes.{Rows}
 use Rattle.gw_resolve.specs.Places.{Place}
-use Rattle.gw_resolve.specs.Resolved.{Reference, Source, of_field, of_current, Leaf, const, copied, looked_up, At, Making, copy, first, repeat, build, Rule, SegmentItem, Items, no_items, segment_item, group_item, flat_item, first_child}
+use Rattle.gw_resolve.specs.Resolved.{Reference, Source, of_field, of_current, Leaf, const, copied, looked_up, dated, At, Making, copy, first, repeat, build, Rule, SegmentItem, Items, no_items, segment_item, group_item, flat_item, first_child}
 use Rattle.gw_resolve.specs.Positions.{Position, position, walked, inner, inner_if}
 
 -- An element of a profile: a node, by the numbers of the nodes from the top on, or in it a field, a component, a subcomponent; 0 is said where the whole is meant.
@@ -14,13 +14,15 @@ pub record Spot : Type 0 where
   pub comp : ℕ
   pub sub : ℕ
 
--- nothing that is named, a constant, an element of the source, a field of it that is repeated by leaves, or what the rows of a table give for an element
+-- nothing that is named, a constant, an element of the source, a field of it that is repeated by leaves, what the rows of a table give for an element,
+-- or so many of its first digits
 pub data Origin : Type 0 where
   unsaid : Origin
   text : (octets : List ℕ) → Origin
   read : (from : Spot) → Origin
   repeated : (from : Spot) → Origin
   given : (rows : Rows) (from : Spot) → Origin
+  cut : (digits : ℕ) (from : Spot) → Origin
 
 -- the element of the target that a line makes, and of what
 pub record Site : Type 0 where
@@ -50,6 +52,7 @@ abbrev pub leaf_origin : List Position → Option Reference → Leaf → Origin
 leaf_origin scope field (const octets) = text octets
 leaf_origin scope field (copied from) = read (source_spot scope field from)
 leaf_origin scope field (looked_up rows from) = given rows (source_spot scope field from)
+leaf_origin scope field (dated digits from) = cut digits (source_spot scope field from)
 
 -- the segment or group at a place
 abbrev pub node_origin : List Position → Place → Origin
@@ -64,8 +67,8 @@ leaf_sites scope around at field a = site_of a.line at field a.comp a.sub (leaf_
 -- leaves stand before their field: of a rule of one leaf in one line the leaf is named
 abbrev pub making_sites : List Position → Position → ℕ → ℕ → Making → List Site
 making_sites scope at line field (copy from) = site_of line at field 0 0 (read (spot_at scope from.place from.field 0 0)) ∷ []
-making_sites scope at line field (first from) = site_of line at field 0 0 (read (spot_at scope from.place from.field 0 0)) ∷ []
-making_sites scope at line field (repeat from leaves) = flat_map (leaf_sites scope (Some from) at field) leaves ++ (site_of line at field 0 0 (repeated (spot_at scope from.place from.field 0 0)) ∷ [])
+making_sites scope at line field (first from condition) = site_of line at field 0 0 (read (spot_at scope from.place from.field 0 0)) ∷ []
+making_sites scope at line field (repeat from condition leaves) = flat_map (leaf_sites scope (Some from) at field) leaves ++ (site_of line at field 0 0 (repeated (spot_at scope from.place from.field 0 0)) ∷ [])
 making_sites scope at line field (build leaves) = flat_map (leaf_sites scope None at field) leaves ++ (site_of line at field 0 0 unsaid ∷ [])
 
 abbrev pub rule_sites : List Position → Position → Rule → List Site

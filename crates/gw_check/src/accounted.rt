@@ -61,6 +61,7 @@ fn add_site(alloc: Global, known: &mut Accounted, site: &Site) -> Result<(), All
         Origin::Read(from) => add_field(alloc, known, &from.at, from.field),
         Origin::Repeated(from) => add_field(alloc, known, &from.at, from.field),
         Origin::LookedUp(_, from) => add_field(alloc, known, &from.at, from.field),
+        Origin::Dated(_, from) => add_field(alloc, known, &from.at, from.field),
     }
 }
 

@@ -99,5 +99,9 @@ pub(crate) fn leaf_origin(
             let from = source_path(alloc, scope, walked, from)?;
             Ok(Origin::LookedUp(name, from))
         }
+        ResolvedLeaf::Dated(digits, from) => {
+            let from = source_path(alloc, scope, walked, from)?;
+            Ok(Origin::Dated(*digits, from))
+        }
     }
 }

@@ -134,11 +134,11 @@ fn add_rule(
         part: LeafPlace { comp: 0, sub: 0 },
     };
     match &rule.making {
-        Making::Copy(from) | Making::First(from) => {
+        Making::Copy(from) | Making::First(from, _) => {
             add_read(alloc, sites, scope, line, field, &from.place, from.field)?;
             Ok(())
         }
-        Making::Repeat(from, leaves) => {
+        Making::Repeat(from, _, leaves) => {
             add_leaves(alloc, sites, scope, Some(from), field, leaves)?;
             add_repeated(alloc, sites, scope, line, field, from)?;
             Ok(())

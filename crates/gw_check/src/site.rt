@@ -24,6 +24,8 @@ pub enum Origin {
     Repeated(ElementPath),
     /// What the table of this name gives for an element of the source.
     LookedUp(Vec<u8>, ElementPath),
+    /// So many of the first digits of an element of the source.
+    Dated(u32, ElementPath),
 }
 
 /// The element of the target that a line makes, and of what.

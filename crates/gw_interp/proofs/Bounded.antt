@@ -8,7 +8,7 @@ use Rattle.std.specs.FinMap as texts
 use Rattle.std.specs.FinMap.{slice_cmp-IsAntisymmetric, nat_cmp-IsAntisymmetric}
 use Rattle.std.proofs.lemmas.Bool.Decides.{eqb_tells, leb_tells}
 use Rattle.gw_er7.specs.Message.{Texts, text_of}
-use Rattle.gw_er7.specs.Presence.{SubAt, CompAt, RepAt, FieldAt}
+use Rattle.gw_er7.specs.Presence.{SubAt, CompAt, RepAt}
 use Rattle.gw_interp.specs.Meaning.{IsFirst}
 
 abbrev pub Decided : Type 0 → Type 0
@@ -102,6 +102,3 @@ module _ (m : Texts) (f : ℕ) where
 
   pub rep_if : (r : ℕ) → Decided (RepAt m f r)
   rep_if r = some_if (CompAt m f r) (comp_if r) (suc (bound m)) (λ c at. let low = text_bounded m f r c at.0 at.1 in omega (arith, low))
-
-  pub first_rep_if : ((r : ℕ) × IsFirst (RepAt m f) r) ⊎ (FieldAt m f → ⊥)
-  first_rep_if = first_if (RepAt m f) rep_if (suc (bound m)) (λ r at. let low = text_bounded m f r at.0 at.1.0 at.1.1 in omega (arith, low))

@@ -14,7 +14,7 @@ use Rattle.gw_resolve.specs.Intervals.{Interval, never, is_sure, is_never, at_mo
 use Rattle.gw_resolve.specs.Places.{Known}
 use Rattle.gw_profile.specs.Numbered.{field_of}
 use Rattle.gw_leaves.specs.Counts.{repetitions, reference_count}
-use Rattle.gw_interp.specs.Meaning.{IsFirst, InFirst, Where}
+use Rattle.gw_interp.specs.Meaning.{IsFirst, InFirstOf, Where}
 use Rattle.gw_interp.proofs.Walks.{IsKnown}
 use Rattle.gw_interp.proofs.Shaped.{text_there}
 use Rattle.gw_interp.proofs.Held.{HasTables}
@@ -91,57 +91,57 @@ copy_counted m number source field same =
 
 -- ---- the first repetition
 
--- repetition 1 of a field has the texts of the first repetition of another that is there, and there is no more
-abbrev pub IsFirstOf : Texts → ℕ → Texts → ℕ → Type 0
-IsFirstOf m number source field = (rep comp sub : ℕ) → Where (rep ≡ 1) (InFirst source field comp sub) (text_of m number rep comp sub)
+-- repetition 1 of a field has the texts of the first of these repetitions of another, and there is no more
+abbrev pub IsFirstOf : Texts → ℕ → (ℕ → Type 0) → Texts → ℕ → Type 0
+IsFirstOf m number P source field = (rep comp sub : ℕ) → Where (rep ≡ 1) (InFirstOf P source field comp sub) (text_of m number rep comp sub)
 
-module _ (m : Texts) (number : ℕ) (source : Texts) (field : ℕ) (means : IsFirstOf m number source field) where
+module _ (m : Texts) (number : ℕ) (P : ℕ → Type 0) (source : Texts) (field : ℕ) (so : (r : ℕ) → P r → RepAt source field r) (means : IsFirstOf m number P source field) where
   pub first_only : (r : ℕ) → RepAt m number r → r ≡ 1
   first_only r at = by (means r at.0 at.1.0)
     where
-      by : Where (r ≡ 1) (InFirst source field at.0 at.1.0) (text_of m number r at.0 at.1.0) → r ≡ 1
+      by : Where (r ≡ 1) (InFirstOf P source field at.0 at.1.0) (text_of m number r at.0 at.1.0) → r ≡ 1
       by (inl h) = h.0
       by (inr h) = absurd (text_there _ at.1.1 h.1)
 
   -- a text of it is one of the other's first repetition
-  pub first_taken : (r c k : ℕ) → 0 < length (text_of m number r c k) → (q : ℕ) × IsFirst (RepAt source field) q × (text_of m number r c k ≡ text_of source field q c k)
+  pub first_taken : (r c k : ℕ) → 0 < length (text_of m number r c k) → (q : ℕ) × IsFirst P q × (text_of m number r c k ≡ text_of source field q c k)
   first_taken r c k lt = by (means r c k)
     where
-      inner : InFirst source field c k (text_of m number r c k) → (q : ℕ) × IsFirst (RepAt source field) q × (text_of m number r c k ≡ text_of source field q c k)
+      inner : InFirstOf P source field c k (text_of m number r c k) → (q : ℕ) × IsFirst P q × (text_of m number r c k ≡ text_of source field q c k)
       inner (inl h) = (h.0, h.1, h.2)
       inner (inr h) = absurd (text_there _ lt h.1)
 
-      by : Where (r ≡ 1) (InFirst source field c k) (text_of m number r c k) → (q : ℕ) × IsFirst (RepAt source field) q × (text_of m number r c k ≡ text_of source field q c k)
+      by : Where (r ≡ 1) (InFirstOf P source field c k) (text_of m number r c k) → (q : ℕ) × IsFirst P q × (text_of m number r c k ≡ text_of source field q c k)
       by (inl h) = inner h.1
       by (inr h) = absurd (text_there _ lt h.1)
 
   -- the texts of repetition 1, where there is a first repetition
-  pub first_text : (q : ℕ) → IsFirst (RepAt source field) q → (c k : ℕ) → text_of m number 1 c k ≡ text_of source field q c k
+  pub first_text : (q : ℕ) → IsFirst P q → (c k : ℕ) → text_of m number 1 c k ≡ text_of source field q c k
   first_text q is c k = by (means 1 c k)
     where
-      inner : InFirst source field c k (text_of m number 1 c k) → text_of m number 1 c k ≡ text_of source field q c k
-      inner (inl h) = h.2 ∙ ap (λ r. text_of source field r c k) (first_once (RepAt source field) h.0 q h.1 is)
+      inner : InFirstOf P source field c k (text_of m number 1 c k) → text_of m number 1 c k ≡ text_of source field q c k
+      inner (inl h) = h.2 ∙ ap (λ r. text_of source field r c k) (first_once P h.0 q h.1 is)
       inner (inr h) = absurd (h.0 (q, is.holds))
 
-      by : Where (◌≡◌ {A = ℕ} 1 1) (InFirst source field c k) (text_of m number 1 c k) → text_of m number 1 c k ≡ text_of source field q c k
+      by : Where (◌≡◌ {A = ℕ} 1 1) (InFirstOf P source field c k) (text_of m number 1 c k) → text_of m number 1 c k ≡ text_of source field q c k
       by (inl h) = inner h.1
       by (inr h) = absurd (h.0 refl)
 
-  first_given : (r : ℕ) → RepAt source field r → (RepAt m number 1 → ⊥) → ⊥
-  first_given r at none =
-      first_exists (RepAt source field) r at
-      (λ q is. none (is.holds.0, (is.holds.1.0, subst (λ text. 0 < length text) (sym (first_text q is is.holds.0 is.holds.1.0)) is.holds.1.1)))
+  first_given : (r : ℕ) → P r → (RepAt m number 1 → ⊥) → ⊥
+  first_given r p none =
+      first_exists P r p
+      (λ q is. let at = so q is.holds in none (at.0, (at.1.0, subst (λ text. 0 < length text) (sym (first_text q is at.0 at.1.0)) at.1.1)))
 
-  pub first_counted : (i : Interval) → IsCounted (RepAt source field) i → IsCounted (RepAt m number) (at_most_one i)
+  pub first_counted : (i : Interval) → IsCounted P i → IsCounted (RepAt m number) (at_most_one i)
   first_counted i is = by i.greatest refl
     where
       there : 1 ≤ min i.least 1 → (RepAt m number 1 → ⊥) → ⊥
-      there le none = is.enough 0 0 (last_none (RepAt source field) (λ r at. first_given r at none)) refl (omega (arith, le))
+      there le none = is.enough 0 0 (last_none P (λ r p. first_given r p none)) refl (omega (arith, le))
 
       gone : (g : ℕ) → i.greatest ≡ Some g → min g 1 ≡ 0 → RepAt m number 1 → ⊥
       gone g e z at =
           let taken = first_taken 1 at.0 at.1.0 at.1.1 in
-          counted_never (RepAt source field) i is (e ∙ ap Some (let zero_is : g ≡ 0 = omega (arith, z) in zero_is)) taken.0 taken.1.holds
+          counted_never P i is (e ∙ ap Some (let zero_is : g ≡ 0 = omega (arith, z) in zero_is)) taken.0 taken.1.holds
 
       by : (o : Option ℕ) → i.greatest ≡ o → IsCounted (RepAt m number) (at_most_one (record { least = i.least; greatest = o }))
       by None e = single (RepAt m number) (min i.least 1) 1 first_only there (omega arith) (λ z at. omega (arith, z))

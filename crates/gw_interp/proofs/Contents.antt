@@ -52,13 +52,13 @@ pub record IsCopied (m : Texts) (number : ℕ) (source : Texts) (field r : ℕ) 
 pub copied_whole : (m : Texts) (number : ℕ) (source : Texts) (field : ℕ) → IsCopy m number source field → (r : ℕ) → RepAt m number r → IsCopied m number source field r
 copied_whole m number source field same r at = record { rep = r; there = copy_rep m number source field same r at; texts = λ c k. same r c k }
 
-pub copied_first : (m : Texts) (number : ℕ) (source : Texts) (field : ℕ) → IsFirstOf m number source field → (r : ℕ) → RepAt m number r → IsCopied m number source field r
-copied_first m number source field means r at =
-    let taken = first_taken m number source field means r at.0 at.1.0 at.1.1 in
+pub copied_first : (m : Texts) (number : ℕ) (P : ℕ → Type 0) (source : Texts) (field : ℕ) → ((r : ℕ) → P r → RepAt source field r) → IsFirstOf m number P source field → (r : ℕ) → RepAt m number r → IsCopied m number source field r
+copied_first m number P source field so means r at =
+    let taken = first_taken m number P source field so means r at.0 at.1.0 at.1.1 in
     record {
       rep = taken.0;
-      there = taken.1.holds;
-      texts = λ c k. ap (λ i. text_of m number i c k) (first_only m number source field means r at) ∙ first_text m number source field means taken.0 taken.1 c k;
+      there = so taken.0 taken.1.holds;
+      texts = λ c k. ap (λ i. text_of m number i c k) (first_only m number P source field so means r at) ∙ first_text m number P source field so means taken.0 taken.1 c k;
     }
 
 module _ (names : List (List ℕ)) (from to : ProfileValue) (has : HasTables names from.tables) (m : Texts) (number : ℕ) (source : Texts) (field : ℕ) (o : Option FieldValue) (held : IsHeld names from source field o) (r : ℕ) (is : IsCopied m number source field r) (mark : Mark) where

@@ -6,17 +6,18 @@ use Rattle.std.proofs.lemmas.Bool.Decides.{eqb_tells, Decides-eqb}
 use Rattle.gw_er7.specs.Names.{IsName}
 use Rattle.gw_er7.specs.Message.{Texts, text_of, SegmentValue, first_field, IsEntry, IsSegment}
 use Rattle.gw_er7.specs.Presence.{RepAt}
-use Rattle.gw_resolve.specs.Resolved.{Source, of_field, of_current, Leaf, const, copied, looked_up, At, leaf_at, Making, copy, first, repeat, build, Rule, rule_of}
+use Rattle.gw_resolve.specs.Resolved.{Source, of_field, of_current, Leaf, const, copied, looked_up, dated, At, leaf_at, Making, copy, first, repeat, build, Rule, rule_of}
 use Rattle.gw_maplang.specs.Among.{Among}
-use Rattle.gw_maplang.specs.Shapes.{Rows}
+use Rattle.gw_maplang.specs.Shapes.{Rows, Condition}
 use Rattle.gw_interp.specs.Occurrences.{texts_at}
-use Rattle.gw_interp.specs.Meaning.{InFirst, Walked, SourceMeans, look_up, LeafMeans, AtMeans, Where, walking, MakingMeans, RuleMeans, IsImage}
+use Rattle.gw_interp.specs.Meaning.{IsNumber, InFirstOf, IsChosen, InNumber, Walked, SourceMeans, look_up, first_digits, LeafMeans, AtMeans, Where, walking, MakingMeans, RuleMeans, IsImage}
 use Rattle.gw_interp.specs.own.Sourced.{IsFault}
 use Rattle.gw_interp.specs.own.Ready.{NoFaults, NoFaultIn, MayImage}
 use Rattle.gw_interp.proofs.Lists.{found_test, found_all}
 use Rattle.gw_interp.proofs.Shaped.{text_there}
 use Rattle.gw_interp.proofs.Made.{comp_is, sub_is}
-use Rattle.gw_interp.proofs.Bounded.{Decided, bound, sum_of, found_bounded, text_bounded, rep_if, first_rep_if}
+use Rattle.gw_interp.proofs.Bounded.{Decided, bound, sum_of, found_bounded, text_bounded, rep_if}
+use Rattle.gw_interp.proofs.Chosen.{chosen_there, first_chosen_if, counted_low, HasNumber, chosen_number_if}
 use Rattle.gw_interp.proofs.Tabled.{places_to, among_places, tabled, tabled_name, tabled_text, tabled_segment}
 
 -- ---- there is a text
@@ -24,15 +25,15 @@ use Rattle.gw_interp.proofs.Tabled.{places_to, among_places, tabled, tabled_name
 abbrev Exists : (List ℕ → Type 0) → Type 0
 Exists P = (text : List ℕ) × P text
 
-first_text : (m : Texts) (field comp sub : ℕ) → Exists (InFirst m field comp sub)
-first_text m field comp sub =
-    elim (first_rep_if m field) [
+first_text : (chosen : Option Condition) (m : Texts) (field comp sub : ℕ) → Exists (InFirstOf (IsChosen chosen m field) m field comp sub)
+first_text chosen m field comp sub =
+    elim (first_chosen_if chosen m field) [
       | inl h ↦ (text_of m field h.0 comp sub, inl (h.0, h.1, refl))
       | inr n ↦ ([], inr (n, refl))
     ]
 
 source_text : (w : Walked) (source : Source) → Exists (SourceMeans w source)
-source_text w (of_field from comp sub) = first_text (texts_at w.message w.scope from.place) from.field comp sub
+source_text w (of_field from comp sub) = first_text None (texts_at w.message w.scope from.place) from.field comp sub
 source_text w (of_current comp sub) = (w.current comp sub, refl)
 
 looked_text : (w : Walked) (table : Rows) (source : Source) → (IsFault w (looked_up table source) → ⊥) → (from : List ℕ) → SourceMeans w source from → Exists (LeafMeans w (looked_up table source))
@@ -45,6 +46,7 @@ looked_text w table source sound from means = by (look_up table from) refl
 leaf_text : (w : Walked) (leaf : Leaf) → (IsFault w leaf → ⊥) → Exists (LeafMeans w leaf)
 leaf_text w (const value) sound = (value, refl)
 leaf_text w (copied source) sound = source_text w source
+leaf_text w (dated digits source) sound = let from = source_text w source in (first_digits digits from.0, (from.0, from.1, refl))
 leaf_text w (looked_up table source) sound = let from = source_text w source in looked_text w table source sound from.0 from.1
 
 at_text : (w : Walked) (leaves : List At) → NoFaults w leaves → (comp sub : ℕ) → Exists (AtMeans w (leaf_at leaves comp sub))
@@ -58,13 +60,20 @@ where_text : (here : Type 0) (means : List ℕ → Type 0) → Decided here → 
 where_text here means (inl h) some = let text = some h in (text.0, inl (h, text.1))
 where_text here means (inr n) some = ([], inr (n, refl))
 
+number_text : (P : ℕ → Type 0) (k : ℕ) (means : ℕ → List ℕ → Type 0) → Decided (HasNumber P k) → ((n : ℕ) → IsNumber P k n → Exists (means n)) → Exists (InNumber P k means)
+number_text P k means (inl h) some = let text = some h.0 h.1 in (text.0, inl (h.0, h.1, text.1))
+number_text P k means (inr n) some = ([], inr (n, refl))
+
 one_if : (rep : ℕ) → Decided (rep ≡ 1)
 one_if rep = elim (eqb_tells rep 1) [ inl e ↦ inl e.1 | inr e ↦ inr e.1 ]
 
 making_text : (w : Walked) (making : Making) → NoFaultIn w making → (r c k : ℕ) → Exists (MakingMeans w making r c k)
 making_text w (copy from) sound r c k = (text_of (texts_at w.message w.scope from.place) from.field r c k, refl)
-making_text w (first from) sound r c k = where_text (r ≡ 1) _ (one_if r) (λ h. first_text (texts_at w.message w.scope from.place) from.field c k)
-making_text w (repeat from leaves) sound r c k =
+making_text w (first from chosen) sound r c k = where_text (r ≡ 1) _ (one_if r) (λ h. first_text chosen (texts_at w.message w.scope from.place) from.field c k)
+making_text w (repeat from (Some chosen) leaves) sound r c k =
+    number_text (IsChosen (Some chosen) (texts_at w.message w.scope from.place) from.field) r (λ n. AtMeans (walking w from n) (leaf_at leaves c k)) (chosen_number_if chosen (texts_at w.message w.scope from.place) from.field r)
+    (λ n h. at_text (walking w from n) leaves (sound n (chosen_there (Some chosen) (texts_at w.message w.scope from.place) from.field n h.holds)) c k)
+making_text w (repeat from None leaves) sound r c k =
     where_text (RepAt (texts_at w.message w.scope from.place) from.field r) (AtMeans (walking w from r) (leaf_at leaves c k)) (rep_if (texts_at w.message w.scope from.place) from.field r) (λ h. at_text (walking w from r) leaves (sound r h) c k)
 making_text w (build leaves) sound r c k = where_text (r ≡ 1) (AtMeans w (leaf_at leaves c k)) (one_if r) (λ h. at_text w leaves sound c k)
 
@@ -91,25 +100,35 @@ at_bounded w leaves c k text means lt = by (leaf_at leaves c k) refl means
 
 abbrev making_bound : Walked → Making → ℕ
 making_bound w (copy from) = bound (texts_at w.message w.scope from.place)
-making_bound w (first from) = 1 + bound (texts_at w.message w.scope from.place)
-making_bound w (repeat from leaves) = bound (texts_at w.message w.scope from.place) + leaves_bound leaves
+making_bound w (first from chosen) = 1 + bound (texts_at w.message w.scope from.place)
+making_bound w (repeat from chosen leaves) = bound (texts_at w.message w.scope from.place) + leaves_bound leaves
 making_bound w (build leaves) = 1 + leaves_bound leaves
 
 making_bounded : (w : Walked) (making : Making) (r c k : ℕ) (text : List ℕ) → MakingMeans w making r c k text → 0 < length text → r + (c + k) ≤ making_bound w making
 making_bounded w (copy from) r c k text means lt =
     let low = text_bounded (texts_at w.message w.scope from.place) from.field r c k (subst (λ t. 0 < length t) means lt) in omega (arith, low)
-making_bounded w (first from) r c k text means lt = by means
+making_bounded w (first from chosen) r c k text means lt = by means
   where
-    inner : r ≡ 1 → InFirst (texts_at w.message w.scope from.place) from.field c k text → r + (c + k) ≤ making_bound w (first from)
+    inner : r ≡ 1 → InFirstOf (IsChosen chosen (texts_at w.message w.scope from.place) from.field) (texts_at w.message w.scope from.place) from.field c k text → r + (c + k) ≤ making_bound w (first from chosen)
     inner e (inl h) = let low = text_bounded (texts_at w.message w.scope from.place) from.field h.0 c k (subst (λ t. 0 < length t) h.2 lt) in omega (arith, e, low)
     inner e (inr h) = absurd (text_there text lt h.1)
 
-    by : Where (r ≡ 1) (InFirst (texts_at w.message w.scope from.place) from.field c k) text → r + (c + k) ≤ making_bound w (first from)
+    by : Where (r ≡ 1) (InFirstOf (IsChosen chosen (texts_at w.message w.scope from.place) from.field) (texts_at w.message w.scope from.place) from.field c k) text → r + (c + k) ≤ making_bound w (first from chosen)
     by (inl h) = inner h.0 h.1
     by (inr h) = absurd (text_there text lt h.1)
-making_bounded w (repeat from leaves) r c k text means lt = by means
+making_bounded w (repeat from (Some chosen) leaves) r c k text means lt = by means
   where
-    by : Where (RepAt (texts_at w.message w.scope from.place) from.field r) (AtMeans (walking w from r) (leaf_at leaves c k)) text → r + (c + k) ≤ making_bound w (repeat from leaves)
+    by : InNumber (IsChosen (Some chosen) (texts_at w.message w.scope from.place) from.field) r (λ n. AtMeans (walking w from n) (leaf_at leaves c k)) text → r + (c + k) ≤ making_bound w (repeat from (Some chosen) leaves)
+    by (inl h) =
+        let at = chosen_there (Some chosen) (texts_at w.message w.scope from.place) from.field h.0 h.1.holds in
+        let rep = text_bounded (texts_at w.message w.scope from.place) from.field h.0 at.0 at.1.0 at.1.1 in
+        let count = counted_low (IsChosen (Some chosen) (texts_at w.message w.scope from.place) from.field) h.0 r h.1.counted in
+        let low = at_bounded (walking w from h.0) leaves c k text h.2 lt in
+        omega (arith, rep, count, low)
+    by (inr h) = absurd (text_there text lt h.1)
+making_bounded w (repeat from None leaves) r c k text means lt = by means
+  where
+    by : Where (RepAt (texts_at w.message w.scope from.place) from.field r) (AtMeans (walking w from r) (leaf_at leaves c k)) text → r + (c + k) ≤ making_bound w (repeat from None leaves)
     by (inl h) =
         let rep = text_bounded (texts_at w.message w.scope from.place) from.field r h.0.0 h.0.1.0 h.0.1.1 in
         let low = at_bounded (walking w from r) leaves c k text h.1 lt in

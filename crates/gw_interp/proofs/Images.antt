@@ -1,28 +1,33 @@
 -- Each text that a map makes may stand at its place.
 use Rattle.std.proofs.Common.{◌≡◌, ℕ, zero, suc, ◌<◌, ◌≤◌, ◌⊎◌, inl, inr, Bool, true, false, List, [], ◌∷◌, Option, Some, None, refl, sym, ap, subst, arith, length}
-use Rattle.std.specs.Prelude.{◌==◌, ◌&&◌, unwrap_or, if◌then◌else◌}
-use Rattle.std.specs.List.{AllByRecursion}
+use Rattle.std.proofs.lemmas.Bool.Decides.{nat_tests}
+use Rattle.std.specs.Prelude.{◌==◌, ◌&&◌, nat_le, take, unwrap_or, if◌then◌else◌}
+use Rattle.std.specs.List.{AllByRecursion, list_all}
 use Rattle.std.specs.FinMap as texts
 use Rattle.std.specs.Ordering.{nat_cmp}
 use Rattle.std.specs.Cmp.Lexicographic.{slice_cmp}
 use Rattle.std.proofs.lemmas.Bool.Decides.{Decides-eqb}
 use Rattle.gw_er7.specs.Names.{is_header}
-use Rattle.gw_er7.specs.Text.{IsCanonical}
+use Rattle.gw_er7.specs.Text.{Plain, IsPlain, IsCanonical}
 use Rattle.gw_er7.specs.Message.{Texts, text_of, SegmentValue, first_field, IsEntry, IsSegment, IsOther, IsMessage}
 use Rattle.gw_er7.specs.Presence.{RepAt}
 use Rattle.gw_er7.proofs.Builds.{entry_at, canonical_of}
 use Rattle.gw_er7.proofs.Once.{get_kept}
+use Rattle.gw_lines.specs.Spelled.{is_digit}
 use Rattle.gw_lines.specs.Values.{is_value}
+use Rattle.gw_profile.proofs.Facts.{both, le_is}
+use Rattle.gw_validate.specs.Breaches.{is_null}
 use Rattle.gw_validate.specs.Conforming.{segment_at}
 use Rattle.gw_resolve.specs.Places.{Place}
-use Rattle.gw_resolve.specs.Resolved.{Source, of_field, of_current, Leaf, const, copied, looked_up, At, leaf_at, Making, copy, first, repeat, build, Rule, rule_of}
+use Rattle.gw_resolve.specs.Resolved.{Source, of_field, of_current, Leaf, const, copied, looked_up, dated, At, leaf_at, Making, copy, first, repeat, build, Rule, rule_of}
 use Rattle.gw_resolve.specs.Lawful.{LawfulSource, LawfulLeaf, LawfulAt, LawfulLeaves, LawfulMaking, LawfulRule, LawfulRules}
 use Rattle.gw_interp.specs.Occurrences.{Occurrence, a_segment, nodes, at_place, texts_of_first, texts_at}
-use Rattle.gw_interp.specs.Meaning.{InFirst, Walked, walking, SourceMeans, LeafMeans, AtMeans, Where, MakingMeans, RuleMeans, IsImage}
+use Rattle.gw_interp.specs.Meaning.{InFirst, InFirstOf, IsChosen, InNumber, Walked, walking, SourceMeans, first_digits, LeafMeans, AtMeans, Where, MakingMeans, RuleMeans, IsImage}
 use Rattle.gw_interp.proofs.Lists.{found_test, found_all}
 use Rattle.gw_interp.proofs.Shaped.{text_there}
 use Rattle.gw_interp.proofs.Leaves.{given_value, LooksUp, of_none, of_null, of_value, looks_up}
 use Rattle.gw_interp.proofs.Made.{comp_is, sub_is}
+use Rattle.gw_interp.proofs.Chosen.{chosen_there, number_positive}
 
 -- each text that isn't empty may stand at its place
 abbrev pub AreEntries : ℕ → Texts → Type 0
@@ -88,6 +93,31 @@ value_canonical : (text : List ℕ) → is_value text ≡ true → IsCanonical t
 value_canonical [] e = none_canonical
 value_canonical (b ∷ text) e = canonical_of (b ∷ text) e
 
+digit_plain : (b : ℕ) → is_digit b ≡ true → IsPlain b
+digit_plain b e =
+    let p = both (nat_le 48 b) (nat_le b 57) e in
+    let low : 48 ≤ b = le_is 48 b p.0 in
+    let high : b ≤ 57 = le_is b 57 p.1 in
+    record { range = (omega arith, λ lt. absurd (omega arith)); not_special = grind (arith, nat_tests) }
+
+digits_canonical : (text : List ℕ) → list_all is_digit text ≡ true → IsCanonical text
+digits_canonical [] e = none_canonical
+digits_canonical (b ∷ text) e =
+    let p = both (is_digit b) (list_all is_digit text) e in
+    let rest = digits_canonical text p.1 in
+    record { items = Plain b ∷ rest.items; whole = ap (λ (x : List ℕ). b ∷ x) rest.whole; each = (digit_plain b p.0, rest.each) }
+
+date_canonical : (digits : ℕ) (from : List ℕ) → IsCanonical from → IsCanonical (first_digits digits from)
+date_canonical digits from is = null (is_null from) refl
+  where
+    found : (b : Bool) → nat_le digits (length from) && list_all is_digit (take digits from) ≡ b → IsCanonical (if b then take digits from else [])
+    found true e = digits_canonical (take digits from) (both (nat_le digits (length from)) _ e).1
+    found false e = none_canonical
+
+    null : (b : Bool) → is_null from ≡ b → IsCanonical (if b then from else if nat_le digits (length from) && list_all is_digit (take digits from) then take digits from else [])
+    null true e = is
+    null false e = found (nat_le digits (length from) && list_all is_digit (take digits from)) refl
+
 module _ (w : Walked) (places : (place : Place) → AreEntries 1 (texts_at w.message w.scope place)) where
   first_canonical : (place : Place) (field comp sub : ℕ) (text : List ℕ) → InFirst (texts_at w.message w.scope place) field comp sub text → IsCanonical text
   first_canonical place field comp sub text (inl h) = subst IsCanonical (sym h.2) (text_canonical (texts_at w.message w.scope place) (places place) field h.0 comp sub)
@@ -102,6 +132,7 @@ module _ (w : Walked) (places : (place : Place) → AreEntries 1 (texts_at w.mes
     pub leaf_canonical : (leaf : Leaf) → LawfulLeaf repeated leaf → (text : List ℕ) → LeafMeans w leaf text → IsCanonical text
     leaf_canonical (const value) lawful text means = subst IsCanonical (sym means) (value_canonical value lawful)
     leaf_canonical (copied source) lawful text means = source_canonical source lawful text means
+    leaf_canonical (dated digits source) lawful text means = subst IsCanonical (sym means.2) (date_canonical digits means.0 (source_canonical source lawful means.0 means.1))
     leaf_canonical (looked_up table source) lawful text means = by (looks_up table means.0 text means.2)
       where
         by : LooksUp table means.0 text → IsCanonical text
@@ -138,18 +169,28 @@ module _ (w : Walked) (places : (place : Place) → AreEntries 1 (texts_at w.mes
   making_placed (copy from) lawful r c k text means lt =
       let entry = places from.place from.field r c k (subst (λ t. 0 < length t) means lt) in
       record { rep = entry.key.positive.1.0; comp = entry.key.positive.1.1.0; sub = entry.key.positive.1.1.1.0; canonical = subst IsCanonical (sym means) entry.text }
-  making_placed (first from) lawful r c k text means lt = by means
+  making_placed (first from chosen) lawful r c k text means lt = by means
     where
-      inner : r ≡ 1 → InFirst (texts_at w.message w.scope from.place) from.field c k text → IsPlaced r c k text
+      inner : r ≡ 1 → InFirstOf (IsChosen chosen (texts_at w.message w.scope from.place) from.field) (texts_at w.message w.scope from.place) from.field c k text → IsPlaced r c k text
       inner e (inl h) =
           let entry = places from.place from.field h.0 c k (subst (λ t. 0 < length t) h.2 lt) in
           record { rep = omega (arith, e); comp = entry.key.positive.1.1.0; sub = entry.key.positive.1.1.1.0; canonical = subst IsCanonical (sym h.2) entry.text }
       inner e (inr h) = absurd (text_there text lt h.1)
 
-      by : Where (r ≡ 1) (InFirst (texts_at w.message w.scope from.place) from.field c k) text → IsPlaced r c k text
+      by : Where (r ≡ 1) (InFirstOf (IsChosen chosen (texts_at w.message w.scope from.place) from.field) (texts_at w.message w.scope from.place) from.field c k) text → IsPlaced r c k text
       by (inl h) = inner h.0 h.1
       by (inr h) = absurd (text_there text lt h.1)
-  making_placed (repeat from leaves) lawful r c k text means lt = by means
+  making_placed (repeat from (Some chosen) leaves) lawful r c k text means lt = by means
+    where
+      by : InNumber (IsChosen (Some chosen) (texts_at w.message w.scope from.place) from.field) r (λ n. AtMeans (walking w from n) (leaf_at leaves c k)) text → IsPlaced r c k text
+      by (inl h) =
+          let source = texts_at w.message w.scope from.place in
+          let at = chosen_there (Some chosen) source from.field h.0 h.1.holds in
+          let entry = places from.place from.field h.0 at.0 at.1.0 at.1.1 in
+          let rep = number_positive (IsChosen (Some chosen) source from.field) h.0 r entry.key.positive.1.0 h.1.holds h.1.counted in
+          leaf_placed (walking w from h.0) places true (λ e comp sub. text_canonical source (places from.place) from.field h.0 comp sub) leaves lawful r c k rep text h.2 lt
+      by (inr h) = absurd (text_there text lt h.1)
+  making_placed (repeat from None leaves) lawful r c k text means lt = by means
     where
       by : Where (RepAt (texts_at w.message w.scope from.place) from.field r) (AtMeans (walking w from r) (leaf_at leaves c k)) text → IsPlaced r c k text
       by (inl h) =

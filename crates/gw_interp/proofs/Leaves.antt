@@ -1,25 +1,29 @@
 -- The text of a leaf is as its shape says, and no leaf is a fault.
-use Rattle.std.proofs.Common.{◌≡◌, ℕ, ◌⊎◌, inl, inr, Bool, true, false, List, [], ◌∷◌, map, Option, Some, None, refl, sym, ap, ◌∙◌, subst, IfSome}
-use Rattle.std.specs.Prelude.{◌||◌, not, filter_map, option_to_list, bytes_eq, if◌then◌else◌}
-use Rattle.std.specs.List.{AllByRecursion, cons_option}
+use Rattle.std.proofs.Common.{◌≡◌, ℕ, zero, suc, ◌≤◌, ◌⊎◌, inl, inr, Bool, true, false, List, [], ◌∷◌, map, length, Option, Some, None, refl, sym, ap, ◌∙◌, subst, arith, IfSome}
+use Rattle.std.specs.Prelude.{◌&&◌, ◌||◌, not, nat_le, take, filter_map, option_to_list, bytes_eq, if◌then◌else◌}
+use Rattle.std.specs.List.{AllByRecursion, cons_option, list_all}
+use Rattle.std.proofs.lemmas.List.{length-take-le}
 use Rattle.gw_er7.specs.Message.{text_of}
 use Rattle.gw_er7.specs.Presence.{RepAt}
+use Rattle.gw_lines.specs.Spelled.{is_digit}
 use Rattle.gw_lines.specs.Values.{is_value}
 use Rattle.gw_profile.specs.Among.{Among}
 use Rattle.gw_profile.specs.Shapes.{FieldValue}
 use Rattle.gw_profile.proofs.Among.{among_append}
-use Rattle.gw_profile.proofs.Facts.{neither, both_false}
+use Rattle.gw_profile.proofs.Facts.{both, neither, both_false, no_clash, le_is, le_test}
 use Rattle.gw_validate.specs.Breaches.{is_null}
 use Rattle.gw_maplang.specs.Shapes.{Row, Rows, second_of}
 use Rattle.gw_maplang.specs.Lawful.{LawfulRow}
 use Rattle.gw_resolve.specs.Places.{known}
-use Rattle.gw_resolve.specs.Resolved.{Reference, Source, Leaf, const, copied, looked_up, At, Making, copy, first, repeat, build, Rule}
-use Rattle.gw_leaves.specs.Leaves.{Values, any, listed, IsOf, Sources, at_field, or_otherwise, given, given_values, has_no_row, source_shape, leaf_shape}
+use Rattle.gw_resolve.specs.Resolved.{Reference, Source, Leaf, const, copied, looked_up, dated, At, Making, copy, first, repeat, build, Rule}
+use Rattle.gw_leaves.specs.declared.shape.Presence.{Presence}
+use Rattle.gw_leaves.specs.declared.shape.Presence.TheVariants.{Always, Maybe, Never}
+use Rattle.gw_leaves.specs.Leaves.{Values, any, listed, IsOf, Sources, at_field, or_otherwise, given, given_values, has_no_row, source_shape, is_always, is_absent, perhaps, leaf_shape}
 use Rattle.gw_leaves.specs.Counts as counts
 use Rattle.gw_leaves.specs.Components.{lookup_failures, rule_lookups}
 use Rattle.gw_resolve.specs.Lawful.{LawfulRows, LawfulLeaf}
 use Rattle.gw_interp.specs.Occurrences.{texts_at}
-use Rattle.gw_interp.specs.Meaning.{Walked, SourceMeans, LeafMeans, look_up, walking}
+use Rattle.gw_interp.specs.Meaning.{Walked, SourceMeans, LeafMeans, look_up, first_digits, walking}
 use Rattle.gw_interp.specs.own.Sourced.{IsFault}
 use Rattle.gw_interp.specs.own.Ready.{NoFaultIn}
 use Rattle.gw_interp.proofs.Walks.{IsCurrent, IsWalked}
@@ -108,6 +112,33 @@ looks_up table (b ∷ bytes) text e = by (is_null (b ∷ bytes)) refl e
     by true f e = let same : text ≡ b ∷ bytes = cc in of_null (ap is_null same ∙ f) same
     by false f e = of_value f (λ g. cc) e
 
+-- ---- dates
+
+none_dated : (digits : ℕ) → first_digits digits [] ≡ []
+none_dated zero = refl
+none_dated (suc digits) = refl
+
+date_short : (digits : ℕ) (from : List ℕ) → is_null (first_digits digits from) ≡ false → nat_le (length (first_digits digits from)) digits ≡ true
+date_short digits from = null (is_null from) refl
+  where
+    found : (b : Bool) → nat_le digits (length from) && list_all is_digit (take digits from) ≡ b → nat_le (length (if b then take digits from else [])) digits ≡ true
+    found true e = le_test _ digits (subst (λ n. n ≤ digits) (sym (length-take-le digits from (le_is digits (length from) (both (nat_le digits (length from)) _ e).0))) (omega arith))
+    found false e = le_test 0 digits (omega arith)
+
+    null : (b : Bool) → is_null from ≡ b → is_null (if b then from else if nat_le digits (length from) && list_all is_digit (take digits from) then take digits from else []) ≡ false → nat_le (length (if b then from else if nat_le digits (length from) && list_all is_digit (take digits from) then take digits from else [])) digits ≡ true
+    null true e other = absurd (no_clash (sym e ∙ other))
+    null false e other = found (nat_le digits (length from) && list_all is_digit (take digits from)) refl
+
+never_sure : (p : Presence) → is_always (perhaps p) ≡ true → ⊥
+never_sure Always e = absurd (cc)
+never_sure Maybe e = absurd (cc)
+never_sure Never e = absurd (cc)
+
+still_absent : (p : Presence) → is_absent (perhaps p) ≡ true → is_absent p ≡ true
+still_absent Always e = absurd (cc)
+still_absent Maybe e = absurd (cc)
+still_absent Never e = refl
+
 -- ---- leaves
 
 module _ (names : List (List ℕ)) (s : Sources) (w : Walked) (has : HasTables names s.profile.tables) (is : IsWalked names s w) where
@@ -143,6 +174,13 @@ module _ (names : List (List ℕ)) (s : Sources) (w : Walked) (has : HasTables n
   }
   leaf_shaped repeated (copied source) text lawful means = source_shaped names s w has is source text means
   leaf_shaped repeated (looked_up table source) text lawful means = looked_shaped table source text means.0 lawful.0 means.1 means.2
+  leaf_shaped repeated (dated digits source) text lawful means =
+      let shaped = source_shaped names s w has is source means.0 means.1 in
+      record {
+        always = λ a. absurd (never_sure (source_shape s source).presence a);
+        absent = λ a. means.2 ∙ ap (first_digits digits) (shaped.absent (still_absent (source_shape s source).presence a)) ∙ none_dated digits;
+        values = λ some other. subst (λ t. nat_le (length t) digits ≡ true) (sym means.2) (date_short digits means.0 (subst (λ t. is_null t ≡ false) means.2 other));
+      }
 
   -- ---- a repetition that is walked
 
@@ -211,6 +249,7 @@ module _ (names : List (List ℕ)) (s : Sources) (w : Walked) (has : HasTables n
       by : (leaf : Leaf) → lookup_failures s field (record a { leaf = leaf }) ≡ [] → IsFault w leaf → ⊥
       by (const value) none fault = absurd fault
       by (copied source) none fault = absurd fault
+      by (dated digits source) none fault = absurd fault
       by (looked_up table source) none fault =
           let shaped = source_shaped names s w has is source fault.0 fault.1 in
           let found = look_found table (source_shape s source).values fault.0 (rowed table source table.other none) shaped.values in
@@ -223,8 +262,8 @@ module _ (names : List (List ℕ)) (s : Sources) (w : Walked) (has : HasTables n
     where
       by : (making : Making) → rule_lookups s (record r { making = making }) ≡ [] → NoFaultIn w making
       by (copy from) none = tt
-      by (first from) none = tt
-      by (repeat from leaves) none = λ rep at.
+      by (first from chosen) none = tt
+      by (repeat from chosen leaves) none = λ rep at.
           all_as (λ (a : At). lookup_failures (counts.walking s from) r.field a ≡ []) (λ (a : At). IsFault (walking w from rep) a.leaf → ⊥)
           (λ a e. no_fault names (counts.walking s from) (walking w from rep) has (walked_on names s w has is from rep at) r.field a e) leaves (each_empty (lookup_failures (counts.walking s from) r.field) leaves none)
       by (build leaves) none =

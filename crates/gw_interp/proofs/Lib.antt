@@ -25,6 +25,7 @@ pub mod Naming
 pub mod Once
 pub mod Checked
 pub mod Bounded
+pub mod Chosen
 pub mod Tabled
 pub mod Existing
 pub mod Makes
@@ -36,6 +37,7 @@ mod Makings
 mod Copies
 mod Placed
 mod Ruled
+mod ChosenReps
 mod RuleByRule
 mod Giving
 mod Levels

@@ -14,7 +14,7 @@ use Rattle.gw_profile.specs.Lengths.{len_count}
 use Rattle.gw_validate.specs.Breaches.{is_required, is_null, SubBreach, InAny, CompBreach, comp_absent, comp_forbidden, in_sub}
 use Rattle.gw_maplang.specs.declared.rule.LeafPlace.{LeafPlace}
 use Rattle.gw_resolve.specs.Intervals.{Interval, never}
-use Rattle.gw_resolve.specs.Resolved.{Leaf, const, copied, looked_up, At, leaf_at}
+use Rattle.gw_resolve.specs.Resolved.{Leaf, const, copied, looked_up, dated, At, leaf_at}
 use Rattle.gw_leaves.specs.Leaves.{Sources, leaf_shape, is_always, is_absent, may_be_unlisted, may_be_long}
 use Rattle.gw_profile.specs.Numbered.{comp_of, sub_of}
 use Rattle.gw_leaves.specs.Counts.{some_always, all_absent, leaves_count}
@@ -65,6 +65,7 @@ sub_is leaves c k a e = (Decides-eqb a.sub k).0 (facts.both (a.comp == c) (a.sub
 leaf_fit : (s : Sources) (profile : ProfileValue) (mark : Mark) (leaf : Leaf) (sub : SubValue) (text : List ℕ) → leaf_failures s profile mark leaf sub ≡ [] → IsShaped (leaf_shape s leaf) text → (text ≡ [] → ⊥) → is_null text ≡ false → IsFit profile sub text
 leaf_fit s profile mark (copied source) sub text none shaped some other = fit_values profile mark (leaf_shape s (copied source)) sub text none shaped some other
 leaf_fit s profile mark (looked_up table source) sub text none shaped some other = fit_values profile mark (leaf_shape s (looked_up table source)) sub text none shaped some other
+leaf_fit s profile mark (dated digits source) sub text none shaped some other = fit_values profile mark (leaf_shape s (dated digits source)) sub text none shaped some other
 leaf_fit s profile mark (const value) sub text none shaped some other = by (shaped.values some other)
   where
     allowed : (b : Bool) → is_null value ≡ false → not (is_null value) && b ≡ false → b ≡ false

@@ -13,11 +13,12 @@ use Rattle.gw_profile.specs.Shapes.{Forest, ProfileValue}
 use Rattle.gw_validate.specs.Cuts.{Cut}
 use Rattle.gw_validate.specs.Trees.{Tree}
 use Rattle.gw_resolve.specs.Places.{Place, child, nodes_of_child, name_of}
-use Rattle.gw_resolve.specs.Resolved.{Source, of_field, of_current, Leaf, const, copied, looked_up, At, leaf_at, Making, copy, first, repeat, build, Rule, rule_of, Items, no_items, segment_item, group_item, flat_item, Resolved}
+use Rattle.gw_resolve.specs.Resolved.{Source, of_field, of_current, Leaf, const, copied, looked_up, dated, At, leaf_at, Making, copy, first, repeat, build, Rule, rule_of, Items, no_items, segment_item, group_item, flat_item, Resolved}
 use Rattle.gw_interp.specs.Occurrences as occurrences
 use Rattle.gw_interp.specs.Occurrences.{Occurrence, at_place, texts_at}
-use Rattle.gw_interp.specs.Meaning.{IsFirst, InFirst, Walked, SourceMeans, look_up, LeafMeans, AtMeans, Where, walking, MakingMeans, RuleMeans, IsImage, ForEach, IsOne, walked, Segments, Give, Means}
+use Rattle.gw_interp.specs.Meaning.{IsFirst, InFirstOf, IsChosen, InNumber, Walked, SourceMeans, look_up, first_digits, LeafMeans, AtMeans, Where, walking, MakingMeans, RuleMeans, IsImage, ForEach, IsOne, walked, Segments, Give, Means}
 use Rattle.gw_interp.proofs.Trees.{all_left, all_right}
+use Rattle.gw_interp.proofs.Chosen.{number_once}
 use Rattle.gw_interp.proofs.Images.{each_segment}
 
 -- ---- at most one text
@@ -35,14 +36,14 @@ first_once P a b f g =
 abbrev AtMostOne : (List ℕ → Type 0) → Type 0
 AtMostOne P = (x y : List ℕ) → P x → P y → x ≡ y
 
-first_text_once : (m : Texts) (field comp sub : ℕ) → AtMostOne (InFirst m field comp sub)
-first_text_once m field comp sub x y (inl h) (inl g) = h.2 ∙ ap (λ r. text_of m field r comp sub) (first_once (RepAt m field) h.0 g.0 h.1 g.1) ∙ sym g.2
-first_text_once m field comp sub x y (inl h) (inr g) = absurd (g.0 (h.0, h.1.holds))
-first_text_once m field comp sub x y (inr h) (inl g) = absurd (h.0 (g.0, g.1.holds))
-first_text_once m field comp sub x y (inr h) (inr g) = h.1 ∙ sym g.1
+first_text_once : (P : ℕ → Type 0) (m : Texts) (field comp sub : ℕ) → AtMostOne (InFirstOf P m field comp sub)
+first_text_once P m field comp sub x y (inl h) (inl g) = h.2 ∙ ap (λ r. text_of m field r comp sub) (first_once P h.0 g.0 h.1 g.1) ∙ sym g.2
+first_text_once P m field comp sub x y (inl h) (inr g) = absurd (g.0 (h.0, h.1.holds))
+first_text_once P m field comp sub x y (inr h) (inl g) = absurd (h.0 (g.0, g.1.holds))
+first_text_once P m field comp sub x y (inr h) (inr g) = h.1 ∙ sym g.1
 
 source_once : (w : Walked) (source : Source) → AtMostOne (SourceMeans w source)
-source_once w (of_field from comp sub) x y h g = first_text_once (texts_at w.message w.scope from.place) from.field comp sub x y h g
+source_once w (of_field from comp sub) x y h g = first_text_once (RepAt (texts_at w.message w.scope from.place) from.field) (texts_at w.message w.scope from.place) from.field comp sub x y h g
 source_once w (of_current comp sub) x y h g = h ∙ sym g
 
 leaf_once : (w : Walked) (leaf : Leaf) → AtMostOne (LeafMeans w leaf)
@@ -51,6 +52,7 @@ leaf_once w (copied source) x y h g = source_once w source x y h g
 leaf_once w (looked_up table source) x y h g =
     let found : Some x ≡ Some y = sym h.2 ∙ ap (look_up table) (source_once w source h.0 g.0 h.1 g.1) ∙ g.2 in
     let same : x ≡ y = cc in same
+leaf_once w (dated digits source) x y h g = h.2 ∙ ap (first_digits digits) (source_once w source h.0 g.0 h.1 g.1) ∙ sym g.2
 
 at_once : (w : Walked) (a : Option At) → AtMostOne (AtMeans w a)
 at_once w None x y h g = h ∙ sym g
@@ -62,10 +64,20 @@ where_once here means one x y (inl h) (inr g) = absurd (g.0 h.0)
 where_once here means one x y (inr h) (inl g) = absurd (h.0 g.0)
 where_once here means one x y (inr h) (inr g) = h.1 ∙ sym g.1
 
+number_text_once : (P : ℕ → Type 0) (k : ℕ) (means : ℕ → List ℕ → Type 0) → ((n : ℕ) → AtMostOne (means n)) → AtMostOne (InNumber P k means)
+number_text_once P k means one x y (inl h) (inl g) = one g.0 x y (subst (λ n. means n x) (number_once P k h.0 g.0 h.1 g.1) h.2) g.2
+number_text_once P k means one x y (inl h) (inr g) = absurd (g.0 (h.0, h.1))
+number_text_once P k means one x y (inr h) (inl g) = absurd (h.0 (g.0, g.1))
+number_text_once P k means one x y (inr h) (inr g) = h.1 ∙ sym g.1
+
 making_once : (w : Walked) (making : Making) (r c k : ℕ) → AtMostOne (MakingMeans w making r c k)
 making_once w (copy from) r c k x y h g = h ∙ sym g
-making_once w (first from) r c k x y h g = where_once _ _ (first_text_once (texts_at w.message w.scope from.place) from.field c k) x y h g
-making_once w (repeat from leaves) r c k x y h g = where_once _ _ (at_once (walking w from r) (leaf_at leaves c k)) x y h g
+making_once w (first from chosen) r c k x y h g =
+    where_once _ _ (first_text_once (IsChosen chosen (texts_at w.message w.scope from.place) from.field) (texts_at w.message w.scope from.place) from.field c k) x y h g
+making_once w (repeat from None leaves) r c k x y h g = where_once _ _ (at_once (walking w from r) (leaf_at leaves c k)) x y h g
+making_once w (repeat from (Some chosen) leaves) r c k x y h g =
+    number_text_once (IsChosen (Some chosen) (texts_at w.message w.scope from.place) from.field) r (λ n. AtMeans (walking w from n) (leaf_at leaves c k))
+    (λ n. at_once (walking w from n) (leaf_at leaves c k)) x y h g
 making_once w (build leaves) r c k x y h g = where_once _ _ (at_once w (leaf_at leaves c k)) x y h g
 
 rule_once : (w : Walked) (rule : Option Rule) (r c k : ℕ) → AtMostOne (RuleMeans w rule r c k)

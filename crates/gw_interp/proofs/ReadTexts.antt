@@ -56,8 +56,5 @@ in_none field comp sub = inr ((λ p. empty_text p), refl)
     empty_text : FieldAt texts.empty field → ⊥
     empty_text p = absurd (text_there (text_of texts.empty field p.0 p.1.0 p.1.1.0) p.1.1.1 (ap (λ o. unwrap_or o []) (texts.get-empty (slice_cmp nat_cmp) (field ∷ p.0 ∷ p.1.0 ∷ p.1.1.0 ∷ []))))
 
-pub in_absent : (m : Texts) (field comp sub : ℕ) → IsFirstRep m field None → InFirst m field comp sub []
-in_absent m field comp sub none = inr (none, refl)
-
 pub in_some : (m : Texts) (field comp sub rep : ℕ) (text : List ℕ) → IsFirstRep m field (Some rep) → text ≡ text_of m field rep comp sub → InFirst m field comp sub text
 in_some m field comp sub rep text is same = inl (rep, is, same)

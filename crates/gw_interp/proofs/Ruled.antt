@@ -1,20 +1,21 @@
 -- Fields that are made by a rule.
-use Rattle.std.proofs.Common.{◌≡◌, ℕ, ◌⊎◌, inl, inr, ◌≤◌, ◌<◌, List, [], ◌∷◌, Some, None, refl, sym, ap, ◌∙◌, subst, arith}
+use Rattle.std.proofs.Common.{◌≡◌, ℕ, ◌⊎◌, inl, inr, ◌≤◌, ◌<◌, List, [], ◌∷◌, Option, Some, None, refl, sym, ap, ◌∙◌, subst, arith}
 use Rattle.std.specs.Prelude.{unwrap_or}
 use Rattle.std.specs.Ordering.{nat_cmp}
 use Rattle.std.specs.Cmp.Lexicographic.{slice_cmp}
 use Rattle.std.specs.FinMap as texts
 use Rattle.gw_er7.specs.Message.{Texts, text_of, SegmentValue}
 use Rattle.gw_er7.specs.Presence.{RepAt, IsLast}
+use Rattle.gw_maplang.specs.Shapes.{Condition}
 use Rattle.gw_resolve.specs.Resolved.{Reference, At, leaf_at, copy, first, repeat, build}
 use Rattle.gw_interp.specs.Occurrences.{texts_at}
-use Rattle.gw_interp.specs.Meaning.{Walked, walking, AtMeans, InFirst, Where, MakingMeans}
-use Rattle.gw_interp.specs.own.Sourced.{IsFirstRep}
+use Rattle.gw_interp.specs.Meaning.{Walked, walking, AtMeans, InFirstOf, IsChosen, Where, MakingMeans}
+use Rattle.gw_interp.specs.own.Sourced.{IsFirstOne}
 use Rattle.gw_interp.specs.own.Putting.{last_texts}
 use Rattle.gw_interp.specs.own.Making.{MayMake, AreMade, rep_key, field_key, LeavesMean, MayMakeField, IsFieldMade, Copies, MayCopyRep, IsRepCopied, MayFillRep, IsRepFilled, MayMakeBy, IsMadeBy}
 use Rattle.gw_interp.proofs.Fills.{same_last}
 use Rattle.gw_interp.proofs.Shaped.{text_there}
-use Rattle.gw_interp.proofs.ReadTexts.{in_none, in_absent, in_some}
+use Rattle.gw_interp.proofs.Chosen.{chosen_there}
 use Rattle.gw_interp.proofs.Makings.{split_at, no_text_there}
 use Rattle.gw_interp.proofs.Copies.{In, RepsUpTo, no_reps, may_rep, next_reps, all_reps}
 
@@ -81,13 +82,19 @@ module _ (w : Walked) (from : Reference) (field : ℕ) where
     pub copy_nothing : (old : List SegmentValue) → MayMakeBy w (copy from) field old → IsMadeBy w (copy from) field old old
     copy_nothing old may = nothing_made _ (field_key field) _ old may.make (λ p. sym (no_text_in from.field p.0 p.1.0 p.1.1) ∙ ap (λ m. text_of m from.field p.0 p.1.0 p.1.1) gone)
 
-    pub first_nothing : (old : List SegmentValue) → MayMakeBy w (first from) field old → IsMadeBy w (first from) field old old
-    first_nothing old may =
-        made_one field (InFirst source from.field) old old may.make
-        (nothing_made _ (rep_key field 1) _ old (may_one field (InFirst source from.field) old may.make) (λ p. subst (λ m. InFirst m from.field p.0 p.1 []) gone (in_none from.field p.0 p.1)))
+    none_chosen : (chosen : Option Condition) (rep : ℕ) → IsChosen chosen source from.field rep → ⊥
+    none_chosen chosen rep is = no_rep_in from.field rep (chosen_there chosen texts.empty from.field rep (subst (λ m. IsChosen chosen m from.field rep) (sym gone) is))
 
-    pub repeat_nothing : (leaves : List At) (old : List SegmentValue) → MayMakeBy w (repeat from leaves) field old → IsMadeBy w (repeat from leaves) field old old
-    repeat_nothing leaves old may = nothing_made _ (field_key field) _ old may.make (λ p. inr ((λ at. no_rep_in from.field p.0 (subst (λ m. RepAt m from.field p.0) (sym gone) at)), refl))
+    pub first_nothing : (chosen : Option Condition) (old : List SegmentValue) → MayMakeBy w (first from chosen) field old → IsMadeBy w (first from chosen) field old old
+    first_nothing chosen old may =
+        made_one field (InFirstOf (IsChosen chosen source from.field) source from.field) old old may.make
+        (nothing_made _ (rep_key field 1) _ old (may_one field (InFirstOf (IsChosen chosen source from.field) source from.field) old may.make) (λ p. inr ((λ r. none_chosen chosen r.0 r.1), refl)))
+
+    pub repeat_nothing : (leaves : List At) (old : List SegmentValue) → MayMakeBy w (repeat from None leaves) field old → IsMadeBy w (repeat from None leaves) field old old
+    repeat_nothing leaves old may = nothing_made _ (field_key field) _ old may.make (λ p. inr ((λ at. none_chosen None p.0 at), refl))
+
+    pub chosen_nothing : (c : Condition) (leaves : List At) (old : List SegmentValue) → MayMakeBy w (repeat from (Some c) leaves) field old → IsMadeBy w (repeat from (Some c) leaves) field old old
+    chosen_nothing c leaves old may = nothing_made _ (field_key field) _ old may.make (λ p. inr ((λ n. none_chosen (Some c) n.0 n.1.holds), refl))
 
   -- ---- a segment with these texts
 
@@ -98,20 +105,23 @@ module _ (w : Walked) (from : Reference) (field : ℕ) where
     pub copied : (old new : List SegmentValue) → IsFieldMade field (Copies m from.field) old new → IsMadeBy w (copy from) field old new
     copied old new made = made_as _ (field_key field) _ _ old new (λ p text e. e ∙ ap (λ t. text_of t from.field p.0 p.1.0 p.1.1) is) made
 
-    pub first_none : (old : List SegmentValue) → IsFirstRep m from.field None → MayMakeBy w (first from) field old → IsMadeBy w (first from) field old old
-    first_none old none may =
-        made_one field (InFirst source from.field) old old may.make
-        (nothing_made _ (rep_key field 1) _ old (may_one field (InFirst source from.field) old may.make) (λ p. subst (λ t. InFirst t from.field p.0 p.1 []) is (in_absent m from.field p.0 p.1 none)))
+    module _ (chosen : Option Condition) where
+      pub first_none : (old : List SegmentValue) → IsFirstOne (IsChosen chosen m from.field) None → MayMakeBy w (first from chosen) field old → IsMadeBy w (first from chosen) field old old
+      first_none old none may =
+          made_one field (InFirstOf (IsChosen chosen source from.field) source from.field) old old may.make
+          (nothing_made _ (rep_key field 1) _ old (may_one field (InFirstOf (IsChosen chosen source from.field) source from.field) old may.make)
+          (λ p. subst (λ t. InFirstOf (IsChosen chosen t from.field) t from.field p.0 p.1 []) is (inr (none, refl))))
 
-    module _ (rep : ℕ) (at : IsFirstRep m from.field (Some rep)) where
-      in_it : (p : ℕ × ℕ) (text : List ℕ) → text ≡ text_of m from.field rep p.0 p.1 → InFirst source from.field p.0 p.1 text
-      in_it p text e = subst (λ t. InFirst t from.field p.0 p.1 text) is (in_some m from.field p.0 p.1 rep text at e)
+      module _ (rep : ℕ) (at : IsFirstOne (IsChosen chosen m from.field) (Some rep)) where
+        in_it : (p : ℕ × ℕ) (text : List ℕ) → text ≡ text_of m from.field rep p.0 p.1 → InFirstOf (IsChosen chosen source from.field) source from.field p.0 p.1 text
+        in_it p text e = subst (λ t. InFirstOf (IsChosen chosen t from.field) t from.field p.0 p.1 text) is (inl (rep, at, e))
 
-      pub may_first : (old : List SegmentValue) → MayMakeBy w (first from) field old → MayCopyRep m (record { field = from.field; rep = rep }) (record { field = field; rep = 1 }) old
-      may_first old may = may_as (ℕ × ℕ) (rep_key field 1) _ _ old in_it (may_one field (InFirst source from.field) old may.make)
+        pub may_first : (old : List SegmentValue) → MayMakeBy w (first from chosen) field old → MayCopyRep m (record { field = from.field; rep = rep }) (record { field = field; rep = 1 }) old
+        may_first old may = may_as (ℕ × ℕ) (rep_key field 1) _ _ old in_it (may_one field (InFirstOf (IsChosen chosen source from.field) source from.field) old may.make)
 
-      pub first_copied : (old new : List SegmentValue) → MayMakeBy w (first from) field old → IsRepCopied m (record { field = from.field; rep = rep }) (record { field = field; rep = 1 }) old new → IsMadeBy w (first from) field old new
-      first_copied old new may made = made_one field (InFirst source from.field) old new may.make (made_as (ℕ × ℕ) (rep_key field 1) _ _ old new in_it made)
+        pub first_copied : (old new : List SegmentValue) → MayMakeBy w (first from chosen) field old → IsRepCopied m (record { field = from.field; rep = rep }) (record { field = field; rep = 1 }) old new → IsMadeBy w (first from chosen) field old new
+        first_copied old new may made =
+            made_one field (InFirstOf (IsChosen chosen source from.field) source from.field) old new may.make (made_as (ℕ × ℕ) (rep_key field 1) _ _ old new in_it made)
 
 -- ---- leaves
 
@@ -124,12 +134,12 @@ module _ (w : Walked) (leaves : List At) (field : ℕ) where
 
   module _ (from : Reference) where
     abbrev pub Repeats : ℕ → ℕ → ℕ → List ℕ → Type 0
-    Repeats rep comp sub text = MakingMeans w (repeat from leaves) rep comp sub text
+    Repeats rep comp sub text = MakingMeans w (repeat from None leaves) rep comp sub text
 
     pub no_repeat : (rep comp sub : ℕ) → (RepAt (texts_at w.message w.scope from.place) from.field rep → ⊥) → Repeats rep comp sub []
     no_repeat rep comp sub away = inr (away, refl)
 
-    pub may_repeat : (rep : ℕ) (old mid : List SegmentValue) → RepAt (texts_at w.message w.scope from.place) from.field rep → MayMakeBy w (repeat from leaves) field old → MayMake (ℕ × ℕ) (rep_key field rep) (In Repeats rep) mid → MayFillRep (walking w from rep) field rep leaves mid
+    pub may_repeat : (rep : ℕ) (old mid : List SegmentValue) → RepAt (texts_at w.message w.scope from.place) from.field rep → MayMakeBy w (repeat from None leaves) field old → MayMake (ℕ × ℕ) (rep_key field rep) (In Repeats rep) mid → MayFillRep (walking w from rep) field rep leaves mid
     may_repeat rep old mid at may make =
         record { distinct = may.lawful.distinct; no_faults = may.no_faults rep at; make = may_as (ℕ × ℕ) (rep_key field rep) (In Repeats rep) (LeavesMean (walking w from rep) leaves) mid (λ p text means. inl (at, means)) make }
 
@@ -138,7 +148,7 @@ module _ (w : Walked) (leaves : List At) (field : ℕ) where
 
     -- ---- one repetition after the other
 
-    module _ (m : Texts) (is : m ≡ texts_at w.message w.scope from.place) (last : ℕ) (is_last : IsLast (RepAt m from.field) last) (old : List SegmentValue) (may : MayMakeBy w (repeat from leaves) field old) where
+    module _ (m : Texts) (is : m ≡ texts_at w.message w.scope from.place) (last : ℕ) (is_last : IsLast (RepAt m from.field) last) (old : List SegmentValue) (may : MayMakeBy w (repeat from None leaves) field old) where
       there : (rep : ℕ) → RepAt m from.field rep → RepAt (texts_at w.message w.scope from.place) from.field rep
       there rep at = subst (λ t. RepAt t from.field rep) is at
 
@@ -154,7 +164,7 @@ module _ (w : Walked) (leaves : List At) (field : ℕ) where
       pub next_repeat : (n next : ℕ) (mid new : List SegmentValue) → n < next → RepAt m from.field next → ((rep : ℕ) → n < rep → RepAt m from.field rep → next ≤ rep) → RepsUpTo field Repeats old n mid → IsRepFilled (walking w from next) field next leaves mid new → RepsUpTo field Repeats old next new
       next_repeat n next mid new lt at least up made = next_reps m from.field field Repeats absent last is_last old may.make n next mid new lt least up (repeated next mid new (there next at) made)
 
-      pub all_repeats : (n : ℕ) (new : List SegmentValue) → last ≤ n → RepsUpTo field Repeats old n new → IsMadeBy w (repeat from leaves) field old new
+      pub all_repeats : (n : ℕ) (new : List SegmentValue) → last ≤ n → RepsUpTo field Repeats old n new → IsMadeBy w (repeat from None leaves) field old new
       all_repeats n new le up = all_reps m from.field field Repeats absent last is_last old may.make n new le up
 
 -- ---- what is read in a repetition

@@ -1,14 +1,16 @@
 -- What a map makes of a message: equations for the parts of the target and for the text at each of their places.
-use Rattle.std.specs.Prelude.{◌≡◌, ℕ, ◌<◌, ◌⊎◌, List, [], ◌∷◌, Option, Some, None, if◌then◌else◌}
+use Rattle.std.specs.Prelude.{◌≡◌, ℕ, ◌<◌, ◌&&◌, nat_le, take, ◌⊎◌, Bool, true, false, List, [], ◌∷◌, length, Option, Some, None, if◌then◌else◌, bytes_eq}
+use Rattle.std.specs.List.{list_all, list_any}
+use Rattle.gw_lines.specs.Spelled.{is_digit}
 use Rattle.gw_er7.specs.Message.{Texts, text_of, SegmentValue}
 use Rattle.gw_er7.specs.Presence.{RepAt, FieldAt}
 use Rattle.gw_profile.specs.Shapes.{Forest, ProfileValue}
-use Rattle.gw_validate.specs.Breaches.{is_null}
+use Rattle.gw_validate.specs.Breaches.{is_null, Counted}
 use Rattle.gw_validate.specs.Cuts.{Cut}
 use Rattle.gw_validate.specs.Trees.{Tree}
-use Rattle.gw_maplang.specs.Shapes.{Rows}
+use Rattle.gw_maplang.specs.Shapes.{Rows, Condition}
 use Rattle.gw_resolve.specs.Places.{Place, child, nodes_of_child, name_of}
-use Rattle.gw_resolve.specs.Resolved.{Reference, Source, of_field, of_current, Leaf, const, copied, looked_up, At, leaf_at, Making, copy, first, repeat, build, Rule, rule_of, Items, no_items, segment_item, group_item, flat_item, Resolved}
+use Rattle.gw_resolve.specs.Resolved.{Reference, Source, of_field, of_current, Leaf, const, copied, looked_up, dated, At, leaf_at, Making, copy, first, repeat, build, Rule, rule_of, Items, no_items, segment_item, group_item, flat_item, Resolved}
 use Rattle.gw_leaves.specs.Leaves.{given}
 use Rattle.gw_interp.specs.Occurrences as occurrences
 use Rattle.gw_interp.specs.Occurrences.{Occurrence, at_place, texts_at}
@@ -20,10 +22,19 @@ pub record IsFirst (P : ℕ → Type 0) (n : ℕ) : Type 0 where
   pub holds : P n
   pub none_before : (k : ℕ) → k < n → P k → ⊥
 
--- the text of a subcomponent in the first present repetition of a field; absent where none is present
+-- the k-th number at which this holds, counted from 1
+pub record IsNumber (P : ℕ → Type 0) (k n : ℕ) : Type 0 where
+  pub holds : P n
+  pub counted : Counted P n k
+
+-- the text of a subcomponent in the first of these repetitions of a field; absent where there is none
+abbrev pub InFirstOf : (ℕ → Type 0) → Texts → ℕ → ℕ → ℕ → List ℕ → Type 0
+InFirstOf P m field comp sub text =
+    ((rep : ℕ) × IsFirst P rep × (text ≡ text_of m field rep comp sub)) ⊎ ((((rep : ℕ) × P rep) → ⊥) × (text ≡ []))
+
+-- the same in the first present repetition
 abbrev pub InFirst : Texts → ℕ → ℕ → ℕ → List ℕ → Type 0
-InFirst m field comp sub text =
-    ((rep : ℕ) × IsFirst (RepAt m field) rep × (text ≡ text_of m field rep comp sub)) ⊎ ((FieldAt m field → ⊥) × (text ≡ []))
+InFirst m field = InFirstOf (RepAt m field) m field
 
 -- what is read: the message, the occurrences that are walked, and the texts of the repetition that is walked
 pub record Walked : Type 0 where
@@ -40,14 +51,36 @@ abbrev pub look_up : Rows → List ℕ → Option (List ℕ)
 look_up table [] = Some []
 look_up table (b ∷ bytes) = if is_null (b ∷ bytes) then Some (b ∷ bytes) else given table (b ∷ bytes)
 
+-- the first digits of a date and time, absent where there are fewer; "" stays ""
+abbrev pub first_digits : ℕ → List ℕ → List ℕ
+first_digits digits text =
+    if is_null text then text else if nat_le digits (length text) && list_all is_digit (take digits text) then take digits text else []
+
 abbrev pub LeafMeans : Walked → Leaf → List ℕ → Type 0
 LeafMeans w (const value) text = text ≡ value
 LeafMeans w (copied source) text = SourceMeans w source text
 LeafMeans w (looked_up table source) text = (from : List ℕ) × SourceMeans w source from × (look_up table from ≡ Some text)
+LeafMeans w (dated digits source) text = (from : List ℕ) × SourceMeans w source from × (text ≡ first_digits digits from)
 
 abbrev pub AtMeans : Walked → Option At → List ℕ → Type 0
 AtMeans w None text = text ≡ []
 AtMeans w (Some a) text = LeafMeans w a.leaf text
+
+-- ---- repetitions
+
+-- one of these texts; an absent text is none of them
+abbrev pub is_one : List (List ℕ) → List ℕ → Bool
+is_one values [] = false
+is_one values (b ∷ bytes) = list_any (bytes_eq (b ∷ bytes)) values
+
+-- a repetition of a field that is present, or, with a condition, one whose text at the condition's place is one of its values
+abbrev pub IsChosen : Option Condition → Texts → ℕ → ℕ → Type 0
+IsChosen None m field rep = RepAt m field rep
+IsChosen (Some c) m field rep = is_one c.values (text_of m field rep c.place.comp c.place.sub) ≡ true
+
+-- a text for the k-th of these numbers, absent where there are fewer
+abbrev pub InNumber : (ℕ → Type 0) → ℕ → (ℕ → List ℕ → Type 0) → List ℕ → Type 0
+InNumber P k Means text = ((n : ℕ) × IsNumber P k n × Means n text) ⊎ ((((n : ℕ) × IsNumber P k n) → ⊥) × (text ≡ []))
 
 -- ---- fields
 
@@ -62,9 +95,12 @@ walking w from rep = record w { current = λ comp sub. text_of (texts_at w.messa
 -- the text of a rule at a repetition, component and subcomponent
 abbrev pub MakingMeans : Walked → Making → ℕ → ℕ → ℕ → List ℕ → Type 0
 MakingMeans w (copy from) rep comp sub text = text ≡ text_of (texts_at w.message w.scope from.place) from.field rep comp sub
-MakingMeans w (first from) rep comp sub text = Where (rep ≡ 1) (InFirst (texts_at w.message w.scope from.place) from.field comp sub) text
-MakingMeans w (repeat from leaves) rep comp sub text =
+MakingMeans w (first from condition) rep comp sub text =
+    Where (rep ≡ 1) (InFirstOf (IsChosen condition (texts_at w.message w.scope from.place) from.field) (texts_at w.message w.scope from.place) from.field comp sub) text
+MakingMeans w (repeat from None leaves) rep comp sub text =
     Where (RepAt (texts_at w.message w.scope from.place) from.field rep) (AtMeans (walking w from rep) (leaf_at leaves comp sub)) text
+MakingMeans w (repeat from (Some c) leaves) rep comp sub text =
+    InNumber (IsChosen (Some c) (texts_at w.message w.scope from.place) from.field) rep (λ n. AtMeans (walking w from n) (leaf_at leaves comp sub)) text
 MakingMeans w (build leaves) rep comp sub text = Where (rep ≡ 1) (AtMeans w (leaf_at leaves comp sub)) text
 
 abbrev pub RuleMeans : Walked → Option Rule → ℕ → ℕ → ℕ → List ℕ → Type 0

@@ -1,5 +1,7 @@
 //! The texts of leaves.
 ghost use Rattle.std.specs.Prelude.{◌≡◌, List, unwrap_or};
+ghost use Rattle.std.specs.List.{list_all};
+ghost use Rattle.gw_lines.specs.Spelled.{is_digit};
 ghost use Rattle.gw_er7.specs.Message.{SegmentValue};
 ghost use Rattle.gw_maplang.specs.Shapes.{table_of};
 ghost use Rattle.gw_maplang.specs.Seen.{now};
@@ -8,7 +10,7 @@ ghost use Rattle.gw_leaves.specs.Leaves.{given};
 ghost use Rattle.gw_resolve.specs.Seen.{leaf as seen_leaf};
 ghost use Rattle.gw_validate.specs.Breaches.{is_null};
 ghost use Rattle.gw_interp.specs.own.Borrowed.{AreOf};
-ghost use Rattle.gw_interp.specs.Meaning.{look_up};
+ghost use Rattle.gw_interp.specs.Meaning.{look_up, first_digits};
 ghost use Rattle.gw_interp.specs.own.Sourced.{walks, LeafGives};
 
 use crate::reading::{Reading, source_text};
@@ -44,6 +46,30 @@ fn look_up<'a>(map: &'a Map, name: &[u8], text: &'a [u8]) -> Option<&'a [u8]>
     }
 }
 
+fn are_digits(text: &[u8]) -> bool
+    ensures { result ≡ list_all is_digit text.now }
+{
+    for byte in text {
+        if !byte.is_ascii_digit() {
+            return false;
+        }
+    }
+    true
+}
+
+// The first digits of a date and time, empty where there are fewer. `""` stays `""`.
+fn first_digits(digits: usize, text: &[u8]) -> &[u8]
+    ensures { result.now ≡ first_digits digits text.now }
+{
+    if is_null(text) {
+        return text;
+    }
+    if digits <= text.len() && are_digits(&text[..digits]) {
+        return &text[..digits];
+    }
+    &[]
+}
+
 /// The text of a leaf, empty where it is absent. `None` if its table has nothing for what is read. It takes no memory.
 pub(crate) fn leaf_text<'a>(
     map: &'a Map,
@@ -56,5 +82,8 @@ pub(crate) fn leaf_text<'a>(
         ResolvedLeaf::Const(text) => Some(text.as_slice()),
         ResolvedLeaf::Copied(source) => Some(source_text(reading, source)),
         ResolvedLeaf::LookedUp(name, source) => look_up(map, name, source_text(reading, source)),
+        ResolvedLeaf::Dated(digits, source) => {
+            Some(first_digits(*digits as usize, source_text(reading, source)))
+        }
     }
 }

@@ -1,5 +1,6 @@
 //! Makes the fields of the last segment by their rules.
-ghost use Rattle.std.specs.Prelude.{OnOk};
+ghost use Rattle.std.specs.Prelude.{OnOk, None, Some};
+ghost use Rattle.gw_maplang.specs.Seen.{condition as seen_condition, condition_some};
 ghost use Rattle.gw_resolve.specs.Resolved.{copy, first, repeat, build};
 ghost use Rattle.gw_resolve.specs.Seen.{reference, rule as seen_rule};
 ghost use Rattle.gw_interp.specs.own.Borrowed.{AreOf};
@@ -8,9 +9,9 @@ ghost use Rattle.gw_interp.specs.own.Making.{seen_from, in_repetition, at_leaves
 
 use crate::copying::{ValuePath, copy_rep, copy_reps};
 use crate::filling::fill_rep;
-use crate::reading::{Reading, Repetition, first_rep, next_rep, segment_at};
+use crate::reading::{Reading, Repetition, first_chosen, next_chosen, next_rep, segment_at};
 use gw_er7::Builder;
-use gw_maplang::Map;
+use gw_maplang::{Condition, Map};
 use gw_resolve::{At, Making, Reference, Rule};
 use gw_validate::Occ;
 use std::alloc::AllocError;
@@ -32,22 +33,23 @@ fn make_copy(
     copy_reps(builder, &segment, from.field as usize, field)
 }
 
-// Makes a field as a copy of the first present repetition of another.
+// Makes a field as a copy of the first present repetition of another, or of the first that meets the condition.
 fn make_first(
     scope: &[Occ<'_>],
     builder: &mut Builder,
     from: &Reference,
+    condition: &Option<Condition>,
     field: usize,
 ) -> Result<(), AllocError>
     requires of { AreOf (message_of scope.now) scope.now }
-    requires may { MayMakeBy (seen_from scope.now) (first (reference from.now)) field builder.old }
-    ensures { OnOk result (IsMadeBy (seen_from scope.now) (first (reference from.now)) field builder.old builder.new) }
+    requires may { MayMakeBy (seen_from scope.now) (first (reference from.now) (condition_some condition.now)) field builder.old }
+    ensures { OnOk result (IsMadeBy (seen_from scope.now) (first (reference from.now) (condition_some condition.now)) field builder.old builder.new) }
 {
     let Some(segment) = segment_at(scope, &from.place) else {
         return Ok(());
     };
     let source = from.field as usize;
-    let Some(rep) = first_rep(&segment, source) else {
+    let Some(rep) = first_chosen(condition, &segment, source) else {
         return Ok(());
     };
     let spot = ValuePath { field: source, rep };
@@ -73,26 +75,24 @@ fn make_build<'a>(
     fill_rep(rows, &reading, builder, leaves, field, 1)
 }
 
-// Makes a repetition from leaves, for the one of the same number of a source field.
+// Makes a repetition from leaves, for one of a source field.
 fn make_rep<'a>(
     rows: &'a Map,
     scope: &[Occ<'a>],
     builder: &mut Builder,
     from: Repetition<'a>,
     leaves: &'a [At],
-    field: usize,
+    to: ValuePath,
 ) -> Result<(), AllocError>
     requires of { AreOf (message_of scope.now) scope.now }
-    requires fill { MayFillRep (in_repetition scope.now from) field from.rep (at_leaves rows.now.tables leaves.now) builder.old }
-    ensures { OnOk result (IsRepFilled (in_repetition scope.now from.entry) field from.entry.rep
-        (at_leaves rows.now.tables leaves.now) builder.old builder.new) }
+    requires fill { MayFillRep (in_repetition scope.now from) to.field to.rep (at_leaves rows.now.tables leaves.now) builder.old }
+    ensures { OnOk result (IsRepFilled (in_repetition scope.now from.entry) to.field to.rep (at_leaves rows.now.tables leaves.now) builder.old builder.new) }
 {
-    let rep = from.rep;
     let reading = Reading {
         scope,
         current: Some(from),
     };
-    fill_rep(rows, &reading, builder, leaves, field, rep)
+    fill_rep(rows, &reading, builder, leaves, to.field, to.rep)
 }
 
 // Makes a repetition from leaves for each present repetition of a source field.
@@ -105,8 +105,8 @@ fn make_repeat<'a>(
     field: usize,
 ) -> Result<(), AllocError>
     requires of { AreOf (message_of scope.now) scope.now }
-    requires may { MayMakeBy (seen_from scope.now) (repeat (reference from.now) (at_leaves rows.now.tables leaves.now)) field builder.old }
-    ensures { OnOk result (IsMadeBy (seen_from scope.now) (repeat (reference from.now) (at_leaves rows.now.tables leaves.now)) field builder.old builder.new) }
+    requires may { MayMakeBy (seen_from scope.now) (repeat (reference from.now) None (at_leaves rows.now.tables leaves.now)) field builder.old }
+    ensures { OnOk result (IsMadeBy (seen_from scope.now) (repeat (reference from.now) None (at_leaves rows.now.tables leaves.now)) field builder.old builder.new) }
 {
     let Some(segment) = segment_at(scope, &from.place) else {
         return Ok(());
@@ -121,7 +121,57 @@ fn make_repeat<'a>(
             field: source,
             rep,
         };
-        make_rep(rows, scope, builder, repetition, leaves, field)?;
+        make_rep(
+            rows,
+            scope,
+            builder,
+            repetition,
+            leaves,
+            ValuePath { field, rep },
+        )?;
+    }
+    Ok(())
+}
+
+// A source field, and the condition on its repetitions.
+#[derive(Clone, Copy)]
+struct Chosen<'m> {
+    from: &'m Reference,
+    condition: &'m Condition,
+}
+
+// Makes a repetition from leaves for each repetition of a source field that meets the condition, the first for the first of them, and so on.
+fn make_chosen<'a>(
+    rows: &'a Map,
+    scope: &[Occ<'a>],
+    builder: &mut Builder,
+    chosen: Chosen<'_>,
+    leaves: &'a [At],
+    field: usize,
+) -> Result<(), AllocError>
+    requires of { AreOf (message_of scope.now) scope.now }
+    requires may { MayMakeBy (seen_from scope.now)
+        (repeat (reference chosen.from.now) (Some (seen_condition chosen.condition.now)) (at_leaves rows.now.tables leaves.now)) field builder.old }
+    ensures { OnOk result (IsMadeBy (seen_from scope.now)
+        (repeat (reference chosen.from.now) (Some (seen_condition chosen.condition.now)) (at_leaves rows.now.tables leaves.now)) field builder.old builder.new) }
+{
+    let Some(segment) = segment_at(scope, &chosen.from.place) else {
+        return Ok(());
+    };
+    let source = chosen.from.field as usize;
+    let last = segment.reps(source);
+    let mut rep = 0;
+    let mut made = 0;
+    while let Some(next) = next_chosen(chosen.condition, &segment, source, rep, last) {
+        let repetition = Repetition {
+            segment: segment.reborrow(),
+            field: source,
+            rep: next,
+        };
+        made += 1;
+        let to = ValuePath { field, rep: made };
+        make_rep(rows, scope, builder, repetition, leaves, to)?;
+        rep = next;
     }
     Ok(())
 }
@@ -140,8 +190,14 @@ pub(crate) fn make_rule<'a>(
     let field = rule.field as usize;
     match &rule.making {
         Making::Copy(from) => make_copy(scope, builder, from, field),
-        Making::First(from) => make_first(scope, builder, from, field),
-        Making::Repeat(from, leaves) => { make_repeat(rows, scope, builder, from, leaves, field) }
+        Making::First(from, condition) => make_first(scope, builder, from, condition, field),
+        Making::Repeat(from, None, leaves) => {
+            make_repeat(rows, scope, builder, from, leaves, field)
+        }
+        Making::Repeat(from, Some(condition), leaves) => {
+            let chosen = Chosen { from, condition };
+            make_chosen(rows, scope, builder, chosen, leaves, field)
+        }
         Making::Build(leaves) => make_build(rows, scope, builder, leaves, field),
     }
 }

@@ -1,16 +1,19 @@
 //! Reads the texts at a map's sources.
-ghost use Rattle.std.specs.Prelude.{◌≡◌, ℕ, ◌<◌, ◌≤◌, List};
+ghost use Rattle.std.specs.Prelude.{◌≡◌, ℕ, ◌<◌, ◌≤◌, List, Some, bytes_eq};
+ghost use Rattle.std.specs.List.{list_any};
 ghost use Rattle.gw_er7.specs.Message.{SegmentValue, text_of};
 ghost use Rattle.gw_er7.specs.Presence.{RepAt, IsLast};
+ghost use Rattle.gw_maplang.specs.Seen.{items_all, condition as seen_condition, condition_some};
 ghost use Rattle.gw_resolve.specs.Seen.{place as seen_place, source as seen_source};
 ghost use Rattle.gw_interp.specs.Occurrences.{texts_at};
 ghost use Rattle.gw_interp.specs.own.Borrowed.{scope as walked, AreOf};
-ghost use Rattle.gw_interp.specs.Meaning.{InFirst, SourceMeans};
-ghost use Rattle.gw_interp.specs.own.Sourced.{texts_of, IsFirstRep, current_texts, walks};
+ghost use Rattle.gw_interp.specs.Meaning as meaning;
+ghost use Rattle.gw_interp.specs.Meaning.{InFirst, IsChosen, SourceMeans};
+ghost use Rattle.gw_interp.specs.own.Sourced.{texts_of, IsFirstOne, IsFirstRep, IsNextOne, current_texts, walks};
 
 use crate::places::first_at_place;
 use gw_er7::Segment;
-use gw_maplang::LeafPlace;
+use gw_maplang::{Condition, LeafPlace};
 use gw_resolve::{ScopePath, Source};
 use gw_validate::Occ;
 
@@ -81,6 +84,73 @@ fn text_at<'a>(segment: &Segment<'a>, field: usize, rep: usize, at: LeafPlace) -
         comp: at.comp as usize,
         sub: at.sub as usize,
     })
+}
+
+fn is_among(values: &[Vec<u8>], text: &[u8]) -> bool
+    ensures { result ≡ list_any (bytes_eq text.now) (items_all values.now) }
+{
+    for value in values {
+        if text == value.as_slice() {
+            return true;
+        }
+    }
+    false
+}
+
+// Whether the text is one of the values. An absent text is none of them.
+fn is_one(values: &[Vec<u8>], text: &[u8]) -> bool
+    ensures { result ≡ meaning.is_one (items_all values.now) text.now }
+{
+    match text {
+        [] => false,
+        [_, ..] => is_among(values, text),
+    }
+}
+
+// Whether a repetition meets the condition.
+fn meets(condition: &Condition, segment: &Segment<'_>, field: usize, rep: usize) -> bool
+    ensures { result ≡ meaning.is_one (items_all condition.now.values.items) (text_of segment.now.at field rep condition.now.place.comp condition.now.place.sub) }
+{
+    is_one(
+        &condition.values,
+        text_at(segment, field, rep, condition.place),
+    )
+}
+
+/// The first repetition of a field after this one that meets the condition. The last present one is `last`.
+/// It takes time linear in the number of repetitions that it passes over.
+pub(crate) fn next_chosen(
+    condition: &Condition,
+    segment: &Segment<'_>,
+    field: usize,
+    after: usize,
+    last: usize,
+) -> Option<usize>
+    requires { IsLast (RepAt segment.now.at field) last }
+    ensures { IsNextOne (IsChosen (Some (seen_condition condition.now)) segment.now.at field) after result }
+{
+    let mut rep = after;
+    while rep < last {
+        rep = next_rep(segment, field, rep, last);
+        if meets(condition, segment, field, rep) {
+            return Some(rep);
+        }
+    }
+    None
+}
+
+/// The first present repetition of a field, or the first that meets the condition.
+pub(crate) fn first_chosen(
+    condition: &Option<Condition>,
+    segment: &Segment<'_>,
+    field: usize,
+) -> Option<usize>
+    ensures { IsFirstOne (IsChosen (condition_some condition.now) segment.now.at field) result }
+{
+    match condition {
+        None => first_rep(segment, field),
+        Some(condition) => next_chosen(condition, segment, field, 0, segment.reps(field)),
+    }
 }
 
 // The text of a subcomponent in the first present repetition of a field; empty if there is none.

@@ -6,7 +6,7 @@ use Rattle.gw_profile.specs.Lengths.{len_count}
 use Rattle.gw_profile.specs.Value.{table_of}
 use Rattle.gw_validate.specs.Breaches.{is_required, is_forbidden, is_null}
 use Rattle.gw_maplang.specs.Shapes.{Rows}
-use Rattle.gw_resolve.specs.Resolved.{Reference, Source, Leaf, const, copied, looked_up, At, Making, copy, first, repeat, build, Rule}
+use Rattle.gw_resolve.specs.Resolved.{Reference, Source, Leaf, const, copied, looked_up, dated, At, Making, copy, first, repeat, build, Rule}
 use Rattle.gw_resolve.specs.Failures.{Mark, Failure, at_line, fails}
 use Rattle.gw_leaves.specs.Leaves.{Sources, Shape, at_field, comp_presence, sub_presence, sub_values, source_shape, leaf_shape, is_always, is_absent, has_no_row, may_be_unlisted, may_be_long}
 use Rattle.gw_profile.specs.Numbered.{comp_of, sub_of}
@@ -93,6 +93,7 @@ leaf_failures s to mark (const text) sub =
     fails 12 mark (not (is_null text) && (may_be_unlisted (leaf_shape s (const text)).values (table_values to.tables sub) || may_be_long (len_count to) (leaf_shape s (const text)).values sub.len))
 leaf_failures s to mark (copied source) sub = value_failures to mark (leaf_shape s (copied source)) sub
 leaf_failures s to mark (looked_up table source) sub = value_failures to mark (leaf_shape s (looked_up table source)) sub
+leaf_failures s to mark (dated digits source) sub = value_failures to mark (leaf_shape s (dated digits source)) sub
 
 -- a leaf at a place that the target lists
 abbrev pub placed : Sources → ProfileValue → Mark → Leaf → Option SubValue → List Failure
@@ -112,8 +113,8 @@ made_field s to mark leaves target =
 
 abbrev pub making_failures : Sources → ProfileValue → Mark → Making → FieldValue → List Failure
 making_failures s to mark (copy from) target = copied_field s to mark from target
-making_failures s to mark (first from) target = copied_field s to mark from target
-making_failures s to mark (repeat from leaves) target = made_field (walking s from) to mark leaves target
+making_failures s to mark (first from condition) target = copied_field s to mark from target
+making_failures s to mark (repeat from condition leaves) target = made_field (walking s from) to mark leaves target
 making_failures s to mark (build leaves) target = made_field s to mark leaves target
 
 -- ---- lookups
@@ -130,12 +131,13 @@ lookup_failures s field a = go a.leaf
     go (const text) = []
     go (copied source) = []
     go (looked_up table source) = unrowed table source table.other
+    go (dated digits source) = []
 
 abbrev pub rule_lookups : Sources → Rule → List Failure
 rule_lookups s r = go r.making
   where
     go : Making → List Failure
     go (copy from) = []
-    go (first from) = []
-    go (repeat from leaves) = flat_map (lookup_failures (walking s from) r.field) leaves
+    go (first from condition) = []
+    go (repeat from condition leaves) = flat_map (lookup_failures (walking s from) r.field) leaves
     go (build leaves) = flat_map (lookup_failures s r.field) leaves

@@ -2,6 +2,7 @@
 use Rattle.std.specs.Prelude.{Bool, if◌then◌else◌, List, Option, Some, None}
 use Rattle.std.specs.List.{list_any, list_all}
 use Rattle.gw_profile.specs.Shapes.{FieldValue}
+use Rattle.gw_maplang.specs.Shapes.{Condition}
 use Rattle.gw_resolve.specs.Intervals.{Interval, never, once, any_number, of_card, is_sure, is_never, at_most_one}
 use Rattle.gw_resolve.specs.Places.{Known, known}
 use Rattle.gw_resolve.specs.Resolved.{Reference, At, Making, copy, first, repeat, build, Rule}
@@ -19,6 +20,11 @@ reference_count k f =
 
 abbrev pub field_count : Sources → Reference → Interval
 field_count s from = reference_count (known s.scope from.place) (at_field s from)
+
+-- with a condition maybe none: no repetition need have such a text
+abbrev pub chosen_count : Option Condition → Interval → Interval
+chosen_count None count = count
+chosen_count (Some c) count = record { least = 0; greatest = count.greatest }
 
 -- some leaf is always there; none ever is
 abbrev pub some_always : Sources → List At → Bool
@@ -39,8 +45,8 @@ leaves_count s leaves count =
 
 abbrev pub making_count : Sources → Making → Interval
 making_count s (copy from) = field_count s from
-making_count s (first from) = at_most_one (field_count s from)
-making_count s (repeat from leaves) = leaves_count (walking s from) leaves (field_count s from)
+making_count s (first from condition) = at_most_one (chosen_count condition (field_count s from))
+making_count s (repeat from condition leaves) = leaves_count (walking s from) leaves (chosen_count condition (field_count s from))
 making_count s (build leaves) = leaves_count s leaves once
 
 abbrev pub rule_count : Sources → Option Rule → Interval

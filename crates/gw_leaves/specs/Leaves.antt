@@ -16,7 +16,7 @@ use Rattle.gw_leaves.specs.declared.shape.Presence.TheVariants.{Always, Maybe, N
 use Rattle.gw_resolve.specs.Intervals.{is_sure, is_never}
 use Rattle.gw_resolve.specs.Places.{Element, Known, known}
 use Rattle.gw_maplang.specs.Shapes.{Row, Rows, second_of}
-use Rattle.gw_resolve.specs.Resolved.{Source, of_field, of_current, Reference, Leaf, const, copied, looked_up}
+use Rattle.gw_resolve.specs.Resolved.{Source, of_field, of_current, Reference, Leaf, const, copied, looked_up, dated}
 
 -- ---- presence
 
@@ -140,11 +140,19 @@ source_shape s (of_field from comp sub) =
 source_shape s (of_current comp sub) =
     record { presence = rep_presence s.current comp sub; values = sub_values s.profile (sub_of (comp_of s.current comp) sub) }
 
+-- of a text that may be left out
+abbrev pub perhaps : Presence → Presence
+perhaps Always = Maybe
+perhaps Maybe = Maybe
+perhaps Never = Never
+
 abbrev pub leaf_shape : Sources → Leaf → Shape
 leaf_shape s (const text) = record { presence = Always; values = listed (text ∷ []) }
 leaf_shape s (copied source) = source_shape s source
 leaf_shape s (looked_up table source) =
     record { presence = (source_shape s source).presence; values = listed (given_values table (source_shape s source).values) }
+leaf_shape s (dated digits source) =
+    record { presence = perhaps (source_shape s source).presence; values = any Octets (Some digits) }
 
 -- ---- what a target subcomponent asks of them
 

@@ -1,5 +1,6 @@
 //! How often a rule gives its field.
 ghost use Rattle.std.specs.Prelude.{◌≡◌};
+ghost use Rattle.gw_maplang.specs.Seen.{condition_some};
 ghost use Rattle.gw_leaves.specs.Counts as spec;
 ghost use Rattle.gw_leaves.specs.own.Held.{leaves_value, known_value};
 ghost use Rattle.gw_profile.specs.Numbered.{some_field};
@@ -9,6 +10,7 @@ ghost use Rattle.gw_resolve.specs.Seen.{interval, saturated, reference};
 use crate::known::{Known, at_field, segment_at};
 use crate::parts::{Part, none_beside, some_sure};
 use crate::sources::Sources;
+use gw_maplang::Condition;
 use gw_profile::{FieldShape, field_of};
 use gw_resolve::{At, Interval, Making, Reference, Rule, any_number, never, once};
 
@@ -40,6 +42,21 @@ fn field_count(sources: Sources<'_, '_, '_, '_, '_>, from: &Reference) -> Interv
 {
     let known = segment_at(sources.scope, &from.place);
     reference_count(known, field_of(known.fields, from.field))
+}
+
+// The same of the repetitions that meet a condition, where there is one.
+fn chosen_count(
+    sources: Sources<'_, '_, '_, '_, '_>,
+    from: &Reference,
+    condition: &Option<Condition>,
+) -> Interval
+    ensures { interval result ≡ saturated (spec.chosen_count (condition_some condition.now) (spec.field_count (sources_value sources.entry) (reference from.now))) }
+{
+    let count = field_count(sources, from);
+    match condition {
+        None => count,
+        Some(_) => count.or_none(),
+    }
 }
 
 /// The same below `repeat`, where the field of the reference is walked.
@@ -79,11 +96,11 @@ pub fn rule_count(sources: Sources<'_, '_, '_, '_, '_>, rule: Option<&Rule>) -> 
     };
     match &rule.making {
         Making::Copy(from) => field_count(sources, from),
-        Making::First(from) => field_count(sources, from).at_most_one(),
-        Making::Repeat(from, leaves) => leaves_count(
+        Making::First(from, condition) => { chosen_count(sources, from, condition).at_most_one() }
+        Making::Repeat(from, condition, leaves) => leaves_count(
             walking(sources, from),
             leaves,
-            field_count(sources, from),
+            chosen_count(sources, from, condition),
         ),
         Making::Build(leaves) => leaves_count(sources, leaves, once()),
     }

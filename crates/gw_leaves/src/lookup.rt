@@ -53,8 +53,8 @@ fn check_rule(
 {
     match &rule.making {
         Making::Copy(_) => Ok(()),
-        Making::First(_) => Ok(()),
-        Making::Repeat(from, leaves) => check_leaves(
+        Making::First(_, _) => Ok(()),
+        Making::Repeat(from, _, leaves) => check_leaves(
             found,
             walking(sources, from),
             rule.field,

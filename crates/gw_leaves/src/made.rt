@@ -15,10 +15,11 @@ use crate::given::{LeafSource, table_of};
 use crate::leaf::{source_sub, table_named};
 use crate::mark::leaf_mark;
 use crate::presence::{is_absent, leaf_presence, source_presence};
+use crate::shape::{Presence, Values};
 use crate::sources::Sources;
-use crate::texts::{is_long, is_missing};
+use crate::texts::{is_long, is_missing, may_be_long};
 use crate::values::{check_values, is_forbidden};
-use gw_profile::{CompShape, FieldShape, Profile, SubShape, comp_of, sub_of};
+use gw_profile::{CompShape, Count, FieldShape, Profile, SubShape, comp_of, sub_of};
 use gw_resolve::{At, Failure, FailureSite, ResolvedLeaf, Source, note};
 use std::alloc::AllocError;
 
@@ -62,6 +63,31 @@ fn check_source(
     )
 }
 
+// Of a date of so many digits: any table lacks some, and none has more.
+fn check_dated(
+    found: &mut Vec<Failure>,
+    target: &Profile,
+    mark: FailureSite,
+    presence: Presence,
+    digits: u32,
+    sub: &SubShape,
+) -> Result<(), AllocError>
+    ensures { OnOk result (Notes found.old found.new (seen.dated_failures target.now mark presence digits sub.now)) }
+{
+    if is_absent(presence) {
+        return Ok(());
+    }
+    let is_unlisted = table_named(target, table_of(Some(sub))).is_some();
+    note(found, 6, mark, is_unlisted)?;
+    let values = Values::Any(Some(digits), Count::Octets);
+    note(
+        found,
+        7,
+        mark,
+        may_be_long(&values, sub.len, target.count()),
+    )
+}
+
 fn check_leaf(
     found: &mut Vec<Failure>,
     sources: Sources<'_, '_, '_, '_, '_>,
@@ -80,6 +106,14 @@ fn check_leaf(
         ResolvedLeaf::LookedUp(name, source) => {
             check_source(found, sources, mark, Some(name.as_slice()), source, sub)
         }
+        ResolvedLeaf::Dated(digits, source) => check_dated(
+            found,
+            sources.context.target(),
+            mark,
+            source_presence(sources, source),
+            *digits,
+            sub,
+        ),
     }
 }
 

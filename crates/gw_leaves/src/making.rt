@@ -27,11 +27,11 @@ pub fn check_making(
             let filling = Filling::Copied(at_field(sources, from));
             check_comps(found, sources, mark, filling, &field.comps)
         }
-        Making::First(from) => {
+        Making::First(from, _) => {
             let filling = Filling::Copied(at_field(sources, from));
             check_comps(found, sources, mark, filling, &field.comps)
         }
-        Making::Repeat(from, leaves) => check_made(
+        Making::Repeat(from, _, leaves) => check_made(
             found,
             walking(sources, from),
             mark,

@@ -39,7 +39,7 @@ fn add_leaves<'a>(
 ) -> Result<(), AllocError> {
     for at in leaves {
         let (rows, source) = match &at.leaf {
-            ResolvedLeaf::Const(_) => continue,
+            ResolvedLeaf::Const(_) | ResolvedLeaf::Dated(_, _) => continue,
             ResolvedLeaf::Copied(source) => (None, source),
             ResolvedLeaf::LookedUp(name, source) => (Some(name.as_slice()), source),
         };
@@ -95,8 +95,8 @@ fn add_segment<'a>(
         let field = field_of(fields, rule.field);
         match &rule.making {
             Making::Copy(from) => add_copied(comparisons, at_field(sources, from), field)?,
-            Making::First(from) => add_copied(comparisons, at_field(sources, from), field)?,
-            Making::Repeat(from, leaves) => {
+            Making::First(from, _) => add_copied(comparisons, at_field(sources, from), field)?,
+            Making::Repeat(from, _, leaves) => {
                 add_leaves(comparisons, walking(sources, from), field, leaves)?
             }
             Making::Build(leaves) => add_leaves(comparisons, sources, field, leaves)?,

@@ -132,6 +132,16 @@ pub(crate) fn source_presence(sources: Sources<'_, '_, '_, '_, '_>, source: &Sou
     }
 }
 
+// Of a text that may be left out.
+fn perhaps(presence: Presence) -> Presence
+    ensures { result ≡ spec.perhaps presence }
+{
+    match presence {
+        Presence::Never => Presence::Never,
+        _ => Presence::Maybe,
+    }
+}
+
 /// Of the text of a leaf.
 pub(crate) fn leaf_presence(sources: Sources<'_, '_, '_, '_, '_>, leaf: &ResolvedLeaf) -> Presence
     ensures { result ≡ (spec.leaf_shape (sources_value sources.entry) (seen_leaf (map_tables sources.entry) leaf.now)).presence }
@@ -140,5 +150,6 @@ pub(crate) fn leaf_presence(sources: Sources<'_, '_, '_, '_, '_>, leaf: &Resolve
         ResolvedLeaf::Const(_) => Presence::Always,
         ResolvedLeaf::Copied(source) => source_presence(sources, source),
         ResolvedLeaf::LookedUp(_, source) => source_presence(sources, source),
+        ResolvedLeaf::Dated(_, source) => perhaps(source_presence(sources, source)),
     }
 }

@@ -7,17 +7,17 @@ use Rattle.gw_lines.specs.Values.{is_value}
 use Rattle.gw_profile.proofs.Facts.{both, neither, not_false, no_clash, le_is}
 use Rattle.gw_maplang.specs.declared.rule.LeafPlace.{LeafPlace}
 use Rattle.gw_maplang.specs.Among.{Among, Distinct}
-use Rattle.gw_maplang.specs.Shapes.{Path, Field, Current, Leaf, Const, Copy, Lookup, LeafValue, Making, Copies, Firsts, Repeats, Builds, RuleValue, Items, nothing}
+use Rattle.gw_maplang.specs.Shapes.{Path, Field, Current, Leaf, Const, Copy, Lookup, Date, LeafValue, Condition, Making, Copies, Firsts, Repeats, Builds, RuleValue, Items, nothing}
 use Rattle.gw_maplang.specs.Columns.{WideRow, WideTable, behind_first, is_known}
-use Rattle.gw_maplang.specs.Lawful.{Lawful, LawfulLeaf, LawfulLeafValue, LawfulLeaves, LawfulMaking, LawfulItems, LawfulDrop, LawfulPath, places, rule_fields}
+use Rattle.gw_maplang.specs.Lawful.{Lawful, LawfulLeaf, LawfulLeafValue, LawfulLeaves, LawfulCondition, LawfulMaking, LawfulItems, LawfulDrop, LawfulPath, places, rule_fields}
 use Rattle.gw_maplang.specs.Line.{Line, Begins, Language, Table, Rows, Else, Segment, Makes, At, Each, End, Drops}
-use Rattle.gw_maplang.specs.Fault.{begun, at_last, with_row, with_other, wide_below, wide_tables, wide_names, wide_firsts, is_second, last_table, in_table, is_flat, OpenSegment, OpenRule, open_segment, open_rule, opened, with_field, with_place, depth, hollow, is_stray, is_early, is_unknown, is_bad, own_leaf, is_misplaced, is_misplaced_leaf, is_made, is_placed, is_among, is_place}
+use Rattle.gw_maplang.specs.Fault.{begun, at_last, with_row, with_other, wide_below, wide_tables, wide_names, wide_firsts, is_second, last_table, in_table, is_flat, OpenSegment, OpenRule, open_segment, open_rule, opened, with_field, with_place, depth, hollow, is_stray, is_early, is_unknown, is_bad, own_leaf, condition_of, is_hasty, is_bad_condition, is_misplaced, is_misplaced_leaf, is_made, is_placed, is_among, is_place}
 use Rattle.gw_maplang.specs.Value.{Parts, Levels, Head, head, head_of, no_parts, parts, own_or, with_leaves, rule_with, next, past, each_item, levels, drops}
 use Rattle.gw_maplang.specs.own.Widths.{LawfulWide, LawfulWides}
 use Rattle.gw_maplang.proofs.Among.{not_among, among_left, among_right, bytes_see, distinct_push, numbers_see, places_see}
 use Rattle.gw_maplang.proofs.ColumnNames.{all_names, all_columns_names, all_distinct, known_named, names_stay, names_push, names_second}
 use Rattle.gw_maplang.proofs.LawfulColumns.{Fits, fits_is, values_lawful, rows_stay, other_stays, narrow_stays, never_unsaid, widened_grows, all_lawful, are_named}
-use Rattle.gw_maplang.proofs.Shaped.{IsFew, ShapedLeaf, ShapedLeafValue, ShapedMaking}
+use Rattle.gw_maplang.proofs.Shaped.{IsFew, ShapedLeaf, ShapedLeafValue, ShapedCondition, ShapedMaking, all_of}
 use Rattle.std.proofs.lemmas.Bool.Decides.{Decides-eqb}
 use mathlib.Core.List.{reverse_aux}
 use Rattle.gw_maplang.specs.Whole.{is_unclosed, map_of}
@@ -93,6 +93,10 @@ no_rules names (Some s) = record { each = tt; distinct = tt; apart = λ x h k. h
 nothing_behind : (names : List (List ℕ)) (above : List Line) → PartsAre names above no_parts
 nothing_behind names above = record { leaves = no_leaves names (open_rule above); rules = no_rules names (open_segment above) }
 
+condition_lawful : (o : Option Condition) → IfSome o ShapedCondition → is_bad_condition o ≡ false → IfSome o LawfulCondition
+condition_lawful None s b = tt
+condition_lawful (Some c) s b = record { place = s; each = all_of is_value c.values (not_false (list_all is_value c.values) b) }
+
 -- tables that are known in the map, at some line
 module _ (names : List (List ℕ)) (second : Bool) (ts : List WideTable) (known : (x : List ℕ) → Among x (all_names second ts) → Among x names) where
   table_known : (table : List ℕ) → not second && is_some (behind_first is_dot table) ≡ false → not (is_known ts table) ≡ false → Among table names
@@ -104,6 +108,8 @@ module _ (names : List (List ℕ)) (second : Bool) (ts : List WideTable) (known 
   leaf_lawful repeated (Copy (Current place)) s a e u b = (not_false repeated a, s)
   leaf_lawful repeated (Lookup table (Field from place)) s a e u b = (table_known table e u, s.1)
   leaf_lawful repeated (Lookup table (Current place)) s a e u b = (table_known table e u, (not_false repeated a, s.1))
+  leaf_lawful repeated (Date digits (Field from place)) s a e u b = s
+  leaf_lawful repeated (Date digits (Current place)) s a e u b = (s.0, (not_false repeated a, s.1))
 
   own_lawful : (leaves : List LeafValue) → AllByRecursion ShapedLeafValue leaves → list_any (λ l. is_stray false l.leaf || is_early second l.leaf) leaves ≡ false → list_any (λ l. is_unknown ts l.leaf) leaves ≡ false → list_any (λ l. is_bad l.leaf) leaves ≡ false → AllByRecursion (LawfulLeafValue names false) leaves
   own_lawful [] s a u b = tt
@@ -115,13 +121,13 @@ module _ (names : List (List ℕ)) (second : Bool) (ts : List WideTable) (known 
       ((s.0.0, leaf_lawful false l.leaf s.0.1 e.0 e.1 y.0 z.0), own_lawful leaves s.1 x.1 y.1 z.1)
 
   making_lawful : (m : Making) (leaves : List LeafValue) → ShapedMaking m → list_any (λ l. is_stray false l.leaf || is_early second l.leaf) (own_leaf m) ≡ false → list_any (λ l. is_unknown ts l.leaf) (own_leaf m) ≡ false → list_any (λ l. is_bad l.leaf) (own_leaf m) ≡ false
-      → IfSome (opened m) (λ o. LeavesBehind names o leaves) → LawfulMaking names (with_leaves m leaves)
-  making_lawful (Copies from) leaves s a u b h = s
-  making_lawful (Firsts from) leaves s a u b h = s
-  making_lawful (Repeats from own) leaves s a u b h =
-      (s.0, subst (λ (o : List LeafValue). LawfulLeaves names true (own_or o leaves)) (sym s.1) (record { each = h.each; distinct = h.distinct }))
-  making_lawful (Builds []) leaves s a u b h = record { each = h.each; distinct = h.distinct }
-  making_lawful (Builds (l ∷ own)) leaves s a u b h = record { each = own_lawful (l ∷ own) s.0 a u b; distinct = s.1 }
+      → is_bad_condition (condition_of m) ≡ false → IfSome (opened m) (λ o. LeavesBehind names o leaves) → LawfulMaking names (with_leaves m leaves)
+  making_lawful (Copies from) leaves s a u b v h = s
+  making_lawful (Firsts from c) leaves s a u b v h = (s.0, condition_lawful c s.1 v)
+  making_lawful (Repeats from c own) leaves s a u b v h =
+      (s.0, condition_lawful c s.1 v, subst (λ (o : List LeafValue). LawfulLeaves names true (own_or o leaves)) (sym s.2) (record { each = h.each; distinct = h.distinct }))
+  making_lawful (Builds []) leaves s a u b v h = record { each = h.each; distinct = h.distinct }
+  making_lawful (Builds (l ∷ own)) leaves s a u b v h = record { each = own_lawful (l ∷ own) s.0 a u b; distinct = s.1 }
 
   add_leaf : (o : Option OpenRule) (l : LeafValue) (leaves : List LeafValue) → ShapedLeafValue l → is_misplaced_leaf l.leaf o ≡ false → is_early second l.leaf ≡ false → is_unknown ts l.leaf ≡ false → is_bad l.leaf ≡ false → is_placed l.place o ≡ false
       → IfSome (with_place l.place o) (λ o. LeavesBehind names o leaves) → IfSome o (λ o. LeavesBehind names o (l ∷ leaves))
@@ -160,12 +166,14 @@ parts_lawful names above (Segment at label source ∷ below) g = nothing_behind 
 parts_lawful names above (Makes rule ∷ below) g =
     let i = parts_lawful names (Makes rule ∷ above) below g.1 in
     let k = known names above (Makes rule ∷ below) g in
-    let c = neither (is_misplaced rule.field (open_segment above)) _ g.0.clear.0 in
+    let c = neither (is_misplaced rule.field (open_segment above) || is_hasty (is_second above) (condition_of rule.making)) _ g.0.clear.0 in
+    let d = neither (is_misplaced rule.field (open_segment above)) (is_hasty (is_second above) (condition_of rule.making)) c.0 in
+    let b = neither (is_bad_condition (condition_of rule.making)) _ g.0.clear.1.1.0 in
     record {
       leaves = no_leaves names (open_rule above);
       rules =
-          add_rule names (is_second above) (wide_tables above) k (open_segment above) rule (parts below).leaves (parts below).rules g.0.shaped.0 c.0 g.0.clear.1.1.1.0
-          (making_lawful names (is_second above) (wide_tables above) k rule.making (parts below).leaves g.0.shaped.1 c.1 g.0.clear.1.0 g.0.clear.1.1.0 i.leaves) i.rules;
+          add_rule names (is_second above) (wide_tables above) k (open_segment above) rule (parts below).leaves (parts below).rules g.0.shaped.0 d.0 g.0.clear.1.1.1.0
+          (making_lawful names (is_second above) (wide_tables above) k rule.making (parts below).leaves g.0.shaped.1 c.1 g.0.clear.1.0 b.1 b.0 i.leaves) i.rules;
     }
 parts_lawful names above (At leaf ∷ below) g =
     let i = parts_lawful names (At leaf ∷ above) below g.1 in

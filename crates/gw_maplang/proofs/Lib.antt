@@ -4,6 +4,7 @@ pub mod Paths
 pub mod Among
 pub mod Shaped
 pub mod Words
+pub mod Dates
 pub mod ColumnNames
 pub mod LawfulColumns
 pub mod Columned

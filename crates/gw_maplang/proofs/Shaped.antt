@@ -12,9 +12,9 @@ use Rattle.gw_profile.proofs.Facts.{both, le_is}
 use Rattle.gw_profile.proofs.Shaped.{any, gives, map_gives, chosen, either_gives, with_all_is, number_is, name_at_is, number_at_is}
 use Rattle.gw_maplang.specs.Among.{Distinct}
 use Rattle.gw_maplang.specs.Columns.{behind_first, is_table_word}
-use Rattle.gw_maplang.specs.Shapes.{Path, FieldPath, Ref, Field, Current, Leaf, Const, Copy, Lookup, LeafValue, Making, Copies, Firsts, Repeats, Builds}
-use Rattle.gw_maplang.specs.Lawful.{LawfulPath, LawfulField, LawfulFieldPath, LawfulPlace, LawfulDrop, last_label, places}
-use Rattle.gw_maplang.specs.Line.{Line, Begins, Language, Table, Rows, Else, Segment, Makes, At, Each, End, Drops, is_slash, is_dash, path_of, field_of, field_path, sub_of, place_of, place_or_first, field_ref, ref_of, dropped_field, drop_of, constant, plain_word, plain_at, text_at, some_bytes, texts, most_columns, some_texts, table_word, from_at, const_form, copy_form, lookup_form, leaf_of, leaf_form, own_leaves, map_form, language_form, table_form, row_form, else_form, source_behind, source_at, segment_form, made_from, copies_form, firsts_form, repeats_form, builds_form, at_form, each_form, group_form, drop_form, rule_form, keyword_form, form}
+use Rattle.gw_maplang.specs.Shapes.{Path, FieldPath, Ref, Field, Current, Leaf, Const, Copy, Lookup, Date, LeafValue, Condition, Making, Copies, Firsts, Repeats, Builds}
+use Rattle.gw_maplang.specs.Lawful.{LawfulPath, LawfulField, LawfulFieldPath, LawfulPlace, LawfulDrop, is_date_length, last_label, places}
+use Rattle.gw_maplang.specs.Line.{Line, Begins, Language, Table, Rows, Else, Segment, Makes, At, Each, End, Drops, is_slash, is_dash, path_of, field_of, field_path, sub_of, place_of, place_or_first, field_ref, ref_of, dropped_field, drop_of, constant, plain_word, plain_at, text_at, some_bytes, texts, most_columns, some_texts, all_texts, where_at, condition_form, condition_at, table_word, from_at, const_form, copy_form, lookup_form, date_length, date_from, date_form, leaf_of, leaf_form, own_leaves, map_form, language_form, table_form, row_form, else_form, source_behind, source_at, segment_form, made_from, chosen_from, copies_form, firsts_form, repeats_form, builds_form, at_form, each_form, group_form, drop_form, rule_form, keyword_form, form}
 
 abbrev pub ShapedRef : Ref → Type 0
 ShapedRef (Field from place) = LawfulFieldPath from × LawfulPlace place
@@ -24,6 +24,7 @@ abbrev pub ShapedLeaf : Leaf → Type 0
 ShapedLeaf (Const value) = Unit {0}
 ShapedLeaf (Copy ref) = ShapedRef ref
 ShapedLeaf (Lookup table ref) = (is_table_word table ≡ true) × ShapedRef ref
+ShapedLeaf (Date digits ref) = (is_date_length digits ≡ true) × ShapedRef ref
 
 abbrev pub ShapedLeafValue : LeafValue → Type 0
 ShapedLeafValue l = LawfulPlace l.place × ShapedLeaf l.leaf
@@ -31,10 +32,13 @@ ShapedLeafValue l = LawfulPlace l.place × ShapedLeaf l.leaf
 abbrev pub ShapedLeaves : List LeafValue → Type 0
 ShapedLeaves leaves = AllByRecursion ShapedLeafValue leaves × Distinct (places leaves)
 
+abbrev pub ShapedCondition : Condition → Type 0
+ShapedCondition c = LawfulPlace c.place
+
 abbrev pub ShapedMaking : Making → Type 0
 ShapedMaking (Copies from) = LawfulFieldPath from
-ShapedMaking (Firsts from) = LawfulFieldPath from
-ShapedMaking (Repeats from leaves) = LawfulFieldPath from × (leaves ≡ [])
+ShapedMaking (Firsts from condition) = LawfulFieldPath from × IfSome condition ShapedCondition
+ShapedMaking (Repeats from condition leaves) = LawfulFieldPath from × IfSome condition ShapedCondition × (leaves ≡ [])
 ShapedMaking (Builds leaves) = ShapedLeaves leaves
 
 -- one value at least, and no more than a table has columns
@@ -56,7 +60,7 @@ Shaped (Drops drop) = LawfulDrop drop
 
 -- ---- parts of a word
 
-all_of : {A : Type 0} (test : A → Bool) (xs : List A) → list_all test xs ≡ true → AllByRecursion (λ x. test x ≡ true) xs
+pub all_of : {A : Type 0} (test : A → Bool) (xs : List A) → list_all test xs ≡ true → AllByRecursion (λ x. test x ≡ true) xs
 all_of test [] e = tt
 all_of test (x ∷ xs) e = let p = both (test x) (list_all test xs) e in (p.0, all_of test xs p.1)
 
@@ -140,11 +144,23 @@ lookup_form_is words =
     gives (λ p. is_table_word p.0 ≡ true) ShapedLeaf (plain_at table_word words) _ (plain_at_is (λ word. is_table_word word ≡ true) table_word table_word_is words)
     (λ table u. gives (λ p. ShapedRef p.0) ShapedLeaf (plain_at ref_of table.1) _ (plain_at_is ShapedRef ref_of ref_of_is table.1) (λ ref h. with_all_is ShapedLeaf ref.1 (Lookup table.0 ref.0) (u, h)))
 
+date_length_is : (bytes : List ℕ) → IfSome (date_length bytes) (λ n. is_date_length n ≡ true)
+date_length_is bytes = gives (λ _. Unit {0}) (λ n. is_date_length n ≡ true) (number 4 14 bytes) _ (any (number 4 14 bytes)) (λ n u. chosen (λ k. is_date_length k ≡ true) (is_date_length n) n (λ e. e))
+
+date_from_is : (digits : ℕ) (words : List Word) → is_date_length digits ≡ true → IfSome (date_from digits words) ShapedLeaf
+date_from_is digits words u = gives (λ p. ShapedRef p.0) ShapedLeaf (plain_at ref_of words) _ (plain_at_is ShapedRef ref_of ref_of_is words) (λ ref h. with_all_is ShapedLeaf ref.1 (Date digits ref.0) (u, h))
+
+date_form_is : (words : List Word) → IfSome (date_form words) ShapedLeaf
+date_form_is words =
+    gives (λ p. is_date_length p.0 ≡ true) ShapedLeaf (plain_at date_length words) _ (plain_at_is (λ n. is_date_length n ≡ true) date_length date_length_is words)
+    (λ digits u. date_from_is digits.0 digits.1 u)
+
 leaf_of_is : (keyword : Word) (more : List Word) → IfSome (leaf_of keyword more) ShapedLeaf
 leaf_of_is keyword more =
     either_gives ShapedLeaf (is_keyword (codes "const") keyword) (const_form more) _ (const_form_is more)
     (either_gives ShapedLeaf (is_keyword (codes "copy") keyword) (copy_form more) _ (copy_form_is more)
-    (either_gives ShapedLeaf (is_keyword (codes "lookup") keyword) (lookup_form more) None (lookup_form_is more) tt))
+    (either_gives ShapedLeaf (is_keyword (codes "lookup") keyword) (lookup_form more) _ (lookup_form_is more)
+    (either_gives ShapedLeaf (is_keyword (codes "date") keyword) (date_form more) None (date_form_is more) tt)))
 
 leaf_form_is : (words : List Word) → IfSome (leaf_form words) ShapedLeaf
 leaf_form_is [] = tt
@@ -216,6 +232,32 @@ made_from_is words =
     gives (λ p. (1 ≤ p.0) × (p.0 ≤ 999)) MadeFrom (number_at 999 words) _ (number_at_is 999 words)
     (λ field h. gives (λ p. LawfulFieldPath p.0) MadeFrom (from_at field.1) _ (from_at_is field.1) (λ from k. with_all_is MadeFrom from.1 (field.0, from.0) (h.1, k)))
 
+where_at_is : (words : List Word) → IfSome (where_at words) (λ p. LawfulPlace p.0)
+where_at_is words =
+    gives (λ _. Unit {0}) _ (behind (codes "where") words) _ (any (behind (codes "where") words)) (λ more u. plain_at_is LawfulPlace place_of place_of_is more)
+
+condition_form_is : (words : List Word) → IfSome (condition_form words) ShapedCondition
+condition_form_is words =
+    gives (λ p. LawfulPlace p.0) ShapedCondition (where_at words) _ (where_at_is words)
+    (λ place h. gives (λ _. Unit {0}) ShapedCondition (behind (codes "is") place.1) _ (any (behind (codes "is") place.1))
+    (λ more u. gives (λ _. Unit {0}) ShapedCondition (all_texts more) _ (any (all_texts more)) (λ values v. h)))
+
+abbrev ConditionIs : Option Condition → Type 0
+ConditionIs c = IfSome c ShapedCondition
+
+condition_at_is : (words : List Word) → IfSome (condition_at words) ConditionIs
+condition_at_is [] = tt
+condition_at_is (w ∷ words) = map_gives ShapedCondition ConditionIs (condition_form (w ∷ words)) Some (condition_form_is (w ∷ words)) (λ c h. h)
+
+abbrev ChosenFrom : ℕ × FieldPath × Option Condition → Type 0
+ChosenFrom m = (m.0 ≤ 999) × LawfulFieldPath m.1 × ConditionIs m.2
+
+chosen_from_is : (words : List Word) → IfSome (chosen_from words) ChosenFrom
+chosen_from_is words =
+    gives (λ p. (1 ≤ p.0) × (p.0 ≤ 999)) ChosenFrom (number_at 999 words) _ (number_at_is 999 words)
+    (λ field h. gives (λ p. LawfulFieldPath p.0) ChosenFrom (from_at field.1) _ (from_at_is field.1)
+    (λ from k. gives ConditionIs ChosenFrom (condition_at from.1) _ (condition_at_is from.1) (λ condition l. (h.1, k, l))))
+
 builds_form_is : (at : ℕ) (words : List Word) → IfSome (builds_form at words) Shaped
 builds_form_is at words =
     gives (λ p. (1 ≤ p.0) × (p.0 ≤ 999)) Shaped (number_at 999 words) _ (number_at_is 999 words)
@@ -241,8 +283,8 @@ drop_form_is at words =
 rule_form_is : (at : ℕ) (keyword : Word) (more : List Word) → IfSome (rule_form at keyword more) Shaped
 rule_form_is at keyword more =
     either_gives Shaped (is_keyword (codes "copy") keyword) (copies_form at more) _ (map_gives MadeFrom Shaped (made_from more) _ (made_from_is more) (λ m h. h))
-    (either_gives Shaped (is_keyword (codes "first") keyword) (firsts_form at more) _ (map_gives MadeFrom Shaped (made_from more) _ (made_from_is more) (λ m h. h))
-    (either_gives Shaped (is_keyword (codes "repeat") keyword) (repeats_form at more) _ (map_gives MadeFrom Shaped (made_from more) _ (made_from_is more) (λ m h. (h.0, (h.1, refl))))
+    (either_gives Shaped (is_keyword (codes "first") keyword) (firsts_form at more) _ (map_gives ChosenFrom Shaped (chosen_from more) _ (chosen_from_is more) (λ m h. (h.0, (h.1, h.2))))
+    (either_gives Shaped (is_keyword (codes "repeat") keyword) (repeats_form at more) _ (map_gives ChosenFrom Shaped (chosen_from more) _ (chosen_from_is more) (λ m h. (h.0, (h.1, h.2, refl))))
     (either_gives Shaped (is_keyword (codes "build") keyword) (builds_form at more) _ (builds_form_is at more)
     (either_gives Shaped (is_keyword (codes "at") keyword) (at_form at more) None (at_form_is at more) tt))))
 

@@ -8,7 +8,7 @@ use Rattle.gw_lines.specs.Grammar.{Grammar}
 use Rattle.gw_maplang.specs.declared.fault.MapFault.{MapFault}
 use Rattle.gw_maplang.specs.declared.fault.MapFault.TheVariants.{Syntax, UnknownTable, BadConstant, Duplicate, TooDeep}
 use Rattle.gw_maplang.specs.declared.rule.LeafPlace.{LeafPlace}
-use Rattle.gw_maplang.specs.Shapes.{Current, Leaf, Const, Copy, Lookup, LeafValue, Making, Copies, Firsts, Repeats, Builds, RuleValue, TableValue}
+use Rattle.gw_maplang.specs.Shapes.{Current, Leaf, Const, Copy, Lookup, Date, LeafValue, Condition, Making, Copies, Firsts, Repeats, Builds, RuleValue, TableValue}
 use Rattle.gw_maplang.specs.Columns.{WideRow, WideTable, new_table, widened, all_columns, behind_first, is_known}
 use Rattle.gw_maplang.specs.Lawful.{least_field}
 use Rattle.gw_lines.specs.Spelled.{is_dot}
@@ -124,8 +124,8 @@ pub record OpenRule : Type 0 where
 -- `copy`, `first`, and `build` with its own leaf have none
 abbrev pub opened : Making → Option OpenRule
 opened (Copies from) = None
-opened (Firsts from) = None
-opened (Repeats from leaves) = Some (record { repeated = true; places = [] })
+opened (Firsts from condition) = None
+opened (Repeats from condition leaves) = Some (record { repeated = true; places = [] })
 opened (Builds []) = Some (record { repeated = false; places = [] })
 opened (Builds (leaf ∷ leaves)) = None
 
@@ -186,11 +186,13 @@ is_said (Some values) = true
 abbrev pub is_stray : Bool → Leaf → Bool
 is_stray repeated (Copy (Current place)) = not repeated
 is_stray repeated (Lookup table (Current place)) = not repeated
+is_stray repeated (Date digits (Current place)) = not repeated
 is_stray repeated leaf = false
 
--- a column by its number, in the first language
+-- a date, or a column by its number, in the first language
 abbrev pub is_early : Bool → Leaf → Bool
 is_early second (Lookup table ref) = not second && is_some (behind_first is_dot table)
+is_early second (Date digits ref) = not second
 is_early second leaf = false
 
 -- a table that doesn't stand above, or one without that column
@@ -207,6 +209,23 @@ is_bad leaf = false
 abbrev pub own_leaf : Making → List LeafValue
 own_leaf (Builds leaves) = leaves
 own_leaf making = []
+
+-- the condition of a rule's line
+abbrev pub condition_of : Making → Option Condition
+condition_of (Copies from) = None
+condition_of (Firsts from condition) = condition
+condition_of (Repeats from condition leaves) = condition
+condition_of (Builds leaves) = None
+
+-- a condition, in the first language
+abbrev pub is_hasty : Bool → Option Condition → Bool
+is_hasty second None = false
+is_hasty second (Some c) = not second
+
+-- a condition with a text that is no value
+abbrev pub is_bad_condition : Option Condition → Bool
+is_bad_condition None = false
+is_bad_condition (Some c) = not (list_all is_value c.values)
 
 -- no segment above can hold a rule for this field
 abbrev pub is_misplaced : ℕ → Option OpenSegment → Bool
@@ -252,11 +271,12 @@ segment_tests above at = (not (begun above), Syntax at) ∷ []
 
 abbrev pub rule_tests : List Line → ℕ → RuleValue → List (Bool × MapFault)
 rule_tests above at rule = (
-  is_misplaced rule.field (open_segment above) || list_any (λ l. is_stray false l.leaf || is_early (is_second above) l.leaf) (own_leaf rule.making),
+  is_misplaced rule.field (open_segment above) || is_hasty (is_second above) (condition_of rule.making)
+      || list_any (λ l. is_stray false l.leaf || is_early (is_second above) l.leaf) (own_leaf rule.making),
   Syntax at,
 )
     ∷ (list_any (λ l. is_unknown (wide_tables above) l.leaf) (own_leaf rule.making), UnknownTable at)
-    ∷ (list_any (λ l. is_bad l.leaf) (own_leaf rule.making), BadConstant at)
+    ∷ (is_bad_condition (condition_of rule.making) || list_any (λ l. is_bad l.leaf) (own_leaf rule.making), BadConstant at)
     ∷ (is_made rule.field (open_segment above), Duplicate at) ∷ []
 
 abbrev pub leaf_tests : List Line → ℕ → LeafValue → List (Bool × MapFault)

@@ -1,12 +1,12 @@
 -- What every map keeps.
-use Rattle.std.specs.Prelude.{◌≡◌, ℕ, ◌≤◌, Bool, true, false, if◌then◌else◌, List, [], ◌∷◌, map, IfSome, codes, bytes_eq}
+use Rattle.std.specs.Prelude.{◌≡◌, ℕ, ◌≤◌, ◌==◌, ◌||◌, Bool, true, false, if◌then◌else◌, List, [], ◌∷◌, map, IfSome, codes, bytes_eq}
 use Rattle.std.specs.List.{AllByRecursion}
 use Rattle.gw_lines.specs.Spelled.{is_name}
 use Rattle.gw_lines.specs.Values.{is_value}
 use Rattle.gw_maplang.specs.declared.rule.LeafPlace.{LeafPlace}
 use Rattle.gw_maplang.specs.Among.{Among, Distinct}
 use Rattle.gw_maplang.specs.Columns.{is_table_word}
-use Rattle.gw_maplang.specs.Shapes.{Path, FieldPath, Ref, Field, Current, Leaf, Const, Copy, Lookup, LeafValue, Making, Copies, Firsts, Repeats, Builds, RuleValue, SegmentItem, GroupItem, FlatItem, Items, nothing, segment, group, flat, Row, TableValue, DropValue, MapValue}
+use Rattle.gw_maplang.specs.Shapes.{Path, FieldPath, Ref, Field, Current, Leaf, Const, Copy, Lookup, Date, LeafValue, Condition, Making, Copies, Firsts, Repeats, Builds, RuleValue, SegmentItem, GroupItem, FlatItem, Items, nothing, segment, group, flat, Row, TableValue, DropValue, MapValue}
 
 -- ---- numbers and paths
 
@@ -47,11 +47,16 @@ abbrev pub LawfulRef : Bool → Ref → Type 0
 LawfulRef repeated (Field from place) = LawfulFieldPath from × LawfulPlace place
 LawfulRef repeated (Current place) = (repeated ≡ true) × LawfulPlace place
 
+-- as many digits as a date, or a date and time, has from the year to a part (HL7 v2.5.1 chapter 2A, "DTM")
+abbrev pub is_date_length : ℕ → Bool
+is_date_length n = n == 4 || n == 6 || n == 8 || n == 10 || n == 12 || n == 14
+
 -- Constants are canonical texts that aren't empty; each table that is named is in the map.
 abbrev pub LawfulLeaf : List (List ℕ) → Bool → Leaf → Type 0
 LawfulLeaf tables repeated (Const value) = is_value value ≡ true
 LawfulLeaf tables repeated (Copy ref) = LawfulRef repeated ref
 LawfulLeaf tables repeated (Lookup table ref) = Among table tables × LawfulRef repeated ref
+LawfulLeaf tables repeated (Date digits ref) = (is_date_length digits ≡ true) × LawfulRef repeated ref
 
 abbrev pub LawfulLeafValue : List (List ℕ) → Bool → LeafValue → Type 0
 LawfulLeafValue tables repeated l = LawfulPlace l.place × LawfulLeaf tables repeated l.leaf
@@ -64,10 +69,15 @@ pub record LawfulLeaves (tables : List (List ℕ)) (repeated : Bool) (leaves : L
   pub each : AllByRecursion (LawfulLeafValue tables repeated) leaves
   pub distinct : Distinct (places leaves)
 
+-- the texts that it asks for are canonical and not empty
+pub record LawfulCondition (c : Condition) : Type 0 where
+  pub place : LawfulPlace c.place
+  pub each : AllByRecursion (λ value. is_value value ≡ true) c.values
+
 abbrev pub LawfulMaking : List (List ℕ) → Making → Type 0
 LawfulMaking tables (Copies from) = LawfulFieldPath from
-LawfulMaking tables (Firsts from) = LawfulFieldPath from
-LawfulMaking tables (Repeats from leaves) = LawfulFieldPath from × LawfulLeaves tables true leaves
+LawfulMaking tables (Firsts from condition) = LawfulFieldPath from × IfSome condition LawfulCondition
+LawfulMaking tables (Repeats from condition leaves) = LawfulFieldPath from × IfSome condition LawfulCondition × LawfulLeaves tables true leaves
 LawfulMaking tables (Builds leaves) = LawfulLeaves tables false leaves
 
 abbrev pub LawfulRule : List (List ℕ) → List ℕ → RuleValue → Type 0

@@ -7,9 +7,9 @@ use Rattle.gw_lines.specs.Spelled.{plain_bytes, is_keyword, is_name, is_dot, num
 use Rattle.gw_lines.specs.Values.{bytes_of}
 use Rattle.gw_lines.specs.Parts.{first_word, name_at, number_at, behind, with_all, ◌>>=◌}
 use Rattle.gw_maplang.specs.declared.rule.LeafPlace.{LeafPlace}
-use Rattle.gw_maplang.specs.Shapes.{Path, FieldPath, Ref, Field, Current, Leaf, Const, Copy, Lookup, LeafValue, Copies, Firsts, Repeats, Builds, RuleValue, DropValue}
+use Rattle.gw_maplang.specs.Shapes.{Path, FieldPath, Ref, Field, Current, Leaf, Const, Copy, Lookup, Date, LeafValue, Condition, Copies, Firsts, Repeats, Builds, RuleValue, DropValue}
 use Rattle.gw_maplang.specs.Columns.{WideRow, behind_first, is_table_word}
-use Rattle.gw_maplang.specs.Lawful.{least_field, last_label}
+use Rattle.gw_maplang.specs.Lawful.{least_field, last_label, is_date_length}
 
 -- A line. A rule has the leaf of its own line alone. No label stands for `flat`.
 pub data Line : Type 0 where
@@ -143,6 +143,11 @@ abbrev pub some_texts : List Word → Option (List (List ℕ))
 some_texts [] = None
 some_texts (w ∷ more) = few_texts (w ∷ more)
 
+-- VALUE ..: one at least
+abbrev pub all_texts : List Word → Option (List (List ℕ))
+all_texts [] = None
+all_texts (w ∷ more) = texts (w ∷ more)
+
 -- TABLE or TABLE.K
 abbrev pub table_word : List ℕ → Option (List ℕ)
 table_word bytes = if is_table_word bytes then Some bytes else None
@@ -152,6 +157,25 @@ abbrev pub from_at : List Word → Option (FieldPath × List Word)
 from_at words = do
   more ← behind (codes "from") words
   plain_at field_path more
+
+-- where C[.S]
+abbrev pub where_at : List Word → Option (LeafPlace × List Word)
+where_at words = do
+  more ← behind (codes "where") words
+  plain_at place_of more
+
+-- where C[.S] is VALUE ..
+abbrev pub condition_form : List Word → Option Condition
+condition_form words = do
+  place ← where_at words
+  more ← behind (codes "is") place.1
+  values ← all_texts more
+  Some (record { place = place.0; values = values })
+
+-- the same, or nothing
+abbrev pub condition_at : List Word → Option (Option Condition)
+condition_at [] = Some None
+condition_at (w ∷ words) = option_map Some (condition_form (w ∷ words))
 
 -- const VALUE
 abbrev pub const_form : List Word → Option Leaf
@@ -172,12 +196,30 @@ lookup_form words = do
   ref ← plain_at ref_of table.1
   with_all ref.1 (Lookup table.0 ref.0)
 
+abbrev pub date_length : List ℕ → Option ℕ
+date_length bytes = do
+  n ← number 4 14 bytes
+  if is_date_length n then Some n else None
+
+-- REF, behind date N
+abbrev pub date_from : ℕ → List Word → Option Leaf
+date_from digits words = do
+  ref ← plain_at ref_of words
+  with_all ref.1 (Date digits ref.0)
+
+-- date N REF
+abbrev pub date_form : List Word → Option Leaf
+date_form words = do
+  digits ← plain_at date_length words
+  date_from digits.0 digits.1
+
 -- LEAF, by its keyword
 abbrev pub leaf_of : Word → List Word → Option Leaf
 leaf_of keyword more =
     if is_keyword (codes "const") keyword then const_form more
     else if is_keyword (codes "copy") keyword then copy_form more
     else if is_keyword (codes "lookup") keyword then lookup_form more
+    else if is_keyword (codes "date") keyword then date_form more
     else None
 
 abbrev pub leaf_form : List Word → Option Leaf
@@ -248,17 +290,25 @@ made_from words = do
   from ← from_at field.1
   with_all from.1 (field.0, from.0)
 
+-- N from PATH-F [where C[.S] is VALUE ..]
+abbrev pub chosen_from : List Word → Option (ℕ × FieldPath × Option Condition)
+chosen_from words = do
+  field ← number_at 999 words
+  from ← from_at field.1
+  condition ← condition_at from.1
+  Some (field.0, from.0, condition)
+
 -- copy N from PATH-F
 abbrev pub copies_form : ℕ → List Word → Option Line
 copies_form at words = option_map (λ m. Makes (record { line = at; field = m.0; making = Copies m.1 })) (made_from words)
 
--- first N from PATH-F
+-- first N from PATH-F [where C[.S] is VALUE ..]
 abbrev pub firsts_form : ℕ → List Word → Option Line
-firsts_form at words = option_map (λ m. Makes (record { line = at; field = m.0; making = Firsts m.1 })) (made_from words)
+firsts_form at words = option_map (λ m. Makes (record { line = at; field = m.0; making = Firsts m.1 m.2 })) (chosen_from words)
 
--- repeat N from PATH-F
+-- repeat N from PATH-F [where C[.S] is VALUE ..]
 abbrev pub repeats_form : ℕ → List Word → Option Line
-repeats_form at words = option_map (λ m. Makes (record { line = at; field = m.0; making = Repeats m.1 [] })) (made_from words)
+repeats_form at words = option_map (λ m. Makes (record { line = at; field = m.0; making = Repeats m.1 m.2 [] })) (chosen_from words)
 
 -- build N [LEAF]
 abbrev pub builds_form : ℕ → List Word → Option Line

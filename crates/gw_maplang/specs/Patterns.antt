@@ -13,12 +13,19 @@ item_pattern keyword =
     else if bytes_eq keyword (codes "drop") then codes "drop PATH[-F], outside groups and flats"
     else codes "map, table, row, else, segment, copy, first, repeat, build, at, group, flat, end or drop"
 
+-- the same of the lines that choose repetitions, in the second language or the first
+abbrev pub first_pattern : Bool → List ℕ
+first_pattern second = if second then codes "first N from PATH-F [where C[.S] is VALUE ..], below a segment" else codes "first N from PATH-F, below a segment"
+
+abbrev pub repeat_pattern : Bool → List ℕ
+repeat_pattern second = if second then codes "repeat N from PATH-F [where C[.S] is VALUE ..], below a segment" else codes "repeat N from PATH-F, below a segment"
+
 -- the same of the lines of rules and items
-abbrev pub rule_pattern : List ℕ → List ℕ
-rule_pattern keyword =
+abbrev pub rule_pattern : Bool → List ℕ → List ℕ
+rule_pattern second keyword =
     if bytes_eq keyword (codes "copy") then codes "copy N from PATH-F, below a segment"
-    else if bytes_eq keyword (codes "first") then codes "first N from PATH-F, below a segment"
-    else if bytes_eq keyword (codes "repeat") then codes "repeat N from PATH-F, below a segment"
+    else if bytes_eq keyword (codes "first") then first_pattern second
+    else if bytes_eq keyword (codes "repeat") then repeat_pattern second
     else if bytes_eq keyword (codes "build") then codes "build N [LEAF], below a segment"
     else if bytes_eq keyword (codes "at") then codes "at C[.S] LEAF, below repeat or build"
     else item_pattern keyword
@@ -38,7 +45,7 @@ pattern second keyword =
     else if bytes_eq keyword (codes "table") then codes "table NAME, before the first item"
     else if bytes_eq keyword (codes "row") then row_pattern second
     else if bytes_eq keyword (codes "else") then else_pattern second
-    else rule_pattern keyword
+    else rule_pattern second keyword
 
 -- whether the map is one of the second language, by the keyword of its line
 abbrev pub second_below : List ℕ → Bool → Bool

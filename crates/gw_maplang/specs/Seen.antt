@@ -7,6 +7,7 @@ use Rattle.gw_maplang.specs.declared.rule.FieldPath as field_paths
 use Rattle.gw_maplang.specs.declared.rule.Ref as refs
 use Rattle.gw_maplang.specs.declared.rule.Leaf as leaves
 use Rattle.gw_maplang.specs.declared.rule.LeafRule.{LeafRule}
+use Rattle.gw_maplang.specs.declared.rule.Condition as conditions
 use Rattle.gw_maplang.specs.declared.rule.Rule as rules
 use Rattle.gw_maplang.specs.declared.rule.Dropped.{Dropped}
 use Rattle.gw_maplang.specs.declared.item.Item.{Item, SegFrom, SegAlways, EachAs', EachFlat', Row_of-Item, end_of-Item, more_of-Item}
@@ -16,7 +17,7 @@ use Rattle.gw_maplang.specs.declared.context as Held
 use Rattle.gw_maplang.specs.Fault as Fault
 use Rattle.gw_lines.specs.Grammar.{AllTaken}
 use Rattle.gw_maplang.specs.Columns.{WideRow, WideRows, WideTable}
-use Rattle.gw_maplang.specs.Shapes.{Path, FieldPath, Ref, Field, Current, Leaf, Const, Copy, Lookup, LeafValue, Copies, Firsts, Repeats, Builds, RuleValue, Items, nothing, segment, group, flat, Row, Rows, TableValue, DropValue, MapValue}
+use Rattle.gw_maplang.specs.Shapes.{Path, FieldPath, Ref, Field, Current, Leaf, Const, Copy, Lookup, Date, LeafValue, Condition, Copies, Firsts, Repeats, Builds, RuleValue, Items, nothing, segment, group, flat, Row, Rows, TableValue, DropValue, MapValue}
 
 abbrev pub now : Option (Bor (List ℕ)) → Option (List ℕ)
 now found = option_map (λ bytes. bytes.now) found
@@ -49,14 +50,24 @@ abbrev pub leaf : leaves.Leaf → Leaf
 leaf (leaves.TheVariants.Const value) = Const value.items
 leaf (leaves.TheVariants.Copy r) = Copy (ref r)
 leaf (leaves.TheVariants.Lookup name r) = Lookup name.items (ref r)
+leaf (leaves.TheVariants.Date digits r) = Date digits (ref r)
 
 abbrev pub leaf_value : LeafRule → LeafValue
 leaf_value l = record { line = l.line; place = l.place; leaf = leaf l.leaf }
 
+abbrev pub condition : conditions.Condition → Condition
+condition c = record { place = c.place; values = path c.values }
+
+abbrev pub condition_some : Option conditions.Condition → Option Condition
+condition_some c = option_map condition c
+
+abbrev pub condition_now : Option (Bor conditions.Condition) → Option Condition
+condition_now c = option_map (λ d. condition d.now) c
+
 abbrev pub rule : rules.Rule → RuleValue
 rule (rules.TheVariants.CopyField r) = record { line = r.line; field = r.field; making = Copies (field_path r.from) }
-rule (rules.TheVariants.FirstRep r) = record { line = r.line; field = r.field; making = Firsts (field_path r.from) }
-rule (rules.TheVariants.RepeatField r) = record { line = r.line; field = r.field; making = Repeats (field_path r.from) (map leaf_value r.leaves.items) }
+rule (rules.TheVariants.FirstRep r) = record { line = r.line; field = r.field; making = Firsts (field_path r.from) (condition_some r.condition) }
+rule (rules.TheVariants.RepeatField r) = record { line = r.line; field = r.field; making = Repeats (field_path r.from) (condition_some r.condition) (map leaf_value r.leaves.items) }
 rule (rules.TheVariants.Build r) = record { line = r.line; field = r.field; making = Builds (map leaf_value r.leaves.items) }
 
 -- ---- items

@@ -21,17 +21,25 @@ pub data Leaf : Type 0 where
   Const : (value : List ℕ) → Leaf
   Copy : (ref : Ref) → Leaf
   Lookup : (table : List ℕ) (ref : Ref) → Leaf
+  -- so many of the first digits of a date and time
+  Date : (digits : ℕ) (ref : Ref) → Leaf
 
 pub record LeafValue : Type 0 where
   pub line : ℕ
   pub place : LeafPlace
   pub leaf : Leaf
 
--- how a field is made: it is another one as it is, its first repetition, one repetition of these leaves for each of its own, or one of these leaves
+-- some repetitions of a field: those whose text at the place is one of the values
+pub record Condition : Type 0 where
+  pub place : LeafPlace
+  pub values : List (List ℕ)
+
+-- How a field is made: it is another one as it is, its first repetition, one repetition of these leaves for each of its own, or one of these leaves.
+-- Where there is a condition, only the repetitions count that it chooses.
 pub data Making : Type 0 where
   Copies : (from : FieldPath) → Making
-  Firsts : (from : FieldPath) → Making
-  Repeats : (from : FieldPath) (leaves : List LeafValue) → Making
+  Firsts : (from : FieldPath) (condition : Option Condition) → Making
+  Repeats : (from : FieldPath) (condition : Option Condition) (leaves : List LeafValue) → Making
   Builds : (leaves : List LeafValue) → Making
 
 -- what makes the field of this number

@@ -21,8 +21,8 @@ own_or (leaf ∷ own) below = leaf ∷ own
 -- what a rule's line says of how its field is made, with the leaves below it
 abbrev pub with_leaves : Making → List LeafValue → Making
 with_leaves (Copies from) below = Copies from
-with_leaves (Firsts from) below = Firsts from
-with_leaves (Repeats from own) below = Repeats from (own_or own below)
+with_leaves (Firsts from condition) below = Firsts from condition
+with_leaves (Repeats from condition own) below = Repeats from condition (own_or own below)
 with_leaves (Builds own) below = Builds (own_or own below)
 
 abbrev pub rule_with : RuleValue → List LeafValue → RuleValue

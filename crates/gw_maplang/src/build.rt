@@ -112,12 +112,14 @@ fn rule_with(made: Rule, below: Vec<LeafRule>) -> Rule
                 line,
                 field,
                 from,
+                condition,
                 leaves,
             } = made;
             Rule::RepeatField(RepeatRule {
                 line,
                 field,
                 from,
+                condition,
                 leaves: own_or(leaves, below),
             })
         }

@@ -5,13 +5,14 @@ ghost use Rattle.gw_lines.specs.Seen.{word};
 ghost use Rattle.gw_lines.specs.Parts.{with_all};
 ghost use Rattle.gw_lines.specs.Values.{bytes_of};
 ghost use Rattle.gw_maplang.specs.Line as spec;
-ghost use Rattle.gw_maplang.specs.Seen.{line, now, now_all, path, path_some, field_path, ref, leaf, leaf_value, dropped};
+ghost use Rattle.gw_maplang.specs.Seen.{line, now, now_all, path, path_some, field_path, ref, leaf, leaf_value, condition, condition_some, dropped};
 
-use crate::parts::{drop_of, field_path, is_table_word, path_of, place_of, ref_of};
+use crate::parts::{copies, drop_of, field_path, is_table_word, path_of, place_of, ref_of};
 use crate::rule::{
-    BuildRule, CopyRule, Dropped, FieldPath, Leaf, LeafPlace, LeafRule, Ref, RepeatRule, Rule,
+    BuildRule, Condition, CopyRule, Dropped, FieldPath, FirstRule, Leaf, LeafPlace, LeafRule, Ref,
+    RepeatRule, Rule,
 };
-use gw_lines::{Word, behind, bytes_of, first_word, name_at, number_at};
+use gw_lines::{Word, behind, bytes_of, first_word, name_at, number, number_at};
 use std::alloc::{AllocError, Global};
 
 // The greatest number of a table's columns.
@@ -167,6 +168,16 @@ fn some_texts<'a>(alloc: Global, words: &[Word<'a>]) -> Result<Option<Vec<&'a [u
     texts(alloc, words)
 }
 
+// The same of at least one word.
+fn all_texts<'a>(alloc: Global, words: &[Word<'a>]) -> Result<Option<Vec<&'a [u8]>>, AllocError>
+    ensures { IfOk result (λ found. option_map (λ v. now_all v.items) found ≡ spec.all_texts (map word words.now)) }
+{
+    match words {
+        [] => Ok(None),
+        [_, ..] => texts(alloc, words),
+    }
+}
+
 // The name of a table, or of a column of one.
 fn table_at<'a, 'w>(words: &'w [Word<'a>]) -> Option<(&'a [u8], &'w [Word<'a>])>
     ensures { option_map (λ w. (w.0.now, map word w.1.now)) result ≡ spec.plain_at spec.table_word (map word words.now) }
@@ -187,6 +198,43 @@ fn from_at<'a, 'w>(
     match behind(b"from", words) {
         None => Ok(None),
         Some(more) => field_at(alloc, more),
+    }
+}
+
+// The place that a condition asks for, and what stands behind it.
+fn where_at<'a, 'w>(words: &'w [Word<'a>]) -> Option<(LeafPlace, &'w [Word<'a>])>
+    ensures { option_map (λ w. (w.0, map word w.1.now)) result ≡ spec.where_at (map word words.now) }
+{
+    let more = behind(b"where", words)?;
+    place_at(more)
+}
+
+fn condition_form(alloc: Global, words: &[Word]) -> Result<Option<Condition>, AllocError>
+    ensures { IfOk result (λ found. option_map condition found ≡ spec.condition_form (map word words.now)) }
+{
+    let Some((place, more)) = where_at(words) else {
+        return Ok(None);
+    };
+    let Some(more) = behind(b"is", more) else {
+        return Ok(None);
+    };
+    let Some(values) = all_texts(alloc, more)? else {
+        return Ok(None);
+    };
+    let values = copies(alloc, &values)?;
+    Ok(Some(Condition { place, values }))
+}
+
+// The condition that these words are, none if there is no word.
+fn condition_at(alloc: Global, words: &[Word]) -> Result<Option<Option<Condition>>, AllocError>
+    ensures { IfOk result (λ found. option_map condition_some found ≡ spec.condition_at (map word words.now)) }
+{
+    if words.is_empty() {
+        return Ok(Some(None));
+    }
+    match condition_form(alloc, words)? {
+        None => Ok(None),
+        Some(chosen) => Ok(Some(Some(chosen))),
     }
 }
 
@@ -230,6 +278,51 @@ fn lookup_form(alloc: Global, words: &[Word]) -> Result<Option<Leaf>, AllocError
     Ok(None)
 }
 
+fn date_length(bytes: &[u8]) -> Option<u32>
+    ensures { result ≡ spec.date_length bytes.now }
+{
+    match number(4, 14, bytes)? {
+        4 => Some(4),
+        6 => Some(6),
+        8 => Some(8),
+        10 => Some(10),
+        12 => Some(12),
+        14 => Some(14),
+        _ => None,
+    }
+}
+
+// How many digits of a date.
+fn date_length_at<'a, 'w>(words: &'w [Word<'a>]) -> Option<(u32, &'w [Word<'a>])>
+    ensures { option_map (λ w. (w.0, map word w.1.now)) result ≡ spec.plain_at spec.date_length (map word words.now) }
+{
+    let (bytes, more) = plain_word(words)?;
+    let digits = date_length(bytes)?;
+    Some((digits, more))
+}
+
+// What stands behind `date N`.
+fn date_from(alloc: Global, digits: u32, words: &[Word]) -> Result<Option<Leaf>, AllocError>
+    ensures { IfOk result (λ found. option_map leaf found ≡ spec.date_from digits (map word words.now)) }
+{
+    let Some((from, more)) = ref_at(alloc, words)? else {
+        return Ok(None);
+    };
+    if more.is_empty() {
+        return Ok(Some(Leaf::Date(digits, from)));
+    }
+    Ok(None)
+}
+
+fn date_form(alloc: Global, words: &[Word]) -> Result<Option<Leaf>, AllocError>
+    ensures { IfOk result (λ found. option_map leaf found ≡ spec.date_form (map word words.now)) }
+{
+    match date_length_at(words) {
+        None => Ok(None),
+        Some((digits, more)) => date_from(alloc, digits, more),
+    }
+}
+
 fn leaf_of(alloc: Global, keyword: Word, more: &[Word]) -> Result<Option<Leaf>, AllocError>
     ensures { IfOk result (λ found. option_map leaf found ≡ spec.leaf_of (word keyword.entry) (map word more.now)) }
 {
@@ -241,6 +334,9 @@ fn leaf_of(alloc: Global, keyword: Word, more: &[Word]) -> Result<Option<Leaf>, 
     }
     if keyword.is(b"lookup") {
         return lookup_form(alloc, more);
+    }
+    if keyword.is(b"date") {
+        return date_form(alloc, more);
     }
     Ok(None)
 }
@@ -379,6 +475,25 @@ fn made_from(alloc: Global, words: &[Word]) -> Result<Option<(u32, FieldPath)>, 
     Ok(None)
 }
 
+// A field of the target, and the field that it is made from, with the condition on its repetitions.
+fn chosen_from(
+    alloc: Global,
+    words: &[Word],
+) -> Result<Option<(u32, FieldPath, Option<Condition>)>, AllocError>
+    ensures { IfOk result (λ found. option_map (λ m. (m.0, field_path m.1, condition_some m.2)) found ≡ spec.chosen_from (map word words.now)) }
+{
+    let Some((field, more)) = number_at(999, words) else {
+        return Ok(None);
+    };
+    let Some((from, more)) = from_at(alloc, more)? else {
+        return Ok(None);
+    };
+    let Some(condition) = condition_at(alloc, more)? else {
+        return Ok(None);
+    };
+    Ok(Some((field, from, condition)))
+}
+
 fn copies_form<'a>(alloc: Global, at: u32, words: &[Word]) -> Result<Option<Line<'a>>, AllocError>
     ensures { IfOk result (λ found. option_map line found ≡ spec.copies_form at (map word words.now)) }
 {
@@ -395,12 +510,13 @@ fn copies_form<'a>(alloc: Global, at: u32, words: &[Word]) -> Result<Option<Line
 fn firsts_form<'a>(alloc: Global, at: u32, words: &[Word]) -> Result<Option<Line<'a>>, AllocError>
     ensures { IfOk result (λ found. option_map line found ≡ spec.firsts_form at (map word words.now)) }
 {
-    match made_from(alloc, words)? {
+    match chosen_from(alloc, words)? {
         None => Ok(None),
-        Some((field, from)) => Ok(Some(Line::Makes(Rule::FirstRep(CopyRule {
+        Some((field, from, condition)) => Ok(Some(Line::Makes(Rule::FirstRep(FirstRule {
             line: at,
             field,
             from,
+            condition,
         })))),
     }
 }
@@ -408,12 +524,13 @@ fn firsts_form<'a>(alloc: Global, at: u32, words: &[Word]) -> Result<Option<Line
 fn repeats_form<'a>(alloc: Global, at: u32, words: &[Word]) -> Result<Option<Line<'a>>, AllocError>
     ensures { IfOk result (λ found. option_map line found ≡ spec.repeats_form at (map word words.now)) }
 {
-    match made_from(alloc, words)? {
+    match chosen_from(alloc, words)? {
         None => Ok(None),
-        Some((field, from)) => Ok(Some(Line::Makes(Rule::RepeatField(RepeatRule {
+        Some((field, from, condition)) => Ok(Some(Line::Makes(Rule::RepeatField(RepeatRule {
             line: at,
             field,
             from,
+            condition,
             leaves: Vec::new(alloc),
         })))),
     }

@@ -23,7 +23,8 @@ pub use itself::identity;
 pub use map::Map;
 pub use patterns::expected;
 pub use rule::{
-    BuildRule, CopyRule, Dropped, FieldPath, Leaf, LeafPlace, LeafRule, Ref, RepeatRule, Rule,
+    BuildRule, Condition, CopyRule, Dropped, FieldPath, FirstRule, Leaf, LeafPlace, LeafRule, Ref,
+    RepeatRule, Rule,
 };
 pub use table::Table;
 pub use text::parse;

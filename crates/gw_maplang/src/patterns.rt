@@ -29,18 +29,38 @@ fn item_pattern(keyword: &[u8]) -> &'static [u8]
     b"map, table, row, else, segment, copy, first, repeat, build, at, group, flat, end or drop"
 }
 
+// The pattern of the `first` lines of a map in the second language, or in the first.
+fn first_pattern(second: bool) -> &'static [u8]
+    ensures { result.now ≡ spec.first_pattern second }
+{
+    if second {
+        return b"first N from PATH-F [where C[.S] is VALUE ..], below a segment";
+    }
+    b"first N from PATH-F, below a segment"
+}
+
+// The pattern of the `repeat` lines of a map in the second language, or in the first.
+fn repeat_pattern(second: bool) -> &'static [u8]
+    ensures { result.now ≡ spec.repeat_pattern second }
+{
+    if second {
+        return b"repeat N from PATH-F [where C[.S] is VALUE ..], below a segment";
+    }
+    b"repeat N from PATH-F, below a segment"
+}
+
 // The pattern of the rule and item lines with this keyword; all keywords for any other word.
-fn rule_pattern(keyword: &[u8]) -> &'static [u8]
-    ensures { result.now ≡ spec.rule_pattern keyword.now }
+fn rule_pattern(second: bool, keyword: &[u8]) -> &'static [u8]
+    ensures { result.now ≡ spec.rule_pattern second keyword.now }
 {
     if keyword == b"copy".as_slice() {
         return b"copy N from PATH-F, below a segment";
     }
     if keyword == b"first".as_slice() {
-        return b"first N from PATH-F, below a segment";
+        return first_pattern(second);
     }
     if keyword == b"repeat".as_slice() {
-        return b"repeat N from PATH-F, below a segment";
+        return repeat_pattern(second);
     }
     if keyword == b"build".as_slice() {
         return b"build N [LEAF], below a segment";
@@ -90,7 +110,7 @@ fn pattern(second: bool, keyword: &[u8]) -> &'static [u8]
     if keyword == b"else".as_slice() {
         return else_pattern(second);
     }
-    rule_pattern(keyword)
+    rule_pattern(second, keyword)
 }
 
 fn second_below(keyword: &[u8], second: bool) -> bool

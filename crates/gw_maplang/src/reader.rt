@@ -9,7 +9,7 @@ ghost use Rattle.gw_maplang.specs.Columns.{wide_row_of};
 ghost use Rattle.gw_maplang.specs.Fault as spec;
 ghost use Rattle.gw_maplang.specs.Line as form;
 ghost use Rattle.gw_lines.specs.Grammar.{Taken};
-ghost use Rattle.gw_maplang.specs.Seen.{line, above, now_all, rule, leaf, leaf_value, wide_table, open_segment, open_rule, map_value, IsNewField, IsNewPlace, IsNewTable};
+ghost use Rattle.gw_maplang.specs.Seen.{line, above, now_all, items_all, rule, condition_now, leaf, leaf_value, wide_table, open_segment, open_rule, map_value, IsNewField, IsNewPlace, IsNewTable};
 ghost use Rattle.gw_maplang.specs.Whole.{whole, is_unclosed, map_of};
 
 use crate::columns::Wide;
@@ -21,7 +21,7 @@ use crate::fault::MapFault;
 use crate::form::{Line, form};
 use crate::map::Map;
 use crate::parts::after_first_byte;
-use crate::rule::{Leaf, LeafPlace, LeafRule, Ref, Rule};
+use crate::rule::{Condition, Leaf, LeafPlace, LeafRule, Ref, Rule};
 use crate::whole::map_of;
 use gw_er7::is_canonical;
 use gw_lines::{Form, Word};
@@ -80,6 +80,8 @@ fn is_stray(repeated: bool, made: &Leaf) -> bool
         Leaf::Copy(Ref::Current(_)) => !repeated,
         Leaf::Lookup(_, Ref::Field(_, _)) => false,
         Leaf::Lookup(_, Ref::Current(_)) => !repeated,
+        Leaf::Date(_, Ref::Field(_, _)) => false,
+        Leaf::Date(_, Ref::Current(_)) => !repeated,
     }
 }
 
@@ -90,6 +92,7 @@ fn is_unknown(tables: &IndexMap<Vec<u8>, Wide>, made: &Leaf) -> bool
         Leaf::Const(_) => false,
         Leaf::Copy(_) => false,
         Leaf::Lookup(name, _) => !is_known(tables, name),
+        Leaf::Date(_, _) => false,
     }
 }
 
@@ -100,6 +103,7 @@ fn is_early(second: bool, made: &Leaf) -> bool
         Leaf::Const(_) => false,
         Leaf::Copy(_) => false,
         Leaf::Lookup(name, _) => !second && after_first_byte(b'.', name).is_some(),
+        Leaf::Date(_, _) => !second,
     }
 }
 
@@ -110,6 +114,7 @@ fn is_bad(made: &Leaf) -> bool
         Leaf::Const(value) => !is_value(value),
         Leaf::Copy(_) => false,
         Leaf::Lookup(_, _) => false,
+        Leaf::Date(_, _) => false,
     }
 }
 
@@ -121,6 +126,35 @@ fn own_leaf(made: &Rule) -> &[LeafRule]
         Rule::FirstRep(_) => &[],
         Rule::RepeatField(_) => &[],
         Rule::Build(build) => build.leaves.as_slice(),
+    }
+}
+
+fn is_hasty(second: bool, asked: Option<&Condition>) -> bool
+    ensures { result ≡ spec.is_hasty second (condition_now asked.entry) }
+{
+    match asked {
+        None => false,
+        Some(_) => !second,
+    }
+}
+
+fn are_all_values(all: &[Vec<u8>]) -> bool
+    ensures { result ≡ list_all is_value (items_all all.now) }
+{
+    for value in all {
+        if !is_value(value) {
+            return false;
+        }
+    }
+    true
+}
+
+fn is_bad_condition(asked: Option<&Condition>) -> bool
+    ensures { result ≡ spec.is_bad_condition (condition_now asked.entry) }
+{
+    match asked {
+        None => false,
+        Some(condition) => !are_all_values(&condition.values),
     }
 }
 
@@ -291,13 +325,17 @@ impl<'a> Reader<'a> {
         ensures { result ≡ first_of (spec.rule_tests self.now at (rule made.now)) }
     {
         let own = own_leaf(made);
-        if is_misplaced(made.field(), &self.segment) || any_stray(self.open_parts.second, own) {
+        let asked = made.condition();
+        if is_misplaced(made.field(), &self.segment)
+            || is_hasty(self.open_parts.second, asked)
+            || any_stray(self.open_parts.second, own)
+        {
             return Some(MapFault::Syntax(at));
         }
         if any_unknown(&self.tables, own) {
             return Some(MapFault::UnknownTable(at));
         }
-        if any_bad(own) {
+        if is_bad_condition(asked) || any_bad(own) {
             return Some(MapFault::BadConstant(at));
         }
         if is_made(made.field(), &self.segment) {

@@ -1,4 +1,6 @@
 //! The rules of a map: what it makes of the fields of a segment.
+ghost use Rattle.std.specs.Prelude.{◌≡◌};
+ghost use Rattle.gw_maplang.specs.Seen.{condition_now, condition_some};
 
 /// A field of the source, by the path of its segment.
 #[derive(Drop)]
@@ -21,12 +23,14 @@ pub enum Ref {
     Current(LeafPlace),
 }
 
-/// What makes one text of the target: a constant, a text of the source, or a table's row for a text of the source.
+/// What makes one text of the target: a constant, a text of the source, a table's row for a text of the source,
+/// or the first digits of a date and time of the source, as many as said.
 #[derive(Drop)]
 pub enum Leaf {
     Const(Vec<u8>),
     Copy(Ref),
     Lookup(Vec<u8>, Ref),
+    Date(u32, Ref),
 }
 
 /// A leaf, and the place in the field that it fills.
@@ -37,6 +41,13 @@ pub struct LeafRule {
     pub leaf: Leaf,
 }
 
+/// Some repetitions of a field: those whose text at the place is one of the values.
+#[derive(Drop)]
+pub struct Condition {
+    pub place: LeafPlace,
+    pub values: Vec<Vec<u8>>,
+}
+
 /// A field that is copied as it is.
 #[derive(Drop)]
 pub struct CopyRule {
@@ -45,12 +56,22 @@ pub struct CopyRule {
     pub from: FieldPath,
 }
 
-/// `repeat`: a field with one made repetition for each repetition of a source field.
+/// `first`: a field with the first repetition of another, or with the first that meets the condition.
+#[derive(Drop)]
+pub struct FirstRule {
+    pub line: u32,
+    pub field: u32,
+    pub from: FieldPath,
+    pub condition: Option<Condition>,
+}
+
+/// `repeat`: a field with one made repetition for each repetition of a source field, or for each that meets the condition.
 #[derive(Drop)]
 pub struct RepeatRule {
     pub line: u32,
     pub field: u32,
     pub from: FieldPath,
+    pub condition: Option<Condition>,
     pub leaves: Vec<LeafRule>,
 }
 
@@ -66,7 +87,7 @@ pub struct BuildRule {
 #[derive(Drop)]
 pub enum Rule {
     CopyField(CopyRule),
-    FirstRep(CopyRule),
+    FirstRep(FirstRule),
     RepeatField(RepeatRule),
     Build(BuildRule),
 }
@@ -79,9 +100,19 @@ pub struct Dropped {
     pub field: Option<u32>,
 }
 
+fn some_condition(said: &Option<Condition>) -> Option<&Condition>
+    ensures { condition_now result ≡ condition_some said.now }
+{
+    match said {
+        None => None,
+        Some(condition) => Some(condition),
+    }
+}
+
 impl Rule {
     ghost use Rattle.std.specs.Prelude.{◌≡◌};
-    ghost use Rattle.gw_maplang.specs.Seen.{rule};
+    ghost use Rattle.gw_maplang.specs.Fault.{condition_of};
+    ghost use Rattle.gw_maplang.specs.Seen.{rule, condition_now};
 
     /// The line of the rule. It takes no memory.
     pub fn line(&self) -> u32
@@ -104,6 +135,18 @@ impl Rule {
             Rule::FirstRep(made) => made.field,
             Rule::RepeatField(made) => made.field,
             Rule::Build(made) => made.field,
+        }
+    }
+
+    /// The condition on the repetitions of the field that it reads, if it has one. It takes no memory.
+    pub fn condition(&self) -> Option<&Condition>
+        ensures { condition_now result ≡ condition_of (rule self.now).making }
+    {
+        match self {
+            Rule::CopyField(_) => None,
+            Rule::FirstRep(made) => some_condition(&made.condition),
+            Rule::RepeatField(made) => some_condition(&made.condition),
+            Rule::Build(_) => None,
         }
     }
 }

@@ -9,7 +9,7 @@ use Rattle.gw_maplang.specs.Among.{Distinct}
 use Rattle.gw_maplang.specs.Shapes.{Rows}
 use Rattle.gw_maplang.specs.Lawful.{LawfulRow}
 use Rattle.gw_resolve.specs.Places.{child, nodes_of_child, name_of}
-use Rattle.gw_resolve.specs.Resolved.{Source, of_field, of_current, Leaf, const, copied, looked_up, At, Making, copy, first, repeat, build, Rule, Items, no_items, segment_item, group_item, flat_item}
+use Rattle.gw_resolve.specs.Resolved.{Source, of_field, of_current, Leaf, const, copied, looked_up, dated, At, Making, copy, first, repeat, build, Rule, Items, no_items, segment_item, group_item, flat_item}
 
 -- what rows give is canonical and not empty
 pub record LawfulRows (table : Rows) : Type 0 where
@@ -26,6 +26,7 @@ abbrev pub LawfulLeaf : Bool → Leaf → Type 0
 LawfulLeaf repeated (const text) = is_value text ≡ true
 LawfulLeaf repeated (copied source) = LawfulSource repeated source
 LawfulLeaf repeated (looked_up table source) = LawfulRows table × LawfulSource repeated source
+LawfulLeaf repeated (dated digits source) = LawfulSource repeated source
 
 pub record LawfulAt (repeated : Bool) (a : At) : Type 0 where
   pub comp : 1 ≤ a.comp
@@ -45,8 +46,8 @@ pub record LawfulLeaves (repeated : Bool) (leaves : List At) : Type 0 where
 
 abbrev pub LawfulMaking : Making → Type 0
 LawfulMaking (copy from) = Unit {0}
-LawfulMaking (first from) = Unit {0}
-LawfulMaking (repeat from leaves) = LawfulLeaves true leaves
+LawfulMaking (first from condition) = Unit {0}
+LawfulMaking (repeat from condition leaves) = LawfulLeaves true leaves
 LawfulMaking (build leaves) = LawfulLeaves false leaves
 
 -- a field of a segment of this name; fields 1 and 2 of MSH are its delimiters

@@ -7,7 +7,7 @@ use Rattle.gw_profile.specs.Line.{allows}
 use Rattle.gw_maplang.specs.Shapes as raw
 use Rattle.gw_maplang.specs.Shapes.{MapValue, TableValue, Rows, table_of}
 use Rattle.gw_resolve.specs.Places.{Element, a_segment, a_group, the_whole, nodes_of, child, nodes_of_child, Place, found, element_of, within}
-use Rattle.gw_resolve.specs.Resolved.{Reference, Source, of_field, of_current, Leaf, const, copied, looked_up, At, Making, copy, first, repeat, build, Rule, Items, no_items, segment_item, group_item, flat_item, Drop, Resolved}
+use Rattle.gw_resolve.specs.Resolved.{Reference, Source, of_field, of_current, Leaf, const, copied, looked_up, dated, At, Making, copy, first, repeat, build, Rule, Items, no_items, segment_item, group_item, flat_item, Drop, Resolved}
 use Rattle.gw_resolve.specs.Order.{is_segment, is_group}
 use Rattle.gw_resolve.specs.Failures.{Failure, at_line, fails, where_so, or_later}
 
@@ -107,14 +107,15 @@ abbrev pub text_failures : List Element → ℕ → raw.Leaf → List Failure
 text_failures scope line (raw.Const value) = []
 text_failures scope line (raw.Copy ref) = ref_failures scope line ref
 text_failures scope line (raw.Lookup table ref) = ref_failures scope line ref
+text_failures scope line (raw.Date digits ref) = ref_failures scope line ref
 
 abbrev pub leaf_failures : List Element → raw.LeafValue → List Failure
 leaf_failures scope l = text_failures scope l.line l.leaf
 
 abbrev pub making_failures : List Element → ℕ → raw.Making → List Failure
 making_failures scope line (raw.Copies from) = read_failures scope line from
-making_failures scope line (raw.Firsts from) = read_failures scope line from
-making_failures scope line (raw.Repeats from leaves) = read_failures scope line from ++ flat_map (leaf_failures scope) leaves
+making_failures scope line (raw.Firsts from condition) = read_failures scope line from
+making_failures scope line (raw.Repeats from condition leaves) = read_failures scope line from ++ flat_map (leaf_failures scope) leaves
 making_failures scope line (raw.Builds leaves) = flat_map (leaf_failures scope) leaves
 
 abbrev pub rule_failures : List Element → raw.RuleValue → List Failure
@@ -211,14 +212,15 @@ abbrev pub leaf : List TableValue → List Element → raw.Leaf → Leaf
 leaf tables scope (raw.Const value) = const value
 leaf tables scope (raw.Copy ref) = copied (source scope ref)
 leaf tables scope (raw.Lookup table ref) = looked_up (unwrap_or (table_of table tables) no_rows) (source scope ref)
+leaf tables scope (raw.Date digits ref) = dated digits (source scope ref)
 
 abbrev pub at_leaf : List TableValue → List Element → raw.LeafValue → At
 at_leaf tables scope l = record { line = l.line; comp = l.place.comp; sub = l.place.sub; leaf = leaf tables scope l.leaf }
 
 abbrev pub making : List TableValue → List Element → raw.Making → Making
 making tables scope (raw.Copies from) = copy (reference scope from)
-making tables scope (raw.Firsts from) = first (reference scope from)
-making tables scope (raw.Repeats from leaves) = repeat (reference scope from) (map (at_leaf tables scope) leaves)
+making tables scope (raw.Firsts from condition) = first (reference scope from) condition
+making tables scope (raw.Repeats from condition leaves) = repeat (reference scope from) condition (map (at_leaf tables scope) leaves)
 making tables scope (raw.Builds leaves) = build (map (at_leaf tables scope) leaves)
 
 abbrev pub rule : List TableValue → List Element → raw.RuleValue → Rule

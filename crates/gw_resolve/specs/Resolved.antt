@@ -1,6 +1,6 @@
 -- A map whose labels were looked up: it names target nodes by their numbers, and source places by steps.
 use Rattle.std.specs.Prelude.{ℕ, ◌==◌, ◌&&◌, List, Option, Some, None, find}
-use Rattle.gw_maplang.specs.Shapes.{Rows}
+use Rattle.gw_maplang.specs.Shapes.{Rows, Condition}
 use Rattle.gw_resolve.specs.Places.{Place}
 
 -- a field of the segment at a place
@@ -13,11 +13,12 @@ pub data Source : Type 0 where
   of_field : (from : Reference) (comp sub : ℕ) → Source
   of_current : (comp sub : ℕ) → Source
 
--- a text, the text of a source, or what the rows of a table give for that
+-- a text, the text of a source, what the rows of a table give for that, or so many of its first digits
 pub data Leaf : Type 0 where
   const : (text : List ℕ) → Leaf
   copied : (source : Source) → Leaf
   looked_up : (table : Rows) (source : Source) → Leaf
+  dated : (digits : ℕ) (source : Source) → Leaf
 
 -- the leaf of a component and subcomponent
 pub record At : Type 0 where
@@ -26,11 +27,12 @@ pub record At : Type 0 where
   pub sub : ℕ
   pub leaf : Leaf
 
--- how a field is made: as another, as its first repetition, a repetition of leaves for each of its own, or one of leaves
+-- How a field is made: as another, as its first repetition, a repetition of leaves for each of its own, or one of leaves.
+-- Where there is a condition, only the repetitions count that it chooses.
 pub data Making : Type 0 where
   copy : (from : Reference) → Making
-  first : (from : Reference) → Making
-  repeat : (from : Reference) (leaves : List At) → Making
+  first : (from : Reference) (condition : Option Condition) → Making
+  repeat : (from : Reference) (condition : Option Condition) (leaves : List At) → Making
   build : (leaves : List At) → Making
 
 -- the rule of a target field

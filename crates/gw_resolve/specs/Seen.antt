@@ -17,10 +17,11 @@ use Rattle.gw_resolve.specs.declared.resolved.Making as makings
 use Rattle.gw_resolve.specs.declared.resolved.Rule as rules_of
 use Rattle.gw_resolve.specs.declared.resolved.Item.{Item, Segment, Group', Flat', Row_of-Item, end_of-Item, more_of-Item}
 use Rattle.gw_resolve.specs.declared.resolved.LeftOut.{LeftOut}
+use Rattle.gw_maplang.specs.Seen.{condition_some}
 use Rattle.gw_maplang.specs.Shapes.{TableValue, table_of}
 use Rattle.gw_resolve.specs.Naming.{no_rows}
 use Rattle.gw_resolve.specs.Places.{Element, a_segment, a_group, the_whole, Place}
-use Rattle.gw_resolve.specs.Resolved.{Reference, Source, of_field, of_current, Leaf, const, copied, looked_up, At, Making, copy, first, repeat, build, Rule, Items, no_items, segment_item, group_item, flat_item, Drop, first_child}
+use Rattle.gw_resolve.specs.Resolved.{Reference, Source, of_field, of_current, Leaf, const, copied, looked_up, dated, At, Making, copy, first, repeat, build, Rule, Items, no_items, segment_item, group_item, flat_item, Drop, first_child}
 
 -- ---- counts
 
@@ -74,14 +75,15 @@ abbrev pub leaf : List TableValue → leaves.ResolvedLeaf → Leaf
 leaf tables (leaves.TheVariants.Const text) = const text.items
 leaf tables (leaves.TheVariants.Copied from) = copied (source from)
 leaf tables (leaves.TheVariants.LookedUp name from) = looked_up (unwrap_or (table_of name.items tables) no_rows) (source from)
+leaf tables (leaves.TheVariants.Dated digits from) = dated digits (source from)
 
 abbrev pub at_leaf : List TableValue → ats.At → At
 at_leaf tables a = record { line = a.line; comp = a.place.comp; sub = a.place.sub; leaf = leaf tables a.leaf }
 
 abbrev pub making : List TableValue → makings.Making → Making
 making tables (makings.TheVariants.Copy from) = copy (reference from)
-making tables (makings.TheVariants.First from) = first (reference from)
-making tables (makings.TheVariants.Repeat from each) = repeat (reference from) (map (at_leaf tables) each.items)
+making tables (makings.TheVariants.First from chosen) = first (reference from) (condition_some chosen)
+making tables (makings.TheVariants.Repeat from chosen each) = repeat (reference from) (condition_some chosen) (map (at_leaf tables) each.items)
 making tables (makings.TheVariants.Build each) = build (map (at_leaf tables) each.items)
 
 abbrev pub rule : List TableValue → rules_of.Rule → Rule

@@ -1,6 +1,6 @@
 //! A map whose labels were looked up: target nodes by their numbers, source places by steps.
 
-use gw_maplang::LeafPlace;
+use gw_maplang::{Condition, LeafPlace};
 
 /// One of the occurrences that are walked, counted outwards from the innermost, and from there the number of a child, step by step.
 #[derive(Drop)]
@@ -23,12 +23,13 @@ pub enum Source {
     OfCurrent(LeafPlace),
 }
 
-/// A text, the text of a source, or what the table of this name gives for that.
+/// A text, the text of a source, what the table of this name gives for that, or so many of its first digits.
 #[derive(Drop)]
 pub enum ResolvedLeaf {
     Const(Vec<u8>),
     Copied(Source),
     LookedUp(Vec<u8>, Source),
+    Dated(u32, Source),
 }
 
 /// The leaf of a component and subcomponent.
@@ -40,11 +41,12 @@ pub struct At {
 }
 
 /// How a field is made: as another, as its first repetition, a repetition of leaves for each of its own, or one of leaves.
+/// If there is a condition, only the repetitions count that meet it.
 #[derive(Drop)]
 pub enum Making {
     Copy(Reference),
-    First(Reference),
-    Repeat(Reference, Vec<At>),
+    First(Reference, Option<Condition>),
+    Repeat(Reference, Option<Condition>, Vec<At>),
     Build(Vec<At>),
 }
 

@@ -12,7 +12,7 @@ use crate::element::ScopeNode;
 use crate::failure::Failure;
 use crate::led::{PathUse, lead};
 use crate::resolved::{At, Making, Reference, ResolvedLeaf, Rule, Source};
-use gw_maplang::{FieldPath, LeafRule, Ref};
+use gw_maplang::{Condition, FieldPath, LeafRule, Ref};
 use std::alloc::{AllocError, Global};
 
 fn reference(
@@ -81,6 +81,10 @@ fn leaf(
             let from = source(alloc, found, scope, line, from)?;
             Ok(ResolvedLeaf::LookedUp(name, from))
         }
+        gw_maplang::Leaf::Date(digits, from) => {
+            let from = source(alloc, found, scope, line, from)?;
+            Ok(ResolvedLeaf::Dated(*digits, from))
+        }
     }
 }
 
@@ -118,6 +122,32 @@ fn leaves(
     Ok(built)
 }
 
+fn texts_of(alloc: Global, all: &[Vec<u8>]) -> Result<Vec<Vec<u8>>, AllocError>
+    ensures { IfOk result (λ v. raw.path v ≡ raw.items_all all.now) }
+{
+    let mut copies = Vec::new(alloc);
+    for text in all {
+        let copy = copy_of(alloc, text)?;
+        copies.push(copy)?;
+    }
+    Ok(copies)
+}
+
+fn condition(alloc: Global, said: &Option<Condition>) -> Result<Option<Condition>, AllocError>
+    ensures { IfOk result (λ c. raw.condition_some c ≡ raw.condition_some said.now) }
+{
+    match said {
+        None => Ok(None),
+        Some(said) => {
+            let values = texts_of(alloc, &said.values)?;
+            Ok(Some(Condition {
+                place: said.place,
+                values,
+            }))
+        }
+    }
+}
+
 fn making(
     alloc: Global,
     found: &mut Vec<Failure>,
@@ -134,12 +164,14 @@ fn making(
         }
         gw_maplang::Rule::FirstRep(made) => {
             let from = reference(alloc, found, scope, made.line, &made.from)?;
-            Ok(Making::First(from))
+            let chosen = condition(alloc, &made.condition)?;
+            Ok(Making::First(from, chosen))
         }
         gw_maplang::Rule::RepeatField(made) => {
             let from = reference(alloc, found, scope, made.line, &made.from)?;
+            let chosen = condition(alloc, &made.condition)?;
             let each = leaves(alloc, found, scope, &made.leaves)?;
-            Ok(Making::Repeat(from, each))
+            Ok(Making::Repeat(from, chosen, each))
         }
         gw_maplang::Rule::Build(made) => {
             let each = leaves(alloc, found, scope, &made.leaves)?;

@@ -46,6 +46,7 @@ pub(crate) fn read_of(site: &Site) -> Option<&ElementPath> {
         Origin::Unsaid | Origin::Text(_) => None,
         Origin::Read(from) | Origin::Repeated(from) => Some(from),
         Origin::LookedUp(_, from) => Some(from),
+        Origin::Dated(_, from) => Some(from),
     }
 }
 
@@ -234,14 +235,20 @@ fn why(by: TakenBy<'_>) -> &'static [u8] {
 }
 
 impl<'a> Explanation<'a> {
-    /// Reports the table of the map in which a text is looked up, where it is.
-    fn print_lookup<E: Write>(&self, errors: &mut E) -> bool {
-        let Origin::LookedUp(name, _) = &self.site.origin else {
-            return false;
-        };
-        say(errors, b", looked up in ");
-        say(errors, name);
-        true
+    /// Reports what the map makes of a text, where it isn't copied.
+    fn print_change<E: Write>(&self, errors: &mut E) -> bool {
+        match &self.site.origin {
+            Origin::LookedUp(name, _) => {
+                say(errors, b", looked up in ");
+                say(errors, name);
+                true
+            }
+            Origin::Dated(digits, _) => {
+                let _ = write!(errors, ", of which the map takes the first {digits} digits");
+                true
+            }
+            _ => false,
+        }
     }
 
     /// What takes a text, where the target or the map has it.
@@ -308,7 +315,7 @@ impl<'a> Explanation<'a> {
         print_table(errors, &self.sides.target, to);
         say(errors, b", and ");
         print_table(errors, &self.sides.source, from);
-        if !self.print_lookup(errors)
+        if !self.print_change(errors)
             && let Some(name) = table_of(to.sub_in(&self.sides.target))
         {
             self.print_untaken(errors, from, TakenBy::Table(name), last);
@@ -326,7 +333,7 @@ impl<'a> Explanation<'a> {
         print_length(errors, &self.sides.target, to);
         say(errors, b", and ");
         print_length(errors, &self.sides.source, from);
-        if !self.print_lookup(errors)
+        if !self.print_change(errors)
             && let Some(most) = len_of(to.sub_in(&self.sides.target))
         {
             self.print_untaken(errors, from, TakenBy::Length(most), last);

@@ -20,8 +20,8 @@ NoFaults w leaves = AllByRecursion (λ (a : At). IsFault w a.leaf → ⊥) leave
 -- no leaf is a fault, in any repetition that is walked
 abbrev pub NoFaultIn : Walked → Making → Type 0
 NoFaultIn w (copy from) = Unit {0}
-NoFaultIn w (first from) = Unit {0}
-NoFaultIn w (repeat from leaves) = (rep : ℕ) → RepAt (texts_at w.message w.scope from.place) from.field rep → NoFaults (walking w from rep) leaves
+NoFaultIn w (first from condition) = Unit {0}
+NoFaultIn w (repeat from condition leaves) = (rep : ℕ) → RepAt (texts_at w.message w.scope from.place) from.field rep → NoFaults (walking w from rep) leaves
 NoFaultIn w (build leaves) = NoFaults w leaves
 
 -- each text that the rules give may stand at its place, and none is a fault

@@ -1,11 +1,11 @@
 -- What the program reads at the sources of a map.
-use Rattle.std.specs.Prelude.{◌≡◌, ℕ, List, [], Option, Some, None}
+use Rattle.std.specs.Prelude.{◌≡◌, ℕ, ◌<◌, List, [], Option, Some, None}
 use Rattle.std.specs.FinMap as texts
 use Rattle.gw_er7.specs.Message.{Texts, text_of, SegmentValue}
 use Rattle.gw_er7.specs.Presence.{RepAt, FieldAt}
 use Rattle.gw_interp.specs.declared.reading.Repetition.{Repetition}
 use Rattle.gw_interp.specs.declared.reading.Reading.{Reading}
-use Rattle.gw_resolve.specs.Resolved.{Leaf, const, copied, looked_up}
+use Rattle.gw_resolve.specs.Resolved.{Leaf, const, copied, looked_up, dated}
 use Rattle.gw_interp.specs.Meaning.{IsFirst, Walked, SourceMeans, look_up, LeafMeans}
 use Rattle.gw_interp.specs.own.Borrowed.{scope}
 
@@ -14,10 +14,24 @@ abbrev pub texts_of : Option SegmentValue → Texts
 texts_of None = texts.empty
 texts_of (Some s) = s.at
 
--- the first present repetition of a field, if there is one
+-- the first of these repetitions, if there is one
+abbrev pub IsFirstOne : (ℕ → Type 0) → Option ℕ → Type 0
+IsFirstOne P None = ((rep : ℕ) × P rep) → ⊥
+IsFirstOne P (Some rep) = IsFirst P rep
+
+-- the first that is present of a field
 abbrev pub IsFirstRep : Texts → ℕ → Option ℕ → Type 0
-IsFirstRep m field None = FieldAt m field → ⊥
-IsFirstRep m field (Some rep) = IsFirst (RepAt m field) rep
+IsFirstRep m field = IsFirstOne (RepAt m field)
+
+-- the first number behind this one at which this holds
+pub record IsNext (P : ℕ → Type 0) (after n : ℕ) : Type 0 where
+  pub holds : P n
+  pub behind : after < n
+  pub none_between : (k : ℕ) → after < k → k < n → P k → ⊥
+
+abbrev pub IsNextOne : (ℕ → Type 0) → ℕ → Option ℕ → Type 0
+IsNextOne P after None = (k : ℕ) → after < k → P k → ⊥
+IsNextOne P after (Some n) = IsNext P after n
 
 abbrev pub current_texts : Option Repetition → ℕ → ℕ → List ℕ
 current_texts None comp sub = []
@@ -32,6 +46,7 @@ abbrev pub IsFault : Walked → Leaf → Type 0
 IsFault w (const value) = ⊥
 IsFault w (copied source) = ⊥
 IsFault w (looked_up table source) = (from : List ℕ) × SourceMeans w source from × (look_up table from ≡ None)
+IsFault w (dated digits source) = ⊥
 
 -- the text of a leaf, or a fault
 abbrev pub LeafGives : Walked → Leaf → Option (List ℕ) → Type 0

@@ -1,8 +1,9 @@
 -- The failures of the definitions, of parts as the program holds them.
-use Rattle.std.specs.Prelude.{Bool, ℕ, ◌||◌, List, Option}
+use Rattle.std.specs.Prelude.{Bool, ℕ, ◌||◌, List, Option, Some}
 use denote.Ref.{Bor}
 use Rattle.gw_profile.specs.declared.shape.SubShape.{SubShape}
 use Rattle.gw_profile.specs.declared.shape.FieldShape.{FieldShape}
+use Rattle.gw_profile.specs.declared.shape.Count.TheVariants.{Octets}
 use Rattle.gw_profile.specs.Shapes.{SubValue, CompValue}
 use Rattle.gw_profile.specs.Seen as profiles
 use Rattle.gw_profile.specs.Seen.{sub as sub_value, field as field_value, profile_value}
@@ -20,7 +21,7 @@ use Rattle.gw_leaves.specs.declared.given.LeafSource.{LeafSource}
 use Rattle.gw_leaves.specs.declared.shape.Presence.{Presence}
 use Rattle.gw_leaves.specs.declared.sources.Sources.{Sources}
 use Rattle.gw_leaves.specs.Components as spec
-use Rattle.gw_leaves.specs.Leaves.{Values, source_shape, may_be_unlisted, may_be_long}
+use Rattle.gw_leaves.specs.Leaves.{Values, any, source_shape, may_be_unlisted, may_be_long}
 use Rattle.gw_leaves.specs.Context.{ContextValue}
 use Rattle.gw_leaves.specs.Uses.{sources_value, target_value, map_tables}
 use Rattle.gw_leaves.specs.own.Held.{given_texts, leaves_value}
@@ -56,6 +57,11 @@ source_failures s at rows from sub =
     spec.value_failures (target_value s) (mark at)
     (record { presence = (source_shape (sources_value s) (source from)).presence; values = rowed (map_tables s) (now rows) (source_shape (sources_value s) (source from)).values })
     (sub_value sub)
+
+-- of a date of so many digits
+abbrev pub dated_failures : profiles.Contents → FailureSite → Presence → ℕ → SubShape → List Failure
+dated_failures to at presence digits sub =
+    spec.value_failures (profile_value to) (mark at) (record { presence = presence; values = any Octets (Some digits) }) (sub_value sub)
 
 -- of a leaf, also of a constant
 abbrev pub leaf_failures : Sources → FailureSite → ResolvedLeaf → SubShape → List Failure

@@ -1,4 +1,5 @@
-use Rattle.std.proofs.Common.{sym, subst, map}
+use Rattle.std.proofs.Common.{Some, None, sym, subst, map}
+use Rattle.gw_maplang.specs.Seen.{condition, condition_some}
 use Rattle.gw_resolve.specs.Resolved.{repeat, build}
 use Rattle.gw_resolve.specs.Seen.{reference, at_leaf, making}
 use Rattle.gw_interp.specs.own.Making.{seen_from, MayMakeBy, IsMadeBy}
@@ -25,12 +26,21 @@ returns-in-First c =
     (subst (λ m. IsMadeBy (seen_from c.args.scope.now) (making c.args.rows.now.tables m) c.args.rule.now.field c.args.builder.now c.make_first.new.builder) (sym c.in-First.is))
     c.make_first.ensures
 
-pub returns-in-Repeat : goal.returns-in-Repeat
-returns-in-Repeat c =
+pub returns-in-Repeat-default-None-default : goal.returns-in-Repeat-default-None-default
+returns-in-Repeat-default-None-default c =
     on_ok _ _ c.make_repeat.result
-    (λ made. subst (λ m. IsMadeBy (seen_from c.args.scope.now) (making c.args.rows.now.tables m) c.args.rule.now.field c.args.builder.now c.make_repeat.new.builder) (sym c.in-Repeat.is)
-    (subst (λ l. IsMadeBy (seen_from c.args.scope.now) (repeat (reference c.in-Repeat.from) (map (at_leaf c.args.rows.now.tables) l)) c.args.rule.now.field c.args.builder.now c.make_repeat.new.builder) c.deref.ensures.value made))
+    (λ made. subst (λ m. IsMadeBy (seen_from c.args.scope.now) (making c.args.rows.now.tables m) c.args.rule.now.field c.args.builder.now c.make_repeat.new.builder) (sym c.in-Repeat-default-None-default.is)
+    (subst (λ o. IsMadeBy (seen_from c.args.scope.now) (repeat (reference c.in-Repeat-default-None-default.from) (condition_some o) (map (at_leaf c.args.rows.now.tables) c.in-Repeat-default-None-default.leaves.items)) c.args.rule.now.field c.args.builder.now c.make_repeat.new.builder) (sym c.in-Repeat-default-None-default.field-1-is)
+    (subst (λ l. IsMadeBy (seen_from c.args.scope.now) (repeat (reference c.in-Repeat-default-None-default.from) None (map (at_leaf c.args.rows.now.tables) l)) c.args.rule.now.field c.args.builder.now c.make_repeat.new.builder) c.deref.ensures.value made)))
     c.make_repeat.ensures
+
+pub returns-in-Repeat-default-Some-default : goal.returns-in-Repeat-default-Some-default
+returns-in-Repeat-default-Some-default c =
+    on_ok _ _ c.make_chosen.result
+    (λ made. subst (λ m. IsMadeBy (seen_from c.args.scope.now) (making c.args.rows.now.tables m) c.args.rule.now.field c.args.builder.now c.make_chosen.new.builder) (sym c.in-Repeat-default-Some-default.is)
+    (subst (λ o. IsMadeBy (seen_from c.args.scope.now) (repeat (reference c.in-Repeat-default-Some-default.from) (condition_some o) (map (at_leaf c.args.rows.now.tables) c.in-Repeat-default-Some-default.leaves.items)) c.args.rule.now.field c.args.builder.now c.make_chosen.new.builder) (sym c.in-Repeat-default-Some-default.field-1-is)
+    (subst (λ l. IsMadeBy (seen_from c.args.scope.now) (repeat (reference c.in-Repeat-default-Some-default.from) (Some (condition c.in-Repeat-default-Some-default.condition)) (map (at_leaf c.args.rows.now.tables) l)) c.args.rule.now.field c.args.builder.now c.make_chosen.new.builder) c.deref-in-Repeat-default-Some-default.ensures.value made)))
+    c.make_chosen.ensures
 
 pub returns-in-Build : goal.returns-in-Build
 returns-in-Build c =

@@ -9,15 +9,17 @@ returns-in_ok-from-in-CopyField-clause-made c = λ tables. rw c.in-CopyField.is 
 pub returns-in_ok-from-in-CopyField-clause-failures : goal.returns-in_ok-from-in-CopyField-clause-failures
 returns-in_ok-from-in-CopyField-clause-failures c = rw c.in-CopyField.is c.in_ok-from-in-CopyField.ensures.failures
 
-pub returns-in_ok-from-in-FirstRep-clause-made : goal.returns-in_ok-from-in-FirstRep-clause-made
-returns-in_ok-from-in-FirstRep-clause-made c = λ tables. rw c.in-FirstRep.is (ap first c.in_ok-from-in-FirstRep.ensures.made)
+pub returns-in_ok-chosen-in-FirstRep-clause-made : goal.returns-in_ok-chosen-in-FirstRep-clause-made
+returns-in_ok-chosen-in-FirstRep-clause-made c = λ tables.
+    rw c.in-FirstRep.is (λ i. first (c.in_ok-from-in-FirstRep.ensures.made i) (c.in_ok-chosen-in-FirstRep.ensures i))
 
-pub returns-in_ok-from-in-FirstRep-clause-failures : goal.returns-in_ok-from-in-FirstRep-clause-failures
-returns-in_ok-from-in-FirstRep-clause-failures c = rw c.in-FirstRep.is c.in_ok-from-in-FirstRep.ensures.failures
+pub returns-in_ok-chosen-in-FirstRep-clause-failures : goal.returns-in_ok-chosen-in-FirstRep-clause-failures
+returns-in_ok-chosen-in-FirstRep-clause-failures c = rw c.in-FirstRep.is c.in_ok-from-in-FirstRep.ensures.failures
 
 pub returns-in_ok-each-in-RepeatField-clause-made : goal.returns-in_ok-each-in-RepeatField-clause-made
 returns-in_ok-each-in-RepeatField-clause-made c = λ tables.
-    rw (c.in-RepeatField.is, ← c.deref.ensures.value) (λ i. repeat (c.in_ok-from-in-RepeatField.ensures.made i) (c.in_ok-each-in-RepeatField.ensures.made tables i))
+    rw (c.in-RepeatField.is, ← c.deref.ensures.value)
+        (λ i. repeat (c.in_ok-from-in-RepeatField.ensures.made i) (c.in_ok-chosen-in-RepeatField.ensures i) (c.in_ok-each-in-RepeatField.ensures.made tables i))
 
 pub returns-in_ok-each-in-RepeatField-clause-failures : goal.returns-in_ok-each-in-RepeatField-clause-failures
 returns-in_ok-each-in-RepeatField-clause-failures c =
