@@ -15,7 +15,7 @@ pub record Spot : Type 0 where
   pub sub : ℕ
 
 -- nothing that is named, a constant, an element of the source, a field of it that is repeated by leaves, what the rows of a table give for an element,
--- or so many of its first digits
+-- or its first digits
 pub data Origin : Type 0 where
   unsaid : Origin
   text : (octets : List ℕ) → Origin

@@ -24,7 +24,7 @@ pub enum Origin {
     Repeated(ElementPath),
     /// What the table of this name gives for an element of the source.
     LookedUp(Vec<u8>, ElementPath),
-    /// So many of the first digits of an element of the source.
+    /// The first digits, as many as said, of an element of the source.
     Dated(u32, ElementPath),
 }
 

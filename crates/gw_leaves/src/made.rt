@@ -63,7 +63,7 @@ fn check_source(
     )
 }
 
-// Of a date of so many digits: any table lacks some, and none has more.
+// Of the first digits of a text: each table lacks some of them, and their number is their greatest length.
 fn check_dated(
     found: &mut Vec<Failure>,
     target: &Profile,

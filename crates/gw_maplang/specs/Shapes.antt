@@ -21,7 +21,7 @@ pub data Leaf : Type 0 where
   Const : (value : List ℕ) → Leaf
   Copy : (ref : Ref) → Leaf
   Lookup : (table : List ℕ) (ref : Ref) → Leaf
-  -- so many of the first digits of a date and time
+  -- the first digits of a date and time, as many as said
   Date : (digits : ℕ) (ref : Ref) → Leaf
 
 pub record LeafValue : Type 0 where

@@ -13,7 +13,7 @@ pub data Source : Type 0 where
   of_field : (from : Reference) (comp sub : ℕ) → Source
   of_current : (comp sub : ℕ) → Source
 
--- a text, the text of a source, what the rows of a table give for that, or so many of its first digits
+-- a text, the text of a source, what the rows of a table give for that, or its first digits
 pub data Leaf : Type 0 where
   const : (text : List ℕ) → Leaf
   copied : (source : Source) → Leaf

@@ -23,7 +23,7 @@ pub enum Source {
     OfCurrent(LeafPlace),
 }
 
-/// A text, the text of a source, what the table of this name gives for that, or so many of its first digits.
+/// A text, the text of a source, what the table of this name gives for that, or its first digits.
 #[derive(Drop)]
 pub enum ResolvedLeaf {
     Const(Vec<u8>),

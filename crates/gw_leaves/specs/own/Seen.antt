@@ -58,7 +58,7 @@ source_failures s at rows from sub =
     (record { presence = (source_shape (sources_value s) (source from)).presence; values = rowed (map_tables s) (now rows) (source_shape (sources_value s) (source from)).values })
     (sub_value sub)
 
--- of a date of so many digits
+-- of the first digits of a text
 abbrev pub dated_failures : profiles.Contents → FailureSite → Presence → ℕ → SubShape → List Failure
 dated_failures to at presence digits sub =
     spec.value_failures (profile_value to) (mark at) (record { presence = presence; values = any Octets (Some digits) }) (sub_value sub)
