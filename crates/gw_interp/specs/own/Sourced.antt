@@ -29,6 +29,7 @@ pub record IsNext (P : ℕ → Type 0) (after n : ℕ) : Type 0 where
   pub behind : after < n
   pub none_between : (k : ℕ) → after < k → k < n → P k → ⊥
 
+-- the next of these behind it, if there is one
 abbrev pub IsNextOne : (ℕ → Type 0) → ℕ → Option ℕ → Type 0
 IsNextOne P after None = (k : ℕ) → after < k → P k → ⊥
 IsNextOne P after (Some n) = IsNext P after n
