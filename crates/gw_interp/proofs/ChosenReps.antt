@@ -1,16 +1,16 @@
 -- A field with a made repetition for each that a condition chooses of another.
-use Rattle.std.proofs.Common.{◌≡◌, ℕ, ◌+◌, inl, inr, ◌<◌, ◌≤◌, ◌⊎◌, List, [], ◌∷◌, Some, None, refl, sym, subst, arith}
+use Rattle.std.proofs.Common.{◌≡◌, ℕ, ◌+◌, inl, inr, ◌<◌, ◌≤◌, ◌⊎◌, List, Some, None, refl, sym, subst, arith}
 use Rattle.std.proofs.lemmas.Bool.{cases_lt}
-use Rattle.gw_er7.specs.Message.{Texts, text_of, SegmentValue}
+use Rattle.gw_er7.specs.Message.{Texts, SegmentValue}
 use Rattle.gw_er7.specs.Presence.{RepAt, IsLast}
 use Rattle.gw_validate.specs.Breaches.{Counted}
 use Rattle.gw_validate.proofs.Nexts.{some_counted}
 use Rattle.gw_maplang.specs.Shapes.{Condition}
-use Rattle.gw_resolve.specs.Resolved.{Reference, At, leaf_at, repeat}
+use Rattle.gw_resolve.specs.Resolved.{Reference, At, repeat}
 use Rattle.gw_interp.specs.Occurrences.{texts_at}
-use Rattle.gw_interp.specs.Meaning.{IsNth, IsChosen, Walked, walking, AtMeans, MakingMeans}
+use Rattle.gw_interp.specs.Meaning.{IsNth, IsChosen, Walked, walking, MakingMeans}
 use Rattle.gw_interp.specs.own.Sourced.{IsNext, IsNextOne}
-use Rattle.gw_interp.specs.own.Making.{MayMake, AreMade, rep_key, LeavesMean, MayFillRep, IsRepFilled, MayMakeBy, IsMadeBy}
+use Rattle.gw_interp.specs.own.Making.{rep_key, LeavesMean, MayFillRep, IsRepFilled, MayMakeBy, IsMadeBy}
 use Rattle.gw_interp.proofs.Makings.{none_made, may_next, next_made, all_made}
 use Rattle.gw_interp.proofs.Copies.{In, RepsUpTo}
 use Rattle.gw_interp.proofs.Chosen.{chosen_there, counted_next, counted_less}

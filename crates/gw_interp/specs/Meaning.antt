@@ -3,7 +3,7 @@ use Rattle.std.specs.Prelude.{◌≡◌, ℕ, ◌<◌, ◌&&◌, nat_le, take, �
 use Rattle.std.specs.List.{list_all, list_any}
 use Rattle.gw_lines.specs.Spelled.{is_digit}
 use Rattle.gw_er7.specs.Message.{Texts, text_of, SegmentValue}
-use Rattle.gw_er7.specs.Presence.{RepAt, FieldAt}
+use Rattle.gw_er7.specs.Presence.{RepAt}
 use Rattle.gw_profile.specs.Shapes.{Forest, ProfileValue}
 use Rattle.gw_validate.specs.Breaches.{is_null, Counted}
 use Rattle.gw_validate.specs.Cuts.{Cut}

@@ -2,7 +2,7 @@
 use Rattle.std.specs.Prelude.{◌≡◌, ℕ, ◌<◌, List, [], Option, Some, None}
 use Rattle.std.specs.FinMap as texts
 use Rattle.gw_er7.specs.Message.{Texts, text_of, SegmentValue}
-use Rattle.gw_er7.specs.Presence.{RepAt, FieldAt}
+use Rattle.gw_er7.specs.Presence.{RepAt}
 use Rattle.gw_interp.specs.declared.reading.Repetition.{Repetition}
 use Rattle.gw_interp.specs.declared.reading.Reading.{Reading}
 use Rattle.gw_resolve.specs.Resolved.{Leaf, const, copied, looked_up, dated}
