@@ -218,6 +218,16 @@ fn is_misplaced_leaf(made: &Leaf, held: &Option<OpenRule>) -> bool
     }
 }
 
+// Whether the open rule is a `repeat`.
+fn is_repeated(held: &Option<OpenRule>) -> bool
+    ensures { result ≡ spec.is_repeated (open_rule held.now) }
+{
+    match held {
+        None => false,
+        Some(rule) => rule.repeated,
+    }
+}
+
 fn is_placed(place: LeafPlace, held: &Option<OpenRule>) -> bool
     ensures { result ≡ spec.is_placed place (open_rule held.now) }
 {
@@ -364,6 +374,24 @@ impl<'a> Reader<'a> {
         None
     }
 
+    fn or_fault(&self, at: u32, made: &Leaf) -> Option<MapFault>
+        ensures { result ≡ first_of (spec.or_tests self.now at (leaf made.now)) }
+    {
+        if !self.open_parts.second
+            || !self.open_parts.led
+            || is_stray(is_repeated(&self.rule), made)
+        {
+            return Some(MapFault::Syntax(at));
+        }
+        if is_unknown(&self.tables, made) {
+            return Some(MapFault::UnknownTable(at));
+        }
+        if is_bad(made) {
+            return Some(MapFault::BadConstant(at));
+        }
+        None
+    }
+
     fn each_fault(&self, at: u32) -> Option<MapFault>
         ensures { result ≡ first_of (spec.each_tests self.now at) }
     {
@@ -409,6 +437,7 @@ impl<'a> Reader<'a> {
             Line::Segment(_, _, _) => self.segment_fault(at),
             Line::Makes(rule) => self.rule_fault(at, rule),
             Line::At(leaf) => self.leaf_fault(at, leaf),
+            Line::Or(other) => self.or_fault(at, &other.leaf),
             Line::Each(_, _, _) => self.each_fault(at),
             Line::End => self.end_fault(at),
             Line::Drops(_) => self.drop_fault(at),
