@@ -12,7 +12,7 @@ ghost use Rattle.gw_resolve.specs.Seen.{leaf as seen_leaf, alternative, at_leaf}
 ghost use Rattle.gw_validate.specs.Breaches.{is_null};
 ghost use Rattle.gw_interp.specs.own.Borrowed.{AreOf};
 ghost use Rattle.gw_interp.specs.Meaning.{look_up, first_digits};
-ghost use Rattle.gw_interp.specs.own.Sourced.{walks, LeafGives, FirstGives};
+ghost use Rattle.gw_interp.specs.own.Sourced.{walks, LeafGives, settles, FirstGives};
 
 use crate::reading::{Reading, source_text};
 use gw_maplang::{Map, Table};
@@ -89,6 +89,16 @@ fn leaf_text<'a>(
     }
 }
 
+// Whether the leaves behind aren't asked: a leaf gave a text, or its table has nothing for what is read.
+fn settles(given: Option<&[u8]>) -> bool
+    ensures { result ≡ settles (now given.entry) }
+{
+    match given {
+        Some([]) => false,
+        _ => true,
+    }
+}
+
 // The first text that one of these leaves gives, empty where none does. `None` if the table of one has nothing for what is read.
 fn first_text<'a>(
     map: &'a Map,
@@ -98,9 +108,9 @@ fn first_text<'a>(
     ensures { (m : List SegmentValue) → AreOf m reading.now.scope.now → FirstGives (walks m reading.now) (map (alternative map.now.tables) others.now) (now result) }
 {
     for other in others {
-        let text = leaf_text(map, reading, &other.leaf)?;
-        if !text.is_empty() {
-            return Some(text);
+        let given = leaf_text(map, reading, &other.leaf);
+        if settles(given) {
+            return given;
         }
     }
     Some(&[])
@@ -114,9 +124,9 @@ pub(crate) fn place_text<'a>(
 ) -> Option<&'a [u8]>
     ensures { (m : List SegmentValue) → AreOf m reading.now.scope.now → FirstGives (walks m reading.now) (alternatives (at_leaf map.now.tables at.now)) (now result) }
 {
-    let text = leaf_text(map, reading, &at.leaf)?;
-    if !text.is_empty() {
-        return Some(text);
+    let own = leaf_text(map, reading, &at.leaf);
+    if settles(own) {
+        return own;
     }
     first_text(map, reading, &at.others)
 }

@@ -1,5 +1,5 @@
 //! Builds a map from its lines, from the last to the first.
-ghost use Rattle.std.specs.Prelude.{◌≡◌, map, reverse, IfOk, OnOk, Some, None};
+ghost use Rattle.std.specs.Prelude.{◌≡◌, [], map, reverse, IfOk, OnOk, Some, None};
 ghost use Rattle.gw_maplang.specs.own.Building.{Stands, Grows, parts_of, levels_of, all_behind, IsSegment, IsEach, head_value};
 ghost use Rattle.gw_maplang.specs.Seen.{line, rule, alternative, leaf_value, dropped, all_items, now, items_of, path, path_some};
 ghost use Rattle.gw_maplang.specs.Line as line_of;
@@ -93,14 +93,14 @@ fn add_segment(
     Ok(())
 }
 
-// The `or` lines below the current one, in order.
-fn take_others(alloc: Global, below: &mut Below) -> Vec<Alternative>
-    ensures others { map alternative result.items ≡ (parts_of below.old).others }
-    ensures rest { below.new ≡ record below.old { others = below.new.others } }
+// Takes what stands below the current line, in order.
+fn take_others(alloc: Global, others: &mut Vec<Alternative>) -> Vec<Alternative>
+    ensures taken { result.items ≡ reverse others.old.items }
+    ensures none { others.new.items ≡ [] }
 {
-    let mut others = mem::replace(&mut below.others, Vec::new(alloc));
-    others.reverse();
-    others
+    let mut taken = mem::replace(others, Vec::new(alloc));
+    taken.reverse();
+    taken
 }
 
 // The leaf of the rule's own line with the others of the lines below it, else the leaves of those lines.
@@ -155,7 +155,7 @@ fn rule_with(made: Rule, others: Vec<Alternative>, below: Vec<LeafRule>) -> Rule
 fn add_rule(alloc: Global, below: &mut Below, made: Rule) -> Result<(), AllocError>
     ensures { OnOk result (Grows below.old below.new (line_of.Makes (rule made))) }
 {
-    let others = take_others(alloc, below);
+    let others = take_others(alloc, &mut below.others);
     let mut leaves = mem::replace(&mut below.leaves, Vec::new(alloc));
     leaves.reverse();
     let made = rule_with(made, others, leaves);
@@ -172,7 +172,7 @@ fn with_others(made: LeafRule, others: Vec<Alternative>) -> LeafRule
 fn add_leaf(alloc: Global, below: &mut Below, made: LeafRule) -> Result<(), AllocError>
     ensures { OnOk result (Grows below.old below.new (line_of.At (leaf_value made))) }
 {
-    let others = take_others(alloc, below);
+    let others = take_others(alloc, &mut below.others);
     let made = with_others(made, others);
     below.leaves.push(made)?;
     Ok(())

@@ -1,5 +1,5 @@
 -- What the program reads at the sources of a map.
-use Rattle.std.specs.Prelude.{◌≡◌, ℕ, ◌<◌, List, [], Option, Some, None}
+use Rattle.std.specs.Prelude.{◌≡◌, ℕ, ◌<◌, Bool, true, false, List, [], ◌∷◌, Option, Some, None}
 use Rattle.std.specs.List.{AllByRecursion}
 use Rattle.std.specs.FinMap as texts
 use Rattle.gw_er7.specs.Message.{Texts, text_of, SegmentValue}
@@ -53,6 +53,12 @@ IsFault w (dated digits source) = ⊥
 abbrev pub LeafGives : Walked → Leaf → Option (List ℕ) → Type 0
 LeafGives w leaf None = IsFault w leaf
 LeafGives w leaf (Some text) = LeafMeans w leaf text
+
+-- a text or a fault, so that the leaves behind aren't asked
+abbrev pub settles : Option (List ℕ) → Bool
+settles None = true
+settles (Some []) = false
+settles (Some (b ∷ text)) = true
 
 -- none of these leaves is a fault
 abbrev pub NoFaultOf : Walked → List Alternative → Type 0
