@@ -94,8 +94,9 @@ fn settles(given: Option<&[u8]>) -> bool
     ensures { result ≡ settles (now given.entry) }
 {
     match given {
+        None => true,
         Some([]) => false,
-        _ => true,
+        Some([_, ..]) => true,
     }
 }
 
