@@ -288,14 +288,23 @@ else_tests above at values =
 abbrev pub segment_tests : List Line → ℕ → List (Bool × MapFault)
 segment_tests above at = (not (begun above), Syntax at) ∷ []
 
+-- no segment above can hold this rule, or its language has no such rule
+abbrev pub is_misplaced_rule : List Line → RuleValue → Bool
+is_misplaced_rule above rule =
+    is_misplaced rule.field (open_segment above) || is_hasty (is_second above) (condition_of rule.making)
+    || list_any (λ l. is_stray false l.leaf || is_early (is_second above) l.leaf) (own_leaf rule.making)
+
+-- its leaf looks up in no table above
+abbrev pub is_unknown_rule : List Line → RuleValue → Bool
+is_unknown_rule above rule = list_any (λ l. is_unknown (wide_tables above) l.leaf) (own_leaf rule.making)
+
+-- its condition or its leaf has a constant that is no value
+abbrev pub is_bad_rule : RuleValue → Bool
+is_bad_rule rule = is_bad_condition (condition_of rule.making) || list_any (λ l. is_bad l.leaf) (own_leaf rule.making)
+
 abbrev pub rule_tests : List Line → ℕ → RuleValue → List (Bool × MapFault)
-rule_tests above at rule = (
-  is_misplaced rule.field (open_segment above) || is_hasty (is_second above) (condition_of rule.making)
-      || list_any (λ l. is_stray false l.leaf || is_early (is_second above) l.leaf) (own_leaf rule.making),
-  Syntax at,
-)
-    ∷ (list_any (λ l. is_unknown (wide_tables above) l.leaf) (own_leaf rule.making), UnknownTable at)
-    ∷ (is_bad_condition (condition_of rule.making) || list_any (λ l. is_bad l.leaf) (own_leaf rule.making), BadConstant at)
+rule_tests above at rule =
+    (is_misplaced_rule above rule, Syntax at) ∷ (is_unknown_rule above rule, UnknownTable at) ∷ (is_bad_rule rule, BadConstant at)
     ∷ (is_made rule.field (open_segment above), Duplicate at) ∷ []
 
 abbrev pub leaf_tests : List Line → ℕ → LeafValue → List (Bool × MapFault)

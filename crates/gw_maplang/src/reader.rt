@@ -191,6 +191,15 @@ fn any_bad(leaves: &[LeafRule]) -> bool
     false
 }
 
+fn is_bad_rule(made: &Rule) -> bool
+    ensures { result ≡ spec.is_bad_rule (rule made.now) }
+{
+    if is_bad_condition(made.condition()) {
+        return true;
+    }
+    any_bad(own_leaf(made))
+}
+
 fn is_misplaced(field: u32, held: &Option<OpenSegment>) -> bool
     ensures { result ≡ spec.is_misplaced field (open_segment held.now) }
 {
@@ -331,21 +340,36 @@ impl<'a> Reader<'a> {
         }
     }
 
+    // Whether no segment above can hold the rule, or the language of the map has no such rule.
+    fn is_misplaced_rule(&self, made: &Rule) -> bool
+        ensures { result ≡ spec.is_misplaced_rule self.now (rule made.now) }
+    {
+        let second = self.open_parts.second;
+        if is_misplaced(made.field(), &self.segment) {
+            return true;
+        }
+        if is_hasty(second, made.condition()) {
+            return true;
+        }
+        any_stray(second, own_leaf(made))
+    }
+
+    fn is_unknown_rule(&self, made: &Rule) -> bool
+        ensures { result ≡ spec.is_unknown_rule self.now (rule made.now) }
+    {
+        any_unknown(&self.tables, own_leaf(made))
+    }
+
     fn rule_fault(&self, at: u32, made: &Rule) -> Option<MapFault>
         ensures { result ≡ first_of (spec.rule_tests self.now at (rule made.now)) }
     {
-        let own = own_leaf(made);
-        let asked = made.condition();
-        if is_misplaced(made.field(), &self.segment)
-            || is_hasty(self.open_parts.second, asked)
-            || any_stray(self.open_parts.second, own)
-        {
+        if self.is_misplaced_rule(made) {
             return Some(MapFault::Syntax(at));
         }
-        if any_unknown(&self.tables, own) {
+        if self.is_unknown_rule(made) {
             return Some(MapFault::UnknownTable(at));
         }
-        if is_bad_condition(asked) || any_bad(own) {
+        if is_bad_rule(made) {
             return Some(MapFault::BadConstant(at));
         }
         if is_made(made.field(), &self.segment) {
