@@ -2,7 +2,7 @@
 use Rattle.std.specs.Prelude.{ℕ, ◌==◌, List, [], ◌∷◌, ◌++◌, flat_map, find, Option, Some, None, option_to_list}
 use Rattle.gw_maplang.specs.Shapes.{Rows}
 use Rattle.gw_resolve.specs.Places.{Place}
-use Rattle.gw_resolve.specs.Resolved.{Reference, Source, of_field, of_current, Leaf, const, copied, looked_up, dated, At, Making, copy, first, repeat, build, Rule, SegmentItem, Items, no_items, segment_item, group_item, flat_item, first_child}
+use Rattle.gw_resolve.specs.Resolved.{Reference, Source, of_field, of_current, Leaf, const, copied, looked_up, dated, Alternative, At, alternatives, Making, copy, first, repeat, build, Rule, SegmentItem, Items, no_items, segment_item, group_item, flat_item, first_child}
 use Rattle.gw_resolve.specs.Positions.{Position, position, walked, inner, inner_if}
 
 -- An element of a profile: a node, by the numbers of the nodes from the top on, or in it a field, a component, a subcomponent; 0 is said where the whole is meant.
@@ -60,9 +60,13 @@ node_origin scope place = read (spot_at scope place 0 0 0)
 
 -- ---- rules
 
--- a leaf of a field, in the segment at this position
+-- one of the leaves of a place of a field, in the segment at this position
+abbrev pub other_sites : List Position → Option Reference → Position → ℕ → ℕ → ℕ → Alternative → List Site
+other_sites scope around at field comp sub o = site_of o.line at field comp sub (leaf_origin scope around o.leaf) ∷ []
+
+-- all of them
 abbrev pub leaf_sites : List Position → Option Reference → Position → ℕ → At → List Site
-leaf_sites scope around at field a = site_of a.line at field a.comp a.sub (leaf_origin scope around a.leaf) ∷ []
+leaf_sites scope around at field a = flat_map (other_sites scope around at field a.comp a.sub) (alternatives a)
 
 -- leaves stand before their field: of a rule of one leaf in one line the leaf is named
 abbrev pub making_sites : List Position → Position → ℕ → ℕ → Making → List Site

@@ -95,7 +95,7 @@ sex_map behind rows other =
       items =
           item (behind + 1) (codes "MSH") (codes "MSH") (copies (behind + 2) (codes "MSH") 10 ∷ [])
           (item (behind + 3) (codes "PID") (codes "PID")
-          (record { line = behind + 4; field = 8; making = raw.Builds (record { line = behind + 4; place = leaf_place; leaf = raw.Lookup (codes "SEXMAP") (raw.Field (from (codes "PID") 8) leaf_place) } ∷ []) } ∷ [])
+          (record { line = behind + 4; field = 8; making = raw.Builds (record { line = behind + 4; place = leaf_place; leaf = raw.Lookup (codes "SEXMAP") (raw.Field (from (codes "PID") 8) leaf_place); others = [] } ∷ []) } ∷ [])
           raw.nothing);
       drops = dropped (behind + 5) 3 ∷ dropped (behind + 6) 5 ∷ [];
     }

@@ -14,6 +14,8 @@ pub mod Shaped
 pub mod Held
 pub mod Sources
 pub mod Leaves
+pub mod Firsts
+pub mod InTurn
 pub mod Repetitions
 pub mod Carried
 pub mod Contents

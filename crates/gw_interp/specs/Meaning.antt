@@ -10,7 +10,7 @@ use Rattle.gw_validate.specs.Cuts.{Cut}
 use Rattle.gw_validate.specs.Trees.{Tree}
 use Rattle.gw_maplang.specs.Shapes.{Rows, Condition}
 use Rattle.gw_resolve.specs.Places.{Place, child, nodes_of_child, name_of}
-use Rattle.gw_resolve.specs.Resolved.{Reference, Source, of_field, of_current, Leaf, const, copied, looked_up, dated, At, leaf_at, Making, copy, first, repeat, build, Rule, rule_of, Items, no_items, segment_item, group_item, flat_item, Resolved}
+use Rattle.gw_resolve.specs.Resolved.{Reference, Source, of_field, of_current, Leaf, const, copied, looked_up, dated, Alternative, At, alternatives, leaf_at, Making, copy, first, repeat, build, Rule, rule_of, Items, no_items, segment_item, group_item, flat_item, Resolved}
 use Rattle.gw_leaves.specs.Leaves.{given}
 use Rattle.gw_interp.specs.Occurrences as occurrences
 use Rattle.gw_interp.specs.Occurrences.{Occurrence, at_place, texts_at}
@@ -66,9 +66,14 @@ LeafMeans w (copied source) text = SourceMeans w source text
 LeafMeans w (looked_up table source) text = (from : List ℕ) × SourceMeans w source from × (look_up table from ≡ Some text)
 LeafMeans w (dated digits source) text = (from : List ℕ) × SourceMeans w source from × (text ≡ first_digits digits from)
 
+-- the first text that one of these leaves gives, absent where none does; "" is a text
+abbrev pub FirstText : Walked → List Alternative → List ℕ → Type 0
+FirstText w [] text = text ≡ []
+FirstText w (o ∷ os) text = (LeafMeans w o.leaf text × (0 < length text)) ⊎ (LeafMeans w o.leaf [] × FirstText w os text)
+
 abbrev pub AtMeans : Walked → Option At → List ℕ → Type 0
 AtMeans w None text = text ≡ []
-AtMeans w (Some a) text = LeafMeans w a.leaf text
+AtMeans w (Some a) text = FirstText w (alternatives a) text
 
 -- ---- repetitions
 

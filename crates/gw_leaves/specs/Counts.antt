@@ -6,7 +6,7 @@ use Rattle.gw_maplang.specs.Shapes.{Condition}
 use Rattle.gw_resolve.specs.Intervals.{Interval, never, once, any_number, of_card, is_sure, is_never, at_most_one}
 use Rattle.gw_resolve.specs.Places.{Known, known}
 use Rattle.gw_resolve.specs.Resolved.{Reference, At, Making, copy, first, repeat, build, Rule}
-use Rattle.gw_leaves.specs.Leaves.{Sources, at_field, leaf_shape, is_always, is_absent}
+use Rattle.gw_leaves.specs.Leaves.{Sources, at_field, at_presence, is_always, is_absent}
 
 abbrev pub repetitions : Option FieldValue → Interval
 repetitions None = any_number
@@ -26,12 +26,12 @@ abbrev pub chosen_count : Option Condition → Interval → Interval
 chosen_count None count = count
 chosen_count (Some c) count = record { least = 0; greatest = count.greatest }
 
--- some leaf is always there; none ever is
+-- some place always has a text; none ever has
 abbrev pub some_always : Sources → List At → Bool
-some_always s leaves = list_any (λ a. is_always (leaf_shape s a.leaf).presence) leaves
+some_always s leaves = list_any (λ a. is_always (at_presence s a)) leaves
 
 abbrev pub all_absent : Sources → List At → Bool
-all_absent s leaves = list_all (λ a. is_absent (leaf_shape s a.leaf).presence) leaves
+all_absent s leaves = list_all (λ a. is_absent (at_presence s a)) leaves
 
 -- below `repeat` the field that is walked
 abbrev pub walking : Sources → Reference → Sources

@@ -14,7 +14,7 @@ use Rattle.gw_maplang.specs.Among.{Distinct}
 use Rattle.gw_maplang.specs.Columns.{behind_first, is_table_word}
 use Rattle.gw_maplang.specs.Shapes.{Path, FieldPath, Ref, Field, Current, Leaf, Const, Copy, Lookup, Date, LeafValue, Condition, Making, Copies, Firsts, Repeats, Builds}
 use Rattle.gw_maplang.specs.Lawful.{LawfulPath, LawfulField, LawfulFieldPath, LawfulPlace, LawfulDrop, is_date_length, last_label, places}
-use Rattle.gw_maplang.specs.Line.{Line, Begins, Language, Table, Rows, Else, Segment, Makes, At, Each, End, Drops, is_slash, is_dash, path_of, field_of, field_path, sub_of, place_of, place_or_first, field_ref, ref_of, dropped_field, drop_of, constant, plain_word, plain_at, text_at, some_bytes, texts, most_columns, some_texts, all_texts, where_at, condition_form, condition_at, table_word, from_at, const_form, copy_form, lookup_form, date_length, date_from, date_form, leaf_of, leaf_form, own_leaves, map_form, language_form, table_form, row_form, else_form, source_behind, source_at, segment_form, made_from, chosen_from, copies_form, firsts_form, repeats_form, builds_form, at_form, each_form, group_form, drop_form, rule_form, keyword_form, form}
+use Rattle.gw_maplang.specs.Line.{Line, Begins, Language, Table, Rows, Else, Segment, Makes, At, Or, Each, End, Drops, is_slash, is_dash, path_of, field_of, field_path, sub_of, place_of, place_or_first, field_ref, ref_of, dropped_field, drop_of, constant, plain_word, plain_at, text_at, some_bytes, texts, most_columns, some_texts, all_texts, where_at, condition_form, condition_at, table_word, from_at, const_form, copy_form, lookup_form, date_length, date_from, date_form, leaf_of, leaf_form, own_leaves, map_form, language_form, table_form, row_form, else_form, source_behind, source_at, segment_form, made_from, chosen_from, copies_form, firsts_form, repeats_form, builds_form, at_form, or_form, each_form, group_form, drop_form, rule_form, keyword_form, form}
 
 abbrev pub ShapedRef : Ref → Type 0
 ShapedRef (Field from place) = LawfulFieldPath from × LawfulPlace place
@@ -27,7 +27,7 @@ ShapedLeaf (Lookup table ref) = (is_table_word table ≡ true) × ShapedRef ref
 ShapedLeaf (Date digits ref) = (is_date_length digits ≡ true) × ShapedRef ref
 
 abbrev pub ShapedLeafValue : LeafValue → Type 0
-ShapedLeafValue l = LawfulPlace l.place × ShapedLeaf l.leaf
+ShapedLeafValue l = LawfulPlace l.place × ShapedLeaf l.leaf × (l.others ≡ [])
 
 abbrev pub ShapedLeaves : List LeafValue → Type 0
 ShapedLeaves leaves = AllByRecursion ShapedLeafValue leaves × Distinct (places leaves)
@@ -54,6 +54,7 @@ Shaped (Else values) = IsFew values
 Shaped (Segment at label source) = (is_name label ≡ true) × IfSome source LawfulPath
 Shaped (Makes rule) = (rule.field ≤ 999) × ShapedMaking rule.making
 Shaped (At leaf) = ShapedLeafValue leaf
+Shaped (Or other) = ShapedLeaf other.leaf
 Shaped (Each at label path) = IfSome label (λ name. is_name name ≡ true) × LawfulPath path
 Shaped End = Unit {0}
 Shaped (Drops drop) = LawfulDrop drop
@@ -168,7 +169,7 @@ leaf_form_is (keyword ∷ more) = leaf_of_is keyword more
 
 own_leaves_is : (at : ℕ) (words : List Word) → IfSome (own_leaves at words) ShapedLeaves
 own_leaves_is at [] = (tt, tt)
-own_leaves_is at (w ∷ words) = map_gives ShapedLeaf ShapedLeaves (leaf_form (w ∷ words)) _ (leaf_form_is (w ∷ words)) (λ leaf h. (((first_place, h), tt), ((λ k. k), tt)))
+own_leaves_is at (w ∷ words) = map_gives ShapedLeaf ShapedLeaves (leaf_form (w ∷ words)) _ (leaf_form_is (w ∷ words)) (λ leaf h. (((first_place, h, refl), tt), ((λ k. k), tt)))
 
 -- ---- lines
 
@@ -266,7 +267,10 @@ builds_form_is at words =
 at_form_is : (at : ℕ) (words : List Word) → IfSome (at_form at words) Shaped
 at_form_is at words =
     gives (λ p. LawfulPlace p.0) Shaped (plain_at place_of words) _ (plain_at_is LawfulPlace place_of place_of_is words)
-    (λ place h. gives ShapedLeaf Shaped (leaf_form place.1) _ (leaf_form_is place.1) (λ leaf k. (h, k)))
+    (λ place h. gives ShapedLeaf Shaped (leaf_form place.1) _ (leaf_form_is place.1) (λ leaf k. (h, k, refl)))
+
+or_form_is : (at : ℕ) (words : List Word) → IfSome (or_form at words) Shaped
+or_form_is at words = map_gives ShapedLeaf Shaped (leaf_form words) _ (leaf_form_is words) (λ leaf h. h)
 
 each_form_is : (at : ℕ) (label : Option (List ℕ)) (words : List Word) → IfSome label (λ name. is_name name ≡ true) → IfSome (each_form at label words) Shaped
 each_form_is at label words h =
@@ -286,7 +290,8 @@ rule_form_is at keyword more =
     (either_gives Shaped (is_keyword (codes "first") keyword) (firsts_form at more) _ (map_gives ChosenFrom Shaped (chosen_from more) _ (chosen_from_is more) (λ m h. (h.0, (h.1, h.2))))
     (either_gives Shaped (is_keyword (codes "repeat") keyword) (repeats_form at more) _ (map_gives ChosenFrom Shaped (chosen_from more) _ (chosen_from_is more) (λ m h. (h.0, (h.1, h.2, refl))))
     (either_gives Shaped (is_keyword (codes "build") keyword) (builds_form at more) _ (builds_form_is at more)
-    (either_gives Shaped (is_keyword (codes "at") keyword) (at_form at more) None (at_form_is at more) tt))))
+    (either_gives Shaped (is_keyword (codes "at") keyword) (at_form at more) _ (at_form_is at more)
+    (either_gives Shaped (is_keyword (codes "or") keyword) (or_form at more) None (or_form_is at more) tt)))))
 
 keyword_form_is : (at : ℕ) (keyword : Word) (more : List Word) → IfSome (keyword_form at keyword more) Shaped
 keyword_form_is at keyword more =

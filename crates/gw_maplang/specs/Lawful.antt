@@ -6,7 +6,7 @@ use Rattle.gw_lines.specs.Values.{is_value}
 use Rattle.gw_maplang.specs.declared.rule.LeafPlace.{LeafPlace}
 use Rattle.gw_maplang.specs.Among.{Among, Distinct}
 use Rattle.gw_maplang.specs.Columns.{is_table_word}
-use Rattle.gw_maplang.specs.Shapes.{Path, FieldPath, Ref, Field, Current, Leaf, Const, Copy, Lookup, Date, LeafValue, Condition, Making, Copies, Firsts, Repeats, Builds, RuleValue, SegmentItem, GroupItem, FlatItem, Items, nothing, segment, group, flat, Row, TableValue, DropValue, MapValue}
+use Rattle.gw_maplang.specs.Shapes.{Path, FieldPath, Ref, Field, Current, Leaf, Const, Copy, Lookup, Date, Alternative, LeafValue, Condition, Making, Copies, Firsts, Repeats, Builds, RuleValue, SegmentItem, GroupItem, FlatItem, Items, nothing, segment, group, flat, Row, TableValue, DropValue, MapValue}
 
 -- ---- numbers and paths
 
@@ -58,8 +58,11 @@ LawfulLeaf tables repeated (Copy ref) = LawfulRef repeated ref
 LawfulLeaf tables repeated (Lookup table ref) = Among table tables × LawfulRef repeated ref
 LawfulLeaf tables repeated (Date digits ref) = (is_date_length digits ≡ true) × LawfulRef repeated ref
 
+abbrev pub LawfulOthers : List (List ℕ) → Bool → List Alternative → Type 0
+LawfulOthers tables repeated others = AllByRecursion (λ (o : Alternative). LawfulLeaf tables repeated o.leaf) others
+
 abbrev pub LawfulLeafValue : List (List ℕ) → Bool → LeafValue → Type 0
-LawfulLeafValue tables repeated l = LawfulPlace l.place × LawfulLeaf tables repeated l.leaf
+LawfulLeafValue tables repeated l = LawfulPlace l.place × LawfulLeaf tables repeated l.leaf × LawfulOthers tables repeated l.others
 
 abbrev pub places : List LeafValue → List LeafPlace
 places = map (λ (l : LeafValue). l.place)

@@ -7,7 +7,7 @@ use Rattle.gw_lines.specs.Spelled.{plain_bytes, is_keyword, is_name, is_dot, num
 use Rattle.gw_lines.specs.Values.{bytes_of}
 use Rattle.gw_lines.specs.Parts.{first_word, name_at, number_at, behind, with_all, ◌>>=◌}
 use Rattle.gw_maplang.specs.declared.rule.LeafPlace.{LeafPlace}
-use Rattle.gw_maplang.specs.Shapes.{Path, FieldPath, Ref, Field, Current, Leaf, Const, Copy, Lookup, Date, LeafValue, Condition, Copies, Firsts, Repeats, Builds, RuleValue, DropValue}
+use Rattle.gw_maplang.specs.Shapes.{Path, FieldPath, Ref, Field, Current, Leaf, Const, Copy, Lookup, Date, Alternative, LeafValue, Condition, Copies, Firsts, Repeats, Builds, RuleValue, DropValue}
 use Rattle.gw_maplang.specs.Columns.{WideRow, behind_first, is_table_word}
 use Rattle.gw_maplang.specs.Lawful.{least_field, last_label, is_date_length}
 
@@ -22,6 +22,7 @@ pub data Line : Type 0 where
   Segment : (at : ℕ) (label : List ℕ) (source : Option Path) → Line
   Makes : (rule : RuleValue) → Line
   At : (leaf : LeafValue) → Line
+  Or : (other : Alternative) → Line
   Each : (at : ℕ) (label : Option (List ℕ)) (path : Path) → Line
   End : Line
   Drops : (drop : DropValue) → Line
@@ -229,7 +230,7 @@ leaf_form (keyword ∷ more) = leaf_of keyword more
 -- [LEAF], at place 1.1
 abbrev pub own_leaves : ℕ → List Word → Option (List LeafValue)
 own_leaves at [] = Some []
-own_leaves at (w ∷ words) = option_map (λ leaf. record { line = at; place = record { comp = 1; sub = 1 }; leaf = leaf } ∷ []) (leaf_form (w ∷ words))
+own_leaves at (w ∷ words) = option_map (λ leaf. record { line = at; place = record { comp = 1; sub = 1 }; leaf = leaf; others = [] } ∷ []) (leaf_form (w ∷ words))
 
 -- ---- lines
 
@@ -322,7 +323,11 @@ abbrev pub at_form : ℕ → List Word → Option Line
 at_form at words = do
   place ← plain_at place_of words
   leaf ← leaf_form place.1
-  Some (At (record { line = at; place = place.0; leaf = leaf }))
+  Some (At (record { line = at; place = place.0; leaf = leaf; others = [] }))
+
+-- or LEAF
+abbrev pub or_form : ℕ → List Word → Option Line
+or_form at words = option_map (λ leaf. Or (record { line = at; leaf = leaf })) (leaf_form words)
 
 -- each PATH
 abbrev pub each_form : ℕ → Option (List ℕ) → List Word → Option Line
@@ -351,6 +356,7 @@ rule_form at keyword more =
     else if is_keyword (codes "repeat") keyword then repeats_form at more
     else if is_keyword (codes "build") keyword then builds_form at more
     else if is_keyword (codes "at") keyword then at_form at more
+    else if is_keyword (codes "or") keyword then or_form at more
     else None
 
 -- the line of a keyword and the words behind it

@@ -37,6 +37,10 @@ row_pattern second = if second then codes "row VALUE VALUE .., below a table, wi
 abbrev pub else_pattern : Bool → List ℕ
 else_pattern second = if second then codes "else VALUE .., below a table, with as many as the lines above" else codes "else VALUE, below a table"
 
+-- the same of `or` lines; in the first language it is no keyword
+abbrev pub or_pattern : Bool → List ℕ
+or_pattern second = if second then codes "or LEAF, below at or build with a LEAF" else item_pattern (codes "or")
+
 -- the same of all lines
 abbrev pub pattern : Bool → List ℕ → List ℕ
 pattern second keyword =
@@ -45,6 +49,7 @@ pattern second keyword =
     else if bytes_eq keyword (codes "table") then codes "table NAME, before the first item"
     else if bytes_eq keyword (codes "row") then row_pattern second
     else if bytes_eq keyword (codes "else") then else_pattern second
+    else if bytes_eq keyword (codes "or") then or_pattern second
     else rule_pattern second keyword
 
 -- whether the map is one of the second language, by the keyword of its line

@@ -7,6 +7,7 @@ use Rattle.gw_maplang.specs.declared.rule.FieldPath as field_paths
 use Rattle.gw_maplang.specs.declared.rule.Ref as refs
 use Rattle.gw_maplang.specs.declared.rule.Leaf as leaves
 use Rattle.gw_maplang.specs.declared.rule.LeafRule.{LeafRule}
+use Rattle.gw_maplang.specs.declared.rule.Alternative as alternatives
 use Rattle.gw_maplang.specs.declared.rule.Condition as conditions
 use Rattle.gw_maplang.specs.declared.rule.Rule as rules
 use Rattle.gw_maplang.specs.declared.rule.Dropped.{Dropped}
@@ -17,7 +18,7 @@ use Rattle.gw_maplang.specs.declared.context as Held
 use Rattle.gw_maplang.specs.Fault as Fault
 use Rattle.gw_lines.specs.Grammar.{AllTaken}
 use Rattle.gw_maplang.specs.Columns.{WideRow, WideRows, WideTable}
-use Rattle.gw_maplang.specs.Shapes.{Path, FieldPath, Ref, Field, Current, Leaf, Const, Copy, Lookup, Date, LeafValue, Condition, Copies, Firsts, Repeats, Builds, RuleValue, Items, nothing, segment, group, flat, Row, Rows, TableValue, DropValue, MapValue}
+use Rattle.gw_maplang.specs.Shapes.{Path, FieldPath, Ref, Field, Current, Leaf, Const, Copy, Lookup, Date, Alternative, LeafValue, Condition, Copies, Firsts, Repeats, Builds, RuleValue, Items, nothing, segment, group, flat, Row, Rows, TableValue, DropValue, MapValue}
 
 abbrev pub now : Option (Bor (List ℕ)) → Option (List ℕ)
 now found = option_map (λ bytes. bytes.now) found
@@ -52,8 +53,11 @@ leaf (leaves.TheVariants.Copy r) = Copy (ref r)
 leaf (leaves.TheVariants.Lookup name r) = Lookup name.items (ref r)
 leaf (leaves.TheVariants.Date digits r) = Date digits (ref r)
 
+abbrev pub alternative : alternatives.Alternative → Alternative
+alternative o = record { line = o.line; leaf = leaf o.leaf }
+
 abbrev pub leaf_value : LeafRule → LeafValue
-leaf_value l = record { line = l.line; place = l.place; leaf = leaf l.leaf }
+leaf_value l = record { line = l.line; place = l.place; leaf = leaf l.leaf; others = map alternative l.others.items }
 
 abbrev pub condition : conditions.Condition → Condition
 condition c = record { place = c.place; values = path c.values }
@@ -134,6 +138,7 @@ line (declared.TheVariants.Else values) = Spec.Else (now_all values.items)
 line (declared.TheVariants.Segment at label source) = Spec.Segment at label.now (path_some source)
 line (declared.TheVariants.Makes r) = Spec.Makes (rule r)
 line (declared.TheVariants.At l) = Spec.At (leaf_value l)
+line (declared.TheVariants.Or o) = Spec.Or (alternative o)
 line (declared.TheVariants.Each at label p) = Spec.Each at (now label) (path p)
 line declared.TheVariants.End = Spec.End
 line (declared.TheVariants.Drops d) = Spec.Drops (dropped d)
@@ -151,7 +156,7 @@ abbrev pub open_rule : Option Held.OpenRule.OpenRule → Option Fault.OpenRule
 open_rule r = option_map (λ o. record { repeated = o.repeated; places = o.places.keys }) r
 
 abbrev pub open_parts : List Spec.Line → Held.OpenParts.OpenParts
-open_parts above = record { second = Fault.is_second above; in_table = Fault.in_table above; has_item = Fault.has_item above; depth = Fault.depth above; hollow = Fault.hollow above }
+open_parts above = record { second = Fault.is_second above; in_table = Fault.in_table above; has_item = Fault.has_item above; depth = Fault.depth above; hollow = Fault.hollow above; led = Fault.is_led above }
 
 abbrev pub OpenPartsFollow : Held.OpenParts.OpenParts → Held.OpenParts.OpenParts → Spec.Line → Type 0
 OpenPartsFollow old new l = (above : List Spec.Line) → old ≡ open_parts above → new ≡ open_parts (l ∷ above)

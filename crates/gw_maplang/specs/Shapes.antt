@@ -24,10 +24,17 @@ pub data Leaf : Type 0 where
   -- the first digits of a date and time, as many as said
   Date : (digits : ℕ) (ref : Ref) → Leaf
 
+-- a leaf that stands for those above it of its place, and its line
+pub record Alternative : Type 0 where
+  pub line : ℕ
+  pub leaf : Leaf
+
+-- the leaf of a place; where it gives no text, the first of the others that gives one
 pub record LeafValue : Type 0 where
   pub line : ℕ
   pub place : LeafPlace
   pub leaf : Leaf
+  pub others : List Alternative
 
 -- some repetitions of a field: those whose text at the place is one of the values
 pub record Condition : Type 0 where

@@ -1,19 +1,20 @@
 //! Builds a map from its lines, from the last to the first.
-ghost use Rattle.std.specs.Prelude.{◌≡◌, map, reverse, IfOk, OnOk, Some, None};
+ghost use Rattle.std.specs.Prelude.{◌≡◌, [], map, reverse, IfOk, OnOk, Some, None};
 ghost use Rattle.gw_maplang.specs.own.Building.{Stands, Grows, parts_of, levels_of, all_behind, IsSegment, IsEach, head_value};
-ghost use Rattle.gw_maplang.specs.Seen.{line, rule, leaf_value, dropped, all_items, now, items_of, path, path_some};
+ghost use Rattle.gw_maplang.specs.Seen.{line, rule, alternative, leaf_value, dropped, all_items, now, items_of, path, path_some};
 ghost use Rattle.gw_maplang.specs.Line as line_of;
 ghost use Rattle.gw_maplang.specs.Value as spec;
 
 use crate::form::Line;
 use crate::item::{AlwaysItem, FlatItem, FromItem, GroupItem, Item};
-use crate::rule::{BuildRule, Dropped, LeafRule, RepeatRule, Rule};
+use crate::rule::{Alternative, BuildRule, Dropped, LeafRule, RepeatRule, Rule};
 use std::alloc::{AllocError, Global};
 use std::mem;
 
 // The parts that the lines below the current one spell, each list in reverse order. A part goes to the line that opens it.
 #[derive(Drop)]
 struct Below {
+    others: Vec<Alternative>,
     leaves: Vec<LeafRule>,
     rules: Vec<Rule>,
     items: Vec<Item>,
@@ -49,6 +50,7 @@ fn close_parts(alloc: Global, below: &mut Below)
     ensures behind { below.new.behind.items ≡ below.old.behind.items }
     ensures drops { below.new.drops.items ≡ below.old.drops.items }
 {
+    below.others = Vec::new(alloc);
     below.leaves = Vec::new(alloc);
     below.rules = Vec::new(alloc);
 }
@@ -91,18 +93,30 @@ fn add_segment(
     Ok(())
 }
 
-// The leaf of the rule's own line, else the leaves of the lines below it.
-fn own_or(own: Vec<LeafRule>, below: Vec<LeafRule>) -> Vec<LeafRule>
-    ensures { map leaf_value result.items ≡ spec.own_or (map leaf_value own.items) (map leaf_value below.items) }
+// Takes what stands below the current line, in order.
+fn take_others(alloc: Global, others: &mut Vec<Alternative>) -> Vec<Alternative>
+    ensures taken { result.items ≡ reverse others.old.items }
+    ensures none { others.new.items ≡ [] }
+{
+    let mut taken = mem::replace(others, Vec::new(alloc));
+    taken.reverse();
+    taken
+}
+
+// The leaf of the rule's own line with the others of the lines below it, else the leaves of those lines.
+fn own_or(own: Vec<LeafRule>, others: Vec<Alternative>, below: Vec<LeafRule>) -> Vec<LeafRule>
+    ensures { map leaf_value result.items ≡ spec.own_or (map leaf_value own.items) (map alternative others.items) (map leaf_value below.items) }
 {
     if own.is_empty() {
         return below;
     }
+    let mut own = own;
+    own[0].others = others;
     own
 }
 
-fn rule_with(made: Rule, below: Vec<LeafRule>) -> Rule
-    ensures { rule result ≡ spec.rule_with (rule made) (map leaf_value below.items) }
+fn rule_with(made: Rule, others: Vec<Alternative>, below: Vec<LeafRule>) -> Rule
+    ensures { rule result ≡ spec.rule_with (rule made) (map alternative others.items) (map leaf_value below.items) }
 {
     match made {
         Rule::CopyField(made) => Rule::CopyField(made),
@@ -120,7 +134,7 @@ fn rule_with(made: Rule, below: Vec<LeafRule>) -> Rule
                 field,
                 from,
                 condition,
-                leaves: own_or(leaves, below),
+                leaves: own_or(leaves, others, below),
             })
         }
         Rule::Build(made) => {
@@ -132,7 +146,7 @@ fn rule_with(made: Rule, below: Vec<LeafRule>) -> Rule
             Rule::Build(BuildRule {
                 line,
                 field,
-                leaves: own_or(leaves, below),
+                leaves: own_or(leaves, others, below),
             })
         }
     }
@@ -141,17 +155,33 @@ fn rule_with(made: Rule, below: Vec<LeafRule>) -> Rule
 fn add_rule(alloc: Global, below: &mut Below, made: Rule) -> Result<(), AllocError>
     ensures { OnOk result (Grows below.old below.new (line_of.Makes (rule made))) }
 {
+    let others = take_others(alloc, &mut below.others);
     let mut leaves = mem::replace(&mut below.leaves, Vec::new(alloc));
     leaves.reverse();
-    let made = rule_with(made, leaves);
+    let made = rule_with(made, others, leaves);
     below.rules.push(made)?;
     Ok(())
 }
 
-fn add_leaf(below: &mut Below, made: LeafRule) -> Result<(), AllocError>
+fn with_others(made: LeafRule, others: Vec<Alternative>) -> LeafRule
+    ensures { leaf_value result ≡ spec.with_others (leaf_value made) (map alternative others.items) }
+{
+    LeafRule { others, ..made }
+}
+
+fn add_leaf(alloc: Global, below: &mut Below, made: LeafRule) -> Result<(), AllocError>
     ensures { OnOk result (Grows below.old below.new (line_of.At (leaf_value made))) }
 {
+    let others = take_others(alloc, &mut below.others);
+    let made = with_others(made, others);
     below.leaves.push(made)?;
+    Ok(())
+}
+
+fn add_other(below: &mut Below, made: Alternative) -> Result<(), AllocError>
+    ensures { OnOk result (Grows below.old below.new (line_of.Or (alternative made))) }
+{
+    below.others.push(made)?;
     Ok(())
 }
 
@@ -267,7 +297,8 @@ fn add_line(alloc: Global, below: &mut Below, whole: Line) -> Result<(), AllocEr
         }
         Line::Segment(at, label, source) => add_segment(alloc, below, at, label, source),
         Line::Makes(made) => add_rule(alloc, below, made),
-        Line::At(made) => add_leaf(below, made),
+        Line::At(made) => add_leaf(alloc, below, made),
+        Line::Or(made) => add_other(below, made),
         Line::Each(at, label, path) => add_each(alloc, below, at, label, path),
         Line::End => add_end(alloc, below),
         Line::Drops(left) => add_drop(alloc, below, left),
@@ -278,6 +309,7 @@ fn all_below(alloc: Global, lines: Vec<Line>) -> Result<Below, AllocError>
     ensures { IfOk result (λ below. Stands below (map line lines.entry.items)) }
 {
     let mut below = Below {
+        others: Vec::new(alloc),
         leaves: Vec::new(alloc),
         rules: Vec::new(alloc),
         items: Vec::new(alloc),

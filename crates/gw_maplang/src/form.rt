@@ -5,12 +5,12 @@ ghost use Rattle.gw_lines.specs.Seen.{word};
 ghost use Rattle.gw_lines.specs.Parts.{with_all};
 ghost use Rattle.gw_lines.specs.Values.{bytes_of};
 ghost use Rattle.gw_maplang.specs.Line as spec;
-ghost use Rattle.gw_maplang.specs.Seen.{line, now, now_all, path, path_some, field_path, ref, leaf, leaf_value, condition, condition_some, dropped};
+ghost use Rattle.gw_maplang.specs.Seen.{line, now, now_all, path, path_some, field_path, ref, leaf, alternative, leaf_value, condition, condition_some, dropped};
 
 use crate::parts::{copies, drop_of, field_path, is_table_word, path_of, place_of, ref_of};
 use crate::rule::{
-    BuildRule, Condition, CopyRule, Dropped, FieldPath, FirstRule, Leaf, LeafPlace, LeafRule, Ref,
-    RepeatRule, Rule,
+    Alternative, BuildRule, Condition, CopyRule, Dropped, FieldPath, FirstRule, Leaf, LeafPlace,
+    LeafRule, Ref, RepeatRule, Rule,
 };
 use gw_lines::{Word, behind, bytes_of, first_word, name_at, number, number_at};
 use std::alloc::{AllocError, Global};
@@ -18,7 +18,7 @@ use std::alloc::{AllocError, Global};
 // The greatest number of a table's columns.
 const MAX_COLUMNS: usize = 9;
 
-/// A line of a map. A rule has only the leaf of its own line. An `each` line without a label is a `flat`.
+/// A line of a map. A rule has only the leaf of its own line, and a leaf no others. An `each` line without a label is a `flat`.
 #[derive(Drop)]
 pub(crate) enum Line<'a> {
     Begins(u32, &'a [u8], &'a [u8], &'a [u8]),
@@ -29,6 +29,7 @@ pub(crate) enum Line<'a> {
     Segment(u32, &'a [u8], Option<Vec<Vec<u8>>>),
     Makes(Rule),
     At(LeafRule),
+    Or(Alternative),
     Each(u32, Option<&'a [u8]>, Vec<Vec<u8>>),
     End,
     Drops(Dropped),
@@ -365,6 +366,7 @@ fn own_leaves(alloc: Global, at: u32, words: &[Word]) -> Result<Option<Vec<LeafR
         line: at,
         place,
         leaf,
+        others: Vec::new(alloc),
     })?;
     Ok(Some(leaves))
 }
@@ -564,7 +566,17 @@ fn at_form<'a>(alloc: Global, at: u32, words: &[Word]) -> Result<Option<Line<'a>
             line: at,
             place,
             leaf,
+            others: Vec::new(alloc),
         }))),
+    }
+}
+
+fn or_form<'a>(alloc: Global, at: u32, words: &[Word]) -> Result<Option<Line<'a>>, AllocError>
+    ensures { IfOk result (λ found. option_map line found ≡ spec.or_form at (map word words.now)) }
+{
+    match leaf_form(alloc, words)? {
+        None => Ok(None),
+        Some(leaf) => Ok(Some(Line::Or(Alternative { line: at, leaf }))),
     }
 }
 
@@ -629,6 +641,9 @@ fn rule_form<'a>(
     }
     if keyword.is(b"at") {
         return at_form(alloc, at, more);
+    }
+    if keyword.is(b"or") {
+        return or_form(alloc, at, more);
     }
     Ok(None)
 }

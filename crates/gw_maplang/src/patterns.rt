@@ -91,6 +91,16 @@ fn else_pattern(second: bool) -> &'static [u8]
     b"else VALUE, below a table"
 }
 
+// The pattern of the `or` lines of a map in the second language; all keywords in the first.
+fn or_pattern(second: bool) -> &'static [u8]
+    ensures { result.now ≡ spec.or_pattern second }
+{
+    if second {
+        return b"or LEAF, below at or build with a LEAF";
+    }
+    item_pattern(b"or")
+}
+
 // The pattern of the lines with this keyword; all keywords for any other word.
 fn pattern(second: bool, keyword: &[u8]) -> &'static [u8]
     ensures { result.now ≡ spec.pattern second keyword.now }
@@ -109,6 +119,9 @@ fn pattern(second: bool, keyword: &[u8]) -> &'static [u8]
     }
     if keyword == b"else".as_slice() {
         return else_pattern(second);
+    }
+    if keyword == b"or".as_slice() {
+        return or_pattern(second);
     }
     rule_pattern(second, keyword)
 }

@@ -191,6 +191,15 @@ fn any_bad(leaves: &[LeafRule]) -> bool
     false
 }
 
+fn is_bad_rule(made: &Rule) -> bool
+    ensures { result ≡ spec.is_bad_rule (rule made.now) }
+{
+    if is_bad_condition(made.condition()) {
+        return true;
+    }
+    any_bad(own_leaf(made))
+}
+
 fn is_misplaced(field: u32, held: &Option<OpenSegment>) -> bool
     ensures { result ≡ spec.is_misplaced field (open_segment held.now) }
 {
@@ -215,6 +224,16 @@ fn is_misplaced_leaf(made: &Leaf, held: &Option<OpenRule>) -> bool
     match held {
         None => true,
         Some(rule) => is_stray(rule.repeated, made),
+    }
+}
+
+// Whether the open rule is a `repeat`.
+fn is_repeated(held: &Option<OpenRule>) -> bool
+    ensures { result ≡ spec.is_repeated (open_rule held.now) }
+{
+    match held {
+        None => false,
+        Some(rule) => rule.repeated,
     }
 }
 
@@ -321,21 +340,36 @@ impl<'a> Reader<'a> {
         }
     }
 
+    // Whether no segment above can hold the rule, or the language of the map has no such rule.
+    fn is_misplaced_rule(&self, made: &Rule) -> bool
+        ensures { result ≡ spec.is_misplaced_rule self.now (rule made.now) }
+    {
+        let second = self.open_parts.second;
+        if is_misplaced(made.field(), &self.segment) {
+            return true;
+        }
+        if is_hasty(second, made.condition()) {
+            return true;
+        }
+        any_stray(second, own_leaf(made))
+    }
+
+    fn is_unknown_rule(&self, made: &Rule) -> bool
+        ensures { result ≡ spec.is_unknown_rule self.now (rule made.now) }
+    {
+        any_unknown(&self.tables, own_leaf(made))
+    }
+
     fn rule_fault(&self, at: u32, made: &Rule) -> Option<MapFault>
         ensures { result ≡ first_of (spec.rule_tests self.now at (rule made.now)) }
     {
-        let own = own_leaf(made);
-        let asked = made.condition();
-        if is_misplaced(made.field(), &self.segment)
-            || is_hasty(self.open_parts.second, asked)
-            || any_stray(self.open_parts.second, own)
-        {
+        if self.is_misplaced_rule(made) {
             return Some(MapFault::Syntax(at));
         }
-        if any_unknown(&self.tables, own) {
+        if self.is_unknown_rule(made) {
             return Some(MapFault::UnknownTable(at));
         }
-        if is_bad_condition(asked) || any_bad(own) {
+        if is_bad_rule(made) {
             return Some(MapFault::BadConstant(at));
         }
         if is_made(made.field(), &self.segment) {
@@ -360,6 +394,24 @@ impl<'a> Reader<'a> {
         }
         if is_placed(made.place, &self.rule) {
             return Some(MapFault::Duplicate(at));
+        }
+        None
+    }
+
+    fn or_fault(&self, at: u32, made: &Leaf) -> Option<MapFault>
+        ensures { result ≡ first_of (spec.or_tests self.now at (leaf made.now)) }
+    {
+        if !self.open_parts.second
+            || !self.open_parts.led
+            || is_stray(is_repeated(&self.rule), made)
+        {
+            return Some(MapFault::Syntax(at));
+        }
+        if is_unknown(&self.tables, made) {
+            return Some(MapFault::UnknownTable(at));
+        }
+        if is_bad(made) {
+            return Some(MapFault::BadConstant(at));
         }
         None
     }
@@ -409,6 +461,7 @@ impl<'a> Reader<'a> {
             Line::Segment(_, _, _) => self.segment_fault(at),
             Line::Makes(rule) => self.rule_fault(at, rule),
             Line::At(leaf) => self.leaf_fault(at, leaf),
+            Line::Or(other) => self.or_fault(at, &other.leaf),
             Line::Each(_, _, _) => self.each_fault(at),
             Line::End => self.end_fault(at),
             Line::Drops(_) => self.drop_fault(at),

@@ -7,7 +7,7 @@ use Rattle.gw_profile.specs.Line.{allows}
 use Rattle.gw_maplang.specs.Shapes as raw
 use Rattle.gw_maplang.specs.Shapes.{MapValue, TableValue, Rows, table_of}
 use Rattle.gw_resolve.specs.Places.{Element, a_segment, a_group, the_whole, nodes_of, child, nodes_of_child, Place, found, element_of, within}
-use Rattle.gw_resolve.specs.Resolved.{Reference, Source, of_field, of_current, Leaf, const, copied, looked_up, dated, At, Making, copy, first, repeat, build, Rule, Items, no_items, segment_item, group_item, flat_item, Drop, Resolved}
+use Rattle.gw_resolve.specs.Resolved.{Reference, Source, of_field, of_current, Leaf, const, copied, looked_up, dated, Alternative, At, Making, copy, first, repeat, build, Rule, Items, no_items, segment_item, group_item, flat_item, Drop, Resolved}
 use Rattle.gw_resolve.specs.Order.{is_segment, is_group}
 use Rattle.gw_resolve.specs.Failures.{Failure, at_line, fails, where_so, or_later}
 
@@ -109,8 +109,11 @@ text_failures scope line (raw.Copy ref) = ref_failures scope line ref
 text_failures scope line (raw.Lookup table ref) = ref_failures scope line ref
 text_failures scope line (raw.Date digits ref) = ref_failures scope line ref
 
+abbrev pub other_failures : List Element → raw.Alternative → List Failure
+other_failures scope o = text_failures scope o.line o.leaf
+
 abbrev pub leaf_failures : List Element → raw.LeafValue → List Failure
-leaf_failures scope l = text_failures scope l.line l.leaf
+leaf_failures scope l = text_failures scope l.line l.leaf ++ flat_map (other_failures scope) l.others
 
 abbrev pub making_failures : List Element → ℕ → raw.Making → List Failure
 making_failures scope line (raw.Copies from) = read_failures scope line from
@@ -214,8 +217,12 @@ leaf tables scope (raw.Copy ref) = copied (source scope ref)
 leaf tables scope (raw.Lookup table ref) = looked_up (unwrap_or (table_of table tables) no_rows) (source scope ref)
 leaf tables scope (raw.Date digits ref) = dated digits (source scope ref)
 
+abbrev pub alternative : List TableValue → List Element → raw.Alternative → Alternative
+alternative tables scope o = record { line = o.line; leaf = leaf tables scope o.leaf }
+
 abbrev pub at_leaf : List TableValue → List Element → raw.LeafValue → At
-at_leaf tables scope l = record { line = l.line; comp = l.place.comp; sub = l.place.sub; leaf = leaf tables scope l.leaf }
+at_leaf tables scope l =
+    record { line = l.line; comp = l.place.comp; sub = l.place.sub; leaf = leaf tables scope l.leaf; others = map (alternative tables scope) l.others }
 
 abbrev pub making : List TableValue → List Element → raw.Making → Making
 making tables scope (raw.Copies from) = copy (reference scope from)

@@ -1,5 +1,5 @@
 -- A map whose labels were looked up: it names target nodes by their numbers, and source places by steps.
-use Rattle.std.specs.Prelude.{ℕ, ◌==◌, ◌&&◌, List, Option, Some, None, find}
+use Rattle.std.specs.Prelude.{ℕ, ◌==◌, ◌&&◌, List, ◌∷◌, Option, Some, None, find}
 use Rattle.gw_maplang.specs.Shapes.{Rows, Condition}
 use Rattle.gw_resolve.specs.Places.{Place}
 
@@ -20,12 +20,22 @@ pub data Leaf : Type 0 where
   looked_up : (table : Rows) (source : Source) → Leaf
   dated : (digits : ℕ) (source : Source) → Leaf
 
--- the leaf of a component and subcomponent
+-- a leaf of a place, and its line
+pub record Alternative : Type 0 where
+  pub line : ℕ
+  pub leaf : Leaf
+
+-- the leaf of a component and subcomponent; where it gives no text, the first of the others that gives one
 pub record At : Type 0 where
   pub line : ℕ
   pub comp : ℕ
   pub sub : ℕ
   pub leaf : Leaf
+  pub others : List Alternative
+
+-- all leaves of the place, in order
+abbrev pub alternatives : At → List Alternative
+alternatives a = record { line = a.line; leaf = a.leaf } ∷ a.others
 
 -- How a field is made: as another, as its first repetition, a repetition of leaves for each of its own, or one of leaves.
 -- Where there is a condition, only the repetitions count that it chooses.

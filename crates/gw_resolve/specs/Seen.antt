@@ -12,6 +12,7 @@ use Rattle.gw_resolve.specs.declared.resolved.ScopePath as places
 use Rattle.gw_resolve.specs.declared.resolved.Reference as references
 use Rattle.gw_resolve.specs.declared.resolved.Source as sources_of
 use Rattle.gw_resolve.specs.declared.resolved.ResolvedLeaf as leaves
+use Rattle.gw_resolve.specs.declared.resolved.Alternative as the_alternatives
 use Rattle.gw_resolve.specs.declared.resolved.At as ats
 use Rattle.gw_resolve.specs.declared.resolved.Making as makings
 use Rattle.gw_resolve.specs.declared.resolved.Rule as rules_of
@@ -21,7 +22,7 @@ use Rattle.gw_maplang.specs.Seen.{condition_some}
 use Rattle.gw_maplang.specs.Shapes.{TableValue, table_of}
 use Rattle.gw_resolve.specs.Naming.{no_rows}
 use Rattle.gw_resolve.specs.Places.{Element, a_segment, a_group, the_whole, Place}
-use Rattle.gw_resolve.specs.Resolved.{Reference, Source, of_field, of_current, Leaf, const, copied, looked_up, dated, At, Making, copy, first, repeat, build, Rule, Items, no_items, segment_item, group_item, flat_item, Drop, first_child}
+use Rattle.gw_resolve.specs.Resolved.{Reference, Source, of_field, of_current, Leaf, const, copied, looked_up, dated, Alternative, At, Making, copy, first, repeat, build, Rule, Items, no_items, segment_item, group_item, flat_item, Drop, first_child}
 
 -- ---- counts
 
@@ -77,8 +78,12 @@ leaf tables (leaves.TheVariants.Copied from) = copied (source from)
 leaf tables (leaves.TheVariants.LookedUp name from) = looked_up (unwrap_or (table_of name.items tables) no_rows) (source from)
 leaf tables (leaves.TheVariants.Dated digits from) = dated digits (source from)
 
+abbrev pub alternative : List TableValue → the_alternatives.Alternative → Alternative
+alternative tables o = record { line = o.line; leaf = leaf tables o.leaf }
+
 abbrev pub at_leaf : List TableValue → ats.At → At
-at_leaf tables a = record { line = a.line; comp = a.place.comp; sub = a.place.sub; leaf = leaf tables a.leaf }
+at_leaf tables a =
+    record { line = a.line; comp = a.place.comp; sub = a.place.sub; leaf = leaf tables a.leaf; others = map (alternative tables) a.others.items }
 
 abbrev pub making : List TableValue → makings.Making → Making
 making tables (makings.TheVariants.Copy from) = copy (reference from)

@@ -32,12 +32,20 @@ pub enum ResolvedLeaf {
     Dated(u32, Source),
 }
 
-/// The leaf of a component and subcomponent.
+/// `or`: a leaf that stands for those above it of its place.
+#[derive(Drop)]
+pub struct Alternative {
+    pub line: u32,
+    pub leaf: ResolvedLeaf,
+}
+
+/// The leaf of a component and subcomponent. If it gives no text, the first of the others that gives one fills the place.
 #[derive(Drop)]
 pub struct At {
     pub line: u32,
     pub place: LeafPlace,
     pub leaf: ResolvedLeaf,
+    pub others: Vec<Alternative>,
 }
 
 /// How a field is made: as another, as its first repetition, a repetition of leaves for each of its own, or one of leaves.

@@ -4,14 +4,14 @@ ghost use Rattle.gw_maplang.specs.Seen as raw;
 ghost use Rattle.gw_maplang.specs.Shapes.{TableValue};
 ghost use Rattle.gw_resolve.specs.Naming as spec;
 ghost use Rattle.gw_resolve.specs.Noted.{Notes};
-ghost use Rattle.gw_resolve.specs.Outcome.{MakesLeaf, MakesLeaves, MakesMaking, MakesRule, MakesRules};
+ghost use Rattle.gw_resolve.specs.Outcome.{MakesOther, MakesOthers, MakesLeaf, MakesLeaves, MakesMaking, MakesRule, MakesRules};
 ghost use Rattle.gw_resolve.specs.Seen as seen;
 ghost use Rattle.gw_resolve.specs.Seen.{scope as walked};
 
 use crate::element::ScopeNode;
 use crate::failure::Failure;
 use crate::led::{PathUse, lead};
-use crate::resolved::{At, Making, Reference, ResolvedLeaf, Rule, Source};
+use crate::resolved::{Alternative, At, Making, Reference, ResolvedLeaf, Rule, Source};
 use gw_maplang::{Condition, FieldPath, LeafRule, Ref};
 use std::alloc::{AllocError, Global};
 
@@ -88,6 +88,39 @@ fn leaf(
     }
 }
 
+fn other(
+    alloc: Global,
+    found: &mut Vec<Failure>,
+    scope: &[ScopeNode<'_, '_>],
+    made: &gw_maplang::Alternative,
+) -> Result<Alternative, AllocError>
+    ensures made { IfOk result (MakesOther (walked scope.now) made.now) }
+    ensures failures { OnOk result (Notes found.old found.new (spec.other_failures (walked scope.now) (raw.alternative made.now))) }
+{
+    let leaf = leaf(alloc, found, scope, made.line, &made.leaf)?;
+    Ok(Alternative {
+        line: made.line,
+        leaf,
+    })
+}
+
+fn others(
+    alloc: Global,
+    found: &mut Vec<Failure>,
+    scope: &[ScopeNode<'_, '_>],
+    all: &[gw_maplang::Alternative],
+) -> Result<Vec<Alternative>, AllocError>
+    ensures made { IfOk result (λ v. MakesOthers (walked scope.now) all.now v.items) }
+    ensures failures { OnOk result (Notes found.old found.new (flat_map (spec.other_failures (walked scope.now)) (map raw.alternative all.now))) }
+{
+    let mut built = Vec::new(alloc);
+    for made in all {
+        let one = other(alloc, found, scope, made)?;
+        built.push(one)?;
+    }
+    Ok(built)
+}
+
 fn at_leaf(
     alloc: Global,
     found: &mut Vec<Failure>,
@@ -98,10 +131,12 @@ fn at_leaf(
     ensures failures { OnOk result (Notes found.old found.new (spec.leaf_failures (walked scope.now) (raw.leaf_value made.now))) }
 {
     let leaf = leaf(alloc, found, scope, made.line, &made.leaf)?;
+    let others = others(alloc, found, scope, &made.others)?;
     Ok(At {
         line: made.line,
         place: made.place,
         leaf,
+        others,
     })
 }
 

@@ -5,16 +5,16 @@ use Rattle.gw_er7.specs.Names.{IsName, header_name}
 use Rattle.gw_er7.specs.Message.{SegmentValue, first_field, IsEntry}
 use Rattle.gw_profile.specs.Shapes.{Forest}
 use Rattle.gw_resolve.specs.Places.{Place, child, nodes_of_child, name_of}
-use Rattle.gw_resolve.specs.Resolved.{At, Making, copy, first, repeat, build, Rule, rule_of, Items, no_items, segment_item, group_item, flat_item}
+use Rattle.gw_resolve.specs.Resolved.{At, alternatives, Making, copy, first, repeat, build, Rule, rule_of, Items, no_items, segment_item, group_item, flat_item}
 use Rattle.gw_resolve.specs.Lawful.{LawfulRules}
 use Rattle.gw_interp.specs.Occurrences.{Occurrence, at_place}
 use Rattle.gw_interp.specs.Meaning.{Walked, texts_from, walking, IsChosen, walked, RuleMeans}
-use Rattle.gw_interp.specs.own.Sourced.{IsFault}
+use Rattle.gw_interp.specs.own.Sourced.{NoFaultOf}
 
 -- ---- segments
 
 abbrev pub NoFaults : Walked → List At → Type 0
-NoFaults w leaves = AllByRecursion (λ (a : At). IsFault w a.leaf → ⊥) leaves
+NoFaults w leaves = AllByRecursion (λ (a : At). NoFaultOf w (alternatives a)) leaves
 
 -- no leaf is a fault, in any repetition that is walked
 abbrev pub NoFaultIn : Walked → Making → Type 0

@@ -7,11 +7,11 @@ use Rattle.gw_maplang.specs.declared.item.Item.{Item}
 use Rattle.gw_maplang.specs.Shapes.{Path, RuleValue, Items, segment}
 use Rattle.gw_maplang.specs.Line.{Line}
 use Rattle.gw_maplang.specs.Value.{Parts, Levels, Head, parts, levels, drops, each_item}
-use Rattle.gw_maplang.specs.Seen.{leaf_value, rule, dropped, with_item, all_items}
+use Rattle.gw_maplang.specs.Seen.{alternative, leaf_value, rule, dropped, with_item, all_items}
 
 -- lists that were built from their last item on
 abbrev pub parts_of : Below → Parts
-parts_of b = record { leaves = map leaf_value (reverse b.leaves.items); rules = map rule (reverse b.rules.items) }
+parts_of b = record { others = map alternative (reverse b.others.items); leaves = map leaf_value (reverse b.leaves.items); rules = map rule (reverse b.rules.items) }
 
 abbrev pub all_behind : List (Vec Item) → List Items
 all_behind behind = reverse (map (λ v. all_items (reverse v.items)) behind)
