@@ -1,12 +1,23 @@
 //! The items of a level: how often they come, and for which target node.
 ghost use Rattle.std.specs.Prelude.{◌≡◌, IfOk};
 ghost use Rattle.gw_check.specs.own.ItemByItem.{CountsOne, CountsAll, Leads};
-ghost use Rattle.gw_resolve.specs.Seen.{scope as walked};
+ghost use Rattle.gw_leaves.specs.Counts as spec;
+ghost use Rattle.gw_resolve.specs.Seen.{interval, scope as walked};
 ghost use Rattle.gw_check.specs.Levels.{is_of};
 
 use crate::level::{count_at, count_if};
-use gw_resolve::{Interval, Item, ScopeNode, child_of, enter, never};
+use gw_resolve::{FieldCondition, Interval, Item, ScopeNode, child_of, enter, never};
 use std::alloc::{AllocError, Global};
+
+// How often the occurrences come that a condition chooses, where there is one, of so many.
+fn chosen_count(condition: &Option<FieldCondition>, count: Interval) -> Interval
+    ensures { interval result ≡ spec.chosen_count condition.now (interval count) }
+{
+    match condition {
+        None => count,
+        Some(_) => count.or_none(),
+    }
+}
 
 // How often one item comes.
 #[cycle(count)]
@@ -18,12 +29,19 @@ fn item_count(
     ensures { IfOk result (λ c. CountsOne (walked scope.now) item.now c) }
 {
     match item {
-        Item::Segment(segment) => Ok(count_if(scope, &segment.place)),
-        Item::Group(group) => Ok(count_at(scope, &group.place)),
+        Item::Segment(segment) => {
+            let count = count_if(scope, &segment.place);
+            Ok(chosen_count(&segment.condition, count))
+        }
+        Item::Group(group) => {
+            let count = count_at(scope, &group.place);
+            Ok(chosen_count(&group.condition, count))
+        }
         Item::Flat(flat) => {
             let inner = enter(alloc, scope, &flat.place)?;
             let each = items_count(alloc, &inner, &flat.items)?;
-            Ok(count_at(scope, &flat.place).times(each))
+            let count = count_at(scope, &flat.place);
+            Ok(chosen_count(&flat.condition, count).times(each))
         }
     }
 }

@@ -1,5 +1,6 @@
 pub mod Walks
 pub mod Paths
+pub mod Within
 pub mod Parts
 pub mod Splits
 pub mod LevelsSound
