@@ -47,3 +47,4 @@ mod Eachs
 mod Turns
 mod Translated
 mod Nexts
+mod FirstTexts
