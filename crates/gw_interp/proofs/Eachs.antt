@@ -13,7 +13,8 @@ use Rattle.gw_interp.specs.Occurrences.{Occurrence, level_at, children, below}
 use Rattle.gw_interp.specs.own.Borrowed.{occurrence, scope}
 use Rattle.gw_interp.specs.own.Filling.{message_of}
 use Rattle.gw_interp.specs.own.Ready.{MayBegin, Adds}
-use Rattle.gw_interp.specs.own.Parts.{condition_of, holds, names_so, GivesSo, part_names, PartGives, chosen_names, ChosenGives, names_within, MayWithin, GivesWithin, each_names, MayEach, EachGives}
+use Rattle.gw_interp.specs.own.Sourced.{holds}
+use Rattle.gw_interp.specs.own.Parts.{condition_of, names_so, GivesSo, part_names, PartGives, chosen_names, ChosenGives, names_within, MayWithin, GivesWithin, each_names, MayEach, EachGives}
 use Rattle.gw_interp.proofs.Borrowing.{drop_level, level_children, length_level}
 use Rattle.gw_interp.proofs.Naming.{given_names}
 use Rattle.gw_interp.proofs.Trees.{all_left}

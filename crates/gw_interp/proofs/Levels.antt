@@ -22,7 +22,8 @@ use Rattle.gw_interp.specs.own.Borrowed.{scope}
 use Rattle.gw_interp.specs.own.Filling.{message_of}
 use Rattle.gw_interp.specs.Meaning.{ForEach, Give}
 use Rattle.gw_interp.specs.own.Ready.{MayGive, names_given, MayBegin, Adds}
-use Rattle.gw_interp.specs.own.Parts.{holds, names_so, MaySo, GivesSo, items_names, MayItems, ItemsGive}
+use Rattle.gw_interp.specs.own.Sourced.{holds}
+use Rattle.gw_interp.specs.own.Parts.{names_so, MaySo, GivesSo, items_names, MayItems, ItemsGive}
 use Rattle.gw_interp.proofs.Naming.{given_names}
 use Rattle.gw_interp.proofs.Within.{names_chosen, may_chosen, each_chosen}
 use Rattle.gw_interp.proofs.Giving.{IsPartDone, none_done, more_done, all_done, begins_next, next_drop}

@@ -12,7 +12,8 @@ use Rattle.gw_leaves.specs.Counts.{chosen_count}
 use Rattle.gw_interp.specs.Occurrences.{Occurrence}
 use Rattle.gw_validate.specs.Cuts.{Cut}
 use Rattle.gw_interp.specs.Meaning.{meets, chosen, ForEach}
-use Rattle.gw_interp.specs.own.Parts.{holds, names_so, MaySo, GivesSo}
+use Rattle.gw_interp.specs.own.Sourced.{holds}
+use Rattle.gw_interp.specs.own.Parts.{names_so, MaySo, GivesSo}
 use Rattle.gw_interp.proofs.Walks.{IsOccurrence}
 use Rattle.gw_interp.proofs.Paths.{Several}
 

@@ -2,7 +2,7 @@
 use Rattle.std.specs.Prelude.{◌≡◌, ℕ, ◌<◌, ◌==◌, ◌&&◌, nat_le, min, take, map, filter, ◌⊎◌, Bool, true, false, List, [], ◌∷◌, length, Option, Some, None, if◌then◌else◌, bytes_eq}
 use Rattle.std.specs.List.{list_all, list_any}
 use Rattle.gw_lines.specs.Spelled.{is_digit}
-use Rattle.std.specs.FinMap as texts
+use Rattle.std.specs.FinMap.{keys}
 use Rattle.gw_er7.specs.Message.{Texts, text_of, SegmentValue, first_number}
 use Rattle.gw_er7.specs.Presence.{RepAt, FieldAt}
 use Rattle.gw_profile.specs.Shapes.{Forest, ProfileValue}
@@ -117,7 +117,7 @@ second_number (field ∷ key) = first_number key
 
 -- the repetitions in which texts of a field stand, one for each text
 abbrev pub reps_of : Texts → ℕ → List ℕ
-reps_of m field = map second_number (filter (λ key. first_number key == field) (texts.keys m))
+reps_of m field = map second_number (filter (λ key. first_number key == field) (keys m))
 
 abbrev pub least_of : ℕ → List ℕ → ℕ
 least_of rep [] = rep

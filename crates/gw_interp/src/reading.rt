@@ -9,8 +9,7 @@ ghost use Rattle.gw_interp.specs.Occurrences.{texts_at};
 ghost use Rattle.gw_interp.specs.own.Borrowed.{scope as walked, AreOf};
 ghost use Rattle.gw_interp.specs.Meaning as meaning;
 ghost use Rattle.gw_interp.specs.Meaning.{InFirst, IsChosen, SourceMeans};
-ghost use Rattle.gw_interp.specs.own.Parts.{holds};
-ghost use Rattle.gw_interp.specs.own.Sourced.{texts_of, IsFirstOne, IsFirstRep, IsNextOne, current_texts, walks};
+ghost use Rattle.gw_interp.specs.own.Sourced.{texts_of, IsFirstOne, IsFirstRep, IsNextOne, current_texts, walks, holds};
 
 use crate::places::first_at_place;
 use gw_er7::Segment;

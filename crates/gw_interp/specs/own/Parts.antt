@@ -15,8 +15,9 @@ use Rattle.gw_interp.specs.declared.items.Part.{Part}
 use Rattle.gw_interp.specs.declared.items.Part.TheVariants.{OneSegment, Level}
 use Rattle.gw_interp.specs.Occurrences.{Occurrence, at_place}
 use Rattle.gw_interp.specs.own.Borrowed.{scope}
-use Rattle.gw_interp.specs.Meaning.{walked, meets, IsOne, IsImage, ForEach, Segments, Give}
+use Rattle.gw_interp.specs.Meaning.{walked, IsOne, IsImage, ForEach, Segments, Give}
 use Rattle.gw_interp.specs.own.Filling.{message_of}
+use Rattle.gw_interp.specs.own.Sourced.{holds}
 use Rattle.gw_interp.specs.own.Ready.{MayImage, MaySegments, MayGive, names_if, names_given}
 
 -- ---- items, where these are walked in the program, for these nodes of the target
@@ -46,10 +47,6 @@ segments_names nodes item os = names_if (message_of os) (scope os) (node_name no
 abbrev pub condition_of : Part → Option FieldCondition
 condition_of (OneSegment nodes item) = some_condition item.now.condition
 condition_of (Level nodes items condition) = some_condition condition.now
-
-abbrev pub holds : List SegmentValue → List Occurrence → Option FieldCondition → Bool
-holds m scope None = true
-holds m scope (Some c) = meets m scope c
 
 -- names where this is so, none elsewhere
 abbrev pub names_so : Bool → List (List ℕ) → List (List ℕ)

@@ -1,12 +1,13 @@
 -- What the program reads at the sources of a map.
-use Rattle.std.specs.Prelude.{◌≡◌, ℕ, ◌<◌, List, [], Option, Some, None}
+use Rattle.std.specs.Prelude.{◌≡◌, ℕ, ◌<◌, Bool, true, List, [], Option, Some, None}
 use Rattle.std.specs.FinMap as texts
 use Rattle.gw_er7.specs.Message.{Texts, text_of, SegmentValue}
 use Rattle.gw_er7.specs.Presence.{RepAt, FieldAt}
 use Rattle.gw_interp.specs.declared.reading.Repetition.{Repetition}
 use Rattle.gw_interp.specs.declared.reading.Reading.{Reading}
-use Rattle.gw_resolve.specs.Resolved.{Leaf, const, copied, looked_up, dated}
-use Rattle.gw_interp.specs.Meaning.{IsFirst, Walked, SourceMeans, look_up, LeafMeans}
+use Rattle.gw_resolve.specs.Resolved.{FieldCondition, Leaf, const, copied, looked_up, dated}
+use Rattle.gw_interp.specs.Occurrences.{Occurrence}
+use Rattle.gw_interp.specs.Meaning.{IsFirst, Walked, meets, SourceMeans, look_up, LeafMeans}
 use Rattle.gw_interp.specs.own.Borrowed.{scope}
 
 -- no text where there is no segment
@@ -52,3 +53,8 @@ IsFault w (dated digits source) = ⊥
 abbrev pub LeafGives : Walked → Leaf → Option (List ℕ) → Type 0
 LeafGives w leaf None = IsFault w leaf
 LeafGives w leaf (Some text) = LeafMeans w leaf text
+
+-- a condition holds where these occurrences are walked, or there is none
+abbrev pub holds : List SegmentValue → List Occurrence → Option FieldCondition → Bool
+holds m scope None = true
+holds m scope (Some c) = meets m scope c
