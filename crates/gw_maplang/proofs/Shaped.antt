@@ -10,6 +10,7 @@ use Rattle.gw_lines.specs.Values.{bytes_of}
 use Rattle.gw_lines.specs.Parts.{first_word, name_at, number_at, behind, with_all}
 use Rattle.gw_profile.proofs.Facts.{both, le_is}
 use Rattle.gw_profile.proofs.Shaped.{any, gives, map_gives, chosen, either_gives, with_all_is, number_is, name_at_is, number_at_is}
+use Rattle.gw_maplang.specs.declared.rule.LeafPlace.{LeafPlace}
 use Rattle.gw_maplang.specs.Among.{Distinct}
 use Rattle.gw_maplang.specs.Columns.{behind_first, is_table_word}
 use Rattle.gw_maplang.specs.Shapes.{Path, FieldPath, Ref, Field, Current, Leaf, Const, Copy, Lookup, Date, LeafValue, Condition, FieldCondition, Walk, Making, Copies, Firsts, Repeats, Builds}
