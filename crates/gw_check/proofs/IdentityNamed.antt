@@ -42,8 +42,8 @@ abbrev pub same : ℕ → Forest → Items
 same j nothing = no_items
 same j (segment s rest) =
     if is_forbidden (Some s.usage) then same (suc j) rest
-    else segment_item (record { line = 0; child = j; place = Some (at_node j); rules = same_rules s.fields }) (same (suc j) rest)
-same j (group g nodes rest) = group_item (record { line = 0; child = j; place = at_node j }) (same 0 nodes) (same (suc j) rest)
+    else segment_item (record { line = 0; child = j; place = Some (at_node j); condition = None; rules = same_rules s.fields }) (same (suc j) rest)
+same j (group g nodes rest) = group_item (record { line = 0; child = j; place = at_node j; condition = None }) (same 0 nodes) (same (suc j) rest)
 
 -- ---- no failures
 
@@ -267,9 +267,9 @@ items_are tables e scope j (segment s rest) h d g = by (is_forbidden (Some s.usa
 
     by : (b : Bool) → resolved_items tables (e ∷ scope) (nodes_of e) (same_items rest) ≡ same (suc j) rest →
         resolved_items tables (e ∷ scope) (nodes_of e) (if b then same_items rest else raw.segment (segment_of s) (same_items rest))
-        ≡ (if b then same (suc j) rest else segment_item (record { line = 0; child = j; place = Some (at_node j); rules = same_rules s.fields }) (same (suc j) rest))
+        ≡ (if b then same (suc j) rest else segment_item (record { line = 0; child = j; place = Some (at_node j); condition = None; rules = same_rules s.fields }) (same (suc j) rest))
     by true later = later
-    by false later = λ i. segment_item (record { line = 0; child = number i; place = Some (walks i); rules = rules i }) (later i)
+    by false later = λ i. segment_item (record { line = 0; child = number i; place = Some (walks i); condition = None; rules = rules i }) (later i)
 items_are tables e scope j (group x nodes rest) h d g =
     let here = group_stands (nodes_of e) j x nodes rest h in
     let number = number_there (nodes_of e) j 0 x.label (a_group x nodes) here in
@@ -279,4 +279,4 @@ items_are tables e scope j (group x nodes rest) h d g =
     let inner : resolved_items tables (within (e ∷ scope) (place_or (e ∷ scope) (x.label ∷ []))) (nodes_of_child (nodes_of e) (node_or 0 (nodes_of e) x.label)) (same_items nodes) ≡ same 0 nodes =
     (λ i. resolved_items tables (scoped i) (below i) (same_items nodes)) ∙ items_are tables (a_group x nodes) (e ∷ scope) 0 nodes (from_the_first nodes) g.0.distinct g.1 in
     let later = items_are tables e scope (suc j) rest (behind_group (nodes_of e) j x nodes rest h d) d.1 g.2 in
-    λ i. group_item (record { line = 0; child = number i; place = walks i }) (inner i) (later i)
+    λ i. group_item (record { line = 0; child = number i; place = walks i; condition = None }) (inner i) (later i)

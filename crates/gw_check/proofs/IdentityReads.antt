@@ -67,7 +67,7 @@ reads_hold made scope above to j nothing h = refl
 reads_hold made scope above to j (segment s rest) h = by (line.is_forbidden (Some s.usage)) refl h (reads_hold made scope above to (suc j) rest)
   where
     item : SegmentItem
-    item = record { line = 0; child = j; place = Some (at_node j); rules = same_rules s.fields }
+    item = record { line = 0; child = j; place = Some (at_node j); condition = None; rules = same_rules s.fields }
 
     passed : List SourceField
     passed = flat_map (missed_field (known made) (above ++ j ∷ [])) s.fields

@@ -5,7 +5,7 @@ use Rattle.gw_maplang.specs.Shapes.{TableValue, Rows, table_of}
 use Rattle.gw_resolve.specs.Naming.{no_rows}
 use Rattle.gw_resolve.specs.Resolved.{Reference, Alternative, SegmentItem}
 use Rattle.gw_resolve.specs.Positions.{Position}
-use Rattle.gw_resolve.specs.Seen.{reference, place, rule}
+use Rattle.gw_resolve.specs.Seen.{reference, place, some_condition, rule}
 use Rattle.gw_resolve.specs.declared.resolved.SegmentItem as segments
 use Rattle.gw_resolve.specs.declared.resolved.Reference as references
 use Rattle.gw_check.specs.Sites.{Spot, Origin, unsaid, text, read, repeated, given, cut, Site, site_of, other_sites}
@@ -54,7 +54,7 @@ abbrev pub some_site : List TableValue → Option (Bor declared.Site) → Option
 some_site tables s = option_map (λ b. site tables b.now) s
 
 abbrev pub segment_item : List TableValue → segments.SegmentItem → SegmentItem
-segment_item tables s = record { line = s.line; child = s.child; place = option_map place s.place; rules = map (rule tables) s.rules.items }
+segment_item tables s = record { line = s.line; child = s.child; place = option_map place s.place; condition = some_condition s.condition; rules = map (rule tables) s.rules.items }
 
 -- these were found as well
 abbrev pub Adds : List TableValue → List declared.Site → List declared.Site → List Site → Type 0

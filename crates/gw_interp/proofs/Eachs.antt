@@ -1,5 +1,5 @@
 -- A part for each of the occurrences where steps lead, and for each at a place.
-use Rattle.std.proofs.Common.{◌≡◌, ℕ, ◌+◌, ◌≤◌, ◌<◌, List, [], ◌∷◌, ◌++◌, Some, refl, sym, ap, ◌∙◌, arith, length, drop, subst, append-nil}
+use Rattle.std.proofs.Common.{◌≡◌, ℕ, ◌+◌, ◌≤◌, ◌<◌, Bool, true, false, List, [], ◌∷◌, ◌++◌, Some, refl, sym, ap, ◌∙◌, arith, length, drop, subst, append-nil}
 use Rattle.std.specs.Prelude.{flat_map}
 use Rattle.std.proofs.lemmas.List.{drop_all}
 use Rattle.gw_er7.specs.Message.{SegmentValue}
@@ -13,16 +13,24 @@ use Rattle.gw_interp.specs.Occurrences.{Occurrence, level_at, children, below}
 use Rattle.gw_interp.specs.own.Borrowed.{occurrence, scope}
 use Rattle.gw_interp.specs.own.Filling.{message_of}
 use Rattle.gw_interp.specs.own.Ready.{MayBegin, Adds}
-use Rattle.gw_interp.specs.own.Parts.{part_names, PartGives, names_within, MayWithin, GivesWithin, each_names, MayEach, EachGives}
+use Rattle.gw_interp.specs.own.Sourced.{holds}
+use Rattle.gw_interp.specs.own.Parts.{condition_of, names_so, GivesSo, part_names, PartGives, chosen_names, ChosenGives, names_within, MayWithin, GivesWithin, each_names, MayEach, EachGives}
 use Rattle.gw_interp.proofs.Borrowing.{drop_level, level_children, length_level}
 use Rattle.gw_interp.proofs.Naming.{given_names}
 use Rattle.gw_interp.proofs.Trees.{all_left}
 use Rattle.gw_interp.proofs.Giving.{names_of, each_one, IsWalkDone, none_walked, next_begins, next_walked, all_walked}
 use Rattle.gw_interp.proofs.Levels.{adds_as}
 
-pub part_named : (tables : List TableValue) (part : Part) (m : List SegmentValue) (os : List Occurrence) (list : List SegmentValue) → PartGives tables part m os list → names_of list ≡ part_names tables part os
+pub part_named : (tables : List TableValue) (part : Part) (m : List SegmentValue) (os : List Occurrence) (list : List SegmentValue) → PartGives tables part m os list → names_of list ≡ part_names tables part m os
 part_named tables (OneSegment nodes item) m os list one = ap names_of one.list_is ∙ ap (λ n. n ∷ []) one.holds.named
-part_named tables (Level nodes items) m os list h = given_names m os _ _ list h
+part_named tables (Level nodes items condition) m os list h = given_names m os _ _ list h
+
+pub chosen_named : (tables : List TableValue) (part : Part) (m : List SegmentValue) (os : List Occurrence) (list : List SegmentValue) → ChosenGives tables part m os list → names_of list ≡ chosen_names tables part m os
+chosen_named tables part m os list = by (holds m os (condition_of part))
+  where
+    by : (b : Bool) → GivesSo b (PartGives tables part m os) list → names_of list ≡ names_so b (part_names tables part m os)
+    by true h = part_named tables part m os list h
+    by false h = ap names_of h
 
 module _ (tables : List TableValue) (part : Part) (os : List OccValue) where
   abbrev Gives : Occurrence → List SegmentValue → Type 0
@@ -73,7 +81,7 @@ module _ (tables : List TableValue) (part : Part) (os : List OccValue) where
     child_done new walked_new same a lawful =
         record {
           kept = same ∙ d.kept;
-          walk = next_walked Gives May names (λ p list. part_named tables part (message_of os) (p ∷ scope os) list) (flat_map (below later) (children (occurrence from) child)) (below later (occurrence o)) (left from child later (k + 1)) old now new walk
+          walk = next_walked Gives May names (λ p list. chosen_named tables part (message_of os) (p ∷ scope os) list) (flat_map (below later) (children (occurrence from) child)) (below later (occurrence o)) (left from child later (k + 1)) old now new walk
               (subst (λ w. Adds (EachGives tables part w (below later (occurrence o))) now new) d.kept a) lawful;
         }
 

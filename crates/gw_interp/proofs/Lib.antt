@@ -1,5 +1,6 @@
 pub mod Walks
 pub mod Paths
+pub mod Within
 pub mod Parts
 pub mod Splits
 pub mod LevelsSound
@@ -48,3 +49,4 @@ mod Eachs
 mod Turns
 mod Translated
 mod Nexts
+mod FirstTexts

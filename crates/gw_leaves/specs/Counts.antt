@@ -2,7 +2,6 @@
 use Rattle.std.specs.Prelude.{Bool, if◌then◌else◌, List, Option, Some, None}
 use Rattle.std.specs.List.{list_any, list_all}
 use Rattle.gw_profile.specs.Shapes.{FieldValue}
-use Rattle.gw_maplang.specs.Shapes.{Condition}
 use Rattle.gw_resolve.specs.Intervals.{Interval, never, once, any_number, of_card, is_sure, is_never, at_most_one}
 use Rattle.gw_resolve.specs.Places.{Known, known}
 use Rattle.gw_resolve.specs.Resolved.{Reference, At, Making, copy, first, repeat, build, Rule}
@@ -21,8 +20,8 @@ reference_count k f =
 abbrev pub field_count : Sources → Reference → Interval
 field_count s from = reference_count (known s.scope from.place) (at_field s from)
 
--- with a condition maybe none: no repetition need have such a text
-abbrev pub chosen_count : Option Condition → Interval → Interval
+-- with a condition maybe none: none need meet it
+abbrev pub chosen_count : {C : Type 0} → Option C → Interval → Interval
 chosen_count None count = count
 chosen_count (Some c) count = record { least = 0; greatest = count.greatest }
 

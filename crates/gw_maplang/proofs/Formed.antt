@@ -7,17 +7,17 @@ use Rattle.gw_lines.specs.Values.{is_value}
 use Rattle.gw_profile.proofs.Facts.{both, neither, not_false, no_clash, le_is}
 use Rattle.gw_maplang.specs.declared.rule.LeafPlace.{LeafPlace}
 use Rattle.gw_maplang.specs.Among.{Among, Distinct}
-use Rattle.gw_maplang.specs.Shapes.{Path, Field, Current, Leaf, Const, Copy, Lookup, Date, Alternative, LeafValue, Condition, Making, Copies, Firsts, Repeats, Builds, RuleValue, Items, nothing}
+use Rattle.gw_maplang.specs.Shapes.{Field, Current, Leaf, Const, Copy, Lookup, Date, Alternative, LeafValue, Condition, FieldCondition, Walk, Making, Copies, Firsts, Repeats, Builds, RuleValue, Items, nothing}
 use Rattle.gw_maplang.specs.Columns.{WideRow, WideTable, behind_first, is_known}
-use Rattle.gw_maplang.specs.Lawful.{Lawful, LawfulLeaf, LawfulOthers, LawfulLeafValue, LawfulLeaves, LawfulCondition, LawfulMaking, LawfulItems, LawfulDrop, LawfulPath, places, rule_fields}
+use Rattle.gw_maplang.specs.Lawful.{Lawful, LawfulLeaf, LawfulOthers, LawfulLeafValue, LawfulLeaves, LawfulCondition, LawfulFieldCondition, LawfulWalk, LawfulMaking, LawfulItems, LawfulDrop, places, rule_fields}
 use Rattle.gw_maplang.specs.Line.{Line, Begins, Language, Table, Rows, Else, Segment, Makes, At, Or, Each, End, Drops}
-use Rattle.gw_maplang.specs.Fault.{begun, at_last, with_row, with_other, wide_below, wide_tables, wide_names, wide_firsts, is_second, last_table, in_table, is_flat, OpenSegment, OpenRule, open_segment, open_rule, opened, with_field, with_place, depth, hollow, is_stray, is_early, is_unknown, is_bad, own_leaf, has_leaf, is_led, is_repeated, condition_of, is_hasty, is_bad_condition, is_misplaced, is_misplaced_leaf, is_made, is_placed, is_among, is_place}
+use Rattle.gw_maplang.specs.Fault.{begun, at_last, with_row, with_other, wide_below, wide_tables, wide_names, wide_firsts, is_second, last_table, in_table, is_flat, OpenSegment, OpenRule, open_segment, open_rule, opened, with_field, with_place, depth, hollow, is_stray, is_early, is_unknown, is_bad, own_leaf, has_leaf, is_led, is_repeated, condition_of, asked_of, condition_in, is_hasty, is_bad_condition, is_misplaced, is_misplaced_leaf, is_made, is_placed, is_among, is_place}
 use Rattle.gw_maplang.specs.Value.{Parts, Levels, Head, head, head_of, no_parts, parts, own_or, with_others, with_leaves, rule_with, next, past, each_item, levels, drops}
 use Rattle.gw_maplang.specs.own.Widths.{LawfulWide, LawfulWides}
 use Rattle.gw_maplang.proofs.Among.{not_among, among_left, among_right, bytes_see, distinct_push, numbers_see, places_see}
 use Rattle.gw_maplang.proofs.ColumnNames.{all_names, all_columns_names, all_distinct, known_named, names_stay, names_push, names_second}
 use Rattle.gw_maplang.proofs.LawfulColumns.{Fits, fits_is, values_lawful, rows_stay, other_stays, narrow_stays, never_unsaid, widened_grows, all_lawful, are_named}
-use Rattle.gw_maplang.proofs.Shaped.{IsFew, ShapedLeaf, ShapedLeafValue, ShapedCondition, ShapedMaking, all_of}
+use Rattle.gw_maplang.proofs.Shaped.{IsFew, ShapedLeaf, ShapedLeafValue, ShapedCondition, ShapedFieldCondition, ShapedWalk, ShapedMaking, all_of}
 use Rattle.std.proofs.lemmas.Bool.Decides.{Decides-eqb}
 use mathlib.Core.List.{reverse_aux}
 use Rattle.gw_maplang.specs.Whole.{is_unclosed, map_of}
@@ -53,7 +53,7 @@ names_below (Segment at label source) above x h = h
 names_below (Makes rule) above x h = h
 names_below (At leaf) above x h = h
 names_below (Or other) above x h = h
-names_below (Each at label path) above x h = h
+names_below (Each at label walk) above x h = h
 names_below End above x h = h
 names_below (Drops drop) above x h = h
 
@@ -106,6 +106,17 @@ never_early true (Const value) e = refl
 never_early true (Copy ref) e = refl
 never_early true (Lookup table ref) e = refl
 never_early true (Date digits ref) e = refl
+
+walk_lawful : (w : Walk) → ShapedWalk w → is_bad_condition (asked_of w.condition) ≡ false → LawfulWalk w
+walk_lawful w s b = record { path = s.0; condition = by w.condition s.1 b }
+  where
+    by : (o : Option FieldCondition) → IfSome o ShapedFieldCondition → is_bad_condition (asked_of o) ≡ false → IfSome o LawfulFieldCondition
+    by None s b = tt
+    by (Some c) s b = record { from = s.0; condition = condition_lawful (Some c.condition) s.1 b }
+
+source_lawful : (o : Option Walk) → IfSome o ShapedWalk → is_bad_condition (condition_in o) ≡ false → IfSome o LawfulWalk
+source_lawful None s b = tt
+source_lawful (Some w) s b = walk_lawful w s b
 
 -- tables that are known in the map, at some line
 module _ (names : List (List ℕ)) (second : Bool) (ts : List WideTable) (known : (x : List ℕ) → Among x (all_names second ts) → Among x names) where
@@ -215,7 +226,7 @@ parts_lawful names above (Or other ∷ below) g =
       leaves = i.leaves;
       rules = i.rules;
     }
-parts_lawful names above (Each at label path ∷ below) g = nothing_behind names above
+parts_lawful names above (Each at label walk ∷ below) g = nothing_behind names above
 parts_lawful names above (End ∷ below) g = nothing_behind names above
 parts_lawful names above (Drops drop ∷ below) g = nothing_behind names above
 
@@ -232,7 +243,7 @@ hollow_deep (Segment at label source ∷ above) e = absurd (cc)
 hollow_deep (Makes rule ∷ above) e = hollow_deep above e
 hollow_deep (At leaf ∷ above) e = hollow_deep above e
 hollow_deep (Or other ∷ above) e = hollow_deep above e
-hollow_deep (Each at label path ∷ above) e = omega arith
+hollow_deep (Each at label walk ∷ above) e = omega arith
 hollow_deep (End ∷ above) e = absurd (cc)
 hollow_deep (Drops drop ∷ above) e = hollow_deep above e
 
@@ -249,13 +260,13 @@ past_lawful : (names : List (List ℕ)) (behind : List Items) → AllByRecursion
 past_lawful names [] h = tt
 past_lawful names (items ∷ behind) h = h.1
 
-each_lawful : (names : List (List ℕ)) (at : ℕ) (label : Option (List ℕ)) (path : Path) (inner rest : Items) → IfSome label (λ name. is_name name ≡ true) → LawfulPath path → LawfulItems names inner → (is_flat label ≡ true → inner ≡ nothing → ⊥) → LawfulItems names rest → LawfulItems names (each_item at label path inner rest)
-each_lawful names at None path inner rest n p i f r = (record { path = p; some = f refl }, i, r)
-each_lawful names at (Some label) path inner rest n p i f r = (record { labelled = n; path = p }, i, r)
+each_lawful : (names : List (List ℕ)) (at : ℕ) (label : Option (List ℕ)) (walk : Walk) (inner rest : Items) → IfSome label (λ name. is_name name ≡ true) → LawfulWalk walk → LawfulItems names inner → (is_flat label ≡ true → inner ≡ nothing → ⊥) → LawfulItems names rest → LawfulItems names (each_item at label walk inner rest)
+each_lawful names at None walk inner rest n p i f r = (record { walk = p; some = f refl }, i, r)
+each_lawful names at (Some label) walk inner rest n p i f r = (record { labelled = n; walk = p }, i, r)
 
-each_some : (at : ℕ) (label : Option (List ℕ)) (path : Path) (inner rest : Items) → each_item at label path inner rest ≡ nothing → ⊥
-each_some at None path inner rest e = cc
-each_some at (Some label) path inner rest e = cc
+each_some : (at : ℕ) (label : Option (List ℕ)) (walk : Walk) (inner rest : Items) → each_item at label walk inner rest ≡ nothing → ⊥
+each_some at None walk inner rest e = cc
+each_some at (Some label) walk inner rest e = cc
 
 levels_lawful : (names : List (List ℕ)) (above below : List Line) → Goes names above below → LevelsAre names above (levels below)
 levels_lawful names above [] g = record { here = tt; filled = λ h e. let d = hollow_deep above h in let z : depth above ≡ 0 = g.0 in absurd (omega arith); behind = tt }
@@ -273,7 +284,7 @@ levels_lawful names above (Segment at label source ∷ below) g =
     let i = levels_lawful names (Segment at label source ∷ above) below g.1 in
     let p = parts_lawful names (Segment at label source ∷ above) below g.1 in
     record {
-      here = (record { labelled = g.0.shaped.0; source = g.0.shaped.1; each = p.rules.each; distinct = p.rules.distinct }, i.here);
+      here = (record { labelled = g.0.shaped.0; source = source_lawful source g.0.shaped.1 g.0.clear.1.0; each = p.rules.each; distinct = p.rules.distinct }, i.here);
       filled = λ h e. cc;
       behind = i.behind;
     }
@@ -283,11 +294,11 @@ levels_lawful names above (At leaf ∷ below) g =
     let i = levels_lawful names (At leaf ∷ above) below g.1 in record { here = i.here; filled = i.filled; behind = i.behind }
 levels_lawful names above (Or other ∷ below) g =
     let i = levels_lawful names (Or other ∷ above) below g.1 in record { here = i.here; filled = i.filled; behind = i.behind }
-levels_lawful names above (Each at label path ∷ below) g =
-    let i = levels_lawful names (Each at label path ∷ above) below g.1 in
+levels_lawful names above (Each at label walk ∷ below) g =
+    let i = levels_lawful names (Each at label walk ∷ above) below g.1 in
     record {
-      here = each_lawful names at label path (levels below).here (next (levels below).behind) g.0.shaped.0 g.0.shaped.1 i.here i.filled (next_lawful names (levels below).behind i.behind);
-      filled = λ h e. each_some at label path (levels below).here (next (levels below).behind) e;
+      here = each_lawful names at label walk (levels below).here (next (levels below).behind) g.0.shaped.0 (walk_lawful walk g.0.shaped.1 g.0.clear.1.0) i.here i.filled (next_lawful names (levels below).behind i.behind);
+      filled = λ h e. each_some at label walk (levels below).here (next (levels below).behind) e;
       behind = past_lawful names (levels below).behind i.behind;
     }
 levels_lawful names above (End ∷ below) g =
@@ -308,7 +319,7 @@ drops_lawful names above (Segment at label source ∷ below) g = drops_lawful na
 drops_lawful names above (Makes rule ∷ below) g = drops_lawful names (Makes rule ∷ above) below g.1
 drops_lawful names above (At leaf ∷ below) g = drops_lawful names (At leaf ∷ above) below g.1
 drops_lawful names above (Or other ∷ below) g = drops_lawful names (Or other ∷ above) below g.1
-drops_lawful names above (Each at label path ∷ below) g = drops_lawful names (Each at label path ∷ above) below g.1
+drops_lawful names above (Each at label walk ∷ below) g = drops_lawful names (Each at label walk ∷ above) below g.1
 drops_lawful names above (End ∷ below) g = drops_lawful names (End ∷ above) below g.1
 drops_lawful names above (Drops drop ∷ below) g = (g.0.shaped, drops_lawful names (Drops drop ∷ above) below g.1)
 
@@ -329,7 +340,7 @@ head_lawful (Segment at label source) k = absurd (no_clash k.clear.0)
 head_lawful (Makes rule) k = absurd (no_clash k.clear.0)
 head_lawful (At leaf) k = absurd (no_clash k.clear.0)
 head_lawful (Or other) k = absurd (no_clash k.clear.0)
-head_lawful (Each at label path) k = absurd (no_clash k.clear.0)
+head_lawful (Each at label walk) k = absurd (no_clash k.clear.0)
 head_lawful End k = absurd (no_clash k.clear.0)
 head_lawful (Drops drop) k = absurd (no_clash k.clear.0)
 
@@ -395,7 +406,7 @@ tables_step above (Segment at label source) k h = h
 tables_step above (Makes rule) k h = h
 tables_step above (At leaf) k h = h
 tables_step above (Or other) k h = h
-tables_step above (Each at label path) k h = h
+tables_step above (Each at label walk) k h = h
 tables_step above End k h = h
 tables_step above (Drops drop) k h = h
 

@@ -35,7 +35,7 @@ new_table above line t = by line (taken_keeps above line t)
     by (Makes rule) k = tt
     by (At leaf) k = tt
     by (Or other) k = tt
-    by (Each at label path) k = tt
+    by (Each at label walk) k = tt
     by End k = tt
     by (Drops drop) k = tt
 
@@ -52,7 +52,7 @@ new_field above line t = by line (taken_keeps above line t)
     by (Makes rule) k = k.clear.1.1.1.0
     by (At leaf) k = tt
     by (Or other) k = tt
-    by (Each at label path) k = tt
+    by (Each at label walk) k = tt
     by End k = tt
     by (Drops drop) k = tt
 
@@ -69,7 +69,7 @@ new_place above line t = by line (taken_keeps above line t)
     by (Makes rule) k = tt
     by (At leaf) k = k.clear.1.1.1.0
     by (Or other) k = tt
-    by (Each at label path) k = tt
+    by (Each at label walk) k = tt
     by End k = tt
     by (Drops drop) k = tt
 
@@ -86,6 +86,6 @@ has_room above line t = by line (taken_keeps above line t)
     by (Makes rule) k = tt
     by (At leaf) k = tt
     by (Or other) k = tt
-    by (Each at label path) k = lt_is 16 (depth above) k.clear.1.0
+    by (Each at label walk) k = lt_is 16 (depth above) k.clear.1.1.0
     by End k = tt
     by (Drops drop) k = tt

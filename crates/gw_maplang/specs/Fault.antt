@@ -8,7 +8,7 @@ use Rattle.gw_lines.specs.Grammar.{Grammar}
 use Rattle.gw_maplang.specs.declared.fault.MapFault.{MapFault}
 use Rattle.gw_maplang.specs.declared.fault.MapFault.TheVariants.{Syntax, UnknownTable, BadConstant, Duplicate, TooDeep}
 use Rattle.gw_maplang.specs.declared.rule.LeafPlace.{LeafPlace}
-use Rattle.gw_maplang.specs.Shapes.{Current, Leaf, Const, Copy, Lookup, Date, Alternative, LeafValue, Condition, Making, Copies, Firsts, Repeats, Builds, RuleValue, TableValue}
+use Rattle.gw_maplang.specs.Shapes.{Current, Leaf, Const, Copy, Lookup, Date, Alternative, LeafValue, Condition, FieldCondition, Walk, Making, Copies, Firsts, Repeats, Builds, RuleValue, TableValue}
 use Rattle.gw_maplang.specs.Columns.{WideRow, WideTable, new_table, widened, all_columns, behind_first, is_known}
 use Rattle.gw_maplang.specs.Lawful.{least_field}
 use Rattle.gw_lines.specs.Spelled.{is_dot}
@@ -73,13 +73,13 @@ in_table (line ∷ above) = false
 abbrev pub has_item : List Line → Bool
 has_item [] = false
 has_item (Segment at label source ∷ above) = true
-has_item (Each at label path ∷ above) = true
+has_item (Each at label walk ∷ above) = true
 has_item (line ∷ above) = has_item above
 
 -- how many groups and flats are open
 abbrev pub depth : List Line → ℕ
 depth [] = 0
-depth (Each at label path ∷ above) = depth above + 1
+depth (Each at label walk ∷ above) = depth above + 1
 depth (End ∷ above) = depth above - 1
 depth (line ∷ above) = depth above
 
@@ -91,7 +91,7 @@ is_flat (Some label) = false
 abbrev pub hollow : List Line → Bool
 hollow [] = false
 hollow (Segment at label source ∷ above) = false
-hollow (Each at label path ∷ above) = is_flat label
+hollow (Each at label walk ∷ above) = is_flat label
 hollow (End ∷ above) = false
 hollow (line ∷ above) = hollow above
 
@@ -236,6 +236,16 @@ condition_of (Firsts from condition) = condition
 condition_of (Repeats from condition leaves) = condition
 condition_of (Builds leaves) = None
 
+-- what a condition asks of its field
+abbrev pub asked_of : Option FieldCondition → Option Condition
+asked_of None = None
+asked_of (Some c) = Some c.condition
+
+-- the same of what a segment's line walks
+abbrev pub condition_in : Option Walk → Option Condition
+condition_in None = None
+condition_in (Some walk) = asked_of walk.condition
+
 -- a condition, in the first language
 abbrev pub is_hasty : Bool → Option Condition → Bool
 is_hasty second None = false
@@ -285,8 +295,8 @@ else_tests above at values =
     (not (takes_values above (length values)), Syntax at)
     ∷ (not (list_all is_value values), BadConstant at) ∷ (is_said (last_table (wide_tables above)).other, Duplicate at) ∷ []
 
-abbrev pub segment_tests : List Line → ℕ → List (Bool × MapFault)
-segment_tests above at = (not (begun above), Syntax at) ∷ []
+abbrev pub segment_tests : List Line → ℕ → Option Condition → List (Bool × MapFault)
+segment_tests above at condition = (not (begun above) || is_hasty (is_second above) condition, Syntax at) ∷ (is_bad_condition condition, BadConstant at) ∷ []
 
 -- no segment above can hold this rule, or its language has no such rule
 abbrev pub is_misplaced_rule : List Line → RuleValue → Bool
@@ -318,8 +328,9 @@ or_tests above at leaf =
     (not (is_second above) || not (is_led above) || is_stray (is_repeated (open_rule above)) leaf, Syntax at)
     ∷ (is_unknown (wide_tables above) leaf, UnknownTable at) ∷ (is_bad leaf, BadConstant at) ∷ []
 
-abbrev pub each_tests : List Line → ℕ → List (Bool × MapFault)
-each_tests above at = (not (begun above), Syntax at) ∷ (nat_le 16 (depth above), TooDeep at) ∷ []
+abbrev pub each_tests : List Line → ℕ → Option Condition → List (Bool × MapFault)
+each_tests above at condition =
+    (not (begun above) || is_hasty (is_second above) condition, Syntax at) ∷ (is_bad_condition condition, BadConstant at) ∷ (nat_le 16 (depth above), TooDeep at) ∷ []
 
 abbrev pub end_tests : List Line → ℕ → List (Bool × MapFault)
 end_tests above at = ((depth above == 0) || hollow above, Syntax at) ∷ []
@@ -334,11 +345,11 @@ tests above at Language = language_tests above at
 tests above at (Table name) = table_tests above at name
 tests above at (Rows row) = row_tests above at row
 tests above at (Else values) = else_tests above at values
-tests above at (Segment line label source) = segment_tests above at
+tests above at (Segment line label source) = segment_tests above at (condition_in source)
 tests above at (Makes rule) = rule_tests above at rule
 tests above at (At leaf) = leaf_tests above at leaf
 tests above at (Or other) = or_tests above at other.leaf
-tests above at (Each line label path) = each_tests above at
+tests above at (Each line label walk) = each_tests above at (asked_of walk.condition)
 tests above at End = end_tests above at
 tests above at (Drops drop) = drop_tests above at
 

@@ -1,6 +1,6 @@
 -- The map that lines spell.
 use Rattle.std.specs.Prelude.{ℕ, List, [], ◌∷◌, Option, Some, None}
-use Rattle.gw_maplang.specs.Shapes.{Path, Alternative, LeafValue, Making, Copies, Firsts, Repeats, Builds, RuleValue, Items, nothing, segment, group, flat, DropValue}
+use Rattle.gw_maplang.specs.Shapes.{Walk, Alternative, LeafValue, Making, Copies, Firsts, Repeats, Builds, RuleValue, Items, nothing, segment, group, flat, DropValue}
 use Rattle.gw_maplang.specs.Line.{Line, Begins, Segment, Makes, At, Or, Each, End, Drops}
 
 -- ---- what lines spell, from the first on
@@ -55,15 +55,15 @@ past [] = []
 past (items ∷ behind) = behind
 
 -- a group, or a flat where no label is said, with its items and those behind it
-abbrev pub each_item : ℕ → Option (List ℕ) → Path → Items → Items → Items
-each_item at None path inner rest = flat (record { line = at; path = path }) inner rest
-each_item at (Some label) path inner rest = group (record { line = at; label = label; path = path }) inner rest
+abbrev pub each_item : ℕ → Option (List ℕ) → Walk → Items → Items → Items
+each_item at None walk inner rest = flat (record { line = at; walk = walk }) inner rest
+each_item at (Some label) walk inner rest = group (record { line = at; label = label; walk = walk }) inner rest
 
 abbrev pub levels : List Line → Levels
 levels [] = record { here = nothing; behind = [] }
 levels (Segment at label source ∷ below) =
     record { here = segment (record { line = at; label = label; source = source; rules = (parts below).rules }) (levels below).here; behind = (levels below).behind }
-levels (Each at label path ∷ below) = record { here = each_item at label path (levels below).here (next (levels below).behind); behind = past (levels below).behind }
+levels (Each at label walk ∷ below) = record { here = each_item at label walk (levels below).here (next (levels below).behind); behind = past (levels below).behind }
 levels (End ∷ below) = record { here = nothing; behind = (levels below).here ∷ (levels below).behind }
 levels (line ∷ below) = levels below
 

@@ -1,13 +1,13 @@
 //! Builds a map from its lines, from the last to the first.
 ghost use Rattle.std.specs.Prelude.{◌≡◌, [], map, reverse, IfOk, OnOk, Some, None};
 ghost use Rattle.gw_maplang.specs.own.Building.{Stands, Grows, parts_of, levels_of, all_behind, IsSegment, IsEach, head_value};
-ghost use Rattle.gw_maplang.specs.Seen.{line, rule, alternative, leaf_value, dropped, all_items, now, items_of, path, path_some};
+ghost use Rattle.gw_maplang.specs.Seen.{line, rule, alternative, leaf_value, dropped, all_items, now, items_of, walk, walk_some};
 ghost use Rattle.gw_maplang.specs.Line as line_of;
 ghost use Rattle.gw_maplang.specs.Value as spec;
 
 use crate::form::Line;
 use crate::item::{AlwaysItem, FlatItem, FromItem, GroupItem, Item};
-use crate::rule::{Alternative, BuildRule, Dropped, LeafRule, RepeatRule, Rule};
+use crate::rule::{Alternative, BuildRule, Dropped, LeafRule, RepeatRule, Rule, Walk};
 use std::alloc::{AllocError, Global};
 use std::mem;
 
@@ -59,17 +59,17 @@ fn close_parts(alloc: Global, below: &mut Below)
 pub(crate) fn segment_item(
     line: u32,
     label: Vec<u8>,
-    source: Option<Vec<Vec<u8>>>,
+    source: Option<Walk>,
     rules: Vec<Rule>,
 ) -> Item
-    ensures { IsSegment result line label.items (path_some source) (map rule rules.items) }
+    ensures { IsSegment result line label.items (walk_some source) (map rule rules.items) }
 {
     match source {
         None => Item::SegAlways(AlwaysItem { line, label, rules }),
-        Some(path) => Item::SegFrom(FromItem {
+        Some(walk) => Item::SegFrom(FromItem {
             line,
             label,
-            path,
+            walk,
             rules,
         }),
     }
@@ -80,9 +80,9 @@ fn add_segment(
     below: &mut Below,
     at: u32,
     label: &[u8],
-    source: Option<Vec<Vec<u8>>>,
+    source: Option<Walk>,
 ) -> Result<(), AllocError>
-    ensures { OnOk result (Grows below.old below.new (line_of.Segment at label.now (path_some source))) }
+    ensures { OnOk result (Grows below.old below.new (line_of.Segment at label.now (walk_some source))) }
 {
     let label = copy_of(alloc, label)?;
     let mut rules = mem::replace(&mut below.rules, Vec::new(alloc));
@@ -196,24 +196,24 @@ fn take_next(alloc: Global, behind: &mut Vec<Vec<Item>>) -> Vec<Item>
     }
 }
 
-fn flat_item(line: u32, from: Vec<Vec<u8>>, items: Vec<Item>) -> Item
-    ensures { IsEach result line None (path from) items.items }
+fn flat_item(line: u32, from: Walk, items: Vec<Item>) -> Item
+    ensures { IsEach result line None (walk from) items.items }
 {
     Item::EachFlat(FlatItem {
         line,
-        path: from,
+        walk: from,
         items,
     })
 }
 
 /// A group with these items.
-pub(crate) fn group_item(line: u32, label: Vec<u8>, from: Vec<Vec<u8>>, items: Vec<Item>) -> Item
-    ensures { IsEach result line (Some label.items) (path from) items.items }
+pub(crate) fn group_item(line: u32, label: Vec<u8>, from: Walk, items: Vec<Item>) -> Item
+    ensures { IsEach result line (Some label.items) (walk from) items.items }
 {
     Item::EachAs(GroupItem {
         line,
         label,
-        path: from,
+        walk: from,
         items,
     })
 }
@@ -222,10 +222,10 @@ fn each_item(
     alloc: Global,
     line: u32,
     label: Option<&[u8]>,
-    from: Vec<Vec<u8>>,
+    from: Walk,
     items: Vec<Item>,
 ) -> Result<Item, AllocError>
-    ensures { IfOk result (λ item. IsEach item line (now label.entry) (path from) items.items) }
+    ensures { IfOk result (λ item. IsEach item line (now label.entry) (walk from) items.items) }
 {
     match label {
         None => Ok(flat_item(line, from, items)),
@@ -241,9 +241,9 @@ fn add_each(
     below: &mut Below,
     at: u32,
     label: Option<&[u8]>,
-    from: Vec<Vec<u8>>,
+    from: Walk,
 ) -> Result<(), AllocError>
-    ensures { OnOk result (Grows below.old below.new (line_of.Each at (now label.entry) (path from))) }
+    ensures { OnOk result (Grows below.old below.new (line_of.Each at (now label.entry) (walk from))) }
 {
     close_parts(alloc, below);
     let rest = take_next(alloc, &mut below.behind);
@@ -299,7 +299,7 @@ fn add_line(alloc: Global, below: &mut Below, whole: Line) -> Result<(), AllocEr
         Line::Makes(made) => add_rule(alloc, below, made),
         Line::At(made) => add_leaf(alloc, below, made),
         Line::Or(made) => add_other(below, made),
-        Line::Each(at, label, path) => add_each(alloc, below, at, label, path),
+        Line::Each(at, label, walk) => add_each(alloc, below, at, label, walk),
         Line::End => add_end(alloc, below),
         Line::Drops(left) => add_drop(alloc, below, left),
     }

@@ -56,6 +56,20 @@ pub struct Condition {
     pub values: Vec<Vec<u8>>,
 }
 
+/// Some occurrences of a segment or group: those where the first repetition of a field, read within each, meets the condition.
+#[derive(Drop)]
+pub struct FieldCondition {
+    pub from: FieldPath,
+    pub condition: Condition,
+}
+
+/// The occurrences to which a path leads, or those of them that meet the condition.
+#[derive(Drop)]
+pub struct Walk {
+    pub path: Vec<Vec<u8>>,
+    pub condition: Option<FieldCondition>,
+}
+
 /// A field that is copied as it is.
 #[derive(Drop)]
 pub struct CopyRule {

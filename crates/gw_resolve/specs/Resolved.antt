@@ -51,11 +51,18 @@ pub record Rule : Type 0 where
   pub field : ℕ
   pub making : Making
 
--- a target segment for each occurrence at a place, or one where no place is said
+-- some occurrences: those where the first repetition of this field, read within each, is one of those
+pub record FieldCondition : Type 0 where
+  pub from : Reference
+  pub condition : Condition
+
+-- A target segment for each occurrence at a place, or one where no place is said.
+-- Here and below, where there is a condition, only the occurrences count that it chooses.
 pub record SegmentItem : Type 0 where
   pub line : ℕ
   pub child : ℕ
   pub place : Option Place
+  pub condition : Option FieldCondition
   pub rules : List Rule
 
 -- a target group for each occurrence at a place
@@ -63,11 +70,13 @@ pub record GroupItem : Type 0 where
   pub line : ℕ
   pub child : ℕ
   pub place : Place
+  pub condition : Option FieldCondition
 
 -- the occurrences at a place, without a target group
 pub record FlatItem : Type 0 where
   pub line : ℕ
   pub place : Place
+  pub condition : Option FieldCondition
 
 -- a list of items: each a segment, or a group or flat with its own items
 pub data Items : Type 0 where

@@ -66,12 +66,21 @@ pub struct Rule {
     pub making: Making,
 }
 
+/// Some occurrences: those where the first repetition of a field, read within each, meets the condition.
+#[derive(Drop)]
+pub struct FieldCondition {
+    pub from: Reference,
+    pub condition: Condition,
+}
+
 /// A target segment for each occurrence at a place, or one where no place is said.
+/// Here and below only the occurrences count that meet a condition, if there is one.
 #[derive(Drop)]
 pub struct SegmentItem {
     pub line: u32,
     pub child: usize,
     pub place: Option<ScopePath>,
+    pub condition: Option<FieldCondition>,
     pub rules: Vec<Rule>,
 }
 
@@ -82,6 +91,7 @@ pub struct GroupItem {
     pub line: u32,
     pub child: usize,
     pub place: ScopePath,
+    pub condition: Option<FieldCondition>,
     pub items: Vec<Item>,
 }
 
@@ -91,6 +101,7 @@ pub struct GroupItem {
 pub struct FlatItem {
     pub line: u32,
     pub place: ScopePath,
+    pub condition: Option<FieldCondition>,
     pub items: Vec<Item>,
 }
 

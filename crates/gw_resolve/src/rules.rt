@@ -11,7 +11,7 @@ ghost use Rattle.gw_resolve.specs.Seen.{scope as walked};
 use crate::element::ScopeNode;
 use crate::failure::Failure;
 use crate::led::{PathUse, lead};
-use crate::resolved::{Alternative, At, Making, Reference, ResolvedLeaf, Rule, Source};
+use crate::resolved::{Alternative, At, FieldCondition, Making, Reference, ResolvedLeaf, Rule, Source};
 use gw_maplang::{Condition, FieldPath, LeafRule, Ref};
 use std::alloc::{AllocError, Global};
 
@@ -168,17 +168,45 @@ fn texts_of(alloc: Global, all: &[Vec<u8>]) -> Result<Vec<Vec<u8>>, AllocError>
     Ok(copies)
 }
 
+fn condition_of(alloc: Global, said: &Condition) -> Result<Condition, AllocError>
+    ensures { IfOk result (λ c. raw.condition c ≡ raw.condition said.now) }
+{
+    let values = texts_of(alloc, &said.values)?;
+    Ok(Condition {
+        place: said.place,
+        values,
+    })
+}
+
 fn condition(alloc: Global, said: &Option<Condition>) -> Result<Option<Condition>, AllocError>
     ensures { IfOk result (λ c. raw.condition_some c ≡ raw.condition_some said.now) }
 {
     match said {
         None => Ok(None),
         Some(said) => {
-            let values = texts_of(alloc, &said.values)?;
-            Ok(Some(Condition {
-                place: said.place,
-                values,
-            }))
+            let copy = condition_of(alloc, said)?;
+            Ok(Some(copy))
+        }
+    }
+}
+
+/// A condition on the occurrences that are walked, and the failures of what it reads within each.
+pub(crate) fn field_condition(
+    alloc: Global,
+    found: &mut Vec<Failure>,
+    scope: &[ScopeNode<'_, '_>],
+    line: u32,
+    said: &Option<gw_maplang::FieldCondition>,
+) -> Result<Option<FieldCondition>, AllocError>
+    ensures made { IfOk result (λ c. seen.some_condition c ≡ spec.condition_within (walked scope.now) (raw.field_condition_some said.now)) }
+    ensures failures { OnOk result (Notes found.old found.new (spec.condition_failures (walked scope.now) line (raw.field_condition_some said.now))) }
+{
+    match said {
+        None => Ok(None),
+        Some(said) => {
+            let from = reference(alloc, found, scope, line, &said.from)?;
+            let condition = condition_of(alloc, &said.condition)?;
+            Ok(Some(FieldCondition { from, condition }))
         }
     }
 }

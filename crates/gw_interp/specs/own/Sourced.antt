@@ -6,8 +6,9 @@ use Rattle.gw_er7.specs.Message.{Texts, text_of, SegmentValue}
 use Rattle.gw_er7.specs.Presence.{RepAt}
 use Rattle.gw_interp.specs.declared.reading.Repetition.{Repetition}
 use Rattle.gw_interp.specs.declared.reading.Reading.{Reading}
-use Rattle.gw_resolve.specs.Resolved.{Leaf, const, copied, looked_up, dated, Alternative}
-use Rattle.gw_interp.specs.Meaning.{IsFirst, Walked, SourceMeans, look_up, LeafMeans, FirstText}
+use Rattle.gw_resolve.specs.Resolved.{FieldCondition, Leaf, const, copied, looked_up, dated, Alternative}
+use Rattle.gw_interp.specs.Meaning.{IsFirst, Walked, meets, SourceMeans, look_up, LeafMeans, FirstText}
+use Rattle.gw_interp.specs.Occurrences.{Occurrence}
 use Rattle.gw_interp.specs.own.Borrowed.{scope}
 
 -- no text where there is no segment
@@ -69,3 +70,8 @@ NoFaultOf w all = AllByRecursion (λ (o : Alternative). IsFault w o.leaf → ⊥
 abbrev pub FirstGives : Walked → List Alternative → Option (List ℕ) → Type 0
 FirstGives w all None = NoFaultOf w all → ⊥
 FirstGives w all (Some text) = FirstText w all text
+
+-- a condition holds where these occurrences are walked, or there is none
+abbrev pub holds : List SegmentValue → List Occurrence → Option FieldCondition → Bool
+holds m scope None = true
+holds m scope (Some c) = meets m scope c
