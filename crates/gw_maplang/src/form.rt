@@ -11,7 +11,8 @@ use crate::parts::{
     copies, drop_of, field_path, field_place, is_table_word, path_of, place_of, ref_of,
 };
 use crate::rule::{
-    Alternative, BuildRule, Condition, CopyRule, Dropped, FieldCondition, FieldPath, FirstRule, Leaf, LeafPlace, LeafRule, Ref, RepeatRule, Rule, Walk,
+    Alternative, BuildRule, Condition, CopyRule, Dropped, FieldCondition, FieldPath, FirstRule,
+    Leaf, LeafPlace, LeafRule, Ref, RepeatRule, Rule, Walk,
 };
 use gw_lines::{Word, behind, bytes_of, first_word, name_at, number, number_at};
 use std::alloc::{AllocError, Global};
@@ -268,10 +269,7 @@ fn asked_at<'a, 'w>(
     }
 }
 
-fn field_condition_form(
-    alloc: Global,
-    words: &[Word],
-) -> Result<Option<FieldCondition>, AllocError>
+fn field_condition_form(alloc: Global, words: &[Word]) -> Result<Option<FieldCondition>, AllocError>
     ensures { IfOk result (λ found. option_map field_condition found ≡ spec.field_condition_form (map word words.now)) }
 {
     let Some(((from, place), more)) = asked_at(alloc, words)? else {

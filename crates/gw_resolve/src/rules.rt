@@ -11,7 +11,9 @@ ghost use Rattle.gw_resolve.specs.Seen.{scope as walked};
 use crate::element::ScopeNode;
 use crate::failure::Failure;
 use crate::led::{PathUse, lead};
-use crate::resolved::{Alternative, At, FieldCondition, Making, Reference, ResolvedLeaf, Rule, Source};
+use crate::resolved::{
+    Alternative, At, FieldCondition, Making, Reference, ResolvedLeaf, Rule, Source,
+};
 use gw_maplang::{Condition, FieldPath, LeafRule, Ref};
 use std::alloc::{AllocError, Global};
 
