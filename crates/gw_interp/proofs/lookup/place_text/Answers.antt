@@ -6,10 +6,10 @@ use Rattle.gw_interp.proofs.lookup.place_text.Goals as goal
 
 pub returns-then-settles : goal.returns-then-settles
 returns-then-settles c = λ m of.
-    settled (walks m c.args.reading.now) (record { line = c.args.at.now.line; leaf = leaf c.args.map.now.tables c.args.at.now.leaf }) (map (alternative c.args.map.now.tables) c.args.at.now.others.items) _
+    settled (walks m c.args.reading.now) (record { line = c.args.at.now.line; leaf = leaf c.args.rows.now.tables c.args.at.now.leaf }) (map (alternative c.args.rows.now.tables) c.args.at.now.others.items) _
     (sym c.settles.ensures ∙ c.if-settles.true) (c.leaf_text.ensures m of)
 
-pub returns-else-settles : goal.returns-else-settles
-returns-else-settles c = λ m of.
-    unsettled (walks m c.args.reading.now) (record { line = c.args.at.now.line; leaf = leaf c.args.map.now.tables c.args.at.now.leaf }) (map (alternative c.args.map.now.tables) c.args.at.now.others.items) _ _
+pub returns : goal.returns
+returns c = λ m of.
+    unsettled (walks m c.args.reading.now) (record { line = c.args.at.now.line; leaf = leaf c.args.rows.now.tables c.args.at.now.leaf }) (map (alternative c.args.rows.now.tables) c.args.at.now.others.items) _ _
     (sym c.settles.ensures ∙ c.if-settles.false) (c.leaf_text.ensures m of) (c.first_text.ensures m of)
