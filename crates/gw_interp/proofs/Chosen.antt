@@ -1,18 +1,20 @@
 -- The repetitions of a field that are chosen, and numbers that are counted.
-use Rattle.std.proofs.Common.{◌≡◌, ℕ, zero, suc, ◌+◌, ◌-◌, ◌<◌, ◌≤◌, ◌⊎◌, inl, inr, Bool, true, false, List, [], ◌∷◌, Option, Some, None, refl, sym, ap, subst, ◌∙◌, arith, length}
+use Rattle.std.proofs.Common.{◌≡◌, ℕ, zero, suc, ◌+◌, ◌-◌, ◌<◌, ◌≤◌, ◌⊎◌, inl, inr, true, false, List, [], ◌∷◌, Option, Some, None, refl, sym, ap, subst, ◌∙◌, arith, length}
 use Rattle.std.proofs.lemmas.Bool.{cases_lt}
 use Rattle.std.proofs.lemmas.Bool.Decides.{eqb_tells}
 use Rattle.gw_er7.specs.Message.{Texts, text_of}
 use Rattle.gw_er7.specs.Presence.{RepAt, IsLast}
 use Rattle.gw_profile.proofs.Facts.{tells, no_clash}
 use Rattle.gw_validate.specs.Breaches.{Counted}
+use Rattle.gw_validate.proofs.Leasts.{counted_once}
+use Rattle.gw_validate.proofs.Nexts.{next_counted}
 use Rattle.gw_maplang.specs.Shapes.{Condition}
 use Rattle.gw_resolve.specs.Intervals.{Interval}
 use Rattle.gw_leaves.specs.Counts.{chosen_count}
-use Rattle.gw_interp.specs.Meaning.{IsFirst, IsNumber, is_one, IsChosen}
+use Rattle.gw_interp.specs.Meaning.{IsFirst, IsNth, is_one, IsChosen}
 use Rattle.gw_interp.specs.own.Sourced.{IsFirstOne, IsNext, IsNextOne}
 use Rattle.gw_interp.proofs.Bounded.{Decided, first_if, some_if, bound, text_bounded, rep_if}
-use Rattle.gw_interp.proofs.Repetitions.{IsCounted, surplus, fewer, counted_never, counted_within}
+use Rattle.gw_interp.proofs.Repetitions.{IsCounted, surplus, counted_never, counted_within}
 
 -- ---- chosen
 
@@ -55,37 +57,24 @@ module _ (P : ℕ → Type 0) where
   counted_low (suc n) k (inl c) = let low = counted_low n c.1 c.3 in omega (arith, c.2, low)
   counted_low (suc n) k (inr c) = let low = counted_low n k c.1 in omega (arith, low)
 
-  counted_same : (n j k : ℕ) → Counted P n j → Counted P n k → j ≡ k
-  counted_same n j k c d =
-      let up = fewer P P (λ r p. p) n j k c d in
-      let down = fewer P P (λ r p. p) n k j d c in
-      omega (arith, up, down)
-
-  -- where none is between, so many are counted further on
-  counted_on : (n a k : ℕ) → a ≤ n → Counted P a k → ((r : ℕ) → a < r → r ≤ n → P r → ⊥) → Counted P n k
-  counted_on zero a k le c none = let same : a ≡ 0 = omega (arith, le) in subst (λ j. Counted P j k) same c
-  counted_on (suc n) a k le c none = by (cases_lt a (suc n))
-    where
-      by : (a < suc n) ⊎ (suc n ≤ a) → Counted P (suc n) k
-      by (inl lt) = inr ((λ p. none (suc n) lt (omega arith) p), counted_on n a k (omega (arith, lt)) c (λ r more less p. none r more (omega (arith, less)) p))
-      by (inr ge) = let same : a ≡ suc n = omega (arith, le, ge) in subst (λ j. Counted P j k) same c
-
-  -- and at the next it is one more
+  -- at the next it is one more
   pub counted_next : (next a k : ℕ) → Counted P a k → IsNext P a next → Counted P next (k + 1)
-  counted_next zero a k c is = absurd (omega (arith, is.behind))
-  counted_next (suc n) a k c is =
-      inl (is.holds, k, (omega arith), counted_on n a k (omega (arith, is.behind)) c (λ r more less p. is.none_between r more (omega (arith, less)) p))
+  counted_next next a k c is = next_counted P a next k is.behind is.holds (λ r more p. by r more p (cases_lt r next)) c
+    where
+      by : (r : ℕ) → a < r → P r → (r < next) ⊎ (next ≤ r) → next ≤ r
+      by r more p (inl less) = absurd (is.none_between r more less p)
+      by r more p (inr ge) = ge
 
   pub counted_less : (b a j k : ℕ) → a ≤ b → Counted P a j → Counted P b k → j ≤ k
   counted_less zero a j k le c d = let low = counted_low a j c in omega (arith, le, low)
-  counted_less (suc b) a j k le c d = by (cases_lt a (suc b)) d
+  counted_less (suc b) a j k le c d = by (cases_lt a (suc b)) (λ lt i e. counted_less b a j i (omega (arith, lt)) c e) d
     where
-      by : (a < suc b) ⊎ (suc b ≤ a) → Counted P (suc b) k → j ≤ k
-      by (inl lt) (inl d) = let less = counted_less b a j d.1 (omega (arith, lt)) c d.3 in omega (arith, d.2, less)
-      by (inl lt) (inr d) = counted_less b a j k (omega (arith, lt)) c d.1
-      by (inr ge) d =
+      by : (a < suc b) ⊎ (suc b ≤ a) → (a < suc b → (i : ℕ) → Counted P b i → j ≤ i) → Counted P (suc b) k → j ≤ k
+      by (inl lt) below (inl e) = let less = below lt e.1 e.3 in omega (arith, e.2, less)
+      by (inl lt) below (inr e) = below lt k e.1
+      by (inr ge) below e =
           let same : a ≡ suc b = omega (arith, le, ge) in
-          let alike = counted_same (suc b) j k (subst (λ n. Counted P n j) same c) d in
+          let alike = counted_once P (suc b) j k (subst (λ n. Counted P n j) same c) e in
           omega (arith, alike)
 
   later : (b a k j : ℕ) → a < b → Counted P a k → P b → Counted P b j → k < j
@@ -94,18 +83,13 @@ module _ (P : ℕ → Type 0) where
   later (suc n) a k j lt c p (inr d) = absurd (d.0 p)
 
   -- there is at most one k-th number
-  pub number_once : (k a b : ℕ) → IsNumber P k a → IsNumber P k b → a ≡ b
+  pub number_once : (k a b : ℕ) → IsNth P k a → IsNth P k b → a ≡ b
   number_once k a b x y = by (cases_lt a b) (cases_lt b a)
     where
       by : (a < b) ⊎ (b ≤ a) → (b < a) ⊎ (a ≤ b) → a ≡ b
       by (inl lt) q = let more = later b a k k lt x.counted y.holds y.counted in absurd (omega (arith, more))
       by (inr le) (inl lt) = let more = later a b k k lt y.counted x.holds x.counted in absurd (omega (arith, more))
       by (inr le) (inr ge) = omega (arith, le, ge)
-
-  pub number_positive : (n k : ℕ) → 0 < n → P n → Counted P n k → 0 < k
-  number_positive zero k lt p c = omega (arith, lt)
-  number_positive (suc n) k lt p (inl c) = omega (arith, c.2)
-  number_positive (suc n) k lt p (inr c) = absurd (c.0 p)
 
   -- ---- the next
 
@@ -152,17 +136,17 @@ module _ (P : ℕ → Type 0) where
       by k less p (inr le) = zero_not (let same : k ≡ 0 = omega (arith, le) in subst P same p)
 
 module _ (P : ℕ → Type 0) where
-  abbrev pub HasNumber : ℕ → Type 0
-  HasNumber k = (n : ℕ) × IsNumber P k n
+  abbrev pub HasNth : ℕ → Type 0
+  HasNth k = (n : ℕ) × IsNth P k n
 
   -- no more can be counted than there may be
-  pub number_counted : (i : Interval) → IsCounted P i → IsCounted HasNumber (record { least = 0; greatest = i.greatest })
+  pub number_counted : (i : Interval) → IsCounted P i → IsCounted HasNth (record { least = 0; greatest = i.greatest })
   number_counted i is = record {
     enough = λ last count l c lt. omega arith;
-    limited = λ most r k e h c le. by most r k e h (counted_low HasNumber (r - 1) k c) le (cases_lt most r);
+    limited = λ most r k e h c le. by most r k e h (counted_low HasNth (r - 1) k c) le (cases_lt most r);
   }
     where
-      by : (most r k : ℕ) → i.greatest ≡ Some most → HasNumber r → k ≤ r - 1 → most ≤ k → (most < r) ⊎ (r ≤ most) → ⊥
+      by : (most r k : ℕ) → i.greatest ≡ Some most → HasNth r → k ≤ r - 1 → most ≤ k → (most < r) ⊎ (r ≤ most) → ⊥
       by most r k e h low le (inl lt) =
           let more = surplus P h.0 r most h.1.counted lt in
           is.limited most more.0 most e more.1 more.2 (omega arith)
@@ -179,19 +163,19 @@ module _ (P : ℕ → Type 0) where
         by (inl p) c = (suc c.0, inl (p, c.0, refl, c.1))
         by (inr away) c = (c.0, inr (away, c.1))
 
-    number_is : (k n : ℕ) → Decided (IsNumber P k n)
+    number_is : (k n : ℕ) → Decided (IsNth P k n)
     number_is k n = by (decide n) (count_of n)
       where
-        by : Decided (P n) → ((j : ℕ) × Counted P n j) → Decided (IsNumber P k n)
+        by : Decided (P n) → ((j : ℕ) × Counted P n j) → Decided (IsNth P k n)
         by (inr away) c = inr (λ is. away is.holds)
         by (inl p) c =
             elim (eqb_tells c.0 k) [
               | inl e ↦ inl (record { holds = p; counted = subst (Counted P n) e.1 c.1 })
-              | inr e ↦ inr (λ is. e.1 (counted_same P n c.0 k c.1 is.counted))
+              | inr e ↦ inr (λ is. e.1 (counted_once P n c.0 k c.1 is.counted))
             ]
 
-    pub number_if : (b : ℕ) → ((n : ℕ) → P n → n < b) → (k : ℕ) → Decided (HasNumber k)
-    number_if b bounded k = some_if (IsNumber P k) (number_is k) b (λ n is. bounded n is.holds)
+    pub number_if : (b : ℕ) → ((n : ℕ) → P n → n < b) → (k : ℕ) → Decided (HasNth k)
+    number_if b bounded k = some_if (IsNth P k) (number_is k) b (λ n is. bounded n is.holds)
 
 -- the number that was found, 0 where there is none
 abbrev pub or_zero : {Q : ℕ → Type 0} → Decided ((n : ℕ) × Q n) → ℕ
@@ -203,5 +187,5 @@ is_found (inl found) n q = found.1
 is_found (inr none) n q = absurd (none (n, q))
 
 -- the k-th repetition that is chosen
-pub chosen_number_if : (c : Condition) (m : Texts) (field k : ℕ) → Decided (HasNumber (IsChosen (Some c) m field) k)
+pub chosen_number_if : (c : Condition) (m : Texts) (field k : ℕ) → Decided (HasNth (IsChosen (Some c) m field) k)
 chosen_number_if c m field k = number_if (IsChosen (Some c) m field) (chosen_if (Some c) m field) (suc (bound m)) (chosen_bounded (Some c) m field) k

@@ -10,14 +10,14 @@ use Rattle.gw_resolve.specs.Resolved.{Source, of_field, of_current, Leaf, const,
 use Rattle.gw_maplang.specs.Among.{Among}
 use Rattle.gw_maplang.specs.Shapes.{Rows, Condition}
 use Rattle.gw_interp.specs.Occurrences.{texts_at}
-use Rattle.gw_interp.specs.Meaning.{IsNumber, InFirstOf, IsChosen, InNumber, Walked, SourceMeans, look_up, first_digits, LeafMeans, FirstText, AtMeans, Where, walking, MakingMeans, RuleMeans, IsImage}
+use Rattle.gw_interp.specs.Meaning.{IsNth, InFirstOf, IsChosen, InNth, Walked, SourceMeans, look_up, first_digits, LeafMeans, FirstText, AtMeans, Where, walking, MakingMeans, RuleMeans, IsImage}
 use Rattle.gw_interp.specs.own.Sourced.{IsFault, NoFaultOf}
 use Rattle.gw_interp.specs.own.Ready.{NoFaults, NoFaultIn, MayImage}
 use Rattle.gw_interp.proofs.Lists.{found_test, found_all}
 use Rattle.gw_interp.proofs.Shaped.{text_there}
 use Rattle.gw_interp.proofs.Made.{comp_is, sub_is}
 use Rattle.gw_interp.proofs.Bounded.{Decided, bound, sum_of, found_bounded, text_bounded, rep_if}
-use Rattle.gw_interp.proofs.Chosen.{chosen_there, first_chosen_if, counted_low, HasNumber, chosen_number_if}
+use Rattle.gw_interp.proofs.Chosen.{chosen_there, first_chosen_if, counted_low, HasNth, chosen_number_if}
 use Rattle.gw_interp.proofs.Tabled.{places_to, among_places, tabled, tabled_name, tabled_text, tabled_segment}
 
 -- ---- there is a text
@@ -68,7 +68,7 @@ where_text : (here : Type 0) (means : List ℕ → Type 0) → Decided here → 
 where_text here means (inl h) some = let text = some h in (text.0, inl (h, text.1))
 where_text here means (inr n) some = ([], inr (n, refl))
 
-number_text : (P : ℕ → Type 0) (k : ℕ) (means : ℕ → List ℕ → Type 0) → Decided (HasNumber P k) → ((n : ℕ) → IsNumber P k n → Exists (means n)) → Exists (InNumber P k means)
+number_text : (P : ℕ → Type 0) (k : ℕ) (means : ℕ → List ℕ → Type 0) → Decided (HasNth P k) → ((n : ℕ) → IsNth P k n → Exists (means n)) → Exists (InNth P k means)
 number_text P k means (inl h) some = let text = some h.0 h.1 in (text.0, inl (h.0, h.1, text.1))
 number_text P k means (inr n) some = ([], inr (n, refl))
 
@@ -80,7 +80,7 @@ making_text w (copy from) sound r c k = (text_of (texts_at w.message w.scope fro
 making_text w (first from chosen) sound r c k = where_text (r ≡ 1) _ (one_if r) (λ h. first_text chosen (texts_at w.message w.scope from.place) from.field c k)
 making_text w (repeat from (Some chosen) leaves) sound r c k =
     number_text (IsChosen (Some chosen) (texts_at w.message w.scope from.place) from.field) r (λ n. AtMeans (walking w from n) (leaf_at leaves c k)) (chosen_number_if chosen (texts_at w.message w.scope from.place) from.field r)
-    (λ n h. at_text (walking w from n) leaves (sound n (chosen_there (Some chosen) (texts_at w.message w.scope from.place) from.field n h.holds)) c k)
+    (λ n h. at_text (walking w from n) leaves (sound n h.holds) c k)
 making_text w (repeat from None leaves) sound r c k =
     where_text (RepAt (texts_at w.message w.scope from.place) from.field r) (AtMeans (walking w from r) (leaf_at leaves c k)) (rep_if (texts_at w.message w.scope from.place) from.field r) (λ h. at_text (walking w from r) leaves (sound r h) c k)
 making_text w (build leaves) sound r c k = where_text (r ≡ 1) (AtMeans w (leaf_at leaves c k)) (one_if r) (λ h. at_text w leaves sound c k)
@@ -126,7 +126,7 @@ making_bounded w (first from chosen) r c k text means lt = by means
     by (inr h) = absurd (text_there text lt h.1)
 making_bounded w (repeat from (Some chosen) leaves) r c k text means lt = by means
   where
-    by : InNumber (IsChosen (Some chosen) (texts_at w.message w.scope from.place) from.field) r (λ n. AtMeans (walking w from n) (leaf_at leaves c k)) text → r + (c + k) ≤ making_bound w (repeat from (Some chosen) leaves)
+    by : InNth (IsChosen (Some chosen) (texts_at w.message w.scope from.place) from.field) r (λ n. AtMeans (walking w from n) (leaf_at leaves c k)) text → r + (c + k) ≤ making_bound w (repeat from (Some chosen) leaves)
     by (inl h) =
         let at = chosen_there (Some chosen) (texts_at w.message w.scope from.place) from.field h.0 h.1.holds in
         let rep = text_bounded (texts_at w.message w.scope from.place) from.field h.0 at.0 at.1.0 at.1.1 in

@@ -1,5 +1,5 @@
 -- A target segment for which no rule on fields fails meets its shape.
-use Rattle.std.proofs.Common.{◌≡◌, ℕ, ◌≤◌, ◌⊎◌, inl, inr, Bool, true, false, List, [], ◌∷◌, Option, Some, None, refl, sym, ap, ◌∙◌, arith, IfSome}
+use Rattle.std.proofs.Common.{◌≡◌, ℕ, ◌≤◌, ◌⊎◌, inl, inr, Bool, true, false, List, [], ◌∷◌, Option, Some, None, refl, sym, ap, subst, ◌∙◌, arith, IfSome}
 use Rattle.std.specs.Prelude.{◌==◌, ◌&&◌, not, nat_lt, flat_map, bytes_eq, if◌then◌else◌}
 use Rattle.std.specs.List.{AllByRecursion}
 use Rattle.std.proofs.lemmas.Bool.Decides.{nat_tests, Decides-eqb}
@@ -24,7 +24,7 @@ use Rattle.gw_leaves.specs.Components.{field_mark, making_failures, rule_lookups
 use Rattle.gw_check.specs.Fields.{counted, is_expected, has_no_rule, line_of_rule, content_failures, count_failures, field_failures, segment_failures}
 use Rattle.gw_resolve.specs.Lawful.{LawfulMaking, LawfulRule, LawfulRules}
 use Rattle.gw_interp.specs.Occurrences.{texts_at}
-use Rattle.gw_interp.specs.Meaning.{IsNumber, IsChosen, InNumber, Walked, walking, AtMeans, Where, MakingMeans, RuleMeans, IsImage}
+use Rattle.gw_interp.specs.Meaning.{IsNth, IsChosen, InNth, Walked, walking, AtMeans, Where, MakingMeans, RuleMeans, IsImage}
 use Rattle.gw_interp.specs.own.Ready.{NoFaultIn}
 use Rattle.gw_interp.proofs.Walks.{IsWalked}
 use Rattle.gw_interp.proofs.Lists.{all_as, all_with, found_all, none_fails, both_empty, four_empty, each_empty}
@@ -32,7 +32,7 @@ use Rattle.gw_interp.proofs.Shaped.{text_there}
 use Rattle.gw_interp.proofs.Held.{HasTables}
 use Rattle.gw_interp.proofs.Sources.{known_held}
 use Rattle.gw_interp.proofs.Leaves.{walked_on, no_fault_of_rule}
-use Rattle.gw_interp.proofs.Chosen.{chosen_there, chosen_counted, number_once, HasNumber, number_counted, or_zero, is_found, chosen_number_if}
+use Rattle.gw_interp.proofs.Chosen.{chosen_there, chosen_counted, number_once, HasNth, number_counted, or_zero, is_found, chosen_number_if}
 use Rattle.gw_interp.proofs.Repetitions.{IsCounted, never_counted, counted_never, single}
 use Rattle.gw_interp.proofs.Carried.{source_counted, copy_counted, first_counted}
 use Rattle.gw_interp.proofs.Contents.{none_broken, demanded, copied_whole, copied_first, comps_kept}
@@ -64,19 +64,19 @@ never_is i e = by i.greatest e
 abbrev numbered : Walked → Reference → Condition → ℕ → Walked
 numbered w from chosen k = walking w from (or_zero (chosen_number_if chosen (texts_at w.message w.scope from.place) from.field k))
 
-numbered_walked : (names : List (List ℕ)) (s : Sources) (w : Walked) (has : HasTables names s.profile.tables) (is : IsWalked names s w) (from : Reference) (chosen : Condition) (k : ℕ) → HasNumber (IsChosen (Some chosen) (texts_at w.message w.scope from.place) from.field) k → IsWalked names (counts.walking s from) (numbered w from chosen k)
+numbered_walked : (names : List (List ℕ)) (s : Sources) (w : Walked) (has : HasTables names s.profile.tables) (is : IsWalked names s w) (from : Reference) (chosen : Condition) (k : ℕ) → HasNth (IsChosen (Some chosen) (texts_at w.message w.scope from.place) from.field) k → IsWalked names (counts.walking s from) (numbered w from chosen k)
 numbered_walked names s w has is from chosen k h =
     let source = texts_at w.message w.scope from.place in
     let d = chosen_number_if chosen source from.field k in
-    walked_on names s w has is from (or_zero d) (chosen_there (Some chosen) source from.field (or_zero d) (is_found {Q = IsNumber (IsChosen (Some chosen) source from.field) k} d h.0 h.1).holds)
+    walked_on names s w has is from (or_zero d) (chosen_there (Some chosen) source from.field (or_zero d) (is_found {Q = IsNth (IsChosen (Some chosen) source from.field) k} d h.0 h.1).holds)
 
-numbered_means : (w : Walked) (from : Reference) (chosen : Condition) (leaves : List At) (r c k : ℕ) (text : List ℕ) → MakingMeans w (repeat from (Some chosen) leaves) r c k text → Where (HasNumber (IsChosen (Some chosen) (texts_at w.message w.scope from.place) from.field) r) (AtMeans (numbered w from chosen r) (leaf_at leaves c k)) text
+numbered_means : (w : Walked) (from : Reference) (chosen : Condition) (leaves : List At) (r c k : ℕ) (text : List ℕ) → MakingMeans w (repeat from (Some chosen) leaves) r c k text → Where (HasNth (IsChosen (Some chosen) (texts_at w.message w.scope from.place) from.field) r) (AtMeans (numbered w from chosen r) (leaf_at leaves c k)) text
 numbered_means w from chosen leaves r c k text means = by means
   where
-    by : InNumber (IsChosen (Some chosen) (texts_at w.message w.scope from.place) from.field) r (λ n. AtMeans (walking w from n) (leaf_at leaves c k)) text → Where (HasNumber (IsChosen (Some chosen) (texts_at w.message w.scope from.place) from.field) r) (AtMeans (numbered w from chosen r) (leaf_at leaves c k)) text
+    by : InNth (IsChosen (Some chosen) (texts_at w.message w.scope from.place) from.field) r (λ n. AtMeans (walking w from n) (leaf_at leaves c k)) text → Where (HasNth (IsChosen (Some chosen) (texts_at w.message w.scope from.place) from.field) r) (AtMeans (numbered w from chosen r) (leaf_at leaves c k)) text
     by (inl h) =
         let d = chosen_number_if chosen (texts_at w.message w.scope from.place) from.field r in
-        let same = number_once (IsChosen (Some chosen) (texts_at w.message w.scope from.place) from.field) r h.0 (or_zero d) h.1 (is_found {Q = IsNumber (IsChosen (Some chosen) (texts_at w.message w.scope from.place) from.field) r} d h.0 h.1) in
+        let same = number_once (IsChosen (Some chosen) (texts_at w.message w.scope from.place) from.field) r h.0 (or_zero d) h.1 (is_found {Q = IsNth (IsChosen (Some chosen) (texts_at w.message w.scope from.place) from.field) r} d h.0 h.1) in
         inl ((h.0, h.1), subst (λ n. AtMeans (walking w from n) (leaf_at leaves c k) text) same h.2)
     by (inr h) = inr h
 
@@ -93,7 +93,7 @@ module _ (names : List (List ℕ)) (s : Sources) (w : Walked) (has : HasTables n
   making_counted (repeat from (Some chosen) leaves) lawful means =
       let source = texts_at w.message w.scope from.place in
       let i = counts.chosen_count (Some chosen) (counts.field_count s from) in
-      made_counted names (counts.walking s from) has (HasNumber (IsChosen (Some chosen) source from.field)) (numbered w from chosen) (numbered_walked names s w has is from chosen) true leaves lawful m number
+      made_counted names (counts.walking s from) has (HasNth (IsChosen (Some chosen) source from.field)) (numbered w from chosen) (numbered_walked names s w has is from chosen) true leaves lawful m number
       (λ r c k. numbered_means w from chosen leaves r c k (text_of m number r c k) (means r c k)) i
       (number_counted (IsChosen (Some chosen) source from.field) i (chosen_counted (Some chosen) source from.field (counts.field_count s from) (source_counted names s.profile has (known s.scope from.place) source (is.places from.place) from.field)))
   making_counted (repeat from None leaves) lawful means =
@@ -118,7 +118,7 @@ module _ (names : List (List ℕ)) (s : Sources) (w : Walked) (has : HasTables n
         let is_copy = copied_first m number (IsChosen chosen source from.field) source from.field (chosen_there chosen source from.field) means r at in
         comps_kept names s.profile to has m number source from.field (at_field s from) (known_held names s.profile has (known s.scope from.place) source (is.places from.place) from.field is_copy.rep is_copy.there) r is_copy mark target.comps none
     making_kept (repeat from (Some chosen) leaves) lawful means none =
-        comps_made names (counts.walking s from) has (HasNumber (IsChosen (Some chosen) (texts_at w.message w.scope from.place) from.field)) (numbered w from chosen) (numbered_walked names s w has is from chosen) true leaves lawful m number
+        comps_made names (counts.walking s from) has (HasNth (IsChosen (Some chosen) (texts_at w.message w.scope from.place) from.field)) (numbered w from chosen) (numbered_walked names s w has is from chosen) true leaves lawful m number
         (λ r c k. numbered_means w from chosen leaves r c k (text_of m number r c k) (means r c k)) target_names to mark target lawful_field none r at
     making_kept (repeat from None leaves) lawful means none =
         comps_made names (counts.walking s from) has (RepAt (texts_at w.message w.scope from.place) from.field) (walking w from) (walked_on names s w has is from) true leaves lawful m number means target_names to mark target lawful_field none r at

@@ -18,16 +18,17 @@ use Rattle.gw_lines.specs.Values.{is_value}
 use Rattle.gw_profile.proofs.Facts.{both, le_is}
 use Rattle.gw_validate.specs.Breaches.{is_null}
 use Rattle.gw_validate.specs.Conforming.{segment_at}
+use Rattle.gw_validate.proofs.Nexts.{some_counted}
 use Rattle.gw_resolve.specs.Places.{Place}
 use Rattle.gw_resolve.specs.Resolved.{Source, of_field, of_current, Leaf, const, copied, looked_up, dated, Alternative, At, alternatives, leaf_at, Making, copy, first, repeat, build, Rule, rule_of}
 use Rattle.gw_resolve.specs.Lawful.{LawfulSource, LawfulLeaf, LawfulAt, LawfulLeaves, LawfulMaking, LawfulRule, LawfulRules}
 use Rattle.gw_interp.specs.Occurrences.{Occurrence, a_segment, nodes, at_place, texts_of_first, texts_at}
-use Rattle.gw_interp.specs.Meaning.{InFirst, InFirstOf, IsChosen, InNumber, Walked, walking, SourceMeans, first_digits, LeafMeans, FirstText, AtMeans, Where, MakingMeans, RuleMeans, IsImage}
+use Rattle.gw_interp.specs.Meaning.{InFirst, InFirstOf, IsChosen, InNth, Walked, walking, SourceMeans, first_digits, LeafMeans, FirstText, AtMeans, Where, MakingMeans, RuleMeans, IsImage}
 use Rattle.gw_interp.proofs.Lists.{found_test, found_all}
 use Rattle.gw_interp.proofs.Shaped.{text_there}
 use Rattle.gw_interp.proofs.Leaves.{given_value, LooksUp, of_none, of_null, of_value, looks_up}
 use Rattle.gw_interp.proofs.Made.{comp_is, sub_is}
-use Rattle.gw_interp.proofs.Chosen.{chosen_there, number_positive}
+use Rattle.gw_interp.proofs.Chosen.{chosen_there}
 
 -- each text that isn't empty may stand at its place
 abbrev pub AreEntries : ℕ → Texts → Type 0
@@ -188,12 +189,12 @@ module _ (w : Walked) (places : (place : Place) → AreEntries 1 (texts_at w.mes
       by (inr h) = absurd (text_there text lt h.1)
   making_placed (repeat from (Some chosen) leaves) lawful r c k text means lt = by means
     where
-      by : InNumber (IsChosen (Some chosen) (texts_at w.message w.scope from.place) from.field) r (λ n. AtMeans (walking w from n) (leaf_at leaves c k)) text → IsPlaced r c k text
+      by : InNth (IsChosen (Some chosen) (texts_at w.message w.scope from.place) from.field) r (λ n. AtMeans (walking w from n) (leaf_at leaves c k)) text → IsPlaced r c k text
       by (inl h) =
           let source = texts_at w.message w.scope from.place in
           let at = chosen_there (Some chosen) source from.field h.0 h.1.holds in
           let entry = places from.place from.field h.0 at.0 at.1.0 at.1.1 in
-          let rep = number_positive (IsChosen (Some chosen) source from.field) h.0 r entry.key.positive.1.0 h.1.holds h.1.counted in
+          let rep = some_counted (IsChosen (Some chosen) source from.field) h.0 h.0 r h.1.holds entry.key.positive.1.0 (omega arith) h.1.counted in
           leaf_placed (walking w from h.0) places true (λ e comp sub. text_canonical source (places from.place) from.field h.0 comp sub) leaves lawful r c k rep text h.2 lt
       by (inr h) = absurd (text_there text lt h.1)
   making_placed (repeat from None leaves) lawful r c k text means lt = by means

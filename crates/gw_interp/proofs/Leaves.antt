@@ -27,6 +27,7 @@ use Rattle.gw_interp.specs.Occurrences.{texts_at}
 use Rattle.gw_interp.specs.Meaning.{Walked, SourceMeans, LeafMeans, look_up, first_digits, walking}
 use Rattle.gw_interp.specs.own.Sourced.{IsFault, NoFaultOf}
 use Rattle.gw_interp.specs.own.Ready.{NoFaultIn}
+use Rattle.gw_interp.proofs.Chosen.{chosen_there}
 use Rattle.gw_interp.proofs.Walks.{IsCurrent, IsWalked}
 use Rattle.gw_interp.proofs.Lists.{all_as, none_fails, each_empty}
 use Rattle.gw_interp.proofs.Shaped.{IsShaped}
@@ -117,7 +118,11 @@ looks_up table (b ∷ bytes) text e = by (is_null (b ∷ bytes)) refl e
 
 none_dated : (digits : ℕ) → first_digits digits [] ≡ []
 none_dated zero = refl
-none_dated (suc digits) = refl
+none_dated (suc digits) = by (nat_le (suc digits) 0 && list_all is_digit (take (suc digits) []))
+  where
+    by : (b : Bool) → ◌≡◌ {A = List ℕ} (if b then take {A = ℕ} (suc digits) [] else []) []
+    by true = refl
+    by false = refl
 
 date_short : (digits : ℕ) (from : List ℕ) → is_null (first_digits digits from) ≡ false → nat_le (length (first_digits digits from)) digits ≡ true
 date_short digits from = null (is_null from) refl
@@ -269,9 +274,9 @@ module _ (names : List (List ℕ)) (s : Sources) (w : Walked) (has : HasTables n
       by : (making : Making) → rule_lookups s (record r { making = making }) ≡ [] → NoFaultIn w making
       by (copy from) none = tt
       by (first from chosen) none = tt
-      by (repeat from chosen leaves) none = λ rep at.
+      by (repeat from chosen leaves) none = λ rep is_chosen.
           all_as (λ (a : At). lookup_failures (counts.walking s from) r.field a ≡ []) (λ (a : At). NoFaultOf (walking w from rep) (alternatives a))
-          (λ a e. no_fault names (counts.walking s from) (walking w from rep) has (walked_on names s w has is from rep at) r.field a e) leaves (each_empty (lookup_failures (counts.walking s from) r.field) leaves none)
+          (λ a e. no_fault names (counts.walking s from) (walking w from rep) has (walked_on names s w has is from rep (chosen_there chosen (texts_at w.message w.scope from.place) from.field rep is_chosen)) r.field a e) leaves (each_empty (lookup_failures (counts.walking s from) r.field) leaves none)
       by (build leaves) none =
           all_as (λ (a : At). lookup_failures s r.field a ≡ []) (λ (a : At). NoFaultOf w (alternatives a))
           (λ a e. no_fault names s w has is r.field a e) leaves (each_empty (lookup_failures s r.field) leaves none)

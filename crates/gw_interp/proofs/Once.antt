@@ -16,7 +16,7 @@ use Rattle.gw_resolve.specs.Places.{Place, child, nodes_of_child, name_of}
 use Rattle.gw_resolve.specs.Resolved.{Source, of_field, of_current, Leaf, const, copied, looked_up, dated, Alternative, At, alternatives, leaf_at, Making, copy, first, repeat, build, Rule, rule_of, Items, no_items, segment_item, group_item, flat_item, Resolved}
 use Rattle.gw_interp.specs.Occurrences as occurrences
 use Rattle.gw_interp.specs.Occurrences.{Occurrence, at_place, texts_at}
-use Rattle.gw_interp.specs.Meaning.{IsFirst, InFirstOf, IsChosen, InNumber, Walked, SourceMeans, look_up, first_digits, LeafMeans, FirstText, AtMeans, Where, walking, MakingMeans, RuleMeans, IsImage, ForEach, IsOne, walked, Segments, Give, Means}
+use Rattle.gw_interp.specs.Meaning.{IsFirst, InFirstOf, IsChosen, InNth, Walked, SourceMeans, look_up, first_digits, LeafMeans, FirstText, AtMeans, Where, walking, MakingMeans, RuleMeans, IsImage, ForEach, IsOne, walked, Segments, Give, Means}
 use Rattle.gw_interp.proofs.Shaped.{text_there}
 use Rattle.gw_interp.proofs.Trees.{all_left, all_right}
 use Rattle.gw_interp.proofs.Chosen.{number_once}
@@ -72,7 +72,7 @@ where_once here means one x y (inl h) (inr g) = absurd (g.0 h.0)
 where_once here means one x y (inr h) (inl g) = absurd (h.0 g.0)
 where_once here means one x y (inr h) (inr g) = h.1 ∙ sym g.1
 
-number_text_once : (P : ℕ → Type 0) (k : ℕ) (means : ℕ → List ℕ → Type 0) → ((n : ℕ) → AtMostOne (means n)) → AtMostOne (InNumber P k means)
+number_text_once : (P : ℕ → Type 0) (k : ℕ) (means : ℕ → List ℕ → Type 0) → ((n : ℕ) → AtMostOne (means n)) → AtMostOne (InNth P k means)
 number_text_once P k means one x y (inl h) (inl g) = one g.0 x y (subst (λ n. means n x) (number_once P k h.0 g.0 h.1 g.1) h.2) g.2
 number_text_once P k means one x y (inl h) (inr g) = absurd (g.0 (h.0, h.1))
 number_text_once P k means one x y (inr h) (inl g) = absurd (h.0 (g.0, g.1))

@@ -3,7 +3,7 @@ use Rattle.std.specs.Prelude.{◌≡◌, ℕ, ◌<◌, ◌&&◌, nat_le, take, �
 use Rattle.std.specs.List.{list_all, list_any}
 use Rattle.gw_lines.specs.Spelled.{is_digit}
 use Rattle.gw_er7.specs.Message.{Texts, text_of, SegmentValue}
-use Rattle.gw_er7.specs.Presence.{RepAt, FieldAt}
+use Rattle.gw_er7.specs.Presence.{RepAt}
 use Rattle.gw_profile.specs.Shapes.{Forest, ProfileValue}
 use Rattle.gw_validate.specs.Breaches.{is_null, Counted}
 use Rattle.gw_validate.specs.Cuts.{Cut}
@@ -23,7 +23,7 @@ pub record IsFirst (P : ℕ → Type 0) (n : ℕ) : Type 0 where
   pub none_before : (k : ℕ) → k < n → P k → ⊥
 
 -- the k-th number at which this holds, counted from 1
-pub record IsNumber (P : ℕ → Type 0) (k n : ℕ) : Type 0 where
+pub record IsNth (P : ℕ → Type 0) (k n : ℕ) : Type 0 where
   pub holds : P n
   pub counted : Counted P n k
 
@@ -42,8 +42,12 @@ pub record Walked : Type 0 where
   pub scope : List Occurrence
   pub current : ℕ → ℕ → List ℕ
 
+-- the texts of the segment that is read
+abbrev pub texts_from : Walked → Reference → Texts
+texts_from w from = texts_at w.message w.scope from.place
+
 abbrev pub SourceMeans : Walked → Source → List ℕ → Type 0
-SourceMeans w (of_field from comp sub) text = InFirst (texts_at w.message w.scope from.place) from.field comp sub text
+SourceMeans w (of_field from comp sub) text = InFirst (texts_from w from) from.field comp sub text
 SourceMeans w (of_current comp sub) text = text ≡ w.current comp sub
 
 -- an absent text stays absent, "" stays "", and another is what the rows give; none where they give nothing
@@ -84,8 +88,8 @@ IsChosen None m field rep = RepAt m field rep
 IsChosen (Some c) m field rep = is_one c.values (text_of m field rep c.place.comp c.place.sub) ≡ true
 
 -- a text for the k-th of these numbers, absent where there are fewer
-abbrev pub InNumber : (ℕ → Type 0) → ℕ → (ℕ → List ℕ → Type 0) → List ℕ → Type 0
-InNumber P k Means text = ((n : ℕ) × IsNumber P k n × Means n text) ⊎ ((((n : ℕ) × IsNumber P k n) → ⊥) × (text ≡ []))
+abbrev pub InNth : (ℕ → Type 0) → ℕ → (ℕ → List ℕ → Type 0) → List ℕ → Type 0
+InNth P k Means text = ((n : ℕ) × IsNth P k n × Means n text) ⊎ ((((n : ℕ) × IsNth P k n) → ⊥) × (text ≡ []))
 
 -- ---- fields
 
@@ -95,17 +99,18 @@ Where here means text = (here × means text) ⊎ ((here → ⊥) × (text ≡ []
 
 -- with the texts of one repetition of a field
 abbrev pub walking : Walked → Reference → ℕ → Walked
-walking w from rep = record w { current = λ comp sub. text_of (texts_at w.message w.scope from.place) from.field rep comp sub }
+walking w from rep = record w { current = λ comp sub. text_of (texts_from w from) from.field rep comp sub }
 
--- the text of a rule at a repetition, component and subcomponent
+-- The text of a rule at a repetition, component and subcomponent. A repeated field keeps the numbers of its repetitions;
+-- where a condition chooses some of them, these are numbered from 1 on.
 abbrev pub MakingMeans : Walked → Making → ℕ → ℕ → ℕ → List ℕ → Type 0
-MakingMeans w (copy from) rep comp sub text = text ≡ text_of (texts_at w.message w.scope from.place) from.field rep comp sub
+MakingMeans w (copy from) rep comp sub text = text ≡ text_of (texts_from w from) from.field rep comp sub
 MakingMeans w (first from condition) rep comp sub text =
-    Where (rep ≡ 1) (InFirstOf (IsChosen condition (texts_at w.message w.scope from.place) from.field) (texts_at w.message w.scope from.place) from.field comp sub) text
+    Where (rep ≡ 1) (InFirstOf (IsChosen condition (texts_from w from) from.field) (texts_from w from) from.field comp sub) text
 MakingMeans w (repeat from None leaves) rep comp sub text =
-    Where (RepAt (texts_at w.message w.scope from.place) from.field rep) (AtMeans (walking w from rep) (leaf_at leaves comp sub)) text
+    Where (RepAt (texts_from w from) from.field rep) (AtMeans (walking w from rep) (leaf_at leaves comp sub)) text
 MakingMeans w (repeat from (Some c) leaves) rep comp sub text =
-    InNumber (IsChosen (Some c) (texts_at w.message w.scope from.place) from.field) rep (λ n. AtMeans (walking w from n) (leaf_at leaves comp sub)) text
+    InNth (IsChosen (Some c) (texts_from w from) from.field) rep (λ n. AtMeans (walking w from n) (leaf_at leaves comp sub)) text
 MakingMeans w (build leaves) rep comp sub text = Where (rep ≡ 1) (AtMeans w (leaf_at leaves comp sub)) text
 
 abbrev pub RuleMeans : Walked → Option Rule → ℕ → ℕ → ℕ → List ℕ → Type 0

@@ -153,7 +153,7 @@ fn make_chosen<'a>(
     requires may { MayMakeBy (seen_from scope.now)
         (repeat (reference chosen.from.now) (Some (seen_condition chosen.condition.now)) (at_leaves rows.now.tables leaves.now)) field builder.old }
     ensures { OnOk result (IsMadeBy (seen_from scope.now)
-        (repeat (reference chosen.from.now) (Some (seen_condition chosen.condition.now)) (at_leaves rows.now.tables leaves.now)) field builder.old builder.new) }
+        (repeat (reference chosen.entry.from.now) (Some (seen_condition chosen.entry.condition.now)) (at_leaves rows.now.tables leaves.now)) field builder.old builder.new) }
 {
     let Some(segment) = segment_at(scope, &chosen.from.place) else {
         return Ok(());
@@ -191,13 +191,13 @@ pub(crate) fn make_rule<'a>(
     match &rule.making {
         Making::Copy(from) => make_copy(scope, builder, from, field),
         Making::First(from, condition) => make_first(scope, builder, from, condition, field),
-        Making::Repeat(from, None, leaves) => {
-            make_repeat(rows, scope, builder, from, leaves, field)
-        }
-        Making::Repeat(from, Some(condition), leaves) => {
-            let chosen = Chosen { from, condition };
-            make_chosen(rows, scope, builder, chosen, leaves, field)
-        }
+        Making::Repeat(from, condition, leaves) => match condition {
+            None => make_repeat(rows, scope, builder, from, leaves, field),
+            Some(condition) => {
+                let chosen = Chosen { from, condition };
+                make_chosen(rows, scope, builder, chosen, leaves, field)
+            }
+        },
         Making::Build(leaves) => make_build(rows, scope, builder, leaves, field),
     }
 }

@@ -3,13 +3,12 @@ use Rattle.std.specs.Prelude.{◌≡◌, ◌≢◌, ℕ, ◌<◌, List, [], ◌�
 use Rattle.std.specs.List.{AllByRecursion}
 use Rattle.gw_er7.specs.Names.{IsName, header_name}
 use Rattle.gw_er7.specs.Message.{SegmentValue, first_field, IsEntry}
-use Rattle.gw_er7.specs.Presence.{RepAt}
 use Rattle.gw_profile.specs.Shapes.{Forest}
 use Rattle.gw_resolve.specs.Places.{Place, child, nodes_of_child, name_of}
 use Rattle.gw_resolve.specs.Resolved.{At, alternatives, Making, copy, first, repeat, build, Rule, rule_of, Items, no_items, segment_item, group_item, flat_item}
 use Rattle.gw_resolve.specs.Lawful.{LawfulRules}
-use Rattle.gw_interp.specs.Occurrences.{Occurrence, at_place, texts_at}
-use Rattle.gw_interp.specs.Meaning.{Walked, walking, walked, RuleMeans}
+use Rattle.gw_interp.specs.Occurrences.{Occurrence, at_place}
+use Rattle.gw_interp.specs.Meaning.{Walked, texts_from, walking, IsChosen, walked, RuleMeans}
 use Rattle.gw_interp.specs.own.Sourced.{NoFaultOf}
 
 -- ---- segments
@@ -21,7 +20,7 @@ NoFaults w leaves = AllByRecursion (λ (a : At). NoFaultOf w (alternatives a)) l
 abbrev pub NoFaultIn : Walked → Making → Type 0
 NoFaultIn w (copy from) = Unit {0}
 NoFaultIn w (first from condition) = Unit {0}
-NoFaultIn w (repeat from condition leaves) = (rep : ℕ) → RepAt (texts_at w.message w.scope from.place) from.field rep → NoFaults (walking w from rep) leaves
+NoFaultIn w (repeat from condition leaves) = (rep : ℕ) → IsChosen condition (texts_from w from) from.field rep → NoFaults (walking w from rep) leaves
 NoFaultIn w (build leaves) = NoFaults w leaves
 
 -- each text that the rules give may stand at its place, and none is a fault

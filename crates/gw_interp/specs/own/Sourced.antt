@@ -3,7 +3,7 @@ use Rattle.std.specs.Prelude.{◌≡◌, ℕ, ◌<◌, Bool, true, false, List, 
 use Rattle.std.specs.List.{AllByRecursion}
 use Rattle.std.specs.FinMap as texts
 use Rattle.gw_er7.specs.Message.{Texts, text_of, SegmentValue}
-use Rattle.gw_er7.specs.Presence.{RepAt, FieldAt}
+use Rattle.gw_er7.specs.Presence.{RepAt}
 use Rattle.gw_interp.specs.declared.reading.Repetition.{Repetition}
 use Rattle.gw_interp.specs.declared.reading.Reading.{Reading}
 use Rattle.gw_resolve.specs.Resolved.{Leaf, const, copied, looked_up, dated, Alternative}
@@ -30,6 +30,7 @@ pub record IsNext (P : ℕ → Type 0) (after n : ℕ) : Type 0 where
   pub behind : after < n
   pub none_between : (k : ℕ) → after < k → k < n → P k → ⊥
 
+-- the next of these behind it, if there is one
 abbrev pub IsNextOne : (ℕ → Type 0) → ℕ → Option ℕ → Type 0
 IsNextOne P after None = (k : ℕ) → after < k → P k → ⊥
 IsNextOne P after (Some n) = IsNext P after n

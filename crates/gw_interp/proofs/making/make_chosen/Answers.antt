@@ -43,3 +43,9 @@ returns c =
     let is = ap texts_of (sym c.in-Some.is) ∙ c.segment_at.ensures (message_of c.args.scope.now) c.requires.of in
     all_numbers (seen_from c.args.scope.now) (map (at_leaf c.args.rows.now.tables) c.args.leaves.now) c.args.field (reference c.args.chosen.from.now) (condition c.args.chosen.condition.now) c.in-Some.segment.at is c.args.builder.now c.requires.may
     c.loop-next.rep c.loop-next.made c.loop-next.builder c.in_default-next_chosen.ensures c.loop-next.invariant
+
+pub overflow_add-made : goal.overflow_add-made
+overflow_add-made c = omega (arith, c.loop-next.invariant.low, c.in-Some-next_chosen.ensures.behind)
+
+pub loop-next-smaller : goal.loop-next-smaller
+loop-next-smaller c = omega (arith, c.in-Some-next_chosen.ensures.behind)

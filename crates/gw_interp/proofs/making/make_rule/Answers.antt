@@ -26,20 +26,20 @@ returns-in-First c =
     (subst (λ m. IsMadeBy (seen_from c.args.scope.now) (making c.args.rows.now.tables m) c.args.rule.now.field c.args.builder.now c.make_first.new.builder) (sym c.in-First.is))
     c.make_first.ensures
 
-pub returns-in-Repeat-default-None-default : goal.returns-in-Repeat-default-None-default
-returns-in-Repeat-default-None-default c =
+pub returns-in-None : goal.returns-in-None
+returns-in-None c =
     on_ok _ _ c.make_repeat.result
-    (λ made. subst (λ m. IsMadeBy (seen_from c.args.scope.now) (making c.args.rows.now.tables m) c.args.rule.now.field c.args.builder.now c.make_repeat.new.builder) (sym c.in-Repeat-default-None-default.is)
-    (subst (λ o. IsMadeBy (seen_from c.args.scope.now) (repeat (reference c.in-Repeat-default-None-default.from) (condition_some o) (map (at_leaf c.args.rows.now.tables) c.in-Repeat-default-None-default.leaves.items)) c.args.rule.now.field c.args.builder.now c.make_repeat.new.builder) (sym c.in-Repeat-default-None-default.field-1-is)
-    (subst (λ l. IsMadeBy (seen_from c.args.scope.now) (repeat (reference c.in-Repeat-default-None-default.from) None (map (at_leaf c.args.rows.now.tables) l)) c.args.rule.now.field c.args.builder.now c.make_repeat.new.builder) c.deref.ensures.value made)))
+    (λ made. subst (λ m. IsMadeBy (seen_from c.args.scope.now) (making c.args.rows.now.tables m) c.args.rule.now.field c.args.builder.now c.make_repeat.new.builder) (sym c.in-Repeat.is)
+    (subst (λ o. IsMadeBy (seen_from c.args.scope.now) (repeat (reference c.in-Repeat.from) (condition_some o) (map (at_leaf c.args.rows.now.tables) c.in-Repeat.leaves.items)) c.args.rule.now.field c.args.builder.now c.make_repeat.new.builder) (sym c.in-None.is)
+    (subst (λ l. IsMadeBy (seen_from c.args.scope.now) (repeat (reference c.in-Repeat.from) None (map (at_leaf c.args.rows.now.tables) l)) c.args.rule.now.field c.args.builder.now c.make_repeat.new.builder) c.deref.ensures.value made)))
     c.make_repeat.ensures
 
-pub returns-in-Repeat-default-Some-default : goal.returns-in-Repeat-default-Some-default
-returns-in-Repeat-default-Some-default c =
+pub returns-in-Some : goal.returns-in-Some
+returns-in-Some c =
     on_ok _ _ c.make_chosen.result
-    (λ made. subst (λ m. IsMadeBy (seen_from c.args.scope.now) (making c.args.rows.now.tables m) c.args.rule.now.field c.args.builder.now c.make_chosen.new.builder) (sym c.in-Repeat-default-Some-default.is)
-    (subst (λ o. IsMadeBy (seen_from c.args.scope.now) (repeat (reference c.in-Repeat-default-Some-default.from) (condition_some o) (map (at_leaf c.args.rows.now.tables) c.in-Repeat-default-Some-default.leaves.items)) c.args.rule.now.field c.args.builder.now c.make_chosen.new.builder) (sym c.in-Repeat-default-Some-default.field-1-is)
-    (subst (λ l. IsMadeBy (seen_from c.args.scope.now) (repeat (reference c.in-Repeat-default-Some-default.from) (Some (condition c.in-Repeat-default-Some-default.condition)) (map (at_leaf c.args.rows.now.tables) l)) c.args.rule.now.field c.args.builder.now c.make_chosen.new.builder) c.deref-in-Repeat-default-Some-default.ensures.value made)))
+    (λ made. subst (λ m. IsMadeBy (seen_from c.args.scope.now) (making c.args.rows.now.tables m) c.args.rule.now.field c.args.builder.now c.make_chosen.new.builder) (sym c.in-Repeat.is)
+    (subst (λ o. IsMadeBy (seen_from c.args.scope.now) (repeat (reference c.in-Repeat.from) (condition_some o) (map (at_leaf c.args.rows.now.tables) c.in-Repeat.leaves.items)) c.args.rule.now.field c.args.builder.now c.make_chosen.new.builder) (sym c.in-Some.is)
+    (subst (λ l. IsMadeBy (seen_from c.args.scope.now) (repeat (reference c.in-Repeat.from) (Some (condition c.in-Some.condition)) (map (at_leaf c.args.rows.now.tables) l)) c.args.rule.now.field c.args.builder.now c.make_chosen.new.builder) c.deref-in-Some.ensures.value made)))
     c.make_chosen.ensures
 
 pub returns-in-Build : goal.returns-in-Build
