@@ -30,6 +30,10 @@ either_always Maybe Maybe e = absurd (cc)
 either_always Maybe Never e = absurd (cc)
 either_always Never b e = inr e
 
+-- the first of two gives no text, so the text is that of the second
+either_there : (a b : Presence) (text : List ℕ) → is_always (either a b) ≡ true → (is_always a ≡ true → ⊥) → (is_always b ≡ true → text ≡ [] → ⊥) → text ≡ [] → ⊥
+either_there a b text e no later = elim (either_always a b e) [ inl x ↦ absurd (no x) | inr x ↦ later x ]
+
 either_absent : (a b : Presence) → is_absent (either a b) ≡ true → (is_absent a ≡ true) × (is_absent b ≡ true)
 either_absent Always b e = absurd (cc)
 either_absent Maybe Always e = absurd (cc)
@@ -63,14 +67,10 @@ module _ (names : List (List ℕ)) (s : Sources) (w : Walked) (has : HasTables n
       let none = leaf_shaped names s w has is repeated o.leaf [] lawful.0 h.0 in
       let rest = first_shaped os text lawful.1 h.1 in
       record {
-        always = λ a. by (either_always (leaf_shape s o.leaf).presence (first_presence s os) a) none.always rest.always;
+        always = λ a. either_there (leaf_shape s o.leaf).presence (first_presence s os) text a (λ b. none.always b refl) rest.always;
         absent = λ a. rest.absent (either_absent (leaf_shape s o.leaf).presence (first_presence s os) a).1;
         by_one = λ some. inr (rest.by_one some);
       }
-    where
-      by : (is_always (leaf_shape s o.leaf).presence ≡ true) ⊎ (is_always (first_presence s os) ≡ true) → (is_always (leaf_shape s o.leaf).presence ≡ true → [] ≡ [] → ⊥) → (is_always (first_presence s os) ≡ true → text ≡ [] → ⊥) → text ≡ [] → ⊥
-      by (inl a) first later = absurd (first a refl)
-      by (inr a) first later = later a
 
 -- ---- a subcomponent for which no leaf fails
 

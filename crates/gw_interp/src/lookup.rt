@@ -97,14 +97,14 @@ fn settles(given: Option<&[u8]>) -> bool
 
 // The first text that one of these leaves gives, empty where none does. `None` if the table of one has nothing for what is read.
 fn first_text<'a>(
-    map: &'a Map,
+    rows: &'a Map,
     reading: &Reading<'_, 'a>,
     others: &'a [Alternative],
 ) -> Option<&'a [u8]>
-    ensures { (m : List SegmentValue) → AreOf m reading.now.scope.now → FirstGives (walks m reading.now) (map (alternative map.now.tables) others.now) (now result) }
+    ensures { (m : List SegmentValue) → AreOf m reading.now.scope.now → FirstGives (walks m reading.now) (map (alternative rows.now.tables) others.now) (now result) }
 {
     for other in others {
-        let given = leaf_text(map, reading, &other.leaf);
+        let given = leaf_text(rows, reading, &other.leaf);
         if settles(given) {
             return given;
         }
@@ -114,15 +114,15 @@ fn first_text<'a>(
 
 /// The same of all leaves of a place. It takes no memory.
 pub(crate) fn place_text<'a>(
-    map: &'a Map,
+    rows: &'a Map,
     reading: &Reading<'_, 'a>,
     at: &'a At,
 ) -> Option<&'a [u8]>
-    ensures { (m : List SegmentValue) → AreOf m reading.now.scope.now → FirstGives (walks m reading.now) (alternatives (at_leaf map.now.tables at.now)) (now result) }
+    ensures { (m : List SegmentValue) → AreOf m reading.now.scope.now → FirstGives (walks m reading.now) (alternatives (at_leaf rows.now.tables at.now)) (now result) }
 {
-    let own = leaf_text(map, reading, &at.leaf);
+    let own = leaf_text(rows, reading, &at.leaf);
     if settles(own) {
         return own;
     }
-    first_text(map, reading, &at.others)
+    first_text(rows, reading, &at.others)
 }

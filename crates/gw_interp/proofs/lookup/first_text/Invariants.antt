@@ -8,4 +8,4 @@ use Rattle.gw_interp.proofs.lookup.first_text.Given as goal
 -- what those behind give, all give
 abbrev pub invariant-loop-other : goal.invariant-loop-other
 invariant-loop-other l =
-    (m : List SegmentValue) → AreOf m l.reading.scope.now → (found : Option (List ℕ)) → FirstGives (walks m l.reading) (map (alternative l.map.tables) (drop l.other-index l.others)) found → FirstGives (walks m l.reading) (map (alternative l.map.tables) l.others) found
+    (m : List SegmentValue) → AreOf m l.reading.scope.now → (found : Option (List ℕ)) → FirstGives (walks m l.reading) (map (alternative l.rows.tables) (drop l.other-index l.others)) found → FirstGives (walks m l.reading) (map (alternative l.rows.tables) l.others) found
