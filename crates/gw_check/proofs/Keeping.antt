@@ -157,13 +157,13 @@ items_kept tables names scope nodes j (raw.group g items rest) t h f e =
     let p = group_parts nodes j g items rest e in
     let n = named nodes is_group j g.line g.label refl p.label in
     let same = number_is nodes g.label n.number j n.at ∙ sym (number_is nodes g.label n.number 0 n.at) in (
-      items_kept tables names (within scope (place_or scope g.path)) (nodes_of_child nodes (node_or 0 nodes g.label)) 0 items t h.1 (fair_below nodes (node_or 0 nodes g.label) f)
+      items_kept tables names (within scope (place_or scope g.walk.path)) (nodes_of_child nodes (node_or 0 nodes g.label)) 0 items t h.1 (fair_below nodes (node_or 0 nodes g.label) f)
           (subst (λ c. target_failures (nodes_of_child nodes c) 0 items ≡ []) same p.inner),
       items_kept tables names scope nodes (node_or j nodes g.label) rest t h.2 f p.others,
     )
 items_kept tables names scope nodes j (raw.flat w items rest) t h f e =
     let p = flat_parts nodes j w items rest e in
-    (items_kept tables names (within scope (place_or scope w.path)) nodes 0 items t h.1 f p.inner, items_kept tables names scope nodes _ rest t h.2 f p.others)
+    (items_kept tables names (within scope (place_or scope w.walk.path)) nodes 0 items t h.1 f p.inner, items_kept tables names scope nodes _ rest t h.2 f p.others)
 
 -- ---- the map
 

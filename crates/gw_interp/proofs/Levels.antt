@@ -22,7 +22,7 @@ use Rattle.gw_interp.specs.own.Borrowed.{scope}
 use Rattle.gw_interp.specs.own.Filling.{message_of}
 use Rattle.gw_interp.specs.Meaning.{ForEach, Give}
 use Rattle.gw_interp.specs.own.Ready.{MayGive, names_given, MayBegin, Adds}
-use Rattle.gw_interp.specs.own.Sourced.{holds}
+use Rattle.gw_interp.specs.own.Sourced.{is_met}
 use Rattle.gw_interp.specs.own.Parts.{names_so, MaySo, GivesSo, items_names, MayItems, ItemsGive}
 use Rattle.gw_interp.proofs.Naming.{given_names}
 use Rattle.gw_interp.proofs.Within.{names_chosen, may_chosen, each_chosen}
@@ -105,19 +105,19 @@ module _ (m : List SegmentValue) (os : List Occurrence) (target : Forest) (table
         ap (λ i. with_item tables i no_items) same ∙ group_items tables g no_items
         ∙ ap (λ l. group_item (record { line = g.line; child = g.child; place = place g.place; condition = some_condition g.condition }) (all_items tables l) no_items) (sym is_its)
 
-    pub group_begins : (old : List SegmentValue) → MayBegin old (names_given m os target (with_item tables item no_items)) → MayBegin old (flat_map (λ o. names_so (holds m (o ∷ os) (some_condition g.condition)) (names_given m (o ∷ os) inner (all_items tables is))) (at_place os (place g.place)))
+    pub group_begins : (old : List SegmentValue) → MayBegin old (names_given m os target (with_item tables item no_items)) → MayBegin old (flat_map (λ o. names_so (is_met m (o ∷ os) (some_condition g.condition)) (names_given m (o ∷ os) inner (all_items tables is))) (at_place os (place g.place)))
     group_begins old may =
-        subst (λ f. MayBegin old (flat_map (λ o. names_so (holds m (o ∷ os) (some_condition g.condition)) (names_given m (o ∷ os) f (all_items tables is))) (at_place os (place g.place)))) (sym inner_is)
+        subst (λ f. MayBegin old (flat_map (λ o. names_so (is_met m (o ∷ os) (some_condition g.condition)) (names_given m (o ∷ os) f (all_items tables is))) (at_place os (place g.place)))) (sym inner_is)
         (subst (MayBegin old)
         (ap (names_given m os target) group_whole ∙ append-nil _
         ∙ names_chosen m os (some_condition g.condition) (λ o. names_given m (o ∷ os) (nodes_of_child target g.child) (all_items tables is)) (at_place os (place g.place))) may)
 
-    pub group_may : MayGive m os target (with_item tables item no_items) → AllByRecursion (λ o. MaySo (holds m (o ∷ os) (some_condition g.condition)) (MayGive m (o ∷ os) inner (all_items tables is))) (at_place os (place g.place))
+    pub group_may : MayGive m os target (with_item tables item no_items) → AllByRecursion (λ o. MaySo (is_met m (o ∷ os) (some_condition g.condition)) (MayGive m (o ∷ os) inner (all_items tables is))) (at_place os (place g.place))
     group_may may =
-        subst (λ f. AllByRecursion (λ o. MaySo (holds m (o ∷ os) (some_condition g.condition)) (MayGive m (o ∷ os) f (all_items tables is))) (at_place os (place g.place))) (sym inner_is)
+        subst (λ f. AllByRecursion (λ o. MaySo (is_met m (o ∷ os) (some_condition g.condition)) (MayGive m (o ∷ os) f (all_items tables is))) (at_place os (place g.place))) (sym inner_is)
         (may_chosen m os (some_condition g.condition) (λ o. MayGive m (o ∷ os) (nodes_of_child target g.child) (all_items tables is)) (at_place os (place g.place)) (subst (MayGive m os target) group_whole may).0)
 
-    group_given : (list : List SegmentValue) → ForEach (λ o. GivesSo (holds m (o ∷ os) (some_condition g.condition)) (Give m (o ∷ os) inner (all_items tables is))) (at_place os (place g.place)) list → Give m os target (with_item tables item no_items) list
+    group_given : (list : List SegmentValue) → ForEach (λ o. GivesSo (is_met m (o ∷ os) (some_condition g.condition)) (Give m (o ∷ os) inner (all_items tables is))) (at_place os (place g.place)) list → Give m os target (with_item tables item no_items) list
     group_given list each =
         subst (λ f. Give m os target f list) (sym group_whole)
         (record {
@@ -126,11 +126,11 @@ module _ (m : List SegmentValue) (os : List Occurrence) (target : Forest) (table
           joined = sym (append-nil list);
           here =
               each_chosen m os (some_condition g.condition) (λ o. Give m (o ∷ os) (nodes_of_child target g.child) (all_items tables is)) (at_place os (place g.place)) list
-              (subst (λ f. ForEach (λ o. GivesSo (holds m (o ∷ os) (some_condition g.condition)) (Give m (o ∷ os) f (all_items tables is))) (at_place os (place g.place)) list) inner_is each);
+              (subst (λ f. ForEach (λ o. GivesSo (is_met m (o ∷ os) (some_condition g.condition)) (Give m (o ∷ os) f (all_items tables is))) (at_place os (place g.place)) list) inner_is each);
           there = refl;
         })
 
-    pub group_gives : (old new : List SegmentValue) → Adds (ForEach (λ o. GivesSo (holds m (o ∷ os) (some_condition g.condition)) (Give m (o ∷ os) inner (all_items tables is))) (at_place os (place g.place))) old new → Adds (Give m os target (with_item tables item no_items)) old new
+    pub group_gives : (old new : List SegmentValue) → Adds (ForEach (λ o. GivesSo (is_met m (o ∷ os) (some_condition g.condition)) (Give m (o ∷ os) inner (all_items tables is))) (at_place os (place g.place))) old new → Adds (Give m os target (with_item tables item no_items)) old new
     group_gives old new = adds_as _ _ old new group_given
 
   module _ (item : Item) (f : FlatItem) (is : List Item) (same : item ≡ Flat f) (is_its : is ≡ f.items.items) where
@@ -139,16 +139,16 @@ module _ (m : List SegmentValue) (os : List Occurrence) (target : Forest) (table
         ap (λ i. with_item tables i no_items) same ∙ flat_items tables f no_items
         ∙ ap (λ l. flat_item (record { line = f.line; place = place f.place; condition = some_condition f.condition }) (all_items tables l) no_items) (sym is_its)
 
-    pub flat_begins : (old : List SegmentValue) → MayBegin old (names_given m os target (with_item tables item no_items)) → MayBegin old (flat_map (λ o. names_so (holds m (o ∷ os) (some_condition f.condition)) (names_given m (o ∷ os) target (all_items tables is))) (at_place os (place f.place)))
+    pub flat_begins : (old : List SegmentValue) → MayBegin old (names_given m os target (with_item tables item no_items)) → MayBegin old (flat_map (λ o. names_so (is_met m (o ∷ os) (some_condition f.condition)) (names_given m (o ∷ os) target (all_items tables is))) (at_place os (place f.place)))
     flat_begins old may =
         subst (MayBegin old)
         (ap (names_given m os target) flat_whole ∙ append-nil _
         ∙ names_chosen m os (some_condition f.condition) (λ o. names_given m (o ∷ os) target (all_items tables is)) (at_place os (place f.place))) may
 
-    pub flat_may : MayGive m os target (with_item tables item no_items) → AllByRecursion (λ o. MaySo (holds m (o ∷ os) (some_condition f.condition)) (MayGive m (o ∷ os) target (all_items tables is))) (at_place os (place f.place))
+    pub flat_may : MayGive m os target (with_item tables item no_items) → AllByRecursion (λ o. MaySo (is_met m (o ∷ os) (some_condition f.condition)) (MayGive m (o ∷ os) target (all_items tables is))) (at_place os (place f.place))
     flat_may may = may_chosen m os (some_condition f.condition) (λ o. MayGive m (o ∷ os) target (all_items tables is)) (at_place os (place f.place)) (subst (MayGive m os target) flat_whole may).0
 
-    flat_given : (list : List SegmentValue) → ForEach (λ o. GivesSo (holds m (o ∷ os) (some_condition f.condition)) (Give m (o ∷ os) target (all_items tables is))) (at_place os (place f.place)) list → Give m os target (with_item tables item no_items) list
+    flat_given : (list : List SegmentValue) → ForEach (λ o. GivesSo (is_met m (o ∷ os) (some_condition f.condition)) (Give m (o ∷ os) target (all_items tables is))) (at_place os (place f.place)) list → Give m os target (with_item tables item no_items) list
     flat_given list each =
         subst (λ i. Give m os target i list) (sym flat_whole)
         (record {
@@ -159,7 +159,7 @@ module _ (m : List SegmentValue) (os : List Occurrence) (target : Forest) (table
           there = refl;
         })
 
-    pub flat_gives : (old new : List SegmentValue) → Adds (ForEach (λ o. GivesSo (holds m (o ∷ os) (some_condition f.condition)) (Give m (o ∷ os) target (all_items tables is))) (at_place os (place f.place))) old new → Adds (Give m os target (with_item tables item no_items)) old new
+    pub flat_gives : (old new : List SegmentValue) → Adds (ForEach (λ o. GivesSo (is_met m (o ∷ os) (some_condition f.condition)) (Give m (o ∷ os) target (all_items tables is))) (at_place os (place f.place))) old new → Adds (Give m os target (with_item tables item no_items)) old new
     flat_gives old new = adds_as _ _ old new flat_given
 
 -- ---- a level, where these occurrences are walked in the program

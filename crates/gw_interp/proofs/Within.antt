@@ -12,7 +12,7 @@ use Rattle.gw_leaves.specs.Counts.{chosen_count}
 use Rattle.gw_interp.specs.Occurrences.{Occurrence}
 use Rattle.gw_validate.specs.Cuts.{Cut}
 use Rattle.gw_interp.specs.Meaning.{meets, chosen, ForEach}
-use Rattle.gw_interp.specs.own.Sourced.{holds}
+use Rattle.gw_interp.specs.own.Sourced.{is_met}
 use Rattle.gw_interp.specs.own.Parts.{names_so, MaySo, GivesSo}
 use Rattle.gw_interp.proofs.Walks.{IsOccurrence}
 use Rattle.gw_interp.proofs.Paths.{Several}
@@ -89,14 +89,14 @@ module _ (m : List SegmentValue) (scope : List Occurrence) where
         by true h = record { front = h.front; back = h.back; joined = h.joined; here = h.here; there = some_given Part os h.back h.there }
         by false h = subst (ForEach Part (filter test os)) (sym (h.joined ∙ ap (λ l. l ++ h.back) h.here)) (some_given Part os h.back h.there)
 
-  pub names_chosen : (condition : Option FieldCondition) (names : Occurrence → List (List ℕ)) (os : List Occurrence) → flat_map names (chosen m scope condition os) ≡ flat_map (λ o. names_so (holds m (o ∷ scope) condition) (names o)) os
+  pub names_chosen : (condition : Option FieldCondition) (names : Occurrence → List (List ℕ)) (os : List Occurrence) → flat_map names (chosen m scope condition os) ≡ flat_map (λ o. names_so (is_met m (o ∷ scope) condition) (names o)) os
   names_chosen None names os = refl
   names_chosen (Some c) names os = some_names c names os
 
-  pub may_chosen : (condition : Option FieldCondition) (May : Occurrence → Type 0) (os : List Occurrence) → AllByRecursion May (chosen m scope condition os) → AllByRecursion (λ o. MaySo (holds m (o ∷ scope) condition) (May o)) os
+  pub may_chosen : (condition : Option FieldCondition) (May : Occurrence → Type 0) (os : List Occurrence) → AllByRecursion May (chosen m scope condition os) → AllByRecursion (λ o. MaySo (is_met m (o ∷ scope) condition) (May o)) os
   may_chosen None May os h = h
   may_chosen (Some c) May os h = some_may c May os h
 
-  pub each_chosen : (condition : Option FieldCondition) (Part : Occurrence → List SegmentValue → Type 0) (os : List Occurrence) (list : List SegmentValue) → ForEach (λ o. GivesSo (holds m (o ∷ scope) condition) (Part o)) os list → ForEach Part (chosen m scope condition os) list
+  pub each_chosen : (condition : Option FieldCondition) (Part : Occurrence → List SegmentValue → Type 0) (os : List Occurrence) (list : List SegmentValue) → ForEach (λ o. GivesSo (is_met m (o ∷ scope) condition) (Part o)) os list → ForEach Part (chosen m scope condition os) list
   each_chosen None Part os list h = h
   each_chosen (Some c) Part os list h = some_given c Part os list h

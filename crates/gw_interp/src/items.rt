@@ -15,7 +15,7 @@ ghost use Rattle.gw_interp.specs.own.Parts.{MaySegment, GivesSegment, MaySegment
 ghost use Rattle.gw_interp.specs.own.Parts.{names_within, MayWithin, GivesWithin, each_names, MayEach, EachGives};
 
 use crate::places::walked_at;
-use crate::reading::holds;
+use crate::reading::is_met;
 use crate::segments::put_segment;
 use gw_er7::Builder;
 use gw_maplang::Map;
@@ -99,7 +99,7 @@ fn put_part<'a>(
     ensures adds { OnOk result (Adds (ChosenGives rows.now.tables part.now (message_of scope.old.items) (walked_in scope.old.items)) builder.old builder.new) }
     ensures lawful { OnOk result (IsBegun builder.new) }
 {
-    if !holds(scope, condition_of(part)) {
+    if !is_met(scope, condition_of(part)) {
         return Ok(());
     }
     match part {
@@ -236,8 +236,11 @@ fn put_item<'a>(
     match item {
         Item::Segment(item) => put_segments(rows, scope, builder, nodes, item),
         Item::Group(group) => {
-            let below = nodes_within(nodes, group.child);
-            let part = Part::Level(below, &group.items, &group.condition);
+            let part = Part::Level(
+                nodes_within(nodes, group.child),
+                &group.items,
+                &group.condition,
+            );
             put_each(rows, scope, builder, &part, &group.place)
         }
         Item::Flat(flat) => {

@@ -9,7 +9,7 @@ ghost use Rattle.gw_interp.specs.Occurrences.{texts_at};
 ghost use Rattle.gw_interp.specs.own.Borrowed.{scope as walked, AreOf};
 ghost use Rattle.gw_interp.specs.Meaning as meaning;
 ghost use Rattle.gw_interp.specs.Meaning.{InFirst, IsChosen, SourceMeans};
-ghost use Rattle.gw_interp.specs.own.Sourced.{texts_of, IsFirstOne, IsFirstRep, IsNextOne, current_texts, walks, holds};
+ghost use Rattle.gw_interp.specs.own.Sourced.{texts_of, IsFirstOne, IsFirstRep, IsNextOne, current_texts, walks, is_met};
 
 use crate::places::first_at_place;
 use gw_er7::Segment;
@@ -201,8 +201,8 @@ fn meets_within(scope: &[Occ<'_>], asked: &FieldCondition) -> bool
 }
 
 /// Whether a condition holds within the innermost occurrence, or there is none. It takes no memory.
-pub(crate) fn holds(scope: &[Occ<'_>], condition: &Option<FieldCondition>) -> bool
-    ensures { (m : List SegmentValue) → AreOf m scope.now → result ≡ holds m (walked scope.now) (some_condition condition.now) }
+pub(crate) fn is_met(scope: &[Occ<'_>], condition: &Option<FieldCondition>) -> bool
+    ensures { (m : List SegmentValue) → AreOf m scope.now → result ≡ is_met m (walked scope.now) (some_condition condition.now) }
 {
     match condition {
         None => true,

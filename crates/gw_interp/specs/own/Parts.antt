@@ -17,7 +17,7 @@ use Rattle.gw_interp.specs.Occurrences.{Occurrence, at_place}
 use Rattle.gw_interp.specs.own.Borrowed.{scope}
 use Rattle.gw_interp.specs.Meaning.{walked, IsOne, IsImage, ForEach, Segments, Give}
 use Rattle.gw_interp.specs.own.Filling.{message_of}
-use Rattle.gw_interp.specs.own.Sourced.{holds}
+use Rattle.gw_interp.specs.own.Sourced.{is_met}
 use Rattle.gw_interp.specs.own.Ready.{MayImage, MaySegments, MayGive, names_if, names_given}
 
 -- ---- items, where these are walked in the program, for these nodes of the target
@@ -95,13 +95,13 @@ module _ (tables : List TableValue) where
   -- ---- a part where its condition holds, and nothing elsewhere
 
   abbrev pub chosen_names : Part → List SegmentValue → List Occurrence → List (List ℕ)
-  chosen_names part m os = names_so (holds m os (condition_of part)) (part_names part m os)
+  chosen_names part m os = names_so (is_met m os (condition_of part)) (part_names part m os)
 
   abbrev pub MayChosen : Part → List SegmentValue → List Occurrence → Type 0
-  MayChosen part m os = MaySo (holds m os (condition_of part)) (MayPart part m os)
+  MayChosen part m os = MaySo (is_met m os (condition_of part)) (MayPart part m os)
 
   abbrev pub ChosenGives : Part → List SegmentValue → List Occurrence → List SegmentValue → Type 0
-  ChosenGives part m os list = GivesSo (holds m os (condition_of part)) (PartGives part m os) list
+  ChosenGives part m os list = GivesSo (is_met m os (condition_of part)) (PartGives part m os) list
 
   -- ---- the same within an occurrence, and within each of some, in their order, where these are walked in the program
 

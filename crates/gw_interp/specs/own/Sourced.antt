@@ -72,6 +72,6 @@ FirstGives w all None = NoFaultOf w all → ⊥
 FirstGives w all (Some text) = FirstText w all text
 
 -- a condition holds where these occurrences are walked, or there is none
-abbrev pub holds : List SegmentValue → List Occurrence → Option FieldCondition → Bool
-holds m scope None = true
-holds m scope (Some c) = meets m scope c
+abbrev pub is_met : List SegmentValue → List Occurrence → Option FieldCondition → Bool
+is_met m scope None = true
+is_met m scope (Some c) = meets m scope c
