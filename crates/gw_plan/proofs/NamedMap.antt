@@ -10,7 +10,7 @@ use Rattle.gw_lines.proofs.Taken.{taken_by, spelled_accepts}
 use Rattle.gw_maplang.specs.declared.fault.MapFault.{MapFault}
 use Rattle.gw_maplang.specs.declared.fault.MapFault.TheVariants.{Syntax, TooLarge}
 use Rattle.gw_maplang.specs.Shapes.{MapValue}
-use Rattle.gw_maplang.specs.Line.{Line, Begins, Language, Table, Rows, Else, Segment, Makes, At, Each, End, Drops, path_of, place_of, drop_of, plain_at, text_at, some_texts, source_at, made_from, own_leaves}
+use Rattle.gw_maplang.specs.Line.{Line, Begins, Language, Table, Rows, Else, Segment, Makes, At, Each, End, Drops, path_of, place_of, drop_of, plain_at, text_at, some_texts, source_at, made_from, chosen_from, own_leaves}
 use Rattle.gw_maplang.specs.Line.{leaf_form, map_form, language_form, table_form, row_form, else_form, segment_form, copies_form, firsts_form, repeats_form, builds_form, at_form, each_form, group_form}
 use Rattle.gw_maplang.specs.Line.{drop_form, rule_form, form}
 use Rattle.gw_maplang.specs.Fault.{grammar, tests, takes}
@@ -90,8 +90,8 @@ rule_says : (at : ℕ) (w : Word) (more : List Word) → IfSome (rule_form at w 
 rule_says at w more =
     let P = Says (w ∷ more) in
     either_gives P (is_keyword (codes "copy") w) (copies_form at more) _ (map_gives (λ _. Unit {0}) P (made_from more) _ (any (made_from more)) (λ m u. tt))
-    (either_gives P (is_keyword (codes "first") w) (firsts_form at more) _ (map_gives (λ _. Unit {0}) P (made_from more) _ (any (made_from more)) (λ m u. tt))
-    (either_gives P (is_keyword (codes "repeat") w) (repeats_form at more) _ (map_gives (λ _. Unit {0}) P (made_from more) _ (any (made_from more)) (λ m u. tt))
+    (either_gives P (is_keyword (codes "first") w) (firsts_form at more) _ (map_gives (λ _. Unit {0}) P (chosen_from more) _ (any (chosen_from more)) (λ m u. tt))
+    (either_gives P (is_keyword (codes "repeat") w) (repeats_form at more) _ (map_gives (λ _. Unit {0}) P (chosen_from more) _ (any (chosen_from more)) (λ m u. tt))
     (either_gives P (is_keyword (codes "build") w) (builds_form at more) _ (after (w ∷ more) (number_at 999 more) _ (λ n. after (w ∷ more) (own_leaves at n.1) _ (λ l. tt)))
     (either_gives P (is_keyword (codes "at") w) (at_form at more) None (after (w ∷ more) (plain_at place_of more) _ (λ p. after (w ∷ more) (leaf_form p.1) _ (λ l. tt))) tt))))
 
