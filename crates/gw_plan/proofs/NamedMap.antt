@@ -10,6 +10,7 @@ use Rattle.gw_lines.proofs.Taken.{taken_by, spelled_accepts}
 use Rattle.gw_maplang.specs.declared.fault.MapFault.{MapFault}
 use Rattle.gw_maplang.specs.declared.fault.MapFault.TheVariants.{Syntax, TooLarge}
 use Rattle.gw_maplang.specs.Shapes.{MapValue}
+use Rattle.gw_maplang.specs.Line.{Line, Begins, Language, Table, Rows, Else, Segment, Makes, At, Or, Each, End, Drops, place_of, drop_of, plain_at, text_at, some_texts, source_form, walk_form, made_from, chosen_from, own_leaves}
 use Rattle.gw_maplang.specs.Line.{leaf_form, map_form, language_form, table_form, row_form, else_form, segment_form, copies_form, firsts_form, repeats_form, builds_form, at_form, or_form, each_form, group_form}
 use Rattle.gw_maplang.specs.Line.{drop_form, rule_form, form}
 use Rattle.gw_maplang.specs.Fault.{grammar, tests, takes}
