@@ -32,7 +32,7 @@ either_always Never b e = inr e
 
 -- the first of two gives no text, so the text is that of the second
 either_there : (a b : Presence) (text : List ℕ) → is_always (either a b) ≡ true → (is_always a ≡ true → ⊥) → (is_always b ≡ true → text ≡ [] → ⊥) → text ≡ [] → ⊥
-either_there a b text e no later = elim (either_always a b e) [ inl x ↦ absurd (no x) | inr x ↦ later x ]
+either_there a b text e gone later = elim (either_always a b e) [ inl x ↦ absurd (gone x) | inr x ↦ later x ]
 
 either_absent : (a b : Presence) → is_absent (either a b) ≡ true → (is_absent a ≡ true) × (is_absent b ≡ true)
 either_absent Always b e = absurd (cc)
