@@ -268,10 +268,7 @@ fn asked_at<'a, 'w>(
     }
 }
 
-fn field_condition_form(
-    alloc: Global,
-    words: &[Word],
-) -> Result<Option<FieldCondition>, AllocError>
+fn field_condition_form(alloc: Global, words: &[Word]) -> Result<Option<FieldCondition>, AllocError>
     ensures { IfOk result (λ found. option_map field_condition found ≡ spec.field_condition_form (map word words.now)) }
 {
     let Some(((from, place), more)) = asked_at(alloc, words)? else {

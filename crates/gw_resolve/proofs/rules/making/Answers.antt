@@ -19,7 +19,7 @@ returns-in_ok-chosen-in-FirstRep-clause-failures c = rw c.in-FirstRep.is c.in_ok
 pub returns-in_ok-each-in-RepeatField-clause-made : goal.returns-in_ok-each-in-RepeatField-clause-made
 returns-in_ok-each-in-RepeatField-clause-made c = λ tables.
     rw (c.in-RepeatField.is, ← c.deref.ensures.value)
-        (λ i. repeat (c.in_ok-from-in-RepeatField.ensures.made i) (c.in_ok-chosen-in-RepeatField.ensures i) (c.in_ok-each-in-RepeatField.ensures.made tables i))
+    (λ i. repeat (c.in_ok-from-in-RepeatField.ensures.made i) (c.in_ok-chosen-in-RepeatField.ensures i) (c.in_ok-each-in-RepeatField.ensures.made tables i))
 
 pub returns-in_ok-each-in-RepeatField-clause-failures : goal.returns-in_ok-each-in-RepeatField-clause-failures
 returns-in_ok-each-in-RepeatField-clause-failures c =
