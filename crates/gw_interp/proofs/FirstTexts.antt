@@ -107,20 +107,23 @@ module _ (v : SegmentValue) (whole : IsSegment v) (f : ℕ) where
       by [] a l = absurd a
       by (n ∷ ns) a l = ap (λ r. text_of v.at f r comp sub) (least_is rep n ns a l)
 
-  pub in_none : (((rep : ℕ) × RepAt v.at f rep) → ⊥) → (comp sub : ℕ) → first_text v.at f comp sub ≡ []
-  in_none none comp sub = by (reps_of v.at f) (each_rep f (λ k. ⊥) (texts.entries v.at) (λ j e g first. none (second_number e.0, there j e g first)))
+  pub absent_in : (((rep : ℕ) × RepAt v.at f rep) → ⊥) → (comp sub : ℕ) → first_text v.at f comp sub ≡ []
+  absent_in none comp sub = by (reps_of v.at f) (each_rep f (λ k. ⊥) (texts.entries v.at) (λ j e g first. none (second_number e.0, there j e g first)))
     where
       by : (reps : List ℕ) → AllByRecursion (λ k. ⊥) reps → text_in_least v.at f comp sub reps ≡ []
       by [] h = refl
       by (n ∷ ns) h = absurd h.0
 
 -- where there is no segment
-pub in_empty : (f comp sub : ℕ) → first_text texts.empty f comp sub ≡ []
-in_empty f comp sub = by (reps_of texts.empty f) (ap (λ (es : List Entry). map second_number (filter (λ key. first_number key == f) (map (λ (e : Entry). e.0) es))) none)
-  where
-    none : texts.entries {R = slice_cmp nat_cmp} {X = List ℕ} texts.empty ≡ []
-    none = nil_from_length (texts.entries texts.empty) (sym (len-entries texts.empty) ∙ len-empty (slice_cmp nat_cmp) (List ℕ))
+abbrev no_texts : Texts
+no_texts = texts.empty
 
-    by : (reps : List ℕ) → reps ≡ [] → text_in_least texts.empty f comp sub reps ≡ []
+pub in_empty : (f comp sub : ℕ) → first_text no_texts f comp sub ≡ []
+in_empty f comp sub = by (reps_of no_texts f) (ap (λ (es : List Entry). map second_number (filter (λ key. first_number key == f) (map (λ (e : Entry). e.0) es))) none)
+  where
+    none : texts.entries no_texts ≡ []
+    none = nil_from_length (texts.entries no_texts) (sym (len-entries no_texts) ∙ len-empty (slice_cmp nat_cmp) (List ℕ))
+
+    by : (reps : List ℕ) → reps ≡ [] → text_in_least no_texts f comp sub reps ≡ []
     by [] e = refl
     by (n ∷ ns) e = absurd (cc)

@@ -20,19 +20,19 @@ use Rattle.gw_interp.proofs.Paths.{Several}
 module _ {A : Type 0} (test : A → Bool) where
   all_filter : (P : A → Type 0) (xs : List A) → AllByRecursion P xs → AllByRecursion P (filter test xs)
   all_filter P [] h = tt
-  all_filter P (x ∷ xs) h = by (test x)
+  all_filter P (x ∷ xs) h = by (test x) (all_filter P xs h.1)
     where
-      by : (b : Bool) → AllByRecursion P (cond b (x ∷ filter test xs) (filter test xs))
-      by true = (h.0, all_filter P xs h.1)
-      by false = all_filter P xs h.1
+      by : (b : Bool) → AllByRecursion P (filter test xs) → AllByRecursion P (cond b (x ∷ filter test xs) (filter test xs))
+      by true later = (h.0, later)
+      by false later = later
 
   fewer_filter : (xs : List A) → length (filter test xs) ≤ length xs
   fewer_filter [] = omega arith
-  fewer_filter (x ∷ xs) = by (test x)
+  fewer_filter (x ∷ xs) = by (test x) (fewer_filter xs)
     where
-      by : (b : Bool) → length (cond b (x ∷ filter test xs) (filter test xs)) ≤ suc (length xs)
-      by true = omega (arith, fewer_filter xs)
-      by false = omega (arith, fewer_filter xs)
+      by : (b : Bool) → length (filter test xs) ≤ length xs → length (cond b (x ∷ filter test xs) (filter test xs)) ≤ suc (length xs)
+      by true later = omega (arith, later)
+      by false later = omega (arith, later)
 
 pub at_most_fewer : (most : Option ℕ) (fewer count : ℕ) → fewer ≤ count → AtMost most count → AtMost most fewer
 at_most_fewer None fewer count low few = tt
@@ -62,32 +62,35 @@ one_name name (o ∷ os) = ap (λ l. name ∷ l) (one_name name os)
 
 module _ (m : List SegmentValue) (scope : List Occurrence) where
   module _ (c : FieldCondition) where
-    test : Occurrence → Bool
+    abbrev test : Occurrence → Bool
     test o = meets m (o ∷ scope) c
 
     some_names : (names : Occurrence → List (List ℕ)) (os : List Occurrence) → flat_map names (filter test os) ≡ flat_map (λ o. names_so (test o) (names o)) os
     some_names names [] = refl
-    some_names names (o ∷ os) = by (test o)
+    some_names names (o ∷ os) = by (test o) (some_names names os)
       where
-        by : (b : Bool) → flat_map names (cond b (o ∷ filter test os) (filter test os)) ≡ names_so b (names o) ++ flat_map (λ p. names_so (test p) (names p)) os
-        by true = ap (λ l. names o ++ l) (some_names names os)
-        by false = some_names names os
+        by : (b : Bool) → flat_map names (filter test os) ≡ flat_map (λ p. names_so (test p) (names p)) os →
+            flat_map names (cond b (o ∷ filter test os) (filter test os)) ≡ names_so b (names o) ++ flat_map (λ p. names_so (test p) (names p)) os
+        by true later = ap (λ l. names o ++ l) later
+        by false later = later
 
     some_may : (May : Occurrence → Type 0) (os : List Occurrence) → AllByRecursion May (filter test os) → AllByRecursion (λ o. MaySo (test o) (May o)) os
     some_may May [] h = tt
-    some_may May (o ∷ os) h = by (test o) h
+    some_may May (o ∷ os) h = by (test o) (some_may May os) h
       where
-        by : (b : Bool) → AllByRecursion May (cond b (o ∷ filter test os) (filter test os)) → MaySo b (May o) × AllByRecursion (λ p. MaySo (test p) (May p)) os
-        by true h = (h.0, some_may May os h.1)
-        by false h = (tt, some_may May os h)
+        by : (b : Bool) → (AllByRecursion May (filter test os) → AllByRecursion (λ p. MaySo (test p) (May p)) os) →
+            AllByRecursion May (cond b (o ∷ filter test os) (filter test os)) → MaySo b (May o) × AllByRecursion (λ p. MaySo (test p) (May p)) os
+        by true later h = (h.0, later h.1)
+        by false later h = (tt, later h)
 
     some_given : (Part : Occurrence → List SegmentValue → Type 0) (os : List Occurrence) (list : List SegmentValue) → ForEach (λ o. GivesSo (test o) (Part o)) os list → ForEach Part (filter test os) list
     some_given Part [] list h = h
-    some_given Part (o ∷ os) list h = by (test o) h
+    some_given Part (o ∷ os) list h = by (test o) (some_given Part os) h
       where
-        by : (b : Bool) → Cut (GivesSo b (Part o)) (ForEach (λ p. GivesSo (test p) (Part p)) os) list → ForEach Part (cond b (o ∷ filter test os) (filter test os)) list
-        by true h = record { front = h.front; back = h.back; joined = h.joined; here = h.here; there = some_given Part os h.back h.there }
-        by false h = subst (ForEach Part (filter test os)) (sym (h.joined ∙ ap (λ l. l ++ h.back) h.here)) (some_given Part os h.back h.there)
+        by : (b : Bool) → ((back : List SegmentValue) → ForEach (λ p. GivesSo (test p) (Part p)) os back → ForEach Part (filter test os) back) →
+            Cut (GivesSo b (Part o)) (ForEach (λ p. GivesSo (test p) (Part p)) os) list → ForEach Part (cond b (o ∷ filter test os) (filter test os)) list
+        by true later h = record { front = h.front; back = h.back; joined = h.joined; here = h.here; there = later h.back h.there }
+        by false later h = subst (ForEach Part (filter test os)) (sym (h.joined ∙ ap (λ l. l ++ h.back) h.here)) (later h.back h.there)
 
   pub names_chosen : (condition : Option FieldCondition) (names : Occurrence → List (List ℕ)) (os : List Occurrence) → flat_map names (chosen m scope condition os) ≡ flat_map (λ o. names_so (is_met m (o ∷ scope) condition) (names o)) os
   names_chosen None names os = refl

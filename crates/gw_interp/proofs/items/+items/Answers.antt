@@ -105,17 +105,15 @@ put_part-put_one-requires t c =
     let os = scope c.args.scope.now.items in
     let tables = c.args.rows.now.tables in
     let is = held true c.args.part.now c.condition_of.result.now c.args.scope.now.items c.deref.result.now c.deref.ensures.value c.condition_of.ensures c.requires.of c.if-not-is_met.ensures in
-    let same = sym c.deref-in-OneSegment.ensures.value in (
-      subst (λ (w : List OccValue). AreOf (message_of w) w) same c.requires.of,
-      (
-        c.requires.lawful,
-        (
-          subst (λ p. MayBegin c.args.builder.now (part_names tables p m os)) c.in-OneSegment.is (so_begins tables c.args.part.now m os c.args.builder.now is c.requires.begin),
+    let same = sym c.deref-in-OneSegment.ensures.value in
+    record {
+      of = subst (λ (w : List OccValue). AreOf (message_of w) w) same c.requires.of;
+      lawful = c.requires.lawful;
+      begin = subst (λ p. MayBegin c.args.builder.now (part_names tables p m os)) c.in-OneSegment.is (so_begins tables c.args.part.now m os c.args.builder.now is c.requires.begin);
+      may =
           subst (λ (w : List OccValue). MaySegment tables c.in-OneSegment.nodes.now c.in-OneSegment.item.now w) same
-              (subst (λ p. MayPart tables p m os) c.in-OneSegment.is (so_may tables c.args.part.now m os is c.requires.may)),
-        ),
-      ),
-    )
+          (subst (λ p. MayPart tables p m os) c.in-OneSegment.is (so_may tables c.args.part.now m os is c.requires.may));
+    }
 
 pub put_part-put_items-requires : goal.put_part-put_items-requires
 put_part-put_items-requires t c =
