@@ -382,7 +382,20 @@ impl<N: Width, L: Store> Model for Spans<N, L> {
 }
 
 impl<N: Width, L: Store> Spans<N, L> {
-    ghost use Rattle.std.specs.Prelude.{◌≡◌, ◌++◌, ◌∷◌, [], OnOk, OnErr};
+    ghost use Rattle.std.specs.Prelude.{◌≡◌, ◌<◌, ◌++◌, ◌∷◌, [], length, slice_index_or, OnOk, OnErr, IfSome};
+    ghost use Rattle.gw_er7.specs.declared.spans.TextSpan.{TextSpan};
+
+    /// The span of this number, from 0, where the spans are in the narrow width.
+    #[inline(always)]
+    pub(crate) fn narrow_at(&self, i: usize) -> Option<TextSpan>
+        requires { i < length self.now }
+        ensures { IfSome result (λ span. (other : TextSpan) → slice_index_or self.now i other ≡ span) }
+    {
+        if i < self.narrow.len() {
+            return Some(self.narrow[i].widened());
+        }
+        None
+    }
 
     /// Puts a span behind the others that doesn't fit in the narrow width: none is narrow from now on.
     fn push_wide(&mut self, span: TextSpan) -> Result<(), AllocError>
