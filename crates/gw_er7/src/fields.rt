@@ -209,7 +209,19 @@ fn push_value(
         return Ok(());
     }
     if plain < raw.len() {
-        return push_other(taken, classes, place, raw, plain);
+        let Place {
+            field,
+            rep,
+            comp,
+            sub,
+        } = place;
+        let there = Place {
+            field,
+            rep,
+            comp,
+            sub,
+        };
+        return push_other(taken, classes, there, raw, plain);
     }
     let span = TextSpan {
         place,

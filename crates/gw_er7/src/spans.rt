@@ -163,11 +163,11 @@ impl<P: Number, L: Number> Width for NarrowSpan<P, L> {
     #[inline(always)]
     fn fits(span: TextSpan) -> bool {
         P::fits(span.place.field)
-            && P::fits(span.place.rep)
-            && P::fits(span.place.comp)
-            && P::fits(span.place.sub)
-            && L::fits(span.from)
-            && L::fits(span.len)
+            & P::fits(span.place.rep)
+            & P::fits(span.place.comp)
+            & P::fits(span.place.sub)
+            & L::fits(span.from)
+            & L::fits(span.len)
     }
 
     #[inline(always)]
