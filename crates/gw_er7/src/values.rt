@@ -1,32 +1,8 @@
 //! Borrowed texts at places.
-ghost use Rattle.std.specs.Prelude.{◌≡◌, ◌<◌, length, slice_index_or};
-ghost use Rattle.gw_er7.specs.declared.spans.TextSpan.{TextSpan};
 
-use crate::spans::{MessageSpans, Store, TextSpan};
+use crate::spans::{MessageSpans, Store};
 use crate::view::Value;
 use std::marker::Model;
-
-// The span of this number in any width. Few messages below 64 kB have wide spans, so what reads the others stays short.
-#[cold]
-#[inline(never)]
-fn wide_at(spans: &MessageSpans, i: usize) -> TextSpan
-    requires { i < length spans.now }
-    ensures { (other : TextSpan) → slice_index_or spans.now i other ≡ result }
-{
-    spans.at(i)
-}
-
-// The span of this number, from 0.
-#[inline(always)]
-fn span_at(spans: &MessageSpans, i: usize) -> TextSpan
-    requires { i < length spans.now }
-    ensures { (other : TextSpan) → slice_index_or spans.now i other ≡ result }
-{
-    match spans.narrow_at(i) {
-        Some(span) => span,
-        None => wide_at(spans, i),
-    }
-}
 
 /// Borrowed texts at places: the spans from one number up to another, and the bytes in which their texts lie.
 #[derive(Drop)]
@@ -94,7 +70,7 @@ impl<'a> Values<'a> {
         ensures { (other : Held) → slice_index_or self.now i other ≡ record { place = result.place; text = result.text.now } }
     {
         let spans = self.spans;
-        let span = span_at(spans, self.from + i);
+        let span = spans.at(self.from + i);
         Value {
             place: span.place,
             text: &self.bytes[span.from..span.from + span.len],
