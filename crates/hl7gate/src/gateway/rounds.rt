@@ -2,7 +2,7 @@
 ghost use Rattle.std.specs.Prelude.{◌≡◌};
 ghost use Rattle.std.specs.Thread.{IsSend, IsSync};
 
-use crate::doors::Who;
+use crate::doors::{Reporter, Who};
 use crate::gateway::hub::Hub;
 use crate::gateway::numbers::Numbers;
 use crate::gateway::outgoing::Filling;
@@ -37,6 +37,22 @@ const NOTICE: u64 = 300;
 /// How many milliseconds pass at most between two looks at the journal.
 const LOOK: u64 = 20;
 
+/// Appends what this door gives out to the spool of its receiver, until no result will come any more.
+fn spool_from<L: Ledger, R: Wait + Clock + Files<File = File> + Eprint + AllocGlobal>(
+    alloc: Global,
+    door: &mut Reporter<'_, '_, L, R>,
+    number: usize,
+    store: &mut Filling<'_, '_, R>,
+) -> Result<(), RunFault> {
+    match spooler(alloc, door, number, store) {
+        Err(StoreFault::Disk) => Err(RunFault::Write),
+        Err(StoreFault::Memory) => Err(RunFault::Memory),
+        // (its journal has no room for what was accepted)
+        Ok(()) if door.met_full() => Err(RunFault::Memory),
+        Ok(()) => Ok(()),
+    }
+}
+
 /// Appends what is given out for the receiver of this number to its spool, until no result will come any more.
 fn spool<L: Ledger, R: Wait + Clock + Files<File = File> + Eprint + AllocGlobal>(
     service: &Service<'_, L, R>,
@@ -52,19 +68,33 @@ fn spool<L: Ledger, R: Wait + Clock + Files<File = File> + Eprint + AllocGlobal>
         return;
     };
     let mut store = Filling::new(hub.rt, outgoing, &hub.safe, number, name);
-    let ended = spooler(hub.rt.alloc(), &mut door, number, &mut store);
-    let met_full = door.met_full();
+    let spooled = spool_from(hub.rt.alloc(), &mut door, number, &mut store);
     service.hand_in(door);
-    match ended {
-        Err(StoreFault::Disk) => hub.fail(RunFault::Write),
-        Err(StoreFault::Memory) => hub.fail(RunFault::Memory),
-        // (its journal has no room for what was accepted)
-        Ok(()) if met_full => hub.fail(RunFault::Memory),
-        Ok(()) => {}
+    if let Err(fault) = spooled {
+        hub.fail(fault);
     }
 }
 
-/// Works on jobs, until no message will arrive any more. A job whose work met an allocation failure is issued again.
+/// Works on the jobs of this door, until no message will arrive any more. A job whose work met an allocation failure is issued again.
+fn work_at<L: Ledger, R: Wait + Clock + Eprint + AllocGlobal>(
+    service: &Service<'_, L, R>,
+    door: &mut Reporter<'_, '_, L, R>,
+    number: u64,
+) -> Result<(), RunFault> {
+    for _ in service.rt.forever() {
+        let Err((fault, job)) = worker(service.rt.alloc(), door, &mut Onward) else {
+            return Ok(());
+        };
+        let _ = eprintln!(service.rt;
+            "worker {number}: fault {}: {fault}; it goes on",
+            fault.number()
+        );
+        service.reissue(door, job)?;
+    }
+    unreachable!()
+}
+
+/// Works on jobs, until no message will arrive any more.
 fn work<L: Ledger, R: Wait + Clock + Eprint + AllocGlobal>(
     service: &Service<'_, L, R>,
     hub: &Hub<'_, R>,
@@ -74,22 +104,11 @@ fn work<L: Ledger, R: Wait + Clock + Eprint + AllocGlobal>(
         hub.fail(RunFault::Memory);
         return;
     };
-    for _ in hub.rt.forever() {
-        match worker(hub.rt.alloc(), &mut door, &mut Onward) {
-            Ok(_) => break,
-            Err((fault, job)) => {
-                let _ = eprintln!(hub.rt;
-                    "worker {number}: fault {}: {fault}; it goes on",
-                    fault.number()
-                );
-                if service.reissue(&mut door, job).is_err() {
-                    hub.fail(RunFault::Memory);
-                    break;
-                }
-            }
-        }
-    }
+    let worked = work_at(service, &mut door, number);
     service.hand_in(door);
+    if let Err(fault) = worked {
+        hub.fail(fault);
+    }
 }
 
 /// Has senders attended to, a thread each, until the round takes no message any more, and waits for them.
