@@ -37,22 +37,6 @@ const NOTICE: u64 = 300;
 /// How many milliseconds pass at most between two looks at the journal.
 const LOOK: u64 = 20;
 
-/// Appends what this door gives out to the spool of its receiver, until no result will come any more.
-fn spool_from<L: Ledger, R: Wait + Clock + Files<File = File> + Eprint + AllocGlobal>(
-    alloc: Global,
-    door: &mut Reporter<'_, '_, L, R>,
-    number: usize,
-    store: &mut Filling<'_, '_, R>,
-) -> Result<(), RunFault> {
-    match spooler(alloc, door, number, store) {
-        Err(StoreFault::Disk) => Err(RunFault::Write),
-        Err(StoreFault::Memory) => Err(RunFault::Memory),
-        // (its journal has no room for what was accepted)
-        Ok(()) if door.met_full() => Err(RunFault::Memory),
-        Ok(()) => Ok(()),
-    }
-}
-
 /// Appends what is given out for the receiver of this number to its spool, until no result will come any more.
 fn spool<L: Ledger, R: Wait + Clock + Files<File = File> + Eprint + AllocGlobal>(
     service: &Service<'_, L, R>,
@@ -68,10 +52,15 @@ fn spool<L: Ledger, R: Wait + Clock + Files<File = File> + Eprint + AllocGlobal>
         return;
     };
     let mut store = Filling::new(hub.rt, outgoing, &hub.safe, number, name);
-    let spooled = spool_from(hub.rt.alloc(), &mut door, number, &mut store);
+    let ended = spooler(hub.rt.alloc(), &mut door, number, &mut store);
+    let met_full = door.met_full();
     service.hand_in(door);
-    if let Err(fault) = spooled {
-        hub.fail(fault);
+    match ended {
+        Err(StoreFault::Disk) => hub.fail(RunFault::Write),
+        Err(StoreFault::Memory) => hub.fail(RunFault::Memory),
+        // (its journal has no room for what was accepted)
+        Ok(()) if met_full => hub.fail(RunFault::Memory),
+        Ok(()) => {}
     }
 }
 

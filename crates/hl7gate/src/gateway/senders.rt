@@ -125,39 +125,6 @@ fn sum(these: Counts, those: Counts) -> Counts {
     sum
 }
 
-/// Keeps what a session left: what it read and didn't answer, and its counts. A message that is too long is answered under this number first.
-fn keep<R: Wait + AllocGlobal + Clock>(
-    hub: &Hub<'_, R>,
-    sender: &mut Sender,
-    held: Held,
-    answered: Result<Counts, RunFault>,
-    number: u64,
-) -> Result<(), RunFault> {
-    if is_overlong(&answered) {
-        reject(hub, &sender.stream, sender.number, held.bytes(), number)?;
-    }
-    sender.held = held;
-    sender.counts = sum(sender.counts, answered?);
-    Ok(())
-}
-
-/// A session over this door, up to the end of the connection or of the round.
-fn session_at<L: Ledger, R: Wait + AllocGlobal + Clock + Eprint>(
-    hub: &Hub<'_, R>,
-    sender: &Sender,
-    needs: &Needs,
-    door: &mut Gatekeeper<'_, '_, '_, L, R>,
-    whole: &mut Whole<'_, '_, R>,
-) -> Result<Counts, RunFault> {
-    let alloc = hub.rt.alloc();
-    let mut clock = Utc::new(hub.rt, hub.start);
-    let logged = Logged::new(alloc, hub, &sender.stream, sender.number);
-    let waiting = Waiting::new(hub.rt, &hub.safe, needs);
-    let mut writer = Barrier::new(Writes::new(logged), waiting);
-    let mut reader = Reads::new(whole);
-    session(alloc, door, &mut clock, &mut reader, &mut writer)
-}
-
 /// Answers the messages of a connection at the gate of this round.
 fn answer_at_gate<L: Ledger, R: Wait + AllocGlobal + Clock + Eprint>(
     service: &Service<'_, L, R>,
@@ -176,16 +143,21 @@ fn answer_at_gate<L: Ledger, R: Wait + AllocGlobal + Clock + Eprint>(
         hub,
         needs: &needs,
     };
-    let answered = session_at(hub, sender, &needs, &mut door, &mut whole);
-    let number = if is_overlong(&answered) {
-        door.refuse()
-    } else {
-        0
-    };
+    let mut clock = Utc::new(hub.rt, hub.start);
+    let logged = Logged::new(alloc, hub, &sender.stream, sender.number);
+    let waiting = Waiting::new(hub.rt, &hub.safe, &needs);
+    let mut writer = Barrier::new(Writes::new(logged), waiting);
+    let mut reader = Reads::new(&mut whole);
+    let answered = session(alloc, &mut door, &mut clock, &mut reader, &mut writer);
+    let (end, held) = whole.into_end();
+    if is_overlong(&answered) {
+        let number = door.refuse();
+        reject(hub, &sender.stream, sender.number, held.bytes(), number)?;
+    }
     let Gatekeeper { reporter, .. } = door;
     service.hand_in(reporter);
-    let (end, held) = whole.into_end();
-    keep(hub, sender, held, answered, number)?;
+    sender.held = held;
+    sender.counts = sum(sender.counts, answered?);
     Ok(end)
 }
 
@@ -205,7 +177,11 @@ fn turn_away<R: Wait + AllocGlobal + Clock>(
     let mut reader = Reads::new(&mut whole);
     let answered = answer_blocks(alloc, &mut judge, &mut reader, &mut writer);
     let (end, held) = whole.into_end();
-    keep(hub, sender, held, answered, 0)?;
+    if is_overlong(&answered) {
+        reject(hub, &sender.stream, sender.number, held.bytes(), 0)?;
+    }
+    sender.held = held;
+    sender.counts = sum(sender.counts, answered?);
     Ok(end)
 }
 
